@@ -1,0 +1,99 @@
+//! An allocator for tests alone: it counts the requests for memory and refuses those that a test names, so that a test
+//! can refuse each request of a call in turn. It has the one `unsafe impl` of this repository. Its safety is proved by
+//! hand in `proofs/`; what it counts and refuses no contract can say, and its tests show it. A request is an allocation
+//! or a growth. It serves one thread.
+#![tactic(auto)]
+
+use std::alloc::{AllocError, Allocator};
+use std::cell::Cell;
+
+/// Which requests are refused: those from `first` to `last`, counted from 1.
+#[derive(Drop)]
+struct Plan {
+    asked: Cell<u64>,
+    first: Cell<u64>,
+    last: Cell<u64>,
+}
+
+/// An allocator that passes each request on to `inner`, but for those that it was told to refuse. A collection is lent a
+/// `&` to it, and the test that owns it asks how many requests there were.
+pub struct Refusing<B: Allocator> {
+    inner: B,
+    plan: Plan,
+}
+
+impl<B: Allocator> Refusing<B> {
+    /// An allocator over `inner` that refuses nothing yet.
+    pub fn new(inner: B) -> Refusing<B> {
+        Refusing {
+            inner,
+            plan: Plan {
+                asked: Cell::new(0),
+                first: Cell::new(u64::MAX),
+                last: Cell::new(0),
+            },
+        }
+    }
+
+    /// Counts anew, and refuses the request number `n` alone, where the next is number 1.
+    pub fn refuse_only(&self, n: u64) {
+        self.plan.asked.set(0);
+        self.plan.first.set(n);
+        self.plan.last.set(n);
+    }
+
+    /// Counts anew, and refuses the request number `n` and each later one.
+    pub fn refuse_from(&self, n: u64) {
+        self.plan.asked.set(0);
+        self.plan.first.set(n);
+        self.plan.last.set(u64::MAX);
+    }
+
+    /// Counts anew, and refuses nothing.
+    pub fn refuse_none(&self) {
+        self.plan.asked.set(0);
+        self.plan.first.set(u64::MAX);
+        self.plan.last.set(0);
+    }
+
+    /// How many requests there were since `refuse_only`, `refuse_from` or `refuse_none` was last called.
+    pub fn asked(&self) -> u64 {
+        self.plan.asked.get()
+    }
+
+    /// Whether one of these requests was refused.
+    pub fn has_refused(&self) -> bool {
+        self.plan.first.get() <= self.plan.asked.get().min(self.plan.last.get())
+    }
+}
+
+impl<B: Allocator> Drop for Refusing<B> {
+    fn drop(self) {
+        let Self { inner: _, plan: _ } = self;
+    }
+}
+
+fn admits(plan: &Plan) -> bool {
+    let number = plan.asked.get().saturating_add(1);
+    plan.asked.set(number);
+    number < plan.first.get() || plan.last.get() < number
+}
+
+unsafe impl<B: Allocator> Allocator for Refusing<B> {
+    ghost dealloc_token = { λ heap ty ptr. B.dealloc_token heap.inner ty ptr };
+
+    fn allocate(&self, size: usize, align: usize) -> Result<*mut u8, AllocError> {
+        if admits(&self.plan) {
+            self.inner.allocate(size, align)
+        } else {
+            Err(AllocError)
+        }
+    }
+
+    unsafe fn deallocate(&self, ptr: *mut u8, size: usize, align: usize) {
+        self.inner.deallocate(ptr, size, align);
+    }
+}
+
+#[cfg(test)]
+mod tests;

@@ -1,0 +1,25 @@
+use Rattle.std.proofs.Common.{rules, arith, refl, ap, sym, ◌∙◌, append_assoc, zero-add, zero, suc, ◌≡◌, ◌≤◌, ◌<◌, ℕ, length, take, drop, ◌+◌, ◌-◌, List, [], ◌∷◌, ◌++◌}
+use Rattle.std.proofs.lemmas.Grind.{common_steps}
+use Rattle.std.specs.Prelude.{Option, Some, None}
+use Rattle.std.specs.Io.KnownBytes.{Appends}
+use Rattle.std.proofs.KnownBytes.{Appends-trans}
+use Rattle.st_oer.proofs.turn.put_all.Goals as goal
+
+take_sum : (i n : ℕ) (s : List ℕ) → take i s ++ take n (drop i s) ≡ take (i + n) s
+take_sum zero n s = rw zero-add refl
+take_sum (suc i) n [] = grind (arith, common_steps)
+take_sum (suc i) n (b ∷ s) = let e : suc i + n ≡ suc (i + n) = omega arith in rw e (ap (λ v. b ∷ v) (take_sum i n s))
+
+whole : (i : ℕ) (s : List ℕ) → take (length s - i) (drop i s) ≡ drop i s
+whole i s = grind (arith, common_steps)
+
+pub loop-sent-preserved-in-Moved : goal.loop-sent-preserved-in-Moved
+loop-sent-preserved-in-Moved g c =
+    let text = c.args.text.now in
+    let at = c.loop-sent.sent in
+    let h = rw (whole c.loop-sent.sent c.args.text.now) at c.in-Moved.ensures in
+    record {
+      within = grind (arith, common_steps, h.0);
+      written = rw (← take_sum c.loop-sent.sent c.in-Moved.n c.args.text.now) (Appends-trans (g.W.Write.contents c.args.writer.now) (g.W.Write.contents c.loop-sent.writer) (g.W.Write.contents c.write_turn.new.writer) _ _ c.loop-sent.invariant.written h.1);
+      spent = omega arith;
+    }

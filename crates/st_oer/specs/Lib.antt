@@ -1,0 +1,10 @@
+pub mod Spelling
+pub mod Limit
+pub mod Reading
+pub mod Seen
+pub mod Laws
+pub mod Address
+pub mod Text
+pub mod Errors
+pub mod Faults
+pub mod Turns

@@ -1,0 +1,66 @@
+//! Why bytes could not be read or written.
+
+ghost use Rattle.std.specs.Prelude.{◌≡◌};
+ghost use Rattle.st_oer.specs.Errors.{number, inner};
+ghost use Rattle.st_oer.specs.declared.error.OerError.TheVariants.{NoMemory};
+
+use std::alloc::{AllocError, AllocFailed};
+use thiserror::Error;
+
+/// Why a field could not be read, or could not be appended.
+#[derive(Clone, Copy, Debug, PartialEq, Eq, Error)]
+pub enum OerError {
+    /// The field goes past the end of the bytes.
+    #[error("a field goes past the end")]
+    Short,
+    /// A length is not written in the fewest bytes.
+    #[error("a length is not in its shortest form")]
+    LongLength,
+    /// A number has no bytes, or is not written in the fewest.
+    #[error("a number is not in its shortest form")]
+    LongNumber,
+    /// A length, or a number that is no limit, takes more than eight bytes.
+    #[error("a length or number takes more than eight bytes")]
+    TooBig,
+    /// There was no memory for what was to be appended.
+    #[error("out of memory")]
+    NoMemory,
+}
+
+impl OerError {
+    /// The number that programs print for this refusal.
+    pub fn number(&self) -> u8
+        ensures { result ≡ number self.now }
+    {
+        match self {
+            OerError::Short => 1,
+            OerError::LongLength => 2,
+            OerError::LongNumber => 3,
+            OerError::TooBig => 4,
+            OerError::NoMemory => 5,
+        }
+    }
+
+    /// The number that a refusal carries in brackets: these carry none.
+    pub fn inner(&self) -> Option<u64>
+        ensures { result ≡ inner self.now }
+    {
+        None
+    }
+}
+
+impl From<AllocError> for OerError {
+    ghost from_gives = { λ _ e. e ≡ NoMemory };
+
+    fn from(_error: AllocError) -> OerError {
+        OerError::NoMemory
+    }
+}
+
+impl<T: Drop> From<AllocFailed<T>> for OerError {
+    ghost from_gives = { λ _ e. e ≡ NoMemory };
+
+    fn from(_error: AllocFailed<T>) -> OerError {
+        OerError::NoMemory
+    }
+}

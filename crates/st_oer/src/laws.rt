@@ -1,0 +1,32 @@
+//! Laws of the definitions, each the contract of an empty function.
+
+ghost use Rattle.std.specs.Prelude.{ℕ, ◌<◌, ◌^◌};
+ghost use Rattle.st_oer.specs.Spelling.{length_bytes, octets, uint64, uint8, var_uint};
+ghost use Rattle.st_oer.specs.Limit.{IsLimit};
+ghost use Rattle.st_oer.specs.Laws.{AreFewest, ByteReads, FixedReads, HasLength, IsByte, IsSpelled, IsU64, LengthReads, LimitReads, NoneBeginsAnother, OctetsRead, U64Reads, VarUintReads};
+
+/// Each kind of field is read exactly where it is spelled, whatever follows.
+pub fn fields_are_read_as_spelled()
+    ensures byte { ByteReads }
+    ensures u64 { U64Reads }
+    ensures fixed { FixedReads }
+    ensures length { LengthReads }
+    ensures octets { OctetsRead }
+    ensures var_uint { VarUintReads }
+    ensures limit { LimitReads }
+{}
+
+/// No spelling begins another of its kind.
+pub fn no_spelling_begins_another()
+    ensures byte { NoneBeginsAnother (IsSpelled uint8 IsByte) }
+    ensures u64 { NoneBeginsAnother (IsSpelled uint64 IsU64) }
+    ensures length { NoneBeginsAnother (IsSpelled length_bytes IsU64) }
+    ensures octets { NoneBeginsAnother (IsSpelled octets HasLength) }
+    ensures var_uint { NoneBeginsAnother (IsSpelled var_uint IsU64) }
+    ensures limit { NoneBeginsAnother IsLimit }
+{}
+
+/// The digits of a number are the fewest bytes that give it.
+pub fn digits_are_fewest()
+    ensures { (n : ℕ) → n < 2 ^ 64 → AreFewest n }
+{}

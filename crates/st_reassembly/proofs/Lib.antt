@@ -1,0 +1,4 @@
+pub mod Insertions
+pub mod Pointwise
+pub mod Runs
+pub mod Views
