@@ -1,0 +1,12 @@
+pub mod Calendar
+pub mod Expiry
+pub mod Moments
+pub mod Packets
+pub mod Rules
+pub mod Spelling
+pub mod Reading
+pub mod Writing
+pub mod Errors
+pub mod Dates
+pub mod Seen
+pub mod Laws

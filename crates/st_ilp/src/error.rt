@@ -1,0 +1,101 @@
+//! Why a packet could not be read or written.
+
+ghost use Rattle.std.specs.Prelude.{◌≡◌};
+ghost use Rattle.st_ilp.specs.Errors.{number, inner};
+ghost use Rattle.st_ilp.specs.declared.error.IlpError.TheVariants.{Oer, NoMemory};
+
+use st_oer::OerError;
+use std::alloc::{AllocError, AllocFailed};
+use thiserror::Error;
+
+/// Why a packet, or the text of an expiry, could not be read or written (RFC 0027).
+#[derive(Clone, Copy, Debug, PartialEq, Eq, Error)]
+pub enum IlpError {
+    /// A field, or the packet around them, has a bad spelling.
+    #[error("bad spelling: {0}")]
+    Oer(OerError),
+    /// The packet is of another kind than the one asked for.
+    #[error("the packet is of another kind")]
+    Kind,
+    /// An expiry is no existing date and time of the years 0000 to 9999, in 17 digits.
+    #[error("the expiry is no date and time")]
+    Expiry,
+    /// A destination, or a triggeredBy that is not empty, is no address.
+    #[error("an address is malformed")]
+    Address,
+    /// Data has more than 32,767 bytes, or a message to be written more than 8,191.
+    #[error("data or a message is too long")]
+    DataTooLong,
+    /// A message is not UTF-8.
+    #[error("the message is not UTF-8")]
+    NotUtf8,
+    /// A code holds another character than `!` to `~`.
+    #[error("the code is malformed")]
+    Code,
+    /// Bytes follow the last field or the packet.
+    #[error("bytes follow the last field or the packet")]
+    Trailing,
+    /// There was no memory for the bytes.
+    #[error("out of memory")]
+    NoMemory,
+}
+
+impl IlpError {
+    /// The number that programs print for this refusal.
+    pub fn number(&self) -> u8
+        ensures { result ≡ number self.now }
+    {
+        match self {
+            IlpError::Oer(_) => 10,
+            IlpError::Kind => 11,
+            IlpError::Expiry => 12,
+            IlpError::Address => 13,
+            IlpError::DataTooLong => 14,
+            IlpError::NotUtf8 => 15,
+            IlpError::Code => 16,
+            IlpError::Trailing => 17,
+            IlpError::NoMemory => 18,
+        }
+    }
+
+    /// The number that programs print in brackets: that of the fault in a spelling.
+    pub fn inner(&self) -> Option<u64>
+        ensures { result ≡ inner self.now }
+    {
+        match self {
+            IlpError::Oer(error) => Some(u64::from(error.number())),
+            IlpError::Kind
+            | IlpError::Expiry
+            | IlpError::Address
+            | IlpError::DataTooLong
+            | IlpError::NotUtf8
+            | IlpError::Code
+            | IlpError::Trailing
+            | IlpError::NoMemory => None,
+        }
+    }
+}
+
+impl From<OerError> for IlpError {
+    ghost from_gives = { λ error e. e ≡ Oer error };
+
+    fn from(error: OerError) -> IlpError {
+        IlpError::Oer(error)
+    }
+}
+
+impl From<AllocError> for IlpError {
+    ghost from_gives = { λ _ e. e ≡ NoMemory };
+
+    fn from(_error: AllocError) -> IlpError {
+        IlpError::NoMemory
+    }
+}
+
+impl<T: Drop> From<AllocFailed<T>> for IlpError {
+    ghost from_gives = { λ _ e. e ≡ NoMemory };
+
+    fn from(_error: AllocFailed<T>) -> IlpError {
+        IlpError::NoMemory
+    }
+}

@@ -1,0 +1,71 @@
+//! Packets as values that lend their texts and data.
+
+ghost use Rattle.std.specs.Prelude.{◌≡◌};
+ghost use Rattle.st_ilp.specs.Rules as rules;
+
+use st_oer::is_address;
+
+/// The kinds of packets.
+pub(crate) const PREPARE: u8 = 12;
+
+pub(crate) const FULFILL: u8 = 13;
+
+pub(crate) const REJECT: u8 = 14;
+
+/// The most bytes of data in a packet.
+pub const MAX_DATA: usize = 32_767;
+
+/// The most bytes of a message that is written; longer ones are read.
+pub const MAX_MESSAGE: usize = 8_191;
+
+/// An ILP Prepare (RFC 0027).
+#[derive(Clone, Copy, Debug, PartialEq, Eq)]
+pub struct Prepare<'a> {
+    /// Units of the asset that the two neighbours share.
+    pub amount: u64,
+    /// When it expires, in milliseconds since the start of 1970, UTC.
+    pub expiry: i64,
+    /// The hash that a fulfillment has to have.
+    pub condition: [u8; 32],
+    /// The address of the receiver.
+    pub destination: &'a str,
+    /// The receiver's data, at most 32,767 bytes.
+    pub payload: &'a [u8],
+}
+
+/// The answer to a Prepare: an ILP Fulfill or an ILP Reject (RFC 0027).
+#[derive(Clone, Copy, Debug, PartialEq, Eq)]
+pub enum Answer<'a> {
+    /// The Prepare was carried out.
+    Fulfill {
+        /// The bytes whose hash is the Prepare's condition.
+        fulfillment: [u8; 32],
+        /// The sender's data, at most 32,767 bytes.
+        payload: &'a [u8],
+    },
+    /// The Prepare was not carried out.
+    Reject {
+        /// Three characters, as `F02`.
+        code: [u8; 3],
+        /// The address of the node that made it (triggeredBy), or nothing.
+        by: &'a str,
+        /// A text for people.
+        message: &'a str,
+        /// The sender's data, at most 32,767 bytes.
+        payload: &'a [u8],
+    },
+}
+
+/// Whether three bytes are a code: none is a space, and all are printable ASCII.
+pub(crate) fn is_code(code: &[u8; 3]) -> bool
+    ensures { result ≡ rules.is_code code.now }
+{
+    code.iter().all(|character| character.is_ascii_graphic())
+}
+
+/// Whether a text may be the triggeredBy of a Reject.
+pub(crate) fn is_sender(by: &str) -> bool
+    ensures { result ≡ rules.is_sender by.now }
+{
+    by.is_empty() || is_address(by)
+}

@@ -1,0 +1,89 @@
+//! Rejects, also into room that was reserved for one.
+
+ghost use Rattle.std.specs.Prelude.{◌≡◌, ◌<◌, ◌≤◌, ◌^◌, ◌+◌, ◌++◌, ◌∷◌, [], length, None, Some, IsOk, MatchResult, OnOk, OnErr, vec_len, vec_capacity};
+ghost use Rattle.st_ilp.specs.Packets.{Rejected};
+ghost use Rattle.st_ilp.specs.Spelling.{answer_text, answer_contents};
+ghost use Rattle.st_ilp.specs.Writing.{Refuses, answer_refusal, reject_size, octets_size, reject_contents_size};
+
+use crate::error::IlpError;
+use crate::packet::{MAX_DATA, MAX_MESSAGE, REJECT, is_code, is_sender};
+use crate::size::{self, reject_contents_len};
+use crate::writing::put_head;
+use st_oer::put_octets;
+use std::alloc::Allocator;
+
+/// Refuses what may not stand in a Reject.
+#[tactic(auto, unfolding(crate::specs::Writing::answer_refusal))]
+pub(crate) fn judge_reject(
+    code: &[u8; 3],
+    by: &str,
+    message: &str,
+    payload: &[u8],
+) -> Result<(), IlpError>
+    ensures { MatchResult result (λ _. answer_refusal (Rejected code.now by.now message.now payload.now) ≡ None) (λ e. answer_refusal (Rejected code.now by.now message.now payload.now) ≡ Some e) }
+{
+    if !is_code(code) {
+        return Err(IlpError::Code);
+    }
+    if !is_sender(by) {
+        return Err(IlpError::Address);
+    }
+    if MAX_MESSAGE < message.len() || MAX_DATA < payload.len() {
+        return Err(IlpError::DataTooLong);
+    }
+    Ok(())
+}
+
+/// Appends a Reject to a vector that has room for it.
+#[tactic(auto, unfolding(crate::specs::Spelling::answer_text, crate::specs::Spelling::answer_contents), using(crate::proofs::Sizes::sizes))]
+pub(crate) fn append_reject<A: Allocator>(
+    out: &mut Vec<u8, A>,
+    code: [u8; 3],
+    by: &str,
+    message: &str,
+    payload: &[u8],
+)
+    requires lawful { answer_refusal (Rejected code by.now message.now payload.now) ≡ None }
+    requires room { vec_len out.old + length (answer_text (Rejected code by.now message.now payload.now)) ≤ vec_capacity out.old }
+    ensures text { out.new.items ≡ out.old.items ++ answer_text (Rejected code by.now message.now payload.now) }
+    ensures capacity { vec_capacity out.old ≤ vec_capacity out.new }
+{
+    let size = reject_contents_len(by.len(), message.len(), payload.len());
+    put_head(out, REJECT, size);
+    out.extend_from_slice(&code).unwrap();
+    put_octets(out, by.as_bytes()).unwrap();
+    put_octets(out, message.as_bytes()).unwrap();
+    put_octets(out, payload).unwrap();
+}
+
+/// How many bytes a Reject takes that has no message: exact wherever the number fits.
+#[tactic(auto, unfolding(crate::specs::Writing::reject_size))]
+pub fn reject_len(by: &str, data_len: usize) -> usize
+    ensures { reject_size by.now data_len < 2 ^ 64 → result ≡ reject_size by.now data_len }
+{
+    size::reject_size(by.len(), 0, data_len)
+}
+
+/// Appends a Reject without a message (RFC 0027). It takes no memory where `out` has `reject_len`
+/// bytes of room.
+///
+/// Refuses with the first of `Code`, `Address`, `DataTooLong` that has a cause, and else with
+/// `NoMemory` where there was none; `out` then has the bytes that it had.
+#[tactic(auto, using(crate::proofs::Sizes::sizes))]
+pub fn put_reject<A: Allocator>(
+    out: &mut Vec<u8, A>,
+    code: [u8; 3],
+    by: &str,
+    payload: &[u8],
+) -> Result<(), IlpError>
+    ensures text { OnOk result (out.new.items ≡ out.old.items ++ answer_text (Rejected code by.now [] payload.now)) }
+    ensures kept { OnErr result (out.new.items ≡ out.old.items) }
+    ensures refusal { Refuses result (answer_refusal (Rejected code by.now [] payload.now)) }
+    ensures room { answer_refusal (Rejected code by.now [] payload.now) ≡ None → vec_len out.old + reject_size by.now (length payload.now) ≤ vec_capacity out.old → IsOk result }
+    ensures capacity { vec_capacity out.old ≤ vec_capacity out.new }
+{
+    judge_reject(&code, by, "", payload)?;
+    out.reserve(reject_len(by, payload.len()))?;
+    append_reject(out, code, by, "", payload);
+    Ok(())
+}
