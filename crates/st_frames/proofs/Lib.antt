@@ -1,0 +1,9 @@
+pub mod Results
+pub mod FramesLemmas
+pub mod FieldsLemmas
+pub mod PacketLaws
+pub mod PacketReads
+pub mod Lengths
+pub mod Puts
+pub mod WrittenLaws
+pub mod Prefixes

@@ -1,0 +1,10 @@
+pub mod Frames
+pub mod Table
+pub mod Errors
+pub mod Contents
+pub mod Reading
+pub mod Relation
+pub mod Written
+pub mod Seen
+pub mod Packets
+pub mod Laws

@@ -1,0 +1,75 @@
+//! Why a packet was not read or not written.
+
+ghost use Rattle.std.specs.Prelude.{◌≡◌};
+ghost use Rattle.st_frames.specs.Errors.{number, inner};
+ghost use Rattle.st_frames.specs.declared.error.FrameError.TheVariants.{NoMemory, Oer};
+
+use st_oer::OerError;
+use std::alloc::AllocError;
+use thiserror::Error;
+
+/// Why a packet was not read or not written.
+#[derive(Clone, Copy, Debug, PartialEq, Eq, Error)]
+pub enum FrameError {
+    /// The first byte is another version than 1.
+    #[error("the packet is of another version of STREAM")]
+    Version,
+    /// The second byte is another kind than that of the ILP packet that carried it.
+    #[error("the packet is of another kind than the ILP packet that carried it")]
+    Kind,
+    /// A number of the packet, a frame's type or a frame's length is malformed.
+    #[error("the packet is malformed: {0}")]
+    Oer(OerError),
+    /// The contents of the known frame with this index over all frames, from 0, are malformed.
+    #[error("frame {0} is malformed")]
+    FrameFormat(u64),
+    /// The packet has more than `MAX_PACKET` bytes.
+    #[error("the packet is too long")]
+    TooLong,
+    /// There is no memory for the packet.
+    #[error("out of memory")]
+    NoMemory,
+}
+
+impl FrameError {
+    /// The number of this refusal, 20 to 25.
+    pub fn number(&self) -> u8
+        ensures { result ≡ number self.now }
+    {
+        match self {
+            FrameError::Version => 20,
+            FrameError::Kind => 21,
+            FrameError::Oer(_) => 22,
+            FrameError::FrameFormat(_) => 23,
+            FrameError::TooLong => 24,
+            FrameError::NoMemory => 25,
+        }
+    }
+
+    /// The number of the fault in the numbers, or the index of the malformed frame.
+    pub fn inner(&self) -> Option<u64>
+        ensures { result ≡ inner self.now }
+    {
+        match self {
+            FrameError::Oer(fault) => Some(u64::from(fault.number())),
+            FrameError::FrameFormat(index) => Some(*index),
+            _ => None,
+        }
+    }
+}
+
+impl From<AllocError> for FrameError {
+    ghost from_gives = { λ _ e. e ≡ NoMemory };
+
+    fn from(_error: AllocError) -> FrameError {
+        FrameError::NoMemory
+    }
+}
+
+impl From<OerError> for FrameError {
+    ghost from_gives = { λ fault e. e ≡ Oer fault };
+
+    fn from(fault: OerError) -> FrameError {
+        FrameError::Oer(fault)
+    }
+}

@@ -1,0 +1,24 @@
+//! STREAM packets (RFC 0029, version 1): plain packets, as they stand before encryption and after decryption.
+//! `read_packet` judges a whole packet and then lends its known frames one after another, with no memory.
+//! `write_packet` writes the one spelling that this profile gives a packet.
+//! A refusal says its number by `number`, and by `inner` the place or the fault in the numbers.
+#![tactic(auto)]
+
+mod contents;
+mod error;
+mod frame;
+mod frame_type;
+mod laws;
+mod length;
+mod packet;
+mod skeleton;
+mod writing;
+
+pub use error::FrameError;
+pub use frame::Frame;
+pub use laws::{packet_law, prefix_law, written_law};
+pub use packet::{Frames, MAX_PACKET, StreamPacket, VERSION, read_packet};
+pub use writing::write_packet;
+
+#[cfg(test)]
+mod tests;
