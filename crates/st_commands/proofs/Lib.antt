@@ -1,0 +1,4 @@
+pub mod Pieces
+pub mod Overs
+pub mod LinesSoFar
+pub mod Progressing

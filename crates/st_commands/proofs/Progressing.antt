@@ -1,0 +1,250 @@
+-- Lines one after another, answered as they stream past.
+use Rattle.std.proofs.Common.{◌≡◌, ◌≢◌, ◌<◌, ◌≤◌, ◌⊎◌, ℕ, zero, suc, ◌+◌, ◌==◌, Bool, true, false, ◌||◌, List, [], ◌∷◌, ◌++◌, length, take, drop, get_or, set, add-one, Option, Some, None, Ok, Err, refl, sym, ap, subst, ◌∙◌, inl, inr, arith, append_assoc, append-nil}
+use Rattle.std.specs.Prelude.{is_some, IsOk, IfSome}
+use Rattle.std.specs.List.{All, slice_split}
+use Rattle.std.specs.Str.Lines.{lines, lines_of_parts, strip_carriage_return}
+use Rattle.std.specs.Io.KnownBytes.{Appends, Consumes, IsAtEnd, Keeps}
+use Rattle.std.proofs.KnownBytes.{Appends-trans, Appends-nil}
+use Rattle.std.proofs.lemmas.List.Splits.{slice_split_at, slice_split_none, length-slice_split}
+use Rattle.std.proofs.lemmas.List.{take_more, drop_all, drop-set-lt}
+use Rattle.std.proofs.Math.Seq.{drop-cons}
+use Rattle.std.proofs.lemmas.Grind.{common_steps}
+use Rattle.hex.specs.Hex.{decode_of}
+use Rattle.st_frames.specs.Reading.{packet_at}
+use Rattle.st_commands.specs.declared.error.LineError.{LineError}
+use Rattle.st_commands.specs.declared.line.LineEnd.{LineEnd}
+use Rattle.st_commands.specs.Answers.{Answered, ended, skipped, taken, refused, no_memory, IsAnswer, after_line, packet_of_line, by_packet, prepare}
+use Rattle.st_commands.specs.Drafts as drafts
+use Rattle.st_commands.specs.Inboxes.{Inboxes, opening, after_packet, run_line, runs_from, runs_text}
+use Rattle.st_commands.specs.Texts.{line_text}
+use Rattle.st_commands.specs.LineSoFar.{LineState, StandsFor, no_line, text_of_line}
+use Rattle.st_commands.specs.Progress.{State, at_start, told, HasPacketEffect, HasEffect, AnswersLine, MayFollow, AnswersPiece, Covers, CoversLines}
+use Rattle.st_commands.proofs.LinesSoFar.{stands_empty}
+
+first_part : (x : List ℕ) (parts : List (List ℕ)) → 0 < length parts → lines_of_parts (x ∷ parts) ≡ strip_carriage_return x ∷ lines_of_parts parts
+first_part x [] h = absurd (omega arith)
+first_part x (y ∷ more) h = refl
+
+-- the first line of a text
+lines-newline : (line left : List ℕ) → All (λ b. (b == 10) ≡ false) line → lines (line ++ 10 ∷ left) ≡ strip_carriage_return line ∷ lines left
+lines-newline line left h =
+    let parts : slice_split (λ b. b == 10) (line ++ 10 ∷ left) ≡ line ∷ slice_split (λ b. b == 10) left = slice_split_at (λ b. b == 10) line 10 left h refl in
+    ap lines_of_parts parts ∙ first_part line (slice_split (λ b. b == 10) left) (omega (arith, length-slice_split (λ (b : ℕ). b == 10) left))
+
+one_part : (x : List ℕ) → 0 < length x → lines_of_parts (x ∷ []) ≡ x ∷ []
+one_part x some = grind (arith, common_steps)
+
+-- the last line of a text
+lines-last : (line : List ℕ) → 0 < length line → All (λ b. (b == 10) ≡ false) line → lines line ≡ line ∷ []
+lines-last [] some h = absurd (omega arith)
+lines-last (b ∷ line) some h = ap lines_of_parts (slice_split_none (λ b. b == 10) (b ∷ line) h) ∙ one_part (b ∷ line) some
+
+or-true : (x : Bool) → (x || true) ≡ true
+or-true true = refl
+or-true false = refl
+
+or-false : (x : Bool) → (x || false) ≡ x
+or-false true = refl
+or-false false = refl
+
+answers_empty : (s t : State) (l : List ℕ) → length l ≡ 0 → t.inboxes ≡ s.inboxes → t.index ≡ s.index + 1 → t.refused ≡ (s.refused || false) → AnswersLine s l [] t
+answers_empty s t [] e same next noted = λ ls text later a. (later, skipped s.index s.inboxes ls text later (rw (next, same) at a), rw (noted, or-false) refl)
+answers_empty s t (b ∷ l) e same next noted = absurd (omega arith)
+
+answers_taken : (s t : State) (l : List ℕ) → 0 < length l → after_line s.inboxes l ≡ Ok t.inboxes → t.index ≡ s.index + 1 → t.refused ≡ (s.refused || false) → AnswersLine s l [] t
+answers_taken s t l some effect next noted = λ ls text later a. (later, taken s.index s.inboxes t.inboxes l ls text later some effect (rw next at a), rw (noted, or-false) refl)
+
+answers_refused : (s t : State) (l : List ℕ) (e : LineError) → t.inboxes ≡ s.inboxes → 0 < length l → after_line s.inboxes l ≡ Err e → t.index ≡ s.index + 1 → t.refused ≡ (s.refused || true)
+    → AnswersLine s l (line_text s.index e) t
+answers_refused s t l e same some meant next noted = λ ls text later a.
+    (true, refused s.index s.inboxes l e ls text later some meant (rw (next, same) at a), rw (noted, or-true) refl)
+
+answers_no_memory : (s t : State) (l : List ℕ) → t.inboxes ≡ s.inboxes → 0 < length l → IsOk (packet_of_line l) → t.index ≡ s.index + 1 → t.refused ≡ (s.refused || true)
+    → AnswersLine s l (line_text s.index drafts.no_memory) t
+answers_no_memory s t l same some ok next noted = λ ls text later a.
+    (true, no_memory s.index s.inboxes l ls text later some ok (rw (next, same) at a), rw (noted, or-true) refl)
+
+-- a line is answered
+pub answers_line : (s t : State) (l : List ℕ) (refusal : Option LineError) → HasEffect s.inboxes l refusal t.inboxes → t.index ≡ s.index + 1 → t.refused ≡ (s.refused || is_some refusal)
+    → AnswersLine s l (told s.index refusal) t
+answers_line s t l None effect next noted = elim effect [
+  | inl none ↦ answers_empty s t l none.0 none.1 next noted
+  | inr some ↦ answers_taken s t l some.0 some.1 next noted
+]
+answers_line s t l (Some e) effect next noted = elim effect.2 [
+  | inl meant ↦ answers_refused s t l e effect.0 effect.1 meant next noted
+  | inr wanting ↦ subst (λ (x : LineError). AnswersLine s l (line_text s.index x) t) (sym wanting.1) (answers_no_memory s t l effect.0 effect.1 wanting.0 next noted)
+]
+
+-- a byte within a line
+pub answers_byte : (s t : State) (b : ℕ) → t.index ≡ s.index → t.inboxes ≡ s.inboxes → t.refused ≡ s.refused → ((line : List ℕ) → StandsFor s.line line → StandsFor t.line (line ++ b ∷ []))
+    → AnswersPiece s (b ∷ []) [] t
+answers_byte s t b index inboxes flag stays = λ left text any follows line stands.
+    let f = follows (line ++ b ∷ []) (stays line stands) in
+    let same : (line ++ b ∷ []) ++ left ≡ line ++ b ∷ left = append_assoc line (b ∷ []) left in
+    let answered = rw (index, inboxes, same) at f.1 in
+    let flags = rw flag at f.2 in
+    (f.0, answered, flags)
+
+-- a newline
+pub answers_newline : (s t : State) (said : List ℕ) → t.line ≡ no_line → ((line : List ℕ) → StandsFor s.line line → AnswersLine s (strip_carriage_return line) said t) → AnswersPiece s (10 ∷ []) said t
+answers_newline s t said fresh answers = λ left text any follows line stands.
+    let f = follows [] (stands_empty t.line fresh) in
+    let a = answers line stands (lines left) text f.0 f.1 in
+    let first : lines (line ++ 10 ∷ left) ≡ strip_carriage_return line ∷ lines left = lines-newline line left stands.one_line in
+    (a.0, rw first a.1, a.2 ∙ f.2)
+
+-- a piece after a piece
+pub answers_more : (s t r : State) (piece more said also : List ℕ) → AnswersPiece s piece said t → AnswersPiece t more also r → AnswersPiece s (piece ++ more) (said ++ also) r
+answers_more s t r piece more said also first second = λ left text any follows.
+    rw (append_assoc piece more left, append_assoc said also text) (first (more ++ left) (also ++ text) any (second left text any follows))
+
+pub answers_nothing : (s : State) → AnswersPiece s [] [] s
+answers_nothing s = λ left text any follows. follows
+
+-- the input's end, with no line before it
+pub ends_empty : (s : State) → ((line : List ℕ) → StandsFor s.line line → length line ≡ 0) → MayFollow s [] (runs_text s.inboxes) s.refused
+ends_empty s empty = λ line stands. at_end line (empty line stands)
+  where
+    at_end : (line : List ℕ) → length line ≡ 0 → (later : Bool) × Answered s.index s.inboxes (lines (line ++ [])) (runs_text s.inboxes) later × ((s.refused || later) ≡ s.refused)
+    at_end [] e = (false, ended s.index s.inboxes, or-false s.refused)
+    at_end (b ∷ line) e = absurd (omega arith)
+
+-- the input's end, after a line
+pub ends_line : (s t : State) (said : List ℕ) → ((line : List ℕ) → StandsFor s.line line → 0 < length line) → ((line : List ℕ) → StandsFor s.line line → AnswersLine s line said t)
+    → MayFollow s [] (said ++ runs_text t.inboxes) t.refused
+ends_line s t said some answers = λ line stands.
+    let a = answers line stands [] (runs_text t.inboxes) false (ended t.index t.inboxes) in
+    let whole : lines (line ++ []) ≡ line ∷ [] = ap lines (append-nil line) ∙ lines-last line (some line stands) stands.one_line in
+    (a.0, rw whole a.1, a.2 ∙ or-false t.refused)
+
+-- before the first byte
+pub covers_start : (input before : Option (List ℕ)) (s : State) → s ≡ at_start → Covers input input before before s
+covers_start None before s e = tt
+covers_start (Some input) before s e = ([], Appends-nil before, rw e starts)
+  where
+    starts : (text : List ℕ) (any : Bool) → MayFollow at_start input text any → IsAnswer input ([] ++ text) any
+    starts text any follows =
+        let f = follows [] (stands_empty no_line refl) in
+        subst (λ (x : Bool). Answered 1 opening (lines input) text x) f.2 f.1
+
+-- after a piece
+pub covers_piece : (input left rest before now after : Option (List ℕ)) (s t : State) (piece said : List ℕ) → Covers input left before now s → Consumes left rest piece → Appends now after said
+    → AnswersPiece s piece said t → Covers input rest before after t
+covers_piece None left rest before now after s t piece said h took put answers = tt
+covers_piece (Some input) None rest before now after s t piece said h took put answers = absurd h
+covers_piece (Some input) (Some left) None before now after s t piece said h took put answers = absurd took
+covers_piece (Some input) (Some left) (Some rest) before now after s t piece said h took put answers = (
+  h.0 ++ said,
+  Appends-trans before now after h.0 said h.1 put,
+  λ text any follows. rw (append_assoc h.0 said text) (h.2 (said ++ text) any (rw took (answers rest text any follows))),
+)
+
+-- after a call that moved nothing
+pub covers_same : (input left rest before now : Option (List ℕ)) (s : State) → Covers input left before now s → Keeps left rest → Covers input rest before now s
+covers_same None left rest before now s h kept = tt
+covers_same (Some input) None rest before now s h kept = absurd h
+covers_same (Some input) (Some left) None before now s h kept = absurd kept
+covers_same (Some input) (Some left) (Some rest) before now s h kept = rw kept h
+
+-- at the end
+pub covers_end : (input left before now after : Option (List ℕ)) (s t : State) (said : List ℕ) → Covers input left before now s → IsAtEnd left → Appends now after said
+    → MayFollow s [] (said ++ runs_text t.inboxes) t.refused → CoversLines input before after t
+covers_end None left before now after s t said h end put follows = tt
+covers_end (Some input) None before now after s t said h end put follows = absurd h
+covers_end (Some input) (Some left) before now after s t said h end put follows = (
+  h.0 ++ said,
+  Appends-trans before now after h.0 said h.1 put,
+  rw (append_assoc h.0 said (runs_text t.inboxes)) (h.2 (said ++ runs_text t.inboxes) t.refused (rw end follows)),
+)
+
+-- at the end, which a read of nothing told
+pub covers_ended : (input left rest before now after : Option (List ℕ)) (s t : State) (said piece : List ℕ) → piece ≡ [] → Covers input left before now s → Consumes left rest piece → IsAtEnd rest
+    → Appends now after said → MayFollow s [] (said ++ runs_text t.inboxes) t.refused → CoversLines input before after t
+covers_ended input left rest before now after s t said piece none h took end put follows =
+    let nothing = subst (λ (p : List ℕ). AnswersPiece s p [] s) (sym none) (answers_nothing s) in
+    covers_end input rest before now after s t said (covers_piece input left rest before now now s s piece [] h took (Appends-nil now) nothing) end put follows
+
+-- with the runs
+pub answers_all : (input before now after : Option (List ℕ)) (s : State) → CoversLines input before now s → Appends now after (runs_text s.inboxes)
+    → IfSome input (λ bytes. (text : List ℕ) × IsAnswer bytes text s.refused × Appends before after text)
+answers_all None before now after s h put = tt
+answers_all (Some input) before now after s h put = (h.0 ++ runs_text s.inboxes, h.2, Appends-trans before now after h.0 (runs_text s.inboxes) h.1 put)
+
+-- what a packet does is what its line does
+pub effect_of_packet : (s t : Inboxes) (l bytes : List ℕ) (refusal : Option LineError) → 0 < length l → decode_of l ≡ Ok bytes → HasPacketEffect s (by_packet (packet_at prepare bytes)) refusal t → HasEffect s l refusal t
+unfolding after_line packet_of_line
+effect_of_packet s t l bytes None some is effect = inr (some, rw is effect)
+effect_of_packet s t l bytes (Some e) some is effect = (effect.0, some, rw is effect.1)
+
+pub effect_of_no_packet : (s t : Inboxes) (l : List ℕ) (e : LineError) → 0 < length l → packet_of_line l ≡ Err e → t ≡ s → HasEffect s l (Some e) t
+unfolding after_line
+effect_of_no_packet s t l e some is same = (same, some, inl (rw is refl))
+
+pub some_text : (l : List ℕ) → (length l ≡ 0 → ⊥) → 0 < length l
+some_text [] h = absurd (h refl)
+some_text (b ∷ l) h = omega arith
+
+-- a line was answered in steps: a after its packet, n after it was told, t with the next line
+pub line_ended : (s a n t : State) (end : LineEnd) (before after : List ℕ) (refusal : Option LineError) → a.index ≡ s.index → a.refused ≡ s.refused
+    → n ≡ record a { refused = a.refused || is_some refusal } → t ≡ record n { line = no_line; index = n.index + 1 } → after ≡ before ++ told a.index refusal
+    → ((line : List ℕ) → StandsFor s.line line → HasEffect s.inboxes (text_of_line end line) refusal a.inboxes)
+    → (said : List ℕ) × (after ≡ before ++ said) × ((line : List ℕ) → StandsFor s.line line → AnswersLine s (text_of_line end line) said t)
+line_ended s a n t end before after refusal index flag noted next put effect =
+    let inboxes : t.inboxes ≡ a.inboxes = ap (λ (x : State). x.inboxes) next ∙ ap (λ (x : State). x.inboxes) noted in
+    let refused : t.refused ≡ (s.refused || is_some refusal) =
+    ap (λ (x : State). x.refused) next ∙ (ap (λ (x : State). x.refused) noted ∙ ap (λ (x : Bool). x || is_some refusal) flag) in
+    let later : t.index ≡ s.index + 1 = ap (λ (x : State). x.index) next ∙ (ap (λ (x : State). x.index + 1) noted ∙ ap (λ (i : ℕ). i + 1) index) in (
+      told s.index refusal,
+      put ∙ ap (λ (i : ℕ). before ++ told i refusal) index,
+      λ line stands.
+          answers_line s t (text_of_line end line) refusal (subst (λ (x : Inboxes). HasEffect s.inboxes (text_of_line end line) refusal x) (sym inboxes) (effect line stands)) later refused,
+    )
+
+-- a piece was taken so far
+abbrev pub TakesTo : State → List ℕ → List ℕ → List ℕ → State → Type 0
+TakesTo s piece before after t = (said : List ℕ) × (after ≡ before ++ said) × AnswersPiece s piece said t
+
+pub takes_more : (s t r : State) (piece : List ℕ) (i : ℕ) (out next last : List ℕ) → i < length piece → TakesTo s (take i piece) out next t → TakesTo t (get_or piece i 0 ∷ []) next last r
+    → TakesTo s (take (i + 1) piece) out last r
+takes_more s t r piece i out next last lt first second =
+    let one : take (i + 1) piece ≡ take i piece ++ get_or piece i 0 ∷ [] = take_more piece i 0 lt in (
+      first.0 ++ second.0,
+      second.1 ∙ (ap (λ (l : List ℕ). l ++ second.0) first.1 ∙ append_assoc out first.0 second.0),
+      rw one (answers_more s t r (take i piece) (get_or piece i 0 ∷ []) first.0 second.0 first.2 second.2),
+    )
+
+-- so much was written of the runs, of which those from place i on are left
+abbrev pub WritesRuns : Option (List ℕ) → Option (List ℕ) → List ℕ → ℕ → Inboxes → Type 0
+WritesRuns before now all i s = (done : List ℕ) × Appends before now done × (done ++ runs_from (i + 1) (drop i s) ≡ all)
+
+pub writes_run : (before now after : Option (List ℕ)) (all : List ℕ) (i : ℕ) (s t : Inboxes) → i < length s → t ≡ set s i None → WritesRuns before now all i s
+    → Appends now after (run_line (i + 1) (get_or s i None)) → WritesRuns before after all (i + 1) t
+writes_run before now after all i s t lt made h put =
+    let said : List ℕ = run_line (i + 1) (get_or s i None) in
+    let step : runs_from (i + 1) (drop i s) ≡ said ++ runs_from (i + 1 + 1) (drop (suc i) s) = ap (runs_from (i + 1)) (drop-cons s i None lt) in
+    let same : drop (i + 1) t ≡ drop (suc i) s = ap (drop (i + 1)) made ∙ (drop-set-lt (i + 1) s i None (omega arith) ∙ ap (λ (k : ℕ). drop k s) (add-one i)) in (
+      h.0 ++ said,
+      Appends-trans before now after h.0 said h.1 put,
+      append_assoc h.0 said (runs_from (i + 1 + 1) (drop (i + 1) t)) ∙ (ap (λ (l : Inboxes). h.0 ++ (said ++ runs_from (i + 1 + 1) l)) same ∙ (ap (λ (l : List ℕ). h.0 ++ l) (sym step) ∙ h.2)),
+    )
+
+pub writes_all : (before now : Option (List ℕ)) (all : List ℕ) (i : ℕ) (s : Inboxes) → length s ≤ i → WritesRuns before now all i s → Appends before now all
+writes_all before now all i s past h =
+    let none : drop i s ≡ [] = drop_all i s past in
+    let whole : h.0 ≡ all = sym (append-nil h.0) ∙ (ap (λ (l : Inboxes). h.0 ++ runs_from (i + 1) l) (sym none) ∙ h.2) in
+    subst (Appends before now) whole h.1
+
+-- the same, where the streams and the flag are known by other names
+pub answers_all_as : (input before now after : Option (List ℕ)) (s : State) (streams : Inboxes) (flag : Bool) → s.inboxes ≡ streams → s.refused ≡ flag → CoversLines input before now s
+    → Appends now after (runs_text streams) → IfSome input (λ bytes. (text : List ℕ) × IsAnswer bytes text flag × Appends before after text)
+answers_all_as input before now after s streams flag same is h put =
+    let all = answers_all input before now after s h (subst (λ (x : Inboxes). Appends now after (runs_text x)) (sym same) put) in
+    rw is at all
+
+take-zero : (xs : List ℕ) → take 0 xs ≡ []
+take-zero [] = refl
+take-zero (x ∷ xs) = refl
+
+pub take-none : (n : ℕ) (xs : List ℕ) → n ≡ 0 → take n xs ≡ []
+take-none n xs e = rw e (take-zero xs)

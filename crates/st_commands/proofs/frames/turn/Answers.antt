@@ -1,0 +1,22 @@
+use Rattle.std.proofs.Common.{◌≡◌, ◌<◌, List, [], ◌++◌, ℕ, take, length, subst, ap, ◌∙◌, arith}
+use Rattle.std.specs.Io.KnownBytes.{Appends}
+use Rattle.st_commands.proofs.Progressing.{covers_ended, covers_piece, take-none}
+use Rattle.st_commands.proofs.frames.turn.Goals as goal
+
+pub returns-in-Moved-eq0-clause-covers : goal.returns-in-Moved-eq0-clause-covers
+returns-in-Moved-eq0-clause-covers g c = λ input before covers.
+    let a = c.in_ok-finished-in-Moved-eq0.ensures.answered in
+    let text : c.deref.result.now ≡ a.0 = c.deref.ensures.value ∙ (a.1 ∙ ap (λ (l : List ℕ). l ++ a.0) c.new-out.ensures.items) in
+    let none = take-none c.in-Moved-eq0.field-0 c.read_turn.new.buf c.in-Moved-eq0.field-0-test in
+    let room : 0 < length c.read_turn.new.buf = omega arith in
+    covers_ended input (g.R.Read.remaining c.args.reader.now) (g.R.Read.remaining c.read_turn.new.reader) before (g.W.Write.contents c.args.writer.now) (g.W.Write.contents c.put.new.writer)
+    c.args.lines.now c.finish-finished.new.self a.0 (take c.in-Moved-eq0.field-0 c.read_turn.new.buf) none covers c.in-Moved-eq0.ensures.1 (c.in-Moved-eq0.ensures.2 c.in-Moved-eq0.field-0-test room)
+    (subst (Appends (g.W.Write.contents c.args.writer.now) (g.W.Write.contents c.put.new.writer)) text c.in_ok-put-in-Moved-eq0.ensures.whole) a.2
+
+pub returns-clause-covers : goal.returns-clause-covers
+returns-clause-covers g c = λ input before covers.
+    let a = c.in_ok-fed-in-Moved.ensures.answered in
+    let text : c.deref-in-Moved.result.now ≡ a.0 = c.deref-in-Moved.ensures.value ∙ (a.1 ∙ ap (λ (l : List ℕ). l ++ a.0) c.new-out.ensures.items) in
+    covers_piece input (g.R.Read.remaining c.args.reader.now) (g.R.Read.remaining c.read_turn.new.reader) before (g.W.Write.contents c.args.writer.now) (g.W.Write.contents c.put-in-Moved.new.writer)
+    c.args.lines.now c.feed-fed.new.self (take c.in-Moved.n c.read_turn.new.buf) a.0 covers c.in-Moved.ensures.1
+    (subst (Appends (g.W.Write.contents c.args.writer.now) (g.W.Write.contents c.put-in-Moved.new.writer)) text c.in_ok-put-in-Moved.ensures.whole) a.2

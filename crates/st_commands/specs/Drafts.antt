@@ -1,0 +1,26 @@
+-- Inboxes that a packet changes, beside those that stand.
+use Rattle.std.specs.Prelude.{◌≡◌, ◌⊎◌, ℕ, List, [], ◌∷◌, Option, Some, None, Result, Ok, Err, IsOk}
+use Rattle.std.specs.Option.{option_or}
+use Rattle.st_frames.specs.Frames.{Packet}
+use Rattle.st_reassembly.specs.declared.error.InboxError.TheVariants as inbox
+use Rattle.st_commands.specs.declared.error.LineError.{LineError}
+use Rattle.st_commands.specs.declared.error.LineError.TheVariants as line
+use Rattle.st_commands.specs.Inboxes.{Inboxes, after_packet}
+
+-- the drafts, and what stands where there is no draft
+abbrev pub over : Inboxes → Inboxes → Inboxes
+over [] standing = standing
+over (d ∷ ds) [] = []
+over (d ∷ ds) (s ∷ ss) = option_or d s ∷ over ds ss
+
+-- want of memory in an inbox
+abbrev pub no_memory : LineError
+no_memory = line.Inbox inbox.NoMemory
+
+-- the error is the refusal that the definition names, or want of memory
+abbrev pub IsPieceError : Result Inboxes LineError → LineError → Type 0
+IsPieceError meant e = (meant ≡ Err e) ⊎ (e ≡ no_memory)
+
+-- the same of a packet, where want of memory stands only for one that can be read
+abbrev pub IsPacketError : Inboxes → Result Packet LineError → LineError → Type 0
+IsPacketError s packet e = (after_packet s packet ≡ Err e) ⊎ (IsOk packet × (e ≡ no_memory))

@@ -1,0 +1,333 @@
+//! The command `frames`: lines of hexadecimal in, refusals and each stream's longest run out.
+
+ghost use Rattle.std.specs.Prelude.{◌≡◌, ◌≢◌, ◌⊎◌, ◌||◌, true, false, is_some, take, ◌+◌, ◌^◌, ◌<◌, ◌≤◌, ◌++◌, ◌∷◌, [], ℕ, List, Option, OnOk, IfOk, IfErr, IfSome, length, slice_index_or, slice_set, None};
+ghost use Rattle.std.specs.Io.KnownBytes.{Appends};
+ghost use Rattle.st_oer.specs.Faults.{Rose};
+ghost use Rattle.st_frames.specs.Reading.{packet_at};
+ghost use Rattle.st_commands.specs.Answers.{IsAnswer, by_packet, prepare};
+ghost use Rattle.st_commands.specs.Errors.{fault_number};
+ghost use Rattle.st_commands.specs.Endings.{has_refusal};
+ghost use Rattle.st_commands.specs.Inboxes.{run_line, runs_text};
+ghost use Rattle.st_commands.specs.LineSoFar.{StandsFor, no_line, text_of_line};
+ghost use Rattle.st_commands.specs.Progress.{at_start, told, HasPacketEffect, HasEffect, AnswersLine, AnswersPiece, MayFollow, Covers, CoversLines, AfterTurn};
+ghost use Rattle.st_commands.specs.Texts.{fault_text};
+
+use crate::error::{Fault, LineError};
+use crate::line::{LineEnd, LineSoFar};
+use crate::output::put;
+use crate::streams::Streams;
+use crate::texts::{fault_line, refused_line, stream_line};
+use st_oer::{Counted, Turn, read_turn};
+use std::alloc::{AllocError, Allocator};
+use std::io::{Read, Write};
+use std::marker::Model;
+
+/// How many calls of its devices a run makes at most.
+pub const TURNS: u32 = 2_147_483_647;
+
+/// How many bytes are asked for at once.
+const PIECE: usize = 4096;
+
+/// Whether a line was refused, once all of them were answered.
+#[derive(Clone, Copy, Debug, PartialEq, Eq)]
+pub enum Lines {
+    AllTaken,
+    SomeRefused,
+}
+
+/// The lines so far: the one that is being read with its index, the streams before it, and whether one was refused.
+#[derive(Drop)]
+struct Reader<A: Allocator + Copy> {
+    line: LineSoFar<A>,
+    index: u64,
+    streams: Streams<A>,
+    refused: bool,
+    alloc: A,
+}
+
+impl<A: Allocator + Copy> Model for Reader<A> {
+    ghost use Rattle.st_commands.specs.Progress.{State};
+
+    ghost Value = { State };
+
+    ghost use Rattle.std.specs.Coded.{codes};
+    ghost use Rattle.std.specs.FinMap as fmap;
+
+    ghost coded = { Prim.hlevel (codes, fmap.code) };
+
+    ghost view = { λ s. record { line = s.line; index = s.index; inboxes = s.streams; refused = s.refused } };
+}
+
+impl<A: Allocator + Copy> Reader<A> {
+    fn new(alloc: A) -> Result<Reader<A>, AllocError>
+        ensures { IfOk result (λ s. s ≡ at_start) }
+    {
+        let streams = Streams::new(alloc)?;
+        Ok(Reader {
+            line: LineSoFar::new(alloc),
+            index: 1,
+            streams,
+            refused: false,
+            alloc,
+        })
+    }
+
+    /// Takes a packet, or says why it is refused.
+    fn take_packet(&mut self, bytes: &[u8]) -> Option<LineError>
+        ensures effect { HasPacketEffect self.old.inboxes (by_packet (packet_at prepare bytes.now)) result self.new.inboxes }
+        ensures rest { (self.new.index ≡ self.old.index) × (self.new.refused ≡ self.old.refused) }
+    {
+        match self.streams.take_packet(bytes) {
+            Ok(()) => None,
+            Err(error) => Some(error),
+        }
+    }
+
+    /// Takes the line's packet, or says why it is refused.
+    fn answer(&mut self, end: LineEnd) -> Result<Option<LineError>, AllocError>
+        ensures effect { IfOk result (λ refusal. (line : List ℕ) → StandsFor self.old.line line
+            → HasEffect self.old.inboxes (text_of_line end line) refusal self.new.inboxes) }
+        ensures rest { (self.new.index ≡ self.old.index) × (self.new.refused ≡ self.old.refused) }
+    {
+        if self.line.is_empty(end) {
+            return Ok(None);
+        }
+        match self.line.bytes(end)? {
+            Ok(bytes) => Ok(self.take_packet(&bytes)),
+            Err(error) => Ok(Some(error)),
+        }
+    }
+
+    /// Appends what a refused line prints.
+    fn tell(&mut self, out: &mut Vec<u8, A>, refusal: Option<LineError>) -> Result<(), AllocError>
+        ensures told { OnOk result (out.new.items ≡ out.old.items ++ told self.old.index refusal) }
+        ensures noted { OnOk result (self.new ≡ record self.old { refused = self.old.refused || is_some refusal }) }
+    {
+        let Some(error) = refusal else {
+            return Ok(());
+        };
+        let text = refused_line(self.alloc, self.index, error)?;
+        out.extend_from_slice(text.as_bytes())?;
+        self.refused = true;
+        Ok(())
+    }
+
+    /// Answers the line, and begins the next.
+    fn end_line(&mut self, out: &mut Vec<u8, A>, end: LineEnd) -> Result<(), AllocError>
+        requires { self.old.index + 1 < 2 ^ 64 }
+        ensures answered { OnOk result ((said : List ℕ) × (out.new.items ≡ out.old.items ++ said)
+            × ((line : List ℕ) → StandsFor self.old.line line → AnswersLine self.old (text_of_line end line) said self.new)) }
+        ensures next { OnOk result ((self.new.line ≡ no_line) × (self.new.index ≡ self.old.index + 1)) }
+    {
+        let refusal = self.answer(end)?;
+        self.tell(out, refusal)?;
+        self.next_line();
+        Ok(())
+    }
+
+    fn next_line(&mut self)
+        requires { self.old.index + 1 < 2 ^ 64 }
+        ensures { self.new ≡ record self.old { line = no_line; index = self.old.index + 1 } }
+    {
+        self.line.clear();
+        self.index += 1;
+    }
+
+    /// Takes the next byte.
+    fn push(&mut self, out: &mut Vec<u8, A>, byte: u8) -> Result<(), AllocError>
+        requires { self.old.index + self.old.line.count + 1 < 2 ^ 64 }
+        ensures answered { OnOk result ((said : List ℕ) × (out.new.items ≡ out.old.items ++ said) × AnswersPiece self.old (byte ∷ []) said self.new) }
+        ensures bounded { OnOk result (self.new.index + self.new.line.count ≤ self.old.index + self.old.line.count + 1) }
+    {
+        if byte == b'\n' {
+            self.end_line(out, LineEnd::Newline)?;
+            return Ok(());
+        }
+        self.line.push(byte)?;
+        Ok(())
+    }
+
+    /// Takes a piece of the input, and appends what it makes known.
+    fn feed(&mut self, out: &mut Vec<u8, A>, piece: &[u8]) -> Result<(), AllocError>
+        requires { self.old.index + self.old.line.count + length piece.now < 2 ^ 64 }
+        ensures answered { OnOk result ((said : List ℕ) × (out.new.items ≡ out.old.items ++ said) × AnswersPiece self.old piece.now said self.new) }
+        ensures bounded { OnOk result (self.new.index + self.new.line.count ≤ self.old.index + self.old.line.count + length piece.now) }
+    {
+        for byte in piece {
+            self.push(out, *byte)?;
+        }
+        Ok(())
+    }
+
+    /// Takes the end of the input.
+    fn finish(&mut self, out: &mut Vec<u8, A>) -> Result<(), AllocError>
+        requires { self.old.index + 1 < 2 ^ 64 }
+        ensures answered { OnOk result ((said : List ℕ) × (out.new.items ≡ out.old.items ++ said)
+            × MayFollow self.old [] (said ++ runs_text self.new.inboxes) self.new.refused) }
+    {
+        if self.line.is_empty(LineEnd::InputEnd) {
+            return Ok(());
+        }
+        self.end_line(out, LineEnd::InputEnd)?;
+        Ok(())
+    }
+}
+
+/// One read, and what it makes known written. Whether that was the end.
+fn turn<A: Allocator + Copy, R: Read + Counted, W: Write + Counted>(
+    lines: &mut Reader<A>,
+    reader: &mut R,
+    writer: &mut W,
+    since: u64,
+    turns: &mut u64,
+) -> Result<bool, Fault>
+    requires { lines.old.index + lines.old.line.count < 2 ^ 63 }
+    ensures covers { (input before : Option (List ℕ)) → Covers input (R.remaining reader.old) before (W.contents writer.old) lines.old
+        → IfOk result (λ is_end. AfterTurn is_end input (R.remaining reader.new) before (W.contents writer.new) lines.new) }
+    ensures bounded { IfOk result (λ is_end. (is_end ≡ false) → lines.new.index + lines.new.line.count ≤ lines.old.index + lines.old.line.count + 4096) }
+    ensures input { IfErr result (λ e. (e ≡ Fault.Input) → Rose since (R.fault_count reader.new)) }
+    ensures turns { turns.new ≤ turns.old }
+{
+    let mut buf = [0; PIECE];
+    let mut out = Vec::new(lines.alloc);
+    match read_turn(reader, &mut buf, since) {
+        Turn::Again => Ok(false),
+        Turn::Fault => Err(Fault::Input),
+        Turn::Moved(0) => {
+            let finished = lines.finish(&mut out);
+            put(writer, &out, turns)?;
+            finished?;
+            Ok(true)
+        }
+        Turn::Moved(n) => {
+            let fed = lines.feed(&mut out, &buf[..n]);
+            put(writer, &out, turns)?;
+            fed?;
+            Ok(false)
+        }
+    }
+}
+
+/// Reads the input to its end, and answers its lines.
+fn answer_lines<A: Allocator + Copy, R: Read + Counted, W: Write + Counted>(
+    lines: &mut Reader<A>,
+    reader: &mut R,
+    writer: &mut W,
+    turns: &mut u64,
+) -> Result<(), Fault>
+    requires start { lines.old ≡ at_start }
+    requires turns { turns.old < 2 ^ 32 }
+    ensures covers { OnOk result (CoversLines (R.remaining reader.old) (W.contents writer.old) (W.contents writer.new) lines.new) }
+    ensures input { IfErr result (λ e. (e ≡ Fault.Input) → Rose (R.fault_count reader.old) (R.fault_count reader.new)) }
+{
+    let since = reader.faults();
+    while *turns > 0 {
+        *turns -= 1;
+        if turn(lines, reader, writer, since, turns)? {
+            return Ok(());
+        }
+    }
+    Err(Fault::Turns)
+}
+
+/// Writes the run of the stream at a place, where it was named.
+fn put_run<A: Allocator + Copy, W: Write + Counted>(
+    alloc: A,
+    streams: &mut Streams<A>,
+    place: usize,
+    writer: &mut W,
+    turns: &mut u64,
+) -> Result<(), Fault>
+    requires { place < 64 }
+    ensures others { streams.new ≡ slice_set streams.old place None }
+    ensures no_input { result ≢ Err Fault.Input }
+    ensures whole { OnOk result (Appends (W.contents writer.old) (W.contents writer.new) (run_line (place + 1) (slice_index_or streams.old place None))) }
+{
+    if let Some(bytes) = streams.take_run(place)? {
+        let text = stream_line(alloc, place + 1, &bytes)?;
+        put(writer, text.as_bytes(), turns)?;
+    }
+    Ok(())
+}
+
+/// Writes each named stream's run, in the order of the streams.
+fn put_runs<A: Allocator + Copy, W: Write + Counted>(
+    alloc: A,
+    streams: Streams<A>,
+    writer: &mut W,
+    turns: &mut u64,
+) -> Result<(), Fault>
+    ensures no_input { result ≢ Err Fault.Input }
+    ensures whole { OnOk result (Appends (W.contents writer.old) (W.contents writer.new) (runs_text streams)) }
+{
+    let mut streams = streams;
+    for place in 0..streams.count() {
+        put_run(alloc, &mut streams, place, writer, turns)?;
+    }
+    Ok(())
+}
+
+/// Answers each line of the reader's input, one plain STREAM packet of a Prepare (RFC 0029) in hexadecimal: a refused
+/// line changes nothing and is told at once; at the end each stream that an accepted StreamData frame named has its
+/// longest run written. Empty lines are skipped. After a fault some of that was written.
+pub fn answer_frames<A: Allocator + Copy, R: Read + Counted, W: Write + Counted>(
+    alloc: A,
+    reader: &mut R,
+    writer: &mut W,
+    turns: u32,
+) -> Result<Lines, Fault>
+    ensures answered { IfOk result (λ lines. IfSome (R.remaining reader.old) (λ input. (text : List ℕ) × IsAnswer input text (has_refusal lines)
+        × Appends (W.contents writer.old) (W.contents writer.new) text)) }
+    ensures input { IfErr result (λ e. (e ≡ Fault.Input) → Rose (R.fault_count reader.old) (R.fault_count reader.new)) }
+{
+    let mut turns = u64::from(turns);
+    let mut lines = Reader::new(alloc)?;
+    answer_lines(&mut lines, reader, writer, &mut turns)?;
+    let Reader {
+        streams,
+        refused,
+        ..
+    } = lines;
+    put_runs(alloc, streams, writer, &mut turns)?;
+    if refused {
+        return Ok(Lines::SomeRefused);
+    }
+    Ok(Lines::AllTaken)
+}
+
+/// Tells a fault, as far as the writer takes it. The status of a fault.
+pub(crate) fn tell_fault<A: Allocator + Copy, E: Write + Counted>(
+    alloc: A,
+    errors: &mut E,
+    fault: Fault,
+) -> u8
+    ensures status { result ≡ 1 }
+    ensures text { (sent : ℕ) × Appends (E.contents errors.old) (E.contents errors.new) (take sent (fault_text (fault_number fault))) }
+{
+    let mut turns = u64::from(TURNS);
+    if let Ok(text) = fault_line(alloc, fault.number()) {
+        let _ = put(errors, text.as_bytes(), &mut turns);
+    }
+    1
+}
+
+/// The command `frames`. Its status is 0 where every line was taken, else 1; a fault is told to `errors` by its number.
+pub fn run_frames<A: Allocator + Copy, R: Read + Counted, W: Write + Counted, E: Write + Counted>(
+    alloc: A,
+    reader: &mut R,
+    writer: &mut W,
+    errors: &mut E,
+) -> u8
+    ensures status { result ≤ 1 }
+    ensures taken { result ≡ 0 → (errors.new ≡ errors.old) × IfSome (R.remaining reader.old) (λ input. (text : List ℕ) × IsAnswer input text false
+        × Appends (W.contents writer.old) (W.contents writer.new) text) }
+    ensures refused { result ≡ 1 → ((errors.new ≡ errors.old) × IfSome (R.remaining reader.old) (λ input. (text : List ℕ) × IsAnswer input text true
+        × Appends (W.contents writer.old) (W.contents writer.new) text))
+        ⊎ ((fault : Fault) × (sent : ℕ) × Appends (E.contents errors.old) (E.contents errors.new) (take sent (fault_text (fault_number fault)))) }
+{
+    match answer_frames(alloc, reader, writer, TURNS) {
+        Ok(Lines::AllTaken) => 0,
+        Ok(Lines::SomeRefused) => 1,
+        Err(fault) => tell_fault(alloc, errors, fault),
+    }
+}

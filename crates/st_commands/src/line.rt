@@ -1,0 +1,166 @@
+//! The line that is being read: no more of it is kept than the longest packet has digits.
+
+ghost use Rattle.std.specs.Prelude.{◌≡◌, ◌≢◌, ◌↔◌, ◌<◌, ◌≤◌, ◌+◌, ◌++◌, ◌∷◌, [], ◌^◌, ℕ, List, length, OnOk, IfOk, IsTrue};
+ghost use Rattle.std.specs.Bool.{OnTrue, OnFalse};
+ghost use Rattle.st_commands.specs.LineSoFar.{with_digit, AreDigits, HasOther, StandsFor, Spells, no_line, text_of_line};
+
+use crate::error::LineError;
+use st_frames::FrameError;
+use std::alloc::{AllocError, Allocator};
+use std::marker::Model;
+
+/// The digits of the longest packet.
+const MAX_DIGITS: usize = 65_478;
+
+/// What ends a line.
+#[derive(Clone, Copy, Debug, PartialEq, Eq)]
+pub enum LineEnd {
+    Newline,
+    InputEnd,
+}
+
+/// What a line looks like so far.
+#[derive(Clone, Copy, Debug, PartialEq, Eq)]
+pub enum Shape {
+    /// Hexadecimal digits alone.
+    Digits,
+    /// Hexadecimal digits, and a carriage return that may belong to the line's end.
+    DigitsAndReturn,
+    /// Something else, whatever follows.
+    NotHex,
+}
+
+/// The line so far: how many digits came, and the first `MAX_DIGITS` of them.
+#[derive(Drop)]
+pub struct LineSoFar<A: Allocator + Copy> {
+    digits: Vec<u8, A>,
+    count: u64,
+    shape: Shape,
+    alloc: A,
+}
+
+impl<A: Allocator + Copy> Model for LineSoFar<A> {
+    ghost use Rattle.st_commands.specs.LineSoFar.{LineState};
+
+    ghost Value = { LineState };
+
+    ghost view = { λ s. record { digits = s.digits.items; count = s.count; shape = s.shape } };
+}
+
+impl<A: Allocator + Copy> LineSoFar<A> {
+    pub fn new(alloc: A) -> LineSoFar<A>
+        ensures { result ≡ no_line }
+    {
+        LineSoFar {
+            digits: Vec::new(alloc),
+            count: 0,
+            shape: Shape::Digits,
+            alloc,
+        }
+    }
+
+    /// The next line begins.
+    pub fn clear(&mut self)
+        ensures { self.new ≡ no_line }
+    {
+        self.digits.clear();
+        self.count = 0;
+        self.shape = Shape::Digits;
+    }
+
+    /// Takes a byte of the line.
+    pub fn push(&mut self, byte: u8) -> Result<(), AllocError>
+        requires byte { byte ≢ 10 }
+        requires count { self.old.count + 1 < 2 ^ 64 }
+        ensures line { OnOk result ((line : List ℕ) → StandsFor self.old line → StandsFor self.new (line ++ byte ∷ [])) }
+        ensures count { OnOk result (self.new.count ≤ self.old.count + 1) }
+    {
+        match self.shape {
+            Shape::Digits => self.push_after_digits(byte),
+            Shape::DigitsAndReturn | Shape::NotHex => {
+                self.shape = Shape::NotHex;
+                Ok(())
+            }
+        }
+    }
+
+    fn push_after_digits(&mut self, byte: u8) -> Result<(), AllocError>
+        requires byte { byte ≢ 10 }
+        requires count { self.old.count + 1 < 2 ^ 64 }
+        requires shape { self.old.shape ≡ Shape.Digits }
+        ensures line { OnOk result ((line : List ℕ) → StandsFor self.old line → StandsFor self.new (line ++ byte ∷ [])) }
+        ensures count { OnOk result (self.new.count ≤ self.old.count + 1) }
+    {
+        if byte.is_ascii_hexdigit() {
+            self.push_digit(byte)?;
+            return Ok(());
+        }
+        if byte == b'\r' {
+            self.shape = Shape::DigitsAndReturn;
+            return Ok(());
+        }
+        self.shape = Shape::NotHex;
+        Ok(())
+    }
+
+    fn push_digit(&mut self, byte: u8) -> Result<(), AllocError>
+        requires { self.old.count + 1 < 2 ^ 64 }
+        ensures { OnOk result (self.new ≡ with_digit byte self.old) }
+    {
+        if self.digits.len() < MAX_DIGITS {
+            self.digits.push(byte)?;
+        }
+        self.count += 1;
+        Ok(())
+    }
+
+    /// Whether the line's text is of digits alone.
+    fn is_of_digits(&self, end: LineEnd) -> bool
+        ensures digits { OnTrue result ((line : List ℕ) → StandsFor self.now line → AreDigits self.now (text_of_line end line)) }
+        ensures other { OnFalse result ((line : List ℕ) → StandsFor self.now line → HasOther (text_of_line end line)) }
+    {
+        match (self.shape, end) {
+            (Shape::Digits, _) => true,
+            (Shape::DigitsAndReturn, LineEnd::Newline) => true,
+            (Shape::DigitsAndReturn, LineEnd::InputEnd) => false,
+            (Shape::NotHex, _) => false,
+        }
+    }
+
+    /// Whether the line has no text.
+    pub fn is_empty(&self, end: LineEnd) -> bool
+        ensures { (line : List ℕ) → StandsFor self.now line → (IsTrue result ↔ (length (text_of_line end line) ≡ 0)) }
+    {
+        if !self.is_of_digits(end) {
+            return false;
+        }
+        self.count == 0
+    }
+
+    /// The bytes that the line spells, or why it has none that are a packet.
+    pub fn bytes(&self, end: LineEnd) -> Result<Result<Vec<u8, A>, LineError>, AllocError>
+        ensures { IfOk result (λ answer. (line : List ℕ) → StandsFor self.now line → Spells (λ v. v.items) (text_of_line end line) answer) }
+    {
+        if self.is_of_digits(end) {
+            self.decoded()
+        } else {
+            Ok(Err(LineError::NotHex))
+        }
+    }
+
+    fn decoded(&self) -> Result<Result<Vec<u8, A>, LineError>, AllocError>
+        ensures { IfOk result (λ answer. (text : List ℕ) → AreDigits self.now text → Spells (λ v. v.items) text answer) }
+    {
+        if self.count % 2 == 1 {
+            return Ok(Err(LineError::NotHex));
+        }
+        if self.count > MAX_DIGITS as u64 {
+            return Ok(Err(LineError::Packet(FrameError::TooLong)));
+        }
+        match hex::decode(self.alloc, self.digits.as_slice()) {
+            Ok(bytes) => Ok(Ok(bytes)),
+            // An even number of digits decodes unless memory is wanting.
+            Err(_) => Err(AllocError),
+        }
+    }
+}

@@ -1,0 +1,30 @@
+//! What the words of the command line ask for.
+
+use clap::{Command, Error};
+use std::alloc::{AllocError, Global};
+use std::convert::AsStr;
+
+/// The program's version.
+const VERSION: &str = "0.1.0";
+
+/// What a run is asked to do.
+#[derive(Clone, Copy, Debug, PartialEq, Eq)]
+pub enum Request {
+    Frames,
+}
+
+fn program<'a>(alloc: Global) -> Result<Command<'a>, AllocError> {
+    Command::new(alloc, "ilpstream")
+        .version(VERSION)
+        .about("STREAM over Interledger")
+        .subcommand(Command::new(alloc, "frames").about(
+            "Reads STREAM packets in hexadecimal, one a line, and prints each stream's longest run",
+        ))
+}
+
+/// What the words ask for, of which the first is the program's name. Words that clap refuses, and those that ask for
+/// help or the version, are its error.
+pub fn read<'a, S: AsStr>(alloc: Global, words: &'a [S]) -> Result<Request, Error> {
+    program(alloc)?.try_get_matches_from(words)?;
+    Ok(Request::Frames)
+}
