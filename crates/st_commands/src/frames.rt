@@ -269,7 +269,8 @@ fn put_runs<A: Allocator + Copy, W: Write + Counted>(
 
 /// Answers each line of the reader's input, one plain STREAM packet of a Prepare (RFC 0029) in hexadecimal: a refused
 /// line changes nothing and is told at once; at the end each stream that an accepted StreamData frame named has its
-/// longest run written. Empty lines are skipped. After a fault some of that was written.
+/// longest run written. Empty lines are skipped. After a fault nothing is
+/// said of what was written.
 pub fn answer_frames<A: Allocator + Copy, R: Read + Counted, W: Write + Counted>(
     alloc: A,
     reader: &mut R,

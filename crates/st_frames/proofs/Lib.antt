@@ -3,7 +3,6 @@ pub mod FramesLemmas
 pub mod FieldsLemmas
 pub mod PacketLaws
 pub mod PacketReads
-pub mod Lengths
 pub mod Puts
 pub mod WrittenLaws
 pub mod Prefixes

@@ -83,6 +83,8 @@ contents_short fs i d lt short =
     let k : Known = seen (get_or fs i d) in
     omega (arith, contents_below k, frames_text-drop fs i, ap length (frames_text-next fs i d lt), length-append (frame_text k) (frames_text (map seen (drop (i + 1) fs))))
 
+pub ruleset lengths = (length-append)
+
 pub ruleset puts = (append_assoc, append-nil)
 
 pub ruleset texts = (IsUtf8-from_is_utf8, is_utf8-from_IsUtf8)

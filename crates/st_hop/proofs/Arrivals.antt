@@ -1,0 +1,86 @@
+-- What a Prepare that goes on keeps.
+use Rattle.std.proofs.Common.{◌≡◌, ◌≢◌, ℕ, zero, suc, ◌+◌, ◌<◌, ◌≤◌, Bool, true, false, cond, List, [], ◌∷◌, length, refl, sym, ap, subst, ◌∙◌, arith, ℤ, Option, None, Some, Result, Ok, Err, nat_eq, nat_lt, nat_le, ◌⊎◌, inl, inr, if◌then◌else◌}
+use Rattle.std.specs.Prelude.{int_le, slice_index, Contains, pos, ◌+ℤ◌}
+use Rattle.std.specs.List.{AllByRecursion, sum_by}
+use Rattle.std.proofs.lemmas.Bool.Decides.{nat_tests}
+use Rattle.st_ilp.specs.Packets.{PreparePacket}
+use Rattle.st_ilp.specs.declared.error.IlpError.{IlpError}
+use Rattle.st_oer.specs.Address.{is_within}
+use Rattle.st_hop.specs.declared.refusal.Refusal.{Refusal}
+use Rattle.st_hop.specs.declared.refusal.Refusal.TheVariants.{Unreachable, AmountTooLarge, InsufficientTimeout, InsufficientLiquidity}
+use Rattle.st_hop.specs.Hop.{Hop, Way, account_at, is_over_limit}
+use Rattle.st_hop.specs.Routing.{longer, route_to}
+use Rattle.st_hop.specs.Lawful.{IsLawful, LeadsTo}
+use Rattle.st_hop.specs.Arriving.{arrived, at_packet, sent_on, judged, routed, onward, hop_time, ticket_for}
+use Rattle.st_hop.proofs.Kept.{fits, holding_lawful}
+
+-- what is told of each route is told of the longest
+abbrev pub OfSome : (Way → Type 0) → Option Way → Type 0
+OfSome P None = Unit {0}
+OfSome P (Some r) = P r
+
+longer_of : (P : Way → Type 0) (r : Way) (o : Option Way) → P r → OfSome P o → OfSome P (longer r o)
+longer_of P r None p q = p
+longer_of P r (Some s) p q = elim (nat_le (length s.prefix) (length r.prefix)) as (λ b. OfSome P (if b then Some r else Some s)) [ true ↦ p | false ↦ q ]
+
+pub route_of : (P : Way → Type 0) (routes : List Way) (address : List ℕ) → AllByRecursion P routes → OfSome P (route_to routes address)
+route_of P [] address h = tt
+route_of P (r ∷ rs) address h =
+    elim (is_within r.prefix address) as (λ b. OfSome P (if b then longer r (route_to rs address) else route_to rs address)) [
+      | true ↦ longer_of P r (route_to rs address) h.0 (route_of P rs address h.1)
+      | false ↦ route_of P rs address h.1
+    ]
+
+-- an account to which a Prepare may go on
+abbrev pub Passes : Hop → ℕ → PreparePacket → Result ℕ Refusal → Type 0
+Passes h account p (Err refusal) = Unit {0}
+Passes h account p (Ok outgoing) = (outgoing < length h.accounts) × (is_over_limit h account p.amount p.amount ≡ false)
+
+limited : (h : Hop) (account : ℕ) (p : PreparePacket) (outgoing : ℕ) (b : Bool) → is_over_limit h account p.amount p.amount ≡ b → outgoing < length h.accounts
+    → Passes h account p (if b then Err InsufficientLiquidity else Ok outgoing)
+limited h account p outgoing true e l = tt
+limited h account p outgoing false e l = (l, e)
+
+routed_passes : (h : Hop) (account : ℕ) (p : PreparePacket) (o : Option Way) → OfSome (LeadsTo (length h.accounts)) o → Passes h account p (routed h account p o)
+routed_passes h account p None l = tt
+routed_passes h account p (Some r) l =
+    let over = if is_over_limit h account p.amount p.amount then Err InsufficientLiquidity else Ok r.account in
+    elim (nat_eq r.account account) as (λ b. Passes h account p (if b then Err Unreachable else over)) [
+      | true ↦ tt
+      | false ↦ limited h account p r.account (is_over_limit h account p.amount p.amount) refl l
+    ]
+
+pub judged_passes : (h : Hop) (account : ℕ) (p : PreparePacket) (now : ℤ) → IsLawful h → Passes h account p (judged h account p now)
+judged_passes h account p now l =
+    let rest = routed h account p (route_to h.routes p.destination) in
+    let max = (account_at h account).max_packet in
+    elim (nat_lt max p.amount) as (λ b. Passes h account p (if b then Err (AmountTooLarge p.amount max) else (if int_le p.expiry (now +ℤ hop_time) then Err InsufficientTimeout else rest))) [
+      | true ↦ tt
+      | false ↦ elim (int_le p.expiry (now +ℤ hop_time)) as (λ b. Passes h account p (if b then Err InsufficientTimeout else rest)) [
+        | true ↦ tt
+        | false ↦ routed_passes h account p (route_to h.routes p.destination) (route_of (LeadsTo (length h.accounts)) h.routes p.destination l.routed)
+      ]
+    ]
+
+pub judged_there : {h v : Hop} → h ≡ v → (account : ℕ) (p : PreparePacket) (now : ℤ) (outgoing : ℕ) → IsLawful h → Ok outgoing ≡ judged v account p now → outgoing < length v.accounts
+judged_there {h} {v} e account p now outgoing l j =
+    let lv : IsLawful v = subst IsLawful e l in
+    let P : Result ℕ Refusal → Type 0 = Passes v account p in
+    (subst P (sym j) (judged_passes v account p now lv)).0
+
+sent_lawful : (h : Hop) (account : ℕ) (p : PreparePacket) (r : Result ℕ Refusal) → IsLawful h → account < length h.accounts → Passes h account p r → IsLawful (sent_on h account p r).1
+sent_lawful h account p (Err refusal) l a q = l
+sent_lawful h account p (Ok outgoing) l a q = holding_lawful h (ticket_for h.next account outgoing p (onward p)) l refl a q.0 (fits h account p.amount p.amount q.1)
+
+pub at_packet_lawful : (h : Hop) (account : ℕ) (r : Result PreparePacket IlpError) (now : ℤ) → IsLawful h → account < length h.accounts → IsLawful (at_packet h account r now).1
+at_packet_lawful h account (Err e) now l a = l
+at_packet_lawful h account (Ok p) now l a = sent_lawful h account p (judged h account p now) l a (judged_passes h account p now l)
+
+sent_claims : (h : Hop) (account : ℕ) (p : PreparePacket) (r : Result ℕ Refusal) → ((sent_on h account p r).1.claims ≡ h.claims) × ((sent_on h account p r).1.dues ≡ h.dues) × ((sent_on h account p r).1.accounts ≡ h.accounts)
+sent_claims h account p (Err refusal) = (refl, refl, refl)
+sent_claims h account p (Ok outgoing) = (refl, refl, refl)
+
+-- nothing is booked by an arrival
+pub at_packet_books_none : (h : Hop) (account : ℕ) (r : Result PreparePacket IlpError) (now : ℤ) → ((at_packet h account r now).1.claims ≡ h.claims) × ((at_packet h account r now).1.dues ≡ h.dues) × ((at_packet h account r now).1.accounts ≡ h.accounts)
+at_packet_books_none h account (Err e) now = (refl, refl, refl)
+at_packet_books_none h account (Ok p) now = sent_claims h account p (judged h account p now)

@@ -1,0 +1,11 @@
+pub mod TicketLemmas
+pub mod Routes
+pub mod Sums
+pub mod Numbers
+pub mod Kept
+pub mod Rooms
+pub mod Tables
+pub mod Arrivals
+pub mod HopRuns
+pub mod LongestRoute
+pub mod OneSettlement

@@ -1,0 +1,13 @@
+pub mod Errors
+pub mod Refusals
+pub mod Hop
+pub mod Tickets
+pub mod Routing
+pub mod Ways
+pub mod Arriving
+pub mod Settling
+pub mod Table
+pub mod Lawful
+pub mod Runs
+pub mod Seen
+pub mod Inside

@@ -1,0 +1,59 @@
+//! Why a hop could not be made, or not be asked.
+
+ghost use Rattle.std.specs.Prelude.{◌≡◌};
+ghost use Rattle.st_hop.specs.Errors as errors;
+ghost use Rattle.st_hop.specs.declared.error.HopError.TheVariants.{NoMemory};
+
+use std::alloc::{AllocError, AllocFailed};
+use thiserror::Error;
+
+/// Why a call was refused. The hop is as before the call.
+#[derive(Clone, Copy, Debug, PartialEq, Eq, Error)]
+pub enum HopError {
+    /// The own address or a prefix is no address, a route names an account that is not there, a prefix stands
+    /// twice, or an account's limit is above 2^63 - 1.
+    #[error("the table of accounts and routes is malformed")]
+    BadTable,
+    /// Memory that the call asked for was refused. The Prepare can be answered with `t00`.
+    #[error("out of memory")]
+    NoMemory,
+    /// There is no account of this number.
+    #[error("no such account")]
+    NoAccount,
+}
+
+impl HopError {
+    /// The number by which the refusal is known: 34, 35 or 36.
+    pub fn number(&self) -> u8
+        ensures { result ≡ errors.number self.now }
+    {
+        match self {
+            HopError::BadTable => 34,
+            HopError::NoMemory => 35,
+            HopError::NoAccount => 36,
+        }
+    }
+
+    /// The number that the refusal wraps: none does.
+    pub fn inner(&self) -> Option<u64>
+        ensures { result ≡ errors.inner self.now }
+    {
+        None
+    }
+}
+
+impl From<AllocError> for HopError {
+    ghost from_gives = { λ _ e. e ≡ NoMemory };
+
+    fn from(_error: AllocError) -> HopError {
+        HopError::NoMemory
+    }
+}
+
+impl<T: Drop> From<AllocFailed<T>> for HopError {
+    ghost from_gives = { λ _ e. e ≡ NoMemory };
+
+    fn from(_error: AllocFailed<T>) -> HopError {
+        HopError::NoMemory
+    }
+}

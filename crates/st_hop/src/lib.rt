@@ -1,0 +1,31 @@
+//! A hop: the connector between an Interledger packet's sender and receiver (RFC 0027).
+//!
+//! `arrive` takes the bytes of a Prepare and gives an answer, or the bytes that go on and a `Ticket`; `settle` ends
+//! the ticket with the answer that came back, and gives the bytes that go back. In between the hop holds the amount
+//! against the account that it came from. What an account owes the hop is its claims, what the hop owes it its dues.
+//! Time, accounts and bytes are arguments: no clock, socket or thread is known here.
+#![tactic(auto)]
+
+mod account;
+mod error;
+mod hop;
+mod laws;
+mod refusal;
+mod room;
+mod route;
+mod settling;
+mod table;
+mod ticket;
+mod verdict;
+
+pub use account::Account;
+pub use error::HopError;
+pub use hop::HopState;
+pub use laws::{every_run_balances, every_run_is_lawful, longest_route_law, tickets_settle_once};
+pub use route::Route;
+pub use settling::Outcome;
+pub use ticket::{Open, Ticket};
+pub use verdict::Verdict;
+
+#[cfg(test)]
+mod tests;

@@ -1,0 +1,133 @@
+//! Sealed packets.
+
+ghost use Rattle.std.specs.Prelude.{◌≡◌, ◌≤◌, ◌++◌, length, take, drop, Ok, OnOk, OnErr, IfOk, map};
+ghost use Rattle.st_frames.specs.Packets.{packet_of};
+ghost use Rattle.st_frames.specs.Seen.{seen};
+ghost use Rattle.st_frames.specs.Written.{packet_with};
+ghost use Rattle.st_keys.specs.Sealed.{iv_of, tag_of, ciphertext_of, sealed, sealed_packet, unsealed, opened, Gives, Writes};
+
+use crate::error::KeyError;
+use crate::keys::Keys;
+use st_frames::{Frame, StreamPacket, read_packet, write_packet};
+use std::alloc::{AllocError, Allocator};
+
+/// How many bytes a payload has beside those of its plain packet: an IV of 12 and a tag of 16.
+pub const OVERHEAD: usize = 28;
+
+fn iv_of(payload: &[u8]) -> [u8; 12]
+    requires { OVERHEAD ≤ length payload.now }
+    ensures { result ≡ iv_of payload.now }
+{
+    let mut iv = [0u8; 12];
+    iv.copy_from_slice(&payload[..12]);
+    iv
+}
+
+fn tag_of(payload: &[u8]) -> [u8; 16]
+    requires { OVERHEAD ≤ length payload.now }
+    ensures { result ≡ tag_of payload.now }
+{
+    let mut tag = [0u8; 16];
+    tag.copy_from_slice(&payload[12..OVERHEAD]);
+    tag
+}
+
+/// IV, tag and ciphertext, one after another.
+#[tactic(auto, using(std::proofs::Common::append_assoc))]
+fn joined<A: Allocator>(
+    alloc: A,
+    iv: [u8; 12],
+    tag: [u8; 16],
+    ciphertext: &[u8],
+) -> Result<Vec<u8, A>, AllocError>
+    ensures { IfOk result (λ payload. payload.items ≡ iv ++ (tag ++ ciphertext.now)) }
+{
+    let mut payload = Vec::new(alloc);
+    payload.extend_from_slice(&iv)?;
+    payload.extend_from_slice(&tag)?;
+    payload.extend_from_slice(ciphertext)?;
+    Ok(payload)
+}
+
+/// The payload of a text that is encrypted where it lies.
+#[tactic(auto, unfolding(crate::specs::Sealed::sealed, crate::specs::Sealed::payload_of))]
+fn sealed<A: Allocator>(
+    keys: &Keys,
+    alloc: A,
+    iv: [u8; 12],
+    text: &mut [u8],
+) -> Result<Vec<u8, A>, AllocError>
+    ensures { IfOk result (λ payload. payload.items ≡ sealed keys.now iv text.old) }
+{
+    let tag = keys.seal_text(iv, text);
+    joined(alloc, iv, tag, text)
+}
+
+impl Keys {
+    /// The payload of one packet, sealed under this IV: IV, tag, and the ciphertext of the packet's one spelling
+    /// (RFC 0029). No two packets of a connection may have the same IV: that is the caller's care.
+    ///
+    /// Refused is, in this order: `Packet` with the fault that `write_packet` finds, among them `TooLong` for a plain
+    /// packet above `MAX_PACKET` bytes; and `NoMemory`.
+    #[tactic(auto, unfolding(crate::specs::Sealed::sealed_packet))]
+    pub fn seal_packet<A: Allocator + Copy>(
+        &self,
+        alloc: A,
+        iv: [u8; 12],
+        kind: u8,
+        sequence: u64,
+        amount: u64,
+        frames: &[Frame<'_>],
+    ) -> Result<Vec<u8, A>, KeyError>
+        requires from_prepare { 12 ≤ kind }
+        requires to_reject { kind ≤ 14 }
+        ensures exact { Writes (λ payload. payload.items) result (sealed_packet self.now iv kind sequence amount (map seen frames.now)) }
+        ensures opens { IfOk result (λ payload. opened self.now kind payload.items ≡ Ok (packet_with kind sequence amount (map seen frames.now))) }
+    {
+        let mut text = write_packet(alloc, kind, sequence, amount, frames)?;
+        Ok(sealed(self, alloc, iv, &mut text)?)
+    }
+
+    /// Decrypts a payload where it lies: afterwards its text, from byte `OVERHEAD` on, is plain. No memory is taken.
+    ///
+    /// Refused is `Short` where the payload has fewer bytes than `OVERHEAD`, and then `Tag` where its tag is not that of
+    /// its ciphertext. A refused payload is as it was.
+    #[tactic(auto, unfolding(crate::specs::Sealed::unsealed))]
+    pub fn unseal_payload(&self, payload: &mut [u8]) -> Result<(), KeyError>
+        ensures exact { Gives (λ _. ciphertext_of payload.new) result (unsealed self.now payload.old) }
+        ensures long { OnOk result (OVERHEAD ≤ length payload.old) }
+        ensures front { OnOk result (take OVERHEAD payload.new ≡ take OVERHEAD payload.old) }
+        ensures err { OnErr result (payload.new ≡ payload.old) }
+    {
+        if payload.len() < OVERHEAD {
+            return Err(KeyError::Short);
+        }
+        let iv = iv_of(payload);
+        let tag = tag_of(payload);
+        if !self.unseal_text(iv, tag, &mut payload[OVERHEAD..]) {
+            return Err(KeyError::Tag);
+        }
+        Ok(())
+    }
+
+    /// Decrypts a payload where it lies and reads its packet. No memory is taken.
+    ///
+    /// Refused is, in this order: `Short` and `Tag` as by `unseal_payload`, with the bytes as they were; and `Packet` with
+    /// the fault of a text that is no packet of this kind, with the bytes decrypted.
+    #[tactic(auto, unfolding(crate::specs::Sealed::opened))]
+    pub fn open_packet<'a>(
+        &self,
+        payload: &'a mut [u8],
+        kind: u8,
+    ) -> Result<StreamPacket<'a>, KeyError>
+        requires from_prepare { 12 ≤ kind }
+        requires to_reject { kind ≤ 14 }
+        ensures exact { Gives packet_of result (opened self.now kind payload.old) }
+    {
+        self.unseal_payload(payload)?;
+        match read_packet(&payload[OVERHEAD..], kind) {
+            Ok(packet) => Ok(packet),
+            Err(fault) => Err(KeyError::Packet(fault)),
+        }
+    }
+}
