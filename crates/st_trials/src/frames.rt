@@ -273,7 +273,7 @@ fn long_lines_are_refused(rt: HostRuntime) -> Result<(), AllocError> {
         let input = padded(rt.alloc(), digits, rest)?;
         let devices = Devices::new(rt.alloc(), input.as_slice(), pieces(1000), WHOLE, WHOLE);
         let answer = devices.frames(rt.alloc());
-        assert_eq!(&rt;
+        assert_eq!(rt;
             answer.said(),
             (status, Some(output), Some("")),
             "{digits} digits and {rest}"
@@ -282,7 +282,7 @@ fn long_lines_are_refused(rt: HostRuntime) -> Result<(), AllocError> {
     Ok(())
 }
 
-/// What was told of the five lines before the read of this number: each reads 40 bytes, and the first line has 3.
+/// What was told of the five lines before the read of this number: each gives 40 bytes, and the first line has 3.
 fn told_before(read: u64) -> &'static str {
     if read == 1 { "" } else { "line 1 refused 95\n" }
 }
@@ -294,100 +294,184 @@ fn each_read_fails(rt: HostRuntime) {
         let devices = Devices::new(rt.alloc(), FIVE_LINES.as_bytes(), reads, pieces(5), WHOLE);
         let answer = devices.frames(rt.alloc());
         if !answer.reader.has_failed() {
-            assert_eq!(rt; answer.said(), (1, Some(FIVE_LINES_TEXT), Some("")));
-            // 110 bytes, and the end.
+            // 110 bytes take three reads, and the end one.
             assert_eq!(rt; k, 5);
+            assert_eq!(rt; answer.said(), (1, Some(FIVE_LINES_TEXT), Some("")));
             return;
         }
-        assert_eq!(rt;
-            answer.said(),
-            (1, Some(told_before(k)), Some("fault 90\n")),
-            "read {k}"
-        );
+        let want = (1, Some(told_before(k)), Some("fault 90\n"));
+        assert_eq!(rt; answer.said(), want, "read {k}");
+    }
+    panic!(rt; "no run met no failure");
+}
+
+/// A write or a flush fails: what was written is a part of the text, from its start.
+fn fail_each_write(rt: &impl Abort, alloc: Global, (input, status, output): (&str, u8, &str)) {
+    for k in 1..100u64 {
+        let writes = failing(5, k, ErrorKind::BrokenPipe);
+        let devices = Devices::new(alloc, input.as_bytes(), pieces(40), writes, WHOLE);
+        let answer = devices.frames(alloc);
+        if !answer.writer.has_failed() {
+            assert_eq!(rt; answer.said(), (status, Some(output), Some("")));
+            assert!(rt; 1 < k);
+            return;
+        }
+        let written = answer.writer.inner.as_slice();
+        assert!(rt; output.as_bytes().starts_with(written), "call {k}");
+        let told = (answer.status, answer.errors.text());
+        assert_eq!(rt; told, (1, Some("fault 91\n")), "call {k}");
     }
     panic!(rt; "no run met no failure");
 }
 
 #[test]
 fn each_write_fails(rt: HostRuntime) {
-    for k in 1..1000u64 {
-        let writes = failing(5, k, ErrorKind::Other);
-        let devices = Devices::new(rt.alloc(), FIVE_LINES.as_bytes(), pieces(40), writes, WHOLE);
+    fail_each_write(&rt, rt.alloc(), (THREE_LINES, 0, THREE_LINES_RUN));
+    fail_each_write(&rt, rt.alloc(), (FIVE_LINES, 1, FIVE_LINES_TEXT));
+}
+
+/// Where `errors` fails too, the status alone tells the fault.
+#[test]
+fn each_write_to_errors_fails(rt: HostRuntime) {
+    for k in 1..100u64 {
+        let reads = failing(40, 2, ErrorKind::Other);
+        let errors = failing(4, k, ErrorKind::Other);
+        let devices = Devices::new(rt.alloc(), FIVE_LINES.as_bytes(), reads, WHOLE, errors);
         let answer = devices.frames(rt.alloc());
-        if !answer.writer.has_failed() {
-            assert_eq!(rt; answer.said(), (1, Some(FIVE_LINES_TEXT), Some("")));
-            assert!(rt; 6 < k);
+        assert_eq!(rt; answer.status, 1, "call {k}");
+        assert_eq!(rt;
+            answer.writer.text(),
+            Some("line 1 refused 95\n"),
+            "call {k}"
+        );
+        if !answer.errors.has_failed() {
+            assert_eq!(rt; answer.errors.text(), Some("fault 90\n"));
+            assert!(rt; 1 < k);
             return;
         }
-        let (status, output, errors) = answer.said();
-        assert_eq!(rt; (status, errors), (1, Some("fault 91\n")), "write {k}");
-        assert!(rt;
-            FIVE_LINES_TEXT.starts_with(output.unwrap_or("?")),
-            "write {k}"
-        );
+        let written = answer.errors.inner.as_slice();
+        assert!(rt; "fault 90\n".as_bytes().starts_with(written), "call {k}");
     }
     panic!(rt; "no run met no failure");
 }
 
+/// A call that was interrupted is made again.
 #[test]
-fn interruptions_change_nothing(rt: HostRuntime) {
-    for k in 1..12u64 {
-        let habit = failing(40, k, ErrorKind::Interrupted);
-        let devices = Devices::new(rt.alloc(), FIVE_LINES.as_bytes(), habit, habit, WHOLE);
+fn interrupts_change_nothing(rt: HostRuntime) {
+    for k in 1..100u64 {
+        let interrupted = failing(5, k, ErrorKind::Interrupted);
+        let input = FIVE_LINES.as_bytes();
+        let devices = Devices::new(rt.alloc(), input, interrupted, interrupted, WHOLE);
         let answer = devices.frames(rt.alloc());
         assert_eq!(rt;
             answer.said(),
             (1, Some(FIVE_LINES_TEXT), Some("")),
             "call {k}"
         );
-    }
-}
-
-/// Four reads, and three texts in one write and one flush each: ten turns.
-#[test]
-fn turns_run_out(rt: HostRuntime) {
-    for turns in 0..20u32 {
-        let devices = Devices::new(rt.alloc(), FIVE_LINES.as_bytes(), pieces(40), WHOLE, WHOLE);
-        let answer = devices.frames_in(rt.alloc(), turns);
-        let want = if turns < 10 {
-            Err(Fault::Turns)
-        } else {
-            Ok(Lines::SomeRefused)
-        };
-        assert_eq!(rt; answer.status, want, "{turns} turns");
-    }
-}
-
-/// What three lines may give where one request for memory is refused: the line is refused and changes nothing, or the run
-/// ends with a fault.
-#[test]
-fn each_request_for_memory_is_refused(rt: HostRuntime) {
-    let refused = [
-        "line 1 refused 42\nstream 1 2 6162\n",
-        "line 2 refused 42\nstream 1 4 61626364\n",
-        "line 3 refused 42\nstream 1 4 61626364\n",
-    ];
-    let heap: Refusing<Global> = Refusing::new(rt.alloc());
-    let mut lines_refused = 0;
-    for n in 1..1000u64 {
-        heap.refuse_only(n);
-        let devices = Devices::new(rt.alloc(), THREE_LINES.as_bytes(), WHOLE, WHOLE, WHOLE);
-        let answer = devices.frames(&heap);
-        let met = heap.has_refused();
-        heap.refuse_none();
-        if !met {
-            assert_eq!(rt; answer.said(), (0, Some(THREE_LINES_RUN), Some("")));
-            assert!(rt; 3 <= lines_refused);
+        if !answer.reader.has_failed() && !answer.writer.has_failed() {
+            assert!(rt; 1 < k);
             return;
         }
-        match answer.said() {
-            (1, Some(""), Some("fault 99\n")) => {}
-            (1, Some(output), Some("")) => {
-                assert!(rt; refused.contains(&output), "request {n}: {output}");
-                lines_refused += 1;
-            }
-            _ => panic!(rt; "request {n}"),
+    }
+    panic!(rt; "no run met no interrupt");
+}
+
+/// Each turn is a call of the reader or the writer, and a run takes no more than it was given.
+#[test]
+fn turns_run_out(rt: HostRuntime) {
+    for turns in 0..100u32 {
+        let input = FIVE_LINES.as_bytes();
+        let devices = Devices::new(rt.alloc(), input, pieces(40), pieces(5), WHOLE);
+        let answer = devices.frames_in(rt.alloc(), turns);
+        let calls = answer.reader.calls.saturating_add(answer.writer.calls);
+        assert_eq!(rt; calls, u64::from(turns));
+        if answer.status != Err(Fault::Turns) {
+            assert_eq!(rt; answer.status, Ok(Lines::SomeRefused));
+            assert_eq!(rt; answer.writer.text(), Some(FIVE_LINES_TEXT));
+            assert!(rt; 1 < turns);
+            return;
         }
+        let written = answer.writer.inner.as_slice();
+        assert!(rt;
+            FIVE_LINES_TEXT.as_bytes().starts_with(written),
+            "{turns} turns"
+        );
+    }
+    panic!(rt; "no run had turns enough");
+}
+
+/// A writer that takes nothing is called until the turns run out, and one line that is taken is told from one refused.
+#[test]
+fn turns_end_an_idle_run(rt: HostRuntime) {
+    let input = THREE_LINES.as_bytes();
+    let idle = Devices::new(rt.alloc(), input, WHOLE, pieces(0), WHOLE).frames_in(rt.alloc(), 50);
+    assert_eq!(rt; idle.status, Err(Fault::Turns));
+    assert_eq!(rt; idle.writer.text(), Some(""));
+    let whole = Devices::new(rt.alloc(), input, WHOLE, WHOLE, WHOLE).frames_in(rt.alloc(), 50);
+    assert_eq!(rt; whole.status, Ok(Lines::AllTaken));
+    assert_eq!(rt; whole.writer.text(), Some(THREE_LINES_RUN));
+}
+
+/// What a run of the three lines may give where one request for memory was refused: output and `errors`.
+const REFUSED_MEMORY: [(&str, &str); 4] = [
+    ("", "fault 99\n"),
+    // "ab" alone is left.
+    ("line 1 refused 42\nstream 1 2 6162\n", ""),
+    // Of the two lines with "ab" the other is left.
+    ("line 2 refused 42\nstream 1 4 61626364\n", ""),
+    ("line 3 refused 42\nstream 1 4 61626364\n", ""),
+];
+
+/// Each request for memory is refused in turn: the run ends with its fault, or one line is refused as a whole.
+#[test]
+fn each_request_for_memory_is_refused(rt: HostRuntime) {
+    let heap: Refusing<Global> = Refusing::new(rt.alloc());
+    let mut met = [false; 4];
+    for n in 1..1000u64 {
+        let input = THREE_LINES.as_bytes();
+        heap.refuse_only(n);
+        let answer = Devices::new(rt.alloc(), input, WHOLE, WHOLE, WHOLE).frames(&heap);
+        if !heap.has_refused() {
+            assert_eq!(rt; answer.said(), (0, Some(THREE_LINES_RUN), Some("")));
+            assert_eq!(rt; met, [true; 4]);
+            return;
+        }
+        let (status, output, errors) = answer.said();
+        assert_eq!(rt; status, 1, "request {n}");
+        let mut is_known = false;
+        for i in 0..4 {
+            let (text, fault) = REFUSED_MEMORY[i];
+            if output == Some(text) && errors == Some(fault) {
+                met[i] = true;
+                is_known = true;
+            }
+        }
+        assert!(rt; is_known, "request {n}: {output:?}, {errors:?}");
+        heap.refuse_none();
+        let again = Devices::new(rt.alloc(), input, WHOLE, WHOLE, WHOLE).frames(&heap);
+        assert_eq!(rt;
+            again.said(),
+            (0, Some(THREE_LINES_RUN), Some("")),
+            "after request {n}"
+        );
+    }
+    panic!(rt; "no run met no refusal");
+}
+
+/// Where all memory is refused from some request on, the fault's text finds none either: the status alone tells it.
+#[test]
+fn all_memory_is_refused(rt: HostRuntime) {
+    let heap: Refusing<Global> = Refusing::new(rt.alloc());
+    for n in 1..1000u64 {
+        let input = THREE_LINES.as_bytes();
+        heap.refuse_from(n);
+        let answer = Devices::new(rt.alloc(), input, WHOLE, WHOLE, WHOLE).frames(&heap);
+        if !heap.has_refused() {
+            assert_eq!(rt; answer.said(), (0, Some(THREE_LINES_RUN), Some("")));
+            assert!(rt; 1 < n);
+            return;
+        }
+        assert_eq!(rt; answer.said(), (1, Some(""), Some("")), "from request {n}");
     }
     panic!(rt; "no run met no refusal");
 }

@@ -1,43 +1,66 @@
 //! The program over its words.
 
-use crate::devices::{Devices, pieces};
+use crate::devices::{Answer, Devices, Habit, pieces};
+use std::alloc::Global;
 
-const LINE: &str = "010c010101000101140701010100026162\n";
+const INPUT: &[u8] = b"010c010101000101140701010100026162\nzz\n";
+
+fn over<'a>(alloc: Global, words: &'a [&'a str]) -> Answer<'a, u8> {
+    let whole: Habit = pieces(100_000);
+    Devices::new(alloc, INPUT, whole, whole, whole).program(alloc, words)
+}
 
 #[test]
-fn frames_by_any_words(rt: HostRuntime) {
-    for words in [["ilpstream"].as_slice(), ["ilpstream", "frames"].as_slice()] {
-        let devices = Devices::new(rt.alloc(), LINE.as_bytes(), pieces(9), pieces(9), pieces(9));
-        let answer = devices.program(rt.alloc(), words);
-        assert_eq!(rt; answer.said(), (0, Some("stream 1 2 6162\n"), Some("")));
+fn words_ask_for_frames(rt: HostRuntime) {
+    let rows: [&[&str]; 2] = [&["ilpstream"], &["ilpstream", "frames"]];
+    for words in rows {
+        let answer = over(rt.alloc(), words);
+        let want = (1, Some("line 2 refused 95\nstream 1 2 6162\n"), Some(""));
+        assert_eq!(rt; answer.said(), want, "{words:?}");
     }
 }
 
-/// Help and version go to the writer, and what is refused to the other; no input is read.
+/// Help and the version are no refusal: they come from the writer, and no input is read.
 #[test]
-fn words_are_answered(rt: HostRuntime) {
-    let rows = [
+fn words_ask_for_help(rt: HostRuntime) {
+    let rows: [(&[&str], &str); 7] = [
+        (&["ilpstream", "--version"], "ilpstream 0.1.0\n"),
+        (&["ilpstream", "-V"], "ilpstream 0.1.0\n"),
+        (&["ilpstream", "--help"], "\nUsage: ilpstream [COMMAND]\n"),
+        (&["ilpstream", "-h"], "\nUsage: ilpstream [COMMAND]\n"),
+        (&["ilpstream", "help"], "\nUsage: ilpstream [COMMAND]\n"),
+        (&["ilpstream", "--help"], "\n  frames  "),
         (
-            ["ilpstream", "--version"].as_slice(),
-            0,
-            "ilpstream 0.1.0\n",
+            &["ilpstream", "frames", "--help"],
+            "\nUsage: ilpstream frames\n",
         ),
-        (["ilpstream", "--help"].as_slice(), 0, "Usage: ilpstream"),
-        (["ilpstream", "local"].as_slice(), 2, "error: "),
-        (["ilpstream", "frames", "more"].as_slice(), 2, "error: "),
-        (["ilpstream", "--hops"].as_slice(), 2, "error: "),
     ];
-    for (words, status, part) in rows {
-        let devices = Devices::new(rt.alloc(), LINE.as_bytes(), pieces(9), pieces(9), pieces(9));
-        let answer = devices.program(rt.alloc(), words);
-        let (given, output, errors) = answer.said();
-        let (told, other) = if status == 0 {
-            (output, errors)
-        } else {
-            (errors, output)
-        };
-        assert_eq!(rt; (given, other), (status, Some("")), "{part}");
-        assert!(rt; told.unwrap_or("").contains(part), "{part}");
-        assert_eq!(rt; answer.reader.calls, 0, "{part}");
+    for (words, part) in rows {
+        let answer = over(rt.alloc(), words);
+        let (status, output, errors) = answer.said();
+        let text = output.unwrap_or("");
+        assert!(rt; text.contains(part), "{words:?}: {text}");
+        assert_eq!(rt; (status, errors), (0, Some("")), "{words:?}");
+        assert_eq!(rt; answer.reader.calls, 0, "{words:?}");
+    }
+}
+
+/// Words that are refused are told to `errors` alone, with status 2, and no input is read.
+#[test]
+fn words_are_refused(rt: HostRuntime) {
+    let rows: [&[&str]; 5] = [
+        &["ilpstream", "local"],
+        &["ilpstream", "--frames"],
+        &["ilpstream", ""],
+        &["ilpstream", "frames", "frames"],
+        &["ilpstream", "frames", "-x"],
+    ];
+    for words in rows {
+        let answer = over(rt.alloc(), words);
+        let (status, output, errors) = answer.said();
+        let text = errors.unwrap_or("");
+        assert!(rt; text.starts_with("error: "), "{words:?}: {text}");
+        assert_eq!(rt; (status, output), (2, Some("")), "{words:?}");
+        assert_eq!(rt; answer.reader.calls, 0, "{words:?}");
     }
 }
