@@ -148,7 +148,6 @@ fn put_frames<A: Allocator>(out: &mut Vec<u8, A>, frames: &[Frame<'_>]) -> Resul
 }
 
 /// The index of the first frame that can't be written.
-
 fn first_unwritable(frames: &[Frame<'_>]) -> Option<usize>
     ensures { result ≡ position (λ f. specs.is_unwritable (seen f)) frames.now }
 {

@@ -296,7 +296,7 @@ fn texts_are_put_in_turns(rt: HostRuntime) {
     for (fails_at, kind, mut turns, want, left) in rows {
         let device = Faulty::new(Vec::new(rt.alloc()), 2, fails_at, kind);
         let mut writer = CountWrite::new(device);
-        assert_eq!(rt; put_all(&mut writer, b"abcde", &mut turns), want);
+        assert_eq!(rt; put_all(&mut writer, b"abcde", 0, &mut turns), want);
         assert_eq!(rt; turns, left, "call {fails_at}");
         let is_fault = matches!(want, Err(PutError::Fault(_)));
         assert_eq!(rt; writer.faults(), u64::from(is_fault));

@@ -68,21 +68,21 @@ pub enum PutError {
     Turns(usize),
 }
 
-/// Writes a text whole. Each call of the writer takes one of `turns`; a call that moved nothing, or was
-/// interrupted, is made again.
+/// Writes a text whole. `since` is what the writer's count of errors was when the caller began. Each call of the writer
+/// takes one of `turns`; a call that moved nothing, or was interrupted, is made again.
 pub fn put_all<W: Write + Counted>(
     writer: &mut W,
     text: &[u8],
+    since: u64,
     turns: &mut u64,
 ) -> Result<(), PutError>
     ensures whole { OnOk result (Appends (W.contents writer.old) (W.contents writer.new) text.now) }
     ensures part { IfErr result (λ e. (sent e ≤ length text.now)
         × Appends (W.contents writer.old) (W.contents writer.new) (take (sent e) text.now)) }
-    ensures fault { IfErr result (λ e. IsFault e → Rose (W.fault_count writer.old) (W.fault_count writer.new)) }
+    ensures fault { IfErr result (λ e. IsFault e → Rose since (W.fault_count writer.new)) }
     ensures out_of_turns { IfErr result (λ e. IsTurns e → turns.new ≡ 0) }
     ensures turns { turns.new ≤ turns.old }
 {
-    let since = writer.faults();
     let mut sent = 0;
     while sent < text.len() {
         if *turns == 0 {
