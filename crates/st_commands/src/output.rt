@@ -59,7 +59,7 @@ pub fn put<W: Write + Counted>(writer: &mut W, text: &[u8], turns: &mut u64) -> 
         return Ok(());
     }
     let since = writer.faults();
-    match put_all(writer, text, turns) {
+    match put_all(writer, text, since, turns) {
         Ok(()) => flush(writer, since, turns),
         Err(PutError::Fault(_)) => Err(Fault::Output),
         Err(PutError::Turns(_)) => Err(Fault::Turns),
