@@ -35,33 +35,41 @@ pub(crate) fn contents_len(frame: Frame<'_>) -> u128
     match frame {
         Frame::ConnectionClose { code: _, message } => 1 + octets_len(message.as_bytes()),
         Frame::ConnectionNewAddress { address } => octets_len(address.as_bytes()),
-        Frame::ConnectionMaxData { max_offset } => var_uint_len(max_offset),
-        Frame::ConnectionDataBlocked { max_offset } => var_uint_len(max_offset),
+        Frame::ConnectionMaxData { max_offset } | Frame::ConnectionDataBlocked { max_offset } => {
+            var_uint_len(max_offset)
+        }
         Frame::StreamClose {
             stream,
             code: _,
             message,
         } => var_uint_len(stream) + 1 + octets_len(message.as_bytes()),
-        Frame::StreamMoney { stream, shares } => var_uint_len(stream) + var_uint_len(shares),
+        Frame::StreamMoney {
+            stream,
+            shares: number,
+        }
+        | Frame::StreamMaxData {
+            stream,
+            max_offset: number,
+        }
+        | Frame::StreamDataBlocked {
+            stream,
+            max_offset: number,
+        } => var_uint_len(stream) + var_uint_len(number),
         Frame::StreamMaxMoney {
             stream,
-            receive_max,
-            total_received,
-        } => var_uint_len(stream) + var_uint_len(receive_max) + var_uint_len(total_received),
-        Frame::StreamMoneyBlocked {
+            receive_max: most,
+            total_received: total,
+        }
+        | Frame::StreamMoneyBlocked {
             stream,
-            send_max,
-            total_sent,
-        } => var_uint_len(stream) + var_uint_len(send_max) + var_uint_len(total_sent),
+            send_max: most,
+            total_sent: total,
+        } => var_uint_len(stream) + var_uint_len(most) + var_uint_len(total),
         Frame::StreamData {
             stream,
             offset,
             bytes,
         } => var_uint_len(stream) + var_uint_len(offset) + octets_len(bytes),
-        Frame::StreamMaxData { stream, max_offset } => var_uint_len(stream)
-            + var_uint_len(max_offset),
-        Frame::StreamDataBlocked { stream, max_offset } => var_uint_len(stream)
-            + var_uint_len(max_offset),
     }
 }
 

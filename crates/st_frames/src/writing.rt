@@ -66,8 +66,9 @@ fn put_contents<A: Allocator>(out: &mut Vec<u8, A>, frame: Frame<'_>) -> Result<
             put_octets(out, text_bytes(message))
         }
         Frame::ConnectionNewAddress { address } => put_octets(out, text_bytes(address)),
-        Frame::ConnectionMaxData { max_offset } => put_var_uint(out, max_offset),
-        Frame::ConnectionDataBlocked { max_offset } => put_var_uint(out, max_offset),
+        Frame::ConnectionMaxData { max_offset } | Frame::ConnectionDataBlocked { max_offset } => {
+            put_var_uint(out, max_offset)
+        }
         Frame::StreamClose {
             stream,
             code,
@@ -77,27 +78,34 @@ fn put_contents<A: Allocator>(out: &mut Vec<u8, A>, frame: Frame<'_>) -> Result<
             put_u8(out, code)?;
             put_octets(out, text_bytes(message))
         }
-        Frame::StreamMoney { stream, shares } => {
+        Frame::StreamMoney {
+            stream,
+            shares: number,
+        }
+        | Frame::StreamMaxData {
+            stream,
+            max_offset: number,
+        }
+        | Frame::StreamDataBlocked {
+            stream,
+            max_offset: number,
+        } => {
             put_var_uint(out, stream)?;
-            put_var_uint(out, shares)
+            put_var_uint(out, number)
         }
         Frame::StreamMaxMoney {
             stream,
-            receive_max,
-            total_received,
-        } => {
-            put_var_uint(out, stream)?;
-            put_var_uint(out, receive_max)?;
-            put_var_uint(out, total_received)
+            receive_max: most,
+            total_received: total,
         }
-        Frame::StreamMoneyBlocked {
+        | Frame::StreamMoneyBlocked {
             stream,
-            send_max,
-            total_sent,
+            send_max: most,
+            total_sent: total,
         } => {
             put_var_uint(out, stream)?;
-            put_var_uint(out, send_max)?;
-            put_var_uint(out, total_sent)
+            put_var_uint(out, most)?;
+            put_var_uint(out, total)
         }
         Frame::StreamData {
             stream,
@@ -107,14 +115,6 @@ fn put_contents<A: Allocator>(out: &mut Vec<u8, A>, frame: Frame<'_>) -> Result<
             put_var_uint(out, stream)?;
             put_var_uint(out, offset)?;
             put_octets(out, bytes)
-        }
-        Frame::StreamMaxData { stream, max_offset } => {
-            put_var_uint(out, stream)?;
-            put_var_uint(out, max_offset)
-        }
-        Frame::StreamDataBlocked { stream, max_offset } => {
-            put_var_uint(out, stream)?;
-            put_var_uint(out, max_offset)
         }
     }
 }
