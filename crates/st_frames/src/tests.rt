@@ -1,5 +1,8 @@
 use super::*;
+use plain::{Refusal, Summary};
 use std::test::Fail;
+
+mod plain;
 
 /// Kind 12, sequence 1, amount 0, one frame: StreamData, stream 1, offset 0, "hi".
 const HI: [u8; 17] = [
@@ -10,100 +13,117 @@ const HI: [u8; 17] = [
 /// Kind 12, sequence 1, amount 0, one frame.
 const HEAD: [u8; 8] = [0x01, 0x0c, 0x01, 0x01, 0x01, 0x00, 0x01, 0x01];
 
-/// What a packet of kind 12 reads as: sequence, amount, known frames, and the sum over StreamData of its index, its
-/// fields and its length; or the refusal's numbers.
-type Told = Result<(u64, u64, u64, u64), (u8, Option<u64>)>;
-
-fn told(bytes: &[u8]) -> Told {
+/// What a packet of kind 12 reads as.
+fn told(bytes: &[u8]) -> Result<Summary, Refusal> {
     let packet = match read_packet(bytes, 12) {
         Ok(packet) => packet,
-        Err(refusal) => return Err((refusal.number(), refusal.inner())),
+        Err(error) => {
+            return Err(Refusal {
+                number: error.number(),
+                inner: error.inner(),
+            });
+        }
     };
-    let mut known = 0u64;
-    let mut sum = 0u64;
+    let mut summary = Summary {
+        sequence: packet.sequence,
+        amount: packet.amount,
+        known: 0,
+        data: 0,
+    };
     for (index, frame) in packet.frames {
-        known = known.wrapping_add(1);
+        summary.known = summary.known.wrapping_add(1);
         if let Frame::StreamData {
             stream,
             offset,
             bytes,
         } = frame
         {
-            for n in [index, stream, offset, bytes.len() as u64] {
-                sum = sum.wrapping_add(n);
-            }
+            summary.add_data(index, stream, offset, bytes.len() as u64);
         }
     }
-    Ok((packet.sequence, packet.amount, known, sum))
+    Ok(summary)
+}
+
+fn read_as(sequence: u64, known: u64, data: u64) -> Result<Summary, Refusal> {
+    Ok(Summary {
+        sequence,
+        amount: 0,
+        known,
+        data,
+    })
+}
+
+fn refused(number: u8, inner: Option<u64>) -> Result<Summary, Refusal> {
+    Err(Refusal { number, inner })
 }
 
 #[test]
 fn packets_read(rt: HostRuntime) {
-    assert_eq!(rt; told(&HI), Ok((1, 0, 1, 3)));
+    assert_eq!(rt; told(&HI), read_as(1, 1, 3));
     let trailing = [
         0x01, 0x0c, 0x01, 0x01, 0x01, 0x00, 0x01, 0x01, 0x14, 0x07, 0x01, 0x01, 0x01, 0x00, 0x02,
         0x68, 0x69, 0xff, 0xff,
     ];
-    assert_eq!(rt; told(&trailing), Ok((1, 0, 1, 3)));
+    assert_eq!(rt; told(&trailing), read_as(1, 1, 3));
     let skipped = [
         0x01, 0x0c, 0x01, 0x01, 0x01, 0x00, 0x01, 0x02, 0x99, 0x01, 0x00, 0x14, 0x07, 0x01, 0x01,
         0x01, 0x00, 0x02, 0x68, 0x69,
     ];
-    assert_eq!(rt; told(&skipped), Ok((1, 0, 1, 4)));
+    assert_eq!(rt; told(&skipped), read_as(1, 1, 4));
 }
 
 #[test]
 fn packets_refused(rt: HostRuntime) -> Result<(), Fail> {
-    assert_eq!(rt; told(&HI[..12]), Err((22, Some(1))));
+    assert_eq!(rt; told(&HI[..12]), refused(22, Some(1)));
     let mut other_version = HI;
     other_version[0] = 2;
-    assert_eq!(rt; told(&other_version), Err((20, None)));
+    assert_eq!(rt; told(&other_version), refused(20, None));
     assert_eq!(rt; read_packet(&HI, 13).err(), Some(FrameError::Kind));
     assert_eq!(rt;
         told(&[
             0x01, 0x0c, 0x01, 0x01, 0x01, 0x00, 0x01, 0x01, 0x03, 0x01, 0x01
         ]),
-        Err((23, Some(0)))
+        refused(23, Some(0))
     );
     let many = [
         0x01, 0x0c, 0x01, 0x01, 0x01, 0x00, 0x08, 0xff, 0xff, 0xff, 0xff, 0xff, 0xff, 0xff, 0xff,
     ];
-    assert_eq!(rt; told(&many), Err((22, Some(1))));
+    assert_eq!(rt; told(&many), refused(22, Some(1)));
     assert_eq!(rt;
         told(&[
             0x01, 0x0c, 0x01, 0x01, 0x01, 0x00, 0x01, 0x01, 0x14, 0x01, 0x02
         ]),
-        Err((23, Some(0)))
+        refused(23, Some(0))
     );
     assert_eq!(rt;
         told(&[
             0x01, 0x0c, 0x09, 0x01, 0x00, 0x00, 0x00, 0x00, 0x00, 0x00, 0x00, 0x00
         ]),
-        Err((22, Some(4)))
+        refused(22, Some(4))
     );
     // the skeleton of the second frame comes before the contents of the first
     assert_eq!(rt;
         told(&[
             0x01, 0x0c, 0x01, 0x01, 0x01, 0x00, 0x01, 0x02, 0x03, 0x01, 0x01, 0x99, 0x80
         ]),
-        Err((22, Some(2)))
+        refused(22, Some(2))
     );
     // a message that is no UTF-8, and an address with an empty segment, behind an unknown frame
     assert_eq!(rt;
         told(&[
             0x01, 0x0c, 0x01, 0x01, 0x01, 0x00, 0x01, 0x01, 0x01, 0x03, 0x01, 0x01, 0xff
         ]),
-        Err((23, Some(0)))
+        refused(23, Some(0))
     );
     assert_eq!(rt;
         told(&[
             0x01, 0x0c, 0x01, 0x01, 0x01, 0x00, 0x01, 0x02, 0x99, 0x00, 0x02, 0x03, 0x02, 0x67,
             0x2e
         ]),
-        Err((23, Some(1)))
+        refused(23, Some(1))
     );
     let long = vec![in rt.alloc(); 1u8; MAX_PACKET + 1]?;
-    assert_eq!(rt; told(&long), Err((24, None)));
+    assert_eq!(rt; told(&long), refused(24, None));
     Ok(())
 }
 
@@ -255,7 +275,7 @@ fn packets_written(rt: HostRuntime) -> Result<(), Fail> {
     let many = [Frame::ConnectionMaxData { max_offset: 0 }; 300];
     let text = write_packet(rt.alloc(), 12, 1, 0, &many)?;
     assert_eq!(rt; text.len(), 1_209);
-    assert_eq!(rt; told(&text), Ok((1, 0, 300, 0)));
+    assert_eq!(rt; told(&text), read_as(1, 300, 0));
     Ok(())
 }
 
@@ -289,127 +309,16 @@ fn packets_not_written(rt: HostRuntime) -> Result<(), Fail> {
     Ok(())
 }
 
-// The rules once more, slowly, to compare with: a length, a number, a packet that may have StreamData alone.
-
-fn plain_cut(bytes: &[u8], n: u64) -> Result<(&[u8], &[u8]), u64> {
-    if (bytes.len() as u64) < n {
-        Err(1)
-    } else {
-        Ok(bytes.split_at(n as usize))
-    }
-}
-
-fn plain_value(digits: &[u8]) -> u64 {
-    let mut n = 0u64;
-    for digit in digits {
-        n = n.wrapping_mul(256).wrapping_add(u64::from(*digit));
-    }
-    n
-}
-
-fn plain_length(bytes: &[u8]) -> Result<(u64, &[u8]), u64> {
-    let [first, rest @ ..] = bytes else {
-        return Err(1);
-    };
-    match *first {
-        0..=127 => Ok((u64::from(*first), rest)),
-        128 => Err(2),
-        129..=136 => {
-            let (digits, rest) = plain_cut(rest, u64::from(*first) - 128)?;
-            let n = plain_value(digits);
-            if digits.first() == Some(&0) || n < 128 {
-                Err(2)
-            } else {
-                Ok((n, rest))
-            }
-        }
-        _ => Err(4),
-    }
-}
-
-fn plain_var_uint(bytes: &[u8]) -> Result<(u64, &[u8]), u64> {
-    let (n, rest) = plain_length(bytes)?;
-    if n == 0 || n > 8 {
-        return Err(if n == 0 { 3 } else { 4 });
-    }
-    let (digits, rest) = plain_cut(rest, n)?;
-    if n > 1 && digits.first() == Some(&0) {
-        Err(3)
-    } else {
-        Ok((plain_value(digits), rest))
-    }
-}
-
-fn plain_frame(bytes: &[u8]) -> Result<(u8, &[u8], &[u8]), u64> {
-    let [kind, rest @ ..] = bytes else {
-        return Err(1);
-    };
-    let (n, rest) = plain_length(rest)?;
-    let (contents, rest) = plain_cut(rest, n)?;
-    Ok((*kind, contents, rest))
-}
-
-fn plain_data(contents: &[u8]) -> Result<u64, u64> {
-    let (stream, rest) = plain_var_uint(contents)?;
-    let (offset, rest) = plain_var_uint(rest)?;
-    let (n, rest) = plain_length(rest)?;
-    plain_cut(rest, n)?;
-    Ok(stream.wrapping_add(offset).wrapping_add(n))
-}
-
-fn plain_skeleton(bytes: &[u8]) -> Result<(u64, u64, u64, &[u8]), u64> {
-    let (sequence, rest) = plain_var_uint(bytes)?;
-    let (amount, rest) = plain_var_uint(rest)?;
-    let (count, frames) = plain_var_uint(rest)?;
-    let mut rest = frames;
-    for _ in 0..count {
-        let (_, _, after) = plain_frame(rest)?;
-        rest = after;
-    }
-    Ok((sequence, amount, count, frames))
-}
-
-fn plain_told(bytes: &[u8]) -> Told {
-    let rest = match bytes {
-        [] => return Err((22, Some(1))),
-        [version, ..] if *version != 1 => return Err((20, None)),
-        [_] => return Err((22, Some(1))),
-        [_, kind, ..] if *kind != 12 => return Err((21, None)),
-        [_, _, rest @ ..] => rest,
-    };
-    let (sequence, amount, count, frames) = match plain_skeleton(rest) {
-        Ok(skeleton) => skeleton,
-        Err(fault) => return Err((22, Some(fault))),
-    };
-    let mut known = 0u64;
-    let mut sum = 0u64;
-    let mut rest = frames;
-    for index in 0..count {
-        let Ok((kind, contents, after)) = plain_frame(rest) else {
-            return Err((0, None));
-        };
-        rest = after;
-        if kind == 0x14 {
-            let Ok(fields) = plain_data(contents) else {
-                return Err((23, Some(index)));
-            };
-            known = known.wrapping_add(1);
-            sum = sum.wrapping_add(index).wrapping_add(fields);
-        }
-    }
-    Ok((sequence, amount, known, sum))
-}
-
 #[test]
 fn every_prefix_and_change(rt: HostRuntime) {
     for n in 0..=HI.len() {
-        assert_eq!(rt; told(&HI[..n]), plain_told(&HI[..n]), "the first {n}");
+        assert_eq!(rt; told(&HI[..n]), plain::told(&HI[..n]), "the first {n}");
     }
     for i in 0..HI.len() {
         for byte in [0x00, 0x7f, 0x80, 0xff] {
             let mut changed = HI;
             changed[i] = byte;
-            assert_eq!(rt; told(&changed), plain_told(&changed), "{byte} at {i}");
+            assert_eq!(rt; told(&changed), plain::told(&changed), "{byte} at {i}");
         }
     }
 }

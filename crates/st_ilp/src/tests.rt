@@ -1,7 +1,10 @@
 //! Worked packets, and each changed byte against a second, plain reading of the rules.
 
 use super::*;
+use plain::{Reader, Refusal, first_refusal};
 use st_oer::OerError;
+
+mod plain;
 
 const PREPARE: &[u8; 70] = b"\x0c\x44\0\0\0\0\0\0\0\x0520240102030405006\
 \0\0\0\0\0\0\0\0\0\0\0\0\0\0\0\0\0\0\0\0\0\0\0\0\0\0\0\0\0\0\0\0\x09example.b\0";
@@ -152,11 +155,14 @@ fn long_fields(rt: HostRuntime) {
 #[test]
 fn changed_bytes(rt: HostRuntime) {
     let alloc = rt.alloc();
-    for (bytes, is_prepare) in [(PREPARE.as_slice(), true), (REJECT.as_slice(), false)] {
+    for (bytes, reader) in [
+        (PREPARE.as_slice(), Reader::Prepare),
+        (REJECT.as_slice(), Reader::Answer),
+    ] {
         for n in 0..bytes.len() {
             assert_eq!(rt;
-                outcome(&bytes[..n], is_prepare),
-                plain(&bytes[..n], is_prepare),
+                told(reader, &bytes[..n]),
+                first_refusal(reader, &bytes[..n]),
                 "cut at {n}"
             );
         }
@@ -166,8 +172,8 @@ fn changed_bytes(rt: HostRuntime) {
                 changed.extend_from_slice(bytes).expect(&rt, "memory");
                 changed[i] = byte;
                 assert_eq!(rt;
-                    outcome(&changed, is_prepare),
-                    plain(&changed, is_prepare),
+                    told(reader, &changed),
+                    first_refusal(reader, &changed),
                     "{byte} at {i}"
                 );
             }
@@ -175,139 +181,14 @@ fn changed_bytes(rt: HostRuntime) {
     }
 }
 
-/// The numbers of a reader's refusal, or none.
-fn outcome(bytes: &[u8], is_prepare: bool) -> (u8, u64) {
-    let error = if is_prepare {
-        read_prepare(bytes).err()
-    } else {
-        read_answer(bytes).err()
+/// What a reader refused.
+fn told(reader: Reader, bytes: &[u8]) -> Option<Refusal> {
+    let error = match reader {
+        Reader::Prepare => read_prepare(bytes).err()?,
+        Reader::Answer => read_answer(bytes).err()?,
     };
-    match error {
-        Some(error) => (error.number(), error.inner().unwrap_or(0)),
-        None => (0, 0),
-    }
-}
-
-/// The same by the rules: a table of fields, each with its size (0 for octets) and its rule.
-fn plain(bytes: &[u8], is_prepare: bool) -> (u8, u64) {
-    let [kind, rest @ ..] = bytes else {
-        return (10, 1);
-    };
-    let fields: &[(usize, u8)] = match (is_prepare, *kind) {
-        (true, 12) => &[(8, 0), (17, 12), (32, 0), (0, 13), (0, 14)],
-        (false, 13) => &[(32, 0), (0, 14)],
-        (false, 14) => &[(3, 16), (0, 113), (0, 15), (0, 14)],
-        _ => return (11, 0),
-    };
-    let mut left = match octets(rest) {
-        Ok((contents, [])) => contents,
-        Ok(_) => return (17, 0),
-        Err(fault) => return (10, fault),
-    };
-    for (size, rule) in fields {
-        let cut = if *size == 0 {
-            octets(left)
-        } else {
-            left.split_at_checked(*size).ok_or(1)
-        };
-        match cut {
-            Ok((field, _)) if !holds(*rule, field) => return (*rule % 100, 0),
-            Ok((_, more)) => left = more,
-            Err(fault) => return (10, fault),
-        }
-    }
-    if left.is_empty() { (0, 0) } else { (17, 0) }
-}
-
-fn octets(bytes: &[u8]) -> Result<(&[u8], &[u8]), u64> {
-    let [first, rest @ ..] = bytes else {
-        return Err(1);
-    };
-    match *first {
-        0..=127 => return rest.split_at_checked(usize::from(*first)).ok_or(1),
-        128 => return Err(2),
-        137..=255 => return Err(4),
-        _ => {}
-    }
-    let Some((digits, rest)) = rest.split_at_checked(usize::from(*first & 15)) else {
-        return Err(1);
-    };
-    let mut size: usize = 0;
-    for digit in digits {
-        size = size.wrapping_mul(256).wrapping_add(usize::from(*digit));
-    }
-    if size < 128 || digits.first() == Some(&0) {
-        return Err(2);
-    }
-    rest.split_at_checked(size).ok_or(1)
-}
-
-fn holds(rule: u8, field: &[u8]) -> bool {
-    match rule {
-        12 => is_date_and_time(field),
-        13 => is_name(field),
-        113 => field.is_empty() || is_name(field),
-        14 => field.len() <= 32_767,
-        15 => std::str::from_utf8(field).is_ok(),
-        16 => field.iter().all(|byte| (0x21..=0x7e).contains(byte)),
-        _ => true,
-    }
-}
-
-fn is_name(text: &[u8]) -> bool {
-    let mut last = b'.';
-    for byte in text {
-        let is_dot = *byte == b'.';
-        if !is_dot && !byte.is_ascii_alphanumeric() && !b"_~-".contains(byte)
-            || is_dot && last == b'.'
-        {
-            return false;
-        }
-        last = *byte;
-    }
-    last != b'.' && text.len() <= 1_023
-}
-
-fn is_date_and_time(text: &[u8]) -> bool {
-    let [
-        y0,
-        y1,
-        y2,
-        y3,
-        m0,
-        m1,
-        d0,
-        d1,
-        h0,
-        h1,
-        i0,
-        i1,
-        s0,
-        s1,
-        _,
-        _,
-        _,
-    ] = text
-    else {
-        return false;
-    };
-    let (century, year) = (two(*y0, *y1), two(*y2, *y3));
-    let is_leap = year % 4 == 0 && (year != 0 || century % 4 == 0);
-    let days = match two(*m0, *m1) {
-        2 => 28 + u16::from(is_leap),
-        4 | 6 | 9 | 11 => 30,
-        1..=12 => 31,
-        _ => 0,
-    };
-    let day = two(*d0, *d1);
-    text.iter().all(|byte| byte.is_ascii_digit())
-        && 1 <= day
-        && day <= days
-        && two(*h0, *h1) < 24
-        && two(*i0, *i1) < 60
-        && two(*s0, *s1) < 60
-}
-
-fn two(tens: u8, ones: u8) -> u16 {
-    u16::from(tens & 15) * 10 + u16::from(ones & 15)
+    Some(Refusal {
+        number: error.number(),
+        inner: error.inner(),
+    })
 }
