@@ -1,8 +1,7 @@
 -- What a Prepare that goes on keeps.
-use Rattle.std.proofs.Common.{◌≡◌, ◌≢◌, ℕ, zero, suc, ◌+◌, ◌<◌, ◌≤◌, Bool, true, false, cond, List, [], ◌∷◌, length, refl, sym, ap, subst, ◌∙◌, arith, ℤ, Option, None, Some, Result, Ok, Err, nat_eq, nat_lt, nat_le, ◌⊎◌, inl, inr, if◌then◌else◌}
-use Rattle.std.specs.Prelude.{int_le, slice_index, Contains, pos, neg_ℤ, ◌+ℤ◌, ◌-ℤ◌, ◌≤ℤ◌}
-use Rattle.std.specs.List.{AllByRecursion, sum_by}
-use Rattle.std.proofs.lemmas.Bool.Decides.{nat_tests}
+use Rattle.std.proofs.Common.{◌≡◌, ℕ, ◌<◌, Bool, true, false, List, [], ◌∷◌, length, refl, sym, subst, arith, ℤ, Option, None, Some, Result, Ok, Err, nat_eq, nat_lt, nat_le, if◌then◌else◌}
+use Rattle.std.specs.Prelude.{int_le, pos, neg_ℤ, ◌+ℤ◌, ◌-ℤ◌, ◌≤ℤ◌}
+use Rattle.std.specs.List.{AllByRecursion}
 use Rattle.std.proofs.lemmas.Int.{ints}
 use Rattle.st_oer.specs.Laws.{IsBytes}
 use Rattle.st_ilp.specs.Packets.{PreparePacket}
@@ -18,7 +17,7 @@ use Rattle.st_hop.specs.declared.refusal.Refusal.TheVariants.{Unreachable, Amoun
 use Rattle.st_hop.specs.Hop.{Hop, Way, account_at, is_over_limit}
 use Rattle.st_hop.specs.Routing.{longer, route_to}
 use Rattle.st_hop.specs.Lawful.{IsLawful, LeadsTo}
-use Rattle.st_hop.specs.Arriving.{arrived, at_packet, sent_on, judged, routed, onward, hop_time, ticket_for}
+use Rattle.st_hop.specs.Arriving.{at_packet, sent_on, judged, routed, onward, hop_time, ticket_for}
 use Rattle.st_hop.proofs.Kept.{fits, holding_lawful}
 
 -- what is told of each route is told of the longest
