@@ -1,9 +1,15 @@
 -- What a Prepare that goes on keeps.
-use Rattle.std.proofs.Common.{◌≡◌, ◌≢◌, ℕ, zero, suc, ◌+◌, ◌<◌, ◌≤◌, Bool, true, false, cond, List, [], ◌∷◌, length, refl, sym, ap, subst, ◌∙◌, arith, ℤ, Option, None, Some, Result, Ok, Err, nat_eq, nat_lt, nat_le, ◌⊎◌, inl, inr, if◌then◌else◌}
-use Rattle.std.specs.Prelude.{int_le, slice_index, Contains, pos, ◌+ℤ◌}
-use Rattle.std.specs.List.{AllByRecursion, sum_by}
-use Rattle.std.proofs.lemmas.Bool.Decides.{nat_tests}
+use Rattle.std.proofs.Common.{◌≡◌, ℕ, ◌<◌, Bool, true, false, List, [], ◌∷◌, length, refl, sym, subst, arith, ℤ, Option, None, Some, Result, Ok, Err, nat_eq, nat_lt, nat_le, if◌then◌else◌}
+use Rattle.std.specs.Prelude.{int_le, pos, neg_ℤ, ◌+ℤ◌, ◌-ℤ◌, ◌≤ℤ◌}
+use Rattle.std.specs.List.{AllByRecursion}
+use Rattle.std.proofs.lemmas.Int.{ints}
+use Rattle.st_oer.specs.Laws.{IsBytes}
 use Rattle.st_ilp.specs.Packets.{PreparePacket}
+use Rattle.st_ilp.specs.Reading.{prepare_at}
+use Rattle.st_ilp.specs.Writing.{prepare_refusal}
+use Rattle.st_ilp.specs.Laws.{IsPrepare}
+use Rattle.st_ilp.proofs.DateFinding.{is_le, le_is, not_le_is, two_parts}
+use Rattle.st_ilp.proofs.PacketReads.{prepare_reads}
 use Rattle.st_ilp.specs.declared.error.IlpError.{IlpError}
 use Rattle.st_oer.specs.Address.{is_within}
 use Rattle.st_hop.specs.declared.refusal.Refusal.{Refusal}
@@ -11,7 +17,7 @@ use Rattle.st_hop.specs.declared.refusal.Refusal.TheVariants.{Unreachable, Amoun
 use Rattle.st_hop.specs.Hop.{Hop, Way, account_at, is_over_limit}
 use Rattle.st_hop.specs.Routing.{longer, route_to}
 use Rattle.st_hop.specs.Lawful.{IsLawful, LeadsTo}
-use Rattle.st_hop.specs.Arriving.{arrived, at_packet, sent_on, judged, routed, onward, hop_time, ticket_for}
+use Rattle.st_hop.specs.Arriving.{at_packet, sent_on, judged, routed, onward, hop_time, ticket_for}
 use Rattle.st_hop.proofs.Kept.{fits, holding_lawful}
 
 -- what is told of each route is told of the longest
@@ -67,6 +73,43 @@ judged_there {h} {v} e account p now outgoing l j =
     let lv : IsLawful v = subst IsLawful e l in
     let P : Result ℕ Refusal → Type 0 = Passes v account p in
     (subst P (sym j) (judged_passes v account p now lv)).0
+
+-- the outcome for a Prepare whose time does not run out
+abbrev Lasts : ℤ → PreparePacket → Result ℕ Refusal → Type 0
+Lasts now p (Err refusal) = Unit {0}
+Lasts now p (Ok outgoing) = int_le p.expiry (now +ℤ hop_time) ≡ false
+
+lasts_with : (now : ℤ) (p : PreparePacket) (r : Result ℕ Refusal) (b : Bool) → int_le p.expiry (now +ℤ hop_time) ≡ b → Lasts now p (if b then Err InsufficientTimeout else r)
+lasts_with now p r true e = tt
+lasts_with now p (Err refusal) false e = tt
+lasts_with now p (Ok outgoing) false e = e
+
+judged_lasts : (h : Hop) (account : ℕ) (p : PreparePacket) (now : ℤ) → Lasts now p (judged h account p now)
+judged_lasts h account p now =
+    let rest = routed h account p (route_to h.routes p.destination) in
+    let max = (account_at h account).max_packet in
+    let late = int_le p.expiry (now +ℤ hop_time) in
+    elim (nat_lt max p.amount) as (λ b. Lasts now p (if b then Err (AmountTooLarge p.amount max) else (if late then Err InsufficientTimeout else rest))) [
+      | true ↦ tt
+      | false ↦ lasts_with now p rest late refl
+    ]
+
+-- a Prepare that may go on, with less time, keeps the rules of one that is written
+goes_on : (p : PreparePacket) (now : ℤ) → IsPrepare p → pos 0 ≤ℤ now → int_le p.expiry (now +ℤ hop_time) ≡ false → prepare_refusal (onward p) ≡ None
+unfolding prepare_refusal
+goes_on p now h from late =
+    let bounds = two_parts (int_le (neg_ℤ (pos 62_167_219_200_000)) p.expiry) (int_le p.expiry (pos 253_402_300_799_999)) h.expiry in
+    let last = le_is p.expiry (pos 253_402_300_799_999) bounds.1 in
+    let left = not_le_is p.expiry (now +ℤ hop_time) late in
+    let low = is_le (neg_ℤ (pos 62_167_219_200_000)) (p.expiry -ℤ hop_time) (omega (arith, ints, from, left)) in
+    let high = is_le (p.expiry -ℤ hop_time) (pos 253_402_300_799_999) (omega (arith, ints, last)) in
+    rw (low, high, h.destination, h.payload) refl
+
+pub judged_written : (h : Hop) (account : ℕ) (bytes : List ℕ) (p : PreparePacket) (now : ℤ) (outgoing : ℕ) → IsBytes bytes → prepare_at bytes ≡ Ok p → pos 0 ≤ℤ now → Ok outgoing ≡ judged h account p now
+    → prepare_refusal (onward p) ≡ None
+judged_written h account bytes p now outgoing b e from j =
+    let late : Lasts now p (Ok outgoing) = subst (λ (r : Result ℕ Refusal). Lasts now p r) (sym j) (judged_lasts h account p now) in
+    goes_on p now (prepare_reads.found bytes p b e).1 from late
 
 sent_lawful : (h : Hop) (account : ℕ) (p : PreparePacket) (r : Result ℕ Refusal) → IsLawful h → account < length h.accounts → Passes h account p r → IsLawful (sent_on h account p r).1
 sent_lawful h account p (Err refusal) l a q = l

@@ -1,14 +1,14 @@
 -- What holds of a hop holds of the hops that arrivals and settlements make of it.
-use Rattle.std.proofs.Common.{◌≡◌, ◌≢◌, ℕ, zero, suc, ◌+◌, ◌-◌, ◌^◌, ◌<◌, ◌≤◌, Bool, true, false, ◌||◌, nat_le, nat_lt, ◌++◌, cond, List, [], ◌∷◌, length, set, get_or, refl, sym, ap, subst, ◌∙◌, arith, Option, None, Some, ◌⊎◌, inl, inr, nat_eq, length-set}
-use Rattle.std.specs.List.{sum_by, sum, AllByRecursion}
-use Rattle.std.proofs.lemmas.List.Sums.{sum_by-cons, sum_by_push}
+use Rattle.std.proofs.Common.{◌≡◌, ℕ, ◌+◌, ◌-◌, ◌^◌, ◌<◌, ◌≤◌, Bool, true, false, ◌||◌, nat_le, nat_lt, ◌++◌, List, [], ◌∷◌, length, set, get_or, refl, sym, subst, ◌∙◌, arith, inl, inr, length-set}
+use Rattle.std.specs.List.{sum_by, AllByRecursion}
+use Rattle.std.proofs.lemmas.List.Sums.{sum_by_push}
 use Rattle.std.proofs.lemmas.Bool.{cases_eq}
 use Rattle.std.proofs.lemmas.Bool.Decides.{nat_tests}
 use Rattle.std.proofs.lemmas.List.{get_or-set_same, get_or-set_other}
 use Rattle.st_hop.specs.declared.ticket.Open.{Open}
-use Rattle.st_hop.specs.Tickets.{ticket_at, without, IsAmong}
-use Rattle.st_hop.specs.Hop.{Hop, account_at, held_for, held_of, due_for, amount_in, amount_out, all_claimed, all_due, is_over_limit, holding, released, booked, raised}
-use Rattle.st_hop.specs.Lawful.{IsLawful, IsNamed, LeadsTo}
+use Rattle.st_hop.specs.Tickets.{without, IsAmong}
+use Rattle.st_hop.specs.Hop.{Hop, account_at, held_for, held_of, amount_in, amount_out, all_claimed, all_due, is_over_limit, holding, released, booked, raised}
+use Rattle.st_hop.specs.Lawful.{IsLawful, IsNamed}
 use Rattle.st_hop.specs.Inside.{IsSound, Serves}
 use Rattle.st_hop.proofs.Sums.{sum_without, length_without, all_without, all_at, all_push, length_push, sum_has, sum_raised, raised_same, held_same, held_other, held_all}
 use Rattle.st_hop.proofs.Numbers.{numbered_push, numbered_without}

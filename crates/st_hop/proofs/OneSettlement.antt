@@ -10,7 +10,7 @@ use Rattle.st_hop.specs.declared.refusal.Refusal.{Refusal}
 use Rattle.st_hop.specs.Tickets.{ticket_at, without, IsAmong}
 use Rattle.st_hop.specs.Hop.{Hop}
 use Rattle.st_hop.specs.Lawful.{IsLawful}
-use Rattle.st_hop.specs.Arriving.{Arrival, Answers, Forwards, arrived, at_packet, sent_on, judged, ticket_for, onward}
+use Rattle.st_hop.specs.Arriving.{Arrival, Forwards, arrived, at_packet, sent_on, judged, ticket_for, onward}
 use Rattle.st_hop.specs.Settling.{closing, closed, settled}
 use Rattle.st_hop.proofs.Numbers.{spent, others_stay, pushed_is_among}
 

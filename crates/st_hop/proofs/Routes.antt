@@ -1,11 +1,9 @@
 -- Finding the longest prefix, and tables of routes.
-use Rattle.std.proofs.Common.{◌≡◌, ℕ, ◌+◌, ◌<◌, ◌≤◌, Bool, true, false, not, ◌&&◌, ◌||◌, cond, if◌then◌else◌, List, [], ◌∷◌, length, map, Option, Some, None, refl, sym, ap, subst, ◌∙◌, arith, leb, nat_le, ◌⊎◌, inl, inr}
-use Rattle.std.specs.List.{list_any}
+use Rattle.std.proofs.Common.{◌≡◌, ℕ, ◌<◌, ◌≤◌, true, false, if◌then◌else◌, length, Option, Some, None, refl, arith, nat_le}
 use Rattle.std.proofs.lemmas.Bool.Decides.{nat_tests}
 use Rattle.std.proofs.lemmas.Grind.{common_steps}
-use Rattle.st_oer.specs.Address.{is_within}
 use Rattle.st_hop.specs.Hop.{Way}
-use Rattle.st_hop.specs.Routing.{longer, route_to}
+use Rattle.st_hop.specs.Routing.{longer}
 use Rattle.st_hop.specs.Ways.{account_of}
 
 -- the best so far, as a length and an account, against the best of the rest

@@ -1,13 +1,13 @@
 -- Tables and the hops that are made of them.
-use Rattle.std.proofs.Common.{◌≡◌, ℕ, zero, suc, ◌+◌, ◌^◌, ◌<◌, ◌≤◌, Bool, true, false, ◌&&◌, List, [], ◌∷◌, length, replicate, get_or, refl, sym, ap, ◌∙◌, arith, nat_lt}
-use Rattle.std.specs.List.{list_all, AllByRecursion, sum_by, sum}
+use Rattle.std.proofs.Common.{◌≡◌, ℕ, zero, suc, ◌<◌, Bool, true, false, ◌&&◌, List, [], ◌∷◌, length, replicate, get_or, refl, arith, nat_lt}
+use Rattle.std.specs.List.{list_all, AllByRecursion, sum}
 use Rattle.std.proofs.lemmas.List.Folds.{sum_by-replicate}
 use Rattle.std.proofs.lemmas.Bool.Decides.{nat_tests}
 use Rattle.st_oer.specs.Address.{is_address}
 use Rattle.st_hop.specs.declared.account.Account.{Account}
 use Rattle.st_hop.specs.declared.refusal.Refusal.TheVariants.{InternalError}
 use Rattle.st_hop.specs.Refusals.{reject_text}
-use Rattle.st_hop.specs.Hop.{Hop, Way}
+use Rattle.st_hop.specs.Hop.{Way}
 use Rattle.st_hop.specs.Table.{is_way, is_account, is_distinct, is_table, new_hop}
 use Rattle.st_hop.specs.Lawful.{IsLawful, LeadsTo}
 use Rattle.st_hop.specs.Inside.{IsSound}

@@ -1,5 +1,5 @@
 -- What the code's values say, in the definitions' terms.
-use Rattle.std.specs.Prelude.{◌≡◌, ℕ, List, Option, Some, None, Result, Ok, Err}
+use Rattle.std.specs.Prelude.{ℕ, List, Option, Some, None}
 use Rattle.st_hop.specs.declared.route.Route.{Route}
 use Rattle.st_hop.specs.declared.verdict.Verdict.{Verdict}
 use Rattle.st_hop.specs.declared.verdict.Verdict.TheVariants.{Forward, Answer}

@@ -1,7 +1,8 @@
 //! The state of a hop.
 
-ghost use Rattle.std.specs.Prelude.{◌≡◌, ◌<◌, ◌≤◌, ◌≤ℤ◌, pos, ◌+◌, ◌++◌, ◌∷◌, [], ℕ, false, length, map, string_bytes, IfOk, OnOk, OnErr, IsErrOf, IsTrue, IsOkUnless, ◌↔◌, nat_lt, slice_index, if◌then◌else◌, MatchBool};
+ghost use Rattle.std.specs.Prelude.{◌≡◌, ◌<◌, ◌≤◌, ◌≤ℤ◌, pos, ◌+◌, ◌++◌, ◌∷◌, [], ℕ, false, length, map, string_bytes, IfOk, OnOk, OnErr, IsErrOf, IsTrue, IsOkUnless, ◌↔◌, nat_lt, slice_index, if◌then◌else◌, None, MatchBool};
 ghost use Rattle.std.specs.List.{AllByRecursion};
+ghost use Rattle.st_ilp.specs.Writing.{prepare_refusal};
 ghost use Rattle.st_ilp.specs.Seen.{prepare_seen};
 ghost use Rattle.st_hop.specs.declared.refusal.Refusal.TheVariants.{InternalError};
 ghost use Rattle.st_hop.specs.Refusals.{reject_text, payload_of};
@@ -23,7 +24,7 @@ use crate::settling::{Closing, Outcome, conclude};
 use crate::table::{MAX_SUM, is_table};
 use crate::ticket::{Open, Ticket, is_among, take_ticket};
 use crate::verdict::Verdict;
-use st_ilp::{Moment, Prepare, read_prepare, write_prepare};
+use st_ilp::{IlpError, Moment, Prepare, read_prepare, write_prepare};
 use std::alloc::{AllocError, Allocator};
 use std::marker::Model;
 
@@ -292,13 +293,16 @@ impl<A: Allocator + Copy> HopState<A> {
         requires outgoing { outgoing < length self.old.accounts }
         requires fits { is_over_limit self.old incoming prepare.now.amount prepare.now.amount ≡ false }
         requires time { pos 1000 ≤ℤ prepare.now.expiry }
+        requires lawful { prepare_refusal (onward (prepare_seen prepare.now)) ≡ None }
         ensures sent { IfOk result (λ v. sent_on self.old incoming (prepare_seen prepare.now) (Ok outgoing) ≡ (verdict_seen v, self.new)) }
         ensures only_memory { IsOkUnless result HopError.NoMemory }
         ensures kept { OnErr result (self.new ≡ self.old) }
     {
         let sent = onward(prepare);
-        let Ok(bytes) = write_prepare(self.alloc, &sent) else {
-            return Err(HopError::NoMemory);
+        let bytes = match write_prepare(self.alloc, &sent) {
+            Ok(bytes) => bytes,
+            Err(IlpError::NoMemory) => return Err(HopError::NoMemory),
+            Err(_) => unreachable!(),
         };
         let ticket = self.hold(incoming, outgoing, prepare, &sent)?;
         Ok(Verdict::Forward {

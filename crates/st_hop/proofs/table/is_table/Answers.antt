@@ -1,4 +1,4 @@
-use Rattle.std.proofs.Common.{◌≡◌, sym, ◌∙◌, true, length, map, arith, rules}
+use Rattle.std.proofs.Common.{◌≡◌, true, length, map, arith, rules}
 use Rattle.std.specs.List.{list_all}
 use Rattle.std.proofs.lemmas.Grind.{common_steps}
 use Rattle.st_oer.specs.Address.{is_address}

@@ -1,4 +1,4 @@
-use Rattle.std.proofs.Common.{◌≡◌, sym, subst}
+use Rattle.std.proofs.Common.{sym, subst}
 use Rattle.st_hop.specs.Hop.{Hop}
 use Rattle.st_hop.specs.Tickets.{IsAmong}
 use Rattle.st_hop.proofs.Kept.{stands, released_sound}
