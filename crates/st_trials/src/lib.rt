@@ -7,6 +7,10 @@
 #[cfg(test)]
 mod arrivals;
 #[cfg(test)]
+mod fields;
+#[cfg(test)]
 mod hop;
 #[cfg(test)]
 mod inbox;
+#[cfg(test)]
+mod packets;
