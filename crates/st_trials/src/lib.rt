@@ -7,10 +7,18 @@
 #[cfg(test)]
 mod arrivals;
 #[cfg(test)]
+mod devices;
+#[cfg(test)]
 mod fields;
+#[cfg(test)]
+mod frames;
 #[cfg(test)]
 mod hop;
 #[cfg(test)]
 mod inbox;
 #[cfg(test)]
+mod memory;
+#[cfg(test)]
 mod packets;
+#[cfg(test)]
+mod program;
