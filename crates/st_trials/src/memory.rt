@@ -3,6 +3,7 @@
 use crate::devices::{STORED, STORED_TEXT, answer_to};
 use refusing::Refusing;
 use std::alloc::Global;
+use std::test::Fail;
 
 /// What is written and told where one request is refused: a line is refused and the others have their effect, or the run
 /// ends with a fault.
@@ -60,4 +61,25 @@ fn each_later_request_is_refused(rt: HostRuntime) {
         assert_eq!(rt; told.status, 1, "at {n}");
     }
     panic!(rt; "no run met no refusal");
+}
+
+/// A line that is too long is not kept whole: one of a million digits asks as often as one that is just too long.
+#[test]
+fn a_longer_line_asks_for_no_more(rt: HostRuntime) -> Result<(), Fail> {
+    let alloc = rt.alloc();
+    let heap: Refusing<Global> = Refusing::new(alloc);
+    let line = "0".repeat(alloc, 65_480)?;
+    let longer = "0".repeat(alloc, 1_000_000)?;
+    assert_eq!(rt;
+        answer_to(&heap, alloc, &line).text(),
+        "line 1 refused 24\n"
+    );
+    let asked = heap.asked();
+    heap.refuse_none();
+    assert_eq!(rt;
+        answer_to(&heap, alloc, &longer).text(),
+        "line 1 refused 24\n"
+    );
+    assert_eq!(rt; heap.asked(), asked);
+    Ok(())
 }
