@@ -1,5 +1,6 @@
 //! Prepares that arrive at a hop while memory is refused.
 
+use crate::LAST;
 use crate::hop::{EXPIRY, PREPARE, REJECT, counts, moment, new_hop, ticket_of, used_hop};
 use refusing::Refusing;
 use st_hop::{HopError, HopState, Verdict};
@@ -47,7 +48,7 @@ fn a_prepare_goes_on_or_not(rt: HostRuntime) -> Result<(), Fail> {
     let heap: Refusing<Global> = Refusing::new(rt.alloc());
     for arrivals in [0, 1, 2, 5, 9] {
         let mut most = 0;
-        for n in 1..20u64 {
+        for n in 1..=LAST {
             heap.refuse_none();
             let mut hop = used_hop(&rt, &heap, arrivals)?;
             let mut twin = used_hop(&rt, &heap, arrivals)?;
@@ -70,7 +71,7 @@ fn a_prepare_goes_on_or_not(rt: HostRuntime) -> Result<(), Fail> {
             assert!(rt; is_open, "at {n}");
             assert_eq!(rt; counts(&hop), counts(&twin), "at {n}");
         }
-        assert!(rt; 1 < most && most < 19, "after {arrivals}");
+        assert!(rt; 1 < most && most < LAST, "after {arrivals}");
     }
     Ok(())
 }
@@ -84,7 +85,7 @@ fn answers_or_not(
     want: &[u8],
 ) -> Result<(), Fail> {
     let mut most = 0;
-    for n in 1..20u64 {
+    for n in 1..=LAST {
         heap.refuse_none();
         let mut hop = used_hop(rt, heap, 2)?;
         heap.refuse_only(n);
@@ -102,7 +103,7 @@ fn answers_or_not(
         let untouched = [Ok(5), Ok(0), Ok(5), Ok(0), Ok(5), Ok(0)];
         assert_eq!(rt; counts(&hop), untouched, "at {n}");
     }
-    assert!(rt; 0 < most && most < 19);
+    assert!(rt; 0 < most && most < LAST);
     Ok(())
 }
 

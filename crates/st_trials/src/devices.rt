@@ -156,7 +156,8 @@ fn few_bytes_a_call(rt: HostRuntime) {
     }
 }
 
-/// Each read fails in turn: the fault is told, and what was written is the beginning of the answer.
+/// Each read fails in turn, of which there is one for each piece and one more that meets the end. The fault is told, and
+/// what was written is the beginning of the answer.
 #[test]
 fn reads_fail(rt: HostRuntime) {
     let alloc = rt.alloc();
@@ -172,7 +173,8 @@ fn reads_fail(rt: HostRuntime) {
     }
 }
 
-/// Each write and each flush fails in turn.
+/// Each write and each flush fails in turn: there is a write for each piece of a text, and a flush after each text. The
+/// texts are the refusals that one read makes known, and each stream's line.
 #[test]
 fn writes_fail(rt: HostRuntime) {
     let alloc = rt.alloc();

@@ -1,5 +1,6 @@
 //! Fields that are appended while memory is refused.
 
+use crate::LAST;
 use refusing::Refusing;
 use st_oer::{OerError, put_length, put_octets, put_u8, put_u64, put_var_uint};
 use std::alloc::{Allocator, Global};
@@ -39,7 +40,7 @@ fn a_field_is_appended_or_not(rt: HostRuntime) -> Result<(), Fail> {
     let heap: Refusing<Global> = Refusing::new(rt.alloc());
     for (field, bytes) in rows {
         let mut most = 0;
-        for n in 1..20u64 {
+        for n in 1..=LAST {
             heap.refuse_none();
             let mut out = Vec::with_capacity(&heap, 2)?;
             out.extend_from_slice(b"ab")?;
@@ -57,7 +58,7 @@ fn a_field_is_appended_or_not(rt: HostRuntime) -> Result<(), Fail> {
             }
             assert!(rt; out.as_slice() == bytes, "at {n}");
         }
-        assert!(rt; 0 < most && most < 19);
+        assert!(rt; 0 < most && most < LAST);
     }
     assert_eq!(rt; OerError::NoMemory.number(), 5);
     Ok(())
@@ -69,7 +70,7 @@ fn long_octets_are_appended_or_not(rt: HostRuntime) -> Result<(), Fail> {
     let text = [0xab; 300];
     let heap: Refusing<Global> = Refusing::new(rt.alloc());
     let mut most = 0;
-    for n in 1..20u64 {
+    for n in 1..=LAST {
         heap.refuse_none();
         let mut out = Vec::new(&heap);
         heap.refuse_only(n);
@@ -85,6 +86,6 @@ fn long_octets_are_appended_or_not(rt: HostRuntime) -> Result<(), Fail> {
         let bytes = out.as_slice().strip_prefix(b"\x82\x01\x2c".as_slice());
         assert!(rt; bytes == Some(text.as_slice()), "at {n}");
     }
-    assert!(rt; 1 < most && most < 19);
+    assert!(rt; 1 < most && most < LAST);
     Ok(())
 }

@@ -3,7 +3,7 @@
 use crate::devices::answer_to;
 use std::test::Fail;
 
-/// "cd" at 2 of stream 1, and "ab" at 0: with ends of both kinds, digits of both cases, empty lines and no last newline.
+/// "cd" at 2 of stream 1, and "jk" at 0: with ends of both kinds, digits of both cases, empty lines and no last newline.
 const ENDS: &str = "\r\n010C010101000101140701010102026364\r\n\n\
 010c010101000101140701010100026A6b";
 
@@ -29,7 +29,7 @@ fn lines_are_answered(rt: HostRuntime) {
         ("010c8101\n", "line 1 refused 22(2)\n"),
         ("010c020001\n", "line 1 refused 22(3)\n"),
         ("010c09010000000000000000\n", "line 1 refused 22(4)\n"),
-        // A limit of one byte whose length says two.
+        // A limit whose one byte is missing; alone, and behind a frame of an unknown type.
         ("010c010101000101030101\n", "line 1 refused 23(0)\n"),
         ("010c010101000102990161030101\n", "line 1 refused 23(1)\n"),
     ];

@@ -22,3 +22,7 @@ mod memory;
 mod packets;
 #[cfg(test)]
 mod program;
+
+/// The number of the last request that is refused in turn. No call that is tried up to it makes as many.
+#[cfg(test)]
+const LAST: u64 = 19;

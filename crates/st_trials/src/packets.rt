@@ -1,5 +1,6 @@
 //! Packets that are written while memory is refused.
 
+use crate::LAST;
 use refusing::Refusing;
 use st_frames::{Frame, FrameError, write_packet};
 use st_ilp::{Answer, IlpError, Prepare, put_reject, reject_len, write_answer, write_prepare};
@@ -91,7 +92,7 @@ fn an_answer_is_written_or_not(rt: HostRuntime) -> Result<(), Fail> {
     let heap: Refusing<Global> = Refusing::new(rt.alloc());
     for (answer, bytes) in rows {
         let mut most = 0;
-        for n in 1..20u64 {
+        for n in 1..=LAST {
             heap.refuse_only(n);
             let written = write_answer(&heap, &answer);
             if heap.has_refused() {
@@ -104,7 +105,7 @@ fn an_answer_is_written_or_not(rt: HostRuntime) -> Result<(), Fail> {
             let again = write_answer(&heap, &answer)?;
             assert!(rt; again.as_slice() == bytes, "at {n}");
         }
-        assert!(rt; 0 < most && most < 19);
+        assert!(rt; 0 < most && most < LAST);
     }
     assert_eq!(rt; IlpError::NoMemory.number(), 18);
     Ok(())
@@ -115,7 +116,7 @@ fn an_answer_is_written_or_not(rt: HostRuntime) -> Result<(), Fail> {
 fn a_packet_is_written_or_not(rt: HostRuntime) -> Result<(), Fail> {
     let heap: Refusing<Global> = Refusing::new(rt.alloc());
     let mut most = 0;
-    for n in 1..20u64 {
+    for n in 1..=LAST {
         heap.refuse_only(n);
         let written = write_packet(&heap, 12, 1, 0, &FRAMES);
         if heap.has_refused() {
@@ -128,7 +129,7 @@ fn a_packet_is_written_or_not(rt: HostRuntime) -> Result<(), Fail> {
         let again = write_packet(&heap, 12, 1, 0, &FRAMES)?;
         assert!(rt; again.as_slice() == PACKET, "at {n}");
     }
-    assert!(rt; 0 < most && most < 19);
+    assert!(rt; 0 < most && most < LAST);
     assert_eq!(rt; FrameError::NoMemory.number(), 25);
     Ok(())
 }
@@ -140,7 +141,7 @@ fn a_packet_is_sealed_or_not(rt: HostRuntime) -> Result<(), Fail> {
     let keys = Keys::of([0; 32]);
     let iv = [0, 1, 2, 3, 4, 5, 6, 7, 8, 9, 10, 11];
     let mut most = 0;
-    for n in 1..20u64 {
+    for n in 1..=LAST {
         heap.refuse_only(n);
         let sealed = keys.seal_packet(&heap, iv, 12, 1, 0, &FRAMES[..1]);
         if heap.has_refused() {
@@ -153,7 +154,7 @@ fn a_packet_is_sealed_or_not(rt: HostRuntime) -> Result<(), Fail> {
         let again = keys.seal_packet(&heap, iv, 12, 1, 0, &FRAMES[..1])?;
         assert!(rt; again.as_slice() == SEALED.as_slice(), "at {n}");
     }
-    assert!(rt; 1 < most && most < 19);
+    assert!(rt; 1 < most && most < LAST);
     assert_eq!(rt; KeyError::NoMemory.number(), 33);
     Ok(())
 }
