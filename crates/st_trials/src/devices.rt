@@ -1,0 +1,240 @@
+//! The command `frames` over devices that move few bytes a call, fail or interrupt.
+
+use st_commands::{Fault, Lines, answer_frames, run_frames};
+use st_oer::{CountRead, CountWrite, utf8};
+use std::alloc::{Allocator, Global};
+use std::io;
+use std::io::{ErrorKind, Read, Write};
+
+/// A device that moves at most `piece` bytes a call. Its call number `fails_at` fails, where the first is number 1 and a
+/// flush is a call.
+#[derive(Drop)]
+pub(crate) struct Faulty<T> {
+    inner: T,
+    piece: usize,
+    fails_at: u64,
+    kind: ErrorKind,
+    calls: u64,
+}
+
+impl<T> Faulty<T> {
+    pub(crate) fn new(inner: T, piece: usize, fails_at: u64, kind: ErrorKind) -> Self {
+        Faulty {
+            inner,
+            piece,
+            fails_at,
+            kind,
+            calls: 0,
+        }
+    }
+
+    /// A device with no fault.
+    pub(crate) fn sound(inner: T) -> Self {
+        Faulty::new(inner, 4096, 0, ErrorKind::Other)
+    }
+
+    fn fails(&mut self) -> bool {
+        self.calls = self.calls.saturating_add(1);
+        self.calls == self.fails_at
+    }
+}
+
+impl<T: Read> Read for Faulty<T> {
+    fn read(&mut self, buf: &mut [u8]) -> io::Result<usize> {
+        if self.fails() {
+            return Err(io::Error::from(self.kind));
+        }
+        let room = buf.len().min(self.piece);
+        self.inner.read(&mut buf[..room])
+    }
+}
+
+impl<T: Write> Write for Faulty<T> {
+    fn write(&mut self, buf: &[u8]) -> io::Result<usize> {
+        if self.fails() {
+            return Err(io::Error::from(self.kind));
+        }
+        let room = buf.len().min(self.piece);
+        self.inner.write(&buf[..room])
+    }
+
+    fn flush(&mut self) -> io::Result<()> {
+        if self.fails() {
+            return Err(io::Error::from(self.kind));
+        }
+        self.inner.flush()
+    }
+}
+
+/// What the program is run on: "cd" at 2 of stream 1, then "ab" at 0, twice.
+pub(crate) const STORED: &str = "010c010101000101140701010102026364
+010c010201000101140701010100026162
+010c010201000101140701010100026162
+";
+
+/// What it prints of that.
+pub(crate) const STORED_TEXT: &str = "stream 1 4 61626364\n";
+
+/// The first two of those lines, "ho" of stream 3, and between them two lines that are refused.
+const MIXED: &str = "010c010101000101140701010102026364
+0g
+010c010201000101140701010100026162
+020c
+010c01030100010114070103010002686f
+";
+
+const MIXED_TEXT: &str =
+    "line 2 refused 95\nline 4 refused 20\nstream 1 4 61626364\nstream 3 2 686f\n";
+
+/// What a run did: its status, what it wrote and told of a fault, and how often it called its reader and its writer.
+#[derive(Drop)]
+pub(crate) struct Told {
+    pub(crate) status: u8,
+    written: Vec<u8>,
+    errors: Vec<u8>,
+    reads: u64,
+    writes: u64,
+}
+
+impl Told {
+    pub(crate) fn text(&self) -> &str {
+        utf8(&self.written).unwrap_or("no text")
+    }
+
+    pub(crate) fn fault(&self) -> &str {
+        utf8(&self.errors).unwrap_or("no text")
+    }
+}
+
+/// The command `frames` over these devices.
+pub(crate) fn run_over<A: Allocator + Copy>(
+    alloc: A,
+    reader: Faulty<&[u8]>,
+    writer: Faulty<Vec<u8>>,
+    errors: Faulty<Vec<u8>>,
+) -> Told {
+    let mut reader = CountRead::new(reader);
+    let mut writer = CountWrite::new(writer);
+    let mut errors = CountWrite::new(errors);
+    let status = run_frames(alloc, &mut reader, &mut writer, &mut errors);
+    let reader = reader.into_inner();
+    let writer = writer.into_inner();
+    let errors = errors.into_inner();
+    Told {
+        status,
+        reads: reader.calls,
+        writes: writer.calls,
+        written: writer.inner,
+        errors: errors.inner,
+    }
+}
+
+/// A writer to memory.
+fn sink(alloc: Global) -> Faulty<Vec<u8>> {
+    Faulty::sound(Vec::new(alloc))
+}
+
+/// The same over this input, with no fault.
+pub(crate) fn answer_to<A: Allocator + Copy>(memory: A, alloc: Global, input: &str) -> Told {
+    let reader = Faulty::sound(input.as_bytes());
+    run_over(memory, reader, sink(alloc), sink(alloc))
+}
+
+/// However few bytes a call moves, the answer is the same.
+#[test]
+fn few_bytes_a_call(rt: HostRuntime) {
+    let alloc = rt.alloc();
+    for (input, text, status) in [(STORED, STORED_TEXT, 0), (MIXED, MIXED_TEXT, 1)] {
+        for (taken, given) in [(1, 4096), (4096, 1), (1, 1), (34, 5), (4096, 4096)] {
+            let reader = Faulty::new(input.as_bytes(), taken, 0, ErrorKind::Other);
+            let writer = Faulty::new(Vec::new(alloc), given, 0, ErrorKind::Other);
+            let told = run_over(alloc, reader, writer, sink(alloc));
+            assert_eq!(rt; told.text(), text, "{taken} and {given}");
+            assert_eq!(rt; told.fault(), "", "{taken} and {given}");
+            assert_eq!(rt; told.status, status, "{taken} and {given}");
+        }
+    }
+}
+
+/// Each read fails in turn, of which there is one for each piece and one more that meets the end. The fault is told, and
+/// what was written is the beginning of the answer.
+#[test]
+fn reads_fail(rt: HostRuntime) {
+    let alloc = rt.alloc();
+    for (piece, reads) in [(1, 114), (40, 4), (4096, 2)] {
+        for n in 1..=reads {
+            let reader = Faulty::new(MIXED.as_bytes(), piece, n, ErrorKind::Other);
+            let told = run_over(alloc, reader, sink(alloc), sink(alloc));
+            assert_eq!(rt; told.fault(), "fault 90\n", "at {n}");
+            assert_eq!(rt; told.status, 1, "at {n}");
+            assert_eq!(rt; told.reads, n);
+            assert!(rt; MIXED_TEXT.starts_with(told.text()), "at {n}");
+        }
+    }
+}
+
+/// Each write and each flush fails in turn: there is a write for each piece of a text, and a flush after each text. The
+/// texts are the refusals that one read makes known, and each stream's line.
+#[test]
+fn writes_fail(rt: HostRuntime) {
+    let alloc = rt.alloc();
+    for (taken, given, writes) in [(1, 1, 76), (4096, 1, 75), (4096, 4096, 6)] {
+        for n in 1..=writes {
+            let reader = Faulty::new(MIXED.as_bytes(), taken, 0, ErrorKind::Other);
+            let writer = Faulty::new(Vec::new(alloc), given, n, ErrorKind::Other);
+            let told = run_over(alloc, reader, writer, sink(alloc));
+            assert_eq!(rt; told.fault(), "fault 91\n", "at {n}");
+            assert_eq!(rt; told.status, 1, "at {n}");
+            assert_eq!(rt; told.writes, n);
+            assert!(rt; MIXED_TEXT.starts_with(told.text()), "at {n}");
+        }
+    }
+}
+
+/// An interrupted call is made again, whichever it is.
+#[test]
+fn calls_are_interrupted(rt: HostRuntime) {
+    let alloc = rt.alloc();
+    for n in 1..=120u64 {
+        let reader = Faulty::new(MIXED.as_bytes(), 1, n, ErrorKind::Interrupted);
+        let writer = Faulty::new(Vec::new(alloc), 1, n, ErrorKind::Interrupted);
+        let told = run_over(alloc, reader, writer, sink(alloc));
+        assert_eq!(rt; told.text(), MIXED_TEXT, "at {n}");
+        assert_eq!(rt; told.fault(), "", "at {n}");
+        assert_eq!(rt; told.status, 1, "at {n}");
+    }
+}
+
+/// Each read, write and flush takes a turn: two reads, and for each text a write and a flush.
+#[test]
+fn turns_are_used_up(rt: HostRuntime) {
+    let alloc = rt.alloc();
+    for (input, enough, lines) in [(STORED, 4, Lines::AllTaken), (MIXED, 8, Lines::SomeRefused)] {
+        for turns in 0..=enough {
+            let mut reader = CountRead::new(Faulty::sound(input.as_bytes()));
+            let mut writer = CountWrite::new(sink(alloc));
+            let answer = answer_frames(alloc, &mut reader, &mut writer, turns);
+            let want = if turns < enough {
+                Err(Fault::Turns)
+            } else {
+                Ok(lines)
+            };
+            assert_eq!(rt; answer, want, "with {turns}");
+        }
+    }
+    assert_eq!(rt; Fault::Turns.number(), 93);
+}
+
+/// A fault that cannot be told is a fault.
+#[test]
+fn the_telling_fails(rt: HostRuntime) {
+    let alloc = rt.alloc();
+    for (n, fault) in [(1, ""), (2, "fault"), (3, "fault 90\n")] {
+        let reader = Faulty::new(STORED.as_bytes(), 1, 1, ErrorKind::Other);
+        let errors = Faulty::new(Vec::new(alloc), 5, n, ErrorKind::Other);
+        let told = run_over(alloc, reader, sink(alloc), errors);
+        assert_eq!(rt; told.status, 1, "at {n}");
+        assert_eq!(rt; told.fault(), fault, "at {n}");
+        assert_eq!(rt; told.text(), "", "at {n}");
+    }
+}

@@ -1,0 +1,91 @@
+//! Fields that are appended while memory is refused.
+
+use crate::LAST;
+use refusing::Refusing;
+use st_oer::{OerError, put_length, put_octets, put_u8, put_u64, put_var_uint};
+use std::alloc::{Allocator, Global};
+use std::test::Fail;
+
+/// A field to be appended.
+#[derive(Clone, Copy)]
+enum Field<'a> {
+    U8(u8),
+    U64(u64),
+    VarUint(u64),
+    Length(u64),
+    Octets(&'a [u8]),
+}
+
+fn put<A: Allocator>(out: &mut Vec<u8, A>, field: Field<'_>) -> Result<(), OerError> {
+    match field {
+        Field::U8(x) => put_u8(out, x),
+        Field::U64(x) => put_u64(out, x),
+        Field::VarUint(x) => put_var_uint(out, x),
+        Field::Length(x) => put_length(out, x),
+        Field::Octets(bytes) => put_octets(out, bytes),
+    }
+}
+
+/// Each request of an appended field is refused in turn: the vector is as before, and the same call then succeeds.
+#[test]
+fn a_field_is_appended_or_not(rt: HostRuntime) -> Result<(), Fail> {
+    let rows: [(Field<'_>, &[u8]); 6] = [
+        (Field::U8(7), b"ab\x07"),
+        (Field::U64(258), b"ab\0\0\0\0\0\0\x01\x02"),
+        (Field::VarUint(258), b"ab\x02\x01\x02"),
+        (Field::Length(258), b"ab\x82\x01\x02"),
+        (Field::Octets(b"hello"), b"ab\x05hello"),
+        (Field::Octets(b""), b"ab\0"),
+    ];
+    let heap: Refusing<Global> = Refusing::new(rt.alloc());
+    for (field, bytes) in rows {
+        let mut most = 0;
+        for n in 1..=LAST {
+            heap.refuse_none();
+            let mut out = Vec::with_capacity(&heap, 2)?;
+            out.extend_from_slice(b"ab")?;
+            heap.refuse_only(n);
+            let answer = put(&mut out, field);
+            let met = heap.has_refused();
+            heap.refuse_none();
+            if met {
+                most = n;
+                assert_eq!(rt; answer, Err(OerError::NoMemory), "at {n}");
+                assert!(rt; out.as_slice() == b"ab".as_slice(), "at {n}");
+                put(&mut out, field)?;
+            } else {
+                assert_eq!(rt; answer, Ok(()), "at {n}");
+            }
+            assert!(rt; out.as_slice() == bytes, "at {n}");
+        }
+        assert!(rt; 0 < most && most < LAST);
+    }
+    assert_eq!(rt; OerError::NoMemory.number(), 5);
+    Ok(())
+}
+
+/// The bytes of a field longer than the room that its length left: whichever request is refused, none of it stays.
+#[test]
+fn long_octets_are_appended_or_not(rt: HostRuntime) -> Result<(), Fail> {
+    let text = [0xab; 300];
+    let heap: Refusing<Global> = Refusing::new(rt.alloc());
+    let mut most = 0;
+    for n in 1..=LAST {
+        heap.refuse_none();
+        let mut out = Vec::new(&heap);
+        heap.refuse_only(n);
+        let answer = put_octets(&mut out, &text);
+        let met = heap.has_refused();
+        heap.refuse_none();
+        if met {
+            most = n;
+            assert_eq!(rt; answer, Err(OerError::NoMemory), "at {n}");
+            assert!(rt; out.as_slice().is_empty(), "at {n}");
+            put_octets(&mut out, &text)?;
+        }
+        let bytes = out.as_slice().strip_prefix(b"\x82\x01\x2c".as_slice());
+        assert!(rt; bytes == Some(text.as_slice()), "at {n}");
+    }
+    assert!(rt; 1 < most && most < LAST);
+    Ok(())
+}

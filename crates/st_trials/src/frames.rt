@@ -1,0 +1,184 @@
+//! What the command `frames` answers. The expected texts follow from the README's table and from RFC 0029, section 5.
+
+use crate::devices::answer_to;
+use std::test::Fail;
+
+/// "cd" at 2 of stream 1, and "jk" at 0: with ends of both kinds, digits of both cases, empty lines and no last newline.
+const ENDS: &str = "\r\n010C010101000101140701010102026364\r\n\n\
+010c010101000101140701010100026A6b";
+
+/// The digits of a packet's front: version 1, kind 12, sequence 1, amount 0, one frame.
+const FRONT: &str = "010c010101000101";
+
+/// Inputs, and what is written for them.
+#[test]
+fn lines_are_answered(rt: HostRuntime) {
+    let rows: [(&str, &str); 15] = [
+        ("", ""),
+        (ENDS, "stream 1 4 6a6b6364\n"),
+        ("\n\r\n010\n", "line 3 refused 95\n"),
+        ("0\n\n0g", "line 1 refused 95\nline 3 refused 95\n"),
+        // A carriage return in the middle, doubled, and at the end of the input.
+        ("01\r0c\n", "line 1 refused 95\n"),
+        ("010c\r\r\n", "line 1 refused 95\n"),
+        ("010c\r", "line 1 refused 95\n"),
+        // The version comes before the kind, and the kind before the numbers.
+        ("020d\n", "line 1 refused 20\n"),
+        ("010d\n", "line 1 refused 21\n"),
+        ("01\n", "line 1 refused 22(1)\n"),
+        ("010c8101\n", "line 1 refused 22(2)\n"),
+        ("010c020001\n", "line 1 refused 22(3)\n"),
+        ("010c09010000000000000000\n", "line 1 refused 22(4)\n"),
+        // A limit whose one byte is missing; alone, and behind a frame of an unknown type.
+        ("010c010101000101030101\n", "line 1 refused 23(0)\n"),
+        ("010c010101000102990161030101\n", "line 1 refused 23(1)\n"),
+    ];
+    for (input, text) in rows {
+        let told = answer_to(rt.alloc(), rt.alloc(), input);
+        assert_eq!(rt; told.text(), text, "{input}");
+        assert_eq!(rt; told.fault(), "", "{input}");
+        let status = u8::from(text.contains("refused"));
+        assert_eq!(rt; told.status, status, "{input}");
+    }
+}
+
+/// What a packet of one frame makes, where it is the only line.
+#[test]
+fn one_frame_is_answered(rt: HostRuntime) -> Result<(), Fail> {
+    let rows: [(&str, &str); 10] = [
+        // "ab" at 0 of stream 2, and nothing at 0 of it.
+        ("140701020100026162", "stream 2 2 6162\n"),
+        ("14050102010000", "stream 2 0 -\n"),
+        // Streams 0, 65 and 256.
+        ("140701000100026162", "line 1 refused 63\n"),
+        ("140701410100026162", "line 1 refused 63\n"),
+        ("14080201000100026162", "line 1 refused 63\n"),
+        // One byte at 65,535 and at 65,536, and at the last two offsets.
+        ("1407010102ffff0161", "stream 1 0 -\n"),
+        ("14080101030100000161", "line 1 refused 40\n"),
+        ("140d010108fffffffffffffffe0161", "line 1 refused 40\n"),
+        ("140d010108ffffffffffffffff0161", "line 1 refused 41\n"),
+        // Stream 0 is told before the offset.
+        ("140d010008ffffffffffffffff0161", "line 1 refused 63\n"),
+    ];
+    let alloc = rt.alloc();
+    for (frame, text) in rows {
+        let input = format!(in alloc; "{FRONT}{frame}\n")?;
+        let told = answer_to(alloc, alloc, &input);
+        assert_eq!(rt; told.text(), text, "{frame}");
+        let status = u8::from(text.contains("refused"));
+        assert_eq!(rt; told.status, status, "{frame}");
+    }
+    Ok(())
+}
+
+/// A frame of each known type but StreamData, and one of an unknown type, with the fields of RFC 0029, section 5.3.
+const OTHERS: [&str; 11] = [
+    "010401026e6f",
+    "0208076578616d706c65",
+    "03020105",
+    "04020105",
+    "1006010101026e6f",
+    "110401010105",
+    "1206010101050100",
+    "1306010101050100",
+    "150401010105",
+    "160401010105",
+    "990161",
+];
+
+/// Only StreamData names a stream: a packet of each other frame is taken and prints nothing, also around StreamData.
+#[test]
+fn other_frames_are_ignored(rt: HostRuntime) -> Result<(), Fail> {
+    let alloc = rt.alloc();
+    let mut input = String::new(alloc);
+    for frame in OTHERS {
+        input.push_str(FRONT)?;
+        input.push_str(frame)?;
+        input.push('\n')?;
+    }
+    let told = answer_to(alloc, alloc, &input);
+    assert_eq!(rt; told.text(), "");
+    assert_eq!(rt; told.status, 0);
+
+    let mut together = "010c01010100010c".to_string(alloc)?;
+    for frame in OTHERS {
+        together.push_str(frame)?;
+    }
+    together.push_str("14070103010002686f\n")?;
+    let told = answer_to(alloc, alloc, &together);
+    assert_eq!(rt; told.text(), "stream 3 2 686f\n");
+    assert_eq!(rt; told.status, 0);
+    Ok(())
+}
+
+/// A line whose second frame is refused leaves the first without effect.
+#[test]
+fn a_line_is_whole_or_not_at_all(rt: HostRuntime) {
+    let input = "010c010101000101140701010100026162\n\
+010c010101000102140701010102026364140701410100026364\n\
+010c010101000102140701050100026162140701000100026162\n";
+    let told = answer_to(rt.alloc(), rt.alloc(), input);
+    let text = "line 2 refused 63\nline 3 refused 63\nstream 1 2 6162\n";
+    assert_eq!(rt; told.text(), text);
+    assert_eq!(rt; told.status, 1);
+}
+
+/// All 64 streams, the last one named first.
+#[test]
+fn streams_come_in_rising_order(rt: HostRuntime) -> Result<(), Fail> {
+    let alloc = rt.alloc();
+    let mut input = String::new(alloc);
+    let mut text = String::new(alloc);
+    for n in 1..=64u64 {
+        let stream = 65 - n;
+        input.push_str(&format!(in alloc; "{FRONT}140601{stream:02x}01000161\n")?)?;
+        text.push_str(&format!(in alloc; "stream {n} 1 61\n")?)?;
+    }
+    let told = answer_to(alloc, alloc, &input);
+    assert_eq!(rt; told.text(), text.as_str());
+    assert_eq!(rt; told.status, 0);
+    Ok(())
+}
+
+/// The longest packet: StreamData of 32,720 bytes 61 at 0 of stream 1, in 65,478 digits.
+#[test]
+fn the_longest_line_is_taken(rt: HostRuntime) -> Result<(), Fail> {
+    let alloc = rt.alloc();
+    let run = "61".repeat(alloc, 32_720)?;
+    let input = format!(in alloc; "{FRONT}14827fd701010100827fd0{run}\n")?;
+    assert_eq!(rt; input.len(), 65_479);
+    let told = answer_to(alloc, alloc, &input);
+    let text = format!(in alloc; "stream 1 32720 {run}\n")?;
+    assert_eq!(rt; told.text(), text.as_str());
+    assert_eq!(rt; told.status, 0);
+    Ok(())
+}
+
+/// Long lines of zeros, with something at their end.
+#[test]
+fn long_lines_are_refused(rt: HostRuntime) -> Result<(), Fail> {
+    let rows: [(usize, &str, &str); 8] = [
+        (65_478, "\n", "line 1 refused 20\n"),
+        (65_478, "\r\n", "line 1 refused 20\n"),
+        (65_479, "\n", "line 1 refused 95\n"),
+        (65_480, "\n", "line 1 refused 24\n"),
+        (65_480, "", "line 1 refused 24\n"),
+        (65_481, "\n", "line 1 refused 95\n"),
+        (65_481, "g\n", "line 1 refused 95\n"),
+        (
+            70_000,
+            "\r0\n0c\n",
+            "line 1 refused 95\nline 2 refused 20\n",
+        ),
+    ];
+    let alloc = rt.alloc();
+    for (count, end, text) in rows {
+        let mut input = "0".repeat(alloc, count)?;
+        input.push_str(end)?;
+        let told = answer_to(alloc, alloc, &input);
+        assert_eq!(rt; told.text(), text, "{count}");
+        assert_eq!(rt; told.status, 1, "{count}");
+    }
+    Ok(())
+}

@@ -1,0 +1,209 @@
+//! Packets that are written while memory is refused.
+
+use crate::LAST;
+use refusing::Refusing;
+use st_frames::{Frame, FrameError, write_packet};
+use st_ilp::{Answer, IlpError, Prepare, put_reject, reject_len, write_answer, write_prepare};
+use st_keys::{KeyError, Keys};
+use std::alloc::Global;
+use std::test::Fail;
+
+/// A Prepare of 5 to `example.b` that expires at 2024-01-02 03:04:05.006.
+const OFFER: Prepare<'static> = Prepare {
+    amount: 5,
+    expiry: 1_704_164_645_006,
+    condition: [0; 32],
+    destination: "example.b",
+    payload: &[],
+};
+
+const OFFER_BYTES: &[u8; 70] = b"\x0c\x44\0\0\0\0\0\0\0\x0520240102030405006\
+\0\0\0\0\0\0\0\0\0\0\0\0\0\0\0\0\0\0\0\0\0\0\0\0\0\0\0\0\0\0\0\0\x09example.b\0";
+
+/// Three frames: "hi" of stream 1 at offset 0, a limit of 5 for the connection, and one of 256 for stream 1.
+const FRAMES: [Frame<'static>; 3] = [
+    Frame::StreamData {
+        stream: 1,
+        offset: 0,
+        bytes: b"hi",
+    },
+    Frame::ConnectionMaxData { max_offset: 5 },
+    Frame::StreamMaxData {
+        stream: 1,
+        max_offset: 256,
+    },
+];
+
+/// Sequence 1, amount 0, and those frames, by RFC 0029, section 5.
+const PACKET: &[u8] = b"\x01\x0c\x01\x01\x01\0\x01\x03\x14\x07\x01\x01\x01\0\x02hi\
+\x03\x02\x01\x05\x15\x05\x01\x01\x02\x01\0";
+
+/// The first of them alone in a packet of sequence 1 and amount 0, sealed for the secret of 32 zero bytes under the IV
+/// 00 01 .. 0b, by `AESGCM` of the package `cryptography` (48.0.0) of Python.
+const SEALED: [u8; 45] = [
+    0x00, 0x01, 0x02, 0x03, 0x04, 0x05, 0x06, 0x07, 0x08, 0x09, 0x0a, 0x0b, 0x61, 0x79, 0x74, 0xab,
+    0x7c, 0xe4, 0x26, 0xcb, 0xcc, 0xb8, 0x20, 0x37, 0x6e, 0x5f, 0x43, 0xd5, 0x22, 0x61, 0xcc, 0xc4,
+    0xa8, 0xfb, 0xbc, 0xea, 0xc7, 0x77, 0xfa, 0x2d, 0x32, 0xae, 0x95, 0xa6, 0x2f,
+];
+
+/// Each request of a Prepare's writer is refused in turn.
+#[test]
+fn a_prepare_is_written_or_not(rt: HostRuntime) -> Result<(), Fail> {
+    let heap: Refusing<Global> = Refusing::new(rt.alloc());
+    for n in 1..1000u64 {
+        heap.refuse_only(n);
+        let answer = write_prepare(&heap, &OFFER);
+        let met = heap.has_refused();
+        heap.refuse_none();
+        if !met {
+            assert!(rt; answer?.as_slice() == OFFER_BYTES.as_slice());
+            assert!(rt; 1 < n);
+            return Ok(());
+        }
+        assert_eq!(rt; answer.err(), Some(IlpError::NoMemory), "at {n}");
+        assert!(rt;
+            write_prepare(&heap, &OFFER)?.as_slice() == OFFER_BYTES.as_slice(),
+            "at {n}"
+        );
+    }
+    panic!(rt; "no run met no refusal");
+}
+
+/// The same of an answer of each kind.
+#[test]
+fn an_answer_is_written_or_not(rt: HostRuntime) -> Result<(), Fail> {
+    let fulfill = Answer::Fulfill {
+        fulfillment: *b"0123456789abcdef0123456789abcdef",
+        payload: b"\x07\x08",
+    };
+    let reject = Answer::Reject {
+        code: *b"T04",
+        by: "example.c",
+        message: "no",
+        payload: b"\x09",
+    };
+    let rows: [(Answer<'_>, &[u8]); 2] = [
+        (
+            fulfill,
+            b"\x0d\x230123456789abcdef0123456789abcdef\x02\x07\x08",
+        ),
+        (reject, b"\x0e\x12T04\x09example.c\x02no\x01\x09"),
+    ];
+    let heap: Refusing<Global> = Refusing::new(rt.alloc());
+    for (answer, bytes) in rows {
+        let mut most = 0;
+        for n in 1..=LAST {
+            heap.refuse_only(n);
+            let written = write_answer(&heap, &answer);
+            if heap.has_refused() {
+                most = n;
+                assert_eq!(rt; written.err(), Some(IlpError::NoMemory), "at {n}");
+            } else {
+                assert!(rt; written?.as_slice() == bytes, "at {n}");
+            }
+            heap.refuse_none();
+            let again = write_answer(&heap, &answer)?;
+            assert!(rt; again.as_slice() == bytes, "at {n}");
+        }
+        assert!(rt; 0 < most && most < LAST);
+    }
+    assert_eq!(rt; IlpError::NoMemory.number(), 18);
+    Ok(())
+}
+
+/// The same of a packet with several frames.
+#[test]
+fn a_packet_is_written_or_not(rt: HostRuntime) -> Result<(), Fail> {
+    let heap: Refusing<Global> = Refusing::new(rt.alloc());
+    let mut most = 0;
+    for n in 1..=LAST {
+        heap.refuse_only(n);
+        let written = write_packet(&heap, 12, 1, 0, &FRAMES);
+        if heap.has_refused() {
+            most = n;
+            assert_eq!(rt; written.err(), Some(FrameError::NoMemory), "at {n}");
+        } else {
+            assert!(rt; written?.as_slice() == PACKET, "at {n}");
+        }
+        heap.refuse_none();
+        let again = write_packet(&heap, 12, 1, 0, &FRAMES)?;
+        assert!(rt; again.as_slice() == PACKET, "at {n}");
+    }
+    assert!(rt; 0 < most && most < LAST);
+    assert_eq!(rt; FrameError::NoMemory.number(), 25);
+    Ok(())
+}
+
+/// The same of a sealed packet, which asks for its text and for its payload.
+#[test]
+fn a_packet_is_sealed_or_not(rt: HostRuntime) -> Result<(), Fail> {
+    let heap: Refusing<Global> = Refusing::new(rt.alloc());
+    let keys = Keys::of([0; 32]);
+    let iv = [0, 1, 2, 3, 4, 5, 6, 7, 8, 9, 10, 11];
+    let mut most = 0;
+    for n in 1..=LAST {
+        heap.refuse_only(n);
+        let sealed = keys.seal_packet(&heap, iv, 12, 1, 0, &FRAMES[..1]);
+        if heap.has_refused() {
+            most = n;
+            assert_eq!(rt; sealed.err(), Some(KeyError::NoMemory), "at {n}");
+        } else {
+            assert!(rt; sealed?.as_slice() == SEALED.as_slice(), "at {n}");
+        }
+        heap.refuse_none();
+        let again = keys.seal_packet(&heap, iv, 12, 1, 0, &FRAMES[..1])?;
+        assert!(rt; again.as_slice() == SEALED.as_slice(), "at {n}");
+    }
+    assert!(rt; 1 < most && most < LAST);
+    assert_eq!(rt; KeyError::NoMemory.number(), 33);
+    Ok(())
+}
+
+/// A broken rule is told where there is no memory at all, and none is asked for.
+#[test]
+fn broken_rules_ask_for_no_memory(rt: HostRuntime) {
+    let heap: Refusing<Global> = Refusing::new(rt.alloc());
+    heap.refuse_from(1);
+    let nowhere = Prepare {
+        destination: "example..b",
+        ..OFFER
+    };
+    let reject = Answer::Reject {
+        code: *b"T 4",
+        by: "",
+        message: "",
+        payload: &[],
+    };
+    let stranger = Frame::ConnectionNewAddress { address: "a..b" };
+    assert_eq!(rt;
+        write_prepare(&heap, &nowhere).err(),
+        Some(IlpError::Address)
+    );
+    assert_eq!(rt; write_answer(&heap, &reject).err(), Some(IlpError::Code));
+    assert_eq!(rt;
+        write_packet(&heap, 12, 1, 0, &[stranger]).err(),
+        Some(FrameError::FrameFormat(0))
+    );
+    assert_eq!(rt; heap.asked(), 0);
+}
+
+/// A Reject goes into room that was kept for it, and asks for no memory. Without room it is refused and leaves the vector.
+#[test]
+fn a_reject_goes_into_kept_room(rt: HostRuntime) -> Result<(), Fail> {
+    let want = b"\x0e\x0fT04\x09example.c\0\0";
+    let heap: Refusing<Global> = Refusing::new(rt.alloc());
+    let mut room = Vec::with_capacity(&heap, reject_len("example.c", 0))?;
+    let mut none = b"ab".to_vec(&heap)?;
+    heap.refuse_from(1);
+    assert_eq!(rt; put_reject(&mut room, *b"T04", "example.c", &[]), Ok(()));
+    assert_eq!(rt; heap.asked(), 0);
+    assert!(rt; room.as_slice() == want.as_slice());
+    let refused = put_reject(&mut none, *b"T04", "example.c", &[]);
+    assert_eq!(rt; refused, Err(IlpError::NoMemory));
+    assert!(rt; none.as_slice() == b"ab".as_slice());
+    heap.refuse_none();
+    put_reject(&mut none, *b"T04", "example.c", &[])?;
+    let both = b"ab\x0e\x0fT04\x09example.c\0\0";
+    assert!(rt; none.as_slice() == both.as_slice());
+    Ok(())
+}
