@@ -173,35 +173,43 @@ impl<A: Allocator + Copy> Reader<A> {
     }
 }
 
+/// What the devices' counts of errors were when the run began.
+#[derive(Clone, Copy)]
+struct Since {
+    reader: u64,
+    writer: u64,
+}
+
 /// One read, and what it makes known written. Whether that was the end.
 fn turn<A: Allocator + Copy, R: Read + Counted, W: Write + Counted>(
     lines: &mut Reader<A>,
     reader: &mut R,
     writer: &mut W,
-    since: u64,
+    since: Since,
     turns: &mut u64,
 ) -> Result<bool, Fault>
     requires { lines.old.index + lines.old.line.count < 2 ^ 63 }
     ensures covers { (input before : Option (List ℕ)) → Covers input (R.remaining reader.old) before (W.contents writer.old) lines.old
         → IfOk result (λ is_end. AfterTurn is_end input (R.remaining reader.new) before (W.contents writer.new) lines.new) }
     ensures bounded { IfOk result (λ is_end. (is_end ≡ false) → lines.new.index + lines.new.line.count ≤ lines.old.index + lines.old.line.count + 4096) }
-    ensures input { IfErr result (λ e. (e ≡ Fault.Input) → Rose since (R.fault_count reader.new)) }
+    ensures input { IfErr result (λ e. (e ≡ Fault.Input) → Rose since.reader (R.fault_count reader.new)) }
+    ensures output { IfErr result (λ e. (e ≡ Fault.Output) → Rose since.writer (W.fault_count writer.new)) }
     ensures turns { turns.new ≤ turns.old }
 {
     let mut buf = [0; PIECE];
     let mut out = Vec::new(lines.alloc);
-    match read_turn(reader, &mut buf, since) {
+    match read_turn(reader, &mut buf, since.reader) {
         Turn::Again => Ok(false),
         Turn::Fault => Err(Fault::Input),
         Turn::Moved(0) => {
             let finished = lines.finish(&mut out);
-            put(writer, &out, turns)?;
+            put(writer, &out, since.writer, turns)?;
             finished?;
             Ok(true)
         }
         Turn::Moved(n) => {
             let fed = lines.feed(&mut out, &buf[..n]);
-            put(writer, &out, turns)?;
+            put(writer, &out, since.writer, turns)?;
             fed?;
             Ok(false)
         }
@@ -213,14 +221,15 @@ fn answer_lines<A: Allocator + Copy, R: Read + Counted, W: Write + Counted>(
     lines: &mut Reader<A>,
     reader: &mut R,
     writer: &mut W,
+    since: Since,
     turns: &mut u64,
 ) -> Result<(), Fault>
     requires start { lines.old ≡ at_start }
     requires turns { turns.old < 2 ^ 32 }
     ensures covers { OnOk result (CoversLines (R.remaining reader.old) (W.contents writer.old) (W.contents writer.new) lines.new) }
-    ensures input { IfErr result (λ e. (e ≡ Fault.Input) → Rose (R.fault_count reader.old) (R.fault_count reader.new)) }
+    ensures input { IfErr result (λ e. (e ≡ Fault.Input) → Rose since.reader (R.fault_count reader.new)) }
+    ensures output { IfErr result (λ e. (e ≡ Fault.Output) → Rose since.writer (W.fault_count writer.new)) }
 {
-    let since = reader.faults();
     while *turns > 0 {
         *turns -= 1;
         if turn(lines, reader, writer, since, turns)? {
@@ -236,16 +245,18 @@ fn put_run<A: Allocator + Copy, W: Write + Counted>(
     streams: &mut Streams<A>,
     place: usize,
     writer: &mut W,
+    since: u64,
     turns: &mut u64,
 ) -> Result<(), Fault>
     requires { place < 64 }
     ensures others { streams.new ≡ slice_set streams.old place None }
     ensures no_input { result ≢ Err Fault.Input }
+    ensures output { IfErr result (λ e. (e ≡ Fault.Output) → Rose since (W.fault_count writer.new)) }
     ensures whole { OnOk result (Appends (W.contents writer.old) (W.contents writer.new) (run_line (place + 1) (slice_index_or streams.old place None))) }
 {
     if let Some(bytes) = streams.take_run(place)? {
         let text = stream_line(alloc, place + 1, &bytes)?;
-        put(writer, text.as_bytes(), turns)?;
+        put(writer, text.as_bytes(), since, turns)?;
     }
     Ok(())
 }
@@ -255,14 +266,16 @@ fn put_runs<A: Allocator + Copy, W: Write + Counted>(
     alloc: A,
     streams: Streams<A>,
     writer: &mut W,
+    since: u64,
     turns: &mut u64,
 ) -> Result<(), Fault>
     ensures no_input { result ≢ Err Fault.Input }
+    ensures output { IfErr result (λ e. (e ≡ Fault.Output) → Rose since (W.fault_count writer.new)) }
     ensures whole { OnOk result (Appends (W.contents writer.old) (W.contents writer.new) (runs_text streams)) }
 {
     let mut streams = streams;
     for place in 0..streams.count() {
-        put_run(alloc, &mut streams, place, writer, turns)?;
+        put_run(alloc, &mut streams, place, writer, since, turns)?;
     }
     Ok(())
 }
@@ -280,16 +293,21 @@ pub fn answer_frames<A: Allocator + Copy, R: Read + Counted, W: Write + Counted>
     ensures answered { IfOk result (λ lines. IfSome (R.remaining reader.old) (λ input. (text : List ℕ) × IsAnswer input text (has_refusal lines)
         × Appends (W.contents writer.old) (W.contents writer.new) text)) }
     ensures input { IfErr result (λ e. (e ≡ Fault.Input) → Rose (R.fault_count reader.old) (R.fault_count reader.new)) }
+    ensures output { IfErr result (λ e. (e ≡ Fault.Output) → Rose (W.fault_count writer.old) (W.fault_count writer.new)) }
 {
+    let since = Since {
+        reader: reader.faults(),
+        writer: writer.faults(),
+    };
     let mut turns = u64::from(turns);
     let mut lines = Reader::new(alloc)?;
-    answer_lines(&mut lines, reader, writer, &mut turns)?;
+    answer_lines(&mut lines, reader, writer, since, &mut turns)?;
     let Reader {
         streams,
         refused,
         ..
     } = lines;
-    put_runs(alloc, streams, writer, &mut turns)?;
+    put_runs(alloc, streams, writer, since.writer, &mut turns)?;
     if refused {
         return Ok(Lines::SomeRefused);
     }
@@ -297,18 +315,13 @@ pub fn answer_frames<A: Allocator + Copy, R: Read + Counted, W: Write + Counted>
 }
 
 /// Tells a fault, as far as the writer takes it. The status of a fault.
-pub(crate) fn tell_fault<A: Allocator + Copy, E: Write + Counted>(
-    alloc: A,
-    errors: &mut E,
-    fault: Fault,
-) -> u8
+pub(crate) fn tell_fault<E: Write + Counted>(errors: &mut E, fault: Fault) -> u8
     ensures status { result ≡ 1 }
     ensures text { (sent : ℕ) × Appends (E.contents errors.old) (E.contents errors.new) (take sent (fault_text (fault_number fault))) }
 {
+    let since = errors.faults();
     let mut turns = u64::from(TURNS);
-    if let Ok(text) = fault_line(alloc, fault.number()) {
-        let _ = put(errors, text.as_bytes(), &mut turns);
-    }
+    let _ = put(errors, fault_line(fault).as_bytes(), since, &mut turns);
     1
 }
 
@@ -329,6 +342,6 @@ pub fn run_frames<A: Allocator + Copy, R: Read + Counted, W: Write + Counted, E:
     match answer_frames(alloc, reader, writer, TURNS) {
         Ok(Lines::AllTaken) => 0,
         Ok(Lines::SomeRefused) => 1,
-        Err(fault) => tell_fault(alloc, errors, fault),
+        Err(fault) => tell_fault(errors, fault),
     }
 }

@@ -23,15 +23,17 @@ fn tell<W: Write + Counted, E: Write + Counted>(
 {
     let mut turns = u64::from(TURNS);
     let Ok(text) = format!(in alloc; "{error}") else {
-        return tell_fault(alloc, errors, Fault::NoMemory);
+        return tell_fault(errors, Fault::NoMemory);
     };
     if error.use_stderr() {
-        let _ = put(errors, text.as_bytes(), &mut turns);
+        let since = errors.faults();
+        let _ = put(errors, text.as_bytes(), since, &mut turns);
         return 2;
     }
-    match put(writer, text.as_bytes(), &mut turns) {
+    let since = writer.faults();
+    match put(writer, text.as_bytes(), since, &mut turns) {
         Ok(()) => 0,
-        Err(fault) => tell_fault(alloc, errors, fault),
+        Err(fault) => tell_fault(errors, fault),
     }
 }
 

@@ -1,4 +1,4 @@
-use Rattle.std.proofs.Common.{◌≤◌, ◌+◌, ◌*◌, arith}
+use Rattle.std.proofs.Common.{arith}
 use Rattle.st_commands.proofs.Progressing.{covers_start}
 use Rattle.st_commands.proofs.frames.answer_lines.Goals as goal
 

@@ -1,8 +1,8 @@
-use Rattle.std.proofs.Common.{◌≡◌, ◌<◌, [], length, refl, ap, ◌∙◌, arith}
+use Rattle.std.proofs.Common.{◌<◌, [], length, refl, ap, ◌∙◌, arith}
 use Rattle.std.proofs.KnownBytes.{Appends-nil}
 use Rattle.std.proofs.lemmas.List.{length-set}
 use Rattle.st_commands.specs.Inboxes.{runs_text}
-use Rattle.st_commands.proofs.Progressing.{writes_run, writes_all}
+use Rattle.st_commands.proofs.Progressing.{writes_run}
 use Rattle.st_commands.proofs.frames.put_runs.Goals as goal
 
 pub loop-place-init : goal.loop-place-init

@@ -1,4 +1,4 @@
-use Rattle.std.proofs.Common.{[], ◌≤◌, ◌+◌, sym, append-nil, arith, take}
+use Rattle.std.proofs.Common.{[], sym, append-nil, arith}
 use Rattle.std.proofs.lemmas.List.{take_all}
 use Rattle.st_commands.proofs.Progressing.{answers_nothing, takes_more}
 use Rattle.st_commands.proofs.frames.Reader.feed.Goals as goal
