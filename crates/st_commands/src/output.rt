@@ -3,6 +3,7 @@
 ghost use Rattle.std.specs.Prelude.{◌≡◌, ◌≤◌, ◌⊎◌, ℕ, take, IfErr, OnOk};
 ghost use Rattle.std.specs.Io.KnownBytes.{Appends, Keeps};
 ghost use Rattle.st_oer.specs.Faults.{Rose};
+ghost use Rattle.st_commands.specs.Endings.{WritesPart};
 
 use crate::error::Fault;
 use st_oer::{Counted, PutError, Turn, put_all};
@@ -55,7 +56,7 @@ pub fn put<W: Write + Counted>(
     turns: &mut u64,
 ) -> Result<(), Fault>
     ensures whole { OnOk result (Appends (W.contents writer.old) (W.contents writer.new) text.now) }
-    ensures part { (sent : ℕ) × Appends (W.contents writer.old) (W.contents writer.new) (take sent text.now) }
+    ensures part { WritesPart text.now (W.contents writer.old) (W.contents writer.new) }
     ensures turns { turns.new ≤ turns.old }
     ensures output { IfErr result (λ e. (e ≡ Fault.Output) → Rose since (W.fault_count writer.new)) }
     ensures out_of_turns { IfErr result (λ e. (e ≡ Fault.Turns) → turns.new ≡ 0) }
