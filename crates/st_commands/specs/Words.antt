@@ -1,0 +1,33 @@
+-- What the words of the command line ask for.
+use Rattle.std.specs.Prelude.{◌≡◌, ◌⊎◌, ℕ, Bool, true, false, List, [], ◌∷◌, codes, drop}
+use Rattle.clap.specs.Words.{App, Shape, IsAmong, Kinds, Text, fault_of, with_subcommand}
+use Rattle.clap.specs.Simple.{new_shape}
+use Rattle.clap.specs.declared.error.kind.ErrorKind.{ErrorKind}
+use Rattle.clap.specs.declared.error.kind.ErrorKind.TheVariants.{DisplayHelp, DisplayVersion}
+
+-- what follows the program's name asks for `frames`: nothing, or that word, and `--`, which ends options, may end it
+abbrev pub AsksFrames : List Text → Type 0
+AsksFrames words = (words ≡ []) ⊎ (words ≡ codes "frames" ∷ [])
+    ⊎ (words ≡ codes "--" ∷ []) ⊎ (words ≡ codes "frames" ∷ codes "--" ∷ [])
+
+-- the words after the first, which is the program's name
+abbrev pub after_name : List Text → List Text
+after_name words = drop 1 words
+
+-- the program, as clap reads words for it: it has a version, and the one subcommand `frames`
+abbrev pub program : App
+program = with_subcommand (record { top = record (new_shape (codes "ilpstream")) { has_version = true }; subs = [] }) (new_shape (codes "frames"))
+
+-- how clap may refuse the words, by its rules; it takes them where this is empty
+abbrev pub refusals : List Text → Kinds
+refusals words = fault_of program words
+
+-- the refusal is the answer to a wish for help or the version
+abbrev pub is_shown : ErrorKind → Bool
+is_shown DisplayHelp = true
+is_shown DisplayVersion = true
+is_shown _ = false
+
+-- one of these refusals shows help or the version (true), or names a mistake (false)
+abbrev pub HasRefusal : Bool → Kinds → Type 0
+HasRefusal shown kinds = (kind : ErrorKind) × IsAmong kind kinds × (is_shown kind ≡ shown)
