@@ -10,7 +10,7 @@ use Rattle.st_commands.specs.declared.frames.Lines.TheVariants.{AllTaken, SomeRe
 use Rattle.st_commands.specs.Answers.{IsAnswer}
 use Rattle.st_commands.specs.Errors.{fault_number}
 use Rattle.st_commands.specs.Texts.{fault_text}
-use Rattle.st_commands.specs.Words.{HasRefusal}
+use Rattle.st_commands.specs.Words.{MayRefuse, MayShow}
 
 abbrev pub has_refusal : Lines → Bool
 has_refusal AllTaken = false
@@ -51,9 +51,10 @@ pub record RunsFrames {E : Type 0} (input before now : Option (List ℕ)) (count
   pub part : IfSome input (λ bytes. BeginsAnswer bytes before now)
   pub bound : status ≤ 1
 
--- clap's refusal was told: a mistake in the words to the writer for errors, help or the version to the other
-abbrev pub TellsRefusal : {W E : Type 0} → Kinds → (E → Option (List ℕ)) → W → W → E → E → ℕ → Type 0
-TellsRefusal kinds told w v e f status = ((status ≡ 2) × HasRefusal false kinds × (v ≡ w))
-    ⊎ ((status ≡ 0) × HasRefusal true kinds × (f ≡ e))
-    ⊎ (HasRefusal true kinds × ((x : Fault) × TellsFault x (told e) (told f) status))
+-- clap's answer was told: a mistake in the words to the writer for errors, e at the start and f now, help or the version
+-- to the other, w and v
+abbrev pub TellsAnswer : {W E : Type 0} → Kinds → (E → Option (List ℕ)) → W → W → E → E → ℕ → Type 0
+TellsAnswer kinds told w v e f status = ((status ≡ 2) × MayRefuse kinds × (v ≡ w))
+    ⊎ ((status ≡ 0) × MayShow kinds × (f ≡ e))
+    ⊎ (MayShow kinds × ((x : Fault) × TellsFault x (told e) (told f) status))
     ⊎ LacksMemory w v (told e) (told f) status

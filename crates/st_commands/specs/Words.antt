@@ -1,6 +1,6 @@
 -- What the words of the command line ask for.
-use Rattle.std.specs.Prelude.{◌≡◌, ◌⊎◌, ℕ, Bool, true, false, List, [], ◌∷◌, codes, drop}
-use Rattle.clap.specs.Words.{App, Shape, IsAmong, Kinds, Text, fault_of, with_subcommand}
+use Rattle.std.specs.Prelude.{◌≡◌, ◌≢◌, ◌⊎◌, true, List, [], ◌∷◌, codes, drop}
+use Rattle.clap.specs.Words.{App, IsAmong, Kinds, Text, fault_of, with_subcommand}
 use Rattle.clap.specs.Simple.{new_shape}
 use Rattle.clap.specs.declared.error.kind.ErrorKind.{ErrorKind}
 use Rattle.clap.specs.declared.error.kind.ErrorKind.TheVariants.{DisplayHelp, DisplayVersion}
@@ -18,16 +18,14 @@ after_name words = drop 1 words
 abbrev pub program : App
 program = with_subcommand (record { top = record (new_shape (codes "ilpstream")) { has_version = true }; subs = [] }) (new_shape (codes "frames"))
 
--- how clap may refuse the words, by its rules; it takes them where this is empty
+-- what clap may answer to the words, by its rules, in place of taking them: it takes them where this is empty
 abbrev pub refusals : List Text → Kinds
 refusals words = fault_of program words
 
--- the refusal is the answer to a wish for help or the version
-abbrev pub is_shown : ErrorKind → Bool
-is_shown DisplayHelp = true
-is_shown DisplayVersion = true
-is_shown _ = false
+-- help or the version may be the answer
+abbrev pub MayShow : Kinds → Type 0
+MayShow kinds = IsAmong DisplayHelp kinds ⊎ IsAmong DisplayVersion kinds
 
--- one of these refusals shows help or the version (true), or names a mistake (false)
-abbrev pub HasRefusal : Bool → Kinds → Type 0
-HasRefusal shown kinds = (kind : ErrorKind) × IsAmong kind kinds × (is_shown kind ≡ shown)
+-- a mistake in the words may be the answer
+abbrev pub MayRefuse : Kinds → Type 0
+MayRefuse kinds = (kind : ErrorKind) × IsAmong kind kinds × (kind ≢ DisplayHelp) × (kind ≢ DisplayVersion)

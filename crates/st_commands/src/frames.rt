@@ -5,12 +5,10 @@ ghost use Rattle.std.specs.Io.KnownBytes.{Appends};
 ghost use Rattle.st_oer.specs.Faults.{Rose};
 ghost use Rattle.st_frames.specs.Reading.{packet_at};
 ghost use Rattle.st_commands.specs.Answers.{IsAnswer, by_packet, prepare};
-ghost use Rattle.st_commands.specs.Errors.{fault_number};
-ghost use Rattle.st_commands.specs.Endings.{has_refusal, BeginsAnswer, WritesAnswer, WritesPart};
+ghost use Rattle.st_commands.specs.Endings.{has_refusal, BeginsAnswer, IsCounted, RunsFrames, TellsFault, WritesAnswer, WritesPart};
 ghost use Rattle.st_commands.specs.Inboxes.{run_line, runs_text};
 ghost use Rattle.st_commands.specs.LineSoFar.{StandsFor, no_line, text_of_line};
 ghost use Rattle.st_commands.specs.Progress.{at_start, told, HasPacketEffect, HasEffect, AnswersLine, AnswersPiece, MayBegin, MayFollow, Covers, CoversLines, AfterTurn};
-ghost use Rattle.st_commands.specs.Texts.{fault_text};
 
 use crate::error::{Fault, LineError};
 use crate::line::{LineEnd, LineSoFar};
@@ -327,8 +325,7 @@ pub fn answer_frames<A: Allocator + Copy, R: Read + Counted, W: Write + Counted>
 
 /// Tells a fault, as far as the writer takes it. The status of a fault.
 pub(crate) fn tell_fault<E: Write + Counted>(errors: &mut E, fault: Fault) -> u8
-    ensures status { result ≡ 1 }
-    ensures text { WritesPart (fault_text (fault_number fault)) (E.contents errors.old) (E.contents errors.new) }
+    ensures { TellsFault fault (E.contents errors.old) (E.contents errors.new) result }
 {
     let since = errors.faults();
     let mut turns = u64::from(TURNS);
@@ -343,13 +340,9 @@ pub fn run_frames<A: Allocator + Copy, R: Read + Counted, W: Write + Counted, E:
     writer: &mut W,
     errors: &mut E,
 ) -> u8
-    ensures status { result ≤ 1 }
-    ensures taken { result ≡ 0 → (errors.new ≡ errors.old) × IfSome (R.remaining reader.old) (λ input.
-        WritesAnswer input false (W.contents writer.old) (W.contents writer.new)) }
-    ensures refused { result ≡ 1 → ((errors.new ≡ errors.old) × IfSome (R.remaining reader.old) (λ input.
-        WritesAnswer input true (W.contents writer.old) (W.contents writer.new)))
-        ⊎ ((fault : Fault) × WritesPart (fault_text (fault_number fault)) (E.contents errors.old) (E.contents errors.new)) }
-    ensures part { IfSome (R.remaining reader.old) (λ input. BeginsAnswer input (W.contents writer.old) (W.contents writer.new)) }
+    ensures { RunsFrames (R.remaining reader.old) (W.contents writer.old) (W.contents writer.new)
+        (IsCounted (R.fault_count reader.old) (R.fault_count reader.new) (W.fault_count writer.old) (W.fault_count writer.new))
+        E.contents errors.old errors.new result }
 {
     match answer_frames(alloc, reader, writer, TURNS) {
         Ok(Lines::AllTaken) => 0,

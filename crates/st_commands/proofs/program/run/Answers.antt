@@ -1,0 +1,16 @@
+use Rattle.std.proofs.Common.{◌≡◌, ap, subst, map, [], refl, inl, inr}
+use Rattle.clap.specs.Words.{HasKind, Kinds}
+use Rattle.st_commands.specs.Words.{refusals}
+use Rattle.st_commands.proofs.WordsTaken.{takes, takes_only}
+use Rattle.st_commands.proofs.program.run.Goals as goal
+
+pub returns-in-Ok-Frames-clause-told : goal.returns-in-Ok-Frames-clause-told
+returns-in-Ok-Frames-clause-told g c = λ other. absurd (other (takes_only (map g.S.AsStr.text c.args.words.now) c.in-Ok-Frames.ensures))
+
+pub returns-in-Err-clause-frames : goal.returns-in-Err-clause-frames
+returns-in-Err-clause-frames g c = λ asks.
+    let none : refusals (map g.S.AsStr.text c.args.words.now) ≡ [] = takes (map g.S.AsStr.text c.args.words.now) asks in
+    elim (subst (λ (kinds : Kinds). HasKind kinds c.in-Err.error) none c.in-Err.ensures) [
+      | inl memory ↦ inr (refl, c.tell.ensures.memory memory)
+      | inr wrong ↦ absurd wrong
+    ]
