@@ -199,6 +199,7 @@ fn turn<A: Allocator + Copy, R: Read + Counted, W: Write + Counted>(
     ensures bounded { IfOk result (λ is_end. (is_end ≡ false) → lines.new.index + lines.new.line.count ≤ lines.old.index + lines.old.line.count + 4096) }
     ensures input { IfErr result (λ e. (e ≡ Fault.Input) → Rose since.reader (R.fault_count reader.new)) }
     ensures output { IfErr result (λ e. (e ≡ Fault.Output) → Rose since.writer (W.fault_count writer.new)) }
+    ensures out_of_turns { IfErr result (λ e. (e ≡ Fault.Turns) → turns.new ≡ 0) }
     ensures turns { turns.new ≤ turns.old }
 {
     let mut buf = [0; PIECE];
@@ -235,6 +236,7 @@ fn answer_lines<A: Allocator + Copy, R: Read + Counted, W: Write + Counted>(
     ensures part { OnErr result (IfSome (R.remaining reader.old) (λ input. BeginsAnswer input (W.contents writer.old) (W.contents writer.new))) }
     ensures input { IfErr result (λ e. (e ≡ Fault.Input) → Rose since.reader (R.fault_count reader.new)) }
     ensures output { IfErr result (λ e. (e ≡ Fault.Output) → Rose since.writer (W.fault_count writer.new)) }
+    ensures out_of_turns { IfErr result (λ e. (e ≡ Fault.Turns) → turns.new ≡ 0) }
 {
     while *turns > 0 {
         *turns -= 1;
@@ -258,6 +260,7 @@ fn put_run<A: Allocator + Copy, W: Write + Counted>(
     ensures others { streams.new ≡ slice_set streams.old place None }
     ensures no_input { result ≢ Err Fault.Input }
     ensures output { IfErr result (λ e. (e ≡ Fault.Output) → Rose since (W.fault_count writer.new)) }
+    ensures out_of_turns { IfErr result (λ e. (e ≡ Fault.Turns) → turns.new ≡ 0) }
     ensures whole { OnOk result (Appends (W.contents writer.old) (W.contents writer.new) (run_line (place + 1) (slice_index_or streams.old place None))) }
     ensures part { WritesPart (run_line (place + 1) (slice_index_or streams.old place None)) (W.contents writer.old) (W.contents writer.new) }
 {
@@ -278,6 +281,7 @@ fn put_runs<A: Allocator + Copy, W: Write + Counted>(
 ) -> Result<(), Fault>
     ensures no_input { result ≢ Err Fault.Input }
     ensures output { IfErr result (λ e. (e ≡ Fault.Output) → Rose since (W.fault_count writer.new)) }
+    ensures out_of_turns { IfErr result (λ e. (e ≡ Fault.Turns) → turns.new ≡ 0) }
     ensures whole { OnOk result (Appends (W.contents writer.old) (W.contents writer.new) (runs_text streams)) }
     ensures part { WritesPart (runs_text streams) (W.contents writer.old) (W.contents writer.new) }
 {
