@@ -53,8 +53,8 @@ pub record RunsFrames {E : Type 0} (input before now : Option (List ℕ)) (count
 
 -- clap's answer was told: a mistake in the words to the writer for errors, e at the start and f now, help or the version
 -- to the other, w and v
-abbrev pub TellsAnswer : {W E : Type 0} → Kinds → (E → Option (List ℕ)) → W → W → E → E → ℕ → Type 0
-TellsAnswer kinds told w v e f status = ((status ≡ 2) × MayRefuse kinds × (v ≡ w))
+abbrev pub TellsAnswer : {W E : Type 0} → Kinds → (Fault → Type 0) → (E → Option (List ℕ)) → W → W → E → E → ℕ → Type 0
+TellsAnswer kinds counted told w v e f status = ((status ≡ 2) × MayRefuse kinds × (v ≡ w))
     ⊎ ((status ≡ 0) × MayShow kinds × (f ≡ e))
-    ⊎ (MayShow kinds × ((x : Fault) × TellsFault x (told e) (told f) status))
+    ⊎ (MayShow kinds × ((x : Fault) × counted x × TellsFault x (told e) (told f) status))
     ⊎ LacksMemory w v (told e) (told f) status

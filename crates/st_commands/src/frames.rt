@@ -294,33 +294,34 @@ fn put_runs<A: Allocator + Copy, W: Write + Counted>(
 
 /// Answers each line of the reader's input, one plain STREAM packet of a Prepare (RFC 0029) in hexadecimal: a refused
 /// line changes nothing and is told at once; at the end each stream that an accepted StreamData frame named has its
-/// longest run written. Empty lines are skipped. At a fault what was written is the beginning of such an answer; a fault
-/// of the reader or the writer is told only where its count of errors rose.
+/// longest run written. Empty lines are skipped. Each call of a device takes one of `turns`. At a fault what was written
+/// is the beginning of such an answer; a fault of a device is told only where its count of errors rose.
 pub fn answer_frames<A: Allocator + Copy, R: Read + Counted, W: Write + Counted>(
     alloc: A,
     reader: &mut R,
     writer: &mut W,
-    turns: u32,
+    turns: &mut u64,
 ) -> Result<Lines, Fault>
+    requires { turns.old < 2 ^ 32 }
     ensures answered { IfOk result (λ lines. IfSome (R.remaining reader.old) (λ input.
         WritesAnswer input (has_refusal lines) (W.contents writer.old) (W.contents writer.new))) }
     ensures part { IfSome (R.remaining reader.old) (λ input. BeginsAnswer input (W.contents writer.old) (W.contents writer.new)) }
     ensures input { IfErr result (λ e. (e ≡ Fault.Input) → Rose (R.fault_count reader.old) (R.fault_count reader.new)) }
     ensures output { IfErr result (λ e. (e ≡ Fault.Output) → Rose (W.fault_count writer.old) (W.fault_count writer.new)) }
+    ensures out_of_turns { IfErr result (λ e. (e ≡ Fault.Turns) → turns.new ≡ 0) }
 {
     let since = Since {
         reader: reader.faults(),
         writer: writer.faults(),
     };
-    let mut turns = u64::from(turns);
     let mut lines = Reader::new(alloc)?;
-    answer_lines(&mut lines, reader, writer, since, &mut turns)?;
+    answer_lines(&mut lines, reader, writer, since, turns)?;
     let Reader {
         streams,
         refused,
         ..
     } = lines;
-    put_runs(alloc, streams, writer, since.writer, &mut turns)?;
+    put_runs(alloc, streams, writer, since.writer, turns)?;
     if refused {
         return Ok(Lines::SomeRefused);
     }
@@ -348,7 +349,8 @@ pub fn run_frames<A: Allocator + Copy, R: Read + Counted, W: Write + Counted, E:
         (IsCounted (R.fault_count reader.old) (R.fault_count reader.new) (W.fault_count writer.old) (W.fault_count writer.new))
         E.contents errors.old errors.new result }
 {
-    match answer_frames(alloc, reader, writer, TURNS) {
+    let mut turns = u64::from(TURNS);
+    match answer_frames(alloc, reader, writer, &mut turns) {
         Ok(Lines::AllTaken) => 0,
         Ok(Lines::SomeRefused) => 1,
         Err(fault) => tell_fault(errors, fault),

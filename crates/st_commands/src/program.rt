@@ -1,6 +1,6 @@
 //! The program, over its words and its three streams.
 
-ghost use Rattle.std.specs.Prelude.{◌≡◌, ◌≤◌, ◌⊎◌, map};
+ghost use Rattle.std.specs.Prelude.{◌≡◌, ◌≤◌, ◌⊎◌, ℕ, map};
 ghost use Rattle.clap.specs.Words.{HasKind, Kinds, kind_of};
 ghost use Rattle.st_commands.specs.Endings.{IsCounted, LacksMemory, RunsFrames, TellsAnswer, TellsFault};
 ghost use Rattle.st_commands.specs.Words.{AsksFrames, after_name, refusals};
@@ -23,8 +23,9 @@ fn show<W: Write + Counted, E: Write + Counted>(
     errors: &mut E,
     error: &Error,
 ) -> u8
-    ensures { ((result ≡ 0) × (errors.new ≡ errors.old)) ⊎ LacksMemory writer.old writer.new (E.contents errors.old) (E.contents errors.new) result
-        ⊎ ((x : Fault) × TellsFault x (E.contents errors.old) (E.contents errors.new) result) }
+    ensures { (r s : ℕ) → ((result ≡ 0) × (errors.new ≡ errors.old))
+        ⊎ ((x : Fault) × IsCounted r s (W.fault_count writer.old) (W.fault_count writer.new) x × TellsFault x (E.contents errors.old) (E.contents errors.new) result)
+        ⊎ LacksMemory writer.old writer.new (E.contents errors.old) (E.contents errors.new) result }
 {
     let Ok(text) = format!(in alloc; "{error}") else {
         return tell_fault(errors, Fault::NoMemory);
@@ -58,7 +59,9 @@ fn tell<W: Write + Counted, E: Write + Counted>(
     error: &Error,
 ) -> u8
     ensures memory { kind_of error.now ≡ ErrorKind.OutOfMemory → LacksMemory writer.old writer.new (E.contents errors.old) (E.contents errors.new) result }
-    ensures told { (kinds : Kinds) → HasKind kinds error.now → TellsAnswer kinds E.contents writer.old writer.new errors.old errors.new result }
+    ensures told { (r s : ℕ) (kinds : Kinds) → HasKind kinds error.now
+        → TellsAnswer kinds (IsCounted r s (W.fault_count writer.old) (W.fault_count writer.new)) E.contents writer.old writer.new errors.old errors.new result }
+    ensures status { result ≤ 2 }
 {
     match error.kind() {
         ErrorKind::OutOfMemory => tell_fault(errors, Fault::NoMemory),
@@ -83,7 +86,9 @@ pub fn run<S: AsStr, R: Read + Counted, W: Write + Counted, E: Write + Counted>(
         E.contents errors.old errors.new result
         ⊎ ((reader.new ≡ reader.old) × LacksMemory writer.old writer.new (E.contents errors.old) (E.contents errors.new) result) }
     ensures told { ¬ (AsksFrames (after_name (map S.text words.now)))
-        → (reader.new ≡ reader.old) × TellsAnswer (refusals (map S.text words.now)) E.contents writer.old writer.new errors.old errors.new result }
+        → (reader.new ≡ reader.old) × TellsAnswer (refusals (map S.text words.now))
+        (IsCounted (R.fault_count reader.old) (R.fault_count reader.new) (W.fault_count writer.old) (W.fault_count writer.new))
+        E.contents writer.old writer.new errors.old errors.new result }
     ensures status { result ≤ 2 }
 {
     match read(alloc, words) {

@@ -14,3 +14,7 @@ returns-in-Err-clause-frames g c = λ asks.
       | inl memory ↦ inr (refl, c.tell.ensures.memory memory)
       | inr wrong ↦ absurd wrong
     ]
+
+pub returns-in-Err-clause-told : goal.returns-in-Err-clause-told
+returns-in-Err-clause-told g c = λ other.
+    (refl, c.tell.ensures.told (g.R.Counted.fault_count c.args.reader.now) (g.R.Counted.fault_count c.args.reader.now) (refusals (map g.S.AsStr.text c.args.words.now)) c.in-Err.ensures)
