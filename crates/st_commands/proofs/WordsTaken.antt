@@ -13,7 +13,7 @@ use Rattle.std.specs.Option.{option_map_or}
 use Rattle.clap.specs.Walk.{after_flag, arg_by_index, bundle_met, bundle_step, long_or_other, plain, short_or_plain, trailing, value, Held, Names, Row, Walk, arg_by_long, arg_by_short, idle, nothing_held, subcommand_met, subcommand_or_other, takes_values, walk, walk_from, walked}
 use Rattle.clap.proofs.WalkLemmas.{walk_stopped}
 use Rattle.clap.proofs.OnLiterals.{clap_on_literals}
-use Rattle.st_commands.specs.Words.{AsksFrames, after_name, program, refusals}
+use Rattle.st_commands.specs.Words.{AsksFrames, AsksToShow, MayRefuse, after_name, program, refusals}
 
 pub is_simple_program : is_simple_and_free program ≡ true
 is_simple_program = refl
@@ -224,3 +224,59 @@ asked (w ∷ words) h =
 -- clap takes no other words
 pub takes_only : (words : List Text) → refusals words ≡ [] → AsksFrames (after_name words)
 takes_only words h = asked (after_name words) h
+
+-- ---- help and the version
+
+abbrev IsShown : Kinds → Type 0
+IsShown kinds = (kinds ≡ kind.DisplayHelp ∷ []) ⊎ (kinds ≡ kind.DisplayVersion ∷ [])
+
+shows_help : faults (codes "--help" ∷ []) ≡ kind.DisplayHelp ∷ []
+unfolding clap_on_literals
+shows_help = refl
+
+shows_short_help : faults (codes "-h" ∷ []) ≡ kind.DisplayHelp ∷ []
+unfolding clap_on_literals
+shows_short_help = refl
+
+shows_help_of_frames : faults (codes "frames" ∷ codes "--help" ∷ []) ≡ kind.DisplayHelp ∷ []
+unfolding clap_on_literals
+shows_help_of_frames = refl
+
+shows_short_help_of_frames : faults (codes "frames" ∷ codes "-h" ∷ []) ≡ kind.DisplayHelp ∷ []
+unfolding clap_on_literals
+shows_short_help_of_frames = refl
+
+shows_version : faults (codes "--version" ∷ []) ≡ kind.DisplayVersion ∷ []
+unfolding clap_on_literals
+shows_version = refl
+
+shows_short_version : faults (codes "-V" ∷ []) ≡ kind.DisplayVersion ∷ []
+unfolding clap_on_literals
+shows_short_version = refl
+
+shows : (ws : List Text) → AsksToShow ws → IsShown (faults ws)
+shows ws (inl e) = inl (ap faults e ∙ shows_help)
+shows ws (inr (inl e)) = inl (ap faults e ∙ shows_short_help)
+shows ws (inr (inr (inl e))) = inl (ap faults e ∙ shows_help_of_frames)
+shows ws (inr (inr (inr (inl e)))) = inl (ap faults e ∙ shows_short_help_of_frames)
+shows ws (inr (inr (inr (inr (inl e))))) = inr (ap faults e ∙ shows_version)
+shows ws (inr (inr (inr (inr (inr e))))) = inr (ap faults e ∙ shows_short_version)
+
+only_shown : (kinds : Kinds) → IsShown kinds → ¬ (MayRefuse kinds)
+only_shown kinds (inl e) may = elim (rw e at may.1) [
+  | inl is ↦ may.2 is
+  | inr none ↦ none
+]
+only_shown kinds (inr e) may = elim (rw e at may.1) [
+  | inl is ↦ may.3 is
+  | inr none ↦ none
+]
+
+pub shown_is_no_mistake : (words : List Text) → AsksToShow (after_name words) → ¬ (MayRefuse (refusals words))
+shown_is_no_mistake words h = only_shown (refusals words) (shows (after_name words) h)
+
+pub shown_is_not_taken : (words : List Text) → AsksToShow (after_name words) → refusals words ≢ []
+shown_is_not_taken words h e = elim (shows (after_name words) h) [
+  | inl help ↦ let wrong : [] ≡ kind.DisplayHelp ∷ [] = sym e ∙ help in absurd (cc)
+  | inr version ↦ let wrong : [] ≡ kind.DisplayVersion ∷ [] = sym e ∙ version in absurd (cc)
+]

@@ -10,6 +10,12 @@ abbrev pub AsksFrames : List Text → Type 0
 AsksFrames words = (words ≡ []) ⊎ (words ≡ codes "frames" ∷ [])
     ⊎ (words ≡ codes "--" ∷ []) ⊎ (words ≡ codes "frames" ∷ codes "--" ∷ [])
 
+-- what follows the program's name asks for help or the version
+abbrev pub AsksToShow : List Text → Type 0
+AsksToShow words = (words ≡ codes "--help" ∷ []) ⊎ (words ≡ codes "-h" ∷ [])
+    ⊎ (words ≡ codes "frames" ∷ codes "--help" ∷ []) ⊎ (words ≡ codes "frames" ∷ codes "-h" ∷ [])
+    ⊎ (words ≡ codes "--version" ∷ []) ⊎ (words ≡ codes "-V" ∷ [])
+
 -- the words after the first, which is the program's name
 abbrev pub after_name : List Text → List Text
 after_name words = drop 1 words

@@ -3,7 +3,7 @@
 ghost use Rattle.std.specs.Prelude.{◌≡◌, ◌≤◌, ◌⊎◌, ℕ, map};
 ghost use Rattle.clap.specs.Words.{HasKind, Kinds, kind_of};
 ghost use Rattle.st_commands.specs.Endings.{IsCounted, LacksMemory, RunsFrames, TellsAnswer, TellsFault};
-ghost use Rattle.st_commands.specs.Words.{AsksFrames, after_name, refusals};
+ghost use Rattle.st_commands.specs.Words.{AsksFrames, AsksToShow, after_name, refusals};
 
 use crate::error::Fault;
 use crate::frames::{TURNS, run_frames, tell_fault};
@@ -89,6 +89,7 @@ pub fn run<S: AsStr, R: Read + Counted, W: Write + Counted, E: Write + Counted>(
         → (reader.new ≡ reader.old) × TellsAnswer (refusals (map S.text words.now))
         (IsCounted (R.fault_count reader.old) (R.fault_count reader.new) (W.fault_count writer.old) (W.fault_count writer.new))
         E.contents writer.old writer.new errors.old errors.new result }
+    ensures shown { AsksToShow (after_name (map S.text words.now)) → result ≤ 1 }
     ensures status { result ≤ 2 }
 {
     match read(alloc, words) {
