@@ -1,5 +1,5 @@
 -- Lines one after another, answered as they stream past.
-use Rattle.std.proofs.Common.{◌≡◌, ◌≢◌, ◌<◌, ◌≤◌, ◌⊎◌, ℕ, zero, suc, ◌+◌, ◌==◌, Bool, true, false, ◌||◌, List, [], ◌∷◌, ◌++◌, length, take, drop, get_or, set, add-one, Option, Some, None, Ok, Err, refl, sym, ap, subst, ◌∙◌, inl, inr, arith, append_assoc, append-nil}
+use Rattle.std.proofs.Common.{◌≡◌, ◌<◌, ◌≤◌, ℕ, suc, ◌+◌, ◌==◌, Bool, true, false, ◌||◌, List, [], ◌∷◌, ◌++◌, length, take, drop, get_or, set, add-one, Option, Some, None, Ok, Err, refl, sym, ap, subst, ◌∙◌, inl, inr, arith, append_assoc, append-nil}
 use Rattle.std.specs.Prelude.{is_some, IsOk, IfSome, OnErr, Result}
 use Rattle.std.specs.List.{All, slice_split}
 use Rattle.std.specs.Str.Lines.{lines, lines_of_parts, strip_carriage_return}
@@ -16,9 +16,9 @@ use Rattle.st_commands.specs.declared.error.LineError.{LineError}
 use Rattle.st_commands.specs.declared.line.LineEnd.{LineEnd}
 use Rattle.st_commands.specs.Answers.{Answered, ended, skipped, taken, refused, no_memory, IsAnswer, after_line, packet_of_line, by_packet, prepare}
 use Rattle.st_commands.specs.Drafts as drafts
-use Rattle.st_commands.specs.Inboxes.{Inboxes, opening, after_packet, run_line, runs_from, runs_text}
+use Rattle.st_commands.specs.Inboxes.{Inboxes, opening, run_line, runs_from, runs_text}
 use Rattle.st_commands.specs.Texts.{line_text}
-use Rattle.st_commands.specs.LineSoFar.{LineState, StandsFor, no_line, text_of_line}
+use Rattle.st_commands.specs.LineSoFar.{StandsFor, no_line, text_of_line}
 use Rattle.st_commands.specs.Progress.{State, at_start, told, HasPacketEffect, HasEffect, AnswersLine, MayBegin, MayFollow, AnswersPiece, Covers, CoversLines}
 use Rattle.st_commands.specs.Endings.{BeginsAnswer, WritesAnswer, WritesPart}
 use Rattle.st_commands.proofs.LinesSoFar.{stands_empty}
@@ -81,18 +81,26 @@ answers_line s t l (Some e) effect next noted = elim effect.2 [
 -- a byte within a line
 pub answers_byte : (s t : State) (b : ℕ) → t.index ≡ s.index → t.inboxes ≡ s.inboxes → t.refused ≡ s.refused → ((line : List ℕ) → StandsFor s.line line → StandsFor t.line (line ++ b ∷ []))
     → AnswersPiece s (b ∷ []) [] t
-answers_byte s t b index inboxes flag stays = λ line stands. (line ++ b ∷ [], stays line stands, λ left text any f.
-    let same : (line ++ b ∷ []) ++ left ≡ line ++ b ∷ left = append_assoc line (b ∷ []) left in
-    let answered = rw (index, inboxes, same) at f.1 in
-    let flags = rw flag at f.2 in
-    (f.0, answered, flags))
+answers_byte s t b index inboxes flag stays = λ line stands. (
+  line ++ b ∷ [],
+  stays line stands,
+  λ left text any f.
+      let same : (line ++ b ∷ []) ++ left ≡ line ++ b ∷ left = append_assoc line (b ∷ []) left in
+      let answered = rw (index, inboxes, same) at f.1 in
+      let flags = rw flag at f.2 in
+      (f.0, answered, flags),
+)
 
 -- a newline
 pub answers_newline : (s t : State) (said : List ℕ) → t.line ≡ no_line → ((line : List ℕ) → StandsFor s.line line → AnswersLine s (strip_carriage_return line) said t) → AnswersPiece s (10 ∷ []) said t
-answers_newline s t said fresh answers = λ line stands. ([], stands_empty t.line fresh, λ left text any f.
-    let a = answers line stands (lines left) text f.0 f.1 in
-    let first : lines (line ++ 10 ∷ left) ≡ strip_carriage_return line ∷ lines left = lines-newline line left stands.one_line in
-    (a.0, rw first a.1, a.2 ∙ f.2))
+answers_newline s t said fresh answers = λ line stands. (
+  [],
+  stands_empty t.line fresh,
+  λ left text any f.
+      let a = answers line stands (lines left) text f.0 f.1 in
+      let first : lines (line ++ 10 ∷ left) ≡ strip_carriage_return line ∷ lines left = lines-newline line left stands.one_line in
+      (a.0, rw first a.1, a.2 ∙ f.2),
+)
 
 -- a piece after a piece
 pub answers_more : (s t r : State) (piece more said also : List ℕ) → AnswersPiece s piece said t → AnswersPiece t more also r → AnswersPiece s (piece ++ more) (said ++ also) r
@@ -307,9 +315,13 @@ TakesTo s piece before after t = (said : List ℕ) × (after ≡ before ++ said)
 -- a piece of which the first i bytes were taken before a call that said nothing
 pub begins_taken : (s t : State) (piece : List ℕ) (i : ℕ) (before now after : List ℕ) → TakesTo s (take i piece) before now t → after ≡ now
     → (said : List ℕ) × (after ≡ before ++ said) × ((left : List ℕ) → MayBegin s (piece ++ left) said)
-begins_taken s t piece i before now after h same = (h.0, same ∙ h.1, λ left.
-    let whole : take i piece ++ (drop i piece ++ left) ≡ piece ++ left = sym (append_assoc (take i piece) (drop i piece) left) ∙ ap (λ (x : List ℕ). x ++ left) (take-append-drop i piece) in
-    subst (λ (x : List ℕ). MayBegin s x h.0) whole (begins_piece s t (take i piece) h.0 (drop i piece ++ left) h.2))
+begins_taken s t piece i before now after h same = (
+  h.0,
+  same ∙ h.1,
+  λ left.
+      let whole : take i piece ++ (drop i piece ++ left) ≡ piece ++ left = sym (append_assoc (take i piece) (drop i piece) left) ∙ ap (λ (x : List ℕ). x ++ left) (take-append-drop i piece) in
+      subst (λ (x : List ℕ). MayBegin s x h.0) whole (begins_piece s t (take i piece) h.0 (drop i piece ++ left) h.2),
+)
 
 pub takes_more : (s t r : State) (piece : List ℕ) (i : ℕ) (out next last : List ℕ) → i < length piece → TakesTo s (take i piece) out next t → TakesTo t (get_or piece i 0 ∷ []) next last r
     → TakesTo s (take (i + 1) piece) out last r

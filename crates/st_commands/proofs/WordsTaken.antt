@@ -1,16 +1,16 @@
 -- Which words clap takes for the program.
-use Rattle.std.proofs.Common.{◌≡◌, ◌≢◌, ◌⊎◌, ◌||◌, ℕ, Bool, true, false, not, true≢false, List, [], ◌∷◌, ◌++◌, codes, drop, length, Option, Some, None, refl, sym, ap, subst, ◌∙◌, inl, inr}
-use Rattle.std.specs.Prelude.{if◌then◌else◌, find, slice_get, option_map, is_some, unwrap_or}
+use Rattle.std.proofs.Common.{◌≡◌, ◌≢◌, ◌⊎◌, ◌||◌, ℕ, Bool, true, false, List, [], ◌∷◌, codes, length, Option, Some, None, refl, sym, ap, subst, ◌∙◌, inl, inr}
+use Rattle.std.specs.Prelude.{if◌then◌else◌, find, slice_get, option_map, unwrap_or}
 use Rattle.std.specs.Str.{bytes_eq, chars}
 use Rattle.std.proofs.lemmas.Slice.Eq.{bytes_eq-Decides}
-use Rattle.clap.specs.Words.{App, Kinds, Rule, Shape, Text, fault_of, is_simple, IsAmong}
+use Rattle.clap.specs.Words.{Kinds, Rule, Shape, Text}
 use Rattle.clap.specs.declared.error.kind.ErrorKind.TheVariants as kind
 use Rattle.clap.specs.Faults.{bundle_step_fault, stray_fault, bundle_fault, built_fault, flag_word_fault, flags_fault, is_simple_and_free, long_fault, other_fault, short_fault, step_fault, turn_fault, use_fault, walk_fault, entered_fault}
 use Rattle.clap.specs.Kinds.{or_else}
 use Rattle.clap.specs.Lexer.{long_of, short_of}
-use Rattle.clap.specs.Simple.{built, built_leaf, entered, inherited, marked_built, names_of, new_shape}
+use Rattle.clap.specs.Simple.{built, built_leaf, inherited, marked_built, names_of, new_shape}
 use Rattle.std.specs.Option.{option_map_or}
-use Rattle.clap.specs.Walk.{after_flag, arg_by_index, bundle_met, bundle_step, long_or_other, plain, short_or_plain, trailing, value, Held, Names, Row, Walk, arg_by_long, arg_by_short, idle, nothing_held, subcommand_met, subcommand_or_other, takes_values, walk, walk_from, walked}
+use Rattle.clap.specs.Walk.{after_flag, arg_by_index, bundle_met, bundle_step, long_or_other, plain, short_or_plain, trailing, value, Held, Names, Row, Walk, arg_by_long, arg_by_short, idle, nothing_held, subcommand_or_other, takes_values, walk, walk_from, walked}
 use Rattle.clap.proofs.WalkLemmas.{walk_stopped}
 use Rattle.clap.proofs.OnLiterals.{clap_on_literals}
 use Rattle.st_commands.specs.Words.{AsksFrames, AsksToShow, MayRefuse, after_name, program, refusals}

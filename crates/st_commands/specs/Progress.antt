@@ -1,5 +1,5 @@
 -- How far the answer has come, in the middle of the input.
-use Rattle.std.specs.Prelude.{◌≡◌, ◌⊎◌, ◌<◌, length, Result, Ok, Err, IsOk, ℕ, ◌+◌, Bool, true, false, ◌||◌, List, [], ◌∷◌, ◌++◌, Option, Some, None, ⊤}
+use Rattle.std.specs.Prelude.{◌≡◌, ◌⊎◌, ◌<◌, length, Result, Ok, Err, IsOk, ℕ, Bool, true, false, ◌||◌, List, [], ◌∷◌, ◌++◌, Option, Some, None, ⊤}
 use Rattle.std.specs.Io.KnownBytes.{Appends}
 use Rattle.std.specs.Str.Lines.{lines}
 use Rattle.st_commands.specs.Answers.{Answered, IsAnswer, after_line, packet_of_line}

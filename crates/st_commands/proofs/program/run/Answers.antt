@@ -1,4 +1,4 @@
-use Rattle.std.proofs.Common.{◌≡◌, ap, subst, map, [], refl, inl, inr, arith}
+use Rattle.std.proofs.Common.{◌≡◌, subst, map, [], refl, inl, inr, arith}
 use Rattle.clap.specs.Words.{HasKind, Kinds}
 use Rattle.st_commands.specs.Words.{refusals}
 use Rattle.st_commands.proofs.WordsTaken.{shown_is_no_mistake, shown_is_not_taken, takes, takes_only}
