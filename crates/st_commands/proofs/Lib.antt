@@ -2,3 +2,4 @@ pub mod Pieces
 pub mod Overs
 pub mod LinesSoFar
 pub mod Progressing
+pub mod WordsTaken

@@ -1,5 +1,5 @@
 -- What the line so far stands for.
-use Rattle.std.proofs.Common.{◌≡◌, ◌≢◌, ◌<◌, ◌≤◌, ◌⊎◌, ◌↔◌, ℕ, zero, suc, ◌+◌, ◌-◌, ◌*◌, ◌%◌, ◌==◌, nat_lt, Bool, true, false, if◌then◌else◌, List, [], ◌∷◌, ◌++◌, length, take, slice_index, Result, Ok, Err, refl, sym, ap, subst, ◌∙◌, inl, inr, arith}
+use Rattle.std.proofs.Common.{◌≡◌, ◌≢◌, ◌<◌, ◌≤◌, ℕ, ◌+◌, ◌-◌, ◌*◌, ◌%◌, ◌==◌, nat_lt, true, false, if◌then◌else◌, List, [], ◌∷◌, ◌++◌, length, take, slice_index, Result, Ok, Err, refl, sym, ap, subst, ◌∙◌, inl, inr, arith}
 use Rattle.std.specs.List.{All, AllPass}
 use Rattle.std.specs.Char.{is_ascii_hexdigit}
 use Rattle.std.specs.Str.Lines.{strip_carriage_return}
@@ -19,7 +19,7 @@ use Rattle.st_commands.specs.declared.line.Shape.{Shape}
 use Rattle.st_commands.specs.declared.line.Shape.TheVariants as shape
 use Rattle.st_commands.specs.declared.line.LineEnd.{LineEnd}
 use Rattle.st_commands.specs.declared.line.LineEnd.TheVariants.{Newline, InputEnd}
-use Rattle.st_commands.specs.Answers.{packet_of_line, packet_of_bytes, by_packet, prepare}
+use Rattle.st_commands.specs.Answers.{packet_of_line, packet_of_bytes}
 use Rattle.st_commands.specs.LineSoFar.{LineState, AreDigits, HasOther, IsSpoiled, HasShape, StandsFor, most_digits, no_line, text_of_line, with_digit}
 
 same_digit : (b : ℕ) → is_ascii_hexdigit b ≡ is_hex_digit b

@@ -1,5 +1,5 @@
 -- Inboxes that a packet changes, beside those that stand.
-use Rattle.std.specs.Prelude.{◌≡◌, ◌⊎◌, ℕ, List, [], ◌∷◌, Option, Some, None, Result, Ok, Err, IsOk}
+use Rattle.std.specs.Prelude.{◌≡◌, ◌⊎◌, [], ◌∷◌, Result, Err, IsOk}
 use Rattle.std.specs.Option.{option_or}
 use Rattle.st_frames.specs.Frames.{Packet}
 use Rattle.st_reassembly.specs.declared.error.InboxError.TheVariants as inbox

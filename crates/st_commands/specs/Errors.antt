@@ -1,5 +1,5 @@
 -- The numbers by which refused lines and faults are known.
-use Rattle.std.specs.Prelude.{ℕ, Option, Some, None}
+use Rattle.std.specs.Prelude.{ℕ, Option, None}
 use Rattle.st_frames.specs.Errors as frames
 use Rattle.st_reassembly.specs.Errors as reassembly
 use Rattle.st_commands.specs.declared.error.LineError.{LineError}

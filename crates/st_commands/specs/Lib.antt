@@ -5,4 +5,5 @@ pub mod Drafts
 pub mod Answers
 pub mod LineSoFar
 pub mod Progress
+pub mod Words
 pub mod Endings

@@ -1,5 +1,5 @@
 -- How far the answer has come, in the middle of the input.
-use Rattle.std.specs.Prelude.{◌≡◌, ◌⊎◌, ◌<◌, length, Result, Ok, Err, IsOk, ℕ, ◌+◌, Bool, true, false, ◌||◌, List, [], ◌∷◌, ◌++◌, Option, Some, None, ⊤}
+use Rattle.std.specs.Prelude.{◌≡◌, ◌⊎◌, ◌<◌, length, Result, Ok, Err, IsOk, ℕ, Bool, true, false, ◌||◌, List, [], ◌∷◌, ◌++◌, Option, Some, None, ⊤}
 use Rattle.std.specs.Io.KnownBytes.{Appends}
 use Rattle.std.specs.Str.Lines.{lines}
 use Rattle.st_commands.specs.Answers.{Answered, IsAnswer, after_line, packet_of_line}
@@ -41,21 +41,25 @@ abbrev pub AnswersLine : State → List ℕ → List ℕ → State → Type 0
 AnswersLine s l said t = (ls : List (List ℕ)) (text : List ℕ) (later : Bool) → Answered t.index t.inboxes ls text later
     → (all : Bool) × Answered s.index s.inboxes (l ∷ ls) (said ++ text) all × ((s.refused || all) ≡ (t.refused || later))
 
--- text may follow for the bytes that are left, and any tells whether some line of the input is refused
-abbrev pub MayFollow : State → List ℕ → List ℕ → Bool → Type 0
-MayFollow s left text any = (line : List ℕ) → StandsFor s.line line
-    → (later : Bool) × Answered s.index s.inboxes (lines (line ++ left)) text later × ((s.refused || later) ≡ any)
+-- after a line so far, this text may follow for the bytes that are left; `any` tells whether some line of the input is refused
+abbrev pub MayFollow : State → List ℕ → List ℕ → List ℕ → Bool → Type 0
+MayFollow s line left text any = (later : Bool) × Answered s.index s.inboxes (lines (line ++ left)) text later × ((s.refused || later) ≡ any)
 
 -- a piece takes s to t, and `said` is written for it
 abbrev pub AnswersPiece : State → List ℕ → List ℕ → State → Type 0
-AnswersPiece s piece said t = (left text : List ℕ) (any : Bool) → MayFollow t left text any → MayFollow s (piece ++ left) (said ++ text) any
+AnswersPiece s piece said t = (line : List ℕ) → StandsFor s.line line → (next : List ℕ) × StandsFor t.line next
+    × ((left text : List ℕ) (any : Bool) → MayFollow t next left text any → MayFollow s line (piece ++ left) (said ++ text) any)
+
+-- `said` is written for the bytes that are left, and some text may follow it
+abbrev pub MayBegin : State → List ℕ → List ℕ → Type 0
+MayBegin s left said = (line : List ℕ) → StandsFor s.line line → (text : List ℕ) × (any : Bool) × MayFollow s line left (said ++ text) any
 
 -- what was written for the input so far, and what may follow, is an answer to all of it
 abbrev pub Covers : Option (List ℕ) → Option (List ℕ) → Option (List ℕ) → Option (List ℕ) → State → Type 0
 Covers None left before now s = ⊤
 Covers (Some input) None before now s = ⊥
-Covers (Some input) (Some left) before now s = (done : List ℕ) × Appends before now done
-    × ((text : List ℕ) (any : Bool) → MayFollow s left text any → IsAnswer input (done ++ text) any)
+Covers (Some input) (Some left) before now s = (line : List ℕ) × StandsFor s.line line × ((done : List ℕ) × Appends before now done
+    × ((text : List ℕ) (any : Bool) → MayFollow s line left text any → IsAnswer input (done ++ text) any))
 
 -- all lines were answered, and the runs are still to be written
 abbrev pub CoversLines : Option (List ℕ) → Option (List ℕ) → Option (List ℕ) → State → Type 0

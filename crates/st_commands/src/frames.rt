@@ -1,16 +1,14 @@
 //! The command `frames`: lines of hexadecimal in, refusals and each stream's longest run out.
 
-ghost use Rattle.std.specs.Prelude.{◌≡◌, ◌≢◌, ◌⊎◌, ◌||◌, true, false, is_some, take, ◌+◌, ◌^◌, ◌<◌, ◌≤◌, ◌++◌, ◌∷◌, [], ℕ, List, Option, OnOk, IfOk, IfErr, IfSome, length, slice_index_or, slice_set, None};
+ghost use Rattle.std.specs.Prelude.{◌≡◌, ◌≢◌, ◌⊎◌, ◌||◌, true, false, is_some, take, ◌+◌, ◌^◌, ◌<◌, ◌≤◌, ◌++◌, ◌∷◌, [], ℕ, List, Option, OnOk, OnErr, IfOk, IfErr, IfSome, length, slice_index_or, slice_set, None};
 ghost use Rattle.std.specs.Io.KnownBytes.{Appends};
 ghost use Rattle.st_oer.specs.Faults.{Rose};
 ghost use Rattle.st_frames.specs.Reading.{packet_at};
 ghost use Rattle.st_commands.specs.Answers.{IsAnswer, by_packet, prepare};
-ghost use Rattle.st_commands.specs.Errors.{fault_number};
-ghost use Rattle.st_commands.specs.Endings.{has_refusal};
+ghost use Rattle.st_commands.specs.Endings.{has_refusal, BeginsAnswer, IsCounted, RunsFrames, TellsFault, WritesAnswer, WritesPart};
 ghost use Rattle.st_commands.specs.Inboxes.{run_line, runs_text};
 ghost use Rattle.st_commands.specs.LineSoFar.{StandsFor, no_line, text_of_line};
-ghost use Rattle.st_commands.specs.Progress.{at_start, told, HasPacketEffect, HasEffect, AnswersLine, AnswersPiece, MayFollow, Covers, CoversLines, AfterTurn};
-ghost use Rattle.st_commands.specs.Texts.{fault_text};
+ghost use Rattle.st_commands.specs.Progress.{at_start, told, HasPacketEffect, HasEffect, AnswersLine, AnswersPiece, MayBegin, MayFollow, Covers, CoversLines, AfterTurn};
 
 use crate::error::{Fault, LineError};
 use crate::line::{LineEnd, LineSoFar};
@@ -101,6 +99,7 @@ impl<A: Allocator + Copy> Reader<A> {
     /// Appends what a refused line prints.
     fn tell(&mut self, out: &mut Vec<u8, A>, refusal: Option<LineError>) -> Result<(), AllocError>
         ensures told { OnOk result (out.new.items ≡ out.old.items ++ told self.old.index refusal) }
+        ensures untold { OnErr result (out.new.items ≡ out.old.items) }
         ensures noted { OnOk result (self.new ≡ record self.old { refused = self.old.refused || is_some refusal }) }
     {
         let Some(error) = refusal else {
@@ -117,6 +116,7 @@ impl<A: Allocator + Copy> Reader<A> {
         requires { self.old.index + 1 < 2 ^ 64 }
         ensures answered { OnOk result ((said : List ℕ) × (out.new.items ≡ out.old.items ++ said)
             × ((line : List ℕ) → StandsFor self.old.line line → AnswersLine self.old (text_of_line end line) said self.new)) }
+        ensures untold { OnErr result (out.new.items ≡ out.old.items) }
         ensures next { OnOk result ((self.new.line ≡ no_line) × (self.new.index ≡ self.old.index + 1)) }
     {
         let refusal = self.answer(end)?;
@@ -137,6 +137,7 @@ impl<A: Allocator + Copy> Reader<A> {
     fn push(&mut self, out: &mut Vec<u8, A>, byte: u8) -> Result<(), AllocError>
         requires { self.old.index + self.old.line.count + 1 < 2 ^ 64 }
         ensures answered { OnOk result ((said : List ℕ) × (out.new.items ≡ out.old.items ++ said) × AnswersPiece self.old (byte ∷ []) said self.new) }
+        ensures untold { OnErr result (out.new.items ≡ out.old.items) }
         ensures bounded { OnOk result (self.new.index + self.new.line.count ≤ self.old.index + self.old.line.count + 1) }
     {
         if byte == b'\n' {
@@ -151,6 +152,7 @@ impl<A: Allocator + Copy> Reader<A> {
     fn feed(&mut self, out: &mut Vec<u8, A>, piece: &[u8]) -> Result<(), AllocError>
         requires { self.old.index + self.old.line.count + length piece.now < 2 ^ 64 }
         ensures answered { OnOk result ((said : List ℕ) × (out.new.items ≡ out.old.items ++ said) × AnswersPiece self.old piece.now said self.new) }
+        ensures part { (said : List ℕ) × (out.new.items ≡ out.old.items ++ said) × ((left : List ℕ) → MayBegin self.old (piece.now ++ left) said) }
         ensures bounded { OnOk result (self.new.index + self.new.line.count ≤ self.old.index + self.old.line.count + length piece.now) }
     {
         for byte in piece {
@@ -163,7 +165,8 @@ impl<A: Allocator + Copy> Reader<A> {
     fn finish(&mut self, out: &mut Vec<u8, A>) -> Result<(), AllocError>
         requires { self.old.index + 1 < 2 ^ 64 }
         ensures answered { OnOk result ((said : List ℕ) × (out.new.items ≡ out.old.items ++ said)
-            × MayFollow self.old [] (said ++ runs_text self.new.inboxes) self.new.refused) }
+            × ((line : List ℕ) → StandsFor self.old.line line → MayFollow self.old line [] (said ++ runs_text self.new.inboxes) self.new.refused)) }
+        ensures part { (said : List ℕ) × (out.new.items ≡ out.old.items ++ said) × MayBegin self.old [] said }
     {
         if self.line.is_empty(LineEnd::InputEnd) {
             return Ok(());
@@ -173,35 +176,46 @@ impl<A: Allocator + Copy> Reader<A> {
     }
 }
 
+/// What the devices' counts of errors were when the run began.
+#[derive(Clone, Copy)]
+struct Since {
+    reader: u64,
+    writer: u64,
+}
+
 /// One read, and what it makes known written. Whether that was the end.
 fn turn<A: Allocator + Copy, R: Read + Counted, W: Write + Counted>(
     lines: &mut Reader<A>,
     reader: &mut R,
     writer: &mut W,
-    since: u64,
+    since: Since,
     turns: &mut u64,
 ) -> Result<bool, Fault>
     requires { lines.old.index + lines.old.line.count < 2 ^ 63 }
     ensures covers { (input before : Option (List ℕ)) → Covers input (R.remaining reader.old) before (W.contents writer.old) lines.old
         → IfOk result (λ is_end. AfterTurn is_end input (R.remaining reader.new) before (W.contents writer.new) lines.new) }
+    ensures part { (input before : Option (List ℕ)) → Covers input (R.remaining reader.old) before (W.contents writer.old) lines.old
+        → OnErr result (IfSome input (λ bytes. BeginsAnswer bytes before (W.contents writer.new))) }
     ensures bounded { IfOk result (λ is_end. (is_end ≡ false) → lines.new.index + lines.new.line.count ≤ lines.old.index + lines.old.line.count + 4096) }
-    ensures input { IfErr result (λ e. (e ≡ Fault.Input) → Rose since (R.fault_count reader.new)) }
+    ensures input { IfErr result (λ e. (e ≡ Fault.Input) → Rose since.reader (R.fault_count reader.new)) }
+    ensures output { IfErr result (λ e. (e ≡ Fault.Output) → Rose since.writer (W.fault_count writer.new)) }
+    ensures out_of_turns { IfErr result (λ e. (e ≡ Fault.Turns) → turns.new ≡ 0) }
     ensures turns { turns.new ≤ turns.old }
 {
     let mut buf = [0; PIECE];
     let mut out = Vec::new(lines.alloc);
-    match read_turn(reader, &mut buf, since) {
+    match read_turn(reader, &mut buf, since.reader) {
         Turn::Again => Ok(false),
         Turn::Fault => Err(Fault::Input),
         Turn::Moved(0) => {
             let finished = lines.finish(&mut out);
-            put(writer, &out, turns)?;
+            put(writer, &out, since.writer, turns)?;
             finished?;
             Ok(true)
         }
         Turn::Moved(n) => {
             let fed = lines.feed(&mut out, &buf[..n]);
-            put(writer, &out, turns)?;
+            put(writer, &out, since.writer, turns)?;
             fed?;
             Ok(false)
         }
@@ -213,14 +227,17 @@ fn answer_lines<A: Allocator + Copy, R: Read + Counted, W: Write + Counted>(
     lines: &mut Reader<A>,
     reader: &mut R,
     writer: &mut W,
+    since: Since,
     turns: &mut u64,
 ) -> Result<(), Fault>
     requires start { lines.old ≡ at_start }
     requires turns { turns.old < 2 ^ 32 }
     ensures covers { OnOk result (CoversLines (R.remaining reader.old) (W.contents writer.old) (W.contents writer.new) lines.new) }
-    ensures input { IfErr result (λ e. (e ≡ Fault.Input) → Rose (R.fault_count reader.old) (R.fault_count reader.new)) }
+    ensures part { OnErr result (IfSome (R.remaining reader.old) (λ input. BeginsAnswer input (W.contents writer.old) (W.contents writer.new))) }
+    ensures input { IfErr result (λ e. (e ≡ Fault.Input) → Rose since.reader (R.fault_count reader.new)) }
+    ensures output { IfErr result (λ e. (e ≡ Fault.Output) → Rose since.writer (W.fault_count writer.new)) }
+    ensures out_of_turns { IfErr result (λ e. (e ≡ Fault.Turns) → turns.new ≡ 0) }
 {
-    let since = reader.faults();
     while *turns > 0 {
         *turns -= 1;
         if turn(lines, reader, writer, since, turns)? {
@@ -236,16 +253,20 @@ fn put_run<A: Allocator + Copy, W: Write + Counted>(
     streams: &mut Streams<A>,
     place: usize,
     writer: &mut W,
+    since: u64,
     turns: &mut u64,
 ) -> Result<(), Fault>
     requires { place < 64 }
     ensures others { streams.new ≡ slice_set streams.old place None }
     ensures no_input { result ≢ Err Fault.Input }
+    ensures output { IfErr result (λ e. (e ≡ Fault.Output) → Rose since (W.fault_count writer.new)) }
+    ensures out_of_turns { IfErr result (λ e. (e ≡ Fault.Turns) → turns.new ≡ 0) }
     ensures whole { OnOk result (Appends (W.contents writer.old) (W.contents writer.new) (run_line (place + 1) (slice_index_or streams.old place None))) }
+    ensures part { WritesPart (run_line (place + 1) (slice_index_or streams.old place None)) (W.contents writer.old) (W.contents writer.new) }
 {
     if let Some(bytes) = streams.take_run(place)? {
         let text = stream_line(alloc, place + 1, &bytes)?;
-        put(writer, text.as_bytes(), turns)?;
+        put(writer, text.as_bytes(), since, turns)?;
     }
     Ok(())
 }
@@ -255,41 +276,52 @@ fn put_runs<A: Allocator + Copy, W: Write + Counted>(
     alloc: A,
     streams: Streams<A>,
     writer: &mut W,
+    since: u64,
     turns: &mut u64,
 ) -> Result<(), Fault>
     ensures no_input { result ≢ Err Fault.Input }
+    ensures output { IfErr result (λ e. (e ≡ Fault.Output) → Rose since (W.fault_count writer.new)) }
+    ensures out_of_turns { IfErr result (λ e. (e ≡ Fault.Turns) → turns.new ≡ 0) }
     ensures whole { OnOk result (Appends (W.contents writer.old) (W.contents writer.new) (runs_text streams)) }
+    ensures part { WritesPart (runs_text streams) (W.contents writer.old) (W.contents writer.new) }
 {
     let mut streams = streams;
     for place in 0..streams.count() {
-        put_run(alloc, &mut streams, place, writer, turns)?;
+        put_run(alloc, &mut streams, place, writer, since, turns)?;
     }
     Ok(())
 }
 
 /// Answers each line of the reader's input, one plain STREAM packet of a Prepare (RFC 0029) in hexadecimal: a refused
 /// line changes nothing and is told at once; at the end each stream that an accepted StreamData frame named has its
-/// longest run written. Empty lines are skipped. After a fault nothing is
-/// said of what was written.
+/// longest run written. Empty lines are skipped. Each call of a device takes one of `turns`. At a fault what was written
+/// is the beginning of such an answer; a fault of a device is told only where its count of errors rose.
 pub fn answer_frames<A: Allocator + Copy, R: Read + Counted, W: Write + Counted>(
     alloc: A,
     reader: &mut R,
     writer: &mut W,
-    turns: u32,
+    turns: &mut u64,
 ) -> Result<Lines, Fault>
-    ensures answered { IfOk result (λ lines. IfSome (R.remaining reader.old) (λ input. (text : List ℕ) × IsAnswer input text (has_refusal lines)
-        × Appends (W.contents writer.old) (W.contents writer.new) text)) }
+    requires { turns.old < 2 ^ 32 }
+    ensures answered { IfOk result (λ lines. IfSome (R.remaining reader.old) (λ input.
+        WritesAnswer input (has_refusal lines) (W.contents writer.old) (W.contents writer.new))) }
+    ensures part { IfSome (R.remaining reader.old) (λ input. BeginsAnswer input (W.contents writer.old) (W.contents writer.new)) }
     ensures input { IfErr result (λ e. (e ≡ Fault.Input) → Rose (R.fault_count reader.old) (R.fault_count reader.new)) }
+    ensures output { IfErr result (λ e. (e ≡ Fault.Output) → Rose (W.fault_count writer.old) (W.fault_count writer.new)) }
+    ensures out_of_turns { IfErr result (λ e. (e ≡ Fault.Turns) → turns.new ≡ 0) }
 {
-    let mut turns = u64::from(turns);
+    let since = Since {
+        reader: reader.faults(),
+        writer: writer.faults(),
+    };
     let mut lines = Reader::new(alloc)?;
-    answer_lines(&mut lines, reader, writer, &mut turns)?;
+    answer_lines(&mut lines, reader, writer, since, turns)?;
     let Reader {
         streams,
         refused,
         ..
     } = lines;
-    put_runs(alloc, streams, writer, &mut turns)?;
+    put_runs(alloc, streams, writer, since.writer, turns)?;
     if refused {
         return Ok(Lines::SomeRefused);
     }
@@ -297,18 +329,12 @@ pub fn answer_frames<A: Allocator + Copy, R: Read + Counted, W: Write + Counted>
 }
 
 /// Tells a fault, as far as the writer takes it. The status of a fault.
-pub(crate) fn tell_fault<A: Allocator + Copy, E: Write + Counted>(
-    alloc: A,
-    errors: &mut E,
-    fault: Fault,
-) -> u8
-    ensures status { result ≡ 1 }
-    ensures text { (sent : ℕ) × Appends (E.contents errors.old) (E.contents errors.new) (take sent (fault_text (fault_number fault))) }
+pub(crate) fn tell_fault<E: Write + Counted>(errors: &mut E, fault: Fault) -> u8
+    ensures { TellsFault fault (E.contents errors.old) (E.contents errors.new) result }
 {
+    let since = errors.faults();
     let mut turns = u64::from(TURNS);
-    if let Ok(text) = fault_line(alloc, fault.number()) {
-        let _ = put(errors, text.as_bytes(), &mut turns);
-    }
+    let _ = put(errors, fault_line(fault).as_bytes(), since, &mut turns);
     1
 }
 
@@ -319,16 +345,14 @@ pub fn run_frames<A: Allocator + Copy, R: Read + Counted, W: Write + Counted, E:
     writer: &mut W,
     errors: &mut E,
 ) -> u8
-    ensures status { result ≤ 1 }
-    ensures taken { result ≡ 0 → (errors.new ≡ errors.old) × IfSome (R.remaining reader.old) (λ input. (text : List ℕ) × IsAnswer input text false
-        × Appends (W.contents writer.old) (W.contents writer.new) text) }
-    ensures refused { result ≡ 1 → ((errors.new ≡ errors.old) × IfSome (R.remaining reader.old) (λ input. (text : List ℕ) × IsAnswer input text true
-        × Appends (W.contents writer.old) (W.contents writer.new) text))
-        ⊎ ((fault : Fault) × (sent : ℕ) × Appends (E.contents errors.old) (E.contents errors.new) (take sent (fault_text (fault_number fault)))) }
+    ensures { RunsFrames (R.remaining reader.old) (W.contents writer.old) (W.contents writer.new)
+        (IsCounted (R.fault_count reader.old) (R.fault_count reader.new) (W.fault_count writer.old) (W.fault_count writer.new))
+        E.contents errors.old errors.new result }
 {
-    match answer_frames(alloc, reader, writer, TURNS) {
+    let mut turns = u64::from(TURNS);
+    match answer_frames(alloc, reader, writer, &mut turns) {
         Ok(Lines::AllTaken) => 0,
         Ok(Lines::SomeRefused) => 1,
-        Err(fault) => tell_fault(alloc, errors, fault),
+        Err(fault) => tell_fault(errors, fault),
     }
 }

@@ -1,9 +1,10 @@
 //! The texts that the commands write.
 
 ghost use Rattle.std.specs.Prelude.{◌≡◌, IfOk, string_bytes};
+ghost use Rattle.st_commands.specs.Errors.{fault_number};
 ghost use Rattle.st_commands.specs.Texts.{fault_text, line_text, numbered_text, plain_text, stream_text, wrapped_text};
 
-use crate::error::LineError;
+use crate::error::{Fault, LineError};
 use std::alloc::{AllocError, Allocator};
 
 /// What a refused line prints.
@@ -76,8 +77,13 @@ pub fn stream_line<A: Allocator + Copy>(
 }
 
 /// What a fault prints.
-pub fn fault_line<A: Allocator + Copy>(alloc: A, number: u8) -> Result<String<A>, AllocError>
-    ensures { IfOk result (λ text. string_bytes text ≡ fault_text number) }
+pub fn fault_line(fault: Fault) -> &'static str
+    ensures { result.now ≡ fault_text (fault_number fault) }
 {
-    format!(in alloc; "fault {number}\n")
+    match fault {
+        Fault::Input => "fault 90\n",
+        Fault::Output => "fault 91\n",
+        Fault::Turns => "fault 93\n",
+        Fault::NoMemory => "fault 99\n",
+    }
 }

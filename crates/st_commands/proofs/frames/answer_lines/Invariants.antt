@@ -1,4 +1,4 @@
-use Rattle.std.proofs.Common.{◌≡◌, ◌≤◌, ◌+◌, ◌*◌}
+use Rattle.std.proofs.Common.{◌≤◌, ◌+◌, ◌*◌}
 use Rattle.st_commands.specs.Progress.{Covers}
 use Rattle.st_commands.proofs.frames.answer_lines.Given as goal
 

@@ -1,8 +1,8 @@
-use Rattle.std.proofs.Common.{◌≡◌, ◌<◌, [], length, refl, ap, ◌∙◌, arith}
+use Rattle.std.proofs.Common.{◌<◌, ◌≤◌, [], length, refl, ap, ◌∙◌, arith}
 use Rattle.std.proofs.KnownBytes.{Appends-nil}
 use Rattle.std.proofs.lemmas.List.{length-set}
 use Rattle.st_commands.specs.Inboxes.{runs_text}
-use Rattle.st_commands.proofs.Progressing.{writes_run, writes_all}
+use Rattle.st_commands.proofs.Progressing.{writes_all, writes_run, writes_runs_part, writes_whole}
 use Rattle.st_commands.proofs.frames.put_runs.Goals as goal
 
 pub loop-place-init : goal.loop-place-init
@@ -17,3 +17,15 @@ loop-place-preserved g c =
           writes_run (g.W.Write.contents c.args.writer.now) (g.W.Write.contents c.loop-place.writer) (g.W.Write.contents c.put_run.new.writer) (runs_text c.args.streams) c.loop-place.place
           c.loop-place.streams c.put_run.new.streams here c.put_run.ensures.others c.loop-place.invariant.written c.in_ok-put_run.ensures.whole;
     }
+
+pub returns-in_err-put_run-clause-part : goal.returns-in_err-put_run-clause-part
+returns-in_err-put_run-clause-part g c =
+    let here : c.loop-place.place < length c.loop-place.streams = omega (arith, c.loop-place-test.true, c.count-place-end.ensures.count, c.loop-place.invariant.count) in
+    writes_runs_part (g.W.Write.contents c.args.writer.now) (g.W.Write.contents c.loop-place.writer) (g.W.Write.contents c.put_run.new.writer) (runs_text c.args.streams) c.loop-place.place
+    c.loop-place.streams here c.loop-place.invariant.written c.put_run.ensures.part
+
+pub returns-clause-part : goal.returns-clause-part
+returns-clause-part g c =
+    let all : length c.loop-place.streams ≤ c.loop-place.place = omega (arith, c.loop-place-test.false, c.count-place-end.ensures.count, c.loop-place.invariant.count) in
+    writes_whole (g.W.Write.contents c.args.writer.now) (g.W.Write.contents c.loop-place.writer) (runs_text c.args.streams)
+    (writes_all (g.W.Write.contents c.args.writer.now) (g.W.Write.contents c.loop-place.writer) (runs_text c.args.streams) c.loop-place.place c.loop-place.streams all c.loop-place.invariant.written)

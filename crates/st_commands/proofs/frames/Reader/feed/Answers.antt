@@ -1,6 +1,6 @@
-use Rattle.std.proofs.Common.{[], ◌≤◌, ◌+◌, sym, append-nil, arith, take}
+use Rattle.std.proofs.Common.{[], refl, sym, append-nil, arith}
 use Rattle.std.proofs.lemmas.List.{take_all}
-use Rattle.st_commands.proofs.Progressing.{answers_nothing, takes_more}
+use Rattle.st_commands.proofs.Progressing.{answers_nothing, begins_taken, takes_more}
 use Rattle.st_commands.proofs.frames.Reader.feed.Goals as goal
 
 pub loop-byte-init : goal.loop-byte-init
@@ -19,3 +19,11 @@ loop-byte-preserved g c = record {
       c.loop-byte.invariant.answered c.in_ok-push.ensures.answered;
   bounded = omega (arith, c.loop-byte.invariant.bounded, c.in_ok-push.ensures.bounded);
 }
+
+pub returns-in_err-push-clause-part : goal.returns-in_err-push-clause-part
+returns-in_err-push-clause-part g c =
+    begins_taken c.args.self.now c.loop-byte.self c.args.piece.now c.loop-byte.byte-index c.args.out.now.items c.loop-byte.out.items c.push.new.out.items c.loop-byte.invariant.answered c.in_err-push.ensures.untold
+
+pub returns-clause-part : goal.returns-clause-part
+returns-clause-part g c =
+    begins_taken c.args.self.now c.loop-byte.self c.args.piece.now c.loop-byte.byte-index c.args.out.now.items c.loop-byte.out.items c.loop-byte.out.items c.loop-byte.invariant.answered refl

@@ -1,7 +1,7 @@
-use Rattle.std.proofs.Common.{◌≡◌, ◌≤◌, ◌%◌, ℕ, List, ap, ◌∙◌, sym, arith}
-use Rattle.std.specs.Prelude.{Ok, Err}
+use Rattle.std.proofs.Common.{◌≡◌, ◌%◌, ℕ, ap, ◌∙◌, sym, arith}
+use Rattle.std.specs.Prelude.{Ok}
 use Rattle.hex.specs.Hex.{decode_of}
-use Rattle.st_commands.specs.LineSoFar.{LineState, most_digits}
+use Rattle.st_commands.specs.LineSoFar.{LineState}
 use Rattle.st_commands.proofs.LinesSoFar.{odd_is_no_packet, long_is_no_packet, kept_is_text}
 use Rattle.st_commands.proofs.line.LineSoFar.decoded.Goals as goal
 

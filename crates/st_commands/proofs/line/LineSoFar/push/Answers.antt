@@ -1,4 +1,4 @@
-use Rattle.std.proofs.Common.{◌≡◌, ◌≢◌, ◌≤◌, ◌⊎◌, ℕ, List, ap, ◌∙◌, sym, inl, inr, arith}
+use Rattle.std.proofs.Common.{◌≡◌, ◌≢◌, ap, ◌∙◌, sym, inl, inr, arith}
 use Rattle.st_commands.specs.declared.line.Shape.TheVariants.{Digits, DigitsAndReturn, NotHex}
 use Rattle.st_commands.specs.LineSoFar.{LineState}
 use Rattle.st_commands.proofs.LinesSoFar.{stands_spoiled}

@@ -1,4 +1,4 @@
-use Rattle.std.proofs.Common.{◌≡◌, ◌≢◌, ℕ, List, ap, ◌∙◌, sym, arith}
+use Rattle.std.proofs.Common.{ap, sym}
 use Rattle.st_commands.specs.declared.line.Shape.TheVariants.{DigitsAndReturn, NotHex}
 use Rattle.st_commands.specs.LineSoFar.{LineState}
 use Rattle.st_commands.proofs.LinesSoFar.{stands_with_digit, stands_with_other, stands_with_return}

@@ -1,6 +1,5 @@
-use Rattle.std.proofs.Common.{◌≡◌, ◌<◌, ◌≤◌, ℕ, length, set, refl, sym, ap, ◌∙◌, arith, None, get_or}
+use Rattle.std.proofs.Common.{◌≡◌, ◌<◌, length, sym, ◌∙◌, arith, get_or}
 use Rattle.std.proofs.lemmas.List.{length-set}
-use Rattle.st_commands.specs.Drafts.{over}
 use Rattle.st_commands.proofs.Overs.{over-adopt, over-moved, moved_more}
 use Rattle.st_commands.proofs.streams.Streams.adopt.Goals as goal
 

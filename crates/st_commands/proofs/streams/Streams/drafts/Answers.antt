@@ -1,5 +1,4 @@
-use Rattle.std.proofs.Common.{◌≡◌, List, ℕ, length, ap, ◌∙◌, refl}
-use Rattle.st_commands.specs.Inboxes.{Inboxes, frames_from, opening}
+use Rattle.std.proofs.Common.{length, ap, ◌∙◌, refl}
 use Rattle.st_commands.proofs.Overs.{over-fresh, length-opening}
 use Rattle.st_commands.proofs.streams.Streams.drafts.Goals as goal
 

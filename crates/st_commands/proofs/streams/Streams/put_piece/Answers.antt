@@ -1,4 +1,4 @@
-use Rattle.std.proofs.Common.{◌≡◌, ◌⊎◌, inl, inr, ap}
+use Rattle.std.proofs.Common.{inl, inr, ap}
 use Rattle.st_commands.specs.declared.error.LineError.TheVariants.{Inbox}
 use Rattle.st_commands.proofs.Overs.{piece_put, piece_refused}
 use Rattle.st_commands.proofs.streams.Streams.put_piece.Goals as goal
