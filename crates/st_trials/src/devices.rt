@@ -210,16 +210,18 @@ fn calls_are_interrupted(rt: HostRuntime) {
 fn turns_are_used_up(rt: HostRuntime) {
     let alloc = rt.alloc();
     for (input, enough, lines) in [(STORED, 4, Lines::AllTaken), (MIXED, 8, Lines::SomeRefused)] {
-        for turns in 0..=enough {
+        for given in 0..=enough {
+            let mut turns = given;
             let mut reader = CountRead::new(Faulty::sound(input.as_bytes()));
             let mut writer = CountWrite::new(sink(alloc));
-            let answer = answer_frames(alloc, &mut reader, &mut writer, turns);
-            let want = if turns < enough {
+            let answer = answer_frames(alloc, &mut reader, &mut writer, &mut turns);
+            let want = if given < enough {
                 Err(Fault::Turns)
             } else {
                 Ok(lines)
             };
-            assert_eq!(rt; answer, want, "with {turns}");
+            assert_eq!(rt; answer, want, "with {given}");
+            assert_eq!(rt; turns, 0, "with {given}");
         }
     }
     assert_eq!(rt; Fault::Turns.number(), 93);
