@@ -94,7 +94,7 @@ judged_lasts h account p now =
       | false ↦ lasts_with now p rest late refl
     ]
 
--- a Prepare that may go on, with less time, keeps the rules of one that is written
+-- a Prepare that has time left keeps the rules of one that is written, once the hop took its part of the time
 goes_on : (p : PreparePacket) (now : ℤ) → IsPrepare p → pos 0 ≤ℤ now → int_le p.expiry (now +ℤ hop_time) ≡ false → prepare_refusal (onward p) ≡ None
 unfolding prepare_refusal
 goes_on p now h from late =
@@ -105,6 +105,7 @@ goes_on p now h from late =
     let high = is_le (p.expiry -ℤ hop_time) (pos 253_402_300_799_999) (omega (arith, ints, last)) in
     rw (low, high, h.destination, h.payload) refl
 
+-- so one that was read and that no rule stops is written, where there is memory
 pub judged_written : (h : Hop) (account : ℕ) (bytes : List ℕ) (p : PreparePacket) (now : ℤ) (outgoing : ℕ) → IsBytes bytes → prepare_at bytes ≡ Ok p → pos 0 ≤ℤ now → Ok outgoing ≡ judged h account p now
     → prepare_refusal (onward p) ≡ None
 judged_written h account bytes p now outgoing b e from j =

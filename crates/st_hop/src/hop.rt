@@ -293,7 +293,7 @@ impl<A: Allocator + Copy> HopState<A> {
         requires outgoing { outgoing < length self.old.accounts }
         requires fits { is_over_limit self.old incoming prepare.now.amount prepare.now.amount ≡ false }
         requires time { pos 1000 ≤ℤ prepare.now.expiry }
-        requires lawful { prepare_refusal (onward (prepare_seen prepare.now)) ≡ None }
+        requires written { prepare_refusal (onward (prepare_seen prepare.now)) ≡ None }
         ensures sent { IfOk result (λ v. sent_on self.old incoming (prepare_seen prepare.now) (Ok outgoing) ≡ (verdict_seen v, self.new)) }
         ensures only_memory { IsOkUnless result HopError.NoMemory }
         ensures kept { OnErr result (self.new ≡ self.old) }

@@ -7,7 +7,7 @@ pub forward-requires-clause-outgoing : goal.forward-requires-clause-outgoing
 forward-requires-clause-outgoing g c =
     judged_there c.self.view_is c.args.account (prepare_seen c.in-Ok.prepare) c.args.now c.in-Ok-judge.outgoing c.self.invariant.lawful c.in-Ok-judge.ensures
 
-pub forward-requires-clause-lawful : goal.forward-requires-clause-lawful
-forward-requires-clause-lawful g c =
+pub forward-requires-clause-written : goal.forward-requires-clause-written
+forward-requires-clause-written g c =
     let from : pos 0 ≤ℤ c.args.now = search rules in
     judged_written c.args.self.now c.args.account c.args.bytes.now (prepare_seen c.in-Ok.prepare) c.args.now c.in-Ok-judge.outgoing (λ i. omega (arith, c.type_inv.bytes i)) c.in-Ok.ensures from c.in-Ok-judge.ensures
