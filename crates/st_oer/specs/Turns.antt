@@ -27,6 +27,12 @@ WriteTurn old new since count buf (Moved n) = (n ≤ length buf) × Appends old 
 WriteTurn old new since count buf Again = Keeps old new
 WriteTurn old new since count buf Fault = Keeps old new × Rose since count
 
+-- one flush, which writes no bytes of its own
+abbrev pub FlushTurn : Option (List ℕ) → Option (List ℕ) → ℕ → ℕ → Turn → Type 0
+FlushTurn old new since count (Moved n) = (n ≡ 0) × Keeps old new
+FlushTurn old new since count Again = Keeps old new
+FlushTurn old new since count Fault = Keeps old new × Rose since count
+
 -- how many bytes were written before the error
 abbrev pub sent : PutError → ℕ
 sent (put.Fault n) = n

@@ -259,6 +259,9 @@ impl<T: Write> Write for Faulty<T> {
     }
 
     fn flush(&mut self) -> io::Result<()> {
+        if self.fails() {
+            return Err(io::Error::from(self.kind));
+        }
         self.inner.flush()
     }
 }
@@ -306,5 +309,21 @@ fn texts_are_put_in_turns(rt: HostRuntime) {
         };
         let out = writer.into_inner().inner;
         assert_eq!(rt; Some(out.as_slice()), b"abcde".get(..written));
+    }
+}
+
+#[test]
+fn flushes_come_in_turns(rt: HostRuntime) {
+    let rows = [
+        (ErrorKind::Other, Turn::Fault, 1),
+        (ErrorKind::Interrupted, Turn::Again, 0),
+    ];
+    for (kind, want, faults) in rows {
+        let device = Faulty::new(Vec::new(rt.alloc()), 2, 1, kind);
+        let mut writer = CountWrite::new(device);
+        assert_eq!(rt; flush_turn(&mut writer, 0), want);
+        assert_eq!(rt; writer.faults(), faults);
+        assert_eq!(rt; flush_turn(&mut writer, faults), Turn::Moved(0));
+        assert_eq!(rt; writer.into_inner().calls, 2);
     }
 }

@@ -4,7 +4,7 @@ ghost use Rattle.std.specs.Prelude.{◌≡◌, ◌≤◌, ◌↔◌, length, tak
 ghost use Rattle.std.specs.Io.KnownBytes.{Appends};
 ghost use Rattle.st_oer.specs.Faults.{Rose};
 ghost use Rattle.std.specs.IoError.{error_kind};
-ghost use Rattle.st_oer.specs.Turns.{MeansTurn, ReadTurn, WriteTurn, sent, IsFault, IsTurns};
+ghost use Rattle.st_oer.specs.Turns.{MeansTurn, ReadTurn, WriteTurn, FlushTurn, sent, IsFault, IsTurns};
 
 use crate::counted::Counted;
 use std::io;
@@ -55,6 +55,16 @@ pub fn write_turn<W: Write + Counted>(writer: &mut W, buf: &[u8], since: u64) ->
 {
     match writer.write(buf) {
         Ok(n) => Turn::Moved(n),
+        Err(e) => error_turn(&e, since, writer.faults()),
+    }
+}
+
+/// One flush: `Moved(0)` where it was done. `since` is what the writer's count of errors was when the caller began.
+pub fn flush_turn<W: Write + Counted>(writer: &mut W, since: u64) -> Turn
+    ensures { FlushTurn (W.contents writer.old) (W.contents writer.new) since (W.fault_count writer.new) result }
+{
+    match writer.flush() {
+        Ok(()) => Turn::Moved(0),
         Err(e) => error_turn(&e, since, writer.faults()),
     }
 }
