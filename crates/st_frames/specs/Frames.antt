@@ -1,7 +1,12 @@
 -- Frames and packets as values (RFC 0029, section 5), without where they lie in memory.
 use Rattle.std.specs.Prelude.{ℕ, List}
 
--- a frame of a type that RFC 0029 names, with its fields
+-- the most bytes of a plain packet: with its IV and tag, 28 bytes, it fits the 32,767 bytes of data of an ILP packet
+abbrev pub max_packet : ℕ
+max_packet = 32739
+
+-- a frame of one of the eleven types that this profile reads, with its fields; 05, 06, 07 and 17 of RFC 0029 are skipped
+-- as unknown ones
 pub data Known : Type 0 where
   ConnectionClose : (code : ℕ) (message : List ℕ) → Known
   ConnectionNewAddress : (address : List ℕ) → Known

@@ -1,15 +1,15 @@
 -- Reading and the relation are one; what is written reads as itself; no packet begins another.
 use Rattle.std.specs.Prelude.{◌≡◌, ◌<◌, ◌≤◌, ◌^◌, ℕ, List, [], ◌++◌, length, Ok}
 use Rattle.st_oer.specs.Laws.{IsBytes}
-use Rattle.st_frames.specs.Frames.{Known, Packet}
+use Rattle.st_frames.specs.Frames.{Known, Packet, max_packet}
 use Rattle.st_frames.specs.Reading.{packet_at}
 use Rattle.st_frames.specs.Relation.{IsPacket}
 use Rattle.st_frames.specs.Written.{AllFit, written, packet_with}
 
 -- a packet is read exactly where the bytes are a spelling of it
 pub record PacketReads : Type 0 where
-  pub found : (kind : ℕ) (bytes : List ℕ) (p : Packet) → IsBytes bytes → packet_at kind bytes ≡ Ok p → IsPacket bytes p × (p.kind ≡ kind) × (length bytes ≤ 32739)
-  pub only : (bytes : List ℕ) (p : Packet) → length bytes ≤ 32739 → IsPacket bytes p → packet_at p.kind bytes ≡ Ok p
+  pub found : (kind : ℕ) (bytes : List ℕ) (p : Packet) → IsBytes bytes → packet_at kind bytes ≡ Ok p → IsPacket bytes p × (p.kind ≡ kind) × (length bytes ≤ max_packet)
+  pub only : (bytes : List ℕ) (p : Packet) → length bytes ≤ max_packet → IsPacket bytes p → packet_at p.kind bytes ≡ Ok p
 
 -- bytes that spell a packet, with nothing after its last frame
 abbrev pub IsWhole : List ℕ → Packet → Type 0

@@ -4,7 +4,7 @@ use Rattle.st_oer.specs.declared.error.OerError.{OerError}
 use Rattle.st_oer.specs.Reading.{byte_at, octets_at, var_uint_at}
 use Rattle.st_frames.specs.declared.error.FrameError.{FrameError}
 use Rattle.st_frames.specs.declared.error.FrameError.TheVariants.{Version, Kind, Oer, FrameFormat, TooLong}
-use Rattle.st_frames.specs.Frames.{Known, Packet}
+use Rattle.st_frames.specs.Frames.{Known, Packet, max_packet}
 use Rattle.st_frames.specs.Contents.{◌>>=◌, refusing, contents_at}
 
 -- a frame as it stands in the bytes: its type and its contents
@@ -62,7 +62,7 @@ wants e value x = if x.0 == value then Ok x.1 else Err e
 
 -- a packet that an ILP packet of this kind carries; bytes after the last frame are ignored
 unfoldable pub packet_at : ℕ → List ℕ → Result Packet FrameError
-packet_at kind bytes = if nat_lt 32739 (length bytes) then Err TooLong else (do
+packet_at kind bytes = if nat_lt max_packet (length bytes) then Err TooLong else (do
   version ← outer (byte_at bytes)
   rest ← wants Version 1 version
   own ← outer (byte_at rest)

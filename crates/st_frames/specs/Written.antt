@@ -5,7 +5,7 @@ use Rattle.st_oer.specs.Spelling.{octets, var_uint}
 use Rattle.st_oer.specs.Text.{is_utf8}
 use Rattle.st_frames.specs.declared.error.FrameError.{FrameError}
 use Rattle.st_frames.specs.declared.error.FrameError.TheVariants.{FrameFormat, TooLong}
-use Rattle.st_frames.specs.Frames.{Known, Packet, ConnectionNewAddress}
+use Rattle.st_frames.specs.Frames.{Known, Packet, ConnectionNewAddress, max_packet}
 use Rattle.st_frames.specs.Table.{Field, Byte, Number, Limit, Octets, Text, Address, Item, Code, Num, Bytes, is_address_text, Row, row_of, layout}
 
 -- the bytes of an item
@@ -48,7 +48,7 @@ is_unwritable k = false
 -- a text, unless a frame can't be written, or the text is too long
 abbrev pub judged : Option ℕ → List ℕ → Result (List ℕ) FrameError
 judged (Some i) text = Err (FrameFormat i)
-judged None text = if nat_lt 32739 (length text) then Err TooLong else Ok text
+judged None text = if nat_lt max_packet (length text) then Err TooLong else Ok text
 
 -- what writing gives: the index of the first frame that can't be written, else too many bytes, else the spelling
 unfoldable pub written : (kind sequence amount : ℕ) → List Known → Result (List ℕ) FrameError

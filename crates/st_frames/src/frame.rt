@@ -1,6 +1,7 @@
 //! The frames of a packet (RFC 0029, section 5.3).
 
-/// A frame of a type that RFC 0029 names, with its fields. Texts and bytes are lent by the packet that was read.
+/// A frame of one of the eleven types that this profile reads, with its fields; 05, 06, 07 and 17 of RFC 0029 are
+/// skipped as unknown ones. Texts and bytes are lent by the packet that was read.
 #[derive(Clone, Copy, Debug, PartialEq, Eq)]
 pub enum Frame<'a> {
     /// The connection is closed, with an error code and a message.
@@ -16,7 +17,7 @@ pub enum Frame<'a> {
     ConnectionMaxData {
         max_offset: u64,
     },
-    /// The sender has bytes for the connection beyond this sum of offsets.
+    /// The sender has more bytes than it may send, and wants to send up to this sum of the streams' highest offsets.
     ConnectionDataBlocked {
         max_offset: u64,
     },
@@ -54,7 +55,7 @@ pub enum Frame<'a> {
         stream: u64,
         max_offset: u64,
     },
-    /// The sender has bytes of a stream at or past this offset.
+    /// The sender has more bytes of a stream than it may send, and wants to send up to this offset.
     StreamDataBlocked {
         stream: u64,
         max_offset: u64,

@@ -2,6 +2,7 @@
 
 ghost use Rattle.std.specs.Prelude.{◌≡◌, ◌<◌, ◌≤◌, ◌+◌, ◌^◌, length, map, MatchOption};
 ghost use Rattle.st_oer.specs.Spelling.{octets, var_uint};
+ghost use Rattle.st_frames.specs.Frames.{max_packet};
 ghost use Rattle.st_frames.specs.Seen.{seen};
 ghost use Rattle.st_frames.specs.Written.{contents_text, frame_text, packet_length};
 
@@ -76,7 +77,7 @@ pub(crate) fn contents_len(frame: Frame<'_>) -> u128
 /// The length of a frame, or None where its contents alone are longer than a packet may be.
 #[tactic(auto, unfolding(crate::specs::Written::frame_text), using(crate::proofs::Puts::lengths))]
 fn frame_len(frame: Frame<'_>) -> Option<usize>
-    ensures { MatchOption result (32739 < length (frame_text (seen frame.entry))) (λ n. (n ≡ length (frame_text (seen frame.entry))) × (n < 2 ^ 16)) }
+    ensures { MatchOption result (max_packet < length (frame_text (seen frame.entry))) (λ n. (n ≡ length (frame_text (seen frame.entry))) × (n < 2 ^ 16)) }
 {
     let contents = contents_len(frame);
     if contents > MAX_PACKET as u128 {
@@ -88,7 +89,7 @@ fn frame_len(frame: Frame<'_>) -> Option<usize>
 /// The length of a packet, or None where it is more than `MAX_PACKET`.
 #[tactic(auto, using(crate::proofs::Puts::lengths))]
 pub(crate) fn packet_len(sequence: u64, amount: u64, frames: &[Frame<'_>]) -> Option<usize>
-    ensures { MatchOption result (32739 < packet_length sequence amount (map seen frames.now)) (λ n. (n ≡ packet_length sequence amount (map seen frames.now)) × (n ≤ 32739)) }
+    ensures { MatchOption result (max_packet < packet_length sequence amount (map seen frames.now)) (λ n. (n ≡ packet_length sequence amount (map seen frames.now)) × (n ≤ max_packet)) }
 {
     let mut total = 2
         + var_uint_size(sequence)

@@ -58,18 +58,30 @@ fn refused(number: u8, inner: Option<u64>) -> Result<Summary, Refusal> {
 }
 
 #[test]
-fn packets_read(rt: HostRuntime) {
+fn packets_read(rt: HostRuntime) -> Result<(), Fail> {
+    let hi = Frame::StreamData {
+        stream: 1,
+        offset: 0,
+        bytes: b"hi",
+    };
     assert_eq!(rt; told(&HI), read_as(1, 1, 3));
     let trailing = [
         0x01, 0x0c, 0x01, 0x01, 0x01, 0x00, 0x01, 0x01, 0x14, 0x07, 0x01, 0x01, 0x01, 0x00, 0x02,
         0x68, 0x69, 0xff, 0xff,
     ];
     assert_eq!(rt; told(&trailing), read_as(1, 1, 3));
+    let mut frames = read_packet(&trailing, 12)?.frames;
+    assert_eq!(rt; frames.next(), Some((0, hi)));
+    assert_eq!(rt; frames.next(), None);
     let skipped = [
         0x01, 0x0c, 0x01, 0x01, 0x01, 0x00, 0x01, 0x02, 0x99, 0x01, 0x00, 0x14, 0x07, 0x01, 0x01,
         0x01, 0x00, 0x02, 0x68, 0x69,
     ];
     assert_eq!(rt; told(&skipped), read_as(1, 1, 4));
+    let mut frames = read_packet(&skipped, 12)?.frames;
+    assert_eq!(rt; frames.next(), Some((1, hi)));
+    assert_eq!(rt; frames.next(), None);
+    Ok(())
 }
 
 #[test]

@@ -183,7 +183,7 @@ fn put_packet<A: Allocator>(
 /// Refused is, in this order: `FrameFormat` for the first frame whose address is neither empty nor an ILP address;
 /// `TooLong` above `MAX_PACKET` bytes; `NoMemory`, and memory is asked for only where the others do not come.
 #[tactic(auto, unfolding(crate::specs::Written::written), using(crate::proofs::Puts::judging))]
-pub fn write_packet<A: Allocator + Copy>(
+pub fn write_packet<A: Allocator>(
     alloc: A,
     kind: u8,
     sequence: u64,
