@@ -29,7 +29,9 @@ const PIECE: usize = 4096;
 /// Whether a line was refused, once all of them were answered.
 #[derive(Clone, Copy, Debug, PartialEq, Eq)]
 pub enum Lines {
+    /// Every line with a text was taken.
     AllTaken,
+    /// A line was refused, and changed nothing.
     SomeRefused,
 }
 
@@ -237,6 +239,7 @@ fn answer_lines<A: Allocator + Copy, R: Read + Counted, W: Write + Counted>(
     ensures input { IfErr result (λ e. (e ≡ Fault.Input) → Rose since.reader (R.fault_count reader.new)) }
     ensures output { IfErr result (λ e. (e ≡ Fault.Output) → Rose since.writer (W.fault_count writer.new)) }
     ensures out_of_turns { IfErr result (λ e. (e ≡ Fault.Turns) → turns.new ≡ 0) }
+    ensures turns { turns.new ≤ turns.old }
 {
     while *turns > 0 {
         *turns -= 1;
@@ -261,6 +264,7 @@ fn put_run<A: Allocator + Copy, W: Write + Counted>(
     ensures no_input { result ≢ Err Fault.Input }
     ensures output { IfErr result (λ e. (e ≡ Fault.Output) → Rose since (W.fault_count writer.new)) }
     ensures out_of_turns { IfErr result (λ e. (e ≡ Fault.Turns) → turns.new ≡ 0) }
+    ensures turns { turns.new ≤ turns.old }
     ensures whole { OnOk result (Appends (W.contents writer.old) (W.contents writer.new) (run_line (place + 1) (slice_index_or streams.old place None))) }
     ensures part { WritesPart (run_line (place + 1) (slice_index_or streams.old place None)) (W.contents writer.old) (W.contents writer.new) }
 {
@@ -282,6 +286,7 @@ fn put_runs<A: Allocator + Copy, W: Write + Counted>(
     ensures no_input { result ≢ Err Fault.Input }
     ensures output { IfErr result (λ e. (e ≡ Fault.Output) → Rose since (W.fault_count writer.new)) }
     ensures out_of_turns { IfErr result (λ e. (e ≡ Fault.Turns) → turns.new ≡ 0) }
+    ensures turns { turns.new ≤ turns.old }
     ensures whole { OnOk result (Appends (W.contents writer.old) (W.contents writer.new) (runs_text streams)) }
     ensures part { WritesPart (runs_text streams) (W.contents writer.old) (W.contents writer.new) }
 {
@@ -294,8 +299,11 @@ fn put_runs<A: Allocator + Copy, W: Write + Counted>(
 
 /// Answers each line of the reader's input, one plain STREAM packet of a Prepare (RFC 0029) in hexadecimal: a refused
 /// line changes nothing and is told at once; at the end each stream that an accepted StreamData frame named has its
-/// longest run written. Empty lines are skipped. Each call of a device takes one of `turns`. At a fault what was written
-/// is the beginning of such an answer; a fault of a device is told only where its count of errors rose.
+/// longest run written. Empty lines are skipped. Each call of a device takes one of `turns`, of which there are fewer
+/// than 2^32.
+///
+/// At a fault what was written is the beginning of such an answer. A fault of the reader or the writer is told only where
+/// its count of errors rose since this call began, and that of the turns only where none is left.
 pub fn answer_frames<A: Allocator + Copy, R: Read + Counted, W: Write + Counted>(
     alloc: A,
     reader: &mut R,
@@ -309,6 +317,7 @@ pub fn answer_frames<A: Allocator + Copy, R: Read + Counted, W: Write + Counted>
     ensures input { IfErr result (λ e. (e ≡ Fault.Input) → Rose (R.fault_count reader.old) (R.fault_count reader.new)) }
     ensures output { IfErr result (λ e. (e ≡ Fault.Output) → Rose (W.fault_count writer.old) (W.fault_count writer.new)) }
     ensures out_of_turns { IfErr result (λ e. (e ≡ Fault.Turns) → turns.new ≡ 0) }
+    ensures turns { turns.new ≤ turns.old }
 {
     let since = Since {
         reader: reader.faults(),

@@ -6,27 +6,8 @@ ghost use Rattle.st_oer.specs.Faults.{Rose};
 ghost use Rattle.st_commands.specs.Endings.{WritesPart};
 
 use crate::error::Fault;
-use st_oer::{Counted, PutError, Turn, put_all};
-use std::io::{ErrorKind, Write};
-
-/// One call of `flush`. `since` is what the writer's count of errors was when the caller began.
-fn flush_turn<W: Write + Counted>(writer: &mut W, since: u64) -> Turn
-    ensures bytes { Keeps (W.contents writer.old) (W.contents writer.new) }
-    ensures fault { (result ≡ Turn.Fault) → Rose since (W.fault_count writer.new) }
-{
-    let Err(e) = writer.flush() else {
-        return Turn::Moved(0);
-    };
-    let now = writer.faults();
-    if e.kind() == ErrorKind::Interrupted {
-        return Turn::Again;
-    }
-    if since < now || since == u64::MAX {
-        Turn::Fault
-    } else {
-        Turn::Again
-    }
-}
+use st_oer::{Counted, PutError, Turn, flush_turn, put_all};
+use std::io::Write;
 
 /// Flushes, in at most so many turns. `since` is what the writer's count of errors was when the caller began.
 fn flush<W: Write + Counted>(writer: &mut W, since: u64, turns: &mut u64) -> Result<(), Fault>

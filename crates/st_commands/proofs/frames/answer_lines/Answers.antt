@@ -5,6 +5,7 @@ use Rattle.st_commands.proofs.frames.answer_lines.Goals as goal
 pub loop-turns-init : goal.loop-turns-init
 loop-turns-init g c = record {
   covers = covers_start (g.R.Read.remaining c.args.reader.now) (g.W.Write.contents c.args.writer.now) c.args.lines.now c.requires.start;
+  turns = omega arith;
   bounded = rw c.requires.start (omega arith);
 }
 

@@ -8,5 +8,6 @@ decreases-loop-turns g l = l.turns
 abbrev pub invariant-loop-turns : goal.invariant-loop-turns
 invariant-loop-turns g l = record {
   covers : Covers (g.R.Read.remaining l.fn.reader) (g.R.Read.remaining l.reader) (g.W.Write.contents l.fn.writer) (g.W.Write.contents l.writer) l.lines;
+  turns : l.turns ≤ l.fn.turns;
   bounded : l.lines.index + l.lines.line.count + 4096 * l.turns ≤ 1 + 4096 * l.fn.turns;
 }

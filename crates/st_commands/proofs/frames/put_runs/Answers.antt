@@ -6,13 +6,14 @@ use Rattle.st_commands.proofs.Progressing.{writes_all, writes_run, writes_runs_p
 use Rattle.st_commands.proofs.frames.put_runs.Goals as goal
 
 pub loop-place-init : goal.loop-place-init
-loop-place-init g c = record { count = c.count-place-end.ensures.all; written = ([], Appends-nil (g.W.Write.contents c.args.writer.now), refl) }
+loop-place-init g c = record { count = c.count-place-end.ensures.all; turns = omega arith; written = ([], Appends-nil (g.W.Write.contents c.args.writer.now), refl) }
 
 pub loop-place-preserved : goal.loop-place-preserved
 loop-place-preserved g c =
     let here : c.loop-place.place < length c.loop-place.streams = omega (arith, c.loop-place-test.true, c.count-place-end.ensures.count, c.loop-place.invariant.count) in
     record {
       count = ap length c.put_run.ensures.others ∙ (length-set c.loop-place.streams c.loop-place.place _ ∙ c.loop-place.invariant.count);
+      turns = omega (arith, c.put_run.ensures.turns, c.loop-place.invariant.turns);
       written =
           writes_run (g.W.Write.contents c.args.writer.now) (g.W.Write.contents c.loop-place.writer) (g.W.Write.contents c.put_run.new.writer) (runs_text c.args.streams) c.loop-place.place
           c.loop-place.streams c.put_run.new.streams here c.put_run.ensures.others c.loop-place.invariant.written c.in_ok-put_run.ensures.whole;
