@@ -24,8 +24,8 @@ fn counter_block(iv: [u8; 12], b: usize) -> [u8; 16]
     ]
 }
 
-/// Counter mode, in place.
-fn count(key: &Key, iv: [u8; 12], text: &mut [u8])
+/// Counter mode, in place (SP 800-38D, section 6.5).
+fn counter_mode(key: &Key, iv: [u8; 12], text: &mut [u8])
     ensures { text.new ≡ counter_mode key.now iv text.old }
 {
     let mut pad = [0u8; 16];
@@ -73,19 +73,22 @@ fn tag(key: &Key, iv: [u8; 12], text: &[u8]) -> [u8; 16]
 
 /// Encrypts a text in place and gives its tag (SP 800-38D, section 7.1).
 ///
-/// One key must never see an IV twice: that is the caller's care.
+/// The contract holds for a text of any length. The standard allows at most 2^36 - 32 bytes (section 5.2.1.1): past them
+/// the counter blocks come again, and the text is no longer hidden. Keeping to that is the caller's care, and so is that one
+/// key never sees an IV twice. No memory is taken.
 pub fn seal(key: &Key, iv: [u8; 12], text: &mut [u8]) -> [u8; 16]
     ensures text { text.new ≡ counter_mode key.now iv text.old }
     ensures tag { result ≡ tag key.now iv text.new }
 {
-    count(key, iv, text);
+    counter_mode(key, iv, text);
     tag(key, iv, text)
 }
 
 /// Decrypts a text in place where `expected` is its tag, and otherwise answers false and leaves every byte as it was
 /// (SP 800-38D, section 7.2).
 ///
-/// The time that this takes depends on the bytes.
+/// The contract holds for a text of any length, as that of `seal` does, and what the standard allows is the same. No memory
+/// is taken. The time that this takes depends on the bytes.
 pub fn unseal(key: &Key, iv: [u8; 12], expected: [u8; 16], text: &mut [u8]) -> bool
     ensures exact { IsTrue result ↔ (expected ≡ tag key.now iv text.old) }
     ensures opened { OnTrue result (text.new ≡ counter_mode key.now iv text.old) }
@@ -94,6 +97,6 @@ pub fn unseal(key: &Key, iv: [u8; 12], expected: [u8; 16], text: &mut [u8]) -> b
     if expected != tag(key, iv, text) {
         return false;
     }
-    count(key, iv, text);
+    counter_mode(key, iv, text);
     true
 }

@@ -98,7 +98,7 @@ pub fn write_expiry(millis: i64) -> Result<[u8; 17], IlpError>
 }
 
 /// The number that two digits stand for.
-fn two(text: &[u8; 17], at: usize) -> u32
+fn two_digits(text: &[u8; 17], at: usize) -> u32
     requires { at < 16 }
     ensures { result ≡ (slice_index text.now at - 48) * 10 + (slice_index text.now (at + 1) - 48) }
 {
@@ -125,13 +125,13 @@ fn numbers_of(text: &[u8; 17]) -> Numbers
 {
     let ones = u32::from(text[16].saturating_sub(b'0'));
     Numbers {
-        year: two(text, 0) * 100 + two(text, 2),
-        month: two(text, 4),
-        day: two(text, 6),
-        hour: two(text, 8),
-        minute: two(text, 10),
-        second: two(text, 12),
-        milli: two(text, 14) * 10 + ones,
+        year: two_digits(text, 0) * 100 + two_digits(text, 2),
+        month: two_digits(text, 4),
+        day: two_digits(text, 6),
+        hour: two_digits(text, 8),
+        minute: two_digits(text, 10),
+        second: two_digits(text, 12),
+        milli: two_digits(text, 14) * 10 + ones,
     }
 }
 

@@ -5,14 +5,16 @@ ghost use Rattle.st_ilp.specs.Rules as rules;
 
 use st_oer::is_address;
 
-/// The kinds of packets.
+/// The kind of a Prepare (RFC 0027): the packet's first byte.
 pub(crate) const PREPARE: u8 = 12;
 
+/// The kind of a Fulfill (RFC 0027).
 pub(crate) const FULFILL: u8 = 13;
 
+/// The kind of a Reject (RFC 0027).
 pub(crate) const REJECT: u8 = 14;
 
-/// The most bytes of data in a packet.
+/// The most bytes of data in a packet (RFC 0027).
 pub const MAX_DATA: usize = 32_767;
 
 /// The most bytes of a message that is written; longer ones are read.
@@ -25,11 +27,11 @@ pub struct Prepare<'a> {
     pub amount: u64,
     /// When it expires, in milliseconds since the start of 1970, UTC.
     pub expiry: i64,
-    /// The hash that a fulfillment has to have.
+    /// The SHA-256 that a fulfillment has to have.
     pub condition: [u8; 32],
     /// The address of the receiver.
     pub destination: &'a str,
-    /// The receiver's data, at most 32,767 bytes.
+    /// Data for the receiver, at most 32,767 bytes.
     pub payload: &'a [u8],
 }
 
@@ -38,20 +40,20 @@ pub struct Prepare<'a> {
 pub enum Answer<'a> {
     /// The Prepare was carried out.
     Fulfill {
-        /// The bytes whose hash is the Prepare's condition.
+        /// The bytes whose SHA-256 is the Prepare's condition.
         fulfillment: [u8; 32],
-        /// The sender's data, at most 32,767 bytes.
+        /// Data for the sender of the Prepare, at most 32,767 bytes.
         payload: &'a [u8],
     },
     /// The Prepare was not carried out.
     Reject {
         /// Three characters, as `F02`.
         code: [u8; 3],
-        /// The address of the node that made it (triggeredBy), or nothing.
+        /// The address of the node that made it (triggeredBy), or empty.
         by: &'a str,
-        /// A text for people.
+        /// A text for people. One that is written has at most 8,191 bytes.
         message: &'a str,
-        /// The sender's data, at most 32,767 bytes.
+        /// Data for the sender of the Prepare, at most 32,767 bytes.
         payload: &'a [u8],
     },
 }

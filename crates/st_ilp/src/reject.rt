@@ -56,7 +56,10 @@ pub(crate) fn append_reject<A: Allocator>(
     put_octets(out, payload).unwrap();
 }
 
-/// How many bytes a Reject takes that has no message: exact wherever the number fits.
+/// How many bytes a Reject takes that has no message (RFC 0027), with a triggeredBy of `by` and
+/// `data_len` bytes of data.
+///
+/// Exact wherever the number fits a `usize`. Else `usize::MAX`. No memory.
 #[tactic(auto, unfolding(crate::specs::Writing::reject_size))]
 pub fn reject_len(by: &str, data_len: usize) -> usize
     ensures { reject_size by.now data_len < 2 ^ 64 → result ≡ reject_size by.now data_len }

@@ -153,6 +153,44 @@ fn long_fields(rt: HostRuntime) {
 }
 
 #[test]
+fn fields_that_break_a_rule(rt: HostRuntime) {
+    // The message of this Reject is the byte ff.
+    assert_eq!(rt; read_answer(b"\x0e\x07F00\0\x01\xff\0"), Err(IlpError::NotUtf8));
+    assert_eq!(rt; IlpError::NotUtf8.number(), 15);
+    // A Fulfill with 32,768 bytes of data.
+    let mut long = [0; 32_807];
+    long[..4].copy_from_slice(b"\x0d\x82\x80\x23");
+    long[36..39].copy_from_slice(b"\x82\x80\0");
+    assert_eq!(rt; read_answer(&long), Err(IlpError::DataTooLong));
+    assert_eq!(rt; IlpError::DataTooLong.number(), 14);
+}
+
+#[test]
+fn prepares_that_are_not_written(rt: HostRuntime) {
+    let alloc = rt.alloc();
+    let late = 253_402_300_800_000;
+    let payload = [0; 32_768];
+    let rows = [
+        (late, "example.b", 0, 12),
+        (0, "example..b", 0, 13),
+        (0, "example.b", 32_768, 14),
+        (late, "example..b", 32_768, 12),
+        (late, "example.b", 32_768, 12),
+        (0, "example..b", 32_768, 13),
+    ];
+    for (expiry, destination, size, number) in rows {
+        let prepare = Prepare {
+            expiry,
+            destination,
+            payload: &payload[..size],
+            ..OFFER
+        };
+        let refused = write_prepare(alloc, &prepare).err();
+        assert_eq!(rt; refused.map(|error| error.number()), Some(number));
+    }
+}
+
+#[test]
 fn changed_bytes(rt: HostRuntime) {
     let alloc = rt.alloc();
     for (bytes, reader) in [

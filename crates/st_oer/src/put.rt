@@ -10,6 +10,8 @@ use crate::error::OerError;
 use std::alloc::Allocator;
 
 /// Appends a UInt8 (RFC 0030): the byte itself.
+///
+/// Refuses only with `NoMemory` where there was none for it; `out` then has the bytes that it had.
 pub fn put_u8<A: Allocator>(out: &mut Vec<u8, A>, x: u8) -> Result<(), OerError>
     ensures ok { OnOk result (out.new.items ≡ out.old.items ++ uint8 x) }
     ensures err { OnErr result (out.new.items ≡ out.old.items) }
@@ -22,6 +24,8 @@ pub fn put_u8<A: Allocator>(out: &mut Vec<u8, A>, x: u8) -> Result<(), OerError>
 }
 
 /// Appends a UInt64 (RFC 0030): eight bytes, the highest first.
+///
+/// Refuses only with `NoMemory` where there was none for it; `out` then has the bytes that it had.
 pub fn put_u64<A: Allocator>(out: &mut Vec<u8, A>, x: u64) -> Result<(), OerError>
     ensures ok { OnOk result (out.new.items ≡ out.old.items ++ uint64 x) }
     ensures err { OnErr result (out.new.items ≡ out.old.items) }
@@ -102,7 +106,9 @@ fn put_tail<A: Allocator>(out: &mut Vec<u8, A>, first: u8, n: usize, x: u64) -> 
     Ok(())
 }
 
-/// Appends a VarUInt (RFC 0030): the count of the number's bytes, and the fewest bytes of it.
+/// Appends a VarUInt (RFC 0030): the count of the number's bytes, and the fewest bytes of it. It takes 2 to 9 bytes.
+///
+/// Refuses only with `NoMemory` where there was none for it; `out` then has the bytes that it had.
 #[tactic(auto, using(crate::proofs::Puts::puts))]
 pub fn put_var_uint<A: Allocator>(out: &mut Vec<u8, A>, x: u64) -> Result<(), OerError>
     ensures ok { OnOk result (out.new.items ≡ out.old.items ++ var_uint x) }
@@ -115,7 +121,10 @@ pub fn put_var_uint<A: Allocator>(out: &mut Vec<u8, A>, x: u64) -> Result<(), Oe
     put_tail(out, n as u8, n, x)
 }
 
-/// Appends a length prefix (RFC 0030): one byte below 128, else 128 and the count of its bytes, and those.
+/// Appends a length prefix (RFC 0030): one byte below 128, else 128 and the count of its bytes, and those. It takes 1 to
+/// 9 bytes.
+///
+/// Refuses only with `NoMemory` where there was none for it; `out` then has the bytes that it had.
 #[tactic(auto, using(crate::proofs::Puts::puts))]
 pub fn put_length<A: Allocator>(out: &mut Vec<u8, A>, x: u64) -> Result<(), OerError>
     ensures ok { OnOk result (out.new.items ≡ out.old.items ++ length_bytes x) }
@@ -132,7 +141,9 @@ pub fn put_length<A: Allocator>(out: &mut Vec<u8, A>, x: u64) -> Result<(), OerE
     put_tail(out, 128 + n as u8, n, x)
 }
 
-/// Appends a variable octet string (RFC 0030): its length, and its bytes.
+/// Appends a variable octet string (RFC 0030): its length, and its bytes. They may be any number.
+///
+/// Refuses only with `NoMemory` where there was none for it; `out` then has the bytes that it had.
 #[tactic(auto, using(crate::proofs::Puts::puts))]
 pub fn put_octets<A: Allocator>(out: &mut Vec<u8, A>, x: &[u8]) -> Result<(), OerError>
     ensures ok { OnOk result (out.new.items ≡ out.old.items ++ octets x.now) }

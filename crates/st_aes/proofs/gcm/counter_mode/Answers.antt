@@ -2,8 +2,8 @@ use Rattle.std.proofs.Common.{◌≡◌, ◌+◌, ◌/◌, ◌∙◌, ap, refl, 
 use Rattle.st_aes.specs.Cipher.{encrypt}
 use Rattle.st_aes.specs.Gcm.{counter_block}
 use Rattle.st_aes.proofs.Streams.{counted_more, counted_all}
-use Rattle.st_aes.proofs.gcm.count.Goals.{then-i-eq0, else-i-eq0}
-use Rattle.st_aes.proofs.gcm.count.Goals as goal
+use Rattle.st_aes.proofs.gcm.counter_mode.Goals.{then-i-eq0, else-i-eq0}
+use Rattle.st_aes.proofs.gcm.counter_mode.Goals as goal
 
 pub loop-i-init : goal.loop-i-init
 loop-i-init c = record { same_length = refl; done = λ k lt. absurd (omega arith); rest = λ k le. refl; pad_is = λ some. absurd (omega arith) }
