@@ -2,7 +2,8 @@
 //!
 //! `frames` reads plain STREAM packets, one line each, and prints the longest run of each stream. What it writes is
 //! stated by the lines of its input (specs/Answers.antt): which lines are refused and by which number, and what each
-//! stream's run is. `run` reads the words and calls the command; the program hands it the standard streams.
+//! stream's run is. How a run may end, and what was written by then, is in specs/Endings.antt. `run` reads the words
+//! (specs/Words.antt) and calls the command; the program hands it the standard streams.
 #![tactic(auto)]
 
 mod error;
