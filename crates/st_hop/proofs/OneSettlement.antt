@@ -1,5 +1,6 @@
 -- A ticket is settled once, and the others stay open.
 use Rattle.std.proofs.Common.{◌≡◌, ◌≢◌, ℕ, List, [], ◌∷◌, ◌++◌, refl, sym, ap, subst, ◌∙◌, ℤ, Option, None, Some, Result, Ok, Err}
+use Rattle.std.specs.Prelude.{IfOk}
 use Rattle.st_ilp.specs.Packets.{PreparePacket}
 use Rattle.st_ilp.specs.Reading.{prepare_at}
 use Rattle.st_ilp.specs.declared.error.IlpError.{IlpError}
@@ -12,6 +13,9 @@ use Rattle.st_hop.specs.Hop.{Hop}
 use Rattle.st_hop.specs.Lawful.{IsLawful}
 use Rattle.st_hop.specs.Arriving.{Arrival, Forwards, arrived, at_packet, sent_on, judged, ticket_for, onward}
 use Rattle.st_hop.specs.Settling.{closing, closed, settled}
+use Rattle.st_hop.specs.declared.verdict.Verdict.{Verdict}
+use Rattle.st_hop.specs.declared.verdict.Verdict.TheVariants.{Forward, Answer}
+use Rattle.st_hop.specs.Seen.{verdict_seen, IsReady}
 use Rattle.st_hop.proofs.Numbers.{spent, others_stay, pushed_is_among}
 
 closed_tickets : (h : Hop) (t : Open) (outcome : Option (List ℕ)) (r : Result Closing Refusal) → (closed h t outcome r).1.tickets ≡ without h.tickets t.number
@@ -46,3 +50,12 @@ at_packet_gives_out h account (Ok p) now l = sent_gives_out h account p (judged 
 
 pub arrived_gives_out : (h : Hop) (account : ℕ) (bytes : List ℕ) (now : ℤ) → IsLawful h → GivesOut (arrived h account bytes now)
 arrived_gives_out h account bytes now l = at_packet_gives_out h account (prepare_at bytes) now l
+
+seen_ready : {X : Type 0} (h : Hop) (v : Verdict X) → GivesOut (verdict_seen v, h) → IsReady h v
+seen_ready h (Forward ticket account bytes) g = g ticket account bytes.items refl
+seen_ready h (Answer bytes) g = tt
+
+-- the ticket of a Prepare that was sent on is open
+pub sent_ready : {X E : Type 0} (h k : Hop) (r : Result (Verdict X) E) (account : ℕ) (p : PreparePacket) (outgoing : ℕ) → IsLawful h → IfOk r (λ v. sent_on h account p (Ok outgoing) ≡ (verdict_seen v, k)) → IfOk r (λ v. IsReady k v)
+sent_ready h k (Err e) account p outgoing l q = q
+sent_ready h k (Ok v) account p outgoing l q = seen_ready k v (subst GivesOut q (sent_gives_out h account p (Ok outgoing) l))

@@ -13,7 +13,7 @@ ghost use Rattle.st_hop.specs.Arriving.{Answers, judged, arrived, sent_on, ticke
 ghost use Rattle.st_hop.specs.Settling.{settled};
 ghost use Rattle.st_hop.specs.Table.{is_table, new_hop};
 ghost use Rattle.st_hop.specs.Lawful.{IsLawful};
-ghost use Rattle.st_hop.specs.Seen.{way_seen, verdict_seen, outcome_seen};
+ghost use Rattle.st_hop.specs.Seen.{way_seen, verdict_seen, outcome_seen, IsReady};
 
 use crate::account::{Account, lower, raise, zeros};
 use crate::error::HopError;
@@ -315,7 +315,8 @@ impl<A: Allocator + Copy> HopState<A> {
     /// Takes the bytes of a Prepare that came from an account: gives the Prepare that goes on, with a ticket for its
     /// answer, or the Reject that answers it (RFC 0027). The amount of one that goes on is held against the account.
     ///
-    /// Refuses with `NoAccount` where there is no such account, and else with `NoMemory` where there was none.
+    /// The ticket is open afterwards, as `settle` asks. Refuses with `NoAccount` where there is no such account, and else
+    /// with `NoMemory` where there was none, or where 2^64 - 1 tickets were given out.
     pub fn arrive(
         &mut self,
         account: usize,
@@ -323,6 +324,7 @@ impl<A: Allocator + Copy> HopState<A> {
         now: Moment,
     ) -> Result<Verdict<A>, HopError>
         ensures arrived { IfOk result (λ v. arrived self.old account bytes.now now ≡ (verdict_seen v, self.new)) }
+        ensures ready { IfOk result (λ v. IsReady self.new v) }
         ensures refused { MatchBool (nat_lt account (length self.old.accounts)) (IsOkUnless result HopError.NoMemory) (IsErrOf result HopError.NoAccount) }
         ensures kept { OnErr result (self.new ≡ self.old) }
     {

@@ -15,7 +15,7 @@ use std::alloc::Allocator;
 pub enum Outcome<A: Allocator + Copy> {
     /// These bytes came back.
     Answered(Vec<u8, A>),
-    /// None did.
+    /// No bytes came back.
     Fault,
 }
 

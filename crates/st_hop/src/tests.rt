@@ -167,6 +167,23 @@ fn the_whole_limit(rt: HostRuntime) -> Result<(), Fail> {
 }
 
 #[test]
+fn the_greatest_sum(rt: HostRuntime) -> Result<(), Fail> {
+    let alloc = rt.alloc();
+    let now = moment(&rt, 0);
+    let greatest = (1 << 63) - 1;
+    let mut hop = hop(alloc, greatest, u64::MAX)?;
+    let all = prepare(alloc, greatest, EXPIRY, &ZERO_DIGEST, "example.b.x")?;
+    let one = prepare(alloc, 1, EXPIRY, &ZERO_DIGEST, "example.a")?;
+    let t04 = own_reject(alloc, b"T04")?;
+    let (ticket, to, _) = forwarded(&rt, &mut hop, 0, &all, now);
+    ticket.abandon();
+    assert!(rt; to == 1);
+    assert!(rt; answered(&rt, &mut hop, 1, &one, now).as_slice() == t04.as_slice());
+    assert!(rt; hop.held(1) == Ok(0));
+    Ok(())
+}
+
+#[test]
 fn amount_too_large(rt: HostRuntime) -> Result<(), Fail> {
     let alloc = rt.alloc();
     let mut hop = hop(alloc, 1000, 100)?;
