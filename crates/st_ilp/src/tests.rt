@@ -155,7 +155,10 @@ fn long_fields(rt: HostRuntime) {
 #[test]
 fn fields_that_break_a_rule(rt: HostRuntime) {
     // The message of this Reject is the byte ff.
-    assert_eq!(rt; read_answer(b"\x0e\x07F00\0\x01\xff\0"), Err(IlpError::NotUtf8));
+    assert_eq!(rt;
+        read_answer(b"\x0e\x07F00\0\x01\xff\0"),
+        Err(IlpError::NotUtf8)
+    );
     assert_eq!(rt; IlpError::NotUtf8.number(), 15);
     // A Fulfill with 32,768 bytes of data.
     let mut long = [0; 32_807];

@@ -61,7 +61,8 @@ impl Keys {
         unseal(&self.encryption, iv, expected, text)
     }
 
-    /// The fulfillment of a Prepare with this payload.
+    /// The fulfillment of a Prepare with this payload (RFC 0029): HMAC-SHA256, under the fulfillment key, of the payload
+    /// as it is sent, encrypted, with its IV and its tag. No memory is taken.
     pub fn fulfillment(&self, payload: &[u8]) -> [u8; 32]
         ensures { result ≡ fulfillment self.now payload.now }
     {

@@ -35,8 +35,8 @@ fn with_pad(pad: u8, key: [u8; 64]) -> [u8; 64]
     ensures { result ≡ with_pad pad key }
 {
     let mut out = key;
-    for i in 0..BLOCK {
-        out[i] = key[i] ^ pad;
+    for byte in out.iter_mut() {
+        *byte ^= pad;
     }
     out
 }

@@ -71,9 +71,11 @@ fn packet_seals_and_opens(rt: HostRuntime) -> Result<(), Fail> {
 fn payloads_that_do_not_open(rt: HostRuntime) {
     let keys = Keys::of(SECRET);
 
-    let mut short = [0u8; 27];
+    let mut short = [7u8; 27];
     assert!(rt; keys.unseal_payload(&mut short) == Err(KeyError::Short));
+    assert_eq!(rt; short, [7u8; 27]);
     assert!(rt; keys.open_packet(&mut short, 12).err() == Some(KeyError::Short));
+    assert_eq!(rt; short, [7u8; 27]);
     assert_eq!(rt; KeyError::Short.number(), 30);
     assert_eq!(rt; KeyError::Short.inner(), None);
 
@@ -81,6 +83,7 @@ fn payloads_that_do_not_open(rt: HostRuntime) {
     wrong[27] ^= 1;
     let before = wrong;
     assert!(rt; keys.unseal_payload(&mut wrong) == Err(KeyError::Tag));
+    assert_eq!(rt; wrong, before);
     assert!(rt; keys.open_packet(&mut wrong, 12).err() == Some(KeyError::Tag));
     assert_eq!(rt; wrong, before);
     assert_eq!(rt; KeyError::Tag.number(), 31);
