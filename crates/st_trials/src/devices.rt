@@ -1,4 +1,5 @@
-//! The command `frames` over devices that move few bytes a call, fail or interrupt.
+//! The command `frames` over devices that move few bytes a call, fail or interrupt: what it answers, how often it calls them,
+//! and what it had flushed when a call failed.
 
 use st_commands::{Fault, Lines, answer_frames, run_frames};
 use st_oer::{CountRead, CountWrite, utf8};
@@ -18,6 +19,7 @@ pub(crate) struct Faulty<T> {
 }
 
 impl<T> Faulty<T> {
+    /// Where `fails_at` is 0 no call fails.
     pub(crate) fn new(inner: T, piece: usize, fails_at: u64, kind: ErrorKind) -> Self {
         Faulty {
             inner,
@@ -66,6 +68,50 @@ impl<T: Write> Write for Faulty<T> {
     }
 }
 
+/// A writer to memory, where what was flushed stands apart from what was only written.
+#[derive(Drop)]
+pub(crate) struct Sink {
+    flushed: Vec<u8>,
+    waiting: Vec<u8>,
+}
+
+impl Sink {
+    pub(crate) fn new(alloc: Global) -> Self {
+        Sink {
+            flushed: Vec::new(alloc),
+            waiting: Vec::new(alloc),
+        }
+    }
+
+    /// What was flushed.
+    pub(crate) fn text(&self) -> &str {
+        utf8(&self.flushed).unwrap_or("no text")
+    }
+
+    /// Whether no byte was ever written.
+    pub(crate) fn is_untouched(&self) -> bool {
+        self.flushed.is_empty() && self.waiting.is_empty()
+    }
+
+    /// What was written since the last flush.
+    fn unflushed(&self) -> &str {
+        utf8(&self.waiting).unwrap_or("no text")
+    }
+}
+
+impl Write for Sink {
+    fn write(&mut self, buf: &[u8]) -> io::Result<usize> {
+        self.waiting.extend_from_slice(buf)?;
+        Ok(buf.len())
+    }
+
+    fn flush(&mut self) -> io::Result<()> {
+        self.flushed.extend_from_slice(&self.waiting)?;
+        self.waiting.clear();
+        Ok(())
+    }
+}
+
 /// What the program is run on: "cd" at 2 of stream 1, then "ab" at 0, twice.
 pub(crate) const STORED: &str = "010c010101000101140701010102026364
 010c010201000101140701010100026162
@@ -75,7 +121,8 @@ pub(crate) const STORED: &str = "010c010101000101140701010102026364
 /// What it prints of that.
 pub(crate) const STORED_TEXT: &str = "stream 1 4 61626364\n";
 
-/// The first two of those lines, "ho" of stream 3, and between them two lines that are refused.
+/// The first two of those lines, "ho" of stream 3, and between them two lines that are refused. Their newlines are the
+/// bytes 38 and 78, counted from 1, of 113.
 const MIXED: &str = "010c010101000101140701010102026364
 0g
 010c010201000101140701010100026162
@@ -86,23 +133,32 @@ const MIXED: &str = "010c010101000101140701010102026364
 const MIXED_TEXT: &str =
     "line 2 refused 95\nline 4 refused 20\nstream 1 4 61626364\nstream 3 2 686f\n";
 
+/// The beginnings of `MIXED_TEXT` after one, two and three of its lines.
+const ONE_LINE: &str = "line 2 refused 95\n";
+
+const TWO_LINES: &str = "line 2 refused 95\nline 4 refused 20\n";
+
+const THREE_LINES: &str = "line 2 refused 95\nline 4 refused 20\nstream 1 4 61626364\n";
+
 /// What a run did: its status, what it wrote and told of a fault, and how often it called its reader and its writer.
 #[derive(Drop)]
 pub(crate) struct Told {
     pub(crate) status: u8,
-    written: Vec<u8>,
-    errors: Vec<u8>,
+    written: Sink,
+    errors: Sink,
     reads: u64,
     writes: u64,
 }
 
 impl Told {
+    /// What it wrote and flushed.
     pub(crate) fn text(&self) -> &str {
-        utf8(&self.written).unwrap_or("no text")
+        self.written.text()
     }
 
+    /// What it told of a fault, and flushed.
     pub(crate) fn fault(&self) -> &str {
-        utf8(&self.errors).unwrap_or("no text")
+        self.errors.text()
     }
 }
 
@@ -110,8 +166,8 @@ impl Told {
 pub(crate) fn run_over<A: Allocator + Copy>(
     alloc: A,
     reader: Faulty<&[u8]>,
-    writer: Faulty<Vec<u8>>,
-    errors: Faulty<Vec<u8>>,
+    writer: Faulty<Sink>,
+    errors: Faulty<Sink>,
 ) -> Told {
     let mut reader = CountRead::new(reader);
     let mut writer = CountWrite::new(writer);
@@ -129,15 +185,15 @@ pub(crate) fn run_over<A: Allocator + Copy>(
     }
 }
 
-/// A writer to memory.
-fn sink(alloc: Global) -> Faulty<Vec<u8>> {
-    Faulty::sound(Vec::new(alloc))
+/// A writer with no fault.
+fn sound_sink(alloc: Global) -> Faulty<Sink> {
+    Faulty::sound(Sink::new(alloc))
 }
 
-/// The same over this input, with no fault.
+/// The command over this input, with no fault of a device.
 pub(crate) fn answer_to<A: Allocator + Copy>(memory: A, alloc: Global, input: &str) -> Told {
     let reader = Faulty::sound(input.as_bytes());
-    run_over(memory, reader, sink(alloc), sink(alloc))
+    run_over(memory, reader, sound_sink(alloc), sound_sink(alloc))
 }
 
 /// However few bytes a call moves, the answer is the same.
@@ -147,8 +203,8 @@ fn few_bytes_a_call(rt: HostRuntime) {
     for (input, text, status) in [(STORED, STORED_TEXT, 0), (MIXED, MIXED_TEXT, 1)] {
         for (taken, given) in [(1, 4096), (4096, 1), (1, 1), (34, 5), (4096, 4096)] {
             let reader = Faulty::new(input.as_bytes(), taken, 0, ErrorKind::Other);
-            let writer = Faulty::new(Vec::new(alloc), given, 0, ErrorKind::Other);
-            let told = run_over(alloc, reader, writer, sink(alloc));
+            let writer = Faulty::new(Sink::new(alloc), given, 0, ErrorKind::Other);
+            let told = run_over(alloc, reader, writer, sound_sink(alloc));
             assert_eq!(rt; told.text(), text, "{taken} and {given}");
             assert_eq!(rt; told.fault(), "", "{taken} and {given}");
             assert_eq!(rt; told.status, status, "{taken} and {given}");
@@ -157,36 +213,60 @@ fn few_bytes_a_call(rt: HostRuntime) {
 }
 
 /// Each read fails in turn, of which there is one for each piece and one more that meets the end. The fault is told, and
-/// what was written is the beginning of the answer.
+/// each line that was read before is answered, and no more. Each row: the piece, the first and the last such read, and what
+/// was flushed.
 #[test]
 fn reads_fail(rt: HostRuntime) {
+    let rows: [(usize, u64, u64, &str); 8] = [
+        (1, 1, 38, ""),
+        (1, 39, 78, ONE_LINE),
+        (1, 79, 114, TWO_LINES),
+        (40, 1, 1, ""),
+        (40, 2, 2, ONE_LINE),
+        (40, 3, 4, TWO_LINES),
+        (4096, 1, 1, ""),
+        (4096, 2, 2, TWO_LINES),
+    ];
     let alloc = rt.alloc();
-    for (piece, reads) in [(1, 114), (40, 4), (4096, 2)] {
-        for n in 1..=reads {
+    for (piece, first, last, text) in rows {
+        for n in first..=last {
             let reader = Faulty::new(MIXED.as_bytes(), piece, n, ErrorKind::Other);
-            let told = run_over(alloc, reader, sink(alloc), sink(alloc));
-            assert_eq!(rt; told.fault(), "fault 90\n", "at {n}");
-            assert_eq!(rt; told.status, 1, "at {n}");
-            assert_eq!(rt; told.reads, n);
-            assert!(rt; MIXED_TEXT.starts_with(told.text()), "at {n}");
+            let told = run_over(alloc, reader, sound_sink(alloc), sound_sink(alloc));
+            assert_eq!(rt; told.text(), text, "{piece} at {n}");
+            assert_eq!(rt; told.fault(), "fault 90\n", "{piece} at {n}");
+            assert_eq!(rt; told.status, 1, "{piece} at {n}");
+            assert_eq!(rt; told.reads, n, "{piece}");
         }
     }
 }
 
 /// Each write and each flush fails in turn: there is a write for each piece of a text, and a flush after each text. The
-/// texts are the refusals that one read makes known, and each stream's line.
+/// texts are the refusals that one read makes known, and each stream's line. Each row: the pieces that are read and written,
+/// the first and the last call that fails, and what was flushed before.
 #[test]
 fn writes_fail(rt: HostRuntime) {
+    let rows: [(usize, usize, u64, u64, &str); 10] = [
+        (1, 1, 1, 19, ""),
+        (1, 1, 20, 38, ONE_LINE),
+        (1, 1, 39, 59, TWO_LINES),
+        (1, 1, 60, 76, THREE_LINES),
+        (4096, 1, 1, 37, ""),
+        (4096, 1, 38, 58, TWO_LINES),
+        (4096, 1, 59, 75, THREE_LINES),
+        (4096, 4096, 1, 2, ""),
+        (4096, 4096, 3, 4, TWO_LINES),
+        (4096, 4096, 5, 6, THREE_LINES),
+    ];
     let alloc = rt.alloc();
-    for (taken, given, writes) in [(1, 1, 76), (4096, 1, 75), (4096, 4096, 6)] {
-        for n in 1..=writes {
+    for (taken, given, first, last, text) in rows {
+        for n in first..=last {
             let reader = Faulty::new(MIXED.as_bytes(), taken, 0, ErrorKind::Other);
-            let writer = Faulty::new(Vec::new(alloc), given, n, ErrorKind::Other);
-            let told = run_over(alloc, reader, writer, sink(alloc));
-            assert_eq!(rt; told.fault(), "fault 91\n", "at {n}");
-            assert_eq!(rt; told.status, 1, "at {n}");
-            assert_eq!(rt; told.writes, n);
-            assert!(rt; MIXED_TEXT.starts_with(told.text()), "at {n}");
+            let writer = Faulty::new(Sink::new(alloc), given, n, ErrorKind::Other);
+            let told = run_over(alloc, reader, writer, sound_sink(alloc));
+            assert_eq!(rt; told.text(), text, "{taken} and {given} at {n}");
+            assert_eq!(rt; told.fault(), "fault 91\n", "{taken} and {given} at {n}");
+            assert_eq!(rt; told.status, 1, "{taken} and {given} at {n}");
+            assert_eq!(rt; told.writes, n, "{taken} and {given}");
         }
     }
 }
@@ -197,8 +277,8 @@ fn calls_are_interrupted(rt: HostRuntime) {
     let alloc = rt.alloc();
     for n in 1..=120u64 {
         let reader = Faulty::new(MIXED.as_bytes(), 1, n, ErrorKind::Interrupted);
-        let writer = Faulty::new(Vec::new(alloc), 1, n, ErrorKind::Interrupted);
-        let told = run_over(alloc, reader, writer, sink(alloc));
+        let writer = Faulty::new(Sink::new(alloc), 1, n, ErrorKind::Interrupted);
+        let told = run_over(alloc, reader, writer, sound_sink(alloc));
         assert_eq!(rt; told.text(), MIXED_TEXT, "at {n}");
         assert_eq!(rt; told.fault(), "", "at {n}");
         assert_eq!(rt; told.status, 1, "at {n}");
@@ -213,7 +293,7 @@ fn turns_are_used_up(rt: HostRuntime) {
         for given in 0..=enough {
             let mut turns = given;
             let mut reader = CountRead::new(Faulty::sound(input.as_bytes()));
-            let mut writer = CountWrite::new(sink(alloc));
+            let mut writer = CountWrite::new(sound_sink(alloc));
             let answer = answer_frames(alloc, &mut reader, &mut writer, &mut turns);
             let want = if given < enough {
                 Err(Fault::Turns)
@@ -227,16 +307,17 @@ fn turns_are_used_up(rt: HostRuntime) {
     assert_eq!(rt; Fault::Turns.number(), 93);
 }
 
-/// A fault that cannot be told is a fault.
+/// A fault that cannot be told is a fault, whichever call of the writer of errors fails.
 #[test]
 fn the_telling_fails(rt: HostRuntime) {
     let alloc = rt.alloc();
-    for (n, fault) in [(1, ""), (2, "fault"), (3, "fault 90\n")] {
+    for (n, waiting) in [(1, ""), (2, "fault"), (3, "fault 90\n")] {
         let reader = Faulty::new(STORED.as_bytes(), 1, 1, ErrorKind::Other);
-        let errors = Faulty::new(Vec::new(alloc), 5, n, ErrorKind::Other);
-        let told = run_over(alloc, reader, sink(alloc), errors);
+        let errors = Faulty::new(Sink::new(alloc), 5, n, ErrorKind::Other);
+        let told = run_over(alloc, reader, sound_sink(alloc), errors);
         assert_eq!(rt; told.status, 1, "at {n}");
-        assert_eq!(rt; told.fault(), fault, "at {n}");
+        assert_eq!(rt; told.errors.unflushed(), waiting, "at {n}");
+        assert_eq!(rt; told.fault(), "", "at {n}");
         assert_eq!(rt; told.text(), "", "at {n}");
     }
 }

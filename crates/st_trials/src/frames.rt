@@ -10,30 +10,49 @@ const ENDS: &str = "\r\n010C010101000101140701010102026364\r\n\n\
 /// The digits of a packet's front: version 1, kind 12, sequence 1, amount 0, one frame.
 const FRONT: &str = "010c010101000101";
 
+/// "abcd" at 0 of stream 1, and "XYZ" at 2: of these the "Z" alone is new.
+const ONE_MORE: &str = "010c0101010001011409010101000461626364
+010c0102010001011408010101020358595a
+";
+
+/// "cd" at 1 of stream 1, and twice "ab" at 0: the "c" was first.
+const FIRST_STAYS: &str = "010c010101000101140701010101026364
+010c010201000101140701010100026162
+010c010201000101140701010100026162
+";
+
 /// Inputs, and what is written for them.
+const ANSWERED: [(&str, &str); 20] = [
+    ("", ""),
+    (ENDS, "stream 1 4 6a6b6364\n"),
+    (ONE_MORE, "stream 1 5 616263645a\n"),
+    (FIRST_STAYS, "stream 1 3 616364\n"),
+    ("zz\n", "line 1 refused 95\n"),
+    ("\n\r\n010\n", "line 3 refused 95\n"),
+    ("0\n\n0g", "line 1 refused 95\nline 3 refused 95\n"),
+    // A carriage return in the middle, doubled, and at the end of the input.
+    ("01\r0c\n", "line 1 refused 95\n"),
+    ("010c\r\r\n", "line 1 refused 95\n"),
+    ("010c\r", "line 1 refused 95\n"),
+    // The version comes before the kind, and the kind before the numbers.
+    ("020d\n", "line 1 refused 20\n"),
+    ("010d\n", "line 1 refused 21\n"),
+    ("01\n", "line 1 refused 22(1)\n"),
+    ("010c8101\n", "line 1 refused 22(2)\n"),
+    ("010c020001\n", "line 1 refused 22(3)\n"),
+    ("010c09010000000000000000\n", "line 1 refused 22(4)\n"),
+    // A frame of whose seven bytes three came.
+    ("010c01010100010114070101\n", "line 1 refused 22(1)\n"),
+    // A limit whose one byte is missing; alone, and behind a frame of an unknown type.
+    ("010c010101000101030101\n", "line 1 refused 23(0)\n"),
+    ("010c010101000102990161030101\n", "line 1 refused 23(1)\n"),
+    // Stream 65.
+    ("010c0101010001011406014101000161\n", "line 1 refused 63\n"),
+];
+
 #[test]
 fn lines_are_answered(rt: HostRuntime) {
-    let rows: [(&str, &str); 15] = [
-        ("", ""),
-        (ENDS, "stream 1 4 6a6b6364\n"),
-        ("\n\r\n010\n", "line 3 refused 95\n"),
-        ("0\n\n0g", "line 1 refused 95\nline 3 refused 95\n"),
-        // A carriage return in the middle, doubled, and at the end of the input.
-        ("01\r0c\n", "line 1 refused 95\n"),
-        ("010c\r\r\n", "line 1 refused 95\n"),
-        ("010c\r", "line 1 refused 95\n"),
-        // The version comes before the kind, and the kind before the numbers.
-        ("020d\n", "line 1 refused 20\n"),
-        ("010d\n", "line 1 refused 21\n"),
-        ("01\n", "line 1 refused 22(1)\n"),
-        ("010c8101\n", "line 1 refused 22(2)\n"),
-        ("010c020001\n", "line 1 refused 22(3)\n"),
-        ("010c09010000000000000000\n", "line 1 refused 22(4)\n"),
-        // A limit whose one byte is missing; alone, and behind a frame of an unknown type.
-        ("010c010101000101030101\n", "line 1 refused 23(0)\n"),
-        ("010c010101000102990161030101\n", "line 1 refused 23(1)\n"),
-    ];
-    for (input, text) in rows {
+    for (input, text) in ANSWERED {
         let told = answer_to(rt.alloc(), rt.alloc(), input);
         assert_eq!(rt; told.text(), text, "{input}");
         assert_eq!(rt; told.fault(), "", "{input}");

@@ -1,3 +1,5 @@
+//! An inbox that pieces are put into and taken out of while memory is refused.
+
 use refusing::Refusing;
 use st_reassembly::{Inbox, InboxError};
 use std::alloc::{Allocator, Global};
