@@ -1,6 +1,8 @@
 -- The numbers by which programs print refusals.
 use Rattle.std.specs.Prelude.{ℕ, Option, Some, None}
 use Rattle.st_oer.specs.Errors as oer
+use Rattle.st_oer.specs.declared.error.OerError.{OerError}
+use Rattle.st_oer.specs.declared.error.OerError.TheVariants as fault
 use Rattle.st_ilp.specs.declared.error.IlpError.{IlpError}
 use Rattle.st_ilp.specs.declared.error.IlpError.TheVariants.{Oer, Kind, Expiry, Address, DataTooLong, NotUtf8, Code, Trailing, NoMemory}
 
@@ -27,3 +29,8 @@ inner NotUtf8 = None
 inner Code = None
 inner Trailing = None
 inner NoMemory = None
+
+-- the refusal that a fault of a field becomes: want of memory stays that
+abbrev pub wrapped : OerError → IlpError
+wrapped fault.NoMemory = NoMemory
+wrapped e = Oer e

@@ -5,7 +5,8 @@ use Rattle.st_oer.specs.Address.{is_address}
 use Rattle.st_oer.specs.Text.{is_utf8}
 use Rattle.st_oer.specs.Reading.{byte_at, fixed_at, u64_at, octets_at}
 use Rattle.st_ilp.specs.declared.error.IlpError.{IlpError}
-use Rattle.st_ilp.specs.declared.error.IlpError.TheVariants.{Oer, Kind, Address, DataTooLong, NotUtf8, Code, Trailing}
+use Rattle.st_ilp.specs.declared.error.IlpError.TheVariants.{Kind, Address, DataTooLong, NotUtf8, Code, Trailing}
+use Rattle.st_ilp.specs.Errors.{wrapped}
 use Rattle.st_ilp.specs.Packets.{PreparePacket, AnswerPacket, Fulfilled, Rejected}
 use Rattle.st_ilp.specs.Expiry.{expiry_at}
 use Rattle.st_ilp.specs.Rules.{is_data, is_sender, is_code}
@@ -19,7 +20,7 @@ abbrev pub ◌>>=◌ : {A B : Type 0} → Result A IlpError → (A → Result B 
 -- a fault in a spelling
 abbrev pub spelled : {A : Type 0} → Result A OerError → Result A IlpError
 spelled (Ok x) = Ok x
-spelled (Err e) = Err (Oer e)
+spelled (Err e) = Err (wrapped e)
 
 -- a value where its rule holds, else the rule's refusal
 abbrev pub provided : {A : Type 0} → Bool → IlpError → A → Result A IlpError

@@ -1,8 +1,8 @@
 //! Why a packet could not be read or written.
 
 ghost use Rattle.std.specs.Prelude.{◌≡◌};
-ghost use Rattle.st_ilp.specs.Errors.{number, inner};
-ghost use Rattle.st_ilp.specs.declared.error.IlpError.TheVariants.{Oer, NoMemory};
+ghost use Rattle.st_ilp.specs.Errors.{number, inner, wrapped};
+ghost use Rattle.st_ilp.specs.declared.error.IlpError.TheVariants.{NoMemory};
 
 use st_oer::OerError;
 use std::alloc::{AllocError, AllocFailed};
@@ -77,10 +77,13 @@ impl IlpError {
 }
 
 impl From<OerError> for IlpError {
-    ghost from_gives = { λ error e. e ≡ Oer error };
+    ghost from_gives = { λ fault e. e ≡ wrapped fault };
 
-    fn from(error: OerError) -> IlpError {
-        IlpError::Oer(error)
+    fn from(fault: OerError) -> IlpError {
+        match fault {
+            OerError::NoMemory => IlpError::NoMemory,
+            fault => IlpError::Oer(fault),
+        }
     }
 }
 
