@@ -8,8 +8,9 @@ use Rattle.std.proofs.lemmas.Str.{IsUtf8-from_is_utf8, is_utf8-from_IsUtf8}
 use Rattle.st_oer.specs.Spelling.{length_bytes}
 use Rattle.st_frames.specs.declared.error.FrameError.TheVariants.{FrameFormat, TooLong}
 use Rattle.st_frames.specs.Frames.{Known}
+use Rattle.st_frames.specs.declared.field.Field.{Field}
 use Rattle.st_frames.specs.declared.frame.Frame.{Frame}
-use Rattle.st_frames.specs.Seen.{seen}
+use Rattle.st_frames.specs.Seen.{seen, field_text, fields_text}
 use Rattle.st_frames.specs.Written.{is_unwritable, packet_text, packet_length, judged, contents_text, frame_text, frames_text, KnownFits, AllFit}
 
 pub length-packet_text : (kind s a : ℕ) (ks : List Known) → length (packet_text kind s a ks) ≡ packet_length s a ks
@@ -82,6 +83,12 @@ pub contents_short : (fs : List Frame) (i : ℕ) (d : Frame) → i < length fs �
 contents_short fs i d lt short =
     let k : Known = seen (get_or fs i d) in
     omega (arith, contents_below k, frames_text-drop fs i, ap length (frames_text-next fs i d lt), length-append (frame_text k) (frames_text (map seen (drop (i + 1) fs))))
+
+-- three fields that are appended one after another
+pub put_three : (fs : List Field) (d : Field) (o p q r : List ℕ) → length fs ≡ 3 → p ≡ o ++ field_text (get_or fs 0 d) → q ≡ p ++ field_text (get_or fs 1 d)
+    → r ≡ q ++ field_text (get_or fs 2 d) → r ≡ o ++ fields_text fs
+put_three (x ∷ y ∷ z ∷ []) d o p q r three first second third = rw (third, second, first) (simp (append_assoc, append-nil))
+put_three fs d o p q r three first second third = absurd (omega (arith, three))
 
 pub ruleset lengths = (length-append)
 

@@ -1,7 +1,10 @@
 -- How a contract sees what the code holds.
-use Rattle.std.specs.Prelude.{◌≡◌, ℕ, List, Result, Ok, Err, IsOk}
+use Rattle.std.specs.Prelude.{◌≡◌, ℕ, List, [], ◌∷◌, ◌++◌, Result, Ok, Err, IsOk}
+use Rattle.st_oer.specs.Spelling.{octets, var_uint}
 use Rattle.st_frames.specs.declared.error.FrameError.{FrameError}
 use Rattle.st_frames.specs.declared.error.FrameError.TheVariants.{NoMemory}
+use Rattle.st_frames.specs.declared.field.Field.{Field}
+use Rattle.st_frames.specs.declared.field.Field.TheVariants.{Byte, Number, Octets, Nothing}
 use Rattle.st_frames.specs.declared.frame.Frame.{Frame}
 use Rattle.st_frames.specs.declared.frame.Frame.TheVariants as code
 use Rattle.st_frames.specs.Frames.{Known, ConnectionClose, ConnectionNewAddress, ConnectionMaxData, ConnectionDataBlocked, StreamClose, StreamMoney, StreamMaxMoney, StreamMoneyBlocked, StreamData, StreamMaxData, StreamDataBlocked}
@@ -34,6 +37,18 @@ seen (code.StreamMoneyBlocked stream send_max total_sent) = StreamMoneyBlocked s
 seen (code.StreamData stream offset bytes) = StreamData stream offset bytes.now
 seen (code.StreamMaxData stream max_offset) = StreamMaxData stream max_offset
 seen (code.StreamDataBlocked stream max_offset) = StreamDataBlocked stream max_offset
+
+-- the spelling of a field
+abbrev pub field_text : Field → List ℕ
+field_text (Byte n) = n ∷ []
+field_text (Number n) = var_uint n
+field_text (Octets bytes) = octets bytes.now
+field_text Nothing = []
+
+-- fields one after another
+abbrev pub fields_text : List Field → List ℕ
+fields_text [] = []
+fields_text (f ∷ fs) = field_text f ++ fields_text fs
 
 -- a frame with its index
 abbrev pub seen_at : ℕ × Frame → ℕ × Known

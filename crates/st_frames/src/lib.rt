@@ -6,6 +6,7 @@
 
 mod contents;
 mod error;
+mod field;
 mod frame;
 mod frame_type;
 mod laws;

@@ -1,18 +1,18 @@
 //! Writing: the one spelling of a packet.
 
-ghost use Rattle.std.specs.Prelude.{◌≡◌, ◌<◌, ◌≤◌, ◌++◌, ◌^◌, map, length, None, OnOk, IfOk, IsOkUnless, true, false};
+ghost use Rattle.std.specs.Prelude.{◌≡◌, ◌<◌, ◌≤◌, ◌++◌, ◌^◌, map, length, None, OnOk, IfOk, IsOkUnless, false};
 ghost use Rattle.std.specs.List.{position};
-ghost use Rattle.st_oer.specs.Text.{is_utf8};
 ghost use Rattle.st_frames.specs.Seen.{Writes, seen};
 ghost use Rattle.st_frames.specs.Table.{layout};
 ghost use Rattle.st_frames.specs.Written as specs;
 
 use crate::error::FrameError;
+use crate::field::fields;
 use crate::frame::Frame;
 use crate::frame_type;
 use crate::length::{contents_len, packet_len};
 use crate::packet::VERSION;
-use st_oer::{OerError, is_address, put_length, put_octets, put_u8, put_var_uint};
+use st_oer::{OerError, is_address, put_length, put_u8, put_var_uint};
 use std::alloc::Allocator;
 
 /// Whether a frame tells an address that is none. It can't be written.
@@ -44,79 +44,18 @@ fn type_of(frame: Frame<'_>) -> u8
     }
 }
 
-/// The bytes of a text. They are UTF-8.
-#[tactic(auto, using(crate::proofs::Puts::texts))]
-fn text_bytes(text: &str) -> &[u8]
-    ensures bytes { result.now ≡ text.now }
-    ensures utf8 { is_utf8 text.now ≡ true }
-{
-    text.as_bytes()
-}
-
 /// Appends a frame's contents.
-#[tactic(auto, unfolding(crate::specs::Written::contents_text, crate::specs::Written::KnownFits, crate::specs::Table::row_of), using(crate::proofs::Puts::puts))]
+#[tactic(auto, using(crate::proofs::Puts::puts))]
 fn put_contents<A: Allocator>(out: &mut Vec<u8, A>, frame: Frame<'_>) -> Result<(), OerError>
     ensures ok { OnOk result (out.new.items ≡ out.old.items ++ specs.contents_text (seen frame.entry)) }
     ensures fits { OnOk result (specs.is_unwritable (seen frame.entry) ≡ false → specs.KnownFits (seen frame.entry)) }
     ensures only_memory { IsOkUnless result OerError.NoMemory }
 {
-    match frame {
-        Frame::ConnectionClose { code, message } => {
-            put_u8(out, code)?;
-            put_octets(out, text_bytes(message))
-        }
-        Frame::ConnectionNewAddress { address } => put_octets(out, text_bytes(address)),
-        Frame::ConnectionMaxData { max_offset } | Frame::ConnectionDataBlocked { max_offset } => {
-            put_var_uint(out, max_offset)
-        }
-        Frame::StreamClose {
-            stream,
-            code,
-            message,
-        } => {
-            put_var_uint(out, stream)?;
-            put_u8(out, code)?;
-            put_octets(out, text_bytes(message))
-        }
-        Frame::StreamMoney {
-            stream,
-            shares: number,
-        }
-        | Frame::StreamMaxData {
-            stream,
-            max_offset: number,
-        }
-        | Frame::StreamDataBlocked {
-            stream,
-            max_offset: number,
-        } => {
-            put_var_uint(out, stream)?;
-            put_var_uint(out, number)
-        }
-        Frame::StreamMaxMoney {
-            stream,
-            receive_max: most,
-            total_received: total,
-        }
-        | Frame::StreamMoneyBlocked {
-            stream,
-            send_max: most,
-            total_sent: total,
-        } => {
-            put_var_uint(out, stream)?;
-            put_var_uint(out, most)?;
-            put_var_uint(out, total)
-        }
-        Frame::StreamData {
-            stream,
-            offset,
-            bytes,
-        } => {
-            put_var_uint(out, stream)?;
-            put_var_uint(out, offset)?;
-            put_octets(out, bytes)
-        }
-    }
+    let [first, second, third] = fields(frame);
+    first.put(out)?;
+    second.put(out)?;
+    third.put(out)?;
+    Ok(())
 }
 
 /// Appends a frame: its type, and its contents as an octet string.
