@@ -17,6 +17,10 @@ abbrev pub IsNumbered : ℕ → List Open → ℕ → Type 0
 IsNumbered first [] next = first ≤ next
 IsNumbered first (t ∷ ts) next = (first ≤ t.number) × IsNumbered (t.number + 1) ts next
 
+-- in the order of their numbers, no two of which are the same
+abbrev pub IsRising : List Open → Type 0
+IsRising ts = (next : ℕ) × IsNumbered 0 ts next
+
 pub record IsLawful (h : Hop) : Type 0 where
   pub claims_kept : length h.claims ≡ length h.accounts
   pub dues_kept : length h.dues ≡ length h.accounts

@@ -1,7 +1,8 @@
 //! Prepares that went on and wait for their answer.
 
-ghost use Rattle.std.specs.Prelude.{◌≡◌, ◌↔◌, IsTrue};
-ghost use Rattle.st_hop.specs.Tickets.{ticket_at, without, IsAmong};
+ghost use Rattle.std.specs.Prelude.{◌≡◌, ◌↔◌, IsTrue, IfSome, IsNone, None};
+ghost use Rattle.st_hop.specs.Tickets.{ticket_at, without, IsAmong, IsPlace};
+ghost use Rattle.st_hop.specs.Lawful.{IsRising};
 
 use std::alloc::Allocator;
 use std::marker::Model;
@@ -65,33 +66,39 @@ impl Ticket {
     }
 }
 
+/// Where the ticket of a number stands among tickets in the order of their numbers.
+fn place_of(tickets: &[Open], number: u64) -> Option<usize>
+    requires { IsRising tickets.now }
+    ensures found { IfSome result (IsPlace tickets.now number) }
+    ensures absent { IsNone result → ticket_at tickets.now number ≡ None }
+{
+    tickets
+        .binary_search_by_key(&number, |ticket| ticket.number)
+        .ok()
+}
+
 /// Takes out the ticket of a number.
 pub(crate) fn take_ticket<A: Allocator>(tickets: &mut Vec<Open, A>, number: u64) -> Option<Open>
+    requires { IsRising tickets.old.items }
     ensures found { result ≡ ticket_at tickets.old.items number }
     ensures rest { tickets.new.items ≡ without tickets.old.items number }
 {
-    for i in 0..tickets.len() {
-        if tickets[i].number == number {
-            return Some(tickets.remove(i));
-        }
-    }
-    None
+    let place = place_of(tickets, number)?;
+    Some(tickets.remove(place))
 }
 
 /// The ticket of a number.
 fn find_ticket(tickets: &[Open], number: u64) -> Option<Open>
+    requires { IsRising tickets.now }
     ensures { result ≡ ticket_at tickets.now number }
 {
-    for ticket in tickets {
-        if ticket.number == number {
-            return Some(*ticket);
-        }
-    }
-    None
+    let place = place_of(tickets, number)?;
+    Some(tickets[place])
 }
 
 /// Whether this very ticket is one of these.
 pub(crate) fn is_among(tickets: &[Open], ticket: Open) -> bool
+    requires { IsRising tickets.now }
     ensures { IsTrue result ↔ IsAmong tickets.now ticket }
 {
     find_ticket(tickets, ticket.number) == Some(ticket)
