@@ -141,7 +141,7 @@ pub fn put_length<A: Allocator>(out: &mut Vec<u8, A>, x: u64) -> Result<(), OerE
     put_tail(out, 128 + n as u8, n, x)
 }
 
-/// Appends a variable octet string (RFC 0030): its length, and its bytes. They may be any number.
+/// Appends a variable octet string (RFC 0030): its length, and its bytes.
 ///
 /// Refuses only with `NoMemory` where there was none for it; `out` then has the bytes that it had.
 #[tactic(auto, using(crate::proofs::Puts::puts))]
