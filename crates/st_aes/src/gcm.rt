@@ -92,7 +92,7 @@ pub fn seal(key: &Key, iv: [u8; 12], text: &mut [u8]) -> [u8; 16]
 pub fn unseal(key: &Key, iv: [u8; 12], expected: [u8; 16], text: &mut [u8]) -> bool
     ensures exact { IsTrue result ↔ (expected ≡ tag key.now iv text.old) }
     ensures opened { OnTrue result (text.new ≡ counter_mode key.now iv text.old) }
-    ensures kept { OnFalse result (text.new ≡ text.old) }
+    ensures unchanged { OnFalse result (text.new ≡ text.old) }
 {
     if expected != tag(key, iv, text) {
         return false;

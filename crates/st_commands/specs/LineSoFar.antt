@@ -1,8 +1,9 @@
 -- What is kept of the line that is being read, and which lines it stands for.
-use Rattle.std.specs.Prelude.{◌≡◌, ◌≢◌, ℕ, ◌+◌, ◌<◌, ◌⊎◌, false, ◌==◌, nat_lt, if◌then◌else◌, List, [], ◌∷◌, ◌++◌, length, take, slice_index, Result, Ok, Err}
+use Rattle.std.specs.Prelude.{◌≡◌, ◌≢◌, ℕ, ◌+◌, ◌*◌, ◌<◌, ◌⊎◌, false, ◌==◌, nat_lt, if◌then◌else◌, List, [], ◌∷◌, ◌++◌, length, take, slice_index, Result, Ok, Err}
 use Rattle.std.specs.List.{All, AllPass}
 use Rattle.std.specs.Str.Lines.{strip_carriage_return}
 use Rattle.hex.specs.Hex.{decode_of, is_hex_digit}
+use Rattle.st_frames.specs.Frames.{max_packet}
 use Rattle.st_commands.specs.declared.error.LineError.{LineError}
 use Rattle.st_commands.specs.declared.line.LineEnd.{LineEnd}
 use Rattle.st_commands.specs.declared.line.LineEnd.TheVariants.{Newline, InputEnd}
@@ -22,7 +23,7 @@ no_line = record { digits = []; count = 0; shape = Digits }
 
 -- the digits of the longest packet
 abbrev pub most_digits : ℕ
-most_digits = 65478
+most_digits = 2 * max_packet
 
 -- one digit more
 abbrev pub with_digit : ℕ → LineState → LineState

@@ -101,7 +101,7 @@ impl<A: Allocator + Copy> Reader<A> {
     /// Appends what a refused line prints.
     fn tell(&mut self, out: &mut Vec<u8, A>, refusal: Option<LineError>) -> Result<(), AllocError>
         ensures told { OnOk result (out.new.items ≡ out.old.items ++ told self.old.index refusal) }
-        ensures untold { OnErr result (out.new.items ≡ out.old.items) }
+        ensures unchanged { OnErr result (out.new.items ≡ out.old.items) }
         ensures noted { OnOk result (self.new ≡ record self.old { refused = self.old.refused || is_some refusal }) }
     {
         let Some(error) = refusal else {
@@ -118,7 +118,7 @@ impl<A: Allocator + Copy> Reader<A> {
         requires { self.old.index + 1 < 2 ^ 64 }
         ensures answered { OnOk result ((said : List ℕ) × (out.new.items ≡ out.old.items ++ said)
             × ((line : List ℕ) → StandsFor self.old.line line → AnswersLine self.old (text_of_line end line) said self.new)) }
-        ensures untold { OnErr result (out.new.items ≡ out.old.items) }
+        ensures unchanged { OnErr result (out.new.items ≡ out.old.items) }
         ensures next { OnOk result ((self.new.line ≡ no_line) × (self.new.index ≡ self.old.index + 1)) }
     {
         let refusal = self.answer(end)?;
@@ -139,7 +139,7 @@ impl<A: Allocator + Copy> Reader<A> {
     fn push(&mut self, out: &mut Vec<u8, A>, byte: u8) -> Result<(), AllocError>
         requires { self.old.index + self.old.line.count + 1 < 2 ^ 64 }
         ensures answered { OnOk result ((said : List ℕ) × (out.new.items ≡ out.old.items ++ said) × AnswersPiece self.old (byte ∷ []) said self.new) }
-        ensures untold { OnErr result (out.new.items ≡ out.old.items) }
+        ensures unchanged { OnErr result (out.new.items ≡ out.old.items) }
         ensures bounded { OnOk result (self.new.index + self.new.line.count ≤ self.old.index + self.old.line.count + 1) }
     {
         if byte == b'\n' {

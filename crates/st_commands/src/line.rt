@@ -5,12 +5,12 @@ ghost use Rattle.std.specs.Bool.{OnTrue, OnFalse};
 ghost use Rattle.st_commands.specs.LineSoFar.{with_digit, AreDigits, HasOther, StandsFor, Spells, no_line, text_of_line};
 
 use crate::error::LineError;
-use st_frames::FrameError;
+use st_frames::{FrameError, MAX_PACKET};
 use std::alloc::{AllocError, Allocator};
 use std::marker::Model;
 
 /// The digits of the longest packet.
-const MAX_DIGITS: usize = 65_478;
+const MAX_DIGITS: usize = 2 * MAX_PACKET;
 
 /// What ends a line.
 #[derive(Clone, Copy, Debug, PartialEq, Eq)]

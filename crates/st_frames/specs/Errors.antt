@@ -1,6 +1,8 @@
 -- The numbers by which refusals are told.
 use Rattle.std.specs.Prelude.{ℕ, Option, Some, None}
 use Rattle.st_oer.specs.Errors as oer
+use Rattle.st_oer.specs.declared.error.OerError.{OerError}
+use Rattle.st_oer.specs.declared.error.OerError.TheVariants as fault
 use Rattle.st_frames.specs.declared.error.FrameError.{FrameError}
 use Rattle.st_frames.specs.declared.error.FrameError.TheVariants.{Version, Kind, Oer, FrameFormat, TooLong, NoMemory}
 
@@ -21,3 +23,8 @@ inner (Oer e) = Some (oer.number e)
 inner (FrameFormat index) = Some index
 inner TooLong = None
 inner NoMemory = None
+
+-- the refusal that a fault of a field becomes: want of memory stays that
+abbrev pub wrapped : OerError → FrameError
+wrapped fault.NoMemory = NoMemory
+wrapped e = Oer e

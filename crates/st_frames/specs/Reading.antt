@@ -3,7 +3,8 @@ use Rattle.std.specs.Prelude.{ℕ, zero, suc, ◌+◌, List, [], ◌∷◌, leng
 use Rattle.st_oer.specs.declared.error.OerError.{OerError}
 use Rattle.st_oer.specs.Reading.{byte_at, octets_at, var_uint_at}
 use Rattle.st_frames.specs.declared.error.FrameError.{FrameError}
-use Rattle.st_frames.specs.declared.error.FrameError.TheVariants.{Version, Kind, Oer, FrameFormat, TooLong}
+use Rattle.st_frames.specs.declared.error.FrameError.TheVariants.{Version, Kind, FrameFormat, TooLong}
+use Rattle.st_frames.specs.Errors.{wrapped}
 use Rattle.st_frames.specs.Frames.{Known, Packet, max_packet}
 use Rattle.st_frames.specs.Contents.{◌>>=◌, refusing, contents_at}
 
@@ -43,7 +44,7 @@ known_at i (r ∷ rs) = do
 -- a fault in the numbers, in a frame's type or in its length
 abbrev pub outer : {A : Type 0} → Result A OerError → Result A FrameError
 outer (Ok x) = Ok x
-outer (Err e) = Err (Oer e)
+outer (Err e) = Err (wrapped e)
 
 -- the known ones of n frames from the i-th on: every type and length is looked at before the contents
 abbrev pub frames_at : ℕ → ℕ → List ℕ → Result (List (ℕ × Known)) FrameError

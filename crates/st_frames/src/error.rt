@@ -1,8 +1,8 @@
 //! Why a packet was not read or not written.
 
 ghost use Rattle.std.specs.Prelude.{◌≡◌};
-ghost use Rattle.st_frames.specs.Errors.{number, inner};
-ghost use Rattle.st_frames.specs.declared.error.FrameError.TheVariants.{NoMemory, Oer};
+ghost use Rattle.st_frames.specs.Errors.{number, inner, wrapped};
+ghost use Rattle.st_frames.specs.declared.error.FrameError.TheVariants.{NoMemory};
 
 use st_oer::OerError;
 use std::alloc::AllocError;
@@ -67,9 +67,12 @@ impl From<AllocError> for FrameError {
 }
 
 impl From<OerError> for FrameError {
-    ghost from_gives = { λ fault e. e ≡ Oer fault };
+    ghost from_gives = { λ fault e. e ≡ wrapped fault };
 
     fn from(fault: OerError) -> FrameError {
-        FrameError::Oer(fault)
+        match fault {
+            OerError::NoMemory => FrameError::NoMemory,
+            fault => FrameError::Oer(fault),
+        }
     }
 }

@@ -141,8 +141,6 @@ pub fn write_packet<A: Allocator>(
         return Err(FrameError::TooLong);
     };
     let mut out = Vec::with_capacity(alloc, length)?;
-    if put_packet(&mut out, kind, sequence, amount, frames).is_err() {
-        return Err(FrameError::NoMemory);
-    }
+    put_packet(&mut out, kind, sequence, amount, frames)?;
     Ok(out)
 }

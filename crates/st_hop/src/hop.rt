@@ -258,7 +258,7 @@ impl<A: Allocator + Copy> HopState<A> {
         ensures held { IfOk result (λ t. self.new ≡ holding self.old t) }
         ensures ticket { IfOk result (λ t. t ≡ ticket_for self.old.next incoming outgoing (prepare_seen received.now) (prepare_seen sent.now)) }
         ensures only_memory { IsOkUnless result HopError.NoMemory }
-        ensures kept { OnErr result (self.new ≡ self.old) }
+        ensures unchanged { OnErr result (self.new ≡ self.old) }
     {
         let number = self.next;
         let Some(next) = number.checked_add(1) else {
@@ -296,7 +296,7 @@ impl<A: Allocator + Copy> HopState<A> {
         requires written { prepare_refusal (onward (prepare_seen prepare.now)) ≡ None }
         ensures sent { IfOk result (λ v. sent_on self.old incoming (prepare_seen prepare.now) (Ok outgoing) ≡ (verdict_seen v, self.new)) }
         ensures only_memory { IsOkUnless result HopError.NoMemory }
-        ensures kept { OnErr result (self.new ≡ self.old) }
+        ensures unchanged { OnErr result (self.new ≡ self.old) }
     {
         let sent = onward(prepare);
         let bytes = match write_prepare(self.alloc, &sent) {
@@ -326,7 +326,7 @@ impl<A: Allocator + Copy> HopState<A> {
         ensures arrived { IfOk result (λ v. arrived self.old account bytes.now now ≡ (verdict_seen v, self.new)) }
         ensures ready { IfOk result (λ v. IsReady self.new v) }
         ensures refused { MatchBool (nat_lt account (length self.old.accounts)) (IsOkUnless result HopError.NoMemory) (IsErrOf result HopError.NoAccount) }
-        ensures kept { OnErr result (self.new ≡ self.old) }
+        ensures unchanged { OnErr result (self.new ≡ self.old) }
     {
         if account >= self.accounts.len() {
             return Err(HopError::NoAccount);

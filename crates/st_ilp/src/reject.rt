@@ -80,7 +80,7 @@ pub fn put_reject<A: Allocator>(
     payload: &[u8],
 ) -> Result<(), IlpError>
     ensures text { OnOk result (out.new.items ≡ out.old.items ++ answer_text (Rejected code by.now [] payload.now)) }
-    ensures kept { OnErr result (out.new.items ≡ out.old.items) }
+    ensures unchanged { OnErr result (out.new.items ≡ out.old.items) }
     ensures refusal { Refuses result (answer_refusal (Rejected code by.now [] payload.now)) }
     ensures room { answer_refusal (Rejected code by.now [] payload.now) ≡ None → vec_len out.old + reject_size by.now (length payload.now) ≤ vec_capacity out.old → IsOk result }
     ensures capacity { vec_capacity out.old ≤ vec_capacity out.new }

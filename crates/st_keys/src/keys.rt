@@ -56,7 +56,7 @@ impl Keys {
     pub(crate) fn unseal_text(&self, iv: [u8; 12], expected: [u8; 16], text: &mut [u8]) -> bool
         ensures exact { IsTrue result ↔ (expected ≡ tag (encryption_key self.now) iv text.old) }
         ensures opened { OnTrue result (text.new ≡ counter_mode (encryption_key self.now) iv text.old) }
-        ensures kept { OnFalse result (text.new ≡ text.old) }
+        ensures unchanged { OnFalse result (text.new ≡ text.old) }
     {
         unseal(&self.encryption, iv, expected, text)
     }

@@ -97,7 +97,7 @@ impl Keys {
         ensures exact { Gives (λ _. ciphertext_of payload.new) result (unsealed self.now payload.old) }
         ensures long { OnOk result (OVERHEAD ≤ length payload.old) }
         ensures front { OnOk result (take OVERHEAD payload.new ≡ take OVERHEAD payload.old) }
-        ensures err { OnErr result (payload.new ≡ payload.old) }
+        ensures unchanged { OnErr result (payload.new ≡ payload.old) }
     {
         if payload.len() < OVERHEAD {
             return Err(KeyError::Short);

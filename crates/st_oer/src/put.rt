@@ -14,7 +14,7 @@ use std::alloc::Allocator;
 /// Refuses only with `NoMemory` where there was none for it; `out` then has the bytes that it had.
 pub fn put_u8<A: Allocator>(out: &mut Vec<u8, A>, x: u8) -> Result<(), OerError>
     ensures ok { OnOk result (out.new.items ≡ out.old.items ++ uint8 x) }
-    ensures err { OnErr result (out.new.items ≡ out.old.items) }
+    ensures unchanged { OnErr result (out.new.items ≡ out.old.items) }
     ensures only_memory { IsOkUnless result OerError.NoMemory }
     ensures room { vec_len out.old + 1 ≤ vec_capacity out.old → IsOk result }
     ensures capacity { vec_capacity out.old ≤ vec_capacity out.new }
@@ -28,7 +28,7 @@ pub fn put_u8<A: Allocator>(out: &mut Vec<u8, A>, x: u8) -> Result<(), OerError>
 /// Refuses only with `NoMemory` where there was none for it; `out` then has the bytes that it had.
 pub fn put_u64<A: Allocator>(out: &mut Vec<u8, A>, x: u64) -> Result<(), OerError>
     ensures ok { OnOk result (out.new.items ≡ out.old.items ++ uint64 x) }
-    ensures err { OnErr result (out.new.items ≡ out.old.items) }
+    ensures unchanged { OnErr result (out.new.items ≡ out.old.items) }
     ensures only_memory { IsOkUnless result OerError.NoMemory }
     ensures room { vec_len out.old + 8 ≤ vec_capacity out.old → IsOk result }
     ensures capacity { vec_capacity out.old ≤ vec_capacity out.new }
@@ -95,7 +95,7 @@ fn put_tail<A: Allocator>(out: &mut Vec<u8, A>, first: u8, n: usize, x: u64) -> 
     requires some { 1 ≤ n }
     requires few { n ≤ 8 }
     ensures ok { OnOk result (out.new.items ≡ out.old.items ++ first ∷ bytes_high_first n x) }
-    ensures err { OnErr result (out.new.items ≡ out.old.items) }
+    ensures unchanged { OnErr result (out.new.items ≡ out.old.items) }
     ensures only_memory { IsOkUnless result OerError.NoMemory }
     ensures room { vec_len out.old + 1 + n ≤ vec_capacity out.old → IsOk result }
     ensures capacity { vec_capacity out.old ≤ vec_capacity out.new }
@@ -112,7 +112,7 @@ fn put_tail<A: Allocator>(out: &mut Vec<u8, A>, first: u8, n: usize, x: u64) -> 
 #[tactic(auto, using(crate::proofs::Puts::puts))]
 pub fn put_var_uint<A: Allocator>(out: &mut Vec<u8, A>, x: u64) -> Result<(), OerError>
     ensures ok { OnOk result (out.new.items ≡ out.old.items ++ var_uint x) }
-    ensures err { OnErr result (out.new.items ≡ out.old.items) }
+    ensures unchanged { OnErr result (out.new.items ≡ out.old.items) }
     ensures only_memory { IsOkUnless result OerError.NoMemory }
     ensures room { vec_len out.old + length (var_uint x) ≤ vec_capacity out.old → IsOk result }
     ensures capacity { vec_capacity out.old ≤ vec_capacity out.new }
@@ -128,7 +128,7 @@ pub fn put_var_uint<A: Allocator>(out: &mut Vec<u8, A>, x: u64) -> Result<(), Oe
 #[tactic(auto, using(crate::proofs::Puts::puts))]
 pub fn put_length<A: Allocator>(out: &mut Vec<u8, A>, x: u64) -> Result<(), OerError>
     ensures ok { OnOk result (out.new.items ≡ out.old.items ++ length_bytes x) }
-    ensures err { OnErr result (out.new.items ≡ out.old.items) }
+    ensures unchanged { OnErr result (out.new.items ≡ out.old.items) }
     ensures only_memory { IsOkUnless result OerError.NoMemory }
     ensures room { vec_len out.old + length (length_bytes x) ≤ vec_capacity out.old → IsOk result }
     ensures capacity { vec_capacity out.old ≤ vec_capacity out.new }
@@ -147,7 +147,7 @@ pub fn put_length<A: Allocator>(out: &mut Vec<u8, A>, x: u64) -> Result<(), OerE
 #[tactic(auto, using(crate::proofs::Puts::puts))]
 pub fn put_octets<A: Allocator>(out: &mut Vec<u8, A>, x: &[u8]) -> Result<(), OerError>
     ensures ok { OnOk result (out.new.items ≡ out.old.items ++ octets x.now) }
-    ensures err { OnErr result (out.new.items ≡ out.old.items) }
+    ensures unchanged { OnErr result (out.new.items ≡ out.old.items) }
     ensures only_memory { IsOkUnless result OerError.NoMemory }
     ensures room { vec_len out.old + length (octets x.now) ≤ vec_capacity out.old → IsOk result }
     ensures capacity { vec_capacity out.old ≤ vec_capacity out.new }

@@ -22,7 +22,7 @@ loop-byte-preserved g c = record {
 
 pub returns-in_err-push-clause-part : goal.returns-in_err-push-clause-part
 returns-in_err-push-clause-part g c =
-    begins_taken c.args.self.now c.loop-byte.self c.args.piece.now c.loop-byte.byte-index c.args.out.now.items c.loop-byte.out.items c.push.new.out.items c.loop-byte.invariant.answered c.in_err-push.ensures.untold
+    begins_taken c.args.self.now c.loop-byte.self c.args.piece.now c.loop-byte.byte-index c.args.out.now.items c.loop-byte.out.items c.push.new.out.items c.loop-byte.invariant.answered c.in_err-push.ensures.unchanged
 
 pub returns-clause-part : goal.returns-clause-part
 returns-clause-part g c =

@@ -14,7 +14,7 @@ returns-then-is_empty g c =
     }
 
 pub returns-in_err-end_line-clause-part : goal.returns-in_err-end_line-clause-part
-returns-in_err-end_line-clause-part g c = ([], c.in_err-end_line.ensures.untold ∙ sym (append-nil c.args.out.now.items), begins_nothing c.args.self.now [])
+returns-in_err-end_line-clause-part g c = ([], c.in_err-end_line.ensures.unchanged ∙ sym (append-nil c.args.out.now.items), begins_nothing c.args.self.now [])
 
 pub returns : goal.returns
 returns g c =

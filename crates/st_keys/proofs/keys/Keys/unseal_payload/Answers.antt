@@ -14,10 +14,10 @@ returns-then-not-unseal_text-clause-exact c =
     let wrong = c.if-not-unseal_text.ensures.exact.1 (rw (c.iv_of-iv.ensures, text) (c.tag_of-tag.ensures ∙ same)) in
     absurd cc)
 
-pub returns-then-not-unseal_text-clause-err : goal.returns-then-not-unseal_text-clause-err
-returns-then-not-unseal_text-clause-err c =
+pub returns-then-not-unseal_text-clause-unchanged : goal.returns-then-not-unseal_text-clause-unchanged
+returns-then-not-unseal_text-clause-unchanged c =
     let p = c.args.payload.now in
-    kept_all p c.unseal_text.new.text (length p - 28) c.if-not-unseal_text.ensures.kept
+    kept_all p c.unseal_text.new.text (length p - 28) c.if-not-unseal_text.ensures.unchanged
 
 pub returns-clause-exact : goal.returns-clause-exact
 returns-clause-exact c =
