@@ -1,7 +1,7 @@
 //! STREAM packets (RFC 0029, version 1): plain packets, as they stand before encryption and after decryption.
 //! `read_packet` judges a whole packet and then lends its known frames one after another, with no memory.
 //! `write_packet` writes the one spelling that this profile gives a packet.
-//! A refusal says its number by `number`, and by `inner` the place or the fault in the numbers.
+//! `number` is a refusal's number; `inner` the index of the malformed frame, or the number of the fault in a field.
 #![tactic(auto)]
 
 mod contents;

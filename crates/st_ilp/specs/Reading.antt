@@ -1,4 +1,4 @@
--- Reading ILPv4 packets: the packet, or the first fault in the order of the bytes.
+-- Reading ILPv4 packets: the packet, or the first fault: in its outer octets, then in the fields in order.
 use Rattle.std.specs.Prelude.{ℕ, ℤ, ◌==◌, nat_le, Bool, true, false, ◌&&◌, if◌then◌else◌, List, length, Result, Ok, Err}
 use Rattle.st_oer.specs.declared.error.OerError.{OerError}
 use Rattle.st_oer.specs.Address.{is_address}

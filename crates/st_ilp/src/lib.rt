@@ -2,7 +2,7 @@
 //!
 //! Readers take no memory and answer slices of their input. Writers append or make the one spelling
 //! of a packet. An expiry is a number of milliseconds since the start of 1970, UTC. Each refusal
-//! comes exactly where the first fault in the order of the fields stands.
+//! comes exactly where the first fault stands: the packet's outer octets, then the fields in order.
 #![tactic(auto)]
 
 mod error;

@@ -172,10 +172,10 @@ fn reject(contents: &[u8]) -> Result<Answer<'_>, IlpError>
 
 /// Reads a whole packet as a Prepare (RFC 0027).
 ///
-/// Refuses with the first fault in the order of the bytes: a missing kind `Oer(Short)`, another kind
-/// `Kind`, the spelling of the octets around the fields `Oer(..)`, bytes after the packet `Trailing`,
-/// then each field's spelling `Oer(..)` and rule (`Expiry`, `Address`, `DataTooLong`), and bytes
-/// after the last field `Trailing`.
+/// Refuses with the first fault: a missing kind `Oer(Short)`, another kind `Kind`, the spelling of
+/// the octets around the fields `Oer(..)`, bytes after the packet `Trailing`, then each field's
+/// spelling `Oer(..)` and rule (`Expiry`, `Address`, `DataTooLong`), and bytes after the last field
+/// `Trailing`.
 #[tactic(auto, unfolding(crate::specs::Reading::prepare_at))]
 pub fn read_prepare(bytes: &[u8]) -> Result<Prepare<'_>, IlpError>
     ensures { Gives prepare_seen result (prepare_at bytes.now) }

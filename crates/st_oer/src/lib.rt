@@ -1,6 +1,6 @@
 //! The fields that Interledger packets are made of, in OER (RFC 0030): `Cut` reads them from a slice, the
-//! `put_` calls append them to a vector. Each value has one spelling, defined in `specs/Spelling.antt`; a field is
-//! read exactly where it is spelled, and refused by the first fault otherwise (`specs/Reading.antt`, `laws`).
+//! `put_` calls append them to a vector. Each value has one spelling, but for limits, defined in `specs/Spelling.antt`;
+//! a field is read exactly where it is spelled, and refused by the first fault otherwise (`specs/Reading.antt`, `laws`).
 //! Beside them the tests of addresses (RFC 0015) and texts, and the readers and writers that count their
 //! errors, called in a number of turns.
 #![tactic(auto)]

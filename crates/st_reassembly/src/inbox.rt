@@ -1,3 +1,5 @@
+//! The bytes of one stream on their way to its reader.
+
 ghost use Rattle.std.specs.Prelude.{◌≡◌, ◌+◌, ◌^◌, ◌<◌, ◌≤◌, ◌↔◌, length, take, IfOk, OnOk, OnErr, IsErrOf, IsOkUnless};
 ghost use Rattle.st_reassembly.specs.Held.{nothing_held, after_insert};
 ghost use Rattle.st_reassembly.specs.Run.{run, after_take};

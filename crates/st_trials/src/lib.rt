@@ -1,7 +1,7 @@
 //! Tests that reach across crates: what a call leaves when memory is refused, and what the program's commands answer, also
-//! over devices that fail. Each request for memory is refused in turn, from the first until a run meets no refusal; after a
-//! refusal the value is as before, and the same call then succeeds. No contract can say that memory is to be had, that a
-//! call asked for none, or what a device gives: these tests do.
+//! over devices that fail. Each request for memory is refused in turn, from the first until a run meets no refusal, or up
+//! to `LAST`; after a refusal the value is as before, and the same call then succeeds. No contract can say that memory is
+//! to be had, that a call asked for none, or what a device gives: these tests do.
 #![tactic(auto)]
 
 #[cfg(test)]
