@@ -2,7 +2,8 @@
 
 ghost use Rattle.std.specs.Prelude.{◌≡◌, ◌<◌, ◌≤◌, ◌++◌, ◌^◌, map, length, None, OnOk, IfOk, IsOkUnless, false};
 ghost use Rattle.std.specs.List.{position};
-ghost use Rattle.st_frames.specs.Seen.{Writes, seen};
+ghost use Rattle.st_oer.specs.Seen.{Writes};
+ghost use Rattle.st_frames.specs.Seen.{seen};
 ghost use Rattle.st_frames.specs.Table.{layout};
 ghost use Rattle.st_frames.specs.Written as specs;
 
@@ -131,7 +132,7 @@ pub fn write_packet<A: Allocator>(
 ) -> Result<Vec<u8, A>, FrameError>
     requires from_prepare { 12 ≤ kind }
     requires to_reject { kind ≤ 14 }
-    ensures written { Writes (λ out. out.items) result (specs.written kind sequence amount (map seen frames.now)) }
+    ensures written { Writes FrameError.NoMemory (λ out. out.items) result (specs.written kind sequence amount (map seen frames.now)) }
     ensures fits { IfOk result (λ _. specs.AllFit (map seen frames.now)) }
 {
     if let Some(index) = first_unwritable(frames) {
