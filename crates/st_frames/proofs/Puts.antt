@@ -84,11 +84,29 @@ contents_short fs i d lt short =
     let k : Known = seen (get_or fs i d) in
     omega (arith, contents_below k, frames_text-drop fs i, ap length (frames_text-next fs i d lt), length-append (frame_text k) (frames_text (map seen (drop (i + 1) fs))))
 
+-- room for the frames from the i-th on is room for that one, and then for the others
+pub room_next : (fs : List Frame) (i : ℕ) (d : Frame) (used room : ℕ) → i < length fs → used + length (frames_text (map seen (drop i fs))) ≤ room
+    → used + length (frame_text (seen (get_or fs i d))) ≤ room
+room_next fs i d used room lt h =
+    omega (arith, h, ap length (frames_text-next fs i d lt), length-append (frame_text (seen (get_or fs i d))) (frames_text (map seen (drop (i + 1) fs))))
+
+pub room_left : (fs : List Frame) (i : ℕ) (d : Frame) (old new : List ℕ) (room more : ℕ) → i < length fs → length old + length (frames_text (map seen (drop i fs))) ≤ room
+    → new ≡ old ++ frame_text (seen (get_or fs i d)) → room ≤ more → length new + length (frames_text (map seen (drop (i + 1) fs))) ≤ more
+room_left fs i d old new room more lt h e le =
+    let k : List ℕ = frame_text (seen (get_or fs i d)) in
+    omega (arith, h, le, ap length e, length-append old k, ap length (frames_text-next fs i d lt), length-append k (frames_text (map seen (drop (i + 1) fs))))
+
 -- three fields that are appended one after another
 pub put_three : (fs : List Field) (d : Field) (o p q r : List ℕ) → length fs ≡ 3 → p ≡ o ++ field_text (get_or fs 0 d) → q ≡ p ++ field_text (get_or fs 1 d)
     → r ≡ q ++ field_text (get_or fs 2 d) → r ≡ o ++ fields_text fs
 put_three (x ∷ y ∷ z ∷ []) d o p q r three first second third = rw (third, second, first) (simp (append_assoc, append-nil))
 put_three fs d o p q r three first second third = absurd (omega (arith, three))
+
+-- how long three fields are
+pub three_lengths : (fs : List Field) (d : Field) → length fs ≡ 3
+    → length (fields_text fs) ≡ length (field_text (get_or fs 0 d)) + (length (field_text (get_or fs 1 d)) + length (field_text (get_or fs 2 d)))
+three_lengths (x ∷ y ∷ z ∷ []) d three = simp (append-nil, length-append) refl
+three_lengths fs d three = absurd (omega (arith, three))
 
 pub ruleset lengths = (length-append)
 

@@ -1,13 +1,13 @@
 //! A frame's fields in their order: by them its length is counted and its contents are written (RFC 0029, section 5.3).
 
-ghost use Rattle.std.specs.Prelude.{◌≡◌, ◌<◌, ◌+◌, ◌++◌, ◌^◌, length, OnOk, IsOkUnless, true, false};
+ghost use Rattle.std.specs.Prelude.{◌≡◌, ◌<◌, ◌≤◌, ◌+◌, ◌++◌, ◌^◌, length, vec_len, vec_capacity, true, false};
 ghost use Rattle.st_oer.specs.Spelling.{octets};
 ghost use Rattle.st_oer.specs.Text.{is_utf8};
 ghost use Rattle.st_frames.specs.Seen.{seen, field_text, fields_text};
 ghost use Rattle.st_frames.specs.Written.{contents_text, is_unwritable, KnownFits};
 
 use crate::frame::Frame;
-use st_oer::{OerError, length_size, put_octets, put_u8, put_var_uint, var_uint_size};
+use st_oer::{length_size, put_octets, put_u8, put_var_uint, var_uint_size};
 use std::alloc::Allocator;
 
 /// A field of a frame, as it is spelled.
@@ -87,17 +87,18 @@ impl Field<'_> {
         }
     }
 
-    /// Appends its spelling.
-    #[tactic(auto, using(crate::proofs::Puts::puts))]
-    pub(crate) fn put<A: Allocator>(self, out: &mut Vec<u8, A>) -> Result<(), OerError>
-        ensures ok { OnOk result (out.new.items ≡ out.old.items ++ field_text self.entry) }
-        ensures only_memory { IsOkUnless result OerError.NoMemory }
+    /// Appends its spelling to a vector that has room for it.
+    #[tactic(auto, using(crate::proofs::Puts::puts, crate::proofs::Puts::lengths))]
+    pub(crate) fn append<A: Allocator>(self, out: &mut Vec<u8, A>)
+        requires room { vec_len out.old + length (field_text self) ≤ vec_capacity out.old }
+        ensures text { out.new.items ≡ out.old.items ++ field_text self.entry }
+        ensures capacity { vec_capacity out.old ≤ vec_capacity out.new }
     {
         match self {
-            Field::Byte(x) => put_u8(out, x),
-            Field::Number(x) => put_var_uint(out, x),
-            Field::Octets(bytes) => put_octets(out, bytes),
-            Field::Nothing => Ok(()),
+            Field::Byte(x) => put_u8(out, x).unwrap(),
+            Field::Number(x) => put_var_uint(out, x).unwrap(),
+            Field::Octets(bytes) => put_octets(out, bytes).unwrap(),
+            Field::Nothing => (),
         }
     }
 }

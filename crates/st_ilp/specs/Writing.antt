@@ -1,5 +1,5 @@
 -- What is written, and what is refused: the first rule that does not hold, in the order of the fields.
-use Rattle.std.specs.Prelude.{ℕ, ◌+◌, nat_le, not, if◌then◌else◌, List, ◌++◌, length, Option, Some, None, Result, Ok, Err}
+use Rattle.std.specs.Prelude.{ℕ, ◌+◌, nat_le, not, if◌then◌else◌, List, length, Option, Some, None, Result, Ok, Err}
 use Rattle.st_oer.specs.Address.{is_address}
 use Rattle.st_oer.specs.Spelling.{length_bytes}
 use Rattle.st_ilp.specs.declared.error.IlpError.{IlpError}
@@ -39,10 +39,6 @@ prepare_written p = unless (prepare_refusal p) (prepare_text p)
 -- what writing an answer gives
 abbrev pub answer_written : AnswerPacket → Result (List ℕ) IlpError
 answer_written a = unless (answer_refusal a) (answer_text a)
-
--- the same behind other bytes
-abbrev pub answer_behind : List ℕ → AnswerPacket → Result (List ℕ) IlpError
-answer_behind bytes a = unless (answer_refusal a) (bytes ++ answer_text a)
 
 -- how many bytes so many octets take with their length
 abbrev pub octets_size : ℕ → ℕ

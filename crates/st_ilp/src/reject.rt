@@ -1,10 +1,10 @@
 //! Rejects, also into room that was reserved for one.
 
-ghost use Rattle.std.specs.Prelude.{◌≡◌, ◌≢◌, ◌<◌, ◌≤◌, ◌^◌, ◌+◌, ◌++◌, ◌∷◌, [], length, None, Some, IsOk, MatchResult, IfErr, OnErr, vec_len, vec_capacity};
+ghost use Rattle.std.specs.Prelude.{◌≡◌, ◌≢◌, ◌<◌, ◌≤◌, ◌^◌, ◌+◌, ◌++◌, ◌∷◌, [], length, None, Some, IsOk, MatchResult, IfErr, OnOk, OnErr, vec_len, vec_capacity};
 ghost use Rattle.st_oer.specs.Seen.{Writes};
 ghost use Rattle.st_ilp.specs.Packets.{Rejected};
 ghost use Rattle.st_ilp.specs.Spelling.{answer_text, answer_contents};
-ghost use Rattle.st_ilp.specs.Writing.{answer_refusal, answer_behind, reject_size, octets_size, reject_contents_size};
+ghost use Rattle.st_ilp.specs.Writing.{answer_refusal, answer_written, reject_size, octets_size, reject_contents_size};
 
 use crate::error::IlpError;
 use crate::packet::{MAX_DATA, MAX_MESSAGE, REJECT, is_code, is_sender};
@@ -81,8 +81,9 @@ pub fn put_reject<A: Allocator>(
     by: &str,
     payload: &[u8],
 ) -> Result<(), IlpError>
-    ensures written { Writes IlpError.NoMemory (λ _. out.new.items) result (answer_behind out.old.items (Rejected code by.now [] payload.now)) }
+    ensures text { OnOk result (out.new.items ≡ out.old.items ++ answer_text (Rejected code by.now [] payload.now)) }
     ensures unchanged { OnErr result (out.new.items ≡ out.old.items) }
+    ensures written { Writes IlpError.NoMemory (λ _. answer_text (Rejected code by.now [] payload.now)) result (answer_written (Rejected code by.now [] payload.now)) }
     ensures room { answer_refusal (Rejected code by.now [] payload.now) ≡ None → vec_len out.old + reject_size by.now (length payload.now) ≤ vec_capacity out.old → IsOk result }
     ensures capacity { vec_capacity out.old ≤ vec_capacity out.new }
 {
