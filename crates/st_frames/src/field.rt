@@ -1,11 +1,12 @@
 //! The fields of frames: from bytes, to bytes, and how long they are (RFC 0029, section 5.3; RFC 0030).
 
 ghost use Rattle.std.specs.Prelude.{◌≡◌, ◌<◌, ◌≤◌, ◌+◌, ◌++◌, ◌^◌, length, vec_len, vec_capacity, true};
+ghost use Rattle.st_oer.specs.Seen.{Gives};
 ghost use Rattle.st_oer.specs.Spelling.{octets};
 ghost use Rattle.st_oer.specs.Text.{is_utf8};
 ghost use Rattle.st_frames.specs.Table.{Bytes, Text, Address};
-ghost use Rattle.st_frames.specs.Contents.{field_at};
-ghost use Rattle.st_frames.specs.Seen.{TakesContents, field_text};
+ghost use Rattle.st_frames.specs.Contents.{field_at, refusing};
+ghost use Rattle.st_frames.specs.Inside.{field_text};
 
 use st_oer::{
     Cut, OerError, is_address, length_size, put_octets, put_u8, put_var_uint, utf8, var_uint_size,
@@ -24,7 +25,7 @@ impl From<OerError> for Malformed {
 
 /// The next field as UTF-8.
 pub(crate) fn read_text<'a>(cut: &mut Cut<'a>) -> Result<&'a str, Malformed>
-    ensures { TakesContents (λ t. Bytes t.now) cut.new result (field_at Text cut.old) }
+    ensures { Gives (λ t. (Bytes t.now, cut.new)) (refusing tt result) (field_at Text cut.old) }
 {
     let Some(text) = utf8(cut.octets()?) else {
         return Err(Malformed);
@@ -34,7 +35,7 @@ pub(crate) fn read_text<'a>(cut: &mut Cut<'a>) -> Result<&'a str, Malformed>
 
 /// The next field as an address, or as the empty text.
 pub(crate) fn read_address<'a>(cut: &mut Cut<'a>) -> Result<&'a str, Malformed>
-    ensures { TakesContents (λ t. Bytes t.now) cut.new result (field_at Address cut.old) }
+    ensures { Gives (λ t. (Bytes t.now, cut.new)) (refusing tt result) (field_at Address cut.old) }
 {
     let text = read_text(cut)?;
     if text.is_empty() || is_address(text) {

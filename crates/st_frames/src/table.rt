@@ -2,9 +2,11 @@
 //! are read and as they are written. Readers, lengths and writers go by it, and no other module knows a frame's layout.
 
 ghost use Rattle.std.specs.Prelude.{◌≡◌, false, option_map};
+ghost use Rattle.st_oer.specs.Seen.{Gives};
 ghost use Rattle.st_frames.specs.Table as specs;
-ghost use Rattle.st_frames.specs.Contents.{contents_at};
-ghost use Rattle.st_frames.specs.Seen.{GivesContents, fields_text, seen};
+ghost use Rattle.st_frames.specs.Contents.{contents_at, refusing};
+ghost use Rattle.st_frames.specs.Seen.{seen};
+ghost use Rattle.st_frames.specs.Inside.{fields_text};
 ghost use Rattle.st_frames.specs.Written.{contents_text, is_unwritable, KnownFits};
 
 use crate::field::{Field, Malformed, read_address, read_text, text};
@@ -36,7 +38,7 @@ const STREAM_DATA_BLOCKED: u8 = 0x16;
 /// The frame of this type whose contents these are, or None for a type that is not known. Bytes left are ignored.
 #[tactic(auto, unfolding(crate::specs::Contents::contents_at, crate::specs::Table::row_of))]
 pub(crate) fn known_frame(kind: u8, contents: &[u8]) -> Result<Option<Frame<'_>>, Malformed>
-    ensures { GivesContents (option_map seen) result (contents_at kind contents.now) }
+    ensures { Gives (option_map seen) (refusing tt result) (contents_at kind contents.now) }
 {
     let mut cut = Cut::new(contents);
     match kind {
