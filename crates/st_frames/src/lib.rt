@@ -18,6 +18,7 @@ mod writing;
 pub use error::FrameError;
 pub use frame::Frame;
 pub use laws::{packet_law, prefix_law, written_law};
+pub use length::packet_len;
 pub use packet::{Frames, MAX_PACKET, StreamPacket, VERSION, read_packet};
 pub use writing::{put_packet, write_packet};
 

@@ -13,18 +13,8 @@ use crate::frame::Frame;
 use crate::frame_type;
 use crate::length::{contents_len, packet_len};
 use crate::packet::VERSION;
-use st_oer::{is_address, put_length, put_u8, put_var_uint};
+use st_oer::{put_length, put_u8, put_var_uint};
 use std::alloc::Allocator;
-
-/// Whether a frame tells an address that is none. It can't be written.
-fn is_unwritable(frame: &Frame<'_>) -> bool
-    ensures { result ≡ specs.is_unwritable (seen frame.now) }
-{
-    match frame {
-        Frame::ConnectionNewAddress { address } => !address.is_empty() && !is_address(address),
-        _ => false,
-    }
-}
 
 /// The number of a frame's type.
 fn type_of(frame: Frame<'_>) -> u8
@@ -88,13 +78,6 @@ fn append_frames<A: Allocator>(out: &mut Vec<u8, A>, frames: &[Frame<'_>])
     }
 }
 
-/// The index of the first frame that can't be written.
-fn first_unwritable(frames: &[Frame<'_>]) -> Option<usize>
-    ensures { result ≡ position (λ f. specs.is_unwritable (seen f)) frames.now }
-{
-    frames.iter().position(|frame| is_unwritable(frame))
-}
-
 /// Appends a packet to a vector that has room for it.
 #[tactic(auto, unfolding(crate::specs::Written::packet_text), using(crate::proofs::Puts::puts, crate::proofs::Puts::lengths))]
 fn append_packet<A: Allocator>(
@@ -123,9 +106,8 @@ fn append_packet<A: Allocator>(
 /// the shortest lengths and numbers, and nothing after the last frame.
 ///
 /// The whole room is asked for at once, before the first byte is written, and no memory where `out` has it already.
-/// Refused is, in this order: `FrameFormat` for the first frame whose address is neither empty nor an ILP address;
-/// `TooLong` above `MAX_PACKET` bytes; `NoMemory`. `out` then has the bytes that it had.
-#[tactic(auto, unfolding(crate::specs::Written::written), using(crate::proofs::Puts::judging))]
+/// Refused is what `packet_len` refuses, and then `NoMemory`. `out` then has the bytes that it had.
+#[tactic(auto, unfolding(crate::specs::Written::written), using(crate::proofs::Puts::sized))]
 pub fn put_packet<A: Allocator>(
     out: &mut Vec<u8, A>,
     kind: u8,
@@ -139,16 +121,10 @@ pub fn put_packet<A: Allocator>(
     ensures unchanged { OnErr result (out.new.items ≡ out.old.items) }
     ensures written { Writes FrameError.NoMemory (λ _. specs.packet_text kind sequence amount (map seen frames.now)) result (specs.written kind sequence amount (map seen frames.now)) }
     ensures fits { OnOk result (specs.AllFit (map seen frames.now)) }
-    ensures room { IsOk (specs.written kind sequence amount (map seen frames.now)) → vec_len out.old + specs.packet_length sequence amount (map seen frames.now) ≤ vec_capacity out.old → IsOk result }
+    ensures room { IfOk (specs.size_of (specs.written kind sequence amount (map seen frames.now))) (λ n. vec_len out.old + n ≤ vec_capacity out.old → IsOk result) }
     ensures capacity { vec_capacity out.old ≤ vec_capacity out.new }
 {
-    if let Some(index) = first_unwritable(frames) {
-        return Err(FrameError::FrameFormat(index as u64));
-    }
-    let Some(length) = packet_len(sequence, amount, frames) else {
-        return Err(FrameError::TooLong);
-    };
-    out.reserve(length)?;
+    out.reserve(packet_len(sequence, amount, frames)?)?;
     append_packet(out, kind, sequence, amount, frames);
     Ok(())
 }

@@ -21,7 +21,10 @@ pub use address::{MAX_ADDRESS, is_address, is_within};
 pub use counted::{CountRead, CountWrite, Counted, Counting};
 pub use cut::Cut;
 pub use error::OerError;
-pub use laws::{digits_are_fewest, fields_are_read_as_spelled, no_spelling_begins_another};
+pub use laws::{
+    digits_are_fewest, fields_are_read_as_spelled, no_spelling_begins_another,
+    reading_wants_no_memory,
+};
 pub use put::{length_size, put_length, put_octets, put_u8, put_u64, put_var_uint, var_uint_size};
 pub use text::utf8;
 pub use turn::{PutError, Turn, flush_turn, put_all, read_turn, write_turn};

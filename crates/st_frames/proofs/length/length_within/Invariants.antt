@@ -1,7 +1,7 @@
 use Rattle.std.proofs.Common.{◌≡◌, ◌+◌, ◌≤◌, map, drop, length}
 use Rattle.st_frames.specs.Seen.{seen}
 use Rattle.st_frames.specs.Written.{frames_text, packet_length}
-use Rattle.st_frames.proofs.length.packet_len.Given as goal
+use Rattle.st_frames.proofs.length.length_within.Given as goal
 
 abbrev pub invariant-loop-frame : goal.invariant-loop-frame
 invariant-loop-frame l = record {
