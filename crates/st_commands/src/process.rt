@@ -6,9 +6,8 @@ ghost use Rattle.st_commands.specs.Process.{LacksWords, ObeysSome, TellsTerminal
 ghost use Rattle.st_commands.specs.Texts.{not_utf8_text};
 
 use crate::error::Fault;
-use crate::frames::{TURNS, tell_fault};
-use crate::output::put;
-use crate::program::run;
+use crate::frames::tell_fault;
+use crate::program::{run, say};
 use crate::texts::{NOT_UTF8, WAITS};
 use crate::words::{Request, read};
 use st_oer::{CountRead, CountWrite, Counted};
@@ -22,15 +21,6 @@ use std::{env, io};
 /// The words of the command line, of which the first is the program's name.
 fn words<H: Env + Alloc>(host: &H) -> io::Result<Vec<String<H::A>, H::A>> {
     Ok(env::args(host)?.collect(host.alloc())?)
-}
-
-/// Writes a text as far as `errors` takes it.
-fn say<E: Write + Counted>(errors: &mut E, text: &str)
-    ensures { WritesPart text.now (E.contents errors.old) (E.contents errors.new) }
-{
-    let since = errors.faults();
-    let mut turns = u64::from(TURNS);
-    let _ = put(errors, text.as_bytes(), since, &mut turns);
 }
 
 /// Tells why the words cannot be read. Status 2 for words that are not UTF-8, else that of the fault: want of memory.
