@@ -2,7 +2,7 @@
 
 ghost use Rattle.std.specs.Prelude.{◌≡◌, ◌≤◌, ◌⊎◌, ℕ, map};
 ghost use Rattle.clap.specs.Words.{HasKind, Kinds, kind_of};
-ghost use Rattle.st_commands.specs.Endings.{IsCounted, LacksMemory, RunsFrames, TellsAnswer, TellsFault};
+ghost use Rattle.st_commands.specs.Endings.{IsCounted, LacksMemory, RunsFrames, TellsAnswer, TellsFault, WritesPart};
 ghost use Rattle.st_commands.specs.Words.{AsksFrames, AsksToShow, after_name, refusals};
 
 use crate::error::Fault;
@@ -38,6 +38,15 @@ fn show<W: Write + Counted, E: Write + Counted>(
     }
 }
 
+/// Writes a text as far as `errors` takes it.
+pub(crate) fn say<E: Write + Counted>(errors: &mut E, text: &str)
+    ensures { WritesPart text.now (E.contents errors.old) (E.contents errors.new) }
+{
+    let since = errors.faults();
+    let mut turns = u64::from(TURNS);
+    let _ = put(errors, text.as_bytes(), since, &mut turns);
+}
+
 /// Writes what is wrong with the words, as far as `errors` takes it. Status 2, or that of a fault.
 fn refuse<E: Write + Counted>(alloc: Global, errors: &mut E, error: &Error) -> u8
     ensures { (result ≡ 2) ⊎ TellsFault Fault.NoMemory (E.contents errors.old) (E.contents errors.new) result }
@@ -45,9 +54,7 @@ fn refuse<E: Write + Counted>(alloc: Global, errors: &mut E, error: &Error) -> u
     let Ok(text) = format!(in alloc; "{error}") else {
         return tell_fault(errors, Fault::NoMemory);
     };
-    let since = errors.faults();
-    let mut turns = u64::from(TURNS);
-    let _ = put(errors, text.as_bytes(), since, &mut turns);
+    say(errors, text.as_str());
     2
 }
 
