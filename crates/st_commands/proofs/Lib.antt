@@ -4,3 +4,4 @@ pub mod PiecesTold
 pub mod LinesSoFar
 pub mod Progressing
 pub mod WordsTaken
+pub mod Spending

@@ -1,18 +1,11 @@
 -- How a contract sees what the code holds.
-use Rattle.std.specs.Prelude.{◌≡◌, ℕ, List, [], ◌∷◌, ◌++◌, Result, Ok, Err, IsOk}
+use Rattle.std.specs.Prelude.{◌≡◌, ℕ, List, [], ◌∷◌, ◌++◌, Result, Ok, Err}
 use Rattle.st_oer.specs.Spelling.{octets, var_uint}
-use Rattle.st_frames.specs.declared.error.FrameError.{FrameError}
-use Rattle.st_frames.specs.declared.error.FrameError.TheVariants.{NoMemory}
 use Rattle.st_frames.specs.declared.field.Field.{Field}
 use Rattle.st_frames.specs.declared.field.Field.TheVariants.{Byte, Number, Octets, Nothing}
 use Rattle.st_frames.specs.declared.frame.Frame.{Frame}
 use Rattle.st_frames.specs.declared.frame.Frame.TheVariants as code
 use Rattle.st_frames.specs.Frames.{Known, ConnectionClose, ConnectionNewAddress, ConnectionMaxData, ConnectionDataBlocked, StreamClose, StreamMoney, StreamMaxMoney, StreamMoneyBlocked, StreamData, StreamMaxData, StreamDataBlocked}
-
--- a function that returns what reading gives
-abbrev pub Gives : {X Y E : Type 0} → (X → Y) → Result X E → Result Y E → Type 0
-Gives view (Ok x) read = read ≡ Ok (view x)
-Gives view (Err e) read = read ≡ Err e
 
 -- a function that returns what reading contents gives, whose refusal has no cause
 abbrev pub GivesContents : {X Y D : Type 0} → (X → Y) → Result X D → Result Y (Unit {0}) → Type 0
@@ -53,9 +46,3 @@ fields_text (f ∷ fs) = field_text f ++ fields_text fs
 -- a frame with its index
 abbrev pub seen_at : ℕ × Frame → ℕ × Known
 seen_at x = (x.0, seen x.1)
-
--- a function that returns the bytes that writing gives, or asked in vain for the memory of what can be written
-abbrev pub Writes : {V : Type 0} → (V → List ℕ) → Result V FrameError → Result (List ℕ) FrameError → Type 0
-Writes view (Ok out) text = text ≡ Ok (view out)
-Writes view (Err NoMemory) text = IsOk text
-Writes view (Err e) text = text ≡ Err e

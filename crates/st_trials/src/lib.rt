@@ -9,6 +9,8 @@ mod arrivals;
 #[cfg(test)]
 mod devices;
 #[cfg(test)]
+mod examples;
+#[cfg(test)]
 mod fields;
 #[cfg(test)]
 mod frames;
