@@ -17,6 +17,8 @@ mod frames;
 #[cfg(test)]
 mod hop;
 #[cfg(test)]
+mod http;
+#[cfg(test)]
 mod inbox;
 #[cfg(test)]
 mod memory;
