@@ -53,6 +53,9 @@ for words in '' 'frames' '--' 'frames --'; do
     same "words '$words'" "$frames"$'\n--\n\n--\n0' "$(told)"
 done
 
+run frames <"$top/examples/every_frame.txt"
+same 'every frame' $'line 3 refused 23(0)\nstream 1 5 6869212121\n--\n\n--\n1' "$(told)"
+
 run frames <"$top/examples/refused.txt"
 same 'refused lines' 'line 1 refused 95
 line 3 refused 20

@@ -16,7 +16,7 @@ Exit status:
   1  a line was refused, or a fault ended the run
   2  the arguments ask for no command
 
-The Nth line, where it is refused, prints `line N refused R`; a fault prints `fault R` to standard error.
+A refused line, the Nth, prints `line N refused R`; a fault prints `fault R` to standard error.
 What each number R means is in README.md, under 'What the program does'.
 
 Example:
@@ -24,10 +24,10 @@ Example:
 
 /// What ends the help of `frames`.
 pub const AFTER_FRAMES_HELP: &str =
-    "Reads standard input until its end. Each line is one plain STREAM packet of an ILP Prepare; an empty line is skipped.
-A refused line, the Nth, prints `line N refused R` at once, and the status is then 1, else 0. What each number R
-means is in README.md, under 'What the program does'. At the end each stream prints its number, the length of its
-run in bytes, and the run.
+    "It reads standard input until its end. Each line is one plain STREAM packet of an ILP Prepare;
+an empty line is skipped. A refused line, the Nth, prints `line N refused R` at once, and the
+status is then 1, else 0. What each number R means is in README.md, under 'What the program does'.
+At the end each stream prints its number, the length of its run in bytes, and the run.
 
 Example:
   ./ilpstream frames < examples/frames.txt";

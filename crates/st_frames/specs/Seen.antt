@@ -1,28 +1,8 @@
 -- How a contract sees what the code holds.
-use Rattle.std.specs.Prelude.{◌≡◌, ℕ, List, [], ◌∷◌, ◌++◌, Result, Ok, Err, IsOk}
-use Rattle.st_oer.specs.Spelling.{octets, var_uint}
-use Rattle.st_frames.specs.declared.error.FrameError.{FrameError}
-use Rattle.st_frames.specs.declared.error.FrameError.TheVariants.{NoMemory}
-use Rattle.st_frames.specs.declared.field.Field.{Field}
-use Rattle.st_frames.specs.declared.field.Field.TheVariants.{Byte, Number, Octets, Nothing}
+use Rattle.std.specs.Prelude.{ℕ}
 use Rattle.st_frames.specs.declared.frame.Frame.{Frame}
 use Rattle.st_frames.specs.declared.frame.Frame.TheVariants as code
 use Rattle.st_frames.specs.Frames.{Known, ConnectionClose, ConnectionNewAddress, ConnectionMaxData, ConnectionDataBlocked, StreamClose, StreamMoney, StreamMaxMoney, StreamMoneyBlocked, StreamData, StreamMaxData, StreamDataBlocked}
-
--- a function that returns what reading gives
-abbrev pub Gives : {X Y E : Type 0} → (X → Y) → Result X E → Result Y E → Type 0
-Gives view (Ok x) read = read ≡ Ok (view x)
-Gives view (Err e) read = read ≡ Err e
-
--- a function that returns what reading contents gives, whose refusal has no cause
-abbrev pub GivesContents : {X Y D : Type 0} → (X → Y) → Result X D → Result Y (Unit {0}) → Type 0
-GivesContents view (Ok x) read = read ≡ Ok (view x)
-GivesContents view (Err d) read = read ≡ Err tt
-
--- the same of a function that moves a cut past what it read
-abbrev pub TakesContents : {X Y D : Type 0} → (X → Y) → List ℕ → Result X D → Result (Y × List ℕ) (Unit {0}) → Type 0
-TakesContents view rest (Ok x) read = read ≡ Ok (view x, rest)
-TakesContents view rest (Err d) read = read ≡ Err tt
 
 -- a frame's value
 abbrev pub seen : Frame → Known
@@ -38,24 +18,6 @@ seen (code.StreamData stream offset bytes) = StreamData stream offset bytes.now
 seen (code.StreamMaxData stream max_offset) = StreamMaxData stream max_offset
 seen (code.StreamDataBlocked stream max_offset) = StreamDataBlocked stream max_offset
 
--- the spelling of a field
-abbrev pub field_text : Field → List ℕ
-field_text (Byte n) = n ∷ []
-field_text (Number n) = var_uint n
-field_text (Octets bytes) = octets bytes.now
-field_text Nothing = []
-
--- fields one after another
-abbrev pub fields_text : List Field → List ℕ
-fields_text [] = []
-fields_text (f ∷ fs) = field_text f ++ fields_text fs
-
 -- a frame with its index
 abbrev pub seen_at : ℕ × Frame → ℕ × Known
 seen_at x = (x.0, seen x.1)
-
--- a function that returns the bytes that writing gives, or asked in vain for the memory of what can be written
-abbrev pub Writes : {V : Type 0} → (V → List ℕ) → Result V FrameError → Result (List ℕ) FrameError → Type 0
-Writes view (Ok out) text = text ≡ Ok (view out)
-Writes view (Err NoMemory) text = IsOk text
-Writes view (Err e) text = text ≡ Err e

@@ -54,6 +54,11 @@ judged None text = if nat_lt max_packet (length text) then Err TooLong else Ok t
 unfoldable pub written : (kind sequence amount : ℕ) → List Known → Result (List ℕ) FrameError
 written kind sequence amount ks = judged (position is_unwritable ks) (packet_text kind sequence amount ks)
 
+-- how many bytes that are
+abbrev pub size_of : Result (List ℕ) FrameError → Result ℕ FrameError
+size_of (Ok text) = Ok (length text)
+size_of (Err e) = Err e
+
 -- every frame with its index
 abbrev pub indexed : ℕ → List Known → List (ℕ × Known)
 indexed i [] = []

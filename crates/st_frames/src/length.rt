@@ -1,21 +1,25 @@
-//! How many bytes a packet's spelling has: known before memory is asked for it.
+//! How many bytes a packet's spelling has, or why it has none: known before memory is asked for it.
 
-ghost use Rattle.std.specs.Prelude.{◌≡◌, ◌<◌, ◌≤◌, ◌+◌, ◌^◌, length, map, MatchOption};
+ghost use Rattle.std.specs.Prelude.{◌≡◌, ◌<◌, ◌≤◌, ◌+◌, ◌^◌, ℕ, length, map, MatchOption};
+ghost use Rattle.std.specs.List.{position};
+ghost use Rattle.st_oer.specs.Seen.{Gives};
 ghost use Rattle.st_frames.specs.Frames.{max_packet};
 ghost use Rattle.st_frames.specs.Seen.{seen};
 ghost use Rattle.st_frames.specs.Written.{contents_text, frame_text, packet_length};
+ghost use Rattle.st_frames.specs.Written as specs;
 
-use crate::field::fields;
+use crate::error::FrameError;
 use crate::frame::Frame;
 use crate::packet::MAX_PACKET;
-use st_oer::{length_size, var_uint_size};
+use crate::table::layout;
+use st_oer::{is_address, length_size, var_uint_size};
 
 /// The length of a frame's contents.
 #[tactic(auto, using(crate::proofs::Puts::lengths))]
 pub(crate) fn contents_len(frame: Frame<'_>) -> u128
     ensures { result ≡ length (contents_text (seen frame.entry)) }
 {
-    let [first, second, third] = fields(frame);
+    let (_, [first, second, third]) = layout(frame);
     first.size() + second.size() + third.size()
 }
 
@@ -31,9 +35,26 @@ fn frame_len(frame: Frame<'_>) -> Option<usize>
     Some(1 + length_size(contents as u64) + contents as usize)
 }
 
+/// Whether a frame tells an address that is none. It can't be written.
+fn is_unwritable(frame: &Frame<'_>) -> bool
+    ensures { result ≡ specs.is_unwritable (seen frame.now) }
+{
+    match frame {
+        Frame::ConnectionNewAddress { address } => !address.is_empty() && !is_address(address),
+        _ => false,
+    }
+}
+
+/// The index of the first frame that can't be written.
+fn first_unwritable(frames: &[Frame<'_>]) -> Option<usize>
+    ensures { result ≡ position (λ f. specs.is_unwritable (seen f)) frames.now }
+{
+    frames.iter().position(|frame| is_unwritable(frame))
+}
+
 /// The length of a packet, or None where it is more than `MAX_PACKET`.
 #[tactic(auto, using(crate::proofs::Puts::lengths))]
-pub(crate) fn packet_len(sequence: u64, amount: u64, frames: &[Frame<'_>]) -> Option<usize>
+fn length_within(sequence: u64, amount: u64, frames: &[Frame<'_>]) -> Option<usize>
     ensures { MatchOption result (max_packet < packet_length sequence amount (map seen frames.now)) (λ n. (n ≡ packet_length sequence amount (map seen frames.now)) × (n ≤ max_packet)) }
 {
     let mut total = 2
@@ -47,4 +68,18 @@ pub(crate) fn packet_len(sequence: u64, amount: u64, frames: &[Frame<'_>]) -> Op
         }
     }
     Some(total)
+}
+
+/// How many bytes a plain packet takes (RFC 0029, section 5.2), whatever the kind of its ILP packet. No memory.
+///
+/// Refused is, in this order: `FrameFormat` for the first frame whose address is neither empty nor an ILP address;
+/// `TooLong` above `MAX_PACKET` bytes.
+#[tactic(auto, unfolding(crate::specs::Written::written), using(crate::proofs::Puts::judging))]
+pub fn packet_len(sequence: u64, amount: u64, frames: &[Frame<'_>]) -> Result<usize, FrameError>
+    ensures { (kind : ℕ) → Gives (λ n. n) result (specs.size_of (specs.written kind sequence amount (map seen frames.now))) }
+{
+    if let Some(index) = first_unwritable(frames) {
+        return Err(FrameError::FrameFormat(index as u64));
+    }
+    length_within(sequence, amount, frames).ok_or(FrameError::TooLong)
 }

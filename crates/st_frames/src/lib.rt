@@ -1,25 +1,25 @@
 //! STREAM packets (RFC 0029, version 1): plain packets, as they stand before encryption and after decryption.
 //! `read_packet` judges a whole packet and then lends its known frames one after another, with no memory.
-//! `write_packet` writes the one spelling that this profile gives a packet.
+//! `write_packet` writes the one spelling that this profile gives a packet, and `put_packet` appends it to a vector.
 //! `number` is a refusal's number; `inner` the index of the malformed frame, or the number of the fault in a field.
 #![tactic(auto)]
 
-mod contents;
 mod error;
 mod field;
 mod frame;
-mod frame_type;
 mod laws;
 mod length;
 mod packet;
 mod skeleton;
+mod table;
 mod writing;
 
 pub use error::FrameError;
 pub use frame::Frame;
-pub use laws::{packet_law, prefix_law, written_law};
+pub use laws::{frames_law, packet_law, prefix_law, reading_wants_no_memory, written_law};
+pub use length::packet_len;
 pub use packet::{Frames, MAX_PACKET, StreamPacket, VERSION, read_packet};
-pub use writing::write_packet;
+pub use writing::{put_packet, write_packet};
 
 #[cfg(test)]
 mod tests;

@@ -2,15 +2,17 @@
 
 ghost use Rattle.std.specs.Prelude.{◌≡◌, ◌<◌, ◌≤◌, ◌+◌, ◌^◌, ℕ, List, IsOk, OnOk, IfErr, Err, option_map};
 ghost use Rattle.std.specs.Iterator.{YieldsFirstBy, item_count};
+ghost use Rattle.st_oer.specs.Seen.{Gives};
 ghost use Rattle.st_frames.specs.Frames.{Known};
 ghost use Rattle.st_frames.specs.Packets.{packet_of};
 ghost use Rattle.st_frames.specs.Reading.{raws_at, frame_at, frames_at, packet_at, all_of};
-ghost use Rattle.st_frames.specs.Seen.{Gives, seen, seen_at};
+ghost use Rattle.st_frames.specs.Seen.{seen, seen_at};
 
-use crate::contents::{Malformed, known_frame};
 use crate::error::FrameError;
+use crate::field::Malformed;
 use crate::frame::Frame;
 use crate::skeleton::{check_skeleton, raw_frame};
+use crate::table::known_frame;
 use st_oer::Cut;
 use std::marker::Model;
 

@@ -1,8 +1,8 @@
 //! The skeleton of a packet's frames: their types and lengths (RFC 0029, section 5.3).
 
 ghost use Rattle.std.specs.Prelude.{◌≡◌, IsOk, OnOk, IfErr, Err};
+ghost use Rattle.st_oer.specs.Seen.{Gives};
 ghost use Rattle.st_frames.specs.Reading.{raw_at, raws_at};
-ghost use Rattle.st_frames.specs.Seen.{Gives};
 
 use st_oer::{Cut, OerError};
 

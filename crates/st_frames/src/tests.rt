@@ -292,6 +292,24 @@ fn packets_written(rt: HostRuntime) -> Result<(), Fail> {
 }
 
 #[test]
+fn a_packet_is_appended(rt: HostRuntime) -> Result<(), Fail> {
+    let hi = Frame::StreamData {
+        stream: 1,
+        offset: 0,
+        bytes: b"hi",
+    };
+    let mut out = b"ab".to_vec(rt.alloc())?;
+    put_packet(&mut out, 12, 1, 0, &[hi])?;
+    let front = b"ab".as_slice();
+    assert_eq!(rt; out.strip_prefix(front), Some(HI.as_slice()));
+    let nowhere = Frame::ConnectionNewAddress { address: "a..b" };
+    let refused = put_packet(&mut out, 12, 1, 0, &[hi, nowhere]);
+    assert_eq!(rt; refused, Err(FrameError::FrameFormat(1)));
+    assert_eq!(rt; out.strip_prefix(front), Some(HI.as_slice()));
+    Ok(())
+}
+
+#[test]
 fn packets_not_written(rt: HostRuntime) -> Result<(), Fail> {
     // the longest data of a packet with one frame, and one byte more
     let data = vec![in rt.alloc(); 7u8; 32_721]?;

@@ -1,127 +1,115 @@
 //! Writing: the one spelling of a packet.
 
-ghost use Rattle.std.specs.Prelude.{◌≡◌, ◌<◌, ◌≤◌, ◌++◌, ◌^◌, map, length, None, OnOk, IfOk, IsOkUnless, false};
+ghost use Rattle.std.specs.Prelude.{◌≡◌, ◌<◌, ◌≤◌, ◌+◌, ◌++◌, ◌^◌, map, length, vec_len, vec_capacity, None, OnOk, OnErr, IfOk, IsOk, false};
 ghost use Rattle.std.specs.List.{position};
-ghost use Rattle.st_frames.specs.Seen.{Writes, seen};
-ghost use Rattle.st_frames.specs.Table.{layout};
+ghost use Rattle.st_oer.specs.Seen.{Writes};
+ghost use Rattle.st_frames.specs.Seen.{seen};
 ghost use Rattle.st_frames.specs.Written as specs;
 
 use crate::error::FrameError;
-use crate::field::fields;
 use crate::frame::Frame;
-use crate::frame_type;
 use crate::length::{contents_len, packet_len};
 use crate::packet::VERSION;
-use st_oer::{OerError, is_address, put_length, put_u8, put_var_uint};
+use crate::table::layout;
+use st_oer::{put_length, put_u8, put_var_uint};
 use std::alloc::Allocator;
 
-/// Whether a frame tells an address that is none. It can't be written.
-fn is_unwritable(frame: &Frame<'_>) -> bool
-    ensures { result ≡ specs.is_unwritable (seen frame.now) }
+/// Appends a frame's contents to a vector that has room for them.
+#[tactic(auto, using(crate::proofs::Puts::puts, crate::proofs::Puts::lengths))]
+fn append_contents<A: Allocator>(out: &mut Vec<u8, A>, frame: Frame<'_>)
+    requires room { vec_len out.old + length (specs.contents_text (seen frame)) ≤ vec_capacity out.old }
+    ensures text { out.new.items ≡ out.old.items ++ specs.contents_text (seen frame.entry) }
+    ensures fits { specs.is_unwritable (seen frame.entry) ≡ false → specs.KnownFits (seen frame.entry) }
+    ensures capacity { vec_capacity out.old ≤ vec_capacity out.new }
 {
-    match frame {
-        Frame::ConnectionNewAddress { address } => !address.is_empty() && !is_address(address),
-        _ => false,
-    }
+    let (_, [first, second, third]) = layout(frame);
+    first.append(out);
+    second.append(out);
+    third.append(out);
 }
 
-/// The number of a frame's type.
-fn type_of(frame: Frame<'_>) -> u8
-    ensures { result ≡ (layout (seen frame.entry)).0 }
-{
-    match frame {
-        Frame::ConnectionClose { .. } => frame_type::CONNECTION_CLOSE,
-        Frame::ConnectionNewAddress { .. } => frame_type::CONNECTION_NEW_ADDRESS,
-        Frame::ConnectionMaxData { .. } => frame_type::CONNECTION_MAX_DATA,
-        Frame::ConnectionDataBlocked { .. } => frame_type::CONNECTION_DATA_BLOCKED,
-        Frame::StreamClose { .. } => frame_type::STREAM_CLOSE,
-        Frame::StreamMoney { .. } => frame_type::STREAM_MONEY,
-        Frame::StreamMaxMoney { .. } => frame_type::STREAM_MAX_MONEY,
-        Frame::StreamMoneyBlocked { .. } => frame_type::STREAM_MONEY_BLOCKED,
-        Frame::StreamData { .. } => frame_type::STREAM_DATA,
-        Frame::StreamMaxData { .. } => frame_type::STREAM_MAX_DATA,
-        Frame::StreamDataBlocked { .. } => frame_type::STREAM_DATA_BLOCKED,
-    }
-}
-
-/// Appends a frame's contents.
-#[tactic(auto, using(crate::proofs::Puts::puts))]
-fn put_contents<A: Allocator>(out: &mut Vec<u8, A>, frame: Frame<'_>) -> Result<(), OerError>
-    ensures ok { OnOk result (out.new.items ≡ out.old.items ++ specs.contents_text (seen frame.entry)) }
-    ensures fits { OnOk result (specs.is_unwritable (seen frame.entry) ≡ false → specs.KnownFits (seen frame.entry)) }
-    ensures only_memory { IsOkUnless result OerError.NoMemory }
-{
-    let [first, second, third] = fields(frame);
-    first.put(out)?;
-    second.put(out)?;
-    third.put(out)?;
-    Ok(())
-}
-
-/// Appends a frame: its type, and its contents as an octet string.
-#[tactic(auto, unfolding(crate::specs::Written::frame_text), using(crate::proofs::Puts::puts))]
-fn put_frame<A: Allocator>(out: &mut Vec<u8, A>, frame: Frame<'_>) -> Result<(), OerError>
+/// Appends a frame, its type and its contents as an octet string, to a vector that has room for it.
+#[tactic(auto, unfolding(crate::specs::Written::frame_text), using(crate::proofs::Puts::puts, crate::proofs::Puts::lengths))]
+fn append_frame<A: Allocator>(out: &mut Vec<u8, A>, frame: Frame<'_>)
     requires short { length (specs.contents_text (seen frame)) < 2 ^ 64 }
-    ensures ok { OnOk result (out.new.items ≡ out.old.items ++ specs.frame_text (seen frame.entry)) }
-    ensures fits { OnOk result (specs.is_unwritable (seen frame.entry) ≡ false → specs.KnownFits (seen frame.entry)) }
-    ensures only_memory { IsOkUnless result OerError.NoMemory }
+    requires room { vec_len out.old + length (specs.frame_text (seen frame)) ≤ vec_capacity out.old }
+    ensures text { out.new.items ≡ out.old.items ++ specs.frame_text (seen frame.entry) }
+    ensures fits { specs.is_unwritable (seen frame.entry) ≡ false → specs.KnownFits (seen frame.entry) }
+    ensures capacity { vec_capacity out.old ≤ vec_capacity out.new }
 {
-    put_u8(out, type_of(frame))?;
-    put_length(out, contents_len(frame) as u64)?;
-    put_contents(out, frame)
+    let (kind, _) = layout(frame);
+    put_u8(out, kind).unwrap();
+    put_length(out, contents_len(frame) as u64).unwrap();
+    append_contents(out, frame);
 }
 
-/// Appends frames one after another.
-#[tactic(auto, using(crate::proofs::Puts::puts))]
-fn put_frames<A: Allocator>(out: &mut Vec<u8, A>, frames: &[Frame<'_>]) -> Result<(), OerError>
+/// Appends frames one after another to a vector that has room for them.
+#[tactic(auto, using(crate::proofs::Puts::puts, crate::proofs::Puts::lengths))]
+fn append_frames<A: Allocator>(out: &mut Vec<u8, A>, frames: &[Frame<'_>])
     requires short { length (specs.frames_text (map seen frames.now)) < 2 ^ 64 }
     requires writable { position (λ f. specs.is_unwritable (seen f)) frames.now ≡ None }
-    ensures ok { OnOk result (out.new.items ≡ out.old.items ++ specs.frames_text (map seen frames.now)) }
-    ensures fits { OnOk result (specs.AllFit (map seen frames.now)) }
-    ensures only_memory { IsOkUnless result OerError.NoMemory }
+    requires room { vec_len out.old + length (specs.frames_text (map seen frames.now)) ≤ vec_capacity out.old }
+    ensures text { out.new.items ≡ out.old.items ++ specs.frames_text (map seen frames.now) }
+    ensures fits { specs.AllFit (map seen frames.now) }
+    ensures capacity { vec_capacity out.old ≤ vec_capacity out.new }
 {
     for frame in frames {
-        put_frame(out, *frame)?;
+        append_frame(out, *frame);
     }
-    Ok(())
 }
 
-/// The index of the first frame that can't be written.
-fn first_unwritable(frames: &[Frame<'_>]) -> Option<usize>
-    ensures { result ≡ position (λ f. specs.is_unwritable (seen f)) frames.now }
-{
-    frames.iter().position(|frame| is_unwritable(frame))
-}
-
-/// Appends a packet.
-#[tactic(auto, unfolding(crate::specs::Written::packet_text), using(crate::proofs::Puts::puts))]
-fn put_packet<A: Allocator>(
+/// Appends a packet to a vector that has room for it.
+#[tactic(auto, unfolding(crate::specs::Written::packet_text), using(crate::proofs::Puts::puts, crate::proofs::Puts::lengths))]
+fn append_packet<A: Allocator>(
     out: &mut Vec<u8, A>,
     kind: u8,
     sequence: u64,
     amount: u64,
     frames: &[Frame<'_>],
-) -> Result<(), OerError>
+)
     requires short { length (specs.frames_text (map seen frames.now)) < 2 ^ 64 }
     requires writable { position (λ f. specs.is_unwritable (seen f)) frames.now ≡ None }
-    ensures ok { OnOk result (out.new.items ≡ out.old.items ++ specs.packet_text kind sequence amount (map seen frames.now)) }
-    ensures fits { OnOk result (specs.AllFit (map seen frames.now)) }
-    ensures only_memory { IsOkUnless result OerError.NoMemory }
+    requires room { vec_len out.old + specs.packet_length sequence amount (map seen frames.now) ≤ vec_capacity out.old }
+    ensures text { out.new.items ≡ out.old.items ++ specs.packet_text kind sequence amount (map seen frames.now) }
+    ensures fits { specs.AllFit (map seen frames.now) }
+    ensures capacity { vec_capacity out.old ≤ vec_capacity out.new }
 {
-    put_u8(out, VERSION)?;
-    put_u8(out, kind)?;
-    put_var_uint(out, sequence)?;
-    put_var_uint(out, amount)?;
-    put_var_uint(out, frames.len() as u64)?;
-    put_frames(out, frames)
+    put_u8(out, VERSION).unwrap();
+    put_u8(out, kind).unwrap();
+    put_var_uint(out, sequence).unwrap();
+    put_var_uint(out, amount).unwrap();
+    put_var_uint(out, frames.len() as u64).unwrap();
+    append_frames(out, frames);
 }
 
-/// Writes a plain packet (RFC 0029, section 5.2) for an ILP packet of this kind: its one spelling in this profile, with
+/// Appends a plain packet (RFC 0029, section 5.2) for an ILP packet of this kind: its one spelling in this profile, with
 /// the shortest lengths and numbers, and nothing after the last frame.
 ///
-/// Refused is, in this order: `FrameFormat` for the first frame whose address is neither empty nor an ILP address;
-/// `TooLong` above `MAX_PACKET` bytes; `NoMemory`, and memory is asked for only where the others do not come.
-#[tactic(auto, unfolding(crate::specs::Written::written), using(crate::proofs::Puts::judging))]
+/// The whole room is asked for at once, before the first byte is written, and no memory where `out` has it already.
+/// Refused is what `packet_len` refuses, and then `NoMemory`. `out` then has the bytes that it had.
+#[tactic(auto, unfolding(crate::specs::Written::written), using(crate::proofs::Puts::sized))]
+pub fn put_packet<A: Allocator>(
+    out: &mut Vec<u8, A>,
+    kind: u8,
+    sequence: u64,
+    amount: u64,
+    frames: &[Frame<'_>],
+) -> Result<(), FrameError>
+    requires from_prepare { 12 ≤ kind }
+    requires to_reject { kind ≤ 14 }
+    ensures text { OnOk result (out.new.items ≡ out.old.items ++ specs.packet_text kind sequence amount (map seen frames.now)) }
+    ensures unchanged { OnErr result (out.new.items ≡ out.old.items) }
+    ensures written { Writes FrameError.NoMemory (λ _. specs.packet_text kind sequence amount (map seen frames.now)) result (specs.written kind sequence amount (map seen frames.now)) }
+    ensures fits { OnOk result (specs.AllFit (map seen frames.now)) }
+    ensures room { IfOk (specs.size_of (specs.written kind sequence amount (map seen frames.now))) (λ n. vec_len out.old + n ≤ vec_capacity out.old → IsOk result) }
+    ensures capacity { vec_capacity out.old ≤ vec_capacity out.new }
+{
+    out.reserve(packet_len(sequence, amount, frames)?)?;
+    append_packet(out, kind, sequence, amount, frames);
+    Ok(())
+}
+
+/// Writes a plain packet as `put_packet` does, into a vector of its own, with the same refusals.
 pub fn write_packet<A: Allocator>(
     alloc: A,
     kind: u8,
@@ -131,16 +119,10 @@ pub fn write_packet<A: Allocator>(
 ) -> Result<Vec<u8, A>, FrameError>
     requires from_prepare { 12 ≤ kind }
     requires to_reject { kind ≤ 14 }
-    ensures written { Writes (λ out. out.items) result (specs.written kind sequence amount (map seen frames.now)) }
+    ensures written { Writes FrameError.NoMemory (λ out. out.items) result (specs.written kind sequence amount (map seen frames.now)) }
     ensures fits { IfOk result (λ _. specs.AllFit (map seen frames.now)) }
 {
-    if let Some(index) = first_unwritable(frames) {
-        return Err(FrameError::FrameFormat(index as u64));
-    }
-    let Some(length) = packet_len(sequence, amount, frames) else {
-        return Err(FrameError::TooLong);
-    };
-    let mut out = Vec::with_capacity(alloc, length)?;
+    let mut out = Vec::new(alloc);
     put_packet(&mut out, kind, sequence, amount, frames)?;
     Ok(out)
 }

@@ -1,11 +1,12 @@
 -- What is written, and what is refused: the first rule that does not hold, in the order of the fields.
-use Rattle.std.specs.Prelude.{◌≡◌, ℕ, ◌+◌, nat_le, not, if◌then◌else◌, List, length, Option, Some, None, Result, Ok, Err}
+use Rattle.std.specs.Prelude.{ℕ, ◌+◌, nat_le, not, if◌then◌else◌, List, length, Option, Some, None, Result, Ok, Err}
 use Rattle.st_oer.specs.Address.{is_address}
 use Rattle.st_oer.specs.Spelling.{length_bytes}
 use Rattle.st_ilp.specs.declared.error.IlpError.{IlpError}
-use Rattle.st_ilp.specs.declared.error.IlpError.TheVariants.{Expiry, Address, DataTooLong, Code, NoMemory}
+use Rattle.st_ilp.specs.declared.error.IlpError.TheVariants.{Expiry, Address, DataTooLong, Code}
 use Rattle.st_ilp.specs.Packets.{PreparePacket, AnswerPacket, Fulfilled, Rejected}
 use Rattle.st_ilp.specs.Expiry.{is_expiry}
+use Rattle.st_ilp.specs.Spelling.{prepare_text, answer_text}
 use Rattle.st_ilp.specs.Rules.{max_message, is_data, is_sender, is_code}
 
 -- why a Prepare is not written, memory aside
@@ -26,11 +27,18 @@ answer_refusal (Rejected code by message payload) =
     else (if not (is_data payload) then Some DataTooLong
     else None)))
 
--- a value comes only where nothing was to be refused; else that refusal came, or there was no memory
-abbrev pub Refuses : {X : Type 0} → Result X IlpError → Option IlpError → Type 0
-Refuses (Ok x) refusal = refusal ≡ None
-Refuses (Err e) (Some refusal) = e ≡ refusal
-Refuses (Err e) None = e ≡ NoMemory
+-- a text, unless it is refused
+abbrev pub unless : Option IlpError → List ℕ → Result (List ℕ) IlpError
+unless None text = Ok text
+unless (Some e) text = Err e
+
+-- what writing a Prepare gives
+abbrev pub prepare_written : PreparePacket → Result (List ℕ) IlpError
+prepare_written p = unless (prepare_refusal p) (prepare_text p)
+
+-- what writing an answer gives
+abbrev pub answer_written : AnswerPacket → Result (List ℕ) IlpError
+answer_written a = unless (answer_refusal a) (answer_text a)
 
 -- how many bytes so many octets take with their length
 abbrev pub octets_size : ℕ → ℕ
@@ -43,3 +51,12 @@ reject_contents_size by message data_length = 3 + (octets_size by + (octets_size
 -- how many bytes a Reject without a message takes
 unfoldable pub reject_size : List ℕ → ℕ → ℕ
 reject_size by data_length = 1 + octets_size (reject_contents_size (length by) 0 data_length)
+
+-- how many bytes a Prepare takes
+abbrev pub size_of_prepare : PreparePacket → ℕ
+size_of_prepare p = 1 + octets_size (57 + (octets_size (length p.destination) + octets_size (length p.payload)))
+
+-- how many bytes a Fulfill or Reject takes
+abbrev pub size_of_answer : AnswerPacket → ℕ
+size_of_answer (Fulfilled fulfillment payload) = 1 + octets_size (32 + octets_size (length payload))
+size_of_answer (Rejected code by message payload) = 1 + octets_size (reject_contents_size (length by) (length message) (length payload))

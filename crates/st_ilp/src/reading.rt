@@ -1,8 +1,9 @@
 //! Reading packets. No reader takes memory: texts and data are slices of the input.
 
 ghost use Rattle.std.specs.Prelude.{◌≡◌, ◌≢◌, length, MatchResult};
+ghost use Rattle.st_oer.specs.Seen.{Gives};
 ghost use Rattle.st_ilp.specs.Reading.{expires_at, hash_at, code_at, destination_at, sender_at, message_at, data_at, packet_at, prepare_within, fulfill_within, reject_within, prepare_at, answer_at};
-ghost use Rattle.st_ilp.specs.Seen.{Gives, Moves, prepare_seen, answer_seen};
+ghost use Rattle.st_ilp.specs.Seen.{prepare_seen, answer_seen};
 
 use crate::error::IlpError;
 use crate::expiry::read_expiry;
@@ -11,7 +12,7 @@ use st_oer::{Cut, OerError, is_address, utf8};
 
 #[tactic(auto, unfolding(crate::specs::Reading::expires_at))]
 fn expires(cut: &mut Cut<'_>) -> Result<i64, IlpError>
-    ensures { Moves (λ x. x) cut.new result (expires_at cut.old) }
+    ensures { Gives (λ x. (x, cut.new)) result (expires_at cut.old) }
 {
     read_expiry(cut.fixed(17)?)
 }
@@ -19,7 +20,7 @@ fn expires(cut: &mut Cut<'_>) -> Result<i64, IlpError>
 /// A condition or a fulfillment.
 #[tactic(auto, unfolding(crate::specs::Reading::hash_at))]
 fn hash(cut: &mut Cut<'_>) -> Result<[u8; 32], IlpError>
-    ensures { Moves (λ x. x) cut.new result (hash_at cut.old) }
+    ensures { Gives (λ x. (x, cut.new)) result (hash_at cut.old) }
 {
     let Ok(hash) = <[u8; 32]>::try_from(cut.fixed(32)?) else {
         return Err(IlpError::Oer(OerError::Short));
@@ -29,7 +30,7 @@ fn hash(cut: &mut Cut<'_>) -> Result<[u8; 32], IlpError>
 
 #[tactic(auto, unfolding(crate::specs::Reading::code_at))]
 fn code(cut: &mut Cut<'_>) -> Result<[u8; 3], IlpError>
-    ensures { Moves (λ x. x) cut.new result (code_at cut.old) }
+    ensures { Gives (λ x. (x, cut.new)) result (code_at cut.old) }
 {
     let Ok(code) = <[u8; 3]>::try_from(cut.fixed(3)?) else {
         return Err(IlpError::Oer(OerError::Short));
@@ -43,7 +44,7 @@ fn code(cut: &mut Cut<'_>) -> Result<[u8; 3], IlpError>
 
 #[tactic(auto, unfolding(crate::specs::Reading::octets_with), using(crate::proofs::AddressTexts::texts))]
 fn destination<'a>(cut: &mut Cut<'a>) -> Result<&'a str, IlpError>
-    ensures { Moves (λ x. x.now) cut.new result (destination_at cut.old) }
+    ensures { Gives (λ x. (x.now, cut.new)) result (destination_at cut.old) }
 {
     let Some(text) = utf8(cut.octets()?) else {
         return Err(IlpError::Address);
@@ -58,7 +59,7 @@ fn destination<'a>(cut: &mut Cut<'a>) -> Result<&'a str, IlpError>
 /// The triggeredBy of a Reject.
 #[tactic(auto, unfolding(crate::specs::Reading::octets_with), using(crate::proofs::AddressTexts::texts))]
 fn sender<'a>(cut: &mut Cut<'a>) -> Result<&'a str, IlpError>
-    ensures { Moves (λ x. x.now) cut.new result (sender_at cut.old) }
+    ensures { Gives (λ x. (x.now, cut.new)) result (sender_at cut.old) }
 {
     let Some(text) = utf8(cut.octets()?) else {
         return Err(IlpError::Address);
@@ -72,7 +73,7 @@ fn sender<'a>(cut: &mut Cut<'a>) -> Result<&'a str, IlpError>
 
 #[tactic(auto, unfolding(crate::specs::Reading::octets_with))]
 fn message<'a>(cut: &mut Cut<'a>) -> Result<&'a str, IlpError>
-    ensures { Moves (λ x. x.now) cut.new result (message_at cut.old) }
+    ensures { Gives (λ x. (x.now, cut.new)) result (message_at cut.old) }
 {
     match utf8(cut.octets()?) {
         Some(text) => Ok(text),
@@ -82,7 +83,7 @@ fn message<'a>(cut: &mut Cut<'a>) -> Result<&'a str, IlpError>
 
 #[tactic(auto, unfolding(crate::specs::Reading::octets_with))]
 fn data<'a>(cut: &mut Cut<'a>) -> Result<&'a [u8], IlpError>
-    ensures { Moves (λ x. x.now) cut.new result (data_at cut.old) }
+    ensures { Gives (λ x. (x.now, cut.new)) result (data_at cut.old) }
 {
     let bytes = cut.octets()?;
     if bytes.len() <= MAX_DATA {

@@ -1,9 +1,10 @@
 //! Rejects, also into room that was reserved for one.
 
-ghost use Rattle.std.specs.Prelude.{◌≡◌, ◌<◌, ◌≤◌, ◌^◌, ◌+◌, ◌++◌, ◌∷◌, [], length, None, Some, IsOk, MatchResult, OnOk, OnErr, vec_len, vec_capacity};
+ghost use Rattle.std.specs.Prelude.{◌≡◌, ◌≢◌, ◌<◌, ◌≤◌, ◌^◌, ◌+◌, ◌++◌, ◌∷◌, [], length, None, Some, IsOk, MatchResult, IfErr, OnOk, OnErr, vec_len, vec_capacity};
+ghost use Rattle.st_oer.specs.Seen.{Writes};
 ghost use Rattle.st_ilp.specs.Packets.{Rejected};
 ghost use Rattle.st_ilp.specs.Spelling.{answer_text, answer_contents};
-ghost use Rattle.st_ilp.specs.Writing.{Refuses, answer_refusal, reject_size, octets_size, reject_contents_size};
+ghost use Rattle.st_ilp.specs.Writing.{answer_refusal, answer_written, reject_size, octets_size, reject_contents_size};
 
 use crate::error::IlpError;
 use crate::packet::{MAX_DATA, MAX_MESSAGE, REJECT, is_code, is_sender};
@@ -20,7 +21,8 @@ pub(crate) fn judge_reject(
     message: &str,
     payload: &[u8],
 ) -> Result<(), IlpError>
-    ensures { MatchResult result (λ _. answer_refusal (Rejected code.now by.now message.now payload.now) ≡ None) (λ e. answer_refusal (Rejected code.now by.now message.now payload.now) ≡ Some e) }
+    ensures judged { MatchResult result (λ _. answer_refusal (Rejected code.now by.now message.now payload.now) ≡ None) (λ e. answer_refusal (Rejected code.now by.now message.now payload.now) ≡ Some e) }
+    ensures no_memory { IfErr result (λ e. e ≢ IlpError.NoMemory) }
 {
     if !is_code(code) {
         return Err(IlpError::Code);
@@ -62,7 +64,8 @@ pub(crate) fn append_reject<A: Allocator>(
 /// Exact wherever the number fits a `usize`. Else `usize::MAX`. No memory.
 #[tactic(auto, unfolding(crate::specs::Writing::reject_size))]
 pub fn reject_len(by: &str, data_len: usize) -> usize
-    ensures { reject_size by.now data_len < 2 ^ 64 → result ≡ reject_size by.now data_len }
+    ensures exact { reject_size by.now data_len < 2 ^ 64 → result ≡ reject_size by.now data_len }
+    ensures past { 2 ^ 64 ≤ reject_size by.now data_len → result ≡ usize.MAX }
 {
     size::reject_size(by.len(), 0, data_len)
 }
@@ -81,7 +84,7 @@ pub fn put_reject<A: Allocator>(
 ) -> Result<(), IlpError>
     ensures text { OnOk result (out.new.items ≡ out.old.items ++ answer_text (Rejected code by.now [] payload.now)) }
     ensures unchanged { OnErr result (out.new.items ≡ out.old.items) }
-    ensures refusal { Refuses result (answer_refusal (Rejected code by.now [] payload.now)) }
+    ensures written { Writes IlpError.NoMemory (λ _. answer_text (Rejected code by.now [] payload.now)) result (answer_written (Rejected code by.now [] payload.now)) }
     ensures room { answer_refusal (Rejected code by.now [] payload.now) ≡ None → vec_len out.old + reject_size by.now (length payload.now) ≤ vec_capacity out.old → IsOk result }
     ensures capacity { vec_capacity out.old ≤ vec_capacity out.new }
 {

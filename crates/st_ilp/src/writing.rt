@@ -1,11 +1,12 @@
 //! Writing packets: the one spelling of each.
 
-ghost use Rattle.std.specs.Prelude.{◌≡◌, ◌≤◌, ◌+◌, ◌++◌, ◌∷◌, length, vec_len, vec_capacity, IfOk};
+ghost use Rattle.std.specs.Prelude.{◌≡◌, ◌≤◌, ◌+◌, ◌++◌, ◌∷◌, length, vec_len, vec_capacity};
+ghost use Rattle.st_oer.specs.Seen.{Writes};
 ghost use Rattle.st_oer.specs.Spelling.{length_bytes};
 ghost use Rattle.st_ilp.specs.Packets.{Fulfilled, Rejected};
 ghost use Rattle.st_ilp.specs.Expiry.{expiry_text};
-ghost use Rattle.st_ilp.specs.Spelling.{prepare_contents, prepare_text, answer_contents, answer_text};
-ghost use Rattle.st_ilp.specs.Writing.{Refuses, prepare_refusal, answer_refusal};
+ghost use Rattle.st_ilp.specs.Spelling.{prepare_contents, prepare_text};
+ghost use Rattle.st_ilp.specs.Writing.{prepare_written, answer_written};
 ghost use Rattle.st_ilp.specs.Seen.{prepare_seen, answer_seen};
 
 use crate::error::IlpError;
@@ -54,8 +55,7 @@ fn append_prepare<A: Allocator>(
 /// `NoMemory` where there was none.
 #[tactic(auto, unfolding(crate::specs::Writing::prepare_refusal), using(crate::proofs::Sizes::sizes))]
 pub fn write_prepare<A: Allocator>(alloc: A, prepare: &Prepare<'_>) -> Result<Vec<u8, A>, IlpError>
-    ensures text { IfOk result (λ out. out.items ≡ prepare_text (prepare_seen prepare.now)) }
-    ensures refusal { Refuses result (prepare_refusal (prepare_seen prepare.now)) }
+    ensures { Writes IlpError.NoMemory (λ out. out.items) result (prepare_written (prepare_seen prepare.now)) }
 {
     let expiry = write_expiry(prepare.expiry)?;
     if !is_address(prepare.destination) {
@@ -76,8 +76,7 @@ fn fulfill_bytes<A: Allocator>(
     fulfillment: [u8; 32],
     payload: &[u8],
 ) -> Result<Vec<u8, A>, IlpError>
-    ensures text { IfOk result (λ out. out.items ≡ answer_text (Fulfilled fulfillment payload.now)) }
-    ensures refusal { Refuses result (answer_refusal (Fulfilled fulfillment payload.now)) }
+    ensures { Writes IlpError.NoMemory (λ out. out.items) result (answer_written (Fulfilled fulfillment payload.now)) }
 {
     if MAX_DATA < payload.len() {
         return Err(IlpError::DataTooLong);
@@ -98,8 +97,7 @@ fn reject_bytes<A: Allocator>(
     message: &str,
     payload: &[u8],
 ) -> Result<Vec<u8, A>, IlpError>
-    ensures text { IfOk result (λ out. out.items ≡ answer_text (Rejected code by.now message.now payload.now)) }
-    ensures refusal { Refuses result (answer_refusal (Rejected code by.now message.now payload.now)) }
+    ensures { Writes IlpError.NoMemory (λ out. out.items) result (answer_written (Rejected code by.now message.now payload.now)) }
 {
     judge_reject(&code, by, message, payload)?;
     let size = reject_size(by.len(), message.len(), payload.len());
@@ -113,8 +111,7 @@ fn reject_bytes<A: Allocator>(
 /// Refuses with the first of `Code`, `Address`, `DataTooLong` (a message above 8,191 bytes, or data)
 /// that has a cause, and else with `NoMemory` where there was none.
 pub fn write_answer<A: Allocator>(alloc: A, answer: &Answer<'_>) -> Result<Vec<u8, A>, IlpError>
-    ensures text { IfOk result (λ out. out.items ≡ answer_text (answer_seen answer.now)) }
-    ensures refusal { Refuses result (answer_refusal (answer_seen answer.now)) }
+    ensures { Writes IlpError.NoMemory (λ out. out.items) result (answer_written (answer_seen answer.now)) }
 {
     match *answer {
         Answer::Fulfill {

@@ -14,7 +14,7 @@ use Rattle.st_frames.specs.Written.{AllFit, written, packet_with}
 use Rattle.st_frames.specs.declared.error.FrameError.{FrameError}
 use Rattle.st_frames.proofs.WrittenLaws.{packet_writes}
 use Rattle.st_keys.specs.declared.error.KeyError.TheVariants as refused
-use Rattle.st_keys.specs.Keys.{encryption_key}
+use Rattle.st_keys.specs.Keys.{DerivedKeys}
 use Rattle.st_keys.specs.Sealed.{payload_of, sealed, iv_of, tag_of, ciphertext_of, unsealed, packet_in, packet_or_fault, opened, sealed_text, sealed_packet}
 
 -- ---- what the tag decides
@@ -22,12 +22,12 @@ use Rattle.st_keys.specs.Sealed.{payload_of, sealed, iv_of, tag_of, ciphertext_o
 same_bytes : (xs ys : List ℕ) → Decides (pointwise nat_eq xs ys) (xs ≡ ys)
 same_bytes xs ys = slice_eq-Decides (λ a b. Decides-eqb a b) xs ys (pointwise nat_eq xs ys) refl
 
-pub unsealed_wrong : (secret payload : List ℕ) → 28 ≤ length payload
-    → (tag_of payload ≡ tag (encryption_key secret) (iv_of payload) (ciphertext_of payload) → ⊥) → unsealed secret payload ≡ Err refused.Tag
+pub unsealed_wrong : (keys : DerivedKeys) (payload : List ℕ) → 28 ≤ length payload
+    → (tag_of payload ≡ tag keys.encryption_key (iv_of payload) (ciphertext_of payload) → ⊥) → unsealed keys payload ≡ Err refused.Tag
 unfolding unsealed
-unsealed_wrong secret payload long other =
+unsealed_wrong keys payload long other =
     let given = tag_of payload in
-    let right = tag (encryption_key secret) (iv_of payload) (ciphertext_of payload) in
+    let right = tag keys.encryption_key (iv_of payload) (ciphertext_of payload) in
     let test : pointwise nat_eq given right ≡ false =
     elim (cases_Bool (pointwise nat_eq given right)) [
       | inl same ↦ absurd (other ((same_bytes given right).0 same))
@@ -35,13 +35,13 @@ unsealed_wrong secret payload long other =
     ] in
     rw (le-ltb (length payload) 28 long, test) refl
 
-pub unsealed_right : (secret payload : List ℕ) → 28 ≤ length payload
-    → tag_of payload ≡ tag (encryption_key secret) (iv_of payload) (ciphertext_of payload)
-    → unsealed secret payload ≡ Ok (counter_mode (encryption_key secret) (iv_of payload) (ciphertext_of payload))
+pub unsealed_right : (keys : DerivedKeys) (payload : List ℕ) → 28 ≤ length payload
+    → tag_of payload ≡ tag keys.encryption_key (iv_of payload) (ciphertext_of payload)
+    → unsealed keys payload ≡ Ok (counter_mode keys.encryption_key (iv_of payload) (ciphertext_of payload))
 unfolding unsealed
-unsealed_right secret payload long same =
+unsealed_right keys payload long same =
     let given = tag_of payload in
-    let right = tag (encryption_key secret) (iv_of payload) (ciphertext_of payload) in
+    let right = tag keys.encryption_key (iv_of payload) (ciphertext_of payload) in
     let test : pointwise nat_eq given right ≡ true = (same_bytes given right).1 same in
     rw (le-ltb (length payload) 28 long, test) refl
 
@@ -61,7 +61,7 @@ kept_all payload text n same =
 
 -- ---- a sealed text
 
-tag_length : (key iv text : List ℕ) → length (tag key iv text) ≡ 16
+pub tag_length : (key iv text : List ℕ) → length (tag key iv text) ≡ 16
 unfolding tag
 tag_length key iv text = refl
 
@@ -81,38 +81,38 @@ parts key iv ciphertext long =
       omega (arith, long, t_long, joined),
     )
 
-pub sealed_unseals : (secret iv text : List ℕ) → length iv ≡ 12 → unsealed secret (sealed secret iv text) ≡ Ok text
+pub sealed_unseals : (keys : DerivedKeys) (iv text : List ℕ) → length iv ≡ 12 → unsealed keys (sealed keys iv text) ≡ Ok text
 unfolding sealed
-sealed_unseals secret iv text long =
-    let key = encryption_key secret in
+sealed_unseals keys iv text long =
+    let key = keys.encryption_key in
     let ciphertext = counter_mode key iv text in
     let payload = payload_of key iv ciphertext in
     let p = parts key iv ciphertext long in
     let same : tag_of payload ≡ tag key (iv_of payload) (ciphertext_of payload) = rw (p.0, p.2) p.1 in
     let back : counter_mode key (iv_of payload) (ciphertext_of payload) ≡ text = rw (p.0, p.2) (counter_mode_twice key iv text) in
-    unsealed_right secret payload p.3 same ∙ ap (λ (t : List ℕ). Ok t) back
+    unsealed_right keys payload p.3 same ∙ ap (λ (t : List ℕ). Ok t) back
 
 -- ---- a sealed packet
 
 -- a text that reads as a packet, sealed
-pub sealed_opens : (secret iv text : List ℕ) (kind : ℕ) (packet : Packet) → length iv ≡ 12 → packet_at kind text ≡ Ok packet → opened secret kind (sealed secret iv text) ≡ Ok packet
+pub sealed_opens : (keys : DerivedKeys) (iv text : List ℕ) (kind : ℕ) (packet : Packet) → length iv ≡ 12 → packet_at kind text ≡ Ok packet → opened keys kind (sealed keys iv text) ≡ Ok packet
 unfolding opened
-sealed_opens secret iv text kind packet long reads = ap (packet_in kind) (sealed_unseals secret iv text long) ∙ ap packet_or_fault reads
+sealed_opens keys iv text kind packet long reads = ap (packet_in kind) (sealed_unseals keys iv text long) ∙ ap packet_or_fault reads
 
 -- a packet's text and no fault was sealed
-abbrev pub OpensTo : (secret iv : List ℕ) (kind : ℕ) (packet : Packet) → Result (List ℕ) FrameError → Type 0
-OpensTo secret iv kind packet text = (payload : List ℕ) → sealed_text secret iv text ≡ Ok payload → opened secret kind payload ≡ Ok packet
+abbrev pub OpensTo : (keys : DerivedKeys) (iv : List ℕ) (kind : ℕ) (packet : Packet) → Result (List ℕ) FrameError → Type 0
+OpensTo keys iv kind packet text = (payload : List ℕ) → sealed_text keys iv text ≡ Ok payload → opened keys kind payload ≡ Ok packet
 
-text_opens : (secret iv : List ℕ) (kind : ℕ) (packet : Packet) (text : Result (List ℕ) FrameError) → length iv ≡ 12
-    → ((bytes : List ℕ) → text ≡ Ok bytes → packet_at kind bytes ≡ Ok packet) → OpensTo secret iv kind packet text
-text_opens secret iv kind packet (Ok bytes) long reads = λ payload is.
-    let same : sealed secret iv bytes ≡ payload = cc in
-    rw (← same) (sealed_opens secret iv bytes kind packet long (reads bytes refl))
-text_opens secret iv kind packet (Err fault) long reads = λ payload is. absurd cc
+text_opens : (keys : DerivedKeys) (iv : List ℕ) (kind : ℕ) (packet : Packet) (text : Result (List ℕ) FrameError) → length iv ≡ 12
+    → ((bytes : List ℕ) → text ≡ Ok bytes → packet_at kind bytes ≡ Ok packet) → OpensTo keys iv kind packet text
+text_opens keys iv kind packet (Ok bytes) long reads = λ payload is.
+    let same : sealed keys iv bytes ≡ payload = cc in
+    rw (← same) (sealed_opens keys iv bytes kind packet long (reads bytes refl))
+text_opens keys iv kind packet (Err fault) long reads = λ payload is. absurd cc
 
-pub packet_opens : (secret iv payload : List ℕ) (kind sequence amount : ℕ) (ks : List Known) → length iv ≡ 12 → sequence < 2 ^ 64 → amount < 2 ^ 64 → AllFit ks
-    → sealed_packet secret iv kind sequence amount ks ≡ Ok payload → opened secret kind payload ≡ Ok (packet_with kind sequence amount ks)
+pub packet_opens : (keys : DerivedKeys) (iv payload : List ℕ) (kind sequence amount : ℕ) (ks : List Known) → length iv ≡ 12 → sequence < 2 ^ 64 → amount < 2 ^ 64 → AllFit ks
+    → sealed_packet keys iv kind sequence amount ks ≡ Ok payload → opened keys kind payload ≡ Ok (packet_with kind sequence amount ks)
 unfolding sealed_packet
-packet_opens secret iv payload kind sequence amount ks long s a fit is =
-    text_opens secret iv kind (packet_with kind sequence amount ks) (written kind sequence amount ks) long
+packet_opens keys iv payload kind sequence amount ks long s a fit is =
+    text_opens keys iv kind (packet_with kind sequence amount ks) (written kind sequence amount ks) long
     (λ bytes w. packet_writes.itself kind sequence amount ks bytes s a fit w) payload is

@@ -1,11 +1,36 @@
 -- What holds of the definitions themselves.
-use Rattle.std.specs.Prelude.{ℕ, ◌≡◌, ◌<◌, ◌^◌, List, length, Ok}
+use Rattle.std.specs.Prelude.{ℕ, ◌≡◌, ◌≢◌, ◌+◌, ◌<◌, ◌≤◌, ◌^◌, List, length, Ok, Err}
+use Rattle.st_oer.specs.Laws.{IsBytes}
 use Rattle.st_frames.specs.Frames.{Known}
 use Rattle.st_frames.specs.Written.{AllFit, packet_with}
+use Rattle.st_keys.specs.declared.error.KeyError.TheVariants.{NoMemory}
+use Rattle.st_keys.specs.Keys.{DerivedKeys, fulfillment, condition}
 use Rattle.st_keys.specs.Sealed.{sealed, sealed_packet, unsealed, opened}
 
 -- what is sealed opens to itself: a text, and a packet
 pub record SealedOpens : Type 0 where
-  pub text : (secret iv text : List ℕ) → length iv ≡ 12 → unsealed secret (sealed secret iv text) ≡ Ok text
-  pub packet : (secret iv payload : List ℕ) (kind sequence amount : ℕ) (ks : List Known) → length iv ≡ 12 → sequence < 2 ^ 64 → amount < 2 ^ 64 → AllFit ks
-      → sealed_packet secret iv kind sequence amount ks ≡ Ok payload → opened secret kind payload ≡ Ok (packet_with kind sequence amount ks)
+  pub text : (keys : DerivedKeys) (iv text : List ℕ) → length iv ≡ 12 → unsealed keys (sealed keys iv text) ≡ Ok text
+  pub packet : (keys : DerivedKeys) (iv payload : List ℕ) (kind sequence amount : ℕ) (ks : List Known) → length iv ≡ 12 → sequence < 2 ^ 64 → amount < 2 ^ 64 → AllFit ks
+      → sealed_packet keys iv kind sequence amount ks ≡ Ok payload → opened keys kind payload ≡ Ok (packet_with kind sequence amount ks)
+
+-- n bytes
+pub record AreBytes (n : ℕ) (bytes : List ℕ) : Type 0 where
+  pub count : length bytes ≡ n
+  pub each : IsBytes bytes
+
+-- a fulfillment has 32 bytes, and so has a condition
+pub record HashesHave32 : Type 0 where
+  pub fulfillment : (keys : DerivedKeys) (payload : List ℕ) → AreBytes 32 (fulfillment keys payload)
+  pub condition : (bytes : List ℕ) → AreBytes 32 (condition bytes)
+
+-- a payload has 28 bytes more than its text, whether it is sealed or opened, and that of a packet fits an ILP packet's data
+pub record PayloadLengths : Type 0 where
+  pub sealed : (keys : DerivedKeys) (iv text : List ℕ) → length iv ≡ 12 → length (sealed keys iv text) ≡ 28 + length text
+  pub unsealed : (keys : DerivedKeys) (payload text : List ℕ) → unsealed keys payload ≡ Ok text → length payload ≡ 28 + length text
+  pub packet : (keys : DerivedKeys) (iv payload : List ℕ) (kind sequence amount : ℕ) (ks : List Known) → length iv ≡ 12
+      → sealed_packet keys iv kind sequence amount ks ≡ Ok payload → length payload ≤ 32767
+
+-- want of memory is no answer to a payload
+pub record OpensWithoutMemory : Type 0 where
+  pub text : (keys : DerivedKeys) (payload : List ℕ) → unsealed keys payload ≢ Err NoMemory
+  pub packet : (keys : DerivedKeys) (kind : ℕ) (payload : List ℕ) → opened keys kind payload ≢ Err NoMemory

@@ -1,6 +1,6 @@
 -- The payload of a packet: an IV of twelve bytes, a tag of sixteen, and the ciphertext (RFC 0029, AES-256-GCM without
 -- associated data).
-use Rattle.std.specs.Prelude.{◌≡◌, ℕ, List, ◌++◌, length, take, drop, nat_lt, nat_eq, if◌then◌else◌, Result, Ok, Err, IsOk}
+use Rattle.std.specs.Prelude.{ℕ, List, ◌++◌, length, take, drop, nat_lt, nat_eq, if◌then◌else◌, Result, Ok, Err}
 use Rattle.std.specs.Cmp.Lexicographic.{pointwise}
 use Rattle.st_aes.specs.Gcm.{tag, counter_mode}
 use Rattle.st_frames.specs.Frames.{Known, Packet}
@@ -9,7 +9,7 @@ use Rattle.st_frames.specs.Written.{written}
 use Rattle.st_frames.specs.declared.error.FrameError.{FrameError}
 use Rattle.st_keys.specs.declared.error.KeyError.{KeyError}
 use Rattle.st_keys.specs.declared.error.KeyError.TheVariants as refused
-use Rattle.st_keys.specs.Keys.{encryption_key}
+use Rattle.st_keys.specs.Keys.{DerivedKeys}
 
 -- ---- from text to payload
 
@@ -18,17 +18,17 @@ unfoldable pub payload_of : List ℕ → List ℕ → List ℕ → List ℕ
 payload_of key iv ciphertext = iv ++ (tag key iv ciphertext ++ ciphertext)
 
 -- the payload of a text
-unfoldable pub sealed : List ℕ → List ℕ → List ℕ → List ℕ
-sealed secret iv text = payload_of (encryption_key secret) iv (counter_mode (encryption_key secret) iv text)
+unfoldable pub sealed : DerivedKeys → List ℕ → List ℕ → List ℕ
+sealed keys iv text = payload_of keys.encryption_key iv (counter_mode keys.encryption_key iv text)
 
 -- the payload of a text that was written, or why none was
-abbrev pub sealed_text : List ℕ → List ℕ → Result (List ℕ) FrameError → Result (List ℕ) KeyError
-sealed_text secret iv (Ok text) = Ok (sealed secret iv text)
-sealed_text secret iv (Err fault) = Err (refused.Packet fault)
+abbrev pub sealed_text : DerivedKeys → List ℕ → Result (List ℕ) FrameError → Result (List ℕ) KeyError
+sealed_text keys iv (Ok text) = Ok (sealed keys iv text)
+sealed_text keys iv (Err fault) = Err (refused.Packet fault)
 
 -- the payload of a packet's one spelling
-unfoldable pub sealed_packet : (secret iv : List ℕ) (kind sequence amount : ℕ) → List Known → Result (List ℕ) KeyError
-sealed_packet secret iv kind sequence amount ks = sealed_text secret iv (written kind sequence amount ks)
+unfoldable pub sealed_packet : (keys : DerivedKeys) (iv : List ℕ) (kind sequence amount : ℕ) → List Known → Result (List ℕ) KeyError
+sealed_packet keys iv kind sequence amount ks = sealed_text keys iv (written kind sequence amount ks)
 
 -- ---- from payload to text
 
@@ -43,11 +43,11 @@ abbrev pub ciphertext_of : List ℕ → List ℕ
 ciphertext_of payload = drop 28 payload
 
 -- the text of a payload: refused where there is no room for IV and tag, and then where the tag is another than the ciphertext's
-unfoldable pub unsealed : List ℕ → List ℕ → Result (List ℕ) KeyError
-unsealed secret payload =
+unfoldable pub unsealed : DerivedKeys → List ℕ → Result (List ℕ) KeyError
+unsealed keys payload =
     if nat_lt (length payload) 28 then Err refused.Short
-    else (if pointwise nat_eq (tag_of payload) (tag (encryption_key secret) (iv_of payload) (ciphertext_of payload))
-    then Ok (counter_mode (encryption_key secret) (iv_of payload) (ciphertext_of payload))
+    else (if pointwise nat_eq (tag_of payload) (tag keys.encryption_key (iv_of payload) (ciphertext_of payload))
+    then Ok (counter_mode keys.encryption_key (iv_of payload) (ciphertext_of payload))
     else Err refused.Tag)
 
 -- a packet, or the fault that a text has
@@ -61,18 +61,5 @@ packet_in kind (Ok text) = packet_or_fault (packet_at kind text)
 packet_in kind (Err e) = Err e
 
 -- the packet of a payload: the text's refusals come before the packet's
-unfoldable pub opened : List ℕ → ℕ → List ℕ → Result Packet KeyError
-opened secret kind payload = packet_in kind (unsealed secret payload)
-
--- ---- functions that return these
-
--- a function that returns the bytes that are defined, or asked in vain for the memory of such
-abbrev pub Writes : {V : Type 0} → (V → List ℕ) → Result V KeyError → Result (List ℕ) KeyError → Type 0
-Writes view (Ok out) defined = defined ≡ Ok (view out)
-Writes view (Err refused.NoMemory) defined = IsOk defined
-Writes view (Err e) defined = defined ≡ Err e
-
--- a function that returns what is defined
-abbrev pub Gives : {X Y : Type 0} → (X → Y) → Result X KeyError → Result Y KeyError → Type 0
-Gives view (Ok x) defined = defined ≡ Ok (view x)
-Gives view (Err e) defined = defined ≡ Err e
+unfoldable pub opened : DerivedKeys → ℕ → List ℕ → Result Packet KeyError
+opened keys kind payload = packet_in kind (unsealed keys payload)

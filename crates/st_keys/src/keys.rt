@@ -3,59 +3,52 @@
 ghost use Rattle.std.specs.Prelude.{◌≡◌, ◌↔◌, IsTrue};
 ghost use Rattle.std.specs.Bool.{OnTrue, OnFalse};
 ghost use Rattle.st_aes.specs.Gcm.{tag, counter_mode};
-ghost use Rattle.st_keys.specs.Keys.{encryption_key, fulfillment_key, fulfillment, condition};
+ghost use Rattle.st_keys.specs.Keys.{keys_of, fulfillment, condition};
 
 use crate::mac::hmac;
 use sha2::{Digest, Sha256};
 use st_aes::{Key, seal, unseal};
 use std::marker::Model;
 
-/// The keys of a connection, derived once from its shared secret of 32 bytes.
+/// The keys of a connection, derived once from its shared secret of 32 bytes. The secret itself is not kept.
 #[derive(Drop)]
 pub struct Keys {
-    secret: [u8; 32],
     encryption: Key,
     fulfillment: [u8; 32],
 }
 
 impl Model for Keys {
-    ghost use Rattle.std.specs.Prelude.{◌≡◌, ℕ, List};
-    ghost use Rattle.st_keys.specs.Keys.{encryption_key, fulfillment_key};
+    ghost use Rattle.st_keys.specs.Keys.{DerivedKeys};
 
-    ghost Value = { List ℕ };
+    ghost Value = { DerivedKeys };
 
-    ghost view = { λ k. k.secret };
-
-    ghost invariant = { λ k. (k.encryption ≡ encryption_key k.secret) × (k.fulfillment ≡ fulfillment_key k.secret) };
+    ghost view = { λ k. record { encryption_key = k.encryption; fulfillment_key = k.fulfillment } };
 }
 
 impl Keys {
     /// The keys of this secret.
-    #[tactic(auto, unfolding(crate::specs::Keys::encryption_key, crate::specs::Keys::fulfillment_key))]
+    #[tactic(auto, unfolding(crate::specs::Keys::keys_of))]
     pub fn of(secret: [u8; 32]) -> Keys
-        ensures { result ≡ secret }
+        ensures { result ≡ keys_of secret }
     {
-        let encryption = Key::new(hmac(&secret, b"ilp_stream_encryption"));
-        let fulfillment = hmac(&secret, b"ilp_stream_fulfillment");
         Keys {
-            secret,
-            encryption,
-            fulfillment,
+            encryption: Key::new(hmac(&secret, b"ilp_stream_encryption")),
+            fulfillment: hmac(&secret, b"ilp_stream_fulfillment"),
         }
     }
 
     /// Encrypts a text in place and gives its tag.
     pub(crate) fn seal_text(&self, iv: [u8; 12], text: &mut [u8]) -> [u8; 16]
-        ensures text { text.new ≡ counter_mode (encryption_key self.now) iv text.old }
-        ensures tag { result ≡ tag (encryption_key self.now) iv text.new }
+        ensures text { text.new ≡ counter_mode self.now.encryption_key iv text.old }
+        ensures tag { result ≡ tag self.now.encryption_key iv text.new }
     {
         seal(&self.encryption, iv, text)
     }
 
     /// Decrypts a text in place where `expected` is its tag.
     pub(crate) fn unseal_text(&self, iv: [u8; 12], expected: [u8; 16], text: &mut [u8]) -> bool
-        ensures exact { IsTrue result ↔ (expected ≡ tag (encryption_key self.now) iv text.old) }
-        ensures opened { OnTrue result (text.new ≡ counter_mode (encryption_key self.now) iv text.old) }
+        ensures exact { IsTrue result ↔ (expected ≡ tag self.now.encryption_key iv text.old) }
+        ensures opened { OnTrue result (text.new ≡ counter_mode self.now.encryption_key iv text.old) }
         ensures unchanged { OnFalse result (text.new ≡ text.old) }
     {
         unseal(&self.encryption, iv, expected, text)

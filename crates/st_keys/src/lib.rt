@@ -13,7 +13,7 @@ mod payload;
 
 pub use error::KeyError;
 pub use keys::{Keys, condition};
-pub use laws::sealed_opens;
+pub use laws::{hashes_have_32_bytes, opens_without_memory, payload_lengths, sealed_opens};
 pub use mac::hmac;
 pub use payload::OVERHEAD;
 

@@ -4,7 +4,8 @@ ghost use Rattle.std.specs.Prelude.{◌≡◌, ◌≤◌, ◌++◌, length, take
 ghost use Rattle.st_frames.specs.Packets.{packet_of};
 ghost use Rattle.st_frames.specs.Seen.{seen};
 ghost use Rattle.st_frames.specs.Written.{packet_with};
-ghost use Rattle.st_keys.specs.Sealed.{iv_of, tag_of, ciphertext_of, sealed, sealed_packet, unsealed, opened, Gives, Writes};
+ghost use Rattle.st_keys.specs.Sealed.{packet_in, iv_of, tag_of, ciphertext_of, sealed, sealed_packet, unsealed, opened};
+ghost use Rattle.st_oer.specs.Seen.{Gives, Writes};
 
 use crate::error::KeyError;
 use crate::keys::Keys;
@@ -63,6 +64,19 @@ fn sealed<A: Allocator>(
     joined(alloc, iv, tag, text)
 }
 
+/// Reads the packet that stands behind the first bytes of a payload.
+fn packet_behind(payload: &[u8], kind: u8) -> Result<StreamPacket<'_>, KeyError>
+    requires from_prepare { 12 ≤ kind }
+    requires to_reject { kind ≤ 14 }
+    requires long { OVERHEAD ≤ length payload.now }
+    ensures { Gives packet_of result (packet_in kind (Ok (ciphertext_of payload.now))) }
+{
+    match read_packet(&payload[OVERHEAD..], kind) {
+        Ok(packet) => Ok(packet),
+        Err(fault) => Err(KeyError::Packet(fault)),
+    }
+}
+
 impl Keys {
     /// The payload of one packet, sealed under this IV: IV, tag, and the ciphertext of the packet's one spelling
     /// (RFC 0029). No two packets of a connection may have the same IV: that is the caller's care.
@@ -81,7 +95,7 @@ impl Keys {
     ) -> Result<Vec<u8, A>, KeyError>
         requires from_prepare { 12 ≤ kind }
         requires to_reject { kind ≤ 14 }
-        ensures exact { Writes (λ payload. payload.items) result (sealed_packet self.now iv kind sequence amount (map seen frames.now)) }
+        ensures exact { Writes KeyError.NoMemory (λ payload. payload.items) result (sealed_packet self.now iv kind sequence amount (map seen frames.now)) }
         ensures opens { IfOk result (λ payload. opened self.now kind payload.items ≡ Ok (packet_with kind sequence amount (map seen frames.now))) }
     {
         let mut text = write_packet(alloc, kind, sequence, amount, frames)?;
@@ -110,10 +124,12 @@ impl Keys {
         Ok(())
     }
 
-    /// Decrypts a payload where it lies and reads its packet. No memory is taken.
+    /// Decrypts a payload where it lies and reads its packet, in one call: `unseal_payload`, and then `read_packet` from byte
+    /// `OVERHEAD` on. No memory is taken.
     ///
     /// Refused is, in this order: `Short` and `Tag` as by `unseal_payload`, with the bytes as they were; and `Packet` with
-    /// the fault of a text that is no packet of this kind, with the bytes decrypted.
+    /// the fault of a text that is no packet of this kind, with the bytes decrypted. What the bytes are afterwards no clause
+    /// says: a caller whose proof needs them makes the two calls.
     #[tactic(auto, unfolding(crate::specs::Sealed::opened))]
     pub fn open_packet<'a>(
         &self,
@@ -125,9 +141,6 @@ impl Keys {
         ensures exact { Gives packet_of result (opened self.now kind payload.old) }
     {
         self.unseal_payload(payload)?;
-        match read_packet(&payload[OVERHEAD..], kind) {
-            Ok(packet) => Ok(packet),
-            Err(fault) => Err(KeyError::Packet(fault)),
-        }
+        packet_behind(payload, kind)
     }
 }

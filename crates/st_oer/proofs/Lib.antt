@@ -6,3 +6,4 @@ pub mod Limits
 pub mod Fields
 pub mod Addresses
 pub mod Texts
+pub mod Memory

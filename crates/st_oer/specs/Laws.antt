@@ -1,6 +1,7 @@
 -- Spelling and reading are two sides of one relation, and no spelling begins another of its kind.
-use Rattle.std.specs.Prelude.{◌≡◌, ℕ, ◌<◌, ◌≤◌, ◌^◌, List, [], ◌++◌, length, slice_index, Result, Ok}
+use Rattle.std.specs.Prelude.{◌≡◌, ◌≢◌, ℕ, ◌<◌, ◌≤◌, ◌^◌, List, [], ◌++◌, length, slice_index, Result, Ok, IfErr}
 use Rattle.st_oer.specs.declared.error.OerError.{OerError}
+use Rattle.st_oer.specs.declared.error.OerError.TheVariants.{NoMemory}
 use Rattle.st_oer.specs.Spelling.{number, digits, uint8, uint64, length_bytes, octets, var_uint}
 use Rattle.st_oer.specs.Limit.{IsLimit}
 use Rattle.st_oer.specs.Reading.{fixed_at, byte_at, u64_at, length_at, octets_at, var_uint_at, limit_at}
@@ -64,3 +65,17 @@ pub record AreFewest (n : ℕ) : Type 0 where
   pub same : number (digits n) ≡ n
   pub some : 0 < length (digits n)
   pub fewest : (bytes : List ℕ) → IsBytes bytes → 0 < length bytes → number bytes ≡ n → length (digits n) ≤ length bytes
+
+-- no bytes are refused with this
+abbrev pub Never : {X E : Type 0} → E → (List ℕ → Result X E) → Type 0
+Never refusal read = (bytes : List ℕ) → IfErr (read bytes) (λ e. e ≢ refusal)
+
+-- reading takes no memory
+pub record ReadsWithoutMemory : Type 0 where
+  pub byte : Never NoMemory byte_at
+  pub u64 : Never NoMemory u64_at
+  pub fixed : (n : ℕ) → Never NoMemory (fixed_at n)
+  pub length : Never NoMemory length_at
+  pub octets : Never NoMemory octets_at
+  pub var_uint : Never NoMemory var_uint_at
+  pub limit : Never NoMemory limit_at

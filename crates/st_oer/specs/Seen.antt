@@ -1,13 +1,18 @@
--- What a function returned, against what reading gives.
-use Rattle.std.specs.Prelude.{◌≡◌, List, ℕ, Result, Ok, Err}
-use Rattle.st_oer.specs.declared.error.OerError.{OerError}
+-- What a function returned, against what is defined. `view` is how a definition sees the value that was returned.
+use Rattle.std.specs.Prelude.{◌≡◌, ◌≢◌, ◌⊎◌, List, ℕ, Result, Ok, Err, IsOk}
 
--- a function of bytes that returns a value and what is left
-abbrev pub Gives : {X Y : Type 0} → (X → Y) → Result X OerError → Result Y OerError → Type 0
-Gives view (Ok x) read = read ≡ Ok (view x)
-Gives view (Err e) read = read ≡ Err e
+-- a function that returns what is defined
+abbrev pub Gives : {X Y E : Type 0} → (X → Y) → Result X E → Result Y E → Type 0
+Gives view (Ok x) defined = defined ≡ Ok (view x)
+Gives view (Err e) defined = defined ≡ Err e
 
 -- a method that moves a cut on, or refuses and leaves it
-abbrev pub Reads : {X Y : Type 0} → (X → Y) → List ℕ → List ℕ → Result X OerError → Result (Y × List ℕ) OerError → Type 0
+abbrev pub Reads : {X Y E : Type 0} → (X → Y) → List ℕ → List ℕ → Result X E → Result (Y × List ℕ) E → Type 0
 Reads view old new (Ok x) read = read ≡ Ok (view x, new)
 Reads view old new (Err e) read = (read ≡ Err e) × (new ≡ old)
+
+-- a function that returns what is defined, or asked in vain for the memory of it: want of memory stands in the place of
+-- no other refusal, and for nothing else
+abbrev pub Writes : {X Y E : Type 0} → E → (X → Y) → Result X E → Result Y E → Type 0
+Writes no_memory view (Ok x) defined = defined ≡ Ok (view x)
+Writes no_memory view (Err e) defined = ((e ≡ no_memory) × IsOk defined) ⊎ ((e ≢ no_memory) × (defined ≡ Err e))

@@ -3,7 +3,7 @@
 ghost use Rattle.std.specs.Prelude.{ℕ, ◌<◌, ◌^◌};
 ghost use Rattle.st_oer.specs.Spelling.{length_bytes, octets, uint64, uint8, var_uint};
 ghost use Rattle.st_oer.specs.Limit.{IsLimit};
-ghost use Rattle.st_oer.specs.Laws.{AreFewest, ByteReads, FixedReads, HasLength, IsByte, IsSpelled, IsU64, LengthReads, LimitReads, NoneBeginsAnother, OctetsRead, U64Reads, VarUintReads};
+ghost use Rattle.st_oer.specs.Laws.{AreFewest, ByteReads, FixedReads, HasLength, IsByte, IsSpelled, IsU64, LengthReads, LimitReads, NoneBeginsAnother, OctetsRead, ReadsWithoutMemory, U64Reads, VarUintReads};
 
 /// Each kind of field is read exactly where it is spelled, whatever follows.
 pub fn fields_are_read_as_spelled()
@@ -29,4 +29,9 @@ pub fn no_spelling_begins_another()
 /// The digits of a number are the fewest bytes that give it.
 pub fn digits_are_fewest()
     ensures { (n : ℕ) → n < 2 ^ 64 → AreFewest n }
+{}
+
+/// No bytes at all are refused with `NoMemory` where a field is read.
+pub fn reading_wants_no_memory()
+    ensures { ReadsWithoutMemory }
 {}

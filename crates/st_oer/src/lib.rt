@@ -24,7 +24,10 @@ pub use counted::{CountRead, CountWrite, Counted, Counting};
 pub use cut::Cut;
 pub use error::OerError;
 pub use fail_at::FailAt;
-pub use laws::{digits_are_fewest, fields_are_read_as_spelled, no_spelling_begins_another};
+pub use laws::{
+    digits_are_fewest, fields_are_read_as_spelled, no_spelling_begins_another,
+    reading_wants_no_memory,
+};
 pub use put::{length_size, put_length, put_octets, put_u8, put_u64, put_var_uint, var_uint_size};
 pub use tally::Tally;
 pub use text::utf8;

@@ -1,4 +1,4 @@
-use Rattle.std.proofs.Common.{◌≡◌, map}
+use Rattle.std.proofs.Common.{map}
 use Rattle.st_commands.proofs.process.obey.Goals as goal
 
 pub returns-clause-obeys : goal.returns-clause-obeys

@@ -1,4 +1,4 @@
-use Rattle.std.proofs.Common.{◌≡◌, map, inr}
+use Rattle.std.proofs.Common.{map, inr}
 use Rattle.st_commands.proofs.WordsTaken.{takes_only}
 use Rattle.st_commands.proofs.process.tell_terminal.Goals as goal
 

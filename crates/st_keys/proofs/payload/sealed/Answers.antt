@@ -1,12 +1,11 @@
 use Rattle.std.proofs.Common.{◌≡◌, ◌++◌, ℕ, List, IfOk, subst, ap, ◌∙◌}
-use Rattle.st_keys.specs.Keys.{encryption_key}
 use Rattle.st_keys.specs.Sealed.{sealed, payload_of}
 use Rattle.st_keys.proofs.payload.sealed.Goals as goal
 
 pub returns : goal.returns
 unfolding sealed payload_of
 returns g c =
-    let key = encryption_key c.args.keys.now in
+    let key = c.args.keys.now.encryption_key in
     let iv = c.args.iv in
     let text = c.seal_text-tag.ensures.text in
     let whole : iv ++ (c.seal_text-tag.result ++ c.seal_text-tag.new.text) ≡ sealed c.args.keys.now iv c.args.text.now =

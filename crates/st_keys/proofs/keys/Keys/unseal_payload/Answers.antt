@@ -1,7 +1,6 @@
 use Rattle.std.proofs.Common.{◌≡◌, ◌-◌, ℕ, List, [], length, take, drop, Ok, refl, sym, ap, ◌∙◌, arith}
 use Rattle.std.proofs.lemmas.List.{take_rest, drop_all, length-drop}
 use Rattle.st_aes.specs.Gcm.{tag, counter_mode}
-use Rattle.st_keys.specs.Keys.{encryption_key}
 use Rattle.st_keys.specs.Sealed.{iv_of, tag_of, ciphertext_of}
 use Rattle.st_keys.proofs.Payloads.{unsealed_wrong, unsealed_right, kept_front, new_text, kept_all}
 use Rattle.st_keys.proofs.keys.Keys.unseal_payload.Goals as goal
@@ -22,7 +21,7 @@ returns-then-not-unseal_text-clause-unchanged c =
 pub returns-clause-exact : goal.returns-clause-exact
 returns-clause-exact c =
     let p = c.args.payload.now in
-    let key = encryption_key c.args.self.now in
+    let key = c.args.self.now.encryption_key in
     let text : take (length p - 28) (drop 28 p) ≡ drop 28 p = take_rest p 28 in
     let none : drop (length p - 28) (drop 28 p) ≡ [] = drop_all (length p - 28) (drop 28 p) (rw (length-drop 28 p) (omega arith)) in
     let same : tag_of p ≡ tag key (iv_of p) (ciphertext_of p) = sym c.tag_of-tag.ensures ∙ (rw (← c.iv_of-iv.ensures, ← text) (c.if-not-unseal_text.ensures.exact.0 refl)) in
