@@ -319,8 +319,14 @@ fn a_run_makes_many_calls(rt: HostRuntime) -> Result<(), Fail> {
     assert_eq!(rt; told.reads, 1401);
     assert_eq!(rt; told.writes, 1400);
     assert_eq!(rt; told.text().lines().count(), 700);
-    assert!(rt; told.text().starts_with("line 1 refused 95\nline 2 refused 95\n"));
-    assert!(rt; told.text().ends_with("line 699 refused 95\nline 700 refused 95\n"));
+    assert!(rt;
+        told.text()
+            .starts_with("line 1 refused 95\nline 2 refused 95\n")
+    );
+    assert!(rt;
+        told.text()
+            .ends_with("line 699 refused 95\nline 700 refused 95\n")
+    );
     assert_eq!(rt; told.fault(), "");
     assert_eq!(rt; told.status, 1);
     Ok(())
