@@ -7,3 +7,4 @@ pub mod Fields
 pub mod Addresses
 pub mod Texts
 pub mod Memory
+pub mod Ratios

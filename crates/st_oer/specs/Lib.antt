@@ -10,3 +10,4 @@ pub mod Faults
 pub mod Tallies
 pub mod Turns
 pub mod FailAt
+pub mod Ratios

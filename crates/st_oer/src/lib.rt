@@ -12,6 +12,7 @@ mod error;
 mod fail_at;
 mod laws;
 mod put;
+mod rate;
 mod reading;
 mod tally;
 #[cfg(test)]
@@ -29,6 +30,7 @@ pub use laws::{
     reading_wants_no_memory,
 };
 pub use put::{length_size, put_length, put_octets, put_u8, put_u64, put_var_uint, var_uint_size};
+pub use rate::Rate;
 pub use tally::Tally;
 pub use text::utf8;
 pub use turn::{

@@ -415,3 +415,32 @@ fn a_text_meets_each_failing_call(rt: HostRuntime) {
         assert_eq!(rt; writer.faults(), 1, "call {k}");
     }
 }
+
+#[test]
+fn amounts_are_exchanged(rt: HostRuntime) {
+    let rows: [(u32, u32, u64, u128); 8] = [
+        (1, 1, 7, 7),
+        (1, 2, 7, 3),
+        (3, 2, 7, 10),
+        (2, 3, 10, 6),
+        (1, 2, 1, 0),
+        (7, 3, 0, 0),
+        (
+            u32::MAX,
+            1,
+            u64::MAX,
+            79_228_162_495_817_593_515_539_431_425,
+        ),
+        (1, u32::MAX, u64::MAX, 4_294_967_297),
+    ];
+    for (num, den, amount, want) in rows {
+        let rate = Rate::new(num, den);
+        assert_eq!(rt; rate.map(|rate| rate.num()), Some(num));
+        assert_eq!(rt; rate.map(|rate| rate.den()), Some(den));
+        let out = rate.map(|rate| rate.of(amount));
+        assert_eq!(rt; out, Some(want), "{amount} at {num} to {den}");
+    }
+    assert_eq!(rt; Rate::new(0, 1), None);
+    assert_eq!(rt; Rate::new(1, 0), None);
+    assert_eq!(rt; Rate::new(0, 0), None);
+}

@@ -2,10 +2,11 @@
 //! and what it had flushed when a call failed.
 
 use st_commands::{Fault, Lines, answer_frames, run_frames};
-use st_oer::{CountRead, CountWrite, utf8};
+use st_oer::{CountRead, CountWrite, Counted, FailAt, utf8};
 use std::alloc::{Allocator, Global};
 use std::io;
 use std::io::{ErrorKind, Read, Write};
+use std::test::Fail;
 
 /// A device that moves at most `piece` bytes a call. Its call number `fails_at` fails, where the first is number 1 and a
 /// flush is a call.
@@ -305,6 +306,70 @@ fn turns_are_used_up(rt: HostRuntime) {
         }
     }
     assert_eq!(rt; Fault::Turns.number(), 93);
+}
+
+/// A run of some thousand calls ends as a short one does: 700 refused lines, each of which takes two reads and, once its
+/// newline is read, a write and a flush.
+#[test]
+fn a_run_makes_many_calls(rt: HostRuntime) -> Result<(), Fail> {
+    let alloc = rt.alloc();
+    let input = "0\n".repeat(alloc, 700)?;
+    let reader = Faulty::new(input.as_bytes(), 1, 0, ErrorKind::Other);
+    let told = run_over(alloc, reader, sound_sink(alloc), sound_sink(alloc));
+    assert_eq!(rt; told.reads, 1401);
+    assert_eq!(rt; told.writes, 1400);
+    assert_eq!(rt; told.text().lines().count(), 700);
+    assert!(rt;
+        told.text()
+            .starts_with("line 1 refused 95\nline 2 refused 95\n")
+    );
+    assert!(rt;
+        told.text()
+            .ends_with("line 699 refused 95\nline 700 refused 95\n")
+    );
+    assert_eq!(rt; told.fault(), "");
+    assert_eq!(rt; told.status, 1);
+    Ok(())
+}
+
+/// One call of the reader fails, and then one of the writer, in turn, until a run meets no failure: the fault is told by its
+/// number, and what was flushed before stands.
+#[test]
+fn each_call_fails_in_turn(rt: HostRuntime) {
+    let alloc = rt.alloc();
+    for (k, text, fault, status) in [
+        (1, "", "fault 90\n", 1),
+        (2, TWO_LINES, "fault 90\n", 1),
+        (3, MIXED_TEXT, "", 1),
+    ] {
+        let mut reader = CountRead::new(FailAt::new(MIXED.as_bytes(), k));
+        let mut writer = CountWrite::new(Sink::new(alloc));
+        let mut errors = CountWrite::new(Sink::new(alloc));
+        let answer = run_frames(alloc, &mut reader, &mut writer, &mut errors);
+        assert_eq!(rt; answer, status, "at {k}");
+        assert_eq!(rt; reader.faults(), u64::from(k < 3), "at {k}");
+        assert_eq!(rt; writer.into_inner().text(), text, "at {k}");
+        assert_eq!(rt; errors.into_inner().text(), fault, "at {k}");
+    }
+    for (k, text, fault) in [
+        (1, "", "fault 91\n"),
+        (2, "", "fault 91\n"),
+        (3, TWO_LINES, "fault 91\n"),
+        (4, TWO_LINES, "fault 91\n"),
+        (5, THREE_LINES, "fault 91\n"),
+        (6, THREE_LINES, "fault 91\n"),
+        (7, MIXED_TEXT, ""),
+    ] {
+        let mut reader = CountRead::new(MIXED.as_bytes());
+        let mut writer = CountWrite::new(FailAt::new(Sink::new(alloc), k));
+        let mut errors = CountWrite::new(Sink::new(alloc));
+        let answer = run_frames(alloc, &mut reader, &mut writer, &mut errors);
+        assert_eq!(rt; answer, 1, "at {k}");
+        assert_eq!(rt; writer.faults(), u64::from(k < 7), "at {k}");
+        assert_eq!(rt; writer.tally().calls, k.min(6), "at {k}");
+        assert_eq!(rt; writer.into_inner().into_inner().text(), text, "at {k}");
+        assert_eq!(rt; errors.into_inner().text(), fault, "at {k}");
+    }
 }
 
 /// A fault that cannot be told is a fault, whichever call of the writer of errors fails.

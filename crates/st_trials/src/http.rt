@@ -13,7 +13,8 @@ use std::test::Fail;
 const HOST: &str = "127.0.0.1:7770";
 
 /// The head of the request of a Prepare of 70 bytes to that host with the token `t1`: 149 bytes.
-const REQUEST_HEAD: &str = "POST /ilp HTTP/1.1\r\nHost: 127.0.0.1:7770\r\nAuthorization: Bearer t1\r\nContent-Type: application/octet-stream\r\nContent-Length: 70\r\nConnection: close\r\n\r\n";
+const REQUEST_HEAD: &str =
+    "POST /ilp HTTP/1.1\r\nHost: 127.0.0.1:7770\r\nAuthorization: Bearer t1\r\nContent-Type: application/octet-stream\r\nContent-Length: 70\r\nConnection: close\r\n\r\n";
 
 /// A response of 17 bytes, and bytes that are not to be read. Its head has 40 bytes.
 const RESPONSE: &[u8] = b"HTTP/1.1 200 OK\r\nContent-Length: 00017\r\n\r\n0123456789abcdefgmore";
@@ -23,17 +24,20 @@ const POST: &[u8] =
     b"POST /ilp HTTP/1.1\r\nAuthorization: Bearer t1\r\nContent-Length: 00005\r\n\r\nhello";
 
 /// The response to it where the answer is `ANSWER`: 133 bytes.
-const ANSWERED: &str = "HTTP/1.1 200 OK\r\nContent-Type: application/octet-stream\r\nContent-Length: 35\r\nConnection: close\r\n\r\n\u{d}!012345678901234567890123456789012";
+const ANSWERED: &str =
+    "HTTP/1.1 200 OK\r\nContent-Type: application/octet-stream\r\nContent-Length: 35\r\nConnection: close\r\n\r\n\u{d}!012345678901234567890123456789012";
 
 const ANSWER: &str = "\u{d}!012345678901234567890123456789012";
 
 /// As curl 7.88.1 sent it over loopback: `curl -H 'Authorization: Bearer t1' -H 'Content-Type: application/octet-stream'
 /// --data-binary hello http://127.0.0.1:7770/ilp`.
-const FROM_CURL: &[u8] = b"POST /ilp HTTP/1.1\r\nHost: 127.0.0.1:7770\r\nUser-Agent: curl/7.88.1\r\nAccept: */*\r\nAuthorization: Bearer t1\r\nContent-Type: application/octet-stream\r\nContent-Length: 5\r\n\r\nhello";
+const FROM_CURL: &[u8] =
+    b"POST /ilp HTTP/1.1\r\nHost: 127.0.0.1:7770\r\nUser-Agent: curl/7.88.1\r\nAccept: */*\r\nAuthorization: Bearer t1\r\nContent-Type: application/octet-stream\r\nContent-Length: 5\r\n\r\nhello";
 
 /// As nginx passes that request on by `proxy_pass`: written by its documented defaults (HTTP/1.0, its own Host and
 /// Connection first, then the client's fields), not captured.
-const FROM_NGINX: &[u8] = b"POST /ilp HTTP/1.0\r\nHost: 127.0.0.1:7770\r\nConnection: close\r\nContent-Length: 5\r\nUser-Agent: curl/7.88.1\r\nAccept: */*\r\nAuthorization: Bearer t1\r\nContent-Type: application/octet-stream\r\n\r\nhello";
+const FROM_NGINX: &[u8] =
+    b"POST /ilp HTTP/1.0\r\nHost: 127.0.0.1:7770\r\nConnection: close\r\nContent-Length: 5\r\nUser-Agent: curl/7.88.1\r\nAccept: */*\r\nAuthorization: Bearer t1\r\nContent-Type: application/octet-stream\r\n\r\nhello";
 
 /// A stream in memory that moves at most `piece` bytes a call.
 #[derive(Drop)]
@@ -182,7 +186,10 @@ fn each_call_of_a_service_fails_in_turn(rt: HostRuntime) -> Result<(), Fail> {
         };
         assert_eq!(rt; got, want, "at {k}");
         assert_eq!(rt; answerer.calls, calls, "at {k}");
-        assert!(rt; written.as_slice() == &ANSWERED.as_bytes()[..sent], "at {k}");
+        assert!(rt;
+            written.as_slice() == &ANSWERED.as_bytes()[..sent],
+            "at {k}"
+        );
         let faults = if k == 75 { 0 } else { 1 };
         assert_eq!(rt; counts, (k.min(74), faults), "at {k}");
         if calls == 1 {
@@ -311,7 +318,11 @@ fn a_request_is_read_in_any_pieces(rt: HostRuntime) -> Result<(), Fail> {
         assert_eq!(rt; reading.feed(&text[i..=i]), Ok(1));
     }
     assert_eq!(rt; reading.wants(), 0);
-    assert!(rt; reading.into_body().is_some_and(|b| b.as_slice() == PREPARE.as_slice()));
+    assert!(rt;
+        reading
+            .into_body()
+            .is_some_and(|b| b.as_slice() == PREPARE.as_slice())
+    );
     Ok(())
 }
 
@@ -375,7 +386,9 @@ fn other_writers_are_read(rt: HostRuntime) {
 fn bodies_of_all_sizes(rt: HostRuntime) -> Result<(), Fail> {
     let alloc = rt.alloc();
     for size in [0, 1, 65_535, 65_536usize] {
-        let mut text = format!(in alloc; "HTTP/1.1 200 OK\r\nContent-Length: {size}\r\n\r\n")?.into_bytes();
+        let mut text = format!(in alloc;
+            "HTTP/1.1 200 OK\r\nContent-Length: {size}\r\n\r\n"
+        )?.into_bytes();
         text.resize(text.len() + size, b'z')?;
         text.extend_from_slice(b"more")?;
         let mut stream = Counting::new(Wire::new(alloc, &text, 1_000));
@@ -388,7 +401,9 @@ fn bodies_of_all_sizes(rt: HostRuntime) -> Result<(), Fail> {
             assert!(rt; body.iter().all(|b| *b == b'z'));
             assert_eq!(rt; stream.into_inner().input, b"more".as_slice());
         }
-        let mut text = format!(in alloc; "POST /ilp HTTP/1.1\r\nAuthorization: Bearer t0\r\nContent-Length: {size}\r\n\r\n")?.into_bytes();
+        let mut text = format!(in alloc;
+            "POST /ilp HTTP/1.1\r\nAuthorization: Bearer t0\r\nContent-Length: {size}\r\n\r\n"
+        )?.into_bytes();
         text.resize(text.len() + size, b'z')?;
         let want = if size == 65_536 {
             Err(HttpError::Status(413))
