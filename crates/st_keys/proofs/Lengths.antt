@@ -1,8 +1,7 @@
 -- How many bytes hashes and payloads have, and which refusals opening knows.
-use Rattle.std.proofs.Common.{◌≡◌, ℕ, zero, suc, ◌+◌, ◌≤◌, ◌<◌, Bool, true, false, cond, Option, Some, None, Result, Ok, Err, List, [], ◌∷◌, ◌++◌, length, nat_lt, nat_eq, refl, ap, arith}
+use Rattle.std.proofs.Common.{◌≡◌, ℕ, zero, suc, ◌+◌, ◌≤◌, ◌<◌, Bool, true, false, cond, Result, Ok, Err, List, [], ◌∷◌, ◌++◌, length, nat_lt, nat_eq, refl, ap, arith}
 use Rattle.std.specs.Cmp.Lexicographic.{pointwise}
 use Rattle.std.specs.Int.{byte_at, bytes_high_first, to_be_bytes, w32}
-use Rattle.std.specs.List.{position}
 use Rattle.std.specs.Prelude.{slice_index, ◌≢◌}
 use Rattle.std.proofs.lemmas.Bool.{ltb-false}
 use Rattle.std.proofs.lemmas.List.{length-append, length-drop}
@@ -11,9 +10,9 @@ use Rattle.sha2.proofs.Facts256.{length-sha256}
 use Rattle.st_oer.specs.Laws.{IsBytes}
 use Rattle.st_aes.specs.Gcm.{tag, counter_mode}
 use Rattle.st_aes.proofs.Streams.{counter_mode_length}
-use Rattle.st_frames.specs.Frames.{Known, Packet, max_packet}
+use Rattle.st_frames.specs.Frames.{Known, Packet}
 use Rattle.st_frames.specs.Reading.{packet_at}
-use Rattle.st_frames.specs.Written.{judged, packet_text, is_unwritable, written}
+use Rattle.st_frames.specs.Written.{written}
 use Rattle.st_frames.specs.declared.error.FrameError.{FrameError}
 use Rattle.st_keys.specs.declared.error.KeyError.{KeyError}
 use Rattle.st_keys.specs.declared.error.KeyError.TheVariants as refused
@@ -22,6 +21,7 @@ use Rattle.st_keys.specs.Keys.{DerivedKeys, fulfillment, condition}
 use Rattle.st_keys.specs.Sealed.{payload_of, sealed, sealed_text, sealed_packet, iv_of, tag_of, ciphertext_of, unsealed, packet_or_fault, packet_in, opened}
 use Rattle.st_keys.specs.Laws.{AreBytes}
 use Rattle.st_keys.proofs.Payloads.{tag_length}
+use Rattle.st_keys.proofs.Written.{IsWritable, writable}
 
 -- ---- hashes
 
@@ -93,23 +93,6 @@ unsealed_length keys payload text is =
     let long : 28 ≤ length payload = ltb-false (length payload) 28 ok.0 in
     let same : length plain ≡ length text = ap length ok.1 in
     omega (arith, long, same, counter_mode_length key (iv_of payload) cipher, length-drop 28 payload)
-
--- a text that was written is no longer than a packet may be
-abbrev pub IsWritable : Result (List ℕ) FrameError → Type 0
-IsWritable (Ok text) = length text ≤ max_packet
-IsWritable (Err fault) = Unit {0}
-
-writable_if : (b : Bool) (fault : FrameError) (text : List ℕ) → nat_lt max_packet (length text) ≡ b → IsWritable (cond b (Err fault) (Ok text))
-writable_if true fault text is = tt
-writable_if false fault text is = ltb-false max_packet (length text) is
-
-writable_judged : (first : Option ℕ) (text : List ℕ) → IsWritable (judged first text)
-writable_judged (Some i) text = tt
-writable_judged None text = writable_if (nat_lt max_packet (length text)) _ text refl
-
-writable : (kind sequence amount : ℕ) (ks : List Known) → IsWritable (written kind sequence amount ks)
-unfolding written
-writable kind sequence amount ks = writable_judged (position is_unwritable ks) (packet_text kind sequence amount ks)
 
 text_length : (keys : DerivedKeys) (iv payload : List ℕ) (text : Result (List ℕ) FrameError) → length iv ≡ 12 → IsWritable text → sealed_text keys iv text ≡ Ok payload → length payload ≤ 32767
 text_length keys iv payload (Ok text) long short is =

@@ -3,14 +3,14 @@
 ghost use Rattle.std.specs.Prelude.{◌≡◌, ◌≤◌, ◌++◌, length, take, drop, Ok, OnOk, OnErr, IfOk, map};
 ghost use Rattle.st_frames.specs.Packets.{packet_of};
 ghost use Rattle.st_frames.specs.Seen.{seen};
-ghost use Rattle.st_frames.specs.Written.{packet_with};
+ghost use Rattle.st_frames.specs.Written.{AllFit, written, packet_with};
 ghost use Rattle.st_keys.specs.Sealed.{packet_in, iv_of, tag_of, ciphertext_of, sealed, sealed_packet, unsealed, opened};
 ghost use Rattle.st_oer.specs.Seen.{Gives, Writes};
 
 use crate::error::KeyError;
 use crate::keys::Keys;
-use st_frames::{Frame, StreamPacket, read_packet, write_packet};
-use std::alloc::{AllocError, Allocator};
+use st_frames::{Frame, FrameError, StreamPacket, packet_len, put_packet, read_packet};
+use std::alloc::Allocator;
 
 /// How many bytes a payload has beside those of its plain packet: an IV of 12 and a tag of 16.
 pub const OVERHEAD: usize = 28;
@@ -33,35 +33,26 @@ fn tag_of(payload: &[u8]) -> [u8; 16]
     tag
 }
 
-/// IV, tag and ciphertext, one after another.
-#[tactic(auto, using(std::proofs::Common::append_assoc))]
-fn joined<A: Allocator>(
+/// A vector with room for IV and tag in front, and a packet behind them. The whole of its memory is asked for at once.
+#[tactic(auto, using(crate::proofs::Written::size_found))]
+fn with_overhead<A: Allocator>(
     alloc: A,
-    iv: [u8; 12],
-    tag: [u8; 16],
-    ciphertext: &[u8],
-) -> Result<Vec<u8, A>, AllocError>
-    ensures { IfOk result (λ payload. payload.items ≡ iv ++ (tag ++ ciphertext.now)) }
+    kind: u8,
+    sequence: u64,
+    amount: u64,
+    frames: &[Frame<'_>],
+) -> Result<Vec<u8, A>, FrameError>
+    requires from_prepare { 12 ≤ kind }
+    requires to_reject { kind ≤ 14 }
+    ensures written { Writes FrameError.NoMemory (λ payload. ciphertext_of payload.items) result (written kind sequence amount (map seen frames.now)) }
+    ensures fits { OnOk result (AllFit (map seen frames.now)) }
+    ensures long { IfOk result (λ payload. OVERHEAD ≤ length payload.items) }
 {
-    let mut payload = Vec::new(alloc);
-    payload.extend_from_slice(&iv)?;
-    payload.extend_from_slice(&tag)?;
-    payload.extend_from_slice(ciphertext)?;
+    let length = packet_len(sequence, amount, frames)?;
+    let mut payload = Vec::with_capacity(alloc, OVERHEAD + length)?;
+    payload.resize(OVERHEAD, 0)?;
+    put_packet(&mut payload, kind, sequence, amount, frames)?;
     Ok(payload)
-}
-
-/// The payload of a text that is encrypted where it lies.
-#[tactic(auto, unfolding(crate::specs::Sealed::sealed, crate::specs::Sealed::payload_of))]
-fn sealed<A: Allocator>(
-    keys: &Keys,
-    alloc: A,
-    iv: [u8; 12],
-    text: &mut [u8],
-) -> Result<Vec<u8, A>, AllocError>
-    ensures { IfOk result (λ payload. payload.items ≡ sealed keys.now iv text.old) }
-{
-    let tag = keys.seal_text(iv, text);
-    joined(alloc, iv, tag, text)
 }
 
 /// Reads the packet that stands behind the first bytes of a payload.
@@ -81,10 +72,10 @@ impl Keys {
     /// The payload of one packet, sealed under this IV: IV, tag, and the ciphertext of the packet's one spelling
     /// (RFC 0029). No two packets of a connection may have the same IV: that is the caller's care.
     ///
-    /// Refused is, in this order: `Packet` with the fault that `write_packet` finds, among them `TooLong` for a plain
-    /// packet above `MAX_PACKET` bytes; and `NoMemory`.
+    /// Refused is, in this order: `Packet` with the fault that `packet_len` finds, among them `TooLong` for a plain packet
+    /// above `MAX_PACKET` bytes; and `NoMemory`. The memory of the payload is asked for once, and no other.
     #[tactic(auto, unfolding(crate::specs::Sealed::sealed_packet))]
-    pub fn seal_packet<A: Allocator + Copy>(
+    pub fn seal_packet<A: Allocator>(
         &self,
         alloc: A,
         iv: [u8; 12],
@@ -98,8 +89,21 @@ impl Keys {
         ensures exact { Writes KeyError.NoMemory (λ payload. payload.items) result (sealed_packet self.now iv kind sequence amount (map seen frames.now)) }
         ensures opens { IfOk result (λ payload. opened self.now kind payload.items ≡ Ok (packet_with kind sequence amount (map seen frames.now))) }
     {
-        let mut text = write_packet(alloc, kind, sequence, amount, frames)?;
-        Ok(sealed(self, alloc, iv, &mut text)?)
+        let mut payload = with_overhead(alloc, kind, sequence, amount, frames)?;
+        self.seal_payload(iv, &mut payload);
+        Ok(payload)
+    }
+
+    /// Encrypts a text where it lies, from byte `OVERHEAD` on, and writes IV and tag in front of it.
+    #[tactic(auto, unfolding(crate::specs::Sealed::sealed, crate::specs::Sealed::payload_of), using(std::proofs::Common::append_assoc))]
+    fn seal_payload(&self, iv: [u8; 12], payload: &mut [u8])
+        requires { OVERHEAD ≤ length payload.old }
+        ensures { payload.new ≡ sealed self.now iv (ciphertext_of payload.old) }
+    {
+        let (front, text) = payload.split_at_mut(OVERHEAD);
+        let (iv_place, tag_place) = front.split_at_mut(12);
+        iv_place.copy_from_slice(&iv);
+        tag_place.copy_from_slice(&self.seal_text(iv, text));
     }
 
     /// Decrypts a payload where it lies: afterwards its text, from byte `OVERHEAD` on, is plain. No memory is taken.

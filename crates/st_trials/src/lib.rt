@@ -26,6 +26,8 @@ mod memory;
 mod packets;
 #[cfg(test)]
 mod program;
+#[cfg(test)]
+mod sealing;
 
 /// The number of the last request that is refused in turn. No call that is tried up to it makes as many.
 #[cfg(test)]

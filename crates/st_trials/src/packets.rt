@@ -6,7 +6,6 @@ use st_frames::{Frame, FrameError, MAX_PACKET, packet_len, put_packet, write_pac
 use st_ilp::{
     Answer, IlpError, MAX_DATA, Prepare, put_reject, reject_len, write_answer, write_prepare,
 };
-use st_keys::{KeyError, Keys};
 use std::alloc::Global;
 use std::test::Fail;
 
@@ -39,14 +38,6 @@ const FRAMES: [Frame<'static>; 3] = [
 /// Sequence 1, amount 0, and those frames, by RFC 0029, section 5.
 const PACKET: &[u8] = b"\x01\x0c\x01\x01\x01\0\x01\x03\x14\x07\x01\x01\x01\0\x02hi\
 \x03\x02\x01\x05\x15\x05\x01\x01\x02\x01\0";
-
-/// The first of them alone in a packet of sequence 1 and amount 0, sealed for the secret of 32 zero bytes under the IV
-/// 00 01 .. 0b, by `AESGCM` of the package `cryptography` (48.0.0) of Python.
-const SEALED: [u8; 45] = [
-    0x00, 0x01, 0x02, 0x03, 0x04, 0x05, 0x06, 0x07, 0x08, 0x09, 0x0a, 0x0b, 0x61, 0x79, 0x74, 0xab,
-    0x7c, 0xe4, 0x26, 0xcb, 0xcc, 0xb8, 0x20, 0x37, 0x6e, 0x5f, 0x43, 0xd5, 0x22, 0x61, 0xcc, 0xc4,
-    0xa8, 0xfb, 0xbc, 0xea, 0xc7, 0x77, 0xfa, 0x2d, 0x32, 0xae, 0x95, 0xa6, 0x2f,
-];
 
 /// Each request of a Prepare's writer is refused in turn.
 #[test]
@@ -133,31 +124,6 @@ fn a_packet_is_written_or_not(rt: HostRuntime) -> Result<(), Fail> {
     }
     assert!(rt; 0 < most && most < LAST);
     assert_eq!(rt; FrameError::NoMemory.number(), 25);
-    Ok(())
-}
-
-/// The same of a sealed packet, which asks for its text and for its payload.
-#[test]
-fn a_packet_is_sealed_or_not(rt: HostRuntime) -> Result<(), Fail> {
-    let heap: Refusing<Global> = Refusing::new(rt.alloc());
-    let keys = Keys::of([0; 32]);
-    let iv = [0, 1, 2, 3, 4, 5, 6, 7, 8, 9, 10, 11];
-    let mut most = 0;
-    for n in 1..=LAST {
-        heap.refuse_only(n);
-        let sealed = keys.seal_packet(&heap, iv, 12, 1, 0, &FRAMES[..1]);
-        if heap.has_refused() {
-            most = n;
-            assert_eq!(rt; sealed.err(), Some(KeyError::NoMemory), "at {n}");
-        } else {
-            assert!(rt; sealed?.as_slice() == SEALED.as_slice(), "at {n}");
-        }
-        heap.refuse_none();
-        let again = keys.seal_packet(&heap, iv, 12, 1, 0, &FRAMES[..1])?;
-        assert!(rt; again.as_slice() == SEALED.as_slice(), "at {n}");
-    }
-    assert!(rt; 1 < most && most < LAST);
-    assert_eq!(rt; KeyError::NoMemory.number(), 33);
     Ok(())
 }
 
