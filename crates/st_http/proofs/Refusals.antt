@@ -1,7 +1,7 @@
 -- Which refusals there are, and that they stay.
-use Rattle.std.proofs.Common.{◌≡◌, ◌≤◌, ◌<◌, ◌⊎◌, ℕ, ◌+◌, List, [], ◌++◌, length, take, drop, ap, sym, ◌∙◌, refl, subst, inl, inr, arith, append_assoc, append-nil, length-append, take-append-drop, Bool, true, false, Option, Some, None, Ok, Err, Result}
-use Rattle.std.specs.Prelude.{⊤, bytes_eq, codes, if◌then◌else◌, ◌==◌, map}
-use Rattle.std.specs.Io.KnownBytes.{Consumes, IsAtEnd}
+use Rattle.std.proofs.Common.{◌≡◌, ◌⊎◌, ℕ, List, ◌++◌, take, drop, ap, sym, ◌∙◌, refl, subst, inl, inr, append_assoc, take-append-drop, Bool, true, false, Option, Some, None, Ok, Err, Result}
+use Rattle.std.specs.Prelude.{bytes_eq, codes, if◌then◌else◌, ◌==◌, map}
+use Rattle.std.specs.Io.KnownBytes.{Consumes}
 use Rattle.std.proofs.KnownBytes.{Consumes-trans}
 use Rattle.httparse.specs.Grammar.{status_code}
 use Rattle.httparse.specs.Spans.{name_and_value}
