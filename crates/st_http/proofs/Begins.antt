@@ -1,8 +1,8 @@
 -- Texts that begin with a head by the grammar, and those that begin with none.
-use Rattle.std.proofs.Common.{◌≡◌, ◌≤◌, ◌<◌, ◌⊎◌, ℕ, ◌+◌, List, [], ◌∷◌, ◌++◌, length, take, drop, ap, sym, ◌∙◌, refl, subst, inl, inr, arith, append_assoc, append-nil, take-append-drop, length-append, Ok, Err, Result, true, false}
-use Rattle.std.proofs.lemmas.List.{take-append-le, take_all, length-take}
+use Rattle.std.proofs.Common.{◌≡◌, ◌≤◌, ◌<◌, ℕ, ◌+◌, List, [], ◌∷◌, ◌++◌, length, take, drop, ap, sym, ◌∙◌, refl, subst, inl, inr, arith, append-nil, take-append-drop, length-append, Ok, Err, Result, true, false}
+use Rattle.std.proofs.lemmas.List.{take-append-le, take_all}
 use Rattle.std.proofs.lemmas.Bool.{cases_lt}
-use Rattle.std.proofs.Math.Seq.{take-append_seam, drop-append_seam}
+use Rattle.std.proofs.Math.Seq.{take-append_seam}
 use Rattle.std.specs.Prelude.{map, IsTrue}
 use Rattle.httparse.proofs.GrammarLemmas.{request_prefix_free, response_prefix_free, ReadsRequest-append, ReadsResponse-append}
 use Rattle.httparse.specs.Grammar.{RequestHead, ResponseHead, print_request, print_response, status_code}
@@ -140,10 +140,10 @@ empty (a ∷ l) none = absurd (omega (arith, none))
 nothing_follows : (head front rest : List ℕ) → head ≡ front ++ rest → IsEnded head → IsEnded front → rest ≡ []
 nothing_follows head front rest parts ended inner = elim (cases_lt (length front) (length head)) [
   | inl early ↦ absurd (
-    let same : take (length front) head ≡ front = ap (take (length front)) parts ∙ take-append_seam front rest in
-    let apart : ends_head front ≡ false = subst (λ t. ends_head t ≡ false) same (ended.first (length front) early) in
-    let yes = inner.ends in
-    cc)
+      let same : take (length front) head ≡ front = ap (take (length front)) parts ∙ take-append_seam front rest in
+      let apart : ends_head front ≡ false = subst (λ t. ends_head t ≡ false) same (ended.first (length front) early) in
+      let yes = inner.ends in
+      cc)
   | inr all ↦ empty rest (omega (arith, all, ap length parts, length-append front rest))
 ]
 

@@ -1,12 +1,12 @@
 -- What the parser found in bytes up to an empty line is all of them, and its fields are such as the map takes.
-use Rattle.std.proofs.Common.{◌≡◌, ◌≤◌, ◌<◌, ℕ, List, [], ◌++◌, length, take, drop, ap, sym, ◌∙◌, inl, inr, arith, Result, Ok, Err, IfOk}
+use Rattle.std.proofs.Common.{◌≡◌, ◌≤◌, ℕ, List, ◌++◌, length, take, ap, ◌∙◌, inl, arith, Result, Ok, Err, IfOk}
 use Rattle.std.specs.Prelude.{map, All}
 use Rattle.std.proofs.lemmas.List.{length-map, length-take, drop_all}
 use Rattle.httparse.specs.declared.spans.HeaderSpan.{HeaderSpan}
 use Rattle.httparse.specs.declared.spans.RequestSpans.{RequestSpans}
 use Rattle.httparse.specs.declared.spans.ResponseSpans.{ResponseSpans}
-use Rattle.httparse.specs.Grammar.{RequestHead, ResponseHead, print_request, print_response, Field, status_code}
-use Rattle.httparse.specs.Spans.{IsRequestAt, IsRequestOf, IsResponseAt, IsResponseOf, header_bytes, name_and_value, span_bytes, AreFieldsAt}
+use Rattle.httparse.specs.Grammar.{RequestHead, ResponseHead, print_request, print_response, Field}
+use Rattle.httparse.specs.Spans.{IsRequestAt, IsRequestOf, IsResponseAt, IsResponseOf, header_bytes, span_bytes, AreFieldsAt}
 use Rattle.st_http.specs.declared.error.HttpError.{HttpError}
 use Rattle.st_http.specs.declared.verdict.Lawful.{Lawful}
 use Rattle.st_http.specs.Kept.{IsPair}

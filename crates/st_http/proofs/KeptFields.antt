@@ -1,8 +1,7 @@
 -- The map of a head's fields: what it has under each name, and that it is never full.
-use Rattle.std.proofs.Common.{◌≡◌, ◌≢◌, ◌≤◌, ◌<◌, ◌⊎◌, ℕ, ◌+◌, suc, zero, List, [], ◌∷◌, ◌++◌, length, take, get_or, ap, sym, ◌∙◌, refl, subst, inl, inr, arith, append_assoc, append-nil, length-append, true, false, Bool}
+use Rattle.std.proofs.Common.{◌≡◌, ◌≢◌, ◌≤◌, ◌<◌, ℕ, ◌+◌, suc, List, [], ◌∷◌, ◌++◌, length, take, get_or, ap, sym, ◌∙◌, refl, subst, inl, inr, arith, append_assoc, append-nil, length-append, true, false, Bool}
 use Rattle.std.specs.Prelude.{map, bytes_eq, cond, All, IsTrue}
-use Rattle.std.specs.List.{filter, slice_range}
-use Rattle.std.specs.Str.{str_to_ascii_lowercase}
+use Rattle.std.specs.List.{filter}
 use Rattle.std.proofs.lemmas.Bool.{cases_Bool}
 use Rattle.std.proofs.lemmas.List.{map-append, length-map, length-take, take_more, get_or-map}
 use Rattle.std.proofs.lemmas.List.Sums.{sum_by-cons, fold-append}
@@ -10,7 +9,7 @@ use Rattle.std.proofs.lemmas.List.Elements.{All-cons}
 use Rattle.std.proofs.lemmas.Slice.Eq.{bytes_eq-Decides}
 use Rattle.http_header.specs.FieldName.{IsFieldName}
 use Rattle.http_header.specs.FieldValue.{FieldValue, IsFieldValue, plain_value}
-use Rattle.http_header.specs.HeaderMap.{Entries, get_all, append, append_all, value_count, RefusesAppend, update}
+use Rattle.http_header.specs.HeaderMap.{Entries, get_all, append, append_all, value_count, RefusesAppend}
 use Rattle.http_header.specs.Token.{lowercase}
 use Rattle.http_header.specs.Token.{is_token_byte as is_name_byte}
 use Rattle.http_header.proofs.HeaderMapLemmas.{get_all-append_same, get_all-append_other}

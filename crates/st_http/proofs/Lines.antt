@@ -1,17 +1,18 @@
 -- A head by the grammar ends at its first empty line: a walk over its bytes, line by line.
-use Rattle.std.proofs.Common.{◌≡◌, ◌≤◌, ◌<◌, ◌⊎◌, ℕ, ◌+◌, ◌-◌, suc, zero, List, [], ◌∷◌, ◌++◌, length, take, drop, ap, sym, ◌∙◌, refl, subst, inl, inr, arith, append_assoc, length-append, take-append-drop, Bool, true, false, ◌&&◌, ◌||◌, Option, Some, None}
-use Rattle.std.specs.Prelude.{fold, if◌then◌else◌, ◌==◌, not, nat_eq, nat_le, All, IsTrue, codes}
+use Rattle.std.proofs.Common.{◌≡◌, ◌≤◌, ◌<◌, ◌⊎◌, ℕ, ◌-◌, suc, zero, List, [], ◌∷◌, ◌++◌, length, take, drop, ap, sym, ◌∙◌, refl, subst, inl, inr, arith, append_assoc, length-append, take-append-drop, Bool, true, false, ◌||◌, Option, Some, None}
+use Rattle.std.specs.Prelude.{fold, if◌then◌else◌, ◌==◌, not, nat_eq, All}
 use Rattle.std.specs.List.{list_any, list_all, ends_with, flat_map}
 use Rattle.std.specs.Cmp.Lexicographic.{same_text}
 use Rattle.std.specs.Char.{is_ascii_digit}
-use Rattle.std.proofs.lemmas.Bool.{cases_Bool, cases_lt, eqb-true}
-use Rattle.std.proofs.lemmas.List.{take-append-le, length-take, length-drop}
+use Rattle.std.proofs.lemmas.Bool.{cases_Bool, eqb-true}
+use Rattle.std.proofs.lemmas.List.{take-append-le}
 use Rattle.std.proofs.lemmas.List.Sums.{fold-append}
 use Rattle.std.proofs.lemmas.List.Folds.{list_any-append}
 use Rattle.std.proofs.lemmas.Slice.Eq.{bytes_eq-Decides}
 use Rattle.std.proofs.Math.Seq.{drop-append_seam}
-use Rattle.httparse.specs.Grammar.{LineEnd, crlf, lf, print_end, print_blank, print_version, print_field, print_section, print_reason, reason_phrase, Field, IsField, RequestHead, ResponseHead, IsRequestHead, IsResponseHead, print_request, print_response, is_token_byte, is_uri_byte, is_value_byte, AllPass}
+use Rattle.httparse.specs.Grammar.{LineEnd, crlf, lf, print_end, print_blank, print_version, print_field, print_reason, reason_phrase, Field, IsField, RequestHead, ResponseHead, IsRequestHead, IsResponseHead, print_request, print_response, is_token_byte, is_uri_byte, is_value_byte, AllPass}
 use Rattle.httparse.proofs.GrammarLemmas.{cons-append}
+use Rattle.st_http.proofs.Walks.{both}
 use Rattle.st_http.specs.Head.{ends_head, ends_line, is_text_byte}
 use Rattle.st_http.specs.Phases.{IsEnded}
 
@@ -123,13 +124,6 @@ walk_of_end bytes needle none closes some ends =
     let text : list_any is_text_byte front ≡ true = text_before front needle none (sym (ap (list_any is_text_byte) parts) ∙ some) in
     let started : has_begun (walk blank front) ≡ true = begun blank front ∙ text in
     ap (walk blank) parts ∙ fold-append step blank front needle ∙ closes (walk blank front) started
-
-both : (a b : Bool) → (a && b) ≡ true → (a ≡ true) × (b ≡ true)
-both true b e = (refl, e)
-both false b e = absurd (no e)
-  where
-    no : false ≡ true → ⊥
-    no e = cc
 
 either : (a b : Bool) → (a || b) ≡ true → (a ≡ true) ⊎ (b ≡ true)
 either true b e = inl refl

@@ -1,13 +1,13 @@
 -- The numbers that digits write: equal where the digits are, but for the zeros in front.
-use Rattle.std.proofs.Common.{◌≡◌, ℕ, ◌+◌, ◌-◌, ◌*◌, ◌≤◌, ◌<◌, zero, suc, List, [], ◌∷◌, ◌++◌, length, take, drop, refl, sym, ap, ◌∙◌, inl, inr, arith, rules, true, false, take-append-drop, subst, Bool, ◌&&◌, ◌⊎◌}
+use Rattle.std.proofs.Common.{◌≡◌, ℕ, ◌+◌, ◌-◌, ◌*◌, ◌≤◌, ◌<◌, zero, suc, List, [], ◌∷◌, ◌++◌, length, take, drop, refl, sym, ap, ◌∙◌, inl, inr, arith, rules, true, false, take-append-drop, subst, ◌⊎◌}
 use Rattle.std.specs.Prelude.{fold, nat_le, if◌then◌else◌, ◌==◌, ◌↔◌, bytes_eq}
 use Rattle.std.proofs.lemmas.Slice.Eq.{bytes_eq-Decides}
 use Rattle.std.specs.List.{list_all}
 use Rattle.std.specs.Char.{is_ascii_digit}
 use Rattle.std.proofs.lemmas.List.Sums.{fold-append}
 use Rattle.std.proofs.lemmas.Bool.{cases_Bool, eqb-true}
-use Rattle.st_http.specs.declared.length.Length.{Length}
 use Rattle.st_http.specs.declared.length.Length.TheVariants.{TooLong, Of}
+use Rattle.st_http.proofs.Walks.{both}
 use Rattle.st_http.specs.Length.{number, length_up_to, without_zeros}
 
 pub grows : (n : ℕ) (ds : List ℕ) → n ≤ fold (λ m d. 10 * m + (d - 48)) n ds
@@ -51,13 +51,6 @@ zeros-pad (suc k) ds = zeros-pad k ds
 digits-pad : (k : ℕ) (ds : List ℕ) → list_all is_ascii_digit ds ≡ true → list_all is_ascii_digit (pad k ds) ≡ true
 digits-pad zero ds all = all
 digits-pad (suc k) ds all = digits-pad k ds all
-
-both : (a b : Bool) → (a && b) ≡ true → (a ≡ true) × (b ≡ true)
-both true b e = (refl, e)
-both false b e = absurd (false_is_not_true e)
-  where
-    false_is_not_true : false ≡ true → ⊥
-    false_is_not_true e = cc
 
 digit_bounds : (d : ℕ) → is_ascii_digit d ≡ true → (48 ≤ d) × (d ≤ 57)
 digit_bounds d is = (grind (arith, rules), grind (arith, rules))

@@ -1,5 +1,5 @@
 -- What a text says is one thing, and stays.
-use Rattle.std.proofs.Common.{◌≡◌, ◌≤◌, ◌<◌, ◌⊎◌, ℕ, ◌+◌, ◌-◌, List, [], ◌∷◌, ◌++◌, length, take, ap, sym, ◌∙◌, refl, subst, inl, inr, arith, append-nil, length-append, Option, None, Ok, Err, Result, false}
+use Rattle.std.proofs.Common.{◌≡◌, ◌≤◌, ◌<◌, ℕ, ◌+◌, ◌-◌, List, [], ◌∷◌, ◌++◌, length, take, ap, sym, ◌∙◌, refl, subst, inl, inr, arith, append-nil, length-append, Option, None, Ok, Err, Result, false}
 use Rattle.std.proofs.lemmas.List.{take-append-le}
 use Rattle.std.proofs.lemmas.Bool.{cases_lt}
 use Rattle.st_http.specs.declared.error.HttpError.{HttpError}
@@ -7,7 +7,7 @@ use Rattle.st_http.specs.declared.verdict.Lawful.{Lawful}
 use Rattle.st_http.specs.Head.{IsOpen, IsOver, ends_head, head_limit}
 use Rattle.st_http.specs.Verdict.{Expected, Begins, no_head}
 use Rattle.st_http.specs.Message.{Says, IsRefused, IsNoHead, Standing, unfinished, whole, refused}
-use Rattle.st_http.proofs.Begins.{one_beginning, grown, front_of, not_open, shortened, no_head_grows, over_grows}
+use Rattle.st_http.proofs.Begins.{one_beginning, grown, front_of, not_open, no_head_grows, over_grows}
 
 -- bytes in which no empty line has come, nor in what follows
 open_in_front : (text more : List ℕ) → IsOpen (text ++ more) → IsOpen text

@@ -1,7 +1,7 @@
 -- Which refusals there are, and that they stay.
-use Rattle.std.proofs.Common.{◌≡◌, ◌≤◌, ◌<◌, ◌⊎◌, ℕ, ◌+◌, List, [], ◌++◌, length, take, drop, ap, sym, ◌∙◌, refl, subst, inl, inr, arith, append_assoc, append-nil, length-append, take-append-drop, Bool, true, false, Option, Some, None, Ok, Err, Result}
-use Rattle.std.specs.Prelude.{⊤, bytes_eq, codes, if◌then◌else◌, ◌==◌, map}
-use Rattle.std.specs.Io.KnownBytes.{Consumes, IsAtEnd}
+use Rattle.std.proofs.Common.{◌≡◌, ◌⊎◌, ℕ, List, ◌++◌, take, drop, ap, sym, ◌∙◌, refl, subst, inl, inr, append_assoc, take-append-drop, Bool, true, false, Option, Some, None, Ok, Err, Result}
+use Rattle.std.specs.Prelude.{bytes_eq, codes, if◌then◌else◌, ◌==◌, map}
+use Rattle.std.specs.Io.KnownBytes.{Consumes}
 use Rattle.std.proofs.KnownBytes.{Consumes-trans}
 use Rattle.httparse.specs.Grammar.{status_code}
 use Rattle.httparse.specs.Spans.{name_and_value}
@@ -16,7 +16,7 @@ use Rattle.st_http.specs.Verdict.{Expected, request, response, Begins, request_o
 use Rattle.st_http.specs.Message.{Says, Standing, unfinished, whole, refused, IsRefused, wants_of}
 use Rattle.st_http.proofs.Begins.{grown, no_head_grows}
 use Rattle.st_http.specs.Progress.{Progress, IsTaken, Refuses}
-use Rattle.st_http.specs.Reads.{Reads, ReadsRefusal, ReadsPart, ExplainsRead, IsRefusal, IsStatus, faults_told}
+use Rattle.st_http.specs.Reads.{Reads, ReadsRefusal, ReadsPart, ExplainsRead, IsRefusal, IsStatus}
 
 -- a request is taken at an account, or refused by a status
 abbrev pub RequestAnswer : Result Lawful HttpError → Type 0
@@ -133,27 +133,3 @@ explains_feed expected r middle old new piece e same first second says why = eli
   | inl memory ↦ subst (λ x. ExplainsRead expected r x) (sym memory.0) tt
   | inr refuses ↦ explains_refusal expected r middle old new piece e same first second says refuses
 ]
-
--- a refusal of a message is no fault, and tells of no turns
-told_of_refusal : (T : Type 0) (e : HttpError) (count : ℕ) → IsRefusal e → faults_told {T = T} (Err e) count ≡ count
-told_of_refusal T ReadFault count is = absurd is
-told_of_refusal T (WriteFault sent) count is = absurd is
-told_of_refusal T BadHead count is = refl
-told_of_refusal T (Status code) count is = refl
-told_of_refusal T TooLong count is = refl
-told_of_refusal T Cut count is = absurd is
-told_of_refusal T Turns count is = absurd is
-told_of_refusal T NoMemory count is = absurd is
-
-feed_is_refusal : (new : Progress) (e : HttpError) → Says new.expected new.taken new.standing → new.standing ≡ refused e → IsRefusal e
-feed_is_refusal new e says standing = refused_is_refusal new.expected new.taken e (subst (λ s. Says new.expected new.taken s) standing says)
-
-pub feed_is_no_fault : (T : Type 0) (old new : Progress) (piece : List ℕ) (e : HttpError) (count : ℕ) → Says new.expected new.taken new.standing
-    → ((e ≡ NoMemory) × (new ≡ old)) ⊎ Refuses old new piece e → faults_told {T = T} (Err e) count ≡ count
-feed_is_no_fault T old new piece e count says (inl memory) = rw memory.0 refl
-feed_is_no_fault T old new piece e count says (inr refuses) = told_of_refusal T e count (feed_is_refusal new e says refuses.standing)
-
-pub feed_takes_no_turns : (old new : Progress) (piece : List ℕ) (e : HttpError) → Says new.expected new.taken new.standing
-    → ((e ≡ NoMemory) × (new ≡ old)) ⊎ Refuses old new piece e → e ≡ Turns → ⊥
-feed_takes_no_turns old new piece e says (inl memory) is = let other = memory.0 in cc
-feed_takes_no_turns old new piece e says (inr refuses) is = subst IsRefusal is (feed_is_refusal new e says refuses.standing)

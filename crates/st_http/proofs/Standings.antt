@@ -1,16 +1,15 @@
 -- What a head and a body say together.
-use Rattle.std.proofs.Common.{◌≡◌, ◌≤◌, ◌<◌, ◌⊎◌, ℕ, ◌+◌, suc, zero, List, [], ◌∷◌, ◌++◌, length, take, drop, ap, sym, ◌∙◌, refl, inr, arith, append-nil, append_assoc, Bool, true, false, Ok, Result, add-suc, subst, inl}
+use Rattle.std.proofs.Common.{◌≡◌, ℕ, ◌+◌, suc, zero, List, [], ◌∷◌, ◌++◌, length, take, drop, ap, sym, ◌∙◌, refl, inr, arith, append-nil, append_assoc, Ok, Result, subst, inl}
 use Rattle.std.proofs.Math.Seq.{take-nil}
 use Rattle.std.proofs.Math.Nat.{zero-add, suc-add}
 use Rattle.std.proofs.lemmas.Bool.{cases_lt, le-ltb, lt-ltb}
-use Rattle.std.specs.Prelude.{nat_lt, if◌then◌else◌}
 use Rattle.st_http.specs.declared.error.HttpError.{HttpError}
 use Rattle.st_http.specs.declared.reading.Phase.{Phase}
 use Rattle.st_http.specs.declared.reading.Phase.TheVariants.{Head, Body, Refused}
 use Rattle.st_http.specs.declared.verdict.Lawful.{Lawful}
-use Rattle.st_http.specs.Head.{IsOpen, head_limit, ends_head}
+use Rattle.st_http.specs.Head.{IsOpen, ends_head}
 use Rattle.st_http.specs.Verdict.{Expected, Begins}
-use Rattle.st_http.specs.Message.{Says, IsUnfinished, Standing, unfinished, whole, refused}
+use Rattle.st_http.specs.Message.{Says}
 use Rattle.st_http.proofs.Begins.{lawful_begins}
 use Rattle.st_http.specs.Phases.{IsInside, IsLawful, standing_of, standing_of_body}
 

@@ -1,7 +1,6 @@
 -- What a whole message was.
-use Rattle.std.proofs.Common.{◌≡◌, ℕ, List, [], ap, sym, ◌∙◌, refl, subst, inl, inr, arith, Option, Some, None, Ok, Err, IsSome, length, Result, OnOk}
+use Rattle.std.proofs.Common.{◌≡◌, ℕ, List, [], refl, subst, inl, arith, Option, Some, None, Ok, Err, IsSome, length, Result, OnOk}
 use Rattle.std.specs.Io.KnownBytes.{Consumes}
-use Rattle.st_http.specs.declared.verdict.Lawful.{Lawful}
 use Rattle.st_http.specs.Verdict.{Expected, request, response}
 use Rattle.st_http.specs.Message.{Says, Standing, unfinished, whole, refused}
 use Rattle.st_http.specs.Progress.{Progress, IsWhole, body_of, account_of}

@@ -1,6 +1,5 @@
 -- How the fields of a head are kept: in a multimap of names in lower case.
-use Rattle.std.specs.Prelude.{◌≡◌, ℕ, ◌≤◌, List, [], map, length}
-use Rattle.http_header.specs.FieldName.{IsFieldName}
+use Rattle.std.specs.Prelude.{ℕ, List, [], map}
 use Rattle.http_header.specs.FieldValue.{FieldValue, IsFieldValue, plain_value}
 use Rattle.http_header.specs.HeaderMap.{Entries, get_all, append_all}
 use Rattle.http_header.specs.Token.{IsToken, lowercase}

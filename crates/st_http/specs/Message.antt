@@ -1,5 +1,5 @@
 -- What a byte list says as a message: a whole one, one that is not whole yet, or none.
-use Rattle.std.specs.Prelude.{◌≡◌, ◌≢◌, ℕ, ◌-◌, ◌<◌, ◌⊎◌, List, length, Option, Result, Ok, Err}
+use Rattle.std.specs.Prelude.{◌≡◌, ℕ, ◌-◌, ◌<◌, ◌⊎◌, List, length, Option, Result, Ok, Err}
 use Rattle.st_http.specs.declared.error.HttpError.{HttpError}
 use Rattle.st_http.specs.declared.verdict.Lawful.{Lawful}
 use Rattle.st_http.specs.Head.{head_limit, IsOpen, IsOver}

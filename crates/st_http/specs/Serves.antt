@@ -3,7 +3,7 @@ use Rattle.std.specs.Prelude.{◌≡◌, ℕ, ◌⊎◌, List, Option, Some, Non
 use Rattle.std.specs.Io.KnownBytes.{Appends}
 use Rattle.st_http.specs.declared.error.HttpError.{HttpError}
 use Rattle.st_http.specs.declared.error.HttpError.TheVariants.{ReadFault, WriteFault, BadHead, Status, TooLong, Cut, Turns, NoMemory}
-use Rattle.st_http.specs.Verdict.{Expected, request, response}
+use Rattle.st_http.specs.Verdict.{request}
 use Rattle.st_http.specs.Texts.{answer_text, refusal_text}
 use Rattle.st_http.specs.Message.{Standing}
 use Rattle.st_http.specs.Progress.{account_of, body_of}

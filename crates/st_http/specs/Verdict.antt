@@ -1,5 +1,5 @@
 -- What the rules say of a head: the length of the body that follows, and for a request its account, or the refusal.
-use Rattle.std.specs.Prelude.{◌≡◌, ℕ, ◌≤◌, ◌==◌, Bool, List, length, map, codes, bytes_eq, if◌then◌else◌, Option, Some, None, Result, Ok, Err}
+use Rattle.std.specs.Prelude.{◌≡◌, ℕ, ◌≤◌, ◌==◌, List, length, map, codes, bytes_eq, if◌then◌else◌, Option, Some, None, Result, Ok, Err}
 use Rattle.httparse.specs.Grammar.{RequestHead, ResponseHead, ReadsRequest, ReadsResponse, print_request, print_response, status_code}
 use Rattle.httparse.specs.Spans.{name_and_value}
 use Rattle.st_http.specs.declared.error.HttpError.{HttpError}

@@ -17,12 +17,7 @@ use httparse::spans::HeaderSpan;
 use std::alloc::{AllocError, Global};
 
 /// Keeps a field behind the others.
-fn keep(
-    global: Global,
-    fields: &mut HeaderMap,
-    name: &[u8],
-    value: &[u8],
-) -> Result<(), AllocError>
+fn keep(global: Global, fields: &mut HeaderMap, name: &[u8], value: &[u8]) -> Result<(), AllocError>
     requires name { IsFieldName name.now }
     requires value { IsFieldValue value.now }
     requires room { ¬ (RefusesAppend fields.old (lowercase name.now)) }
@@ -46,11 +41,7 @@ fn keep(
 }
 
 /// The fields of a head, by their names.
-pub fn fields_of(
-    global: Global,
-    head: &[u8],
-    spans: &[HeaderSpan],
-) -> Result<HeaderMap, AllocError>
+pub fn fields_of(global: Global, head: &[u8], spans: &[HeaderSpan]) -> Result<HeaderMap, AllocError>
     requires within { All (IsHeaderWithin (length head.now)) spans.now }
     requires lawful { All IsPair (map (header_bytes head.now) spans.now) }
     requires short { length head.now ≤ head_limit }
@@ -59,12 +50,7 @@ pub fn fields_of(
 {
     let mut fields = HeaderMap::new(global);
     for span in spans {
-        keep(
-            global,
-            &mut fields,
-            span.name.of(head),
-            span.value.of(head),
-        )?;
+        keep(global, &mut fields, span.name.of(head), span.value.of(head))?;
     }
     Ok(fields)
 }

@@ -2,7 +2,9 @@
 //! and 65,535 bytes of body.
 //!
 //! `Reading` takes a message in any pieces; `exchange` and `serve_one` are loops over it. What a byte list says, as a
-//! request or as a response, is in specs/Message.antt; the bytes that are written are in specs/Texts.antt.
+//! request or as a response, is in specs/Message.antt; the bytes that are written are in specs/Texts.antt. One message a
+//! stream: no keep-alive, no chunked body, no interim response and no TLS, which a proxy in front may take. Nothing is
+//! flushed: the stream has to pass on what it was given.
 #![tactic(auto)]
 
 mod answerer;

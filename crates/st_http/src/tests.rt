@@ -150,7 +150,14 @@ fn a_lawful_request_is_answered(rt: HostRuntime) -> Result<(), Fail> {
             account: 9,
             rt,
         };
-        serve_one(rt.alloc(), rt.alloc(), &mut wire, &["t0", "t1"], &mut answerer, 1_000)?;
+        serve_one(
+            rt.alloc(),
+            rt.alloc(),
+            &mut wire,
+            &["t0", "t1"],
+            &mut answerer,
+            1_000,
+        )?;
         assert_eq!(rt; (answerer.calls, answerer.account), (1, 1));
         let wire = wire.into_inner();
         let body = answer.unwrap_or(b"");
@@ -170,17 +177,38 @@ fn other_requests_are_turned_down(rt: HostRuntime) -> Result<(), Fail> {
         account: 9,
         rt,
     };
-    serve_one(rt.alloc(), rt.alloc(), &mut wire, &["t2", "t"], &mut answerer, 1_000)?;
+    serve_one(
+        rt.alloc(),
+        rt.alloc(),
+        &mut wire,
+        &["t2", "t"],
+        &mut answerer,
+        1_000,
+    )?;
     assert_eq!(rt; answerer.calls, 0);
     let text = "HTTP/1.1 401 Unauthorized\r\nContent-Length: 0\r\nConnection: close\r\n\r\n";
     assert_eq!(rt; wire.into_inner().output.as_slice(), text.as_bytes());
     let mut wire = Wire::new(rt, POST.as_bytes(), 1);
     assert_eq!(rt;
-        serve_one(rt.alloc(), rt.alloc(), &mut wire, &["t1"], &mut answerer, 50),
+        serve_one(
+            rt.alloc(),
+            rt.alloc(),
+            &mut wire,
+            &["t1"],
+            &mut answerer,
+            50
+        ),
         Err(HttpError::Turns)
     );
     let mut wire = Wire::new(rt, &POST.as_bytes()[..70], 1_000);
-    let got = serve_one(rt.alloc(), rt.alloc(), &mut wire, &["t1"], &mut answerer, 1_000);
+    let got = serve_one(
+        rt.alloc(),
+        rt.alloc(),
+        &mut wire,
+        &["t1"],
+        &mut answerer,
+        1_000,
+    );
     assert_eq!(rt; got, Err(HttpError::Cut));
     assert_eq!(rt; answerer.calls, 0);
     Ok(())

@@ -110,11 +110,7 @@ fn response_verdict(
 }
 
 /// What the rules say of bytes up to an empty line as the head of a request.
-pub fn judge_request(
-    global: Global,
-    tokens: &[&str],
-    head: &[u8],
-) -> Result<Verdict, AllocError>
+pub fn judge_request(global: Global, tokens: &[&str], head: &[u8]) -> Result<Verdict, AllocError>
     requires { length head.now ≤ head_limit }
     ensures { IfOk result (IsVerdict (spec.request (map (λ t. t.now) tokens.now)) head.now) }
 {

@@ -1,4 +1,4 @@
-use Rattle.std.proofs.Common.{◌≡◌, ◌<◌, ◌≤◌, ◌∙◌, ap, arith, length, take, ℕ, List}
+use Rattle.std.proofs.Common.{◌≡◌, ◌∙◌, ap, arith, take}
 use Rattle.std.specs.Prelude.{map}
 use Rattle.std.proofs.lemmas.List.{take_all}
 use Rattle.httparse.specs.Spans.{header_bytes}

@@ -1,4 +1,4 @@
-use Rattle.std.proofs.Common.{◌≡◌, ◌∙◌}
+use Rattle.std.proofs.Common.{◌∙◌}
 use Rattle.st_http.proofs.Numbers.{equal_test}
 use Rattle.st_http.proofs.length.are_equal.Goals as goal
 

@@ -1,4 +1,3 @@
-use Rattle.std.proofs.Common.{◌≡◌}
 use Rattle.st_http.specs.Phases.{meant}
 use Rattle.st_http.proofs.Begins.{refused_at_end}
 use Rattle.st_http.proofs.reading.take_behind.Goals as goal

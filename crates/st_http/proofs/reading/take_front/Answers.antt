@@ -1,4 +1,4 @@
-use Rattle.std.proofs.Common.{◌≡◌, ◌≤◌, ◌+◌, ◌++◌, length, take, drop, arith, ap}
+use Rattle.std.proofs.Common.{length, arith, ap}
 use Rattle.st_http.specs.Phases.{meant}
 use Rattle.st_http.proofs.Begins.{refused_at_limit}
 use Rattle.st_http.proofs.Standings.{taken_in_two}

@@ -1,4 +1,3 @@
-use Rattle.std.proofs.Common.{◌≡◌}
 use Rattle.st_oer.specs.Tallies.{device_of, tally_of}
 use Rattle.st_http.proofs.Spent.{takes_more}
 use Rattle.st_http.proofs.Wholes.{at_ok}

@@ -1,4 +1,4 @@
-use Rattle.std.proofs.Common.{◌≡◌, ◌≤◌, length, arith, map}
+use Rattle.std.proofs.Common.{arith, map}
 use Rattle.st_http.proofs.Heads.{request_answered, request_pairs}
 use Rattle.st_http.proofs.verdict.judge_request.Goals as goal
 

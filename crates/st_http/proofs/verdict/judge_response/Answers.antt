@@ -1,4 +1,4 @@
-use Rattle.std.proofs.Common.{◌≡◌, ◌≤◌, length, arith}
+use Rattle.std.proofs.Common.{arith}
 use Rattle.st_http.proofs.Heads.{response_answered, response_pairs}
 use Rattle.st_http.proofs.verdict.judge_response.Goals as goal
 

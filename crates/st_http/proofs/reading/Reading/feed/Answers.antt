@@ -1,4 +1,3 @@
-use Rattle.std.proofs.Common.{◌≡◌, ◌++◌, length}
 use Rattle.st_http.specs.Phases.{meant}
 use Rattle.st_http.proofs.Standings.{says}
 use Rattle.st_http.proofs.reading.Reading.feed.Goals as goal

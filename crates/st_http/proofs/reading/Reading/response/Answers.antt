@@ -1,4 +1,4 @@
-use Rattle.std.proofs.Common.{◌≡◌, ◌<◌, length, arith, refl}
+use Rattle.std.proofs.Common.{arith, refl}
 use Rattle.st_http.proofs.Standings.{open_nothing}
 use Rattle.st_http.proofs.reading.Reading.response.Goals as goal
 
