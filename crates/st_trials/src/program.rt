@@ -83,39 +83,44 @@ fn version_and_help(rt: HostRuntime) {
     }
 }
 
-/// Help names what whoever runs the program has to know.
+/// What help names that whoever runs the program has to know.
+const HELP: [&str; 8] = [
+    "Usage: ilpstream [COMMAND]",
+    "Without a command it does `frames`",
+    "standard input until its end",
+    "  0  every line was taken",
+    "  1  a line was refused",
+    "  2  the arguments ask for no command",
+    "README.md",
+    "./ilpstream frames < examples/frames.txt",
+];
+
+/// What the help of `frames` names.
+const FRAMES_HELP: [&str; 4] = [
+    "Usage: ilpstream frames",
+    "standard input until its end",
+    "README.md",
+    "./ilpstream frames < examples/frames.txt",
+];
+
 #[test]
 fn help_names_what_a_run_needs(rt: HostRuntime) {
-    let whole = [
-        "Usage: ilpstream [COMMAND]",
-        "Without a command it does `frames`",
-        "standard input until its end",
-        "  0  every line was taken",
-        "  1  a line was refused",
-        "  2  the arguments ask for no command",
-        "README.md",
-        "./ilpstream frames < examples/frames.txt",
-    ];
-    let of_frames = [
-        "Usage: ilpstream frames",
-        "standard input until its end",
-        "README.md",
-        "./ilpstream frames < examples/frames.txt",
-    ];
-    let rows: [(&[&str], &[&str]); 5] = [
-        (&["ilpstream", "--help"], &whole),
-        (&["ilpstream", "-h"], &whole),
-        (&["ilpstream", "frames", "--help"], &of_frames),
-        (&["ilpstream", "frames", "-h"], &of_frames),
-        (&["ilpstream", "help", "frames"], &of_frames),
-    ];
-    for (words, parts) in rows {
-        let (status, written, told) = ran(rt.alloc(), words);
-        for part in parts {
-            assert!(rt; written.text().contains(*part), "{words:?}: {part}");
+    for word in ["--help", "-h"] {
+        let (status, written, told) = ran(rt.alloc(), &["ilpstream", word]);
+        for part in HELP {
+            assert!(rt; written.text().contains(part), "{word}: {part}");
         }
-        assert!(rt; told.is_untouched(), "{words:?}");
-        assert_eq!(rt; status, 0, "{words:?}");
+        assert!(rt; told.is_untouched(), "{word}");
+        assert_eq!(rt; status, 0, "{word}");
+    }
+    let rows = [["frames", "--help"], ["frames", "-h"], ["help", "frames"]];
+    for [first, second] in rows {
+        let (status, written, told) = ran(rt.alloc(), &["ilpstream", first, second]);
+        for part in FRAMES_HELP {
+            assert!(rt; written.text().contains(part), "{first} {second}: {part}");
+        }
+        assert!(rt; told.is_untouched(), "{first} {second}");
+        assert_eq!(rt; status, 0, "{first} {second}");
     }
 }
 
