@@ -32,7 +32,8 @@ fn key_again(tag: [u8; 16], times: u64) -> [u8; 16] {
 fn block_again(key: &Key, first: [u8; 16], times: u64) -> [u8; 16] {
     let mut last = first;
     for _ in 0..times {
-        last = block(key, last);
+        let next = block(key, last);
+        last = next;
     }
     last
 }
