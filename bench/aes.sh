@@ -1,37 +1,52 @@
 #!/usr/bin/env bash
-# Bytes sealed a second at 16,384 bytes by st_aes, beside OpenSSL's AES-256-GCM with and without the processor's AES
-# instructions, in one run. By hand, on a quiet machine: bench/aes.sh [SECONDS]
+# Bytes that st_aes seals a second at 64, 1,024 and 16,384 bytes, beside OpenSSL's AES-256-GCM with and without the
+# processor's AES instructions, and what Key::new costs beside one block, in one run. By hand, on a quiet machine:
+# bench/aes.sh [SECONDS]
 set -euo pipefail
 cd "$(dirname "$0")/../crates/bench_aes"
 seconds=${1:-3}
-bytes=16384
 
 echo "proving and building bench_aes where it is older than its sources" >&2
 rt run -- 0 0 >&2
 
-nanoseconds() { # of sealing $1 times
+nanoseconds() { # that the program takes with these words
     local from to
     from=$(date +%s%N)
-    out/bench_aes "$bytes" "$1" >/dev/null
+    out/bench_aes "$@" >/dev/null
     to=$(date +%s%N)
     echo $((to - from))
 }
 
-openssl_rate() { # bytes a second
-    openssl speed -mr -seconds "$seconds" -bytes "$bytes" -evp aes-256-gcm 2>/dev/null | awk -F: '/^\+F:/ { printf "%.0f\n", $NF }'
+each() { # picoseconds of one turn of those that the words ask for, @ being how many: as many as fill the seconds
+    local times=1000 taken=0 start
+    start=$(nanoseconds "${@//@/0}")
+    while [ "$taken" -lt 20000000 ]; do
+        times=$((times * 4))
+        taken=$(($(nanoseconds "${@//@/$times}") - start))
+    done
+    times=$((times * seconds * 1000 / (taken / 1000000)))
+    echo $((($(nanoseconds "${@//@/$times}") - start) * 1000 / times))
 }
 
-# as many times as fill the seconds, found by a short run
-start=$(nanoseconds 0)
-probe=$(($(nanoseconds 100) - start))
-times=$((100 * seconds * 1000000000 / probe))
-taken=$(($(nanoseconds "$times") - start))
-ours=$((bytes * times * 1000 / (taken / 1000000)))
-with=$(openssl_rate)
-without=$(OPENSSL_ia32cap="~0x200000200000000:~0" openssl_rate)
+openssl_rate() { # bytes a second at $1 bytes
+    openssl speed -mr -seconds "$seconds" -bytes "$1" -evp aes-256-gcm 2>/dev/null | awk -F: '/^\+F:/ { printf "%.0f\n", $NF }'
+}
 
-awk -v ours="$ours" -v with="$with" -v without="$without" 'BEGIN {
-    printf "st_aes                           %12.0f bytes a second\n", ours
-    printf "openssl                          %12.0f bytes a second, %.1f times as many\n", with, with / ours
-    printf "openssl without AES instructions %12.0f bytes a second, %.1f times as many\n", without, without / ours
+printf '%6s  %-32s  %14s  %s\n' bytes "" "bytes a second" "of which st_aes does"
+for bytes in 64 1024 16384; do
+    picoseconds=$(each "$bytes" @)
+    with=$(openssl_rate "$bytes")
+    without=$(OPENSSL_ia32cap="~0x200000200000000:~0" openssl_rate "$bytes")
+    awk -v bytes="$bytes" -v each="$picoseconds" -v with="$with" -v without="$without" 'BEGIN {
+        ours = bytes * 1e12 / each
+        printf "%6d  %-32s  %14.0f\n", bytes, "st_aes", ours
+        printf "%6d  %-32s  %14.0f  %.2f\n", bytes, "openssl without AES instructions", without, ours / without
+        printf "%6d  %-32s  %14.0f  %.2f\n", bytes, "openssl", with, ours / with
+    }'
+done
+
+block=$(each 0 0 0 @)
+key=$(($(each 0 0 @) - $(each 0 @)))
+awk -v key="$key" -v block="$block" 'BEGIN {
+    printf "Key::new takes %.2f microseconds, one block %.3f: as long as %.0f blocks\n", key / 1e6, block / 1e6, key / block
 }'

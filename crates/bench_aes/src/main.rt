@@ -1,8 +1,9 @@
-//! Seals a text again and again, for `bench/aes.sh` to time. Its words are the text's length in bytes and how often
-//! it is sealed. It prints the last tag.
+//! Seals a text again and again, makes keys and encrypts blocks, for `bench/aes.sh` to time. Its words are the text's
+//! length in bytes, how often it is sealed, how many keys are made and how many blocks are encrypted; what is left out is 0.
+//! It prints the last tag or block.
 #![tactic(auto)]
 
-use st_aes::{Key, seal};
+use st_aes::{Key, block, seal};
 use std::{env, io};
 
 /// Seals the text where it lies, `times` times, each time under the next IV, and gives the last tag.
@@ -14,6 +15,27 @@ fn seal_again(key: &Key, text: &mut [u8], times: u64) -> [u8; 16] {
         tag = seal(key, iv, text);
     }
     tag
+}
+
+/// Makes `times` keys, each out of the tag that the one before gave to the empty text, and gives the last tag.
+fn key_again(tag: [u8; 16], times: u64) -> [u8; 16] {
+    let mut tag = tag;
+    for _ in 0..times {
+        let mut bytes = [0; 32];
+        bytes[..16].copy_from_slice(&tag);
+        tag = seal(&Key::new(bytes), [0; 12], &mut []);
+    }
+    tag
+}
+
+/// Encrypts a block `times` times over.
+fn block_again(key: &Key, first: [u8; 16], times: u64) -> [u8; 16] {
+    let mut last = first;
+    for _ in 0..times {
+        let next = block(key, last);
+        last = next;
+    }
+    last
 }
 
 /// The number that a word spells, or 0.
@@ -28,10 +50,14 @@ fn main(rt: HostRuntime) -> io::Result<()> {
     let mut words = env::args(&rt)?;
     let _program = words.next();
     let bytes = number(words.next());
-    let times = number(words.next());
+    let seals = number(words.next());
+    let keys = number(words.next());
+    let blocks = number(words.next());
+    let key = Key::new([0; 32]);
     let mut text = vec![in rt.alloc(); 0u8; bytes]?;
-    let tag = seal_again(&Key::new([0; 32]), &mut text, times as u64);
-    for byte in tag {
+    let tag = seal_again(&key, &mut text, seals as u64);
+    let tag = key_again(tag, keys as u64);
+    for byte in block_again(&key, tag, blocks as u64) {
         print!(rt; "{byte:02x}")?;
     }
     println!(rt)?;

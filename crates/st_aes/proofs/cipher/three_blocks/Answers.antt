@@ -1,7 +1,7 @@
-use Rattle.std.proofs.Common.{◌≡◌, ◌∙◌, ap, arith}
+use Rattle.std.proofs.Common.{◌∙◌, ap, arith}
 use Rattle.st_aes.specs.Cipher.{add_round_key, key_expansion}
 use Rattle.st_aes.specs.Columns.{words_of}
-use Rattle.st_aes.proofs.Rounds.{rounds_start, round_next, encrypted, same_three}
+use Rattle.st_aes.proofs.Rounds.{rounds_start, round_next, encrypted}
 use Rattle.st_aes.proofs.cipher.three_blocks.Goals as goal
 
 pub loop-n-init : goal.loop-n-init
@@ -23,12 +23,11 @@ loop-n-preserved c =
       third = round_next W c.args.c _ _ l.n c.round-in-loop-n-2.ensures l.invariant.third;
     }
 
-pub returns : goal.returns
-returns c =
-    let key = c.args.key.now in
-    let W = words_of c.key.inside.words in
-    let l = c.loop-n in
-    let thirteen : l.n ≡ 13 = omega arith in
-    let words : W ≡ key_expansion key = c.key.invariant.0 ∙ ap key_expansion c.key.view_is in
-    same_three _ _ _ _ _ _ (encrypted key c.args.a _ _ W l.n thirteen words l.invariant.first c.last_round.ensures)
-    (encrypted key c.args.b _ _ W l.n thirteen words l.invariant.second c.last_round-2.ensures) (encrypted key c.args.c _ _ W l.n thirteen words l.invariant.third c.last_round-3.ensures)
+pub returns-clause-first : goal.returns-clause-first
+returns-clause-first c = encrypted c.args.key.now c.args.a _ _ (words_of c.key.inside.words) c.loop-n.n (omega arith) (c.key.invariant.0 ∙ ap key_expansion c.key.view_is) c.loop-n.invariant.first c.last_round.ensures
+
+pub returns-clause-second : goal.returns-clause-second
+returns-clause-second c = encrypted c.args.key.now c.args.b _ _ (words_of c.key.inside.words) c.loop-n.n (omega arith) (c.key.invariant.0 ∙ ap key_expansion c.key.view_is) c.loop-n.invariant.second c.last_round-2.ensures
+
+pub returns-clause-third : goal.returns-clause-third
+returns-clause-third c = encrypted c.args.key.now c.args.c _ _ (words_of c.key.inside.words) c.loop-n.n (omega arith) (c.key.invariant.0 ∙ ap key_expansion c.key.view_is) c.loop-n.invariant.third c.last_round-3.ensures
