@@ -1,5 +1,7 @@
 pub mod Pieces
 pub mod Overs
+pub mod PiecesTold
 pub mod LinesSoFar
 pub mod Progressing
 pub mod WordsTaken
+pub mod Spending

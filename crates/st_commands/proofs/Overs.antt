@@ -1,5 +1,5 @@
 -- Drafts over the inboxes that stand.
-use Rattle.std.proofs.Common.{◌≡◌, ◌<◌, ℕ, zero, suc, ◌+◌, List, [], ◌∷◌, length, get_or, set, Option, Some, None, inl, inr, refl, sym, ap, ◌∙◌, arith}
+use Rattle.std.proofs.Common.{◌≡◌, ◌<◌, ◌≤◌, ℕ, zero, suc, ◌+◌, List, [], ◌∷◌, length, replicate, get_or, set, Option, Some, None, inl, inr, refl, sym, ap, ◌∙◌, arith}
 use Rattle.std.specs.Prelude.{true, Result, Ok, Err, ◌-◌}
 use Rattle.std.specs.Option.{option_or, unwrap_or}
 use Rattle.std.proofs.lemmas.List.{set-set, get_or-replicate, length-replicate, get_or-set_same, get_or-set_other}
@@ -93,3 +93,7 @@ over-fresh ds xs ss fresh same n = rw (fresh, ← same) (over-opening xs n)
 
 pub length-opening : length opening ≡ 64
 length-opening = length-replicate {A = Option Held} 64 None
+
+-- so many streams that were not named are all
+pub counted_none : (xs : Inboxes) (n : ℕ) → 64 ≤ n → n ≤ 64 → xs ≡ replicate n None → xs ≡ opening
+counted_none xs n l m e = e ∙ ap (λ k. replicate {A = Option Held} k None) (let all : n ≡ 64 = omega arith in all)

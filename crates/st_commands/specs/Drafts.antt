@@ -1,11 +1,19 @@
--- Inboxes that a packet changes, beside those that stand.
-use Rattle.std.specs.Prelude.{◌≡◌, ◌⊎◌, [], ◌∷◌, Result, Err, IsOk}
+-- The pieces that a packet brings, and the inboxes that it changes, beside those that stand.
+use Rattle.std.specs.Prelude.{◌≡◌, ◌⊎◌, ℕ, List, [], ◌∷◌, Result, Ok, Err, IsOk}
 use Rattle.std.specs.Option.{option_or}
-use Rattle.st_frames.specs.Frames.{Packet}
+use Rattle.st_frames.specs.Frames.{Known, Packet}
 use Rattle.st_reassembly.specs.declared.error.InboxError.TheVariants as inbox
 use Rattle.st_commands.specs.declared.error.LineError.{LineError}
 use Rattle.st_commands.specs.declared.error.LineError.TheVariants as line
-use Rattle.st_commands.specs.Inboxes.{Inboxes, after_packet}
+use Rattle.st_commands.specs.declared.streams.Pieces.{Pieces}
+use Rattle.st_commands.specs.declared.streams.Pieces.TheVariants.{None, One, Several}
+use Rattle.st_commands.specs.Inboxes.{Inboxes, after_frames, after_packet, after_piece, frames_from}
+
+-- all of these frames do to inboxes what the pieces do, and then the rest; nothing is said where there are several
+abbrev pub StandFor : Pieces → List (ℕ × Known) → List (ℕ × Known) → Type 0
+StandFor None rest all = (s : Inboxes) → after_frames s all ≡ frames_from (Ok s) rest
+StandFor (One stream offset bytes) rest all = (s : Inboxes) → after_frames s all ≡ frames_from (after_piece s stream offset bytes.now) rest
+StandFor Several rest all = Unit {0}
 
 -- the drafts, and what stands where there is no draft
 abbrev pub over : Inboxes → Inboxes → Inboxes

@@ -1,8 +1,11 @@
 -- How a run ended, and what was written by then.
-use Rattle.std.specs.Prelude.{◌≡◌, ◌⊎◌, ℕ, ◌≤◌, Bool, true, false, List, take, Option, IfSome, ⊤}
+use Rattle.std.specs.Prelude.{◌≡◌, ◌⊎◌, ℕ, ◌+◌, ◌-◌, ◌^◌, ◌≤◌, Bool, true, false, List, take, Option, Some, None, Result, Ok, Err, IfSome}
 use Rattle.std.specs.Io.KnownBytes.{Appends}
 use Rattle.clap.specs.Words.{Kinds}
-use Rattle.st_oer.specs.Faults.{Rose}
+use Rattle.st_oer.specs.Faults.{count_after}
+use Rattle.st_oer.specs.Tallies.{device_of, tally_of}
+use Rattle.st_oer.specs.declared.counted.Counting.{Counting}
+use Rattle.st_oer.specs.declared.tally.Tally.{Tally}
 use Rattle.st_commands.specs.declared.error.Fault.{Fault}
 use Rattle.st_commands.specs.declared.error.Fault.TheVariants as fault
 use Rattle.st_commands.specs.declared.frames.Lines.{Lines}
@@ -28,33 +31,76 @@ WritesPart text before now = (sent : ℕ) × Appends before now (take sent text)
 abbrev pub BeginsAnswer : List ℕ → Option (List ℕ) → Option (List ℕ) → Type 0
 BeginsAnswer input before now = (text : List ℕ) × (any : Bool) × IsAnswer input text any × WritesPart text before now
 
--- a fault of the reader or the writer is counted there: these are the reader's counts at the start and now, and the writer's
-abbrev pub IsCounted : ℕ → ℕ → ℕ → ℕ → Fault → Type 0
-IsCounted r s w v fault.Input = Rose r s
-IsCounted r s w v fault.Output = Rose w v
-IsCounted r s w v fault.Turns = ⊤
-IsCounted r s w v fault.NoMemory = ⊤
+-- the fault with which a call ended, if it did
+abbrev pub fault_of : {T : Type 0} → Result T Fault → Option Fault
+fault_of (Ok x) = None
+fault_of (Err e) = Some e
 
--- the status of a fault, of which the first bytes of its line were written, all of them or fewer
-abbrev pub TellsFault : Fault → Option (List ℕ) → Option (List ℕ) → ℕ → Type 0
-TellsFault f before now status = (status ≡ 1) × WritesPart (fault_text (fault_number f)) before now
+-- the reader's count of errors after a call that ended with this fault or none: one more at a fault of the input alone
+abbrev pub reader_faults : Option Fault → ℕ → ℕ
+reader_faults None count = count
+reader_faults (Some fault.Input) count = count_after 1 count
+reader_faults (Some fault.Output) count = count
+reader_faults (Some fault.Turns) count = count
+reader_faults (Some fault.NoMemory) count = count
+
+-- the writer's: one more at a fault of the output alone
+abbrev pub writer_faults : Option Fault → ℕ → ℕ
+writer_faults None count = count
+writer_faults (Some fault.Input) count = count
+writer_faults (Some fault.Output) count = count_after 1 count
+writer_faults (Some fault.Turns) count = count
+writer_faults (Some fault.NoMemory) count = count
+
+-- each call of the reader, r before and s now, and of the writer, w before and v now, took one turn, and turns were taken by
+-- calls alone
+abbrev pub SpendsTurns : Tally → Tally → Tally → Tally → ℕ → ℕ → Type 0
+SpendsTurns r s w v before after = (reads : ℕ) × (writes : ℕ) × (before ≡ after + reads + writes) × (s.calls ≡ count_after reads r.calls) × (v.calls ≡ count_after writes w.calls)
+
+-- where nothing waited for a flush before, nothing does now
+abbrev pub StaysFlushed : Tally → Tally → Type 0
+StaysFlushed w v = w.flushed ≡ true → v.flushed ≡ true
+
+-- how many calls of its reader and its writer a run makes at most, and then of its writer for errors
+abbrev pub most_turns : ℕ
+most_turns = 2 ^ 31 - 1
+
+-- how a run ended, with this fault or none: what its reader, r before and s now, and its writer, w before and v now, counted
+pub record HasEnded (r s w v : Tally) (end : Option Fault) : Type 0 where
+  pub reader : s.faults ≡ reader_faults end r.faults
+  pub writer : v.faults ≡ writer_faults end w.faults
+  pub left : ℕ
+  pub turns : SpendsTurns r s w v most_turns left
+  pub used_up : end ≡ Some fault.Turns → left ≡ 0
+  pub flushed : end ≡ None → StaysFlushed w v
+
+-- a text was written whole and flushed, to the writer that was e before and is f now; or the first bytes of it, all of them
+-- or fewer, and the writer counted an error or was called as often as a run may
+abbrev pub Says : {E : Type 0} → List ℕ → (E → Option (List ℕ)) → Counting E → Counting E → Type 0
+Says text said e f = (Appends (said (device_of e)) (said (device_of f)) text × StaysFlushed (tally_of e) (tally_of f))
+    ⊎ (WritesPart text (said (device_of e)) (said (device_of f))
+    × (((tally_of f).faults ≡ count_after 1 (tally_of e).faults) ⊎ ((tally_of f).calls ≡ count_after most_turns (tally_of e).calls)))
+
+-- the status of a fault, of which the line was said
+abbrev pub TellsFault : {E : Type 0} → Fault → (E → Option (List ℕ)) → Counting E → Counting E → ℕ → Type 0
+TellsFault x said e f status = (status ≡ 1) × Says (fault_text (fault_number x)) said e f
 
 -- no memory for the words: nothing was written but the fault
-abbrev pub LacksMemory : {W : Type 0} → W → W → Option (List ℕ) → Option (List ℕ) → ℕ → Type 0
-LacksMemory w v before now status = (v ≡ w) × TellsFault fault.NoMemory before now status
+abbrev pub LacksMemory : {W E : Type 0} → W → W → (E → Option (List ℕ)) → Counting E → Counting E → ℕ → Type 0
+LacksMemory w v said e f status = (v ≡ w) × TellsFault fault.NoMemory said e f status
 
 -- a run over all lines: e and f are the writer for errors at the start and now
-pub record RunsFrames {E : Type 0} (input before now : Option (List ℕ)) (counted : Fault → Type 0) (told : E → Option (List ℕ)) (e f : E) (status : ℕ) : Type 0 where
-  pub taken : status ≡ 0 → (f ≡ e) × IfSome input (λ bytes. WritesAnswer bytes false before now)
-  pub refused : status ≡ 1 → ((f ≡ e) × IfSome input (λ bytes. WritesAnswer bytes true before now))
-      ⊎ ((x : Fault) × counted x × TellsFault x (told e) (told f) status)
+pub record RunsFrames {E : Type 0} (input before now : Option (List ℕ)) (ended : Option Fault → Type 0) (said : E → Option (List ℕ)) (e f : Counting E) (status : ℕ) : Type 0 where
+  pub taken : status ≡ 0 → (f ≡ e) × ended None × IfSome input (λ bytes. WritesAnswer bytes false before now)
+  pub refused : status ≡ 1 → ((f ≡ e) × ended None × IfSome input (λ bytes. WritesAnswer bytes true before now))
+      ⊎ ((x : Fault) × ended (Some x) × TellsFault x said e f status)
   pub part : IfSome input (λ bytes. BeginsAnswer bytes before now)
   pub bound : status ≤ 1
 
 -- clap's answer was told: a mistake in the words to the writer for errors, e at the start and f now, help or the version
 -- to the other, w and v
-abbrev pub TellsAnswer : {W E : Type 0} → Kinds → (Fault → Type 0) → (E → Option (List ℕ)) → W → W → E → E → ℕ → Type 0
-TellsAnswer kinds counted told w v e f status = ((status ≡ 2) × MayRefuse kinds × (v ≡ w))
-    ⊎ ((status ≡ 0) × MayShow kinds × (f ≡ e))
-    ⊎ (MayShow kinds × ((x : Fault) × counted x × TellsFault x (told e) (told f) status))
-    ⊎ LacksMemory w v (told e) (told f) status
+abbrev pub TellsAnswer : {W E : Type 0} → Kinds → (Option Fault → Type 0) → (E → Option (List ℕ)) → W → W → Counting E → Counting E → ℕ → Type 0
+TellsAnswer kinds ended said w v e f status = ((status ≡ 2) × MayRefuse kinds × (v ≡ w))
+    ⊎ ((status ≡ 0) × MayShow kinds × ended None × (f ≡ e))
+    ⊎ (MayShow kinds × ((x : Fault) × ended (Some x) × TellsFault x said e f status))
+    ⊎ LacksMemory w v said e f status

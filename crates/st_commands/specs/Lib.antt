@@ -7,3 +7,4 @@ pub mod LineSoFar
 pub mod Progress
 pub mod Words
 pub mod Endings
+pub mod Process

@@ -2,10 +2,11 @@
 
 ghost use Rattle.std.specs.Prelude.{◌≡◌, ◌≢◌, ◌⊎◌, ◌||◌, true, false, is_some, take, ◌+◌, ◌^◌, ◌<◌, ◌≤◌, ◌++◌, ◌∷◌, [], ℕ, List, Option, OnOk, OnErr, IfOk, IfErr, IfSome, length, slice_index_or, slice_set, None};
 ghost use Rattle.std.specs.Io.KnownBytes.{Appends};
-ghost use Rattle.st_oer.specs.Faults.{Rose};
+ghost use Rattle.st_oer.specs.Faults.{count_after};
+ghost use Rattle.st_oer.specs.Tallies.{TakesTurns, device_of, tally_of};
 ghost use Rattle.st_frames.specs.Reading.{packet_at};
 ghost use Rattle.st_commands.specs.Answers.{IsAnswer, by_packet, prepare};
-ghost use Rattle.st_commands.specs.Endings.{has_refusal, BeginsAnswer, IsCounted, RunsFrames, TellsFault, WritesAnswer, WritesPart};
+ghost use Rattle.st_commands.specs.Endings.{has_refusal, fault_of, reader_faults, writer_faults, BeginsAnswer, HasEnded, RunsFrames, Says, SpendsTurns, StaysFlushed, TellsFault, WritesAnswer, WritesPart};
 ghost use Rattle.st_commands.specs.Inboxes.{run_line, runs_text};
 ghost use Rattle.st_commands.specs.LineSoFar.{StandsFor, no_line, text_of_line};
 ghost use Rattle.st_commands.specs.Progress.{at_start, told, HasPacketEffect, HasEffect, AnswersLine, AnswersPiece, MayBegin, MayFollow, Covers, CoversLines, AfterTurn};
@@ -15,13 +16,13 @@ use crate::line::{LineEnd, LineSoFar};
 use crate::output::put;
 use crate::streams::Streams;
 use crate::texts::{fault_line, refused_line, stream_line};
-use st_oer::{Counted, Turn, read_turn};
+use st_oer::{CountRead, CountWrite, ReadTurn, read_turn};
 use std::alloc::{AllocError, Allocator};
 use std::io::{Read, Write};
 use std::marker::Model;
 
-/// How many calls of its devices a run makes at most.
-pub const TURNS: u32 = 2_147_483_647;
+/// How many calls of its reader and its writer a run makes at most, and then of its writer for errors.
+pub const TURNS: u64 = 2_147_483_647;
 
 /// How many bytes are asked for at once.
 const PIECE: usize = 4096;
@@ -178,46 +179,40 @@ impl<A: Allocator + Copy> Reader<A> {
     }
 }
 
-/// What the devices' counts of errors were when the run began.
-#[derive(Clone, Copy)]
-struct Since {
-    reader: u64,
-    writer: u64,
-}
-
 /// One read, and what it makes known written. Whether that was the end.
-fn turn<A: Allocator + Copy, R: Read + Counted, W: Write + Counted>(
+fn turn<A: Allocator + Copy, R: Read, W: Write>(
     lines: &mut Reader<A>,
-    reader: &mut R,
-    writer: &mut W,
-    since: Since,
+    reader: &mut CountRead<R>,
+    writer: &mut CountWrite<W>,
     turns: &mut u64,
 ) -> Result<bool, Fault>
     requires { lines.old.index + lines.old.line.count < 2 ^ 63 }
-    ensures covers { (input before : Option (List ℕ)) → Covers input (R.remaining reader.old) before (W.contents writer.old) lines.old
-        → IfOk result (λ is_end. AfterTurn is_end input (R.remaining reader.new) before (W.contents writer.new) lines.new) }
-    ensures part { (input before : Option (List ℕ)) → Covers input (R.remaining reader.old) before (W.contents writer.old) lines.old
-        → OnErr result (IfSome input (λ bytes. BeginsAnswer bytes before (W.contents writer.new))) }
+    ensures covers { (input before : Option (List ℕ)) → Covers input (R.remaining (device_of reader.old)) before (W.contents (device_of writer.old)) lines.old
+        → IfOk result (λ is_end. AfterTurn is_end input (R.remaining (device_of reader.new)) before (W.contents (device_of writer.new)) lines.new) }
+    ensures part { (input before : Option (List ℕ)) → Covers input (R.remaining (device_of reader.old)) before (W.contents (device_of writer.old)) lines.old
+        → OnErr result (IfSome input (λ bytes. BeginsAnswer bytes before (W.contents (device_of writer.new)))) }
     ensures bounded { IfOk result (λ is_end. (is_end ≡ false) → lines.new.index + lines.new.line.count ≤ lines.old.index + lines.old.line.count + 4096) }
-    ensures input { IfErr result (λ e. (e ≡ Fault.Input) → Rose since.reader (R.fault_count reader.new)) }
-    ensures output { IfErr result (λ e. (e ≡ Fault.Output) → Rose since.writer (W.fault_count writer.new)) }
+    ensures reader_faults { (tally_of reader.new).faults ≡ reader_faults (fault_of result) (tally_of reader.old).faults }
+    ensures writer_faults { (tally_of writer.new).faults ≡ writer_faults (fault_of result) (tally_of writer.old).faults }
+    ensures flushed { OnOk result (StaysFlushed (tally_of writer.old) (tally_of writer.new)) }
     ensures out_of_turns { IfErr result (λ e. (e ≡ Fault.Turns) → turns.new ≡ 0) }
-    ensures turns { turns.new ≤ turns.old }
+    ensures reads { (tally_of reader.new).calls ≡ count_after 1 (tally_of reader.old).calls }
+    ensures turns { TakesTurns (tally_of writer.old) (tally_of writer.new) turns.old turns.new }
 {
     let mut buf = [0; PIECE];
     let mut out = Vec::new(lines.alloc);
-    match read_turn(reader, &mut buf, since.reader) {
-        Turn::Again => Ok(false),
-        Turn::Fault => Err(Fault::Input),
-        Turn::Moved(0) => {
+    match read_turn(reader, &mut buf) {
+        ReadTurn::Again => Ok(false),
+        ReadTurn::Fault => Err(Fault::Input),
+        ReadTurn::End => {
             let finished = lines.finish(&mut out);
-            put(writer, &out, since.writer, turns)?;
+            put(writer, &out, turns)?;
             finished?;
             Ok(true)
         }
-        Turn::Moved(n) => {
+        ReadTurn::Bytes(n) => {
             let fed = lines.feed(&mut out, &buf[..n]);
-            put(writer, &out, since.writer, turns)?;
+            put(writer, &out, turns)?;
             fed?;
             Ok(false)
         }
@@ -225,25 +220,25 @@ fn turn<A: Allocator + Copy, R: Read + Counted, W: Write + Counted>(
 }
 
 /// Reads the input to its end, and answers its lines.
-fn answer_lines<A: Allocator + Copy, R: Read + Counted, W: Write + Counted>(
+fn answer_lines<A: Allocator + Copy, R: Read, W: Write>(
     lines: &mut Reader<A>,
-    reader: &mut R,
-    writer: &mut W,
-    since: Since,
+    reader: &mut CountRead<R>,
+    writer: &mut CountWrite<W>,
     turns: &mut u64,
 ) -> Result<(), Fault>
     requires start { lines.old ≡ at_start }
-    requires turns { turns.old < 2 ^ 32 }
-    ensures covers { OnOk result (CoversLines (R.remaining reader.old) (W.contents writer.old) (W.contents writer.new) lines.new) }
-    ensures part { OnErr result (IfSome (R.remaining reader.old) (λ input. BeginsAnswer input (W.contents writer.old) (W.contents writer.new))) }
-    ensures input { IfErr result (λ e. (e ≡ Fault.Input) → Rose since.reader (R.fault_count reader.new)) }
-    ensures output { IfErr result (λ e. (e ≡ Fault.Output) → Rose since.writer (W.fault_count writer.new)) }
+    requires budget { turns.old < 2 ^ 32 }
+    ensures covers { OnOk result (CoversLines (R.remaining (device_of reader.old)) (W.contents (device_of writer.old)) (W.contents (device_of writer.new)) lines.new) }
+    ensures part { OnErr result (IfSome (R.remaining (device_of reader.old)) (λ input. BeginsAnswer input (W.contents (device_of writer.old)) (W.contents (device_of writer.new)))) }
+    ensures reader_faults { (tally_of reader.new).faults ≡ reader_faults (fault_of result) (tally_of reader.old).faults }
+    ensures writer_faults { (tally_of writer.new).faults ≡ writer_faults (fault_of result) (tally_of writer.old).faults }
+    ensures flushed { OnOk result (StaysFlushed (tally_of writer.old) (tally_of writer.new)) }
     ensures out_of_turns { IfErr result (λ e. (e ≡ Fault.Turns) → turns.new ≡ 0) }
-    ensures turns { turns.new ≤ turns.old }
+    ensures turns { SpendsTurns (tally_of reader.old) (tally_of reader.new) (tally_of writer.old) (tally_of writer.new) turns.old turns.new }
 {
     while *turns > 0 {
         *turns -= 1;
-        if turn(lines, reader, writer, since, turns)? {
+        if turn(lines, reader, writer, turns)? {
             return Ok(());
         }
     }
@@ -251,48 +246,48 @@ fn answer_lines<A: Allocator + Copy, R: Read + Counted, W: Write + Counted>(
 }
 
 /// Writes the run of the stream at a place, where it was named.
-fn put_run<A: Allocator + Copy, W: Write + Counted>(
+fn put_run<A: Allocator + Copy, W: Write>(
     alloc: A,
     streams: &mut Streams<A>,
     place: usize,
-    writer: &mut W,
-    since: u64,
+    writer: &mut CountWrite<W>,
     turns: &mut u64,
 ) -> Result<(), Fault>
     requires { place < 64 }
     ensures others { streams.new ≡ slice_set streams.old place None }
     ensures no_input { result ≢ Err Fault.Input }
-    ensures output { IfErr result (λ e. (e ≡ Fault.Output) → Rose since (W.fault_count writer.new)) }
+    ensures faults { (tally_of writer.new).faults ≡ writer_faults (fault_of result) (tally_of writer.old).faults }
+    ensures flushed { OnOk result (StaysFlushed (tally_of writer.old) (tally_of writer.new)) }
     ensures out_of_turns { IfErr result (λ e. (e ≡ Fault.Turns) → turns.new ≡ 0) }
-    ensures turns { turns.new ≤ turns.old }
-    ensures whole { OnOk result (Appends (W.contents writer.old) (W.contents writer.new) (run_line (place + 1) (slice_index_or streams.old place None))) }
-    ensures part { WritesPart (run_line (place + 1) (slice_index_or streams.old place None)) (W.contents writer.old) (W.contents writer.new) }
+    ensures turns { TakesTurns (tally_of writer.old) (tally_of writer.new) turns.old turns.new }
+    ensures whole { OnOk result (Appends (W.contents (device_of writer.old)) (W.contents (device_of writer.new)) (run_line (place + 1) (slice_index_or streams.old place None))) }
+    ensures part { WritesPart (run_line (place + 1) (slice_index_or streams.old place None)) (W.contents (device_of writer.old)) (W.contents (device_of writer.new)) }
 {
     if let Some(bytes) = streams.take_run(place)? {
         let text = stream_line(alloc, place + 1, &bytes)?;
-        put(writer, text.as_bytes(), since, turns)?;
+        put(writer, text.as_bytes(), turns)?;
     }
     Ok(())
 }
 
 /// Writes each named stream's run, in the order of the streams.
-fn put_runs<A: Allocator + Copy, W: Write + Counted>(
+fn put_runs<A: Allocator + Copy, W: Write>(
     alloc: A,
     streams: Streams<A>,
-    writer: &mut W,
-    since: u64,
+    writer: &mut CountWrite<W>,
     turns: &mut u64,
 ) -> Result<(), Fault>
     ensures no_input { result ≢ Err Fault.Input }
-    ensures output { IfErr result (λ e. (e ≡ Fault.Output) → Rose since (W.fault_count writer.new)) }
+    ensures faults { (tally_of writer.new).faults ≡ writer_faults (fault_of result) (tally_of writer.old).faults }
+    ensures flushed { OnOk result (StaysFlushed (tally_of writer.old) (tally_of writer.new)) }
     ensures out_of_turns { IfErr result (λ e. (e ≡ Fault.Turns) → turns.new ≡ 0) }
-    ensures turns { turns.new ≤ turns.old }
-    ensures whole { OnOk result (Appends (W.contents writer.old) (W.contents writer.new) (runs_text streams)) }
-    ensures part { WritesPart (runs_text streams) (W.contents writer.old) (W.contents writer.new) }
+    ensures turns { TakesTurns (tally_of writer.old) (tally_of writer.new) turns.old turns.new }
+    ensures whole { OnOk result (Appends (W.contents (device_of writer.old)) (W.contents (device_of writer.new)) (runs_text streams)) }
+    ensures part { WritesPart (runs_text streams) (W.contents (device_of writer.old)) (W.contents (device_of writer.new)) }
 {
     let mut streams = streams;
     for place in 0..streams.count() {
-        put_run(alloc, &mut streams, place, writer, since, turns)?;
+        put_run(alloc, &mut streams, place, writer, turns)?;
     }
     Ok(())
 }
@@ -302,63 +297,67 @@ fn put_runs<A: Allocator + Copy, W: Write + Counted>(
 /// longest run written. Empty lines are skipped. Each call of a device takes one of `turns`, of which there are fewer
 /// than 2^32.
 ///
-/// At a fault what was written is the beginning of such an answer. A fault of the reader or the writer is told only where
-/// its count of errors rose since this call began, and that of the turns only where none is left.
-pub fn answer_frames<A: Allocator + Copy, R: Read + Counted, W: Write + Counted>(
+/// At a fault what was written is the beginning of such an answer. A fault of the reader or the writer is told exactly
+/// where it counted an error in this call, and that of the turns only where none is left.
+pub fn answer_frames<A: Allocator + Copy, R: Read, W: Write>(
     alloc: A,
-    reader: &mut R,
-    writer: &mut W,
+    reader: &mut CountRead<R>,
+    writer: &mut CountWrite<W>,
     turns: &mut u64,
 ) -> Result<Lines, Fault>
     requires { turns.old < 2 ^ 32 }
-    ensures answered { IfOk result (λ lines. IfSome (R.remaining reader.old) (λ input.
-        WritesAnswer input (has_refusal lines) (W.contents writer.old) (W.contents writer.new))) }
-    ensures part { IfSome (R.remaining reader.old) (λ input. BeginsAnswer input (W.contents writer.old) (W.contents writer.new)) }
-    ensures input { IfErr result (λ e. (e ≡ Fault.Input) → Rose (R.fault_count reader.old) (R.fault_count reader.new)) }
-    ensures output { IfErr result (λ e. (e ≡ Fault.Output) → Rose (W.fault_count writer.old) (W.fault_count writer.new)) }
+    ensures answered { IfOk result (λ lines. IfSome (R.remaining (device_of reader.old)) (λ input.
+        WritesAnswer input (has_refusal lines) (W.contents (device_of writer.old)) (W.contents (device_of writer.new)))) }
+    ensures part { IfSome (R.remaining (device_of reader.old)) (λ input. BeginsAnswer input (W.contents (device_of writer.old)) (W.contents (device_of writer.new))) }
+    ensures reader_faults { (tally_of reader.new).faults ≡ reader_faults (fault_of result) (tally_of reader.old).faults }
+    ensures writer_faults { (tally_of writer.new).faults ≡ writer_faults (fault_of result) (tally_of writer.old).faults }
+    ensures flushed { OnOk result (StaysFlushed (tally_of writer.old) (tally_of writer.new)) }
     ensures out_of_turns { IfErr result (λ e. (e ≡ Fault.Turns) → turns.new ≡ 0) }
-    ensures turns { turns.new ≤ turns.old }
+    ensures turns { SpendsTurns (tally_of reader.old) (tally_of reader.new) (tally_of writer.old) (tally_of writer.new) turns.old turns.new }
 {
-    let since = Since {
-        reader: reader.faults(),
-        writer: writer.faults(),
-    };
     let mut lines = Reader::new(alloc)?;
-    answer_lines(&mut lines, reader, writer, since, turns)?;
+    answer_lines(&mut lines, reader, writer, turns)?;
     let Reader {
         streams,
         refused,
         ..
     } = lines;
-    put_runs(alloc, streams, writer, since.writer, turns)?;
+    put_runs(alloc, streams, writer, turns)?;
     if refused {
         return Ok(Lines::SomeRefused);
     }
     Ok(Lines::AllTaken)
 }
 
-/// Tells a fault, as far as the writer takes it. The status of a fault.
-pub(crate) fn tell_fault<E: Write + Counted>(errors: &mut E, fault: Fault) -> u8
-    ensures { TellsFault fault (E.contents errors.old) (E.contents errors.new) result }
+/// Writes a text, as far as the writer takes it.
+pub(crate) fn say<E: Write>(errors: &mut CountWrite<E>, text: &str)
+    ensures { Says text.now E.contents errors.old errors.new }
 {
-    let since = errors.faults();
-    let mut turns = u64::from(TURNS);
-    let _ = put(errors, fault_line(fault).as_bytes(), since, &mut turns);
+    let mut turns = TURNS;
+    let _ = put(errors, text.as_bytes(), &mut turns);
+}
+
+/// Tells a fault, as far as the writer takes it. The status of a fault.
+pub(crate) fn tell_fault<E: Write>(errors: &mut CountWrite<E>, fault: Fault) -> u8
+    ensures { TellsFault fault E.contents errors.old errors.new result }
+{
+    say(errors, fault_line(fault));
     1
 }
 
-/// The command `frames`. Its status is 0 where every line was taken, else 1; a fault is told to `errors` by its number.
-pub fn run_frames<A: Allocator + Copy, R: Read + Counted, W: Write + Counted, E: Write + Counted>(
+/// The command `frames`. Its status is 0 where every line was taken, else 1; a fault is told to `errors` by its number. It
+/// makes at most 2^31 - 1 calls of the reader and the writer, and tells the fault of the turns where it made all of these.
+pub fn run_frames<A: Allocator + Copy, R: Read, W: Write, E: Write>(
     alloc: A,
-    reader: &mut R,
-    writer: &mut W,
-    errors: &mut E,
+    reader: &mut CountRead<R>,
+    writer: &mut CountWrite<W>,
+    errors: &mut CountWrite<E>,
 ) -> u8
-    ensures { RunsFrames (R.remaining reader.old) (W.contents writer.old) (W.contents writer.new)
-        (IsCounted (R.fault_count reader.old) (R.fault_count reader.new) (W.fault_count writer.old) (W.fault_count writer.new))
+    ensures { RunsFrames (R.remaining (device_of reader.old)) (W.contents (device_of writer.old)) (W.contents (device_of writer.new))
+        (HasEnded (tally_of reader.old) (tally_of reader.new) (tally_of writer.old) (tally_of writer.new))
         E.contents errors.old errors.new result }
 {
-    let mut turns = u64::from(TURNS);
+    let mut turns = TURNS;
     match answer_frames(alloc, reader, writer, &mut turns) {
         Ok(Lines::AllTaken) => 0,
         Ok(Lines::SomeRefused) => 1,

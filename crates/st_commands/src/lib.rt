@@ -10,6 +10,7 @@ mod error;
 mod frames;
 mod line;
 mod output;
+mod process;
 mod program;
 mod streams;
 mod texts;
@@ -17,4 +18,5 @@ mod words;
 
 pub use error::{Fault, LineError};
 pub use frames::{Lines, answer_frames, run_frames};
+pub use process::{ilpstream, start};
 pub use program::run;

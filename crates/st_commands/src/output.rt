@@ -1,53 +1,51 @@
-//! Writing to a writer that counts its errors.
+//! Writing to a writer that counts its calls and its errors.
 
-ghost use Rattle.std.specs.Prelude.{◌≡◌, ◌≤◌, ◌⊎◌, ℕ, take, IfErr, OnOk};
+ghost use Rattle.std.specs.Prelude.{◌≡◌, ◌≢◌, Err, IfErr, OnOk, true};
 ghost use Rattle.std.specs.Io.KnownBytes.{Appends, Keeps};
-ghost use Rattle.st_oer.specs.Faults.{Rose};
-ghost use Rattle.st_commands.specs.Endings.{WritesPart};
+ghost use Rattle.st_oer.specs.Tallies.{TakesTurns, device_of, tally_of};
+ghost use Rattle.st_commands.specs.Endings.{StaysFlushed, WritesPart, fault_of, writer_faults};
 
 use crate::error::Fault;
-use st_oer::{Counted, PutError, Turn, flush_turn, put_all};
+use st_oer::{CountWrite, FlushTurn, PutError, flush_turn, put_all};
 use std::io::Write;
 
-/// Flushes, in at most so many turns. `since` is what the writer's count of errors was when the caller began.
-fn flush<W: Write + Counted>(writer: &mut W, since: u64, turns: &mut u64) -> Result<(), Fault>
-    ensures bytes { Keeps (W.contents writer.old) (W.contents writer.new) }
-    ensures turns { turns.new ≤ turns.old }
-    ensures output { IfErr result (λ e. (e ≡ Fault.Output) → Rose since (W.fault_count writer.new)) }
+/// Flushes, in at most so many turns.
+fn flush<W: Write>(writer: &mut CountWrite<W>, turns: &mut u64) -> Result<(), Fault>
+    ensures bytes { Keeps (W.contents (device_of writer.old)) (W.contents (device_of writer.new)) }
+    ensures turns { TakesTurns (tally_of writer.old) (tally_of writer.new) turns.old turns.new }
+    ensures faults { (tally_of writer.new).faults ≡ writer_faults (fault_of result) (tally_of writer.old).faults }
+    ensures flushed { OnOk result ((tally_of writer.new).flushed ≡ true) }
     ensures out_of_turns { IfErr result (λ e. (e ≡ Fault.Turns) → turns.new ≡ 0) }
-    ensures no_other { IfErr result (λ e. (e ≡ Fault.Output) ⊎ (e ≡ Fault.Turns)) }
+    ensures no_input { result ≢ Err Fault.Input }
+    ensures no_memory { result ≢ Err Fault.NoMemory }
 {
     while *turns > 0 {
         *turns -= 1;
-        match flush_turn(writer, since) {
-            Turn::Moved(_) => return Ok(()),
-            Turn::Again => {}
-            Turn::Fault => return Err(Fault::Output),
+        match flush_turn(writer) {
+            FlushTurn::Done => return Ok(()),
+            FlushTurn::Again => {}
+            FlushTurn::Fault => return Err(Fault::Output),
         }
     }
     Err(Fault::Turns)
 }
 
-/// Writes a text whole and flushes, in at most so many turns. `since` is what the writer's count of errors was when the
-/// caller began.
-pub fn put<W: Write + Counted>(
-    writer: &mut W,
-    text: &[u8],
-    since: u64,
-    turns: &mut u64,
-) -> Result<(), Fault>
-    ensures whole { OnOk result (Appends (W.contents writer.old) (W.contents writer.new) text.now) }
-    ensures part { WritesPart text.now (W.contents writer.old) (W.contents writer.new) }
-    ensures turns { turns.new ≤ turns.old }
-    ensures output { IfErr result (λ e. (e ≡ Fault.Output) → Rose since (W.fault_count writer.new)) }
+/// Writes a text whole and flushes, in at most so many turns. Each call of the writer takes one of them.
+pub fn put<W: Write>(writer: &mut CountWrite<W>, text: &[u8], turns: &mut u64) -> Result<(), Fault>
+    ensures whole { OnOk result (Appends (W.contents (device_of writer.old)) (W.contents (device_of writer.new)) text.now) }
+    ensures part { WritesPart text.now (W.contents (device_of writer.old)) (W.contents (device_of writer.new)) }
+    ensures turns { TakesTurns (tally_of writer.old) (tally_of writer.new) turns.old turns.new }
+    ensures faults { (tally_of writer.new).faults ≡ writer_faults (fault_of result) (tally_of writer.old).faults }
+    ensures flushed { OnOk result (StaysFlushed (tally_of writer.old) (tally_of writer.new)) }
     ensures out_of_turns { IfErr result (λ e. (e ≡ Fault.Turns) → turns.new ≡ 0) }
-    ensures no_other { IfErr result (λ e. (e ≡ Fault.Output) ⊎ (e ≡ Fault.Turns)) }
+    ensures no_input { result ≢ Err Fault.Input }
+    ensures no_memory { result ≢ Err Fault.NoMemory }
 {
     if text.is_empty() {
         return Ok(());
     }
-    match put_all(writer, text, since, turns) {
-        Ok(()) => flush(writer, since, turns),
+    match put_all(writer, text, turns) {
+        Ok(()) => flush(writer, turns),
         Err(PutError::Fault(_)) => Err(Fault::Output),
         Err(PutError::Turns(_)) => Err(Fault::Turns),
     }

@@ -1,66 +1,64 @@
 //! The program, over its words and its three streams.
 
-ghost use Rattle.std.specs.Prelude.{◌≡◌, ◌≤◌, ◌⊎◌, ℕ, map};
+ghost use Rattle.std.specs.Prelude.{◌≡◌, ◌≤◌, ◌⊎◌, map, None, Some};
+ghost use Rattle.st_oer.specs.Tallies.{device_of, tally_of};
 ghost use Rattle.clap.specs.Words.{HasKind, Kinds, kind_of};
-ghost use Rattle.st_commands.specs.Endings.{IsCounted, LacksMemory, RunsFrames, TellsAnswer, TellsFault};
+ghost use Rattle.st_commands.specs.Endings.{HasEnded, LacksMemory, RunsFrames, TellsAnswer, TellsFault};
 ghost use Rattle.st_commands.specs.Words.{AsksFrames, AsksToShow, after_name, refusals};
 
 use crate::error::Fault;
-use crate::frames::{TURNS, run_frames, tell_fault};
+use crate::frames::{TURNS, run_frames, say, tell_fault};
 use crate::output::put;
 use crate::words::{Request, read};
 use clap::Error;
 use clap::error::ErrorKind;
-use st_oer::Counted;
+use st_oer::{CountRead, CountWrite, Tally};
 use std::alloc::Global;
 use std::convert::AsStr;
 use std::io::{Read, Write};
 
 /// Writes help or the version. Status 0, or that of a fault.
-fn show<W: Write + Counted, E: Write + Counted>(
+fn show<W: Write, E: Write>(
     alloc: Global,
-    writer: &mut W,
-    errors: &mut E,
+    writer: &mut CountWrite<W>,
+    errors: &mut CountWrite<E>,
     error: &Error,
 ) -> u8
-    ensures { (r s : ℕ) → ((result ≡ 0) × (errors.new ≡ errors.old))
-        ⊎ ((x : Fault) × IsCounted r s (W.fault_count writer.old) (W.fault_count writer.new) x × TellsFault x (E.contents errors.old) (E.contents errors.new) result)
-        ⊎ LacksMemory writer.old writer.new (E.contents errors.old) (E.contents errors.new) result }
+    ensures { (r : Tally) → ((result ≡ 0) × HasEnded r r (tally_of writer.old) (tally_of writer.new) None × (errors.new ≡ errors.old))
+        ⊎ ((x : Fault) × HasEnded r r (tally_of writer.old) (tally_of writer.new) (Some x) × TellsFault x E.contents errors.old errors.new result)
+        ⊎ LacksMemory writer.old writer.new E.contents errors.old errors.new result }
 {
     let Ok(text) = format!(in alloc; "{error}") else {
         return tell_fault(errors, Fault::NoMemory);
     };
-    let since = writer.faults();
-    let mut turns = u64::from(TURNS);
-    match put(writer, text.as_bytes(), since, &mut turns) {
+    let mut turns = TURNS;
+    match put(writer, text.as_bytes(), &mut turns) {
         Ok(()) => 0,
         Err(fault) => tell_fault(errors, fault),
     }
 }
 
 /// Writes what is wrong with the words, as far as `errors` takes it. Status 2, or that of a fault.
-fn refuse<E: Write + Counted>(alloc: Global, errors: &mut E, error: &Error) -> u8
-    ensures { (result ≡ 2) ⊎ TellsFault Fault.NoMemory (E.contents errors.old) (E.contents errors.new) result }
+fn refuse<E: Write>(alloc: Global, errors: &mut CountWrite<E>, error: &Error) -> u8
+    ensures { (result ≡ 2) ⊎ TellsFault Fault.NoMemory E.contents errors.old errors.new result }
 {
     let Ok(text) = format!(in alloc; "{error}") else {
         return tell_fault(errors, Fault::NoMemory);
     };
-    let since = errors.faults();
-    let mut turns = u64::from(TURNS);
-    let _ = put(errors, text.as_bytes(), since, &mut turns);
+    say(errors, text.as_str());
     2
 }
 
 /// Tells what clap answers in place of taking the words.
-fn tell<W: Write + Counted, E: Write + Counted>(
+fn tell<W: Write, E: Write>(
     alloc: Global,
-    writer: &mut W,
-    errors: &mut E,
+    writer: &mut CountWrite<W>,
+    errors: &mut CountWrite<E>,
     error: &Error,
 ) -> u8
-    ensures memory { kind_of error.now ≡ ErrorKind.OutOfMemory → LacksMemory writer.old writer.new (E.contents errors.old) (E.contents errors.new) result }
-    ensures told { (r s : ℕ) (kinds : Kinds) → HasKind kinds error.now
-        → TellsAnswer kinds (IsCounted r s (W.fault_count writer.old) (W.fault_count writer.new)) E.contents writer.old writer.new errors.old errors.new result }
+    ensures memory { kind_of error.now ≡ ErrorKind.OutOfMemory → LacksMemory writer.old writer.new E.contents errors.old errors.new result }
+    ensures told { (r : Tally) (kinds : Kinds) → HasKind kinds error.now
+        → TellsAnswer kinds (HasEnded r r (tally_of writer.old) (tally_of writer.new)) E.contents writer.old writer.new errors.old errors.new result }
     ensures status { result ≤ 2 }
 {
     match error.kind() {
@@ -73,21 +71,21 @@ fn tell<W: Write + Counted, E: Write + Counted>(
 /// Does what the words ask for, of which the first is the program's name, and gives the status: 0 is done, 1 a run that
 /// refused a line or met a fault, 2 words that are refused. No words but the name ask for `frames`. Help and the version
 /// go to the writer, a mistake in the words to `errors`; want of memory for the words is the fault 99.
-pub fn run<S: AsStr, R: Read + Counted, W: Write + Counted, E: Write + Counted>(
+pub fn run<S: AsStr, R: Read, W: Write, E: Write>(
     alloc: Global,
     words: &[S],
-    reader: &mut R,
-    writer: &mut W,
-    errors: &mut E,
+    reader: &mut CountRead<R>,
+    writer: &mut CountWrite<W>,
+    errors: &mut CountWrite<E>,
 ) -> u8
     ensures frames { AsksFrames (after_name (map S.text words.now))
-        → RunsFrames (R.remaining reader.old) (W.contents writer.old) (W.contents writer.new)
-        (IsCounted (R.fault_count reader.old) (R.fault_count reader.new) (W.fault_count writer.old) (W.fault_count writer.new))
+        → RunsFrames (R.remaining (device_of reader.old)) (W.contents (device_of writer.old)) (W.contents (device_of writer.new))
+        (HasEnded (tally_of reader.old) (tally_of reader.new) (tally_of writer.old) (tally_of writer.new))
         E.contents errors.old errors.new result
-        ⊎ ((reader.new ≡ reader.old) × LacksMemory writer.old writer.new (E.contents errors.old) (E.contents errors.new) result) }
+        ⊎ ((reader.new ≡ reader.old) × LacksMemory writer.old writer.new E.contents errors.old errors.new result) }
     ensures told { ¬ (AsksFrames (after_name (map S.text words.now)))
         → (reader.new ≡ reader.old) × TellsAnswer (refusals (map S.text words.now))
-        (IsCounted (R.fault_count reader.old) (R.fault_count reader.new) (W.fault_count writer.old) (W.fault_count writer.new))
+        (HasEnded (tally_of reader.old) (tally_of reader.new) (tally_of writer.old) (tally_of writer.new))
         E.contents writer.old writer.new errors.old errors.new result }
     ensures shown { AsksToShow (after_name (map S.text words.now)) → result ≤ 1 }
     ensures status { result ≤ 2 }

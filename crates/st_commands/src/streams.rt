@@ -1,14 +1,15 @@
 //! The inboxes of a connection's streams.
 
-ghost use Rattle.std.specs.Prelude.{◌≡◌, ◌⊎◌, ◌<◌, ◌≤◌, ◌-◌, true, false, ℕ, List, length, replicate, slice_index_or, slice_set, None, Some, Ok, IfOk, IfErr, OnOk, OnErr, IsOkUnless, MatchOption};
+ghost use Rattle.std.specs.Prelude.{◌≡◌, ◌⊎◌, ◌<◌, ◌≤◌, ◌-◌, [], ◌∷◌, true, false, ℕ, List, length, replicate, slice_index_or, slice_set, None, Some, Ok, IfOk, IfErr, OnOk, OnErr, IsOkUnless, MatchOption};
 ghost use Rattle.std.specs.Option.{option_map, option_or, unwrap_or};
+ghost use Rattle.st_frames.specs.Frames.{Known};
 ghost use Rattle.st_frames.specs.Reading.{packet_at};
 ghost use Rattle.st_frames.specs.Seen.{seen};
 ghost use Rattle.st_reassembly.specs.Held.{nothing_held};
 ghost use Rattle.st_reassembly.specs.Run.{run};
 ghost use Rattle.st_commands.specs.Answers.{prepare, by_packet};
 ghost use Rattle.st_commands.specs.Inboxes.{opening, is_stream, after_piece, after_frame, frames_from, after_frames, after_packet};
-ghost use Rattle.st_commands.specs.Drafts.{over, IsPieceError, IsPacketError};
+ghost use Rattle.st_commands.specs.Drafts.{over, StandFor, IsPieceError, IsPacketError};
 
 use crate::error::LineError;
 use st_frames::{Frame, Frames, read_packet};
@@ -43,6 +44,51 @@ impl<A: Allocator + Copy> Model for Streams<A> {
     ghost view = { λ s. s.inboxes.items };
 
     ghost invariant = { λ s. length s.inboxes.items ≡ 64 };
+}
+
+/// The pieces of a packet's frames.
+#[derive(Clone, Copy)]
+enum Pieces<'a> {
+    None,
+    One {
+        stream: u64,
+        offset: u64,
+        bytes: &'a [u8],
+    },
+    Several,
+}
+
+/// A frame's piece beside those of the frames before it.
+fn with_piece<'a>(pieces: Pieces<'a>, frame: Frame<'a>) -> Pieces<'a>
+    ensures { (index : ℕ) (rest all : List (ℕ × Known)) → StandFor pieces.entry ((index, seen frame.entry) ∷ rest) all → StandFor result rest all }
+{
+    let Frame::StreamData {
+        stream,
+        offset,
+        bytes,
+    } = frame
+    else {
+        return pieces;
+    };
+    match pieces {
+        Pieces::None => Pieces::One {
+            stream,
+            offset,
+            bytes,
+        },
+        Pieces::One { .. } | Pieces::Several => Pieces::Several,
+    }
+}
+
+/// Which pieces these frames bring.
+fn pieces_of(frames: Frames<'_>) -> Pieces<'_>
+    ensures { StandFor result [] frames.entry }
+{
+    let mut pieces = Pieces::None;
+    for (_, frame) in frames {
+        pieces = with_piece(pieces, frame);
+    }
+    pieces
 }
 
 /// No inbox for any stream.
@@ -84,7 +130,7 @@ impl<A: Allocator + Copy> Streams<A> {
     {
         match &self.inboxes[place] {
             Some(inbox) => inbox.copy(),
-            None => Ok(Inbox::new(self.alloc)),
+            None => Inbox::new(self.alloc),
         }
     }
 
@@ -190,6 +236,35 @@ impl<A: Allocator + Copy> Streams<A> {
         }
     }
 
+    /// Puts a piece into its stream's inbox. Nothing is copied: an inbox takes a piece whole or not at all.
+    fn put_one(&mut self, stream: u64, offset: u64, bytes: &[u8]) -> Result<(), LineError>
+        ensures put { OnOk result (after_piece self.old stream offset bytes.now ≡ Ok self.new) }
+        ensures refused { IfErr result (IsPieceError (after_piece self.old stream offset bytes.now)) }
+        ensures unchanged { OnErr result (self.new ≡ self.old) }
+    {
+        let Some(place) = self.place_of(stream) else {
+            return Err(LineError::StreamId);
+        };
+        if let Some(inbox) = &mut self.inboxes[place] {
+            return Ok(inbox.insert(offset, bytes)?);
+        }
+        let mut inbox = Inbox::new(self.alloc)?;
+        inbox.insert(offset, bytes)?;
+        self.inboxes[place] = Some(inbox);
+        Ok(())
+    }
+
+    /// Puts in the pieces of these frames, by drafts: all of them, or none.
+    fn put_all(&mut self, frames: Frames<'_>) -> Result<(), LineError>
+        ensures put { OnOk result (after_frames self.old frames.entry ≡ Ok self.new) }
+        ensures refused { IfErr result (IsPieceError (after_frames self.old frames.entry)) }
+        ensures unchanged { OnErr result (self.new ≡ self.old) }
+    {
+        let drafts = self.drafts(frames)?;
+        self.adopt(drafts);
+        Ok(())
+    }
+
     /// Takes the packet of a line: all of its frames, or none.
     pub fn take_packet(&mut self, bytes: &[u8]) -> Result<(), LineError>
         ensures taken { OnOk result (after_packet self.old (by_packet (packet_at prepare bytes.now)) ≡ Ok self.new) }
@@ -197,9 +272,15 @@ impl<A: Allocator + Copy> Streams<A> {
         ensures unchanged { OnErr result (self.new ≡ self.old) }
     {
         let packet = read_packet(bytes, PREPARE)?;
-        let drafts = self.drafts(packet.frames)?;
-        self.adopt(drafts);
-        Ok(())
+        match pieces_of(packet.frames.again()) {
+            Pieces::None => Ok(()),
+            Pieces::One {
+                stream,
+                offset,
+                bytes,
+            } => self.put_one(stream, offset, bytes),
+            Pieces::Several => self.put_all(packet.frames),
+        }
     }
 
     /// How many streams there are.

@@ -4,6 +4,7 @@ ghost use Rattle.std.specs.Prelude.{◌≡◌, IfOk, map};
 ghost use Rattle.clap.specs.Words.{FailsBy, app_of};
 ghost use Rattle.st_commands.specs.Words.{program as program_app, refusals};
 
+use crate::texts::{AFTER_FRAMES_HELP, AFTER_HELP};
 use clap::{Command, Error};
 use std::alloc::{AllocError, Global};
 use std::convert::AsStr;
@@ -23,9 +24,14 @@ fn program<'a>(alloc: Global) -> Result<Command<'a>, AllocError>
     Command::new(alloc, "ilpstream")
         .version(VERSION)
         .about("STREAM over Interledger")
-        .subcommand(Command::new(alloc, "frames").about(
-            "Reads STREAM packets in hexadecimal, one a line, and prints each stream's longest run",
-        ))
+        .after_help(AFTER_HELP)
+        .subcommand(
+            Command::new(alloc, "frames")
+                .about(
+                    "Reads STREAM packets in hexadecimal, one a line, and prints each stream's longest run",
+                )
+                .after_help(AFTER_FRAMES_HELP),
+        )
 }
 
 /// What the words ask for, of which the first is the program's name. Words that clap refuses, and those that ask for

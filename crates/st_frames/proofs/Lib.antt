@@ -6,3 +6,4 @@ pub mod PacketReads
 pub mod Puts
 pub mod WrittenLaws
 pub mod Prefixes
+pub mod Memory

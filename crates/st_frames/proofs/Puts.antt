@@ -10,7 +10,8 @@ use Rattle.st_frames.specs.declared.error.FrameError.TheVariants.{FrameFormat, T
 use Rattle.st_frames.specs.Frames.{Known}
 use Rattle.st_frames.specs.declared.field.Field.{Field}
 use Rattle.st_frames.specs.declared.frame.Frame.{Frame}
-use Rattle.st_frames.specs.Seen.{seen, field_text, fields_text}
+use Rattle.st_frames.specs.Seen.{seen}
+use Rattle.st_frames.specs.Inside.{field_text, fields_text}
 use Rattle.st_frames.specs.Written.{is_unwritable, packet_text, packet_length, judged, size_of, contents_text, frame_text, frames_text, KnownFits, AllFit}
 
 pub length-packet_text : (kind s a : ℕ) (ks : List Known) → length (packet_text kind s a ks) ≡ packet_length s a ks

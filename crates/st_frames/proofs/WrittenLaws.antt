@@ -7,12 +7,12 @@ use Rattle.st_oer.specs.Spelling.{length_bytes, octets, var_uint}
 use Rattle.st_oer.specs.Limit.{is_small}
 use Rattle.st_frames.specs.declared.error.FrameError.{FrameError}
 use Rattle.st_frames.specs.declared.error.FrameError.TheVariants.{TooLong}
-use Rattle.st_frames.specs.Frames.{Known, ConnectionClose, ConnectionNewAddress, ConnectionMaxData, ConnectionDataBlocked, StreamClose, StreamMoney, StreamMaxMoney, StreamMoneyBlocked, StreamData, StreamMaxData, StreamDataBlocked}
+use Rattle.st_frames.specs.Frames.{Known, frame_of, ConnectionClose, ConnectionNewAddress, ConnectionMaxData, ConnectionDataBlocked, StreamClose, StreamMoney, StreamMaxMoney, StreamMoneyBlocked, StreamData, StreamMaxData, StreamDataBlocked}
 use Rattle.st_frames.specs.Table.{Field, Byte, Number, Limit, Octets, Text, Address, Item, Code, Num, Bytes, Row, row_of, layout}
 use Rattle.st_frames.specs.Reading.{Raw, packet_at}
 use Rattle.st_frames.specs.Relation.{IsField, is_byte, is_number, is_limit, is_octets, is_text, is_address, IsFields, no_field, next_field, AreFrames, no_frame, next_frame, AreKnown, no_more, known}
 use Rattle.st_frames.specs.Written.{item_text, items_text, contents_text, frame_text, frames_text, packet_text, packet_length, is_unwritable, judged, written, indexed, ItemFits, ItemsFit, fields_of, KnownFits, AllFit, packet_with}
-use Rattle.st_frames.specs.Laws.{IsWhole, PacketWrites}
+use Rattle.st_frames.specs.Laws.{IsWhole, PacketWrites, KeepsFrames}
 use Rattle.st_frames.proofs.Results.{guard_ok, ok_is}
 use Rattle.st_frames.proofs.Puts.{length-packet_text, contents_below}
 use Rattle.st_frames.proofs.PacketLaws.{packet_only}
@@ -143,3 +143,10 @@ itself_of kind s a ks text s_fits a_fits fits h =
 
 pub packet_writes : PacketWrites
 packet_writes = record { whole = whole_of; itself = itself_of }
+
+indexed_again : (i : ℕ) (ks : List Known) → map frame_of (indexed i ks) ≡ ks
+indexed_again i [] = refl
+indexed_again i (k ∷ ks) = ap (λ (l : List Known). k ∷ l) (indexed_again (i + 1) ks)
+
+pub keeps_frames : KeepsFrames
+keeps_frames kind s a ks = indexed_again 0 ks

@@ -1,5 +1,5 @@
 -- Frames and packets as values (RFC 0029, section 5), without where they lie in memory.
-use Rattle.std.specs.Prelude.{ℕ, List}
+use Rattle.std.specs.Prelude.{ℕ, List, map}
 
 -- the most bytes of a plain packet: with its IV and tag, 28 bytes, it fits the 32,767 bytes of data of an ILP packet
 abbrev pub max_packet : ℕ
@@ -26,3 +26,11 @@ pub record Packet : Type 0 where
   pub sequence : ℕ
   pub amount : ℕ
   pub frames : List (ℕ × Known)
+
+-- the known frame of a pair of it and its index
+abbrev pub frame_of : ℕ × Known → Known
+frame_of x = x.1
+
+-- the known frames of a packet, without their indices
+abbrev pub frames_of : Packet → List Known
+frames_of p = map frame_of p.frames

@@ -1,7 +1,8 @@
 -- Reading and the relation are one; what is written reads as itself; no packet begins another.
 use Rattle.std.specs.Prelude.{◌≡◌, ◌<◌, ◌≤◌, ◌^◌, ℕ, List, [], ◌++◌, length, Ok}
-use Rattle.st_oer.specs.Laws.{IsBytes}
-use Rattle.st_frames.specs.Frames.{Known, Packet, max_packet}
+use Rattle.st_oer.specs.Laws.{IsBytes, Never}
+use Rattle.st_frames.specs.declared.error.FrameError.TheVariants.{NoMemory}
+use Rattle.st_frames.specs.Frames.{Known, Packet, max_packet, frames_of}
 use Rattle.st_frames.specs.Reading.{packet_at}
 use Rattle.st_frames.specs.Relation.{IsPacket}
 use Rattle.st_frames.specs.Written.{AllFit, written, packet_with}
@@ -23,3 +24,11 @@ pub record PacketWrites : Type 0 where
 -- no whole spelling begins another
 abbrev pub NoneBegins : Type 0
 NoneBegins = (bytes more : List ℕ) (p q : Packet) → IsWhole bytes p → IsWhole (bytes ++ more) q → more ≡ []
+
+-- the packet that frames make has these frames
+abbrev pub KeepsFrames : Type 0
+KeepsFrames = (kind sequence amount : ℕ) (ks : List Known) → frames_of (packet_with kind sequence amount ks) ≡ ks
+
+-- reading takes no memory, whatever the kind
+abbrev pub ReadsWithoutMemory : Type 0
+ReadsWithoutMemory = (kind : ℕ) → Never NoMemory (packet_at kind)

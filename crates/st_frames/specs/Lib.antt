@@ -6,5 +6,6 @@ pub mod Reading
 pub mod Relation
 pub mod Written
 pub mod Seen
+pub mod Inside
 pub mod Packets
 pub mod Laws

@@ -1,16 +1,50 @@
-//! A frame's fields in their order: by them its length is counted and its contents are written (RFC 0029, section 5.3).
+//! The fields of frames: from bytes, to bytes, and how long they are (RFC 0029, section 5.3; RFC 0030).
 
-ghost use Rattle.std.specs.Prelude.{◌≡◌, ◌<◌, ◌≤◌, ◌+◌, ◌++◌, ◌^◌, length, vec_len, vec_capacity, true, false};
+ghost use Rattle.std.specs.Prelude.{◌≡◌, ◌<◌, ◌≤◌, ◌+◌, ◌++◌, ◌^◌, length, vec_len, vec_capacity, true};
+ghost use Rattle.st_oer.specs.Seen.{Gives};
 ghost use Rattle.st_oer.specs.Spelling.{octets};
 ghost use Rattle.st_oer.specs.Text.{is_utf8};
-ghost use Rattle.st_frames.specs.Seen.{seen, field_text, fields_text};
-ghost use Rattle.st_frames.specs.Written.{contents_text, is_unwritable, KnownFits};
+ghost use Rattle.st_frames.specs.Table.{Bytes, Text, Address};
+ghost use Rattle.st_frames.specs.Contents.{field_at, refusing};
+ghost use Rattle.st_frames.specs.Inside.{field_text};
 
-use crate::frame::Frame;
-use st_oer::{length_size, put_octets, put_u8, put_var_uint, var_uint_size};
+use st_oer::{
+    Cut, OerError, is_address, length_size, put_octets, put_u8, put_var_uint, utf8, var_uint_size,
+};
 use std::alloc::Allocator;
 
-/// A field of a frame, as it is spelled.
+/// The contents of a known frame are malformed.
+#[derive(Clone, Copy)]
+pub(crate) struct Malformed;
+
+impl From<OerError> for Malformed {
+    fn from(_fault: OerError) -> Malformed {
+        Malformed
+    }
+}
+
+/// The next field as UTF-8.
+pub(crate) fn read_text<'a>(cut: &mut Cut<'a>) -> Result<&'a str, Malformed>
+    ensures { Gives (λ t. (Bytes t.now, cut.new)) (refusing tt result) (field_at Text cut.old) }
+{
+    let Some(text) = utf8(cut.octets()?) else {
+        return Err(Malformed);
+    };
+    Ok(text)
+}
+
+/// The next field as an address, or as the empty text.
+pub(crate) fn read_address<'a>(cut: &mut Cut<'a>) -> Result<&'a str, Malformed>
+    ensures { Gives (λ t. (Bytes t.now, cut.new)) (refusing tt result) (field_at Address cut.old) }
+{
+    let text = read_text(cut)?;
+    if text.is_empty() || is_address(text) {
+        return Ok(text);
+    }
+    Err(Malformed)
+}
+
+/// A field of a frame that is written, as it is spelled.
 #[derive(Clone, Copy)]
 pub(crate) enum Field<'a> {
     /// A UInt8.
@@ -25,51 +59,11 @@ pub(crate) enum Field<'a> {
 
 /// A text as a field. Its bytes are UTF-8.
 #[tactic(auto, using(crate::proofs::Puts::texts))]
-fn text(text: &str) -> Field<'_>
+pub(crate) fn text(text: &str) -> Field<'_>
     ensures bytes { field_text result ≡ octets text.now }
     ensures utf8 { is_utf8 text.now ≡ true }
 {
     Field::Octets(text.as_bytes())
-}
-
-/// A frame's fields in their order.
-#[tactic(auto, unfolding(crate::specs::Written::contents_text, crate::specs::Written::KnownFits, crate::specs::Table::row_of))]
-pub(crate) fn fields(frame: Frame<'_>) -> [Field<'_>; 3]
-    ensures text { fields_text result ≡ contents_text (seen frame.entry) }
-    ensures fits { is_unwritable (seen frame.entry) ≡ false → KnownFits (seen frame.entry) }
-{
-    use Field::{Byte, Nothing, Number, Octets};
-    match frame {
-        Frame::ConnectionClose { code, message } => [Byte(code), text(message), Nothing],
-        Frame::ConnectionNewAddress { address } => [text(address), Nothing, Nothing],
-        Frame::ConnectionMaxData { max_offset } => [Number(max_offset), Nothing, Nothing],
-        Frame::ConnectionDataBlocked { max_offset } => [Number(max_offset), Nothing, Nothing],
-        Frame::StreamClose {
-            stream,
-            code,
-            message,
-        } => [Number(stream), Byte(code), text(message)],
-        Frame::StreamMoney { stream, shares } => [Number(stream), Number(shares), Nothing],
-        Frame::StreamMaxMoney {
-            stream,
-            receive_max,
-            total_received,
-        } => [Number(stream), Number(receive_max), Number(total_received)],
-        Frame::StreamMoneyBlocked {
-            stream,
-            send_max,
-            total_sent,
-        } => [Number(stream), Number(send_max), Number(total_sent)],
-        Frame::StreamData {
-            stream,
-            offset,
-            bytes,
-        } => [Number(stream), Number(offset), Octets(bytes)],
-        Frame::StreamMaxData { stream, max_offset }
-        | Frame::StreamDataBlocked { stream, max_offset } => {
-            [Number(stream), Number(max_offset), Nothing]
-        }
-    }
 }
 
 impl Field<'_> {

@@ -1,6 +1,6 @@
 //! Laws of the definitions. These functions do nothing: the contract is the law.
 
-ghost use Rattle.st_frames.specs.Laws.{NoneBegins, PacketReads, PacketWrites};
+ghost use Rattle.st_frames.specs.Laws.{KeepsFrames, NoneBegins, PacketReads, PacketWrites, ReadsWithoutMemory};
 
 /// A packet is read exactly where the bytes are a spelling of it.
 pub fn packet_law()
@@ -15,4 +15,14 @@ pub fn written_law()
 /// No packet with nothing after its last frame begins another.
 pub fn prefix_law()
     ensures { NoneBegins }
+{}
+
+/// The packet that frames make has just these frames, in their order.
+pub fn frames_law()
+    ensures { KeepsFrames }
+{}
+
+/// No bytes at all are refused with `NoMemory` where a packet is read.
+pub fn reading_wants_no_memory()
+    ensures { ReadsWithoutMemory }
 {}

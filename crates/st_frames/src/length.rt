@@ -9,9 +9,9 @@ ghost use Rattle.st_frames.specs.Written.{contents_text, frame_text, packet_leng
 ghost use Rattle.st_frames.specs.Written as specs;
 
 use crate::error::FrameError;
-use crate::field::fields;
 use crate::frame::Frame;
 use crate::packet::MAX_PACKET;
+use crate::table::layout;
 use st_oer::{is_address, length_size, var_uint_size};
 
 /// The length of a frame's contents.
@@ -19,7 +19,7 @@ use st_oer::{is_address, length_size, var_uint_size};
 pub(crate) fn contents_len(frame: Frame<'_>) -> u128
     ensures { result ≡ length (contents_text (seen frame.entry)) }
 {
-    let [first, second, third] = fields(frame);
+    let (_, [first, second, third]) = layout(frame);
     first.size() + second.size() + third.size()
 }
 

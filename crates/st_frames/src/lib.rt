@@ -4,20 +4,19 @@
 //! `number` is a refusal's number; `inner` the index of the malformed frame, or the number of the fault in a field.
 #![tactic(auto)]
 
-mod contents;
 mod error;
 mod field;
 mod frame;
-mod frame_type;
 mod laws;
 mod length;
 mod packet;
 mod skeleton;
+mod table;
 mod writing;
 
 pub use error::FrameError;
 pub use frame::Frame;
-pub use laws::{packet_law, prefix_law, written_law};
+pub use laws::{frames_law, packet_law, prefix_law, reading_wants_no_memory, written_law};
 pub use length::packet_len;
 pub use packet::{Frames, MAX_PACKET, StreamPacket, VERSION, read_packet};
 pub use writing::{put_packet, write_packet};

@@ -8,10 +8,11 @@ ghost use Rattle.st_frames.specs.Packets.{packet_of};
 ghost use Rattle.st_frames.specs.Reading.{raws_at, frame_at, frames_at, packet_at, all_of};
 ghost use Rattle.st_frames.specs.Seen.{seen, seen_at};
 
-use crate::contents::{Malformed, known_frame};
 use crate::error::FrameError;
+use crate::field::Malformed;
 use crate::frame::Frame;
 use crate::skeleton::{check_skeleton, raw_frame};
+use crate::table::known_frame;
 use st_oer::Cut;
 use std::marker::Model;
 

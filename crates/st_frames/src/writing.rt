@@ -4,36 +4,15 @@ ghost use Rattle.std.specs.Prelude.{◌≡◌, ◌<◌, ◌≤◌, ◌+◌, ◌+
 ghost use Rattle.std.specs.List.{position};
 ghost use Rattle.st_oer.specs.Seen.{Writes};
 ghost use Rattle.st_frames.specs.Seen.{seen};
-ghost use Rattle.st_frames.specs.Table.{layout};
 ghost use Rattle.st_frames.specs.Written as specs;
 
 use crate::error::FrameError;
-use crate::field::fields;
 use crate::frame::Frame;
-use crate::frame_type;
 use crate::length::{contents_len, packet_len};
 use crate::packet::VERSION;
+use crate::table::layout;
 use st_oer::{put_length, put_u8, put_var_uint};
 use std::alloc::Allocator;
-
-/// The number of a frame's type.
-fn type_of(frame: Frame<'_>) -> u8
-    ensures { result ≡ (layout (seen frame.entry)).0 }
-{
-    match frame {
-        Frame::ConnectionClose { .. } => frame_type::CONNECTION_CLOSE,
-        Frame::ConnectionNewAddress { .. } => frame_type::CONNECTION_NEW_ADDRESS,
-        Frame::ConnectionMaxData { .. } => frame_type::CONNECTION_MAX_DATA,
-        Frame::ConnectionDataBlocked { .. } => frame_type::CONNECTION_DATA_BLOCKED,
-        Frame::StreamClose { .. } => frame_type::STREAM_CLOSE,
-        Frame::StreamMoney { .. } => frame_type::STREAM_MONEY,
-        Frame::StreamMaxMoney { .. } => frame_type::STREAM_MAX_MONEY,
-        Frame::StreamMoneyBlocked { .. } => frame_type::STREAM_MONEY_BLOCKED,
-        Frame::StreamData { .. } => frame_type::STREAM_DATA,
-        Frame::StreamMaxData { .. } => frame_type::STREAM_MAX_DATA,
-        Frame::StreamDataBlocked { .. } => frame_type::STREAM_DATA_BLOCKED,
-    }
-}
 
 /// Appends a frame's contents to a vector that has room for them.
 #[tactic(auto, using(crate::proofs::Puts::puts, crate::proofs::Puts::lengths))]
@@ -43,7 +22,7 @@ fn append_contents<A: Allocator>(out: &mut Vec<u8, A>, frame: Frame<'_>)
     ensures fits { specs.is_unwritable (seen frame.entry) ≡ false → specs.KnownFits (seen frame.entry) }
     ensures capacity { vec_capacity out.old ≤ vec_capacity out.new }
 {
-    let [first, second, third] = fields(frame);
+    let (_, [first, second, third]) = layout(frame);
     first.append(out);
     second.append(out);
     third.append(out);
@@ -58,7 +37,8 @@ fn append_frame<A: Allocator>(out: &mut Vec<u8, A>, frame: Frame<'_>)
     ensures fits { specs.is_unwritable (seen frame.entry) ≡ false → specs.KnownFits (seen frame.entry) }
     ensures capacity { vec_capacity out.old ≤ vec_capacity out.new }
 {
-    put_u8(out, type_of(frame)).unwrap();
+    let (kind, _) = layout(frame);
+    put_u8(out, kind).unwrap();
     put_length(out, contents_len(frame) as u64).unwrap();
     append_contents(out, frame);
 }

@@ -1,8 +1,9 @@
 -- What a Prepare that goes on keeps.
-use Rattle.std.proofs.Common.{◌≡◌, ℕ, ◌<◌, Bool, true, false, List, [], ◌∷◌, length, refl, sym, subst, arith, ℤ, Option, None, Some, Result, Ok, Err, nat_eq, nat_lt, nat_le, if◌then◌else◌}
+use Rattle.std.proofs.Common.{◌≡◌, ◌≢◌, ℕ, ◌<◌, Bool, true, false, List, [], ◌∷◌, length, refl, sym, subst, arith, ℤ, Option, None, Some, Result, Ok, Err, nat_eq, nat_lt, nat_le, if◌then◌else◌}
 use Rattle.std.specs.Prelude.{int_le, pos, neg_ℤ, ◌+ℤ◌, ◌-ℤ◌, ◌≤ℤ◌}
 use Rattle.std.specs.List.{AllByRecursion}
 use Rattle.std.proofs.lemmas.Int.{ints}
+use Rattle.std.proofs.lemmas.Bool.Decides.{nat_tests}
 use Rattle.st_oer.specs.Laws.{IsBytes}
 use Rattle.st_ilp.specs.Packets.{PreparePacket}
 use Rattle.st_ilp.specs.Reading.{prepare_at}
@@ -13,8 +14,8 @@ use Rattle.st_ilp.proofs.PacketReads.{prepare_reads}
 use Rattle.st_ilp.specs.declared.error.IlpError.{IlpError}
 use Rattle.st_oer.specs.Address.{is_within}
 use Rattle.st_hop.specs.declared.refusal.Refusal.{Refusal}
-use Rattle.st_hop.specs.declared.refusal.Refusal.TheVariants.{Unreachable, AmountTooLarge, InsufficientTimeout, InsufficientLiquidity}
-use Rattle.st_hop.specs.Hop.{Hop, Way, account_at, is_over_limit}
+use Rattle.st_hop.specs.declared.refusal.Refusal.TheVariants.{Unreachable, AmountTooLarge, InternalError, InsufficientTimeout, InsufficientLiquidity}
+use Rattle.st_hop.specs.Hop.{Hop, Way, account_at, is_over_limit, last_next}
 use Rattle.st_hop.specs.Routing.{longer, route_to}
 use Rattle.st_hop.specs.Lawful.{IsLawful, LeadsTo}
 use Rattle.st_hop.specs.Arriving.{at_packet, sent_on, judged, routed, onward, hop_time, ticket_for}
@@ -38,23 +39,40 @@ route_of P (r ∷ rs) address h =
     ]
 
 -- an account to which a Prepare may go on
+pub record MayPass (h : Hop) (account : ℕ) (p : PreparePacket) (outgoing : ℕ) : Type 0 where
+  pub there : outgoing < length h.accounts
+  pub across : outgoing ≢ account
+  pub fits : is_over_limit h account p.amount p.amount ≡ false
+  pub number : h.next < last_next
+
 abbrev pub Passes : Hop → ℕ → PreparePacket → Result ℕ Refusal → Type 0
 Passes h account p (Err refusal) = Unit {0}
-Passes h account p (Ok outgoing) = (outgoing < length h.accounts) × (is_over_limit h account p.amount p.amount ≡ false)
+Passes h account p (Ok outgoing) = MayPass h account p outgoing
 
-limited : (h : Hop) (account : ℕ) (p : PreparePacket) (outgoing : ℕ) (b : Bool) → is_over_limit h account p.amount p.amount ≡ b → outgoing < length h.accounts
-    → Passes h account p (if b then Err InsufficientLiquidity else Ok outgoing)
-limited h account p outgoing true e l = tt
-limited h account p outgoing false e l = (l, e)
+le_false : (m n : ℕ) → nat_le m n ≡ false → n < m
+le_false m n e = grind (arith, nat_tests)
+
+eq_false : (m n : ℕ) → nat_eq m n ≡ false → m ≢ n
+eq_false m n e = grind (arith, nat_tests)
+
+numbered : (h : Hop) (account : ℕ) (p : PreparePacket) (outgoing : ℕ) (b : Bool) → nat_le last_next h.next ≡ b → is_over_limit h account p.amount p.amount ≡ false → outgoing < length h.accounts → outgoing ≢ account
+    → Passes h account p (if b then Err InternalError else Ok outgoing)
+numbered h account p outgoing true e f l a = tt
+numbered h account p outgoing false e f l a = record { there = l; across = a; fits = f; number = le_false last_next h.next e }
+
+limited : (h : Hop) (account : ℕ) (p : PreparePacket) (outgoing : ℕ) (b : Bool) → is_over_limit h account p.amount p.amount ≡ b → outgoing < length h.accounts → outgoing ≢ account
+    → Passes h account p (if b then Err InsufficientLiquidity else (if nat_le last_next h.next then Err InternalError else Ok outgoing))
+limited h account p outgoing true e l a = tt
+limited h account p outgoing false e l a = numbered h account p outgoing (nat_le last_next h.next) refl e l a
+
+apart : (h : Hop) (account : ℕ) (p : PreparePacket) (outgoing : ℕ) (b : Bool) → nat_eq outgoing account ≡ b → outgoing < length h.accounts
+    → Passes h account p (if b then Err Unreachable else (if is_over_limit h account p.amount p.amount then Err InsufficientLiquidity else (if nat_le last_next h.next then Err InternalError else Ok outgoing)))
+apart h account p outgoing true e l = tt
+apart h account p outgoing false e l = limited h account p outgoing (is_over_limit h account p.amount p.amount) refl l (eq_false outgoing account e)
 
 routed_passes : (h : Hop) (account : ℕ) (p : PreparePacket) (o : Option Way) → OfSome (LeadsTo (length h.accounts)) o → Passes h account p (routed h account p o)
 routed_passes h account p None l = tt
-routed_passes h account p (Some r) l =
-    let over = if is_over_limit h account p.amount p.amount then Err InsufficientLiquidity else Ok r.account in
-    elim (nat_eq r.account account) as (λ b. Passes h account p (if b then Err Unreachable else over)) [
-      | true ↦ tt
-      | false ↦ limited h account p r.account (is_over_limit h account p.amount p.amount) refl l
-    ]
+routed_passes h account p (Some r) l = apart h account p r.account (nat_eq r.account account) refl l
 
 pub judged_passes : (h : Hop) (account : ℕ) (p : PreparePacket) (now : ℤ) → IsLawful h → Passes h account p (judged h account p now)
 judged_passes h account p now l =
@@ -68,11 +86,11 @@ judged_passes h account p now l =
       ]
     ]
 
-pub judged_there : {h v : Hop} → h ≡ v → (account : ℕ) (p : PreparePacket) (now : ℤ) (outgoing : ℕ) → IsLawful h → Ok outgoing ≡ judged v account p now → outgoing < length v.accounts
-judged_there {h} {v} e account p now outgoing l j =
+pub judged_may_pass : {h v : Hop} → h ≡ v → (account : ℕ) (p : PreparePacket) (now : ℤ) (outgoing : ℕ) → IsLawful h → Ok outgoing ≡ judged v account p now → MayPass v account p outgoing
+judged_may_pass {h} {v} e account p now outgoing l j =
     let lv : IsLawful v = subst IsLawful e l in
     let P : Result ℕ Refusal → Type 0 = Passes v account p in
-    (subst P (sym j) (judged_passes v account p now lv)).0
+    subst P (sym j) (judged_passes v account p now lv)
 
 -- the outcome for a Prepare whose time does not run out
 abbrev Lasts : ℤ → PreparePacket → Result ℕ Refusal → Type 0
@@ -114,7 +132,7 @@ judged_written h account bytes p now outgoing b e from j =
 
 sent_lawful : (h : Hop) (account : ℕ) (p : PreparePacket) (r : Result ℕ Refusal) → IsLawful h → account < length h.accounts → Passes h account p r → IsLawful (sent_on h account p r).1
 sent_lawful h account p (Err refusal) l a q = l
-sent_lawful h account p (Ok outgoing) l a q = holding_lawful h (ticket_for h.next account outgoing p (onward p)) l refl a q.0 (fits h account p.amount p.amount q.1)
+sent_lawful h account p (Ok outgoing) l a q = holding_lawful h (ticket_for h.next account outgoing p (onward p)) l refl q.number a q.there (fits h account p.amount p.amount q.fits)
 
 pub at_packet_lawful : (h : Hop) (account : ℕ) (r : Result PreparePacket IlpError) (now : ℤ) → IsLawful h → account < length h.accounts → IsLawful (at_packet h account r now).1
 at_packet_lawful h account (Err e) now l a = l

@@ -1,11 +1,15 @@
-pub mod TicketLemmas
-pub mod Routes
 pub mod Sums
 pub mod Numbers
+pub mod WaitingLemmas
+pub mod Segments
 pub mod Kept
 pub mod Rooms
 pub mod Tables
 pub mod Arrivals
 pub mod HopRuns
+pub mod Distinct
 pub mod LongestRoute
+pub mod LongestLookup
 pub mod OneSettlement
+pub mod Crossings
+pub mod Bookings

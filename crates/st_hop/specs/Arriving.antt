@@ -1,14 +1,14 @@
 -- What becomes of a Prepare that arrives, from its bytes to the answer's bytes, or to the bytes that go on (this profile).
-use Rattle.std.specs.Prelude.{ℕ, ℤ, pos, ◌+ℤ◌, ◌-ℤ◌, List, Option, Some, None, Result, Ok, Err, nat_eq, nat_lt, int_le, if◌then◌else◌}
+use Rattle.std.specs.Prelude.{ℕ, ℤ, pos, ◌+ℤ◌, ◌-ℤ◌, List, Option, Some, None, Result, Ok, Err, nat_eq, nat_lt, nat_le, int_le, if◌then◌else◌}
 use Rattle.st_ilp.specs.Packets.{PreparePacket}
 use Rattle.st_ilp.specs.Reading.{prepare_at}
 use Rattle.st_ilp.specs.Spelling.{prepare_text}
 use Rattle.st_ilp.specs.declared.error.IlpError.{IlpError}
 use Rattle.st_hop.specs.declared.ticket.Open.{Open}
 use Rattle.st_hop.specs.declared.refusal.Refusal.{Refusal}
-use Rattle.st_hop.specs.declared.refusal.Refusal.TheVariants.{InvalidPacket, Unreachable, AmountTooLarge, InsufficientLiquidity, InsufficientTimeout}
+use Rattle.st_hop.specs.declared.refusal.Refusal.TheVariants.{InvalidPacket, Unreachable, AmountTooLarge, InternalError, InsufficientLiquidity, InsufficientTimeout}
 use Rattle.st_hop.specs.Refusals.{reject_text}
-use Rattle.st_hop.specs.Hop.{Hop, Way, account_at, is_over_limit, holding}
+use Rattle.st_hop.specs.Hop.{Hop, Way, account_at, is_over_limit, last_next, holding}
 use Rattle.st_hop.specs.Routing.{route_to}
 
 -- an answer of the hop's own, or bytes that go on to an account
@@ -24,12 +24,13 @@ hop_time = pos 1000
 abbrev pub onward : PreparePacket → PreparePacket
 onward p = record p { expiry = p.expiry -ℤ hop_time }
 
--- a route back to where the Prepare came from is none; then the limits
+-- a route back to where the Prepare came from is none; then the limits; last, whether a ticket has a number left
 abbrev pub routed : Hop → (account : ℕ) → PreparePacket → Option Way → Result ℕ Refusal
 routed h account p None = Err Unreachable
 routed h account p (Some r) =
     if nat_eq r.account account then Err Unreachable
-    else (if is_over_limit h account p.amount (onward p).amount then Err InsufficientLiquidity else Ok r.account)
+    else (if is_over_limit h account p.amount (onward p).amount then Err InsufficientLiquidity
+    else (if nat_le last_next h.next then Err InternalError else Ok r.account))
 
 -- the account to which a Prepare goes on, or the first rule that stops it
 abbrev pub judged : Hop → (account : ℕ) → PreparePacket → (now : ℤ) → Result ℕ Refusal

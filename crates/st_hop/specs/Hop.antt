@@ -1,5 +1,5 @@
 -- What a hop keeps (a connector of RFC 0027), and the sums over it.
-use Rattle.std.specs.Prelude.{ℕ, ◌+◌, ◌^◌, ◌++◌, ◌||◌, Bool, List, [], ◌∷◌, nat_eq, nat_lt, nat_le, slice_index, slice_index_or, slice_set, sum, if◌then◌else◌}
+use Rattle.std.specs.Prelude.{ℕ, ◌+◌, ◌-◌, ◌^◌, ◌++◌, ◌||◌, Bool, List, [], ◌∷◌, nat_eq, nat_lt, nat_le, slice_index, slice_index_or, slice_set, sum, if◌then◌else◌}
 use Rattle.std.specs.List.{sum_by}
 use Rattle.st_hop.specs.declared.account.Account.{Account}
 use Rattle.st_hop.specs.declared.ticket.Open.{Open}
@@ -57,6 +57,10 @@ is_over_limit h account received sent =
     nat_lt ((account_at h account).limit + slice_index h.dues account) (slice_index h.claims account + held_of h account + received)
     || nat_le (2 ^ 63) (all_claimed h + received)
     || nat_le (2 ^ 63) (all_due h + sent)
+
+-- each number below this was given to a ticket, and there are no more
+abbrev pub last_next : ℕ
+last_next = 2 ^ 64 - 1
 
 -- a ticket more
 abbrev pub holding : Hop → Open → Hop

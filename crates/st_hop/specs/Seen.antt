@@ -1,5 +1,5 @@
 -- What the code's values say, in the definitions' terms.
-use Rattle.std.specs.Prelude.{ℕ, List, Option, Some, None}
+use Rattle.std.specs.Prelude.{◌≢◌, ℕ, ◌<◌, List, length, Option, Some, None}
 use Rattle.st_hop.specs.declared.route.Route.{Route}
 use Rattle.st_hop.specs.declared.verdict.Verdict.{Verdict}
 use Rattle.st_hop.specs.declared.verdict.Verdict.TheVariants.{Forward, Answer}
@@ -25,3 +25,8 @@ outcome_seen Fault = None
 abbrev pub IsReady : {X : Type 0} → Hop → Verdict X → Type 0
 IsReady h (Forward ticket account bytes) = IsAmong h.tickets ticket
 IsReady h (Answer bytes) = Unit {0}
+
+-- a Prepare goes on to an account that is there, and not the one that it came from
+abbrev pub GoesAcross : {X : Type 0} → Hop → (account : ℕ) → Verdict X → Type 0
+GoesAcross h account (Forward ticket outgoing bytes) = (outgoing < length h.accounts) × (outgoing ≢ account)
+GoesAcross h account (Answer bytes) = Unit {0}

@@ -20,12 +20,15 @@ is_way accounts r = is_address r.prefix && nat_lt r.account accounts
 abbrev pub is_account : Account → Bool
 is_account a = nat_lt a.limit (2 ^ 63)
 
-unfoldable pub is_table : List ℕ → List Account → List Way → Bool
-is_table own accounts routes =
+-- each part is lawful by itself
+abbrev pub are_parts : List ℕ → List Account → List Way → Bool
+are_parts own accounts routes =
     is_address own
     && list_all is_account accounts
     && list_all (is_way (length accounts)) routes
-    && is_distinct routes
+
+unfoldable pub is_table : List ℕ → List Account → List Way → Bool
+is_table own accounts routes = are_parts own accounts routes && is_distinct routes
 
 -- nothing owed, nothing open
 abbrev pub new_hop : List ℕ → List Account → List Way → Hop

@@ -14,8 +14,7 @@ pub enum HopError {
     /// twice, or an account's limit is above 2^63 - 1.
     #[error("the table of accounts and routes is malformed")]
     BadTable,
-    /// Memory that the call asked for was refused, or 2^64 - 1 tickets were given out. The Prepare can be answered
-    /// with `t00`.
+    /// Memory that the call asked for was refused. The Prepare can be answered with `t00`.
     #[error("out of memory")]
     NoMemory,
     /// There is no account of this number.

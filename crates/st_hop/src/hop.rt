@@ -1,31 +1,31 @@
 //! The state of a hop.
 
-ghost use Rattle.std.specs.Prelude.{◌≡◌, ◌<◌, ◌≤◌, ◌≤ℤ◌, pos, ◌+◌, ◌++◌, ◌∷◌, [], ℕ, false, length, map, string_bytes, IfOk, OnOk, OnErr, IsErrOf, IsTrue, IsOkUnless, ◌↔◌, nat_lt, slice_index, if◌then◌else◌, None, MatchBool};
-ghost use Rattle.std.specs.List.{AllByRecursion};
+ghost use Rattle.std.specs.Prelude.{◌≡◌, ◌<◌, ◌≤◌, ◌≤ℤ◌, pos, ◌+◌, [], ℕ, false, length, map, sum, IfOk, OnErr, IsErrOf, IsTrue, IsOkUnless, ◌↔◌, nat_lt, slice_index, if◌then◌else◌, None, MatchBool};
 ghost use Rattle.st_ilp.specs.Writing.{prepare_refusal};
 ghost use Rattle.st_ilp.specs.Seen.{prepare_seen};
-ghost use Rattle.st_hop.specs.declared.refusal.Refusal.TheVariants.{InternalError};
-ghost use Rattle.st_hop.specs.Refusals.{reject_text, payload_of};
+ghost use Rattle.st_hop.specs.Refusals.{reject_text, payload_of, t00_text};
 ghost use Rattle.st_hop.specs.Inside.{Serves};
-ghost use Rattle.st_hop.specs.Hop.{held_of, is_over_limit, holding, released, booked};
+ghost use Rattle.st_hop.specs.Hop.{held_of, is_over_limit, last_next, holding, released, booked};
 ghost use Rattle.st_hop.specs.Tickets.{IsAmong};
 ghost use Rattle.st_hop.specs.Arriving.{Answers, judged, arrived, sent_on, ticket_for, onward};
-ghost use Rattle.st_hop.specs.Settling.{settled};
+ghost use Rattle.st_hop.specs.Settling.{settled, claim_of, due_of, is_booked, is_fulfill};
 ghost use Rattle.st_hop.specs.Table.{is_table, new_hop};
 ghost use Rattle.st_hop.specs.Lawful.{IsLawful};
-ghost use Rattle.st_hop.specs.Seen.{way_seen, verdict_seen, outcome_seen, IsReady};
+ghost use Rattle.st_hop.specs.Seen.{way_seen, verdict_seen, outcome_seen, IsReady, GoesAcross};
 
 use crate::account::{Account, lower, raise, zeros};
 use crate::error::HopError;
 use crate::refusal::Refusal;
 use crate::room::{Room, reject};
-use crate::route::{KeptRoute, Route, keep_routes, route_to};
+use crate::route::{Route, Routes};
 use crate::settling::{Closing, Outcome, conclude};
-use crate::table::{MAX_SUM, is_table};
-use crate::ticket::{Open, Ticket, is_among, take_ticket};
+use crate::table::{MAX_SUM, routes_of};
+use crate::ticket::{Open, Ticket};
 use crate::verdict::Verdict;
-use st_ilp::{IlpError, Moment, Prepare, read_prepare, write_prepare};
-use std::alloc::{AllocError, Allocator};
+use crate::waiting::{Waiting, is_waiting};
+use st_ilp::{IlpError, Moment, Prepare, answer_law, read_prepare, write_prepare};
+use std::alloc::Allocator;
+use std::collections::BTreeMap;
 use std::marker::Model;
 
 /// The milliseconds of a Prepare's time that the hop keeps for itself.
@@ -36,17 +36,18 @@ const HOP_TIME: i64 = 1000;
 pub struct HopState<A: Allocator + Copy> {
     own: String<A>,
     accounts: Vec<Account, A>,
-    routes: Vec<KeptRoute<A>, A>,
+    routes: Routes<A>,
     claims: Vec<u64, A>,
     dues: Vec<u64, A>,
-    tickets: Vec<Open, A>,
+    waiting: BTreeMap<u64, Waiting<A>, A>,
     next: u64,
-    // Sums over the open tickets: by account, and of all accounts with what is booked. Each is below 2^63.
+    // What the open tickets hold, by account.
     held: Vec<u64, A>,
+    // Sums over all accounts, of what is booked and of that with what the open tickets add. Each is below 2^63.
+    all_claims: u64,
+    all_dues: u64,
     claimed: u64,
     due: u64,
-    // One for each open ticket.
-    rooms: Vec<Room<A>, A>,
     t00: Vec<u8, A>,
     alloc: A,
 }
@@ -55,15 +56,15 @@ impl<A: Allocator + Copy> Model for HopState<A> {
     ghost use Rattle.std.specs.Prelude.{string_bytes};
     ghost use Rattle.std.specs.Coded.{codes};
     ghost use Rattle.st_hop.specs.Hop.{Hop};
-    ghost use Rattle.st_hop.specs.Inside.{IsSound};
+    ghost use Rattle.st_hop.specs.Inside.{IsSound, tickets_of};
 
     ghost Value = { Hop };
 
     ghost coded = { Prim.hlevel (codes) };
 
-    ghost view = { λ s. record { own = string_bytes s.own; accounts = s.accounts.items; routes = s.routes.items; claims = s.claims.items; dues = s.dues.items; tickets = s.tickets.items; next = s.next } };
+    ghost view = { λ s. record { own = string_bytes s.own; accounts = s.accounts.items; routes = s.routes; claims = s.claims.items; dues = s.dues.items; tickets = tickets_of s.waiting.entries; next = s.next } };
 
-    ghost invariant = { λ s. IsSound (record { own = string_bytes s.own; accounts = s.accounts.items; routes = s.routes.items; claims = s.claims.items; dues = s.dues.items; tickets = s.tickets.items; next = s.next }) s.held.items s.claimed s.due s.rooms.items s.t00.items };
+    ghost invariant = { λ s. IsSound (record { own = string_bytes s.own; accounts = s.accounts.items; routes = s.routes; claims = s.claims.items; dues = s.dues.items; tickets = tickets_of s.waiting.entries; next = s.next }) s.held.items s.all_claims s.all_dues s.claimed s.due s.waiting.entries s.t00.items };
 }
 
 /// Whether an amount is above what the account's limit leaves.
@@ -72,36 +73,6 @@ fn is_beyond(account: &Account, claims: u64, held: u64, dues: u64, amount: u64) 
 {
     u128::from(account.limit) + u128::from(dues)
         < u128::from(claims) + u128::from(held) + u128::from(amount)
-}
-
-/// Puts in a ticket and the room for its answer, or neither.
-fn put_in<A: Allocator + Copy>(
-    tickets: &mut Vec<Open, A>,
-    rooms: &mut Vec<Room<A>, A>,
-    ticket: Open,
-    room: Room<A>,
-) -> Result<(), AllocError>
-    ensures tickets { OnOk result (tickets.new.items ≡ tickets.old.items ++ ticket ∷ []) }
-    ensures rooms { OnOk result (rooms.new.items ≡ rooms.old.items ++ room ∷ []) }
-    ensures same_tickets { OnErr result (tickets.new.items ≡ tickets.old.items) }
-    ensures same_rooms { OnErr result (rooms.new.items ≡ rooms.old.items) }
-{
-    rooms.reserve(1)?;
-    tickets.reserve(1)?;
-    rooms.push(room).unwrap();
-    tickets.push(ticket).unwrap();
-    Ok(())
-}
-
-/// One of the rooms, all of which serve this address.
-fn take_room<A: Allocator + Copy>(rooms: &mut Vec<Room<A>, A>, own: &String<A>) -> Room<A>
-    requires some { 0 < length rooms.old.items }
-    requires serve { AllByRecursion (Serves (string_bytes own.now)) rooms.old.items }
-    ensures serves { Serves (string_bytes own.now) result }
-    ensures len { length rooms.new.items + 1 ≡ length rooms.old.items }
-    ensures serve { AllByRecursion (Serves (string_bytes own.now)) rooms.new.items }
-{
-    rooms.pop().unwrap()
 }
 
 /// The Prepare as it goes on.
@@ -132,21 +103,20 @@ impl<A: Allocator + Copy> HopState<A> {
         ensures made { IfOk result (λ h. h ≡ new_hop own.now accounts.now (map way_seen routes.now)) }
         ensures refused { MatchBool (is_table own.now accounts.now (map way_seen routes.now)) (IsOkUnless result HopError.NoMemory) (IsErrOf result HopError.BadTable) }
     {
-        if !is_table(own, accounts, routes) {
-            return Err(HopError::BadTable);
-        }
+        let routes = routes_of(alloc, own, accounts, routes)?;
         Ok(HopState {
             own: String::from_str(alloc, own)?,
             accounts: Vec::from_slice(alloc, accounts)?,
-            routes: keep_routes(alloc, routes)?,
+            routes,
             claims: zeros(alloc, accounts.len())?,
             dues: zeros(alloc, accounts.len())?,
-            tickets: Vec::new(alloc),
+            waiting: BTreeMap::new(alloc),
             next: 0,
             held: zeros(alloc, accounts.len())?,
+            all_claims: 0,
+            all_dues: 0,
             claimed: 0,
             due: 0,
-            rooms: Vec::new(alloc),
             t00: reject(alloc, own, Refusal::InternalError)?,
             alloc,
         })
@@ -174,15 +144,28 @@ impl<A: Allocator + Copy> HopState<A> {
     ///
     /// Refuses with `NoAccount` where there is no such account.
     pub fn held(&self, account: usize) -> Result<u64, HopError>
-        ensures held { result ≡ (if nat_lt account (length self.now.accounts) then Ok (held_of self.now account) else Err HopError.NoAccount) }
-        ensures lawful { IsLawful self.now }
+        ensures { result ≡ (if nat_lt account (length self.now.accounts) then Ok (held_of self.now account) else Err HopError.NoAccount) }
     {
         self.held.get(account).copied().ok_or(HopError::NoAccount)
     }
 
+    /// What all accounts together owe the hop. It takes no memory.
+    pub fn all_claims(&self) -> u64
+        ensures { result ≡ sum self.now.claims }
+    {
+        self.all_claims
+    }
+
+    /// What the hop owes all accounts together. It takes no memory.
+    pub fn all_dues(&self) -> u64
+        ensures { result ≡ sum self.now.dues }
+    {
+        self.all_dues
+    }
+
     /// A Reject T00 that stands ready for where memory is refused (RFC 0027). It takes no memory.
     pub fn t00(&self) -> &[u8]
-        ensures { result.now ≡ reject_text self.now.own InternalError }
+        ensures { result.now ≡ t00_text self.now.own }
     {
         self.t00.as_slice()
     }
@@ -191,7 +174,7 @@ impl<A: Allocator + Copy> HopState<A> {
     pub fn is_open(&self, ticket: &Ticket) -> bool
         ensures { IsTrue result ↔ IsAmong self.now.tickets ticket.now }
     {
-        is_among(&self.tickets, ticket.read())
+        is_waiting(&self.waiting, ticket.read())
     }
 
     /// Whether the amount goes past the account's limit, or a sum of the hop past 2^63 - 1.
@@ -224,7 +207,7 @@ impl<A: Allocator + Copy> HopState<A> {
         if prepare.expiry <= now.ms() + HOP_TIME {
             return Err(Refusal::InsufficientTimeout);
         }
-        let Some(outgoing) = route_to(&self.routes, prepare.destination) else {
+        let Some(outgoing) = self.routes.account_of(prepare.destination) else {
             return Err(Refusal::Unreachable);
         };
         if outgoing == account {
@@ -232,6 +215,9 @@ impl<A: Allocator + Copy> HopState<A> {
         }
         if self.is_over_limit(account, prepare.amount) {
             return Err(Refusal::InsufficientLiquidity);
+        }
+        if self.next == u64::MAX {
+            return Err(Refusal::InternalError);
         }
         Ok(outgoing)
     }
@@ -255,18 +241,15 @@ impl<A: Allocator + Copy> HopState<A> {
         requires incoming { incoming < length self.old.accounts }
         requires outgoing { outgoing < length self.old.accounts }
         requires fits { is_over_limit self.old incoming received.now.amount sent.now.amount ≡ false }
+        requires number { self.old.next < last_next }
         ensures held { IfOk result (λ t. self.new ≡ holding self.old t) }
         ensures ticket { IfOk result (λ t. t ≡ ticket_for self.old.next incoming outgoing (prepare_seen received.now) (prepare_seen sent.now)) }
         ensures only_memory { IsOkUnless result HopError.NoMemory }
         ensures unchanged { OnErr result (self.new ≡ self.old) }
     {
-        let number = self.next;
-        let Some(next) = number.checked_add(1) else {
-            return Err(HopError::NoMemory);
-        };
         let room = Room::new(self.alloc, self.own.as_str(), Refusal::PeerUnreachable)?;
         let ticket = Open {
-            number,
+            number: self.next,
             incoming,
             outgoing,
             amount_in: received.amount,
@@ -274,11 +257,13 @@ impl<A: Allocator + Copy> HopState<A> {
             condition: sent.condition,
             expiry: sent.expiry,
         };
-        put_in(&mut self.tickets, &mut self.rooms, ticket, room)?;
+        let _ = self
+            .waiting
+            .insert(ticket.number, Waiting { ticket, room })?;
         raise(&mut self.held, incoming, received.amount);
         self.claimed += received.amount;
         self.due += sent.amount;
-        self.next = next;
+        self.next += 1;
         Ok(Ticket::new(ticket))
     }
 
@@ -292,6 +277,7 @@ impl<A: Allocator + Copy> HopState<A> {
         requires incoming { incoming < length self.old.accounts }
         requires outgoing { outgoing < length self.old.accounts }
         requires fits { is_over_limit self.old incoming prepare.now.amount prepare.now.amount ≡ false }
+        requires number { self.old.next < last_next }
         requires time { pos 1000 ≤ℤ prepare.now.expiry }
         requires written { prepare_refusal (onward (prepare_seen prepare.now)) ≡ None }
         ensures sent { IfOk result (λ v. sent_on self.old incoming (prepare_seen prepare.now) (Ok outgoing) ≡ (verdict_seen v, self.new)) }
@@ -315,8 +301,8 @@ impl<A: Allocator + Copy> HopState<A> {
     /// Takes the bytes of a Prepare that came from an account: gives the Prepare that goes on, with a ticket for its
     /// answer, or the Reject that answers it (RFC 0027). The amount of one that goes on is held against the account.
     ///
-    /// The ticket is open afterwards, as `settle` asks. Refuses with `NoAccount` where there is no such account, and else
-    /// with `NoMemory` where there was none, or where 2^64 - 1 tickets were given out.
+    /// The ticket is open afterwards, as `settle` asks. Once 2^64 - 1 tickets were given out, the answer is T00. Refuses
+    /// with `NoAccount` where there is no such account, and else with `NoMemory` where memory was refused.
     pub fn arrive(
         &mut self,
         account: usize,
@@ -325,6 +311,8 @@ impl<A: Allocator + Copy> HopState<A> {
     ) -> Result<Verdict<A>, HopError>
         ensures arrived { IfOk result (λ v. arrived self.old account bytes.now now ≡ (verdict_seen v, self.new)) }
         ensures ready { IfOk result (λ v. IsReady self.new v) }
+        ensures across { IfOk result (λ v. GoesAcross self.old account v) }
+        ensures books_nothing { (self.new.claims ≡ self.old.claims) × (self.new.dues ≡ self.old.dues) }
         ensures refused { MatchBool (nat_lt account (length self.old.accounts)) (IsOkUnless result HopError.NoMemory) (IsErrOf result HopError.NoAccount) }
         ensures unchanged { OnErr result (self.new ≡ self.old) }
     {
@@ -340,29 +328,34 @@ impl<A: Allocator + Copy> HopState<A> {
         }
     }
 
-    /// Ends the hold of an open ticket, and books nothing.
+    /// Ends the hold of an open ticket, and books nothing. Gives the room for the hop's own Reject.
     fn release(&mut self, ticket: Open) -> Room<A>
         requires { IsAmong self.old.tickets ticket }
         ensures state { self.new ≡ released self.old ticket }
         ensures room { Serves self.old.own result }
+        ensures lawful { IsLawful self.old }
     {
-        take_ticket(&mut self.tickets, ticket.number);
+        let Waiting { ticket: _, room } = self.waiting.remove(&ticket.number).unwrap();
         lower(&mut self.held, ticket.incoming, ticket.amount_in);
         self.claimed -= ticket.amount_in;
         self.due -= ticket.amount_out;
-        take_room(&mut self.rooms, &self.own)
+        room
     }
 
     /// Ends the hold of an open ticket, and books its claim and its due.
     fn book(&mut self, ticket: Open)
         requires { IsAmong self.old.tickets ticket }
-        ensures { self.new ≡ booked self.old ticket }
+        ensures state { self.new ≡ booked self.old ticket }
+        ensures claims { sum self.new.claims ≡ sum self.old.claims + ticket.amount_in }
+        ensures dues { sum self.new.dues ≡ sum self.old.dues + ticket.amount_out }
     {
-        take_ticket(&mut self.tickets, ticket.number);
-        lower(&mut self.held, ticket.incoming, ticket.amount_in);
+        self.release(ticket);
         raise(&mut self.claims, ticket.incoming, ticket.amount_in);
         raise(&mut self.dues, ticket.outgoing, ticket.amount_out);
-        take_room(&mut self.rooms, &self.own);
+        self.all_claims += ticket.amount_in;
+        self.all_dues += ticket.amount_out;
+        self.claimed += ticket.amount_in;
+        self.due += ticket.amount_out;
     }
 
     /// Ends the hold of an open ticket with the hop's own Reject.
@@ -371,18 +364,23 @@ impl<A: Allocator + Copy> HopState<A> {
         requires plain { payload_of refusal ≡ [] }
         ensures state { self.new ≡ released self.old ticket }
         ensures text { result.items ≡ reject_text self.old.own refusal }
+        ensures fails { is_fulfill result.items ≡ false }
     {
         let room = self.release(ticket);
+        answer_law();
         room.write(self.own.as_str(), refusal)
     }
 
     /// Ends a ticket with what came back: gives the bytes that answer the Prepare (RFC 0027). It takes no memory.
     ///
-    /// The claim and the due are booked where a Fulfill that fits came before the Prepare that went on expired. The
-    /// caller's condition is that the ticket is open here, as `is_open` tells.
+    /// The claim and the due are booked where a Fulfill that fits came before the Prepare that went on expired; exactly
+    /// then the answer is a Fulfill. The caller's condition is that the ticket is open here, as `is_open` tells.
     pub fn settle(&mut self, ticket: Ticket, outcome: Outcome<A>, now: Moment) -> Vec<u8, A>
         requires { IsAmong self.old.tickets ticket }
-        ensures { settled self.old ticket (outcome_seen outcome) now ≡ (result.items, self.new) }
+        ensures settled { settled self.old ticket (outcome_seen outcome) now ≡ (result.items, self.new) }
+        ensures claims { sum self.new.claims ≡ sum self.old.claims + claim_of ticket (outcome_seen outcome) now }
+        ensures dues { sum self.new.dues ≡ sum self.old.dues + due_of ticket (outcome_seen outcome) now }
+        ensures fulfills { is_fulfill result.items ≡ is_booked ticket (outcome_seen outcome) now }
     {
         let ticket = ticket.spend();
         match outcome {
@@ -399,5 +397,13 @@ impl<A: Allocator + Copy> HopState<A> {
                 Err(refusal) => self.release_with(ticket, refusal),
             },
         }
+    }
+
+    /// A law of every hop, for callers that keep no list of what was done to it: its accounts are within their limits, its
+    /// sums below 2^63, and its tickets in the order of their numbers. It does nothing.
+    pub fn is_lawful(&self)
+        ensures { IsLawful self.now }
+    {
+        let _own = &self.own;
     }
 }

@@ -1,13 +1,13 @@
 //! Laws of the definitions.
 
-ghost use Rattle.std.specs.Prelude.{◌≡◌, ◌≢◌, ℕ, ℤ, List, Option, true, slice_index};
+ghost use Rattle.std.specs.Prelude.{◌≡◌, ◌≢◌, ℕ, ◌+◌, ◌<◌, ℤ, List, Option, true, length, slice_index, sum};
 ghost use Rattle.std.specs.List.{sum_by};
 ghost use Rattle.st_hop.specs.declared.account.Account as accounts;
 ghost use Rattle.st_hop.specs.declared.ticket.Open as tickets;
 ghost use Rattle.st_hop.specs.Hop.{Hop, Way, held_for, due_for};
 ghost use Rattle.st_hop.specs.Tickets.{IsAmong};
 ghost use Rattle.st_hop.specs.Arriving.{Forwards, arrived};
-ghost use Rattle.st_hop.specs.Settling.{settled};
+ghost use Rattle.st_hop.specs.Settling.{settled, claim_of, due_of, is_booked, is_fulfill, KeepsRest};
 ghost use Rattle.st_hop.specs.Table.{is_table, new_hop};
 ghost use Rattle.st_hop.specs.Lawful.{IsLawful};
 ghost use Rattle.st_hop.specs.Runs.{Act, run, fulfilled};
@@ -36,3 +36,21 @@ pub fn tickets_settle_once()
     ensures spent { (h : Hop) (t : tickets.Open) (outcome : Option (List ℕ)) (now : ℤ) → IsLawful h → ¬ (IsAmong (settled h t outcome now).1.tickets t) }
     ensures others { (h : Hop) (t u : tickets.Open) (outcome : Option (List ℕ)) (now : ℤ) → u.number ≢ t.number → IsAmong h.tickets u → IsAmong (settled h t outcome now).1.tickets u }
 {}
+
+/// A Prepare goes on to an account that is there, and not the one that it came from. An arrival books nothing.
+pub fn arrivals_go_across()
+    ensures across { (h : Hop) (account : ℕ) (bytes : List ℕ) (now : ℤ) → IsLawful h → (t : tickets.Open) (outgoing : ℕ) (text : List ℕ) → (arrived h account bytes now).0 ≡ Forwards t outgoing text → (outgoing < length h.accounts) × (outgoing ≢ account) }
+    ensures nothing_booked { (h : Hop) (account : ℕ) (bytes : List ℕ) (now : ℤ) → ((arrived h account bytes now).1.claims ≡ h.claims) × ((arrived h account bytes now).1.dues ≡ h.dues) }
+{}
+
+/// Settling an open ticket raises the sum of all claims by the ticket's amount where it was fulfilled, and the sum of all
+/// dues by the amount that went on; else both stay. It gives back a Fulfill exactly where it booked. All else but the
+/// ticket stays.
+pub fn settlements_book()
+    ensures claims { (h : Hop) (t : tickets.Open) (outcome : Option (List ℕ)) (now : ℤ) → IsLawful h → IsAmong h.tickets t → sum (settled h t outcome now).1.claims ≡ sum h.claims + claim_of t outcome now }
+    ensures dues { (h : Hop) (t : tickets.Open) (outcome : Option (List ℕ)) (now : ℤ) → IsLawful h → IsAmong h.tickets t → sum (settled h t outcome now).1.dues ≡ sum h.dues + due_of t outcome now }
+    ensures fulfills { (h : Hop) (t : tickets.Open) (outcome : Option (List ℕ)) (now : ℤ) → IsLawful h → is_fulfill (settled h t outcome now).0 ≡ is_booked t outcome now }
+    ensures keeps_rest { (h : Hop) (t : tickets.Open) (outcome : Option (List ℕ)) (now : ℤ) → KeepsRest h (settled h t outcome now).1 t }
+{
+    st_ilp::answer_law();
+}

@@ -17,13 +17,18 @@ mod settling;
 mod table;
 mod ticket;
 mod verdict;
+mod waiting;
 
 pub use account::Account;
 pub use error::HopError;
 pub use hop::HopState;
-pub use laws::{every_run_balances, every_run_is_lawful, longest_route_law, tickets_settle_once};
+pub use laws::{
+    arrivals_go_across, every_run_balances, every_run_is_lawful, longest_route_law,
+    settlements_book, tickets_settle_once,
+};
+pub use refusal::Refusal;
 pub use route::Route;
-pub use settling::Outcome;
+pub use settling::{Closing, Outcome};
 pub use ticket::{Open, Ticket};
 pub use verdict::Verdict;
 

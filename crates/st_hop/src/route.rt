@@ -1,13 +1,15 @@
 //! Routes by address.
 
-ghost use Rattle.std.specs.Prelude.{◌≡◌, IfOk, map, Option};
-ghost use Rattle.st_hop.specs.Hop.{Way};
+ghost use Rattle.std.specs.Prelude.{◌≡◌, ◌<◌, ◌||◌, ℕ, List, true, false, length, map, bytes_eq, IfOk, IfSome, IsNone, MatchOption};
+ghost use Rattle.st_oer.specs.Address.{is_within};
 ghost use Rattle.st_hop.specs.Routing.{route_to};
 ghost use Rattle.st_hop.specs.Seen.{way_seen};
+ghost use Rattle.st_hop.specs.Table.{is_distinct};
 ghost use Rattle.st_hop.specs.Ways.{account_of};
 
-use st_oer::is_within;
+use indexmap::IndexMap;
 use std::alloc::{AllocError, Allocator};
+use std::hash::{BuildHasherDefault, FoldHasher};
 use std::marker::Model;
 
 /// Where the addresses within a prefix go. The longest prefix of whole segments decides.
@@ -19,65 +21,65 @@ pub struct Route<'a> {
     pub account: usize,
 }
 
-/// A route that the hop keeps.
+/// The routes that a hop keeps: each prefix with its account, in the order in which they were given.
 #[derive(Drop)]
-pub(crate) struct KeptRoute<A: Allocator + Copy> {
-    prefix: String<A>,
-    account: usize,
+pub(crate) struct Routes<A: Allocator + Copy> {
+    accounts: IndexMap<String<A>, usize, BuildHasherDefault<FoldHasher>, A>,
 }
 
-impl<A: Allocator + Copy> Model for KeptRoute<A> {
-    ghost use Rattle.std.specs.Prelude.{string_bytes};
+impl<A: Allocator + Copy> Model for Routes<A> {
+    ghost use Rattle.std.specs.Prelude.{List, map};
     ghost use Rattle.std.specs.Coded.{codes};
-    ghost use Rattle.st_hop.specs.Hop as hop;
+    ghost use Rattle.st_hop.specs.Hop.{Way};
+    ghost use Rattle.st_hop.specs.Ways.{way_kept};
 
-    ghost Value = { hop.Way };
+    ghost Value = { List Way };
 
     ghost coded = { Prim.hlevel (codes) };
 
-    ghost view = { λ r. record { prefix = string_bytes r.prefix; account = r.account } };
+    ghost view = { λ r. map way_kept r.accounts.entries };
 }
 
-impl<A: Allocator + Copy> KeptRoute<A> {
-    fn new(alloc: A, route: &Route<'_>) -> Result<KeptRoute<A>, AllocError>
-        ensures { IfOk result (λ r. r ≡ way_seen route.now) }
+/// An address without its last segment, if it has another one.
+fn parent(address: &str) -> Option<&str>
+    ensures shorter { IfSome result (λ front. length front.now < length address.now) }
+    ensures within { IfSome result (λ front. (prefix : List ℕ) → is_within prefix address.now ≡ (bytes_eq address.now prefix || is_within prefix front.now)) }
+    ensures alone { IsNone result → (prefix : List ℕ) → is_within prefix address.now ≡ bytes_eq address.now prefix }
+{
+    let (front, _) = address.rsplit_once('.')?;
+    Some(front)
+}
+
+impl<A: Allocator + Copy> Routes<A> {
+    /// A copy of the routes, or none where a prefix stands twice.
+    pub(crate) fn new(alloc: A, routes: &[Route<'_>]) -> Result<Option<Routes<A>>, AllocError>
+        ensures kept { IfOk result (λ kept. IfSome kept (λ r. r ≡ map way_seen routes.now)) }
+        ensures distinct { IfOk result (λ kept. MatchOption kept (is_distinct (map way_seen routes.now) ≡ false) (λ _. is_distinct (map way_seen routes.now) ≡ true)) }
     {
-        Ok(KeptRoute {
-            prefix: String::from_str(alloc, route.prefix)?,
-            account: route.account,
-        })
+        let mut accounts = IndexMap::with_capacity_and_hasher(
+            alloc,
+            routes.len(),
+            BuildHasherDefault::new(),
+        )?;
+        for route in routes {
+            let prefix = String::from_str(alloc, route.prefix)?;
+            if accounts.insert(prefix, route.account)?.is_some() {
+                return Ok(None);
+            }
+        }
+        Ok(Some(Routes { accounts }))
     }
-}
 
-/// A copy of the routes.
-pub(crate) fn keep_routes<A: Allocator + Copy>(
-    alloc: A,
-    routes: &[Route<'_>],
-) -> Result<Vec<KeptRoute<A>, A>, AllocError>
-    ensures { IfOk result (λ kept. kept.items ≡ map way_seen routes.now) }
-{
-    let mut kept = Vec::with_capacity(alloc, routes.len())?;
-    for route in routes {
-        kept.push(KeptRoute::new(alloc, route)?)?;
-    }
-    Ok(kept)
-}
-
-/// The account to which an address goes.
-pub(crate) fn route_to<A: Allocator + Copy>(
-    routes: &Vec<KeptRoute<A>, A>,
-    address: &str,
-) -> Option<usize>
-    ensures { result ≡ account_of (route_to routes.now.items address.now) }
-{
-    let mut best: Option<(usize, usize)> = None;
-    for route in routes {
-        let length = route.prefix.len();
-        if is_within(route.prefix.as_str(), address)
-            && best.is_none_or(|(longest, _)| longest < length)
-        {
-            best = Some((length, route.account));
+    /// The account to which an address goes. It takes a look-up for each segment of the address.
+    pub(crate) fn account_of(&self, address: &str) -> Option<usize>
+        ensures { result ≡ account_of (route_to self.now address.now) }
+    {
+        let mut prefix = address;
+        loop {
+            if let Some(account) = self.accounts.get(prefix) {
+                return Some(*account);
+            }
+            prefix = parent(prefix)?;
         }
     }
-    best.map(|(_, account)| account)
 }

@@ -1,13 +1,15 @@
 //! The table that a hop is made of.
 
-ghost use Rattle.std.specs.Prelude.{◌≡◌, ◌^◌, ℕ, length, map, nat_lt};
+ghost use Rattle.std.specs.Prelude.{◌≡◌, ◌^◌, ℕ, true, length, map, nat_lt, IfOk, OnOk, MatchBool, IsOkUnless, IsErrOf};
 ghost use Rattle.std.specs.List.{list_all, list_any};
-ghost use Rattle.st_hop.specs.Table.{is_table, is_distinct, is_account, is_way, has_prefix};
+ghost use Rattle.st_hop.specs.Table.{are_parts, is_table, is_distinct, is_account, is_way, has_prefix};
 ghost use Rattle.st_hop.specs.Seen.{way_seen};
 
 use crate::account::Account;
-use crate::route::Route;
+use crate::error::HopError;
+use crate::route::{Route, Routes};
 use st_oer::is_address;
+use std::alloc::{AllocError, Allocator};
 
 /// The greatest limit of an account, and the greatest sum of claims, holds or dues.
 pub(crate) const MAX_SUM: u64 = (1 << 63) - 1;
@@ -55,13 +57,38 @@ fn are_accounts(accounts: &[Account]) -> bool
     accounts.iter().all(|account| account.limit <= MAX_SUM)
 }
 
-/// Whether a hop can be made of these.
-#[tactic(auto, unfolding(crate::specs::Table::is_table))]
-pub(crate) fn is_table(own: &str, accounts: &[Account], routes: &[Route<'_>]) -> bool
-    ensures { result ≡ is_table own.now accounts.now (map way_seen routes.now) }
+/// Whether a hop can be made of these, but for prefixes that stand twice.
+fn are_parts(own: &str, accounts: &[Account], routes: &[Route<'_>]) -> bool
+    ensures { result ≡ are_parts own.now accounts.now (map way_seen routes.now) }
 {
-    is_address(own)
-        && are_accounts(accounts)
-        && are_ways(accounts.len(), routes)
-        && is_distinct(routes)
+    is_address(own) && are_accounts(accounts) && are_ways(accounts.len(), routes)
+}
+
+/// The routes of a table of which a hop can be made.
+///
+/// Prefixes are compared with each other only where memory for them was refused.
+pub(crate) fn routes_of<A: Allocator + Copy>(
+    alloc: A,
+    own: &str,
+    accounts: &[Account],
+    routes: &[Route<'_>],
+) -> Result<Routes<A>, HopError>
+    ensures kept { IfOk result (λ kept. kept ≡ map way_seen routes.now) }
+    ensures lawful { OnOk result (is_table own.now accounts.now (map way_seen routes.now) ≡ true) }
+    ensures refused { MatchBool (is_table own.now accounts.now (map way_seen routes.now)) (IsOkUnless result HopError.NoMemory) (IsErrOf result HopError.BadTable) }
+{
+    if !are_parts(own, accounts, routes) {
+        return Err(HopError::BadTable);
+    }
+    match Routes::new(alloc, routes) {
+        Ok(Some(kept)) => Ok(kept),
+        Ok(None) => Err(HopError::BadTable),
+        Err(AllocError) => {
+            if is_distinct(routes) {
+                Err(HopError::NoMemory)
+            } else {
+                Err(HopError::BadTable)
+            }
+        }
+    }
 }

@@ -1,10 +1,7 @@
-//! Prepares that went on and wait for their answer.
+//! The right to settle a Prepare that went on.
 
-ghost use Rattle.std.specs.Prelude.{◌≡◌, ◌↔◌, IsTrue, IfSome, IsNone, None};
-ghost use Rattle.st_hop.specs.Tickets.{ticket_at, without, IsAmong, IsPlace};
-ghost use Rattle.st_hop.specs.Lawful.{IsRising};
+ghost use Rattle.std.specs.Prelude.{◌≡◌};
 
-use std::alloc::Allocator;
 use std::marker::Model;
 
 /// What the hop knows of a Prepare that went on.
@@ -47,7 +44,8 @@ impl Ticket {
         Ticket { open: ticket }
     }
 
-    pub(crate) fn read(&self) -> Open
+    /// What the ticket says: its number, accounts and amounts.
+    pub fn read(&self) -> Open
         ensures { result ≡ self.now }
     {
         self.open
@@ -64,42 +62,4 @@ impl Ticket {
     pub fn abandon(self) {
         let Ticket { open: _ } = self;
     }
-}
-
-/// Where the ticket of a number stands among tickets in the order of their numbers.
-fn place_of(tickets: &[Open], number: u64) -> Option<usize>
-    requires { IsRising tickets.now }
-    ensures found { IfSome result (IsPlace tickets.now number) }
-    ensures absent { IsNone result → ticket_at tickets.now number ≡ None }
-{
-    tickets
-        .binary_search_by_key(&number, |ticket| ticket.number)
-        .ok()
-}
-
-/// Takes out the ticket of a number.
-pub(crate) fn take_ticket<A: Allocator>(tickets: &mut Vec<Open, A>, number: u64) -> Option<Open>
-    requires { IsRising tickets.old.items }
-    ensures found { result ≡ ticket_at tickets.old.items number }
-    ensures rest { tickets.new.items ≡ without tickets.old.items number }
-{
-    let place = place_of(tickets, number)?;
-    Some(tickets.remove(place))
-}
-
-/// The ticket of a number.
-fn find_ticket(tickets: &[Open], number: u64) -> Option<Open>
-    requires { IsRising tickets.now }
-    ensures { result ≡ ticket_at tickets.now number }
-{
-    let place = place_of(tickets, number)?;
-    Some(tickets[place])
-}
-
-/// Whether this very ticket is one of these.
-pub(crate) fn is_among(tickets: &[Open], ticket: Open) -> bool
-    requires { IsRising tickets.now }
-    ensures { IsTrue result ↔ IsAmong tickets.now ticket }
-{
-    find_ticket(tickets, ticket.number) == Some(ticket)
 }

@@ -6,3 +6,5 @@ pub mod FixedLengths
 pub mod Sizes
 pub mod FieldLaws
 pub mod PacketReads
+pub mod Apart
+pub mod Memory

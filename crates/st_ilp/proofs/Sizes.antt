@@ -11,12 +11,12 @@ use Rattle.st_oer.proofs.Bytes.{length-bytes_high_first}
 use Rattle.st_ilp.specs.Packets.{PreparePacket, AnswerPacket, Fulfilled, Rejected}
 use Rattle.st_ilp.specs.Expiry.{expiry_text}
 use Rattle.st_ilp.specs.Spelling.{prepare_contents, prepare_text, answer_contents, answer_text}
-use Rattle.st_ilp.specs.Writing.{octets_size, reject_contents_size, reject_size, answer_refusal}
+use Rattle.st_ilp.specs.Writing.{octets_size, reject_contents_size, reject_size, size_of_prepare, size_of_answer, answer_refusal}
 use Rattle.st_ilp.specs.declared.error.IlpError.{IlpError}
 use Rattle.st_ilp.specs.declared.error.IlpError.TheVariants.{Address, Code, DataTooLong}
 use Rattle.st_ilp.specs.Rules.{max_data, max_message, is_data, is_sender, is_code}
 use Rattle.st_ilp.proofs.AddressTexts.{address_is_short, sender_is_short}
-use Rattle.st_ilp.specs.Laws.{RejectsHaveSize}
+use Rattle.st_ilp.specs.Laws.{IsAnswerTyped, RejectsHaveSize, TextsHaveSize}
 
 pub size_short : (n : ℕ) → n < 128 → length (length_bytes n) ≡ 1
 size_short n lt = rw (length_is_short n lt) refl
@@ -93,6 +93,13 @@ fulfill_text-size fulfillment payload h =
 pub prepare_text-size : (p : PreparePacket) → length p.condition ≡ 32
     → length (prepare_text p) ≡ 1 + octets_size (57 + (octets_size (length p.destination) + octets_size (length p.payload)))
 prepare_text-size p h = length-prepare_text p ∙ ap (λ (n : ℕ). 1 + octets_size n) (prepare_size p h)
+
+answer_has_size : (a : AnswerPacket) → IsAnswerTyped a → length (answer_text a) ≡ size_of_answer a
+answer_has_size (Fulfilled fulfillment payload) typed = fulfill_text-size fulfillment payload typed
+answer_has_size (Rejected code by message payload) typed = reject_text-size code by message payload typed.0
+
+pub texts_have_size : TextsHaveSize
+texts_have_size = record { prepare = prepare_text-size; answer = answer_has_size }
 
 byte_count_few : (n : ℕ) → byte_count n ≤ 8
 byte_count_few n = grind (arith, nat_tests)

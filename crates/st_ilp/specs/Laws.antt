@@ -1,14 +1,15 @@
 -- Reading and spelling are two sides of one relation.
-use Rattle.std.specs.Prelude.{◌≡◌, ◌⊎◌, ℕ, ℤ, ◌<◌, ◌^◌, true, List, [], ◌++◌, length, None, Ok}
+use Rattle.std.specs.Prelude.{◌≡◌, ◌⊎◌, ℕ, ℤ, ◌<◌, ◌^◌, true, false, List, [], ◌++◌, length, None, Ok, Err}
 use Rattle.st_oer.specs.Address.{is_address}
 use Rattle.st_oer.specs.Text.{is_utf8}
-use Rattle.st_oer.specs.Laws.{IsBytes}
+use Rattle.st_oer.specs.Laws.{IsBytes, Never}
+use Rattle.st_ilp.specs.declared.error.IlpError.TheVariants.{Kind, NoMemory}
 use Rattle.st_ilp.specs.Packets.{PreparePacket, AnswerPacket, Fulfilled, Rejected}
 use Rattle.st_ilp.specs.Expiry.{IsExpiry, is_expiry, expiry_text, expiry_at}
 use Rattle.st_ilp.specs.Rules.{is_data, is_sender, is_code}
 use Rattle.st_ilp.specs.Spelling.{prepare_text, answer_contents, answer_text}
-use Rattle.st_ilp.specs.Reading.{prepare_at, answer_at}
-use Rattle.st_ilp.specs.Writing.{prepare_refusal, answer_refusal, reject_size}
+use Rattle.st_ilp.specs.Reading.{prepare_at, answer_at, is_fulfill_text, is_reject_text}
+use Rattle.st_ilp.specs.Writing.{prepare_refusal, answer_refusal, reject_size, size_of_prepare, size_of_answer}
 
 -- ---- expiries
 
@@ -63,3 +64,23 @@ NoneBeginsAnother = (text rest : List ℕ) → IsSpelling text → IsSpelling (t
 -- a Reject without a message has its told size
 abbrev pub RejectsHaveSize : Type 0
 RejectsHaveSize = (code by payload : List ℕ) → length code ≡ 3 → length (answer_text (Rejected code by [] payload)) ≡ reject_size by (length payload)
+
+-- each text has its told size
+pub record TextsHaveSize : Type 0 where
+  pub prepare : (p : PreparePacket) → length p.condition ≡ 32 → length (prepare_text p) ≡ size_of_prepare p
+  pub answer : (a : AnswerPacket) → IsAnswerTyped a → length (answer_text a) ≡ size_of_answer a
+
+-- what spells a packet of one kind reads as none of another
+pub record KindsApart : Type 0 where
+  pub prepare : (p : PreparePacket) → answer_at (prepare_text p) ≡ Err Kind
+  pub answer : (a : AnswerPacket) → prepare_at (answer_text a) ≡ Err Kind
+  pub fulfill : (fulfillment payload : List ℕ) → is_reject_text (answer_text (Fulfilled fulfillment payload)) ≡ false
+  pub reject : (code by message payload : List ℕ) → is_fulfill_text (answer_text (Rejected code by message payload)) ≡ false
+
+-- ---- memory
+
+-- reading takes no memory
+pub record ReadsWithoutMemory : Type 0 where
+  pub expiry : Never NoMemory expiry_at
+  pub prepare : Never NoMemory prepare_at
+  pub answer : Never NoMemory answer_at

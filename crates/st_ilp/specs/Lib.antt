@@ -8,5 +8,6 @@ pub mod Reading
 pub mod Writing
 pub mod Errors
 pub mod Dates
+pub mod Inside
 pub mod Seen
 pub mod Laws

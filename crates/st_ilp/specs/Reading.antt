@@ -111,3 +111,21 @@ unfoldable pub answer_at : List ℕ → Result AnswerPacket IlpError
 answer_at bytes = do
   packet ← packet_at fulfill_kind reject_kind bytes
   if packet.0 == fulfill_kind then fulfill_within packet.1 else reject_within packet.1
+
+-- an answer that says a Fulfill, or a Reject
+abbrev pub fulfills : Result AnswerPacket IlpError → Bool
+fulfills (Ok (Fulfilled fulfillment payload)) = true
+fulfills (Ok (Rejected code by message payload)) = false
+fulfills (Err e) = false
+
+abbrev pub rejects : Result AnswerPacket IlpError → Bool
+rejects (Ok (Fulfilled fulfillment payload)) = false
+rejects (Ok (Rejected code by message payload)) = true
+rejects (Err e) = false
+
+-- bytes that read as a Fulfill, or as a Reject
+abbrev pub is_fulfill_text : List ℕ → Bool
+is_fulfill_text bytes = fulfills (answer_at bytes)
+
+abbrev pub is_reject_text : List ℕ → Bool
+is_reject_text bytes = rejects (answer_at bytes)

@@ -51,3 +51,12 @@ reject_contents_size by message data_length = 3 + (octets_size by + (octets_size
 -- how many bytes a Reject without a message takes
 unfoldable pub reject_size : List ℕ → ℕ → ℕ
 reject_size by data_length = 1 + octets_size (reject_contents_size (length by) 0 data_length)
+
+-- how many bytes a Prepare takes
+abbrev pub size_of_prepare : PreparePacket → ℕ
+size_of_prepare p = 1 + octets_size (57 + (octets_size (length p.destination) + octets_size (length p.payload)))
+
+-- how many bytes a Fulfill or Reject takes
+abbrev pub size_of_answer : AnswerPacket → ℕ
+size_of_answer (Fulfilled fulfillment payload) = 1 + octets_size (32 + octets_size (length payload))
+size_of_answer (Rejected code by message payload) = 1 + octets_size (reject_contents_size (length by) (length message) (length payload))

@@ -4,7 +4,8 @@ ghost use Rattle.std.specs.Prelude.{◌≡◌, ◌≢◌, ◌+◌, ◌-◌, ◌*
 ghost use Rattle.jiff_core.specs.DateTime.{civil_nanos};
 ghost use Rattle.st_oer.specs.Seen.{Gives};
 ghost use Rattle.st_ilp.specs.Calendar.{DateAndTime, Exists, milliseconds};
-ghost use Rattle.st_ilp.specs.Dates.{seen, named_by};
+ghost use Rattle.st_ilp.specs.Dates.{seen};
+ghost use Rattle.st_ilp.specs.Inside.{named_by};
 ghost use Rattle.st_ilp.specs.Expiry.{digits_of, expiry_at, written_expiry};
 
 use crate::error::IlpError;

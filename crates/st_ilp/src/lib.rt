@@ -17,7 +17,10 @@ mod writing;
 
 pub use error::IlpError;
 pub use expiry::{read_expiry, write_expiry};
-pub use laws::{answer_law, expiry_law, none_begins_another, prepare_law, reject_size_law};
+pub use laws::{
+    answer_law, expiry_law, kind_law, none_begins_another, prepare_law, reading_wants_no_memory,
+    reject_size_law, size_law,
+};
 pub use moment::Moment;
 pub use packet::{Answer, MAX_DATA, MAX_MESSAGE, Prepare};
 pub use reading::{read_answer, read_prepare};

@@ -64,7 +64,8 @@ pub(crate) fn append_reject<A: Allocator>(
 /// Exact wherever the number fits a `usize`. Else `usize::MAX`. No memory.
 #[tactic(auto, unfolding(crate::specs::Writing::reject_size))]
 pub fn reject_len(by: &str, data_len: usize) -> usize
-    ensures { reject_size by.now data_len < 2 ^ 64 → result ≡ reject_size by.now data_len }
+    ensures exact { reject_size by.now data_len < 2 ^ 64 → result ≡ reject_size by.now data_len }
+    ensures past { 2 ^ 64 ≤ reject_size by.now data_len → result ≡ usize.MAX }
 {
     size::reject_size(by.len(), 0, data_len)
 }

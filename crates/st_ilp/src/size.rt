@@ -5,18 +5,20 @@ ghost use Rattle.st_ilp.specs.Writing.{octets_size, reject_contents_size};
 
 use st_oer::length_size;
 
-/// How many bytes so many octets take with their length, wherever the number fits.
+/// How many bytes so many octets take with their length. `usize::MAX` where the number does not fit.
 pub(crate) fn octets_len(n: usize) -> usize
     ensures exact { octets_size n < 2 ^ 64 → result ≡ octets_size n }
     ensures small { n < 2 ^ 63 → result ≡ octets_size n }
+    ensures past { 2 ^ 64 ≤ octets_size n → result ≡ usize.MAX }
     ensures near { result ≤ n + 9 }
 {
     n.saturating_add(length_size(n as u64))
 }
 
-/// How many bytes the contents of a Reject take, wherever the number fits.
+/// How many bytes the contents of a Reject take. `usize::MAX` where the number does not fit.
 pub(crate) fn reject_contents_len(by: usize, message: usize, payload: usize) -> usize
-    ensures { reject_contents_size by message payload < 2 ^ 64 → result ≡ reject_contents_size by message payload }
+    ensures exact { reject_contents_size by message payload < 2 ^ 64 → result ≡ reject_contents_size by message payload }
+    ensures past { 2 ^ 64 ≤ reject_contents_size by message payload → result ≡ usize.MAX }
 {
     octets_len(by)
         .saturating_add(octets_len(message))
@@ -24,9 +26,10 @@ pub(crate) fn reject_contents_len(by: usize, message: usize, payload: usize) -> 
         .saturating_add(3)
 }
 
-/// How many bytes a Reject takes, wherever the number fits.
+/// How many bytes a Reject takes. `usize::MAX` where the number does not fit.
 pub(crate) fn reject_size(by: usize, message: usize, payload: usize) -> usize
-    ensures { 1 + octets_size (reject_contents_size by message payload) < 2 ^ 64 → result ≡ 1 + octets_size (reject_contents_size by message payload) }
+    ensures exact { 1 + octets_size (reject_contents_size by message payload) < 2 ^ 64 → result ≡ 1 + octets_size (reject_contents_size by message payload) }
+    ensures past { 2 ^ 64 ≤ 1 + octets_size (reject_contents_size by message payload) → result ≡ usize.MAX }
 {
     octets_len(reject_contents_len(by, message, payload)).saturating_add(1)
 }

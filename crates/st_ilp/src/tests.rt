@@ -64,6 +64,29 @@ fn worked_packets(rt: HostRuntime) {
 }
 
 #[test]
+fn lengths_of_rejects(rt: HostRuntime) {
+    // Kind, length, code, the lengths of three fields, and the data: beside the greatest data they take 24 bytes.
+    let last = usize::MAX;
+    let rows = [
+        (0, 8),
+        (121, 129),
+        (122, 131),
+        (127, 136),
+        (128, 138),
+        (last - 25, last - 1),
+        (last - 24, last),
+        (last - 23, last),
+        (last - 9, last),
+        (last, last),
+    ];
+    for (data, length) in rows {
+        assert_eq!(rt; reject_len("", data), length, "{data}");
+    }
+    assert_eq!(rt; reject_len("example.c", last - 33), last);
+    assert_eq!(rt; reject_len("example.c", last - 34), last - 1);
+}
+
+#[test]
 fn rejects_into_room(rt: HostRuntime) {
     let payload = [0, 0, 0, 0, 0, 0, 0, 0x96, 0, 0, 0, 0, 0, 0, 0, 0x64];
     let room = reject_len("example.c", payload.len());

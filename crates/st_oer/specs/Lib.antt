@@ -7,4 +7,6 @@ pub mod Address
 pub mod Text
 pub mod Errors
 pub mod Faults
+pub mod Tallies
 pub mod Turns
+pub mod FailAt

@@ -1,37 +1,36 @@
--- What one call of a device did to the bytes that are known of it.
-use Rattle.std.specs.Prelude.{◌≡◌, ◌≢◌, ◌⊎◌, ℕ, ◌<◌, ◌≤◌, List, length, take, Option}
+-- What one call of a device did: to the bytes that are known of it, and to its tally.
+use Rattle.std.specs.Prelude.{◌≡◌, ℕ, true, false, ◌<◌, ◌≤◌, List, [], length, take, Option, Result, Ok, Err}
 use Rattle.std.specs.Io.KnownBytes.{Appends, Consumes, IsAtEnd, Keeps}
-use Rattle.std.specs.declared.io.ErrorKind.{ErrorKind}
-use Rattle.std.specs.declared.io.ErrorKind.TheVariants.{Interrupted}
-use Rattle.st_oer.specs.Faults.{Rose}
-use Rattle.st_oer.specs.declared.turn.Turn.{Turn}
-use Rattle.st_oer.specs.declared.turn.Turn.TheVariants.{Moved, Again, Fault}
+use Rattle.st_oer.specs.Faults.{count_after}
+use Rattle.st_oer.specs.Tallies.{Completes, Fails, Interrupts}
+use Rattle.st_oer.specs.declared.tally.Tally.{Tally}
+use Rattle.st_oer.specs.declared.turn.ReadTurn.{ReadTurn}
+use Rattle.st_oer.specs.declared.turn.ReadTurn.TheVariants as read
+use Rattle.st_oer.specs.declared.turn.WriteTurn.{WriteTurn}
+use Rattle.st_oer.specs.declared.turn.WriteTurn.TheVariants as write
+use Rattle.st_oer.specs.declared.turn.FlushTurn.{FlushTurn}
+use Rattle.st_oer.specs.declared.turn.FlushTurn.TheVariants as flush
 use Rattle.st_oer.specs.declared.turn.PutError.{PutError}
 use Rattle.st_oer.specs.declared.turn.PutError.TheVariants as put
 
--- an error is a fault where it asks for no further call and the count has it; else the call is made again
-abbrev pub MeansTurn : ErrorKind → ℕ → ℕ → Turn → Type 0
-MeansTurn kind since count (Moved n) = ⊥
-MeansTurn kind since count Again = (kind ≡ Interrupted) ⊎ ¬ (Rose since count)
-MeansTurn kind since count Fault = (kind ≢ Interrupted) × Rose since count
+-- one read into buf, which holds what was read: the bytes still to come are old before the call and new after it
+abbrev pub DidRead : Option (List ℕ) → Option (List ℕ) → Tally → Tally → List ℕ → ReadTurn → Type 0
+DidRead old new t u buf (read.Bytes n) = (n ≤ length buf) × Consumes old new (take n buf) × (0 < length buf → 0 < n) × Completes t u × (u.flushed ≡ t.flushed)
+DidRead old new t u buf read.End = (0 < length buf) × Consumes old new [] × IsAtEnd new × Completes t u × (u.flushed ≡ t.flushed)
+DidRead old new t u buf read.Again = Keeps old new × Interrupts t u
+DidRead old new t u buf read.Fault = Keeps old new × Fails t u
 
--- one read into buf, which holds what was read; the bytes still to come are old before the call and new after it
-abbrev pub ReadTurn : Option (List ℕ) → Option (List ℕ) → ℕ → ℕ → List ℕ → Turn → Type 0
-ReadTurn old new since count buf (Moved n) = (n ≤ length buf) × Consumes old new (take n buf) × (n ≡ 0 → 0 < length buf → IsAtEnd new)
-ReadTurn old new since count buf Again = Keeps old new
-ReadTurn old new since count buf Fault = Keeps old new × Rose since count
-
--- one write of buf; the bytes written so far are old before the call and new after it
-abbrev pub WriteTurn : Option (List ℕ) → Option (List ℕ) → ℕ → ℕ → List ℕ → Turn → Type 0
-WriteTurn old new since count buf (Moved n) = (n ≤ length buf) × Appends old new (take n buf)
-WriteTurn old new since count buf Again = Keeps old new
-WriteTurn old new since count buf Fault = Keeps old new × Rose since count
+-- one write of buf: the bytes written so far are old before the call and new after it
+abbrev pub DidWrite : Option (List ℕ) → Option (List ℕ) → Tally → Tally → List ℕ → WriteTurn → Type 0
+DidWrite old new t u buf (write.Moved n) = (n ≤ length buf) × Appends old new (take n buf) × Completes t u × (u.flushed ≡ false)
+DidWrite old new t u buf write.Again = Keeps old new × Interrupts t u
+DidWrite old new t u buf write.Fault = Keeps old new × Fails t u
 
 -- one flush, which writes no bytes of its own
-abbrev pub FlushTurn : Option (List ℕ) → Option (List ℕ) → ℕ → ℕ → Turn → Type 0
-FlushTurn old new since count (Moved n) = (n ≡ 0) × Keeps old new
-FlushTurn old new since count Again = Keeps old new
-FlushTurn old new since count Fault = Keeps old new × Rose since count
+abbrev pub DidFlush : Option (List ℕ) → Option (List ℕ) → Tally → Tally → FlushTurn → Type 0
+DidFlush old new t u flush.Done = Keeps old new × Completes t u × (u.flushed ≡ true)
+DidFlush old new t u flush.Again = Keeps old new × Interrupts t u
+DidFlush old new t u flush.Fault = Keeps old new × Fails t u
 
 -- how many bytes were written before the error
 abbrev pub sent : PutError → ℕ
@@ -47,3 +46,9 @@ IsFault (put.Turns n) = ⊥
 abbrev pub IsTurns : PutError → Type 0
 IsTurns (put.Fault n) = ⊥
 IsTurns (put.Turns n) = Unit {0}
+
+-- the count of errors after a text was put: one more at a fault, and at a fault alone
+abbrev pub faults_after : {T : Type 0} → Result T PutError → ℕ → ℕ
+faults_after (Ok x) count = count
+faults_after (Err (put.Fault n)) count = count_after 1 count
+faults_after (Err (put.Turns n)) count = count

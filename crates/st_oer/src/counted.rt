@@ -1,12 +1,13 @@
-//! Readers and writers that count their errors.
+//! Readers and writers that count their calls and their errors.
 
-ghost use Rattle.std.specs.Prelude.{◌≡◌, ℕ};
+ghost use Rattle.std.specs.Prelude.{◌≡◌, ℕ, true, false, OnOk};
 ghost use Rattle.std.specs.Io.{ReadsAtMost, WritesAtMost};
 ghost use Rattle.std.specs.Io.KnownBytes.{Keeps, ReadConsumes, WriteAppends};
-ghost use Rattle.st_oer.specs.Faults.{CountsErrors};
+ghost use Rattle.st_oer.specs.Tallies.{CountsCall, device_of, no_calls, tally_of};
 
+use crate::tally::Tally;
 use std::io;
-use std::io::{ErrorKind, Read, Write};
+use std::io::{Read, Write};
 
 /// A device that counts its errors. One of kind Interrupted asks for the call again and is not counted.
 pub trait Counted {
@@ -18,88 +19,96 @@ pub trait Counted {
         ensures { result ≡ fault_count self.now };
 }
 
-/// A reader, a writer or both, whose errors are counted.
+/// A reader, a writer or both, whose calls and errors are counted.
 #[derive(Drop)]
 pub struct Counting<T> {
     inner: T,
-    count: u64,
+    tally: Tally,
 }
 
-/// A reader whose errors are counted.
+/// A reader whose calls and errors are counted.
 pub type CountRead<T> = Counting<T>;
 
-/// A writer whose errors are counted.
+/// A writer whose calls and errors are counted.
 pub type CountWrite<T> = Counting<T>;
 
-/// Counts what a call answered, if it is an error.
-fn count_error<T>(count: &mut u64, answer: &io::Result<T>)
-    ensures { CountsErrors count.old count.new answer.now }
-{
-    if let Err(e) = answer
-        && e.kind() != ErrorKind::Interrupted
-    {
-        *count = count.saturating_add(1);
-    }
-}
-
 impl<T> Counting<T> {
-    /// The device with no error counted.
+    /// The device with no call counted.
     pub fn new(inner: T) -> Self
-        ensures inner { result.inner ≡ inner }
-        ensures count { result.count ≡ 0 }
+        ensures device { device_of result ≡ inner }
+        ensures tally { tally_of result ≡ no_calls }
     {
-        Counting { inner, count: 0 }
+        Counting {
+            inner,
+            tally: Tally::none(),
+        }
+    }
+
+    /// How its calls ended so far.
+    pub fn tally(&self) -> Tally
+        ensures { result ≡ tally_of self.now }
+    {
+        self.tally
     }
 
     /// The device again.
     pub fn into_inner(self) -> T
-        ensures { result ≡ self.inner }
+        ensures { result ≡ device_of self }
     {
         self.inner
     }
 }
 
 impl<T> Counted for Counting<T> {
-    ghost fault_count = { λ s. s.count };
+    ghost fault_count = { λ s. (tally_of s).faults };
 
     fn faults(&self) -> u64 {
-        self.count
+        self.tally.faults
     }
 }
 
 impl<T: Read> Read for Counting<T> {
-    ghost remaining = { λ s. T.remaining s.inner };
+    ghost remaining = { λ s. T.remaining (device_of s) };
 
     fn read(&mut self, buf: &mut [u8]) -> io::Result<usize>
         ensures bound { ReadsAtMost result buf.new }
-        ensures bytes { ReadConsumes (T.remaining self.old.inner) (T.remaining self.new.inner) result buf.new }
-        ensures counts { CountsErrors self.old.count self.new.count result }
+        ensures bytes { ReadConsumes (T.remaining (device_of self.old)) (T.remaining (device_of self.new)) result buf.new }
+        ensures counts { CountsCall (tally_of self.old) (tally_of self.new) result }
+        ensures flushed { (tally_of self.new).flushed ≡ (tally_of self.old).flushed }
     {
         let result = self.inner.read(buf);
-        count_error(&mut self.count, &result);
+        self.tally.count(&result);
         result
     }
 }
 
 impl<T: Write> Write for Counting<T> {
-    ghost contents = { λ s. T.contents s.inner };
+    ghost contents = { λ s. T.contents (device_of s) };
 
     fn write(&mut self, buf: &[u8]) -> io::Result<usize>
         ensures bound { WritesAtMost result buf.now }
-        ensures bytes { WriteAppends (T.contents self.old.inner) (T.contents self.new.inner) result buf.now }
-        ensures counts { CountsErrors self.old.count self.new.count result }
+        ensures bytes { WriteAppends (T.contents (device_of self.old)) (T.contents (device_of self.new)) result buf.now }
+        ensures counts { CountsCall (tally_of self.old) (tally_of self.new) result }
+        ensures waiting { OnOk result ((tally_of self.new).flushed ≡ false) }
     {
         let result = self.inner.write(buf);
-        count_error(&mut self.count, &result);
+        self.tally.count(&result);
+        if result.is_ok() {
+            self.tally.flushed = false;
+        }
         result
     }
 
     fn flush(&mut self) -> io::Result<()>
-        ensures bytes { Keeps (T.contents self.old.inner) (T.contents self.new.inner) }
-        ensures counts { CountsErrors self.old.count self.new.count result }
+        ensures bytes { Keeps (T.contents (device_of self.old)) (T.contents (device_of self.new)) }
+        ensures counts { CountsCall (tally_of self.old) (tally_of self.new) result }
+        ensures flushed { OnOk result ((tally_of self.new).flushed ≡ true) }
     {
         let result = self.inner.flush();
-        count_error(&mut self.count, &result);
+        self.tally.count(&result);
+        if result.is_ok() {
+            self.tally.flushed = true;
+        }
         result
     }
 }

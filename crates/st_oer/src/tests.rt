@@ -271,19 +271,28 @@ fn reads_come_in_turns(rt: HostRuntime) {
     let device = Faulty::new([1, 2, 3].as_slice(), 2, 2, ErrorKind::Interrupted);
     let mut reader = CountRead::new(device);
     let mut buf = [0; 8];
-    assert_eq!(rt; read_turn(&mut reader, &mut buf, 0), Turn::Moved(2));
+    assert_eq!(rt; read_turn(&mut reader, &mut buf), ReadTurn::Bytes(2));
     assert_eq!(rt; &buf[..3], [1, 2, 0].as_slice());
-    assert_eq!(rt; read_turn(&mut reader, &mut buf, 0), Turn::Again);
+    assert_eq!(rt; read_turn(&mut reader, &mut buf), ReadTurn::Again);
     assert_eq!(rt; reader.faults(), 0);
-    assert_eq!(rt; read_turn(&mut reader, &mut buf, 0), Turn::Moved(1));
+    assert_eq!(rt; read_turn(&mut reader, &mut []), ReadTurn::Bytes(0));
+    assert_eq!(rt; read_turn(&mut reader, &mut buf), ReadTurn::Bytes(1));
     assert_eq!(rt; buf[0], 3);
-    assert_eq!(rt; read_turn(&mut reader, &mut buf, 0), Turn::Moved(0));
+    assert_eq!(rt; read_turn(&mut reader, &mut buf), ReadTurn::End);
+    let tally = Tally {
+        calls: 5,
+        faults: 0,
+        interruptions: 1,
+        flushed: true,
+    };
+    assert_eq!(rt; reader.tally(), tally);
 
     let device = Faulty::new([1].as_slice(), 2, 1, ErrorKind::ConnectionReset);
     let mut reader = CountRead::new(device);
-    assert_eq!(rt; read_turn(&mut reader, &mut buf, 0), Turn::Fault);
+    assert_eq!(rt; read_turn(&mut reader, &mut buf), ReadTurn::Fault);
     assert_eq!(rt; reader.faults(), 1);
-    assert_eq!(rt; read_turn(&mut reader, &mut buf, 1), Turn::Moved(1));
+    assert_eq!(rt; read_turn(&mut reader, &mut buf), ReadTurn::Bytes(1));
+    assert_eq!(rt; reader.faults(), 1);
     assert_eq!(rt; reader.into_inner().calls, 2);
 }
 
@@ -296,34 +305,113 @@ fn texts_are_put_in_turns(rt: HostRuntime) {
         (1, ErrorKind::Other, 9, Err(PutError::Fault(0)), 8),
         (3, ErrorKind::Other, 9, Err(PutError::Fault(4)), 6),
     ];
-    for (fails_at, kind, mut turns, want, left) in rows {
+    for (fails_at, kind, given, want, left) in rows {
         let device = Faulty::new(Vec::new(rt.alloc()), 2, fails_at, kind);
         let mut writer = CountWrite::new(device);
-        assert_eq!(rt; put_all(&mut writer, b"abcde", 0, &mut turns), want);
+        let mut turns = given;
+        assert_eq!(rt; put_all(&mut writer, b"abcde", &mut turns), want);
         assert_eq!(rt; turns, left, "call {fails_at}");
         let is_fault = matches!(want, Err(PutError::Fault(_)));
-        assert_eq!(rt; writer.faults(), u64::from(is_fault));
+        let tally = Tally {
+            calls: given - left,
+            faults: u64::from(is_fault),
+            interruptions: u64::from(fails_at == 2),
+            flushed: fails_at == 1,
+        };
+        assert_eq!(rt; writer.tally(), tally, "call {fails_at}");
         let written = match want {
             Ok(()) => 5,
             Err(PutError::Fault(sent) | PutError::Turns(sent)) => sent,
         };
-        let out = writer.into_inner().inner;
-        assert_eq!(rt; Some(out.as_slice()), b"abcde".get(..written));
+        let Faulty { inner, calls, .. } = writer.into_inner();
+        assert_eq!(rt; Some(inner.as_slice()), b"abcde".get(..written));
+        assert_eq!(rt; calls, given - left);
     }
 }
 
 #[test]
 fn flushes_come_in_turns(rt: HostRuntime) {
     let rows = [
-        (ErrorKind::Other, Turn::Fault, 1),
-        (ErrorKind::Interrupted, Turn::Again, 0),
+        (ErrorKind::Other, FlushTurn::Fault, 1),
+        (ErrorKind::Interrupted, FlushTurn::Again, 0),
+    ];
+    for (kind, want, faults) in rows {
+        let device = Faulty::new(Vec::new(rt.alloc()), 2, 2, kind);
+        let mut writer = CountWrite::new(device);
+        assert_eq!(rt; write_turn(&mut writer, b"abc"), WriteTurn::Moved(2));
+        assert!(rt; !writer.tally().flushed);
+        assert_eq!(rt; flush_turn(&mut writer), want);
+        assert_eq!(rt; writer.faults(), faults);
+        assert!(rt; !writer.tally().flushed);
+        assert_eq!(rt; flush_turn(&mut writer), FlushTurn::Done);
+        assert_eq!(rt; writer.faults(), faults);
+        assert!(rt; writer.tally().flushed);
+        assert_eq!(rt; writer.into_inner().calls, 3);
+    }
+}
+
+#[test]
+fn a_failed_write_is_told(rt: HostRuntime) {
+    let rows = [
+        (ErrorKind::Other, WriteTurn::Fault, 1),
+        (ErrorKind::Interrupted, WriteTurn::Again, 0),
     ];
     for (kind, want, faults) in rows {
         let device = Faulty::new(Vec::new(rt.alloc()), 2, 1, kind);
         let mut writer = CountWrite::new(device);
-        assert_eq!(rt; flush_turn(&mut writer, 0), want);
+        assert_eq!(rt; write_turn(&mut writer, b"abc"), want);
         assert_eq!(rt; writer.faults(), faults);
-        assert_eq!(rt; flush_turn(&mut writer, faults), Turn::Moved(0));
-        assert_eq!(rt; writer.into_inner().calls, 2);
+        assert_eq!(rt; write_turn(&mut writer, b"abc"), WriteTurn::Moved(2));
+        assert_eq!(rt; writer.into_inner().inner.as_slice(), b"ab".as_slice());
+    }
+}
+
+/// Calls 1 and 3 go through, call 2 fails, whichever kind it is.
+#[test]
+fn one_call_fails(rt: HostRuntime) {
+    let mut buf = [0; 2];
+    let mut reader = FailAt::new([1, 2, 3].as_slice(), 2);
+    assert_eq!(rt; reader.read(&mut buf).ok(), Some(2));
+    assert_eq!(rt; reader.read(&mut buf).ok(), None);
+    assert_eq!(rt; reader.faults(), 1);
+    assert_eq!(rt; reader.read(&mut buf).ok(), Some(1));
+    assert_eq!(rt; buf, [3, 2]);
+    assert_eq!(rt; reader.faults(), 1);
+    assert_eq!(rt; reader.tally().calls, 3);
+    assert_eq!(rt; reader.into_inner().len(), 0);
+
+    let mut writer = FailAt::new(Vec::new(rt.alloc()), 2);
+    assert!(rt; writer.write(b"ab").is_ok());
+    assert!(rt; writer.flush().is_err());
+    assert!(rt; writer.flush().is_ok());
+    assert!(rt; writer.write(b"c").is_ok());
+    assert_eq!(rt; writer.faults(), 1);
+    assert_eq!(rt; writer.into_inner().as_slice(), b"abc".as_slice());
+
+    let mut writer = FailAt::new(Vec::new(rt.alloc()), 0);
+    for _ in 0..9 {
+        assert!(rt; writer.write(b"a").is_ok());
+    }
+    assert_eq!(rt; writer.faults(), 0);
+}
+
+/// What fails behind a wrapper is told by the turn of that call alone.
+#[test]
+fn a_text_meets_each_failing_call(rt: HostRuntime) {
+    for k in 1..=3u64 {
+        let device = FailAt::new(Faulty::new(Vec::new(rt.alloc()), 2, 0, ErrorKind::Other), k);
+        let mut writer = CountWrite::new(device);
+        let mut turns = 9;
+        let sent = (k as usize - 1) * 2;
+        let answer = put_all(&mut writer, b"abcde", &mut turns);
+        assert_eq!(rt; answer, Err(PutError::Fault(sent)), "call {k}");
+        assert_eq!(rt; turns, 9 - k, "call {k}");
+        assert_eq!(rt; writer.faults(), 1, "call {k}");
+        assert_eq!(rt;
+            put_all(&mut writer, b"abcde", &mut turns),
+            Ok(()),
+            "call {k}"
+        );
+        assert_eq!(rt; writer.faults(), 1, "call {k}");
     }
 }

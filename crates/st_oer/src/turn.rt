@@ -1,71 +1,79 @@
-//! Single calls of a device, and a text written whole in a number of them.
+//! Single calls of a counted device, and a text written whole in a number of them.
 
-ghost use Rattle.std.specs.Prelude.{◌≡◌, ◌≤◌, ◌↔◌, length, take, IsTrue, IfErr, OnOk};
+ghost use Rattle.std.specs.Prelude.{◌≡◌, ◌≤◌, length, take, IfErr, OnOk};
 ghost use Rattle.std.specs.Io.KnownBytes.{Appends};
-ghost use Rattle.st_oer.specs.Faults.{Rose};
-ghost use Rattle.std.specs.IoError.{error_kind};
-ghost use Rattle.st_oer.specs.Turns.{MeansTurn, ReadTurn, WriteTurn, FlushTurn, sent, IsFault, IsTurns};
+ghost use Rattle.st_oer.specs.Tallies.{TakesTurns, device_of, tally_of};
+ghost use Rattle.st_oer.specs.Turns.{DidFlush, DidRead, DidWrite, IsTurns, faults_after, sent};
 
-use crate::counted::Counted;
-use std::io;
+use crate::counted::Counting;
 use std::io::{ErrorKind, Read, Write};
 
-/// What one call of a device gave.
+/// What one read gave.
 #[derive(Clone, Copy, Debug, PartialEq, Eq)]
-pub enum Turn {
-    /// So many bytes were moved. Where there was room for one, a read of none is the end.
-    Moved(usize),
-    /// Nothing was moved, and the call is to be made again.
+pub enum ReadTurn {
+    /// So many bytes: at least one where there was room for one.
+    Bytes(usize),
+    /// No byte is left.
+    End,
+    /// Nothing was read, and the call is to be made again.
     Again,
-    /// An error, and the device's count of errors has risen since the count that was given, or stood at its greatest.
+    /// An error, which this call's device has counted.
     Fault,
 }
 
-/// Whether an error may be told: the count rose, or stood at its greatest.
-fn rose(old: u64, new: u64) -> bool
-    ensures { IsTrue result ↔ Rose old new }
-{
-    old < new || old == u64::MAX
+/// What one write gave.
+#[derive(Clone, Copy, Debug, PartialEq, Eq)]
+pub enum WriteTurn {
+    /// So many bytes were written, perhaps none.
+    Moved(usize),
+    /// Nothing was written, and the call is to be made again.
+    Again,
+    /// An error, which this call's device has counted.
+    Fault,
 }
 
-/// What an error of a call means, where the count of errors was `since` when the caller began and is `count` now.
-fn error_turn(error: &io::Error, since: u64, count: u64) -> Turn
-    ensures { MeansTurn (error_kind error.now) since count result }
-{
-    if error.kind() != ErrorKind::Interrupted && rose(since, count) {
-        Turn::Fault
-    } else {
-        Turn::Again
-    }
+/// What one flush gave.
+#[derive(Clone, Copy, Debug, PartialEq, Eq)]
+pub enum FlushTurn {
+    /// It was done.
+    Done,
+    /// The call is to be made again.
+    Again,
+    /// An error, which this call's device has counted.
+    Fault,
 }
 
-/// One read. `since` is what the reader's count of errors was when the caller began.
-pub fn read_turn<R: Read + Counted>(reader: &mut R, buf: &mut [u8], since: u64) -> Turn
-    ensures { ReadTurn (R.remaining reader.old) (R.remaining reader.new) since (R.fault_count reader.new) buf.new result }
+/// One read.
+pub fn read_turn<T: Read>(reader: &mut Counting<T>, buf: &mut [u8]) -> ReadTurn
+    ensures { DidRead (T.remaining (device_of reader.old)) (T.remaining (device_of reader.new)) (tally_of reader.old) (tally_of reader.new) buf.new result }
 {
     match reader.read(buf) {
-        Ok(n) => Turn::Moved(n),
-        Err(e) => error_turn(&e, since, reader.faults()),
+        Ok(0) if !buf.is_empty() => ReadTurn::End,
+        Ok(n) => ReadTurn::Bytes(n),
+        Err(e) if e.kind() == ErrorKind::Interrupted => ReadTurn::Again,
+        Err(_) => ReadTurn::Fault,
     }
 }
 
-/// One write. `since` is what the writer's count of errors was when the caller began.
-pub fn write_turn<W: Write + Counted>(writer: &mut W, buf: &[u8], since: u64) -> Turn
-    ensures { WriteTurn (W.contents writer.old) (W.contents writer.new) since (W.fault_count writer.new) buf.now result }
+/// One write.
+pub fn write_turn<T: Write>(writer: &mut Counting<T>, buf: &[u8]) -> WriteTurn
+    ensures { DidWrite (T.contents (device_of writer.old)) (T.contents (device_of writer.new)) (tally_of writer.old) (tally_of writer.new) buf.now result }
 {
     match writer.write(buf) {
-        Ok(n) => Turn::Moved(n),
-        Err(e) => error_turn(&e, since, writer.faults()),
+        Ok(n) => WriteTurn::Moved(n),
+        Err(e) if e.kind() == ErrorKind::Interrupted => WriteTurn::Again,
+        Err(_) => WriteTurn::Fault,
     }
 }
 
-/// One flush: `Moved(0)` where it was done. `since` is what the writer's count of errors was when the caller began.
-pub fn flush_turn<W: Write + Counted>(writer: &mut W, since: u64) -> Turn
-    ensures { FlushTurn (W.contents writer.old) (W.contents writer.new) since (W.fault_count writer.new) result }
+/// One flush.
+pub fn flush_turn<T: Write>(writer: &mut Counting<T>) -> FlushTurn
+    ensures { DidFlush (T.contents (device_of writer.old)) (T.contents (device_of writer.new)) (tally_of writer.old) (tally_of writer.new) result }
 {
     match writer.flush() {
-        Ok(()) => Turn::Moved(0),
-        Err(e) => error_turn(&e, since, writer.faults()),
+        Ok(()) => FlushTurn::Done,
+        Err(e) if e.kind() == ErrorKind::Interrupted => FlushTurn::Again,
+        Err(_) => FlushTurn::Fault,
     }
 }
 
@@ -78,20 +86,19 @@ pub enum PutError {
     Turns(usize),
 }
 
-/// Writes a text whole. `since` is what the writer's count of errors was when the caller began. Each call of the writer
-/// takes one of `turns`; a call that moved nothing, or was interrupted, is made again.
-pub fn put_all<W: Write + Counted>(
-    writer: &mut W,
+/// Writes a text whole. Each call of the writer takes one of `turns`; a call that moved nothing, or was interrupted, is
+/// made again.
+pub fn put_all<T: Write>(
+    writer: &mut Counting<T>,
     text: &[u8],
-    since: u64,
     turns: &mut u64,
 ) -> Result<(), PutError>
-    ensures whole { OnOk result (Appends (W.contents writer.old) (W.contents writer.new) text.now) }
+    ensures whole { OnOk result (Appends (T.contents (device_of writer.old)) (T.contents (device_of writer.new)) text.now) }
     ensures part { IfErr result (λ e. (sent e ≤ length text.now)
-        × Appends (W.contents writer.old) (W.contents writer.new) (take (sent e) text.now)) }
-    ensures fault { IfErr result (λ e. IsFault e → Rose since (W.fault_count writer.new)) }
+        × Appends (T.contents (device_of writer.old)) (T.contents (device_of writer.new)) (take (sent e) text.now)) }
+    ensures faults { (tally_of writer.new).faults ≡ faults_after result (tally_of writer.old).faults }
     ensures out_of_turns { IfErr result (λ e. IsTurns e → turns.new ≡ 0) }
-    ensures turns { turns.new ≤ turns.old }
+    ensures turns { TakesTurns (tally_of writer.old) (tally_of writer.new) turns.old turns.new }
 {
     let mut sent = 0;
     while sent < text.len() {
@@ -99,10 +106,10 @@ pub fn put_all<W: Write + Counted>(
             return Err(PutError::Turns(sent));
         }
         *turns -= 1;
-        match write_turn(writer, &text[sent..], since) {
-            Turn::Moved(n) => sent += n,
-            Turn::Again => {}
-            Turn::Fault => return Err(PutError::Fault(sent)),
+        match write_turn(writer, &text[sent..]) {
+            WriteTurn::Moved(n) => sent += n,
+            WriteTurn::Again => {}
+            WriteTurn::Fault => return Err(PutError::Fault(sent)),
         }
     }
     Ok(())

@@ -1,64 +1,237 @@
--- What a model shows, against the tree that holds its entries.
-use Rattle.std.proofs.Common.{◌≡◌, ℕ, ◌+◌, ◌<◌, ◌≤◌, cond, List, [], ◌∷◌, length, take, Option, Some, None, IsSome, refl, ap, ◌∙◌, sym, subst, arith}
-use Rattle.std.specs.Prelude.{if◌then◌else◌, nat_le, slice_index}
-use Rattle.std.specs.Ordering.{nat_cmp}
-use Rattle.std.specs.Cmp.{nat_cmp_total}
-use Rattle.std.specs.BTreeMap as tree
-use Rattle.std.specs.Map.{lookup}
+-- What a model shows, against the window that holds the bytes.
+use Rattle.std.proofs.Common.{◌≡◌, ℕ, ◌+◌, ◌-◌, ◌<◌, ◌≤◌, ◌⊎◌, Bool, true, false, cond, ◌&&◌, List, length, take, max, min, Option, Some, None, IsSome, refl, ap, ◌∙◌, sym, subst, arith, inl, inr}
+use Rattle.std.specs.Prelude.{if◌then◌else◌, nat_le, nat_lt, slice_index, is_none, is_some, not, [], ◌∷◌, ◌||◌}
+use Rattle.std.specs.Option.{option_or, unwrap_or}
 use Rattle.std.specs.FinMap as map
-use Rattle.std.specs.Option.{option_or}
+use Rattle.std.proofs.lemmas.Bool.{cases_lt}
 use Rattle.std.proofs.lemmas.Bool.Decides.{nat_tests}
-use Rattle.st_reassembly.specs.Held.{Held, after_insert, after_read}
-use Rattle.st_reassembly.specs.Inside.{byte_at, is_between}
-use Rattle.st_reassembly.specs.Run.{run}
-use Rattle.st_reassembly.proofs.Pointwise.{piece_at-byte_at, joins_is, reads_is, same_held}
-use Rattle.st_reassembly.proofs.Runs.{length-run, take-run}
+use Rattle.st_reassembly.specs.Held.{Held, is_before, is_over, with_byte, after_insert, after_read}
+use Rattle.st_tables.specs.Table.{is_between, table}
+use Rattle.st_reassembly.specs.Ring.{byte_at, cell, IsSound}
+use Rattle.st_reassembly.specs.Run.{run, past}
+use Rattle.st_reassembly.specs.Closing.{past_all, after_finish, after_abort}
+use Rattle.st_reassembly.proofs.Pointwise.{piece_at-byte_at, joins_is, reads_is}
+use Rattle.st_reassembly.proofs.Runs.{length-run, take-run, held_below, past-within}
+use Rattle.st_tables.proofs.Tables.{get-table, get-table_in, table-empty, table-inside}
 
-looked_up : (es : List (ℕ × ℕ)) (q : ℕ) → map.find nat_cmp q es ≡ lookup (tree.is_at (nat_cmp q)) es
-looked_up [] q = refl
-looked_up (e ∷ es) q = ap (λ r. cond (tree.is_at (nat_cmp q) e.0) (Some e.1) r) (looked_up es q)
+-- the model's value over what the window has at each offset, and the other fields
+abbrev pub shown_by : (ℕ → Option ℕ) → ℕ → Option ℕ → Option ℕ → Held
+shown_by f read end aborted = record { bytes = table f read 65536; read = read; end = end; aborted = aborted }
 
--- the map has at q what the tree has
-pub get_view : (m : tree.BTreeMap ℕ ℕ) (q : ℕ) → map.get (map.from_entries {R = nat_cmp} m.entries) q ≡ tree.get nat_cmp m q
-get_view m q = map.get-from_entries nat_cmp_total m.entries q ∙ looked_up m.entries q
+-- the end that a model shows
+abbrev pub end_shown : Bool → ℕ → Option ℕ
+end_shown finished top = if finished then Some top else None
 
--- the model's value over a tree and the read count
-abbrev pub shown_by : tree.BTreeMap ℕ ℕ → ℕ → Held
-shown_by m read = record { bytes = map.from_entries m.entries; read = read }
+-- what the body keeps, by offset
+pub record IsKept (f : ℕ → Option ℕ) (read top : ℕ) : Type 0 where
+  pub from : read ≤ top
+  pub near : top ≤ read + 65536
+  pub below : (q : ℕ) → read ≤ q → q < read + 65536 → IsSome (f q) → q < top
+  pub least : read < top → IsSome (f (top - 1))
 
-pub inserted_view : (m n : tree.BTreeMap ℕ ℕ) (read offset : ℕ) (xs : List ℕ)
-    → ((q : ℕ) → tree.get nat_cmp n q ≡ option_or (tree.get nat_cmp m q) (if nat_le read q then byte_at offset xs q else None))
-    → shown_by n read ≡ after_insert offset xs (shown_by m read)
-inserted_view m n read offset xs joins =
-    (joins_is offset xs (shown_by m read) (shown_by n read)).0 (record {
-      bytes = λ q. get_view n q ∙ joins q ∙ ap (λ g. option_or g (if nat_le read q then byte_at offset xs q else None)) (sym (get_view m q))
-          ∙ ap (λ p. option_or (map.get (map.from_entries {R = nat_cmp} m.entries) q) (if nat_le read q then p else None)) (sym (piece_at-byte_at offset xs q));
-      read = refl;
-    })
+-- one offset that a piece joins
+joins_at : (old new : Option ℕ) (b lt : Bool) (read o n q v : ℕ)
+    → (read ≤ q → q < read + 65536 → new ≡ option_or old (cond lt (cond (is_between o (o + n) q) (Some v) None) None))
+    → (q < o + n → lt ≡ b)
+    → (read + 65536 ≤ q → b ≡ true → o + n ≤ q)
+    → cond (is_between read (read + 65536) q) new None ≡ option_or (cond (is_between read (read + 65536) q) old None) (cond (nat_le read q && (b && true)) (cond (is_between o (o + n) q) (Some v) None) None)
+joins_at None new true lt read o n q v h same past = grind (arith, nat_tests)
+joins_at None new false lt read o n q v h same past = grind (arith, nat_tests)
+joins_at (Some x) new true lt read o n q v h same past = grind (arith, nat_tests)
+joins_at (Some x) new false lt read o n q v h same past = grind (arith, nat_tests)
 
-pub same_view : (m n : tree.BTreeMap ℕ ℕ) (read : ℕ) → ((q : ℕ) → tree.get nat_cmp n q ≡ tree.get nat_cmp m q) → shown_by n read ≡ shown_by m read
-same_view m n read same =
-    same_held (shown_by n read) (shown_by m read)
-    (map.same_map nat_cmp_total map.nat_cmp-IsAntisymmetric (map.from_entries n.entries) (map.from_entries m.entries) (λ q. get_view n q ∙ same q ∙ sym (get_view m q))) refl
+same_bound : (finished : Bool) (top last q : ℕ) → q < last → nat_lt q (unwrap_or (end_shown finished top) last) ≡ is_before q (end_shown finished top)
+same_bound true top last q l = refl
+same_bound false top last q l = grind (arith, nat_tests)
 
-pub length_view : (m : tree.BTreeMap ℕ ℕ) (read n : ℕ) → ((k : ℕ) → k < n → IsSome (tree.get nat_cmp m (read + k))) → tree.get nat_cmp m (read + n) ≡ None → n ≡ length (run (shown_by m read))
-length_view m read n held ends = length-run (shown_by m read) n (λ k l. subst IsSome (sym (get_view m (read + k))) (held k l)) (get_view m (read + n) ∙ ends)
+far_off : (finished : Bool) (read top last q : ℕ) → top ≤ read + 65536 → (finished ≡ false → last ≤ read + 65536) → read + 65536 ≤ q → is_before q (end_shown finished top) ≡ true → last ≤ q
+far_off true read top last q near few l b = absurd (grind (arith, nat_tests))
+far_off false read top last q near few l b = let p : last ≤ read + 65536 = few refl in omega arith
 
--- a byte that was read, or stays
-left_part : (b : Option ℕ) (read n q : ℕ) → (IsSome b → read ≤ q) → cond (is_between read (read + n) q) None b ≡ cond (nat_le (read + n) q) b None
-left_part None read n q h = grind (arith, nat_tests)
-left_part (Some x) read n q h = let from : read ≤ q = h refl in grind (arith, nat_tests)
+module _ (f g : ℕ → Option ℕ) (finished : Bool) (read top offset : ℕ) (xs : List ℕ) (near : top ≤ read + 65536) (few : finished ≡ false → offset + length xs ≤ read + 65536)
+    (joins : (q : ℕ) → read ≤ q → q < read + 65536 → g q ≡ option_or (f q) (if nat_lt q (unwrap_or (end_shown finished top) (offset + length xs)) then byte_at offset xs q else None)) where
+  -- the end of what joins
+  abbrev last : ℕ
+  last = min (unwrap_or (end_shown finished top) (offset + length xs)) (offset + length xs)
 
-module _ (m n : tree.BTreeMap ℕ ℕ) (read : ℕ) (xs : List ℕ) (drawn : (k : ℕ) → k < length xs → tree.get nat_cmp m (read + k) ≡ Some (slice_index xs k)) where
-  pub taken_view : (max r : ℕ) → length xs ≤ max → (length xs < max → length xs ≡ r) → tree.get nat_cmp m (read + r) ≡ None → xs ≡ take max (run (shown_by m read))
-  taken_view max r few all longest =
-      take-run (shown_by m read) max xs (λ k l. get_view m (read + k) ∙ drawn k l) few
-      (λ l. get_view m (read + length xs) ∙ ap (λ a. tree.get nat_cmp m (read + a)) (all l) ∙ longest)
-
-  pub left_view : (left : (q : ℕ) → tree.get nat_cmp n q ≡ (if is_between read (read + length xs) q then None else tree.get nat_cmp m q))
-      → ((q : ℕ) → IsSome (tree.get nat_cmp m q) → read ≤ q) → shown_by n (read + length xs) ≡ after_read (length xs) (shown_by m read)
-  left_view left unread =
-      (reads_is (length xs) (shown_by m read) (shown_by n (read + length xs))).0 (record {
-        bytes = λ q. get_view n q ∙ left q ∙ left_part (tree.get nat_cmp m q) read (length xs) q (unread q) ∙ ap (λ b. cond (nat_le (read + length xs) q) b None) (sym (get_view m q));
+  pub inserted_view : shown_by g read (end_shown finished top) None ≡ after_insert offset xs (shown_by f read (end_shown finished top) None)
+  inserted_view =
+      (joins_is offset xs (shown_by f read (end_shown finished top) None) (shown_by g read (end_shown finished top) None)).0 (record {
+        bytes = λ q. get-table g read 65536 q
+            ∙ joins_at (f q) (g q) (is_before q (end_shown finished top)) (nat_lt q (unwrap_or (end_shown finished top) (offset + length xs))) read offset (length xs) q (slice_index xs (q - offset))
+            (joins q) (same_bound finished top (offset + length xs) q) (far_off finished read top (offset + length xs) q near few)
+            ∙ ap (λ b. option_or b (cond (nat_le read q && (is_before q (end_shown finished top) && true)) (byte_at offset xs q) None)) (sym (get-table f read 65536 q))
+            ∙ ap (λ p. option_or (map.get (table f read 65536) q) (cond (nat_le read q && (is_before q (end_shown finished top) && true)) p None)) (sym (piece_at-byte_at offset xs q));
         read = refl;
+        end = refl;
+        aborted = refl;
       })
+
+out : (b : Option ℕ) (read : ℕ) → cond (is_between read (read + 65536) (read + 65536)) b None ≡ None
+out b read = grind (arith, nat_tests)
+
+either : (b : Bool) (o : Option ℕ) → o ≡ None → cond b o None ≡ None
+either true o e = e
+either false o e = refl
+
+none_past : (f : ℕ → Option ℕ) (read n : ℕ) → (n ≡ 65536) ⊎ (f (read + n) ≡ None) → map.get (table f read 65536) (read + n) ≡ None
+none_past f read n ends = get-table f read 65536 (read + n) ∙ elim ends [
+  | inl e ↦ subst (λ m. cond (is_between read (read + 65536) (read + m)) (f (read + m)) None ≡ None) (sym e) (out (f (read + 65536)) read)
+  | inr e ↦ either (is_between read (read + 65536) (read + n)) (f (read + n)) e
+]
+
+pub length_view : (f : ℕ → Option ℕ) (read n : ℕ) (end aborted : Option ℕ) → n ≤ 65536 → ((k : ℕ) → k < n → IsSome (f (read + k))) → (n ≡ 65536) ⊎ (f (read + n) ≡ None) → n ≡ length (run (shown_by f read end aborted))
+length_view f read n end aborted few held ends =
+    length-run (shown_by f read end aborted) n
+    (λ k l. subst IsSome (sym (get-table_in f read 65536 (read + k) (omega arith) (omega arith))) (held k l)) (none_past f read n ends)
+
+-- an offset after the first n bytes were read
+left_at : (old new : Option ℕ) (read n q : ℕ) → n ≤ 65536
+    → (read + n ≤ q → q < read + n + 65536 → new ≡ cond (nat_lt q (read + 65536)) old None)
+    → cond (is_between (read + n) (read + n + 65536) q) new None ≡ cond (nat_le (read + n) q) (cond (is_between read (read + 65536) q) old None) None
+left_at None new read n q few kept = grind (arith, nat_tests)
+left_at (Some x) new read n q few kept = grind (arith, nat_tests)
+
+still : (old new : Option ℕ) (read n q : ℕ) → read + n ≤ q → q < read + n + 65536
+    → (read + n ≤ q → q < read + n + 65536 → new ≡ cond (nat_lt q (read + 65536)) old None)
+    → IsSome new → (q < read + 65536) × IsSome old
+still None new read n q l h kept is = absurd (grind (arith, nat_tests))
+still (Some x) new read n q l h kept is = (grind (arith, nat_tests), refl)
+
+-- bytes that are held in a row lie below the top
+pub reached : (f : ℕ → Option ℕ) (read top n : ℕ) → IsKept f read top → n ≤ 65536 → ((k : ℕ) → k < n → IsSome (f (read + k))) → read + n ≤ top
+reached f read top n kept small held =
+    let from : read ≤ top = kept.from in
+    elim (cases_lt 0 n) [
+      | inl l ↦ (let last : read + (n - 1) < top = kept.below (read + (n - 1)) (omega arith) (omega arith) (held (n - 1) (omega arith)) in omega arith)
+      | inr l ↦ omega arith
+    ]
+
+module _ (f g : ℕ → Option ℕ) (read n : ℕ) (few : n ≤ 65536) (left : (q : ℕ) → read + n ≤ q → q < read + n + 65536 → g q ≡ (if nat_lt q (read + 65536) then f q else None)) where
+  pub left_view : (end aborted : Option ℕ) → shown_by g (read + n) end aborted ≡ after_read n (shown_by f read end aborted)
+  left_view end aborted =
+      (reads_is n (shown_by f read end aborted) (shown_by g (read + n) end aborted)).0 (record {
+        bytes = λ q. get-table g (read + n) 65536 q ∙ left_at (f q) (g q) read n q few (left q) ∙ ap (λ b. cond (nat_le (read + n) q) b None) (sym (get-table f read 65536 q));
+        read = refl;
+        end = refl;
+        aborted = refl;
+      })
+
+  pub kept_after_read : (top : ℕ) → IsKept f read top → ((k : ℕ) → k < n → IsSome (f (read + k))) → IsKept g (read + n) top
+  kept_after_read top kept held = record {
+    from = reached f read top n kept few held;
+    near = let l : top ≤ read + 65536 = kept.near in omega arith;
+    below = λ q l h is. let was = still (f q) (g q) read n q l h (left q) is in kept.below q (omega arith) was.0 was.1;
+    least = λ l. let near : top ≤ read + 65536 = kept.near in subst IsSome (sym (left (top - 1) (omega arith) (omega arith) ∙ inside (f (top - 1)) (top - 1) (read + 65536) (omega arith))) (kept.least (omega arith));
+  }
+    where
+      inside : (b : Option ℕ) (q e : ℕ) → q < e → cond (nat_lt q e) b None ≡ b
+      inside b q e l = grind (arith, nat_tests)
+
+pub taken_view : (f : ℕ → Option ℕ) (read most r : ℕ) (end aborted : Option ℕ) (xs : List ℕ) → r ≤ 65536 → length xs ≡ min r most
+    → ((k : ℕ) → k < r → IsSome (f (read + k))) → ((k : ℕ) → k < length xs → f (read + k) ≡ Some (slice_index xs k))
+    → (r ≡ 65536) ⊎ (f (read + r) ≡ None) → xs ≡ take most (run (shown_by f read end aborted))
+taken_view f read most r end aborted xs few len held drawn ends =
+    take-run (shown_by f read end aborted) most xs
+    (λ k l. get-table_in f read 65536 (read + k) (omega arith) (omega arith) ∙ drawn k l) (omega arith)
+    (λ l. none_at (length xs) (omega arith))
+  where
+    rest : r ≡ length (run (shown_by f read end aborted))
+    rest = length_view f read r end aborted few held ends
+
+    none_at : (n : ℕ) → n ≡ r → map.get (table f read 65536) (read + n) ≡ None
+    none_at n e = subst (λ m. map.get (table f read 65536) (read + m) ≡ None) (sym e) (none_past f read r ends)
+
+-- the least offset past every byte
+pub top_is : (f : ℕ → Option ℕ) (read top : ℕ) (end aborted : Option ℕ) → IsKept f read top → max read (past (map.keys (table f read 65536))) ≡ top
+top_is f read top end aborted kept =
+    let few : past (map.keys (table f read 65536)) ≤ top = past-within (shown_by f read end aborted) top (λ q h. let w = table-inside f read 65536 q h in kept.below q w.from w.before w.some) in
+    let from : read ≤ top = kept.from in
+    let near : top ≤ read + 65536 = kept.near in
+    elim (cases_lt read top) [
+      | inl l ↦ (let last : top - 1 < past (map.keys (table f read 65536)) = held_below (shown_by f read end aborted) (top - 1) (subst IsSome (sym (get-table_in f read 65536 (top - 1) (omega arith) (omega arith))) (kept.least l)) in omega arith)
+      | inr l ↦ omega arith
+    ]
+
+pub drawn_at : (m : Bool) (x y : ℕ) → IsSome (if m then Some x else None) → y ≡ x → (if m then Some x else None) ≡ Some y
+drawn_at true x y h e = ap (λ n. Some n) (sym e)
+drawn_at false x y h e = absurd cc
+
+-- the whole effect of an insert that is not refused, where nothing was aborted
+same_end : (finished : Bool) (top past : ℕ) → (finished ≡ true → past ≤ top) → end_shown finished (max top past) ≡ end_shown finished top
+same_end true top past h = let l : past ≤ top = h refl in ap (λ n. Some n) (let e : max top past ≡ top = omega arith in e)
+same_end false top past h = refl
+
+past_within : (finished b : Bool) (top last past : ℕ) → past ≡ (if b then min (unwrap_or (end_shown finished top) last) last else 0) → finished ≡ true → past ≤ top
+past_within true true top last past e f = omega arith
+past_within true false top last past e f = omega arith
+past_within false b top last past e f = absurd cc
+
+few_past : (finished : Bool) (read top last : ℕ) → (not (is_some (end_shown finished top) || false) && nat_lt (read + 65536) last) ≡ false → finished ≡ false → last ≤ read + 65536
+few_past true read top last e f = absurd cc
+few_past false read top last e f = grind (arith, nat_tests)
+
+pub inserted_held : (s : Held) (f g : ℕ → Option ℕ) (finished b : Bool) (read top offset high past : ℕ) (aborted : Option ℕ) (xs : List ℕ)
+    → shown_by f read (end_shown finished top) aborted ≡ s → is_some aborted ≡ false → top ≤ read + 65536
+    → (not (is_over s) && nat_lt (s.read + 65536) (offset + length xs)) ≡ false
+    → high ≡ unwrap_or s.end (offset + length xs)
+    → ((q : ℕ) → read ≤ q → q < read + 65536 → g q ≡ option_or (f q) (if nat_lt q high then byte_at offset xs q else None))
+    → past ≡ (if b then min high (offset + length xs) else 0)
+    → shown_by g read (end_shown finished (max top past)) aborted ≡ after_insert offset xs s
+inserted_held s f g finished b read top offset high past (Some code) xs view on near few bound joins is_past = absurd cc
+inserted_held s f g finished b read top offset high past None xs view on near few bound joins is_past =
+    let high_is : high ≡ unwrap_or (end_shown finished top) (offset + length xs) = bound ∙ ap (λ (t : Held). unwrap_or t.end (offset + length xs)) (sym view) in
+    let close : finished ≡ false → offset + length xs ≤ read + 65536 =
+    few_past finished read top (offset + length xs) (subst (λ (t : Held). (not (is_over t) && nat_lt (t.read + 65536) (offset + length xs)) ≡ false) (sym view) few) in
+    let low : finished ≡ true → past ≤ top = past_within finished b top (offset + length xs) past (is_past ∙ ap (λ h. if b then min h (offset + length xs) else 0) high_is) in
+    ap (λ e. shown_by g read e None) (same_end finished top past low)
+    ∙ inserted_view f g finished read top offset xs near close (subst (λ h. (q : ℕ) → read ≤ q → q < read + 65536 → g q ≡ option_or (f q) (if nat_lt q h then byte_at offset xs q else None)) high_is joins)
+    ∙ ap (after_insert offset xs) view
+
+-- nothing joins after an abort
+never : (a b c : Bool) → ((a && (b && false)) && c) ≡ false
+never true true c = refl
+never true false c = refl
+never false b c = refl
+
+none_not : (o : Option ℕ) → is_some o ≡ true → is_none o ≡ false
+none_not None e = absurd cc
+none_not (Some x) e = refl
+
+not_joined : (o x : ℕ) (s : Held) → is_none s.aborted ≡ false → with_byte o x s ≡ s
+not_joined o x s e =
+    ap (λ n. cond ((nat_le s.read o && (is_before o s.end && n)) && is_none (map.get s.bytes o)) (record s { bytes = map.insert s.bytes o x }) s) e
+    ∙ ap (λ n. cond n (record s { bytes = map.insert s.bytes o x }) s) (never (nat_le s.read o) (is_before o s.end) (is_none (map.get s.bytes o)))
+
+unjoined : (o : ℕ) (xs : List ℕ) (s : Held) → is_none s.aborted ≡ false → after_insert o xs s ≡ s
+unfolding after_insert
+unjoined o [] s e = refl
+unjoined o (x ∷ xs) s e = ap (after_insert (o + 1) xs) (not_joined o x s e) ∙ unjoined (o + 1) xs s e
+
+pub inserted_nowhere : (s : Held) (o : ℕ) (xs : List ℕ) (aborted : Option ℕ) → aborted ≡ s.aborted → is_some aborted ≡ true → s ≡ after_insert o xs s
+inserted_nowhere s o xs aborted same e = sym (unjoined o xs s (none_not s.aborted (ap is_some (sym same) ∙ e)))
+
+pub kept_of : (bytes marks : List ℕ) (read top : ℕ) → IsSound bytes marks read top → IsKept (cell bytes marks) read top
+kept_of bytes marks read top s = record { from = s.from; near = s.near; below = s.below; least = s.least }
+
+-- a clean close and an abort, where neither came before
+pub finished_held : (s : Held) (f : ℕ → Option ℕ) (finished : Bool) (read top : ℕ) (aborted : Option ℕ) → shown_by f read (end_shown finished top) aborted ≡ s → is_over s ≡ false → IsKept f read top
+    → shown_by f read (end_shown true top) aborted ≡ after_finish s
+finished_held s f finished read top aborted view on kept =
+    let over : is_over (shown_by f read (end_shown finished top) aborted) ≡ false = ap is_over view ∙ on in
+    ap (λ e. shown_by f read (Some e) aborted) (sym (top_is f read top (end_shown finished top) aborted kept))
+    ∙ sym (ap (λ b. cond b (shown_by f read (end_shown finished top) aborted) (shown_by f read (Some (past_all (shown_by f read (end_shown finished top) aborted))) aborted)) over)
+    ∙ ap after_finish view
+
+not_finished : (finished b : Bool) (top other : ℕ) → (is_some (end_shown finished top) || b) ≡ false → end_shown finished other ≡ end_shown finished top
+not_finished true b top other e = absurd cc
+not_finished false b top other e = refl
+
+pub aborted_held : (s : Held) (f g : ℕ → Option ℕ) (finished : Bool) (read top code : ℕ) (aborted : Option ℕ) → shown_by f read (end_shown finished top) aborted ≡ s → is_over s ≡ false → ((q : ℕ) → g q ≡ None)
+    → shown_by g read (end_shown finished read) (Some code) ≡ after_abort code s
+aborted_held s f g finished read top code aborted view on none =
+    let over : is_over (shown_by f read (end_shown finished top) aborted) ≡ false = ap is_over view ∙ on in
+    ap (λ m. record { bytes = m; read = read; end = end_shown finished read; aborted = Some code }) (table-empty g read 65536 none)
+    ∙ ap (λ e. record { bytes = map.empty; read = read; end = e; aborted = Some code }) (not_finished finished (is_some aborted) top read over)
+    ∙ sym (ap (λ b. cond b (shown_by f read (end_shown finished top) aborted) (record { bytes = map.empty; read = read; end = end_shown finished top; aborted = Some code })) over)
+    ∙ ap (after_abort code) view

@@ -1,26 +1,30 @@
 //! The bytes of one stream on their way to its reader.
 
-ghost use Rattle.std.specs.Prelude.{◌≡◌, ◌+◌, ◌^◌, ◌<◌, ◌≤◌, ◌↔◌, length, take, IfOk, OnOk, OnErr, IsErrOf, IsOkUnless};
-ghost use Rattle.st_reassembly.specs.Held.{nothing_held, after_insert};
+ghost use Rattle.std.specs.Prelude.{◌≡◌, ℕ, ◌+◌, ◌^◌, ◌<◌, ◌≤◌, ◌↔◌, ◌&&◌, false, nat_lt, not, length, take, IfOk, OnOk, OnErr, IsErrOf, IsOk, IsOkUnless};
+ghost use Rattle.st_reassembly.specs.Held.{nothing_held, is_over, after_insert};
+ghost use Rattle.st_reassembly.specs.Closing.{after_finish, after_abort};
 ghost use Rattle.st_reassembly.specs.Run.{run, after_take};
-ghost use Rattle.st_reassembly.specs.Inserting.{Inserts};
+ghost use Rattle.st_reassembly.specs.Inserting.{inserted, Inserts};
 
-use crate::bytes::{draw, join, row_length};
 use crate::error::InboxError;
+use crate::ring::{Ring, WINDOW, clear, empty, forget, join, row, row_length};
 use std::alloc::Allocator;
-use std::collections::BTreeMap;
 use std::marker::Model;
 
-/// How many bytes past the read count a piece may end.
-pub const WINDOW: u64 = 65_536;
-
-/// The bytes of one direction of a stream that came and were not read yet, each at its offset, and how many were read.
-/// They come in the data of StreamData frames (RFC 0029).
+/// The bytes of one direction of a stream that came and were not read yet, each at its offset, how many were read, and
+/// how the direction ended. They come in the data of StreamData frames (RFC 0029).
 #[derive(Drop)]
 pub struct Inbox<A: Allocator + Copy> {
-    bytes: BTreeMap<u64, u8, A>,
+    ring: Ring<A>,
     alloc: A,
+    /// How many bytes were read.
     read: u64,
+    /// The least offset past every byte that is held or was read: from `read` to `read + WINDOW`.
+    top: u64,
+    /// A clean close came, and `top` is the end.
+    finished: bool,
+    /// The code of the abort that came.
+    aborted: Option<u64>,
 }
 
 impl<A: Allocator + Copy> Model for Inbox<A> {
@@ -32,31 +36,39 @@ impl<A: Allocator + Copy> Model for Inbox<A> {
 
     ghost coded = { Prim.hlevel (codes, map.code) };
 
-    ghost use Rattle.st_reassembly.specs.Inside.{IsSound};
+    ghost use Rattle.std.specs.Prelude.{if◌then◌else◌, Some, None};
+    ghost use Rattle.st_tables.specs.Table.{table};
+    ghost use Rattle.st_reassembly.specs.Ring.{IsSound, cell};
 
-    ghost view = { λ s. record { bytes = map.from_entries s.bytes.entries; read = s.read } };
+    ghost view = { λ s. record { bytes = table (cell s.ring.bytes.items s.ring.marks.items) s.read 65536; read = s.read; end = if s.finished then Some s.top else None; aborted = s.aborted } };
 
-    ghost invariant = { λ s. IsSound s.bytes s.read };
+    ghost invariant = { λ s. IsSound s.ring.bytes.items s.ring.marks.items s.read s.top };
 }
 
 impl<A: Allocator + Copy> Inbox<A> {
-    /// An inbox to which nothing came. It takes no memory yet.
-    pub fn new(alloc: A) -> Inbox<A>
-        ensures { result ≡ nothing_held }
+    /// An inbox to which nothing came. It takes the memory for all that it will hold.
+    pub fn new(alloc: A) -> Result<Inbox<A>, InboxError>
+        ensures only_memory { IsOkUnless result InboxError.NoMemory }
+        ensures empty { IfOk result (λ s. s ≡ nothing_held) }
     {
-        Inbox {
-            bytes: BTreeMap::new(alloc),
+        let ring = empty(alloc)?;
+        Ok(Inbox {
+            ring,
             alloc,
             read: 0,
-        }
+            top: 0,
+            finished: false,
+            aborted: None,
+        })
     }
 
-    /// Puts in a piece of the stream that begins at `offset`. A byte that is held already stays as it is, and one that
-    /// was read is dropped. First comes `Overflow`, where the piece ends past 2^64 - 1, then `PastWindow`, where it ends
-    /// more than `WINDOW` bytes past the read count.
+    /// Puts in a piece of the stream that begins at `offset`. A byte that is held already stays as it is. One that was
+    /// read, lies past a fixed end or comes after an abort is dropped. First comes `Overflow`, where the piece ends past
+    /// 2^64 - 1, then, as long as no close and no abort came, `PastWindow`, where it ends more than `WINDOW` bytes past
+    /// the read count. No memory is taken.
     pub fn insert(&mut self, offset: u64, bytes: &[u8]) -> Result<(), InboxError>
         ensures overflow { IsErrOf result InboxError.Overflow ↔ (2 ^ 64 ≤ offset + length bytes.now) }
-        ensures past_window { IsErrOf result InboxError.PastWindow ↔ ((offset + length bytes.now < 2 ^ 64) × (self.old.read + 65536 < offset + length bytes.now)) }
+        ensures past_window { IsErrOf result InboxError.PastWindow ↔ ((offset + length bytes.now < 2 ^ 64) × (is_over self.old ≡ false) × (self.old.read + 65536 < offset + length bytes.now)) }
         ensures joins { OnOk result (self.new ≡ after_insert offset bytes.now self.old) }
         ensures unchanged { OnErr result (self.new ≡ self.old) }
         ensures answer { Inserts offset bytes.now self.old self.new result }
@@ -64,24 +76,28 @@ impl<A: Allocator + Copy> Inbox<A> {
         let Some(end) = offset.checked_add(bytes.len() as u64) else {
             return Err(InboxError::Overflow);
         };
-        if WINDOW < end.saturating_sub(self.read) {
+        if self.is_past_window(end) {
             return Err(InboxError::PastWindow);
         }
-        join(self.alloc, &mut self.bytes, offset, bytes, self.read)?;
+        if self.aborted.is_some() {
+            return Ok(());
+        }
+        let high = self.end_at().unwrap_or(end);
+        let past = join(&mut self.ring, offset, bytes, self.read, high);
+        self.top = self.top.max(past);
         Ok(())
     }
 
     /// Takes the first bytes of the run, at most `max` of them: the run is what is held in a row from the read count on.
-    #[tactic(auto, using(crate::proofs::Views::get_view))]
     pub fn take(&mut self, max: usize) -> Result<Vec<u8, A>, InboxError>
         ensures only_memory { IsOkUnless result InboxError.NoMemory }
         ensures taken { IfOk result (λ v. v.items ≡ take max (run self.old)) }
         ensures left { OnOk result (self.new ≡ after_take max self.old) }
         ensures unchanged { OnErr result (self.new ≡ self.old) }
     {
-        let count = row_length(&self.bytes, self.read).min(max);
-        let mut row = Vec::from_elem(self.alloc, 0, count)?;
-        draw(&mut self.bytes, self.read, &mut row);
+        let count = row_length(&self.ring, self.read).min(max);
+        let row = row(self.alloc, &self.ring, self.read, count)?;
+        forget(&mut self.ring, self.read, count);
         self.read += count as u64;
         Ok(row)
     }
@@ -91,21 +107,47 @@ impl<A: Allocator + Copy> Inbox<A> {
         ensures only_memory { IsOkUnless result InboxError.NoMemory }
         ensures same { IfOk result (λ c. c ≡ self.now) }
     {
-        let bytes = self.bytes.clone()?;
+        let bytes = self.ring.bytes.clone()?;
+        let marks = self.ring.marks.clone()?;
         Ok(Inbox {
-            bytes,
+            ring: Ring { bytes, marks },
             alloc: self.alloc,
             read: self.read,
+            top: self.top,
+            finished: self.finished,
+            aborted: self.aborted,
         })
     }
 
+    /// A clean close: the end is fixed past every byte that is held or was read. After a close or an abort it changes
+    /// nothing.
+    pub fn finish(&mut self)
+        ensures { self.new ≡ after_finish self.old }
+    {
+        if self.is_over() {
+            return;
+        }
+        self.finished = true;
+    }
+
+    /// An abort: what is held is given up. After a close or an abort it changes nothing.
+    pub fn abort(&mut self, code: u64)
+        ensures { self.new ≡ after_abort code self.old }
+    {
+        if self.is_over() {
+            return;
+        }
+        clear(&mut self.ring);
+        self.top = self.read;
+        self.aborted = Some(code);
+    }
+
     /// How many bytes the run has.
-    #[tactic(auto, using(crate::proofs::Views::get_view))]
     pub fn run_length(&self) -> usize
         ensures length { result ≡ length (run self.now) }
         ensures near { result ≤ 65536 }
     {
-        row_length(&self.bytes, self.read)
+        row_length(&self.ring, self.read)
     }
 
     /// How many bytes were read.
@@ -113,5 +155,33 @@ impl<A: Allocator + Copy> Inbox<A> {
         ensures { result ≡ self.now.read }
     {
         self.read
+    }
+
+    /// The end, once a clean close fixed it.
+    pub fn end_at(&self) -> Option<u64>
+        ensures { result ≡ self.now.end }
+    {
+        if self.finished { Some(self.top) } else { None }
+    }
+
+    /// The code of the abort, once one came.
+    pub fn abort_code(&self) -> Option<u64>
+        ensures { result ≡ self.now.aborted }
+    {
+        self.aborted
+    }
+
+    /// A clean close or an abort came.
+    fn is_over(&self) -> bool
+        ensures { result ≡ is_over self.now }
+    {
+        self.finished || self.aborted.is_some()
+    }
+
+    /// A piece that ends at `end` ends past the window.
+    fn is_past_window(&self, end: u64) -> bool
+        ensures { result ≡ (not (is_over self.now) && nat_lt (self.now.read + 65536) end) }
+    {
+        !self.is_over() && WINDOW < end.saturating_sub(self.read)
     }
 }

@@ -9,11 +9,15 @@ mod arrivals;
 #[cfg(test)]
 mod devices;
 #[cfg(test)]
+mod examples;
+#[cfg(test)]
 mod fields;
 #[cfg(test)]
 mod frames;
 #[cfg(test)]
 mod hop;
+#[cfg(test)]
+mod http;
 #[cfg(test)]
 mod inbox;
 #[cfg(test)]

@@ -3,44 +3,98 @@
 use crate::devices::{STORED, STORED_TEXT, answer_to};
 use refusing::Refusing;
 use std::alloc::Global;
+use std::process::Abort;
 use std::test::Fail;
 
-/// What is written and told where one request is refused: a line is refused and the others have their effect, or the run
-/// ends with a fault.
-const REFUSED: [(&str, &str); 4] = [
+/// Three packets of two frames each: "cd" at 2 and "ef" at 4 of stream 1; "ab" at 0 of it and "xy" at 0 of stream 2; "gh"
+/// at 6 of stream 1 and "zz" at 2 of stream 2.
+const PAIRS: &str = "010c010101000102140701010102026364140701010104026566
+010c010201000102140701010100026162140701020100027879
+010c010301000102140701010106026768140701020102027a7a
+";
+
+/// What is written and told of `STORED` where one request is refused. Its packets have one frame each, and the first of
+/// them that is taken opens the stream: the others want no memory. Or the run ends with a fault.
+const STORED_REFUSED: [(&str, &str); 2] = [
     ("line 1 refused 42\nstream 1 2 6162\n", ""),
-    ("line 2 refused 42\nstream 1 4 61626364\n", ""),
-    ("line 3 refused 42\nstream 1 4 61626364\n", ""),
     ("", "fault 99\n"),
 ];
 
-/// Each request of a run is refused in turn. All four answers come, and with memory back the same input is answered.
-#[test]
-fn one_request_is_refused(rt: HostRuntime) {
-    let heap: Refusing<Global> = Refusing::new(rt.alloc());
-    let mut came = [false; 4];
+/// The same of `PAIRS`: a line is refused whole, and the others have their effect; the fault comes before the first
+/// stream is written, or between the two.
+const PAIRS_REFUSED: [(&str, &str); 5] = [
+    (
+        "line 1 refused 42\nstream 1 2 6162\nstream 2 4 78797a7a\n",
+        "",
+    ),
+    ("line 2 refused 42\nstream 1 0 -\nstream 2 0 -\n", ""),
+    (
+        "line 3 refused 42\nstream 1 6 616263646566\nstream 2 2 7879\n",
+        "",
+    ),
+    ("", "fault 99\n"),
+    ("stream 1 8 6162636465666768\n", "fault 99\n"),
+];
+
+const PAIRS_TEXT: &str = "stream 1 8 6162636465666768\nstream 2 4 78797a7a\n";
+
+/// Each request of a run is refused in turn. All of these answers come and no other, and with memory back the same input
+/// is answered.
+fn refuses_each_request(
+    rt: &impl Abort,
+    alloc: Global,
+    input: &str,
+    text: &str,
+    refused: &[(&str, &str)],
+) -> Result<(), Fail> {
+    let heap: Refusing<Global> = Refusing::new(alloc);
+    let mut came = vec![in alloc; false; refused.len()]?;
     for n in 1..1000u64 {
         heap.refuse_only(n);
-        let told = answer_to(&heap, rt.alloc(), STORED);
+        let told = answer_to(&heap, alloc, input);
         let met = heap.has_refused();
         heap.refuse_none();
         if !met {
-            assert_eq!(rt; (told.text(), told.fault()), (STORED_TEXT, ""));
+            assert_eq!(rt; (told.text(), told.fault()), (text, ""));
             assert_eq!(rt; told.status, 0);
-            assert_eq!(rt; came, [true; 4]);
-            return;
+            assert!(rt; came.iter().all(|c| *c));
+            return Ok(());
         }
         let answer = (told.text(), told.fault());
-        for k in 0..REFUSED.len() {
-            came[k] = came[k] || answer == REFUSED[k];
+        for k in 0..refused.len() {
+            came[k] = came[k] || answer == refused[k];
         }
-        assert!(rt; REFUSED.contains(&answer), "at {n}: {answer:?}");
+        assert!(rt; refused.contains(&answer), "at {n}: {answer:?}");
         assert_eq!(rt; told.status, 1, "at {n}");
-        let again = answer_to(&heap, rt.alloc(), STORED);
-        assert_eq!(rt; again.text(), STORED_TEXT, "at {n}");
+        let again = answer_to(&heap, alloc, input);
+        assert_eq!(rt; again.text(), text, "at {n}");
         assert_eq!(rt; again.status, 0, "at {n}");
     }
     panic!(rt; "no run met no refusal");
+}
+
+#[test]
+fn one_request_is_refused(rt: HostRuntime) -> Result<(), Fail> {
+    refuses_each_request(&rt, rt.alloc(), STORED, STORED_TEXT, &STORED_REFUSED)?;
+    refuses_each_request(&rt, rt.alloc(), PAIRS, PAIRS_TEXT, &PAIRS_REFUSED)?;
+    Ok(())
+}
+
+/// How many requests a run over this input makes.
+fn requests_for(alloc: Global, input: &str) -> u64 {
+    let heap: Refusing<Global> = Refusing::new(alloc);
+    answer_to(&heap, alloc, input);
+    heap.asked()
+}
+
+/// A packet of one frame on a stream that was named asks for no more than one whose frame is of an unknown type: "ab" at 0,
+/// then "cd" at 3.
+#[test]
+fn a_frame_alone_copies_nothing(rt: HostRuntime) {
+    let alloc = rt.alloc();
+    let named = "010c010101000101140701010100026162\n010c010201000101140701010103026364\n";
+    let unknown = "010c010101000101140701010100026162\n010c010201000101990701010103026364\n";
+    assert_eq!(rt; requests_for(alloc, named), requests_for(alloc, unknown));
 }
 
 /// From a request on there is no memory: the fault is told, which asks for none.

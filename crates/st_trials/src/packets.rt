@@ -2,8 +2,10 @@
 
 use crate::LAST;
 use refusing::Refusing;
-use st_frames::{Frame, FrameError, write_packet};
-use st_ilp::{Answer, IlpError, Prepare, put_reject, reject_len, write_answer, write_prepare};
+use st_frames::{Frame, FrameError, MAX_PACKET, packet_len, put_packet, write_packet};
+use st_ilp::{
+    Answer, IlpError, MAX_DATA, Prepare, put_reject, reject_len, write_answer, write_prepare,
+};
 use std::alloc::Global;
 use std::test::Fail;
 
@@ -171,5 +173,137 @@ fn a_reject_goes_into_kept_room(rt: HostRuntime) -> Result<(), Fail> {
     put_reject(&mut none, *b"T04", "example.c", &[])?;
     let both = b"ab\x0e\x0fT04\x09example.c\0\0";
     assert!(rt; none.as_slice() == both.as_slice());
+    Ok(())
+}
+
+/// The same of room behind bytes, whether more was kept or just as much.
+#[test]
+fn a_reject_with_room_asks_for_no_memory(rt: HostRuntime) -> Result<(), Fail> {
+    let want = b"\x0e\x0fT04\x09example.c\0\0";
+    let heap: Refusing<Global> = Refusing::new(rt.alloc());
+    for count in [0usize, 1, 17, 64] {
+        for more in [0usize, 1, 100] {
+            heap.refuse_none();
+            let mut out = Vec::with_capacity(&heap, count + want.len() + more)?;
+            for _ in 0..count {
+                out.push(b'.')?;
+            }
+            heap.refuse_from(1);
+            let written = put_reject(&mut out, *b"T04", "example.c", &[]);
+            assert_eq!(rt; written, Ok(()), "{count}, {more}");
+            assert_eq!(rt; heap.asked(), 0, "{count}, {more}");
+            assert!(rt; &out[count..] == want.as_slice(), "{count}, {more}");
+        }
+    }
+    Ok(())
+}
+
+/// A packet is appended behind bytes: it asks once, for all of its room, or not at all where the room is there.
+#[test]
+fn a_packet_is_appended_or_not(rt: HostRuntime) -> Result<(), Fail> {
+    let size = packet_len(1, 0, &FRAMES)?;
+    assert_eq!(rt; size, PACKET.len());
+    let heap: Refusing<Global> = Refusing::new(rt.alloc());
+    let mut out = Vec::with_capacity(&heap, 2)?;
+    out.extend_from_slice(b"ab")?;
+    heap.refuse_from(1);
+    let refused = put_packet(&mut out, 12, 1, 0, &FRAMES);
+    assert_eq!(rt; refused, Err(FrameError::NoMemory));
+    assert_eq!(rt; heap.asked(), 1);
+    assert!(rt; out.as_slice() == b"ab".as_slice());
+    heap.refuse_only(2);
+    put_packet(&mut out, 12, 1, 0, &FRAMES)?;
+    assert_eq!(rt; heap.asked(), 1);
+    assert!(rt; out.strip_prefix(b"ab".as_slice()) == Some(PACKET));
+    for count in [0usize, 1, 28, 64] {
+        heap.refuse_none();
+        let mut room = Vec::with_capacity(&heap, count + size)?;
+        for _ in 0..count {
+            room.push(b'.')?;
+        }
+        heap.refuse_from(1);
+        assert_eq!(rt; put_packet(&mut room, 12, 1, 0, &FRAMES), Ok(()), "{count}");
+        assert_eq!(rt; heap.asked(), 0, "{count}");
+        assert!(rt; &room[count..] == PACKET, "{count}");
+    }
+    Ok(())
+}
+
+/// The bytes that are wanted behind a front: so many bytes of data and nothing else.
+fn is_front_and_data(bytes: &[u8], front: &[u8], data: &[u8]) -> bool {
+    bytes.strip_prefix(front) == Some(data)
+}
+
+/// Packets with as much data as there may be are written where there is memory, and ask for it once. The fronts are the
+/// fields of RFC 0027 and RFC 0029, section 5, with their lengths in hexadecimal.
+#[test]
+fn the_longest_packets_are_written(rt: HostRuntime) -> Result<(), Fail> {
+    let heap: Refusing<Global> = Refusing::new(rt.alloc());
+    let data = vec![in rt.alloc(); 0xa5u8; MAX_DATA + 1]?;
+    let most = &data[..32_767];
+    let offer = Prepare {
+        payload: most,
+        ..OFFER
+    };
+    heap.refuse_only(2);
+    let prepare = write_prepare(&heap, &offer)?;
+    assert_eq!(rt; heap.asked(), 1);
+    let front = b"\x0c\x82\x80\x45\0\0\0\0\0\0\0\x0520240102030405006\
+\0\0\0\0\0\0\0\0\0\0\0\0\0\0\0\0\0\0\0\0\0\0\0\0\0\0\0\0\0\0\0\0\x09example.b\x82\x7f\xff";
+    assert!(rt; is_front_and_data(&prepare, front, most));
+    let long = Prepare {
+        payload: &data,
+        ..OFFER
+    };
+    assert_eq!(rt;
+        write_prepare(&heap, &long).err(),
+        Some(IlpError::DataTooLong)
+    );
+
+    let fulfill = Answer::Fulfill {
+        fulfillment: *b"0123456789abcdef0123456789abcdef",
+        payload: most,
+    };
+    let reject = Answer::Reject {
+        code: *b"F99",
+        by: "",
+        message: "",
+        payload: most,
+    };
+    let fronts: [(Answer<'_>, &[u8]); 2] = [
+        (
+            fulfill,
+            b"\x0d\x82\x80\x220123456789abcdef0123456789abcdef\x82\x7f\xff",
+        ),
+        (reject, b"\x0e\x82\x80\x07F99\0\0\x82\x7f\xff"),
+    ];
+    for (answer, front) in fronts {
+        heap.refuse_only(2);
+        let written = write_answer(&heap, &answer)?;
+        assert_eq!(rt; heap.asked(), 1);
+        assert!(rt; is_front_and_data(&written, front, most));
+    }
+
+    let stream = [Frame::StreamData {
+        stream: 1,
+        offset: 0,
+        bytes: &data[..32_720],
+    }];
+    heap.refuse_only(2);
+    let packet = write_packet(&heap, 12, 1, 0, &stream)?;
+    assert_eq!(rt; heap.asked(), 1);
+    assert_eq!(rt; packet.len(), MAX_PACKET);
+    let front = b"\x01\x0c\x01\x01\x01\0\x01\x01\x14\x82\x7f\xd7\x01\x01\x01\0\x82\x7f\xd0";
+    assert!(rt; is_front_and_data(&packet, front, &data[..32_720]));
+    let longer = [Frame::StreamData {
+        stream: 1,
+        offset: 0,
+        bytes: &data[..32_721],
+    }];
+    heap.refuse_from(1);
+    assert_eq!(rt; packet_len(1, 0, &longer), Err(FrameError::TooLong));
+    let refused = write_packet(&heap, 12, 1, 0, &longer).err();
+    assert_eq!(rt; refused, Some(FrameError::TooLong));
+    assert_eq!(rt; heap.asked(), 0);
     Ok(())
 }

@@ -1,11 +1,15 @@
-use Rattle.std.proofs.Common.{◌≡◌, ◌≤◌, length}
+use Rattle.std.proofs.Common.{◌≡◌, length}
+use Rattle.st_commands.specs.Endings.{StaysFlushed}
 use Rattle.st_commands.specs.Inboxes.{runs_text}
 use Rattle.st_commands.proofs.Progressing.{WritesRuns}
+use Rattle.st_oer.specs.Tallies.{TakesTurns, device_of, tally_of}
 use Rattle.st_commands.proofs.frames.put_runs.Given as goal
 
 abbrev pub invariant-loop-place : goal.invariant-loop-place
 invariant-loop-place g l = record {
   count : length l.streams ≡ 64;
-  turns : l.turns ≤ l.fn.turns;
-  written : WritesRuns (g.W.Write.contents l.fn.writer) (g.W.Write.contents l.writer) (runs_text l.fn.streams) l.place l.streams;
+  faults : (tally_of l.writer).faults ≡ (tally_of l.fn.writer).faults;
+  flushed : StaysFlushed (tally_of l.fn.writer) (tally_of l.writer);
+  turns : TakesTurns (tally_of l.fn.writer) (tally_of l.writer) l.fn.turns l.turns;
+  written : WritesRuns (g.W.Write.contents (device_of l.fn.writer)) (g.W.Write.contents (device_of l.writer)) (runs_text l.fn.streams) l.place l.streams;
 }

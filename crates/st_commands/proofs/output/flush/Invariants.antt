@@ -1,5 +1,6 @@
-use Rattle.std.proofs.Common.{◌≤◌}
+use Rattle.std.proofs.Common.{◌≡◌}
 use Rattle.std.specs.Io.KnownBytes.{Keeps}
+use Rattle.st_oer.specs.Tallies.{TakesTurns, device_of, tally_of}
 use Rattle.st_commands.proofs.output.flush.Given as goal
 
 abbrev pub decreases-loop-turns : goal.decreases-loop-turns
@@ -7,6 +8,7 @@ decreases-loop-turns g l = l.turns
 
 abbrev pub invariant-loop-turns : goal.invariant-loop-turns
 invariant-loop-turns g l = record {
-  kept : Keeps (g.W.Write.contents l.fn.writer) (g.W.Write.contents l.writer);
-  turns : l.turns ≤ l.fn.turns;
+  kept : Keeps (g.W.Write.contents (device_of l.fn.writer)) (g.W.Write.contents (device_of l.writer));
+  faults : (tally_of l.writer).faults ≡ (tally_of l.fn.writer).faults;
+  spent : TakesTurns (tally_of l.fn.writer) (tally_of l.writer) l.fn.turns l.turns;
 }

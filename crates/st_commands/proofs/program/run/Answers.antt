@@ -1,5 +1,6 @@
 use Rattle.std.proofs.Common.{◌≡◌, subst, map, [], refl, inl, inr, arith}
 use Rattle.clap.specs.Words.{HasKind, Kinds}
+use Rattle.st_oer.specs.Tallies.{tally_of}
 use Rattle.st_commands.specs.Words.{refusals}
 use Rattle.st_commands.proofs.WordsTaken.{shown_is_no_mistake, shown_is_not_taken, takes, takes_only}
 use Rattle.st_commands.proofs.program.run.Goals as goal
@@ -17,14 +18,14 @@ returns-in-Err-clause-frames g c = λ asks.
 
 pub returns-in-Err-clause-told : goal.returns-in-Err-clause-told
 returns-in-Err-clause-told g c = λ other.
-    (refl, c.tell.ensures.told (g.R.Counted.fault_count c.args.reader.now) (g.R.Counted.fault_count c.args.reader.now) (refusals (map g.S.AsStr.text c.args.words.now)) c.in-Err.ensures)
+    (refl, c.tell.ensures.told (tally_of c.args.reader.now) (refusals (map g.S.AsStr.text c.args.words.now)) c.in-Err.ensures)
 
 pub returns-in-Ok-Frames-clause-shown : goal.returns-in-Ok-Frames-clause-shown
 returns-in-Ok-Frames-clause-shown g c = λ asks. absurd (shown_is_not_taken (map g.S.AsStr.text c.args.words.now) asks c.in-Ok-Frames.ensures)
 
 pub returns-in-Err-clause-shown : goal.returns-in-Err-clause-shown
 returns-in-Err-clause-shown g c = λ asks.
-    elim (c.tell.ensures.told 0 0 (refusals (map g.S.AsStr.text c.args.words.now)) c.in-Err.ensures) [
+    elim (c.tell.ensures.told (tally_of c.args.reader.now) (refusals (map g.S.AsStr.text c.args.words.now)) c.in-Err.ensures) [
       | inl mistake ↦ absurd (shown_is_no_mistake (map g.S.AsStr.text c.args.words.now) asks mistake.1)
       | inr other ↦ elim other [
         | inl done ↦ rw done.0 (omega arith)

@@ -2,6 +2,7 @@ use Rattle.std.proofs.Common.{◌≡◌, ◌⊎◌, sym, subst, ◌∙◌, inl, 
 use Rattle.clap.specs.Words.{IsAmong, Kinds}
 use Rattle.clap.specs.declared.error.kind.ErrorKind.{ErrorKind}
 use Rattle.clap.specs.declared.error.kind.ErrorKind.TheVariants.{DisplayHelp, DisplayVersion, OutOfMemory}
+use Rattle.st_oer.specs.Tallies.{no_calls}
 use Rattle.st_commands.specs.Words.{MayShow}
 use Rattle.st_commands.proofs.program.tell.Goals as goal
 
@@ -15,10 +16,10 @@ shown k kinds (inl help) (inr is) = inl (among k DisplayHelp kinds help is)
 shown k kinds (inr version) (inr is) = inr (among k DisplayVersion kinds version is)
 
 pub returns-in-DisplayHelp-clause-told : goal.returns-in-DisplayHelp-clause-told
-returns-in-DisplayHelp-clause-told g c = λ r s kinds has.
+returns-in-DisplayHelp-clause-told g c = λ r kinds has.
     let may : MayShow kinds = shown c.kind.result kinds c.in-DisplayHelp.is (rw (sym c.kind.ensures) at has) in
-    elim (c.show.ensures r s) [
-      | inl done ↦ inr (inl (done.0, may, done.1))
+    elim (c.show.ensures r) [
+      | inl done ↦ inr (inl (done.0, may, done.1, done.2))
       | inr other ↦ elim other [
         | inl fault ↦ inr (inr (inl (may, fault)))
         | inr memory ↦ inr (inr (inr memory))
@@ -26,7 +27,7 @@ returns-in-DisplayHelp-clause-told g c = λ r s kinds has.
     ]
 
 pub returns-in-DisplayHelp-clause-status : goal.returns-in-DisplayHelp-clause-status
-returns-in-DisplayHelp-clause-status g c = elim (c.show.ensures 0 0) [
+returns-in-DisplayHelp-clause-status g c = elim (c.show.ensures no_calls) [
   | inl done ↦ rw done.0 (omega arith)
   | inr other ↦ elim other [
     | inl fault ↦ rw fault.2.0 (omega arith)

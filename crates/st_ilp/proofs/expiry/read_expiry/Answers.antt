@@ -3,7 +3,8 @@ use Rattle.std.specs.Prelude.{Bool, true, false, not, bytes_eq}
 use Rattle.std.proofs.lemmas.Slice.Eq.{bytes_eq-Decides}
 use Rattle.st_ilp.specs.Calendar.{Exists, milliseconds}
 use Rattle.st_ilp.specs.Expiry.{digits_of}
-use Rattle.st_ilp.specs.Dates.{seen, named_by}
+use Rattle.st_ilp.specs.Dates.{seen}
+use Rattle.st_ilp.specs.Inside.{named_by}
 use Rattle.st_ilp.proofs.DateLemmas.{date_is}
 use Rattle.st_ilp.proofs.ExpiryTexts.{expiry_only, expiry_refused}
 use Rattle.st_ilp.proofs.expiry.read_expiry.Goals as goal

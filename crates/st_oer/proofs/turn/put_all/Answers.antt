@@ -1,8 +1,7 @@
-use Rattle.std.proofs.Common.{rules, arith, refl, ap, sym, ◌∙◌, append_assoc, zero-add, zero, suc, ◌≡◌, ◌≤◌, ◌<◌, ℕ, length, take, drop, ◌+◌, ◌-◌, List, [], ◌∷◌, ◌++◌}
+use Rattle.std.proofs.Common.{rules, arith, ap, ◌≡◌, ◌≤◌, ◌<◌, ℕ, length, take, drop, zero, suc, zero-add, refl, ◌+◌, ◌-◌, List, [], ◌∷◌, ◌++◌, ◌∙◌}
 use Rattle.std.proofs.lemmas.Grind.{common_steps}
-use Rattle.std.specs.Prelude.{Option, Some, None}
-use Rattle.std.specs.Io.KnownBytes.{Appends}
 use Rattle.std.proofs.KnownBytes.{Appends-trans}
+use Rattle.st_oer.specs.Tallies.{TakesTurns, device_of, tally_of}
 use Rattle.st_oer.proofs.turn.put_all.Goals as goal
 
 take_sum : (i n : ℕ) (s : List ℕ) → take i s ++ take n (drop i s) ≡ take (i + n) s
@@ -15,11 +14,10 @@ whole i s = grind (arith, common_steps)
 
 pub loop-sent-preserved-in-Moved : goal.loop-sent-preserved-in-Moved
 loop-sent-preserved-in-Moved g c =
-    let text = c.args.text.now in
-    let at = c.loop-sent.sent in
     let h = rw (whole c.loop-sent.sent c.args.text.now) at c.in-Moved.ensures in
     record {
       within = grind (arith, common_steps, h.0);
-      written = rw (← take_sum c.loop-sent.sent c.in-Moved.n c.args.text.now) (Appends-trans (g.W.Write.contents c.args.writer.now) (g.W.Write.contents c.loop-sent.writer) (g.W.Write.contents c.write_turn.new.writer) _ _ c.loop-sent.invariant.written h.1);
-      spent = omega arith;
+      written = rw (← take_sum c.loop-sent.sent c.in-Moved.n c.args.text.now) (Appends-trans (g.T.Write.contents (device_of c.args.writer.now)) (g.T.Write.contents (device_of c.loop-sent.writer)) (g.T.Write.contents (device_of c.write_turn.new.writer)) _ _ c.loop-sent.invariant.written h.1);
+      faults = h.2.faults ∙ c.loop-sent.invariant.faults;
+      spent = record { fewer = omega (arith, c.loop-sent.invariant.spent.fewer); calls = omega (arith, h.2.calls, c.loop-sent.invariant.spent.calls, c.loop-sent.invariant.spent.fewer, c.if-turns-eq0.false) };
     }

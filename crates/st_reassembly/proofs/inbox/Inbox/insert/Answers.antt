@@ -1,39 +1,44 @@
-use Rattle.std.proofs.Common.{◌≡◌, ◌∙◌, ap, sym, refl, Ok, inl, inr, arith}
-use Rattle.std.proofs.lemmas.Result.{err_from_is_err_and}
-use Rattle.st_reassembly.specs.Held.{Held, after_insert}
-use Rattle.st_reassembly.proofs.Insertions.{inserted-overflow, inserted-past_window, inserted-ok, inserted-allowed}
-use Rattle.st_reassembly.proofs.Views.{inserted_view, same_view}
+use Rattle.std.proofs.Common.{◌≡◌, ◌∙◌, ◌+◌, ◌&&◌, true, false, ap, sym, refl, subst, length, max, min, Ok, arith}
+use Rattle.std.specs.Prelude.{not, nat_lt}
+use Rattle.std.specs.Option.{unwrap_or}
+use Rattle.st_reassembly.specs.Held.{Held, is_over}
+use Rattle.st_reassembly.specs.Ring.{cell}
+use Rattle.st_reassembly.proofs.Insertions.{inserted-overflow, inserted-past_window, inserted-ok}
+use Rattle.st_reassembly.proofs.Views.{inserted_held, inserted_nowhere}
 use Rattle.st_reassembly.proofs.inbox.Inbox.insert.Goals as goal
 
 pub returns-in_default-clause-answer : goal.returns-in_default-clause-answer
-returns-in_default-clause-answer g c = (refl, inl (inserted-overflow c.args.offset c.args.bytes.now c.args.self.now (omega (arith, c.in_default.ensures))))
+returns-in_default-clause-answer g c = (refl, inserted-overflow c.args.offset c.args.bytes.now c.args.self.now (omega (arith, c.in_default.ensures)))
 
-pub returns-then-saturating_sub-gt-WINDOW-clause-answer : goal.returns-then-saturating_sub-gt-WINDOW-clause-answer
-returns-then-saturating_sub-gt-WINDOW-clause-answer g c =
-    let read : c.self.inside.read ≡ c.args.self.now.read = ap (λ (s : Held). s.read) c.self.view_is in
-    (refl, inl (inserted-past_window c.args.offset c.args.bytes.now c.args.self.now (omega (arith, c.in-Some.ensures)) (omega (arith, read, c.in-Some.ensures, c.saturating_sub.ensures))))
+pub returns-then-is_past_window-clause-answer : goal.returns-then-is_past_window-clause-answer
+returns-then-is_past_window-clause-answer g c = (
+  refl,
+  inserted-past_window c.args.offset c.args.bytes.now c.args.self.now (omega (arith, c.in-Some.ensures))
+      (subst (λ n. (not (is_over c.args.self.now) && nat_lt (c.args.self.now.read + 65536) n) ≡ true) c.in-Some.ensures.1 (sym c.is_past_window.ensures ∙ c.if-is_past_window.true)),
+)
 
-pub returns-in_err-join-clause-unchanged : goal.returns-in_err-join-clause-unchanged
-returns-in_err-join-clause-unchanged g c =
-    let p = err_from_is_err_and c.from_residual.result c.from_residual.ensures.1 in
-    rw p.1 (same_view c.self.inside.bytes c.join.new.held c.self.inside.read c.in_err-join.ensures.unchanged ∙ c.self.view_is)
+pub returns-then-is_some-clause-joins : goal.returns-then-is_some-clause-joins
+returns-then-is_some-clause-joins g c =
+    inserted_nowhere c.args.self.now c.args.offset c.args.bytes.now c.self.inside.aborted (ap (λ (s : Held). s.aborted) c.self.view_is) (sym c.is_some.ensures ∙ c.if-is_some.true)
 
-pub returns-in_err-join-clause-answer : goal.returns-in_err-join-clause-answer
-returns-in_err-join-clause-answer g c =
-    let read : c.self.inside.read ≡ c.args.self.now.read = ap (λ (s : Held). s.read) c.self.view_is in
-    let p = err_from_is_err_and c.from_residual.result c.from_residual.ensures.1 in
-    rw p.1 (
-      same_view c.self.inside.bytes c.join.new.held c.self.inside.read c.in_err-join.ensures.unchanged ∙ c.self.view_is,
-      inr (p.2, inserted-allowed c.args.offset c.args.bytes.now c.args.self.now (omega (arith, c.in-Some.ensures)) (omega (arith, read, c.in-Some.ensures, c.saturating_sub.ensures))),
-    )
+pub returns-then-is_some-clause-answer : goal.returns-then-is_some-clause-answer
+returns-then-is_some-clause-answer g c =
+    inserted-ok c.args.offset c.args.bytes.now c.args.self.now (omega (arith, c.in-Some.ensures))
+    (subst (λ n. (not (is_over c.args.self.now) && nat_lt (c.args.self.now.read + 65536) n) ≡ false) c.in-Some.ensures.1 (sym c.is_past_window.ensures ∙ c.if-is_past_window.false))
+    ∙ ap (λ (s : Held). Ok s) (sym (returns-then-is_some-clause-joins g c))
 
 pub returns-clause-joins : goal.returns-clause-joins
 returns-clause-joins g c =
-    inserted_view c.self.inside.bytes c.join.new.held c.self.inside.read c.args.offset c.args.bytes.now c.in_ok-join.ensures.joins
-    ∙ ap (λ (s : Held). after_insert c.args.offset c.args.bytes.now s) c.self.view_is
+    let fits : c.in-Some.end ≡ c.args.offset + length c.args.bytes.now = c.in-Some.ensures.1 in
+    rw c.max-self-inside.ensures (inserted_held c.args.self.now (cell c.self.inside.ring.bytes.items c.self.inside.ring.marks.items) (cell c.join-past.new.ring.bytes.items c.join-past.new.ring.marks.items)
+    c.self.inside.finished (nat_lt (max c.args.offset c.self.inside.read) (min c.unwrap_or-high.result (c.args.offset + length c.args.bytes.now)))
+    c.self.inside.read c.self.inside.top c.args.offset c.unwrap_or-high.result c.join-past.result c.self.inside.aborted c.args.bytes.now
+    c.self.view_is (sym c.is_some.ensures ∙ c.if-is_some.false) c.self.invariant.near
+    (subst (λ n. (not (is_over c.args.self.now) && nat_lt (c.args.self.now.read + 65536) n) ≡ false) fits (sym c.is_past_window.ensures ∙ c.if-is_past_window.false))
+    (c.unwrap_or-high.ensures ∙ ap (λ o. unwrap_or o c.in-Some.end) c.end_at.ensures ∙ ap (λ n. unwrap_or c.args.self.now.end n) fits) c.join-past.ensures.joins c.join-past.ensures.past)
 
 pub returns-clause-answer : goal.returns-clause-answer
 returns-clause-answer g c =
-    let read : c.self.inside.read ≡ c.args.self.now.read = ap (λ (s : Held). s.read) c.self.view_is in
-    inserted-ok c.args.offset c.args.bytes.now c.args.self.now (omega (arith, c.in-Some.ensures)) (omega (arith, read, c.in-Some.ensures, c.saturating_sub.ensures))
+    inserted-ok c.args.offset c.args.bytes.now c.args.self.now (omega (arith, c.in-Some.ensures))
+    (subst (λ n. (not (is_over c.args.self.now) && nat_lt (c.args.self.now.read + 65536) n) ≡ false) c.in-Some.ensures.1 (sym c.is_past_window.ensures ∙ c.if-is_past_window.false))
     ∙ ap (λ (s : Held). Ok s) (sym (returns-clause-joins g c))

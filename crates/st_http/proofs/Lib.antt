@@ -1,0 +1,12 @@
+pub mod Walks
+pub mod Numbers
+pub mod Lines
+pub mod Begins
+pub mod KeptFields
+pub mod Heads
+pub mod Standings
+pub mod Pieces
+pub mod Spent
+pub mod Refusals
+pub mod Wholes
+pub mod OneAnswer

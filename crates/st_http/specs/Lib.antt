@@ -1,0 +1,15 @@
+pub mod Errors
+pub mod Fields
+pub mod Length
+pub mod Bearer
+pub mod Head
+pub mod Verdict
+pub mod Message
+pub mod Texts
+pub mod Progress
+pub mod Reads
+pub mod Exchanges
+pub mod Serves
+pub mod Laws
+pub mod Kept
+pub mod Phases

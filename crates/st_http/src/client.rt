@@ -1,0 +1,49 @@
+//! The side that asks.
+
+ghost use Rattle.std.specs.Prelude.{◌≡◌, IsTrue, IfOk, IfErr};
+ghost use Rattle.st_http.specs.Texts as texts;
+ghost use Rattle.st_http.specs.Exchanges.{known, IsExchanged, ExplainsExchange};
+ghost use Rattle.st_http.specs.Reads.{SpendsTurns, faults_told};
+ghost use Rattle.st_oer.specs.Tallies.{device_of, tally_of};
+
+use crate::error::HttpError;
+use crate::reading::Reading;
+use crate::reads::{read_message, write_message};
+use crate::texts::request_text;
+use st_oer::Counting;
+use std::alloc::{Allocator, Global};
+use std::io::{Read, Write};
+
+/// Sends a request with this body, and answers the body of the response. Host and token are such as `is_field_text`
+/// allows. Each call of the stream takes one of `turns`. The fields of the response are kept by `global` while they are
+/// judged, and all else by `alloc`. After a refusal the stream is given up.
+pub fn exchange<S: Read + Write, A: Allocator + Copy>(
+    alloc: A,
+    global: Global,
+    stream: &mut Counting<S>,
+    host: &str,
+    token: &str,
+    body: &[u8],
+    turns: u64,
+) -> Result<Vec<u8, A>, HttpError>
+    requires host { IsTrue (texts.is_field_text host.now) }
+    requires token { IsTrue (texts.is_field_text token.now) }
+    // The stream had taken the request, and then gave the response.
+    ensures answer { IfOk result (λ answer. IsExchanged (known S.contents S.remaining) (device_of stream.old) (device_of stream.new)
+        (texts.request_text host.now token.now body.now) answer.items) }
+    ensures why { IfErr result (ExplainsExchange (known S.contents S.remaining) (device_of stream.old) (device_of stream.new)
+        (texts.request_text host.now token.now body.now)) }
+    ensures faults { (tally_of stream.new).faults ≡ faults_told result (tally_of stream.old).faults }
+    ensures turns { SpendsTurns result (tally_of stream.old) (tally_of stream.new) turns }
+{
+    let mut left = turns;
+    let request = request_text(alloc, host, token, body)?;
+    if let Err(error) = write_message(stream, &request, &mut left) {
+        return Err(error);
+    }
+    let mut reading = Reading::response(alloc, global);
+    if let Err(error) = read_message(stream, &mut reading, &mut left) {
+        return Err(error);
+    }
+    Ok(reading.into_body().unwrap())
+}

@@ -1,0 +1,95 @@
+//! The side that answers.
+
+ghost use Rattle.std.specs.Prelude.{◌≡◌, ℕ, List, map, OnOk, IfOk, IfErr, IsSome};
+ghost use Rattle.st_http.specs.Exchanges.{known};
+ghost use Rattle.st_http.specs.Progress.{account_of, body_of};
+ghost use Rattle.st_http.specs.Reads.{SpendsTurns, faults_told};
+ghost use Rattle.st_http.specs.declared.error.HttpError.TheVariants.{Turns};
+ghost use Rattle.st_oer.specs.Tallies.{TakesTurns, device_of, tally_of};
+ghost use Rattle.st_http.specs.Serves.{IsCalled, IsDue, IsServed, ExplainsNoResponse, ExplainsServe};
+
+use crate::answerer::Answerer;
+use crate::error::HttpError;
+use crate::reading::Reading;
+use crate::reads::{read_message, write_message};
+use crate::texts::{answer_text, refusal_text};
+use st_oer::Counting;
+use std::alloc::{AllocError, Allocator, Global};
+use std::io::{Read, Write};
+
+/// The response to a lawful request, which the answerer is asked for.
+fn answered<T: Answerer, A: Allocator + Copy>(
+    alloc: A,
+    reading: &Reading<'_, A>,
+    answerer: &mut T,
+) -> Result<Vec<u8, A>, AllocError>
+    requires account { IsSome (account_of reading.now.standing) }
+    requires body { IsSome (body_of reading.now.standing) }
+    // The answerer is called once, whether or not there is memory for the response.
+    ensures called { (text : List ℕ) × IsCalled T.gives reading.now.standing answerer.old answerer.new text
+        × IfOk result (λ made. made.items ≡ text) }
+{
+    let account = reading.account().unwrap();
+    let body = reading.body().unwrap();
+    match answerer.answer(account, body) {
+        Some(answer) => answer_text(alloc, &answer),
+        None => refusal_text(alloc, 500),
+    }
+}
+
+/// Reads a request, and has it answered if it is lawful. It answers the response.
+fn response_to_next<S: Read, T: Answerer, A: Allocator + Copy>(
+    alloc: A,
+    global: Global,
+    stream: &mut Counting<S>,
+    tokens: &[&str],
+    answerer: &mut T,
+    turns: &mut u64,
+) -> Result<Vec<u8, A>, HttpError>
+    ensures due { IfOk result (λ text. IsDue T.gives (map (λ t. t.now) tokens.now)
+        (record { before = S.remaining (device_of stream.old); after = S.remaining (device_of stream.new) }) answerer.old answerer.new text.items) }
+    ensures why { IfErr result (ExplainsNoResponse T.gives (map (λ t. t.now) tokens.now)
+        (record { before = S.remaining (device_of stream.old); after = S.remaining (device_of stream.new) }) answerer.old answerer.new) }
+    ensures faults { (tally_of stream.new).faults ≡ faults_told result (tally_of stream.old).faults }
+    ensures turns { TakesTurns (tally_of stream.old) (tally_of stream.new) turns.old turns.new }
+    ensures out_of_turns { IfErr result (λ e. e ≡ Turns → turns.new ≡ 0) }
+{
+    let mut reading = Reading::request(alloc, global, tokens);
+    match read_message(stream, &mut reading, turns) {
+        Ok(()) => match answered(alloc, &reading, answerer) {
+            Ok(text) => Ok(text),
+            Err(_) => Err(HttpError::NoMemory),
+        },
+        Err(HttpError::Status(code)) => match refusal_text(alloc, code) {
+            Ok(text) => Ok(text),
+            Err(_) => Err(HttpError::NoMemory),
+        },
+        Err(error) => Err(error),
+    }
+}
+
+/// Reads a request, has it answered if it is lawful, and writes the response. Each call of the stream takes one of
+/// `turns`. The fields of the request are kept by `global` while they are judged, and all else by `alloc`. After a refusal
+/// the stream is given up.
+pub fn serve_one<S: Read + Write, T: Answerer, A: Allocator + Copy>(
+    alloc: A,
+    global: Global,
+    stream: &mut Counting<S>,
+    tokens: &[&str],
+    answerer: &mut T,
+    turns: u64,
+) -> Result<(), HttpError>
+    // The stream had given a message, and then took the response that it asks for.
+    ensures served { OnOk result (IsServed (known S.contents S.remaining) T.gives (map (λ t. t.now) tokens.now)
+        (device_of stream.old) (device_of stream.new) answerer.old answerer.new) }
+    ensures why { IfErr result (ExplainsServe (known S.contents S.remaining) T.gives (map (λ t. t.now) tokens.now)
+        (device_of stream.old) (device_of stream.new) answerer.old answerer.new) }
+    ensures faults { (tally_of stream.new).faults ≡ faults_told result (tally_of stream.old).faults }
+    ensures turns { SpendsTurns result (tally_of stream.old) (tally_of stream.new) turns }
+{
+    let mut left = turns;
+    match response_to_next(alloc, global, stream, tokens, answerer, &mut left) {
+        Ok(text) => write_message(stream, &text, &mut left),
+        Err(error) => Err(error),
+    }
+}

@@ -1,0 +1,26 @@
+#!/usr/bin/env bash
+# The whole gate: `rt ci`, and then the program that it built, run as whoever uses it does. The last line counts both.
+set -u
+cd "$(dirname "$(readlink -f "${BASH_SOURCE[0]}")")/.." || exit 1
+log=$(mktemp)
+trap 'rm -f "$log"' EXIT
+
+rt ci | tee "$log"
+status=${PIPESTATUS[0]}
+if [ -x crates/ilpstream/out/ilpstream ]; then
+    tests/program.sh | tee -a "$log"
+    [ "${PIPESTATUS[0]}" = 0 ] || status=1
+else
+    echo "the program was not built, so it was not run"
+    echo "0 passed, 1 failed" | tee -a "$log"
+    status=1
+fi
+
+sed -nE 's/^([0-9]+) passed, ([0-9]+) failed$/\1 \2/p' "$log" | {
+    passed=0 failed=0
+    while read -r well ill; do
+        passed=$((passed + well)) failed=$((failed + ill))
+    done
+    echo "$passed passed, $failed failed"
+}
+exit "$status"
