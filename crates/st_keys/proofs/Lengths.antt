@@ -1,8 +1,8 @@
--- How many bytes hashes and payloads have, and which refusals opening knows.
+-- How many bytes hashes and payloads have.
 use Rattle.std.proofs.Common.{◌≡◌, ℕ, zero, suc, ◌+◌, ◌≤◌, ◌<◌, Bool, true, false, cond, Result, Ok, Err, List, [], ◌∷◌, ◌++◌, length, nat_lt, nat_eq, refl, ap, arith}
 use Rattle.std.specs.Cmp.Lexicographic.{pointwise}
 use Rattle.std.specs.Int.{byte_at, bytes_high_first, to_be_bytes, w32}
-use Rattle.std.specs.Prelude.{slice_index, ◌≢◌}
+use Rattle.std.specs.Prelude.{slice_index}
 use Rattle.std.proofs.lemmas.Bool.{ltb-false}
 use Rattle.std.proofs.lemmas.List.{length-append, length-drop}
 use Rattle.sha2.specs.Sha256.{digest_bytes, sha256}
@@ -10,15 +10,14 @@ use Rattle.sha2.proofs.Facts256.{length-sha256}
 use Rattle.st_oer.specs.Laws.{IsBytes}
 use Rattle.st_aes.specs.Gcm.{tag, counter_mode}
 use Rattle.st_aes.proofs.Streams.{counter_mode_length}
-use Rattle.st_frames.specs.Frames.{Known, Packet}
-use Rattle.st_frames.specs.Reading.{packet_at}
+use Rattle.st_frames.specs.Frames.{Known}
 use Rattle.st_frames.specs.Written.{written}
 use Rattle.st_frames.specs.declared.error.FrameError.{FrameError}
 use Rattle.st_keys.specs.declared.error.KeyError.{KeyError}
 use Rattle.st_keys.specs.declared.error.KeyError.TheVariants as refused
 use Rattle.st_keys.specs.Mac.{hmac}
 use Rattle.st_keys.specs.Keys.{DerivedKeys, fulfillment, condition}
-use Rattle.st_keys.specs.Sealed.{payload_of, sealed, sealed_text, sealed_packet, iv_of, tag_of, ciphertext_of, unsealed, packet_or_fault, packet_in, opened}
+use Rattle.st_keys.specs.Sealed.{payload_of, sealed, sealed_text, sealed_packet, iv_of, tag_of, ciphertext_of, unsealed}
 use Rattle.st_keys.specs.Laws.{AreBytes}
 use Rattle.st_keys.proofs.Payloads.{tag_length}
 use Rattle.st_keys.proofs.Written.{IsWritable, writable}
@@ -78,11 +77,6 @@ guarded_ok true right plain text is = absurd cc
 guarded_ok false true plain text is = (refl, cc)
 guarded_ok false false plain text is = absurd cc
 
-guarded_err : (short right : Bool) (text : List ℕ) → guarded short right text ≢ Err refused.NoMemory
-guarded_err true right text is = cc
-guarded_err false true text is = cc
-guarded_err false false text is = cc
-
 pub unsealed_length : (keys : DerivedKeys) (payload text : List ℕ) → unsealed keys payload ≡ Ok text → length payload ≡ 28 + length text
 unfolding unsealed
 unsealed_length keys payload text is =
@@ -105,22 +99,3 @@ pub packet_length : (keys : DerivedKeys) (iv payload : List ℕ) (kind sequence 
 unfolding sealed_packet
 packet_length keys iv payload kind sequence amount ks long is =
     text_length keys iv payload (written kind sequence amount ks) long (writable kind sequence amount ks) is
-
--- ---- refusals
-
-pub unsealed_needs_none : (keys : DerivedKeys) (payload : List ℕ) → unsealed keys payload ≢ Err refused.NoMemory
-unfolding unsealed
-unsealed_needs_none keys payload =
-    guarded_err (nat_lt (length payload) 28) (pointwise nat_eq (tag_of payload) (tag keys.encryption_key (iv_of payload) (ciphertext_of payload))) _
-
-packet_or_fault_needs_none : (read : Result Packet FrameError) → packet_or_fault read ≢ Err refused.NoMemory
-packet_or_fault_needs_none (Ok packet) is = cc
-packet_or_fault_needs_none (Err fault) is = cc
-
-packet_in_needs_none : (kind : ℕ) (text : Result (List ℕ) KeyError) → text ≢ Err refused.NoMemory → packet_in kind text ≢ Err refused.NoMemory
-packet_in_needs_none kind (Ok text) none = packet_or_fault_needs_none (packet_at kind text)
-packet_in_needs_none kind (Err e) none = λ is. none cc
-
-pub opened_needs_none : (keys : DerivedKeys) (kind : ℕ) (payload : List ℕ) → opened keys kind payload ≢ Err refused.NoMemory
-unfolding opened
-opened_needs_none keys kind payload = packet_in_needs_none kind (unsealed keys payload) (unsealed_needs_none keys payload)

@@ -1,3 +1,4 @@
 pub mod Payloads
-pub mod Lengths
 pub mod Written
+pub mod Lengths
+pub mod Memory

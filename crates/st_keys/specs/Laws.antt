@@ -1,9 +1,10 @@
 -- What holds of the definitions themselves.
-use Rattle.std.specs.Prelude.{ℕ, ◌≡◌, ◌≢◌, ◌+◌, ◌<◌, ◌≤◌, ◌^◌, List, length, Ok, Err}
-use Rattle.st_oer.specs.Laws.{IsBytes}
+use Rattle.std.specs.Prelude.{ℕ, ◌≡◌, ◌+◌, ◌<◌, ◌≤◌, ◌^◌, List, length, Ok}
+use Rattle.st_oer.specs.Laws.{IsBytes, Never}
 use Rattle.st_frames.specs.Frames.{Known}
 use Rattle.st_frames.specs.Written.{AllFit, packet_with}
-use Rattle.st_keys.specs.declared.error.KeyError.TheVariants.{NoMemory}
+use Rattle.st_frames.specs.declared.error.FrameError.TheVariants as frames
+use Rattle.st_keys.specs.declared.error.KeyError.TheVariants.{Packet, NoMemory}
 use Rattle.st_keys.specs.Keys.{DerivedKeys, fulfillment, condition}
 use Rattle.st_keys.specs.Sealed.{sealed, sealed_packet, unsealed, opened}
 
@@ -30,7 +31,8 @@ pub record PayloadLengths : Type 0 where
   pub packet : (keys : DerivedKeys) (iv payload : List ℕ) (kind sequence amount : ℕ) (ks : List Known) → length iv ≡ 12
       → sealed_packet keys iv kind sequence amount ks ≡ Ok payload → length payload ≤ 32767
 
--- want of memory is no answer to a payload
+-- opening takes no memory: no payload is refused for want of it, and no packet in one
 pub record OpensWithoutMemory : Type 0 where
-  pub text : (keys : DerivedKeys) (payload : List ℕ) → unsealed keys payload ≢ Err NoMemory
-  pub packet : (keys : DerivedKeys) (kind : ℕ) (payload : List ℕ) → opened keys kind payload ≢ Err NoMemory
+  pub text : (keys : DerivedKeys) → Never NoMemory (unsealed keys)
+  pub packet : (keys : DerivedKeys) (kind : ℕ) → Never NoMemory (opened keys kind)
+  pub fault : (keys : DerivedKeys) (kind : ℕ) → Never (Packet frames.NoMemory) (opened keys kind)

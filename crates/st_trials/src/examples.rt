@@ -5,6 +5,7 @@ use st_commands::run_frames;
 use st_frames::{Frame, FrameError, read_packet};
 use st_http::{HttpError, Reading};
 use st_ilp::{IlpError, Prepare, read_prepare, write_prepare};
+use st_keys::{KeyError, Keys};
 use st_oer::{CountRead, CountWrite, Cut, OerError, put_octets, put_var_uint};
 use st_reassembly::{Inbox, InboxError};
 use std::alloc::{Allocator, Global};
@@ -138,5 +139,21 @@ fn a_response_comes_in_pieces(rt: HostRuntime) -> Result<(), Fail> {
     let body = body_of(rt.alloc(), &pieces)?;
     assert!(rt; body.is_some_and(|body| body.as_slice() == b"ok".as_slice()));
     assert!(rt; body_of(rt.alloc(), &pieces[..2])?.is_none());
+
+/// Seals "hi", the first bytes of stream 1, for an ILP Prepare, and opens the payload as the peer does, who has the secret.
+fn is_heard(secret: [u8; 32], iv: [u8; 12], alloc: Global) -> Result<bool, KeyError> {
+    let hi = Frame::StreamData {
+        stream: 1,
+        offset: 0,
+        bytes: b"hi",
+    };
+    let mut payload = Keys::of(secret).seal_packet(alloc, iv, 12, 1, 0, &[hi])?;
+    let packet = Keys::of(secret).open_packet(&mut payload, 12)?;
+    Ok(packet.frames.again().next() == Some((0, hi)))
+}
+
+#[test]
+fn a_packet_is_sealed_and_opened(rt: HostRuntime) -> Result<(), Fail> {
+    assert!(rt; is_heard([7; 32], [0; 12], rt.alloc())?);
     Ok(())
 }
