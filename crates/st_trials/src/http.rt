@@ -305,7 +305,7 @@ fn feed_refused(
 fn a_refused_feed_is_made_again(rt: HostRuntime) -> Result<(), Fail> {
     let alloc = rt.alloc();
     let heap: Refusing<Global> = Refusing::new(alloc);
-    for cut in [0, 30, 70, 73] {
+    for cut in [0, 30, 70] {
         let mut met = 0;
         for n in 1..40u64 {
             if feed_refused(&rt, &heap, alloc, cut, n)? {
