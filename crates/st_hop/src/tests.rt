@@ -4,6 +4,8 @@ use std::alloc::{AllocError, Global};
 use std::process::Abort;
 use std::test::Fail;
 
+mod tickets;
+
 /// 2024-01-02 03:04:05.006 and the moment a second before it.
 const EXPIRY: &[u8; 17] = b"20240102030405006";
 
@@ -228,10 +230,14 @@ fn routes(rt: HostRuntime) -> Result<(), Fail> {
     let f02 = own_reject(alloc, b"F02")?;
     let mut hop = hop(alloc, 100, 1000)?;
     let below = prepare(alloc, 1, EXPIRY, &[0; 32], "example.b.x")?;
+    let far_below = prepare(alloc, 1, EXPIRY, &[0; 32], "example.b.x.y-z.w")?;
     let beside = prepare(alloc, 1, EXPIRY, &[0; 32], "example.bc.x")?;
     let nowhere = prepare(alloc, 1, EXPIRY, &[0; 32], "test.b")?;
     let back = prepare(alloc, 1, EXPIRY, &[0; 32], "example.b")?;
     let (ticket, to, _) = forwarded(&rt, &mut hop, 0, &below, now);
+    ticket.abandon();
+    assert!(rt; to == 1);
+    let (ticket, to, _) = forwarded(&rt, &mut hop, 0, &far_below, now);
     ticket.abandon();
     assert!(rt; to == 1);
     let (ticket, to, _) = forwarded(&rt, &mut hop, 1, &beside, now);
@@ -270,6 +276,8 @@ fn balances(rt: HostRuntime) -> Result<(), Fail> {
     );
     assert!(rt; hop.claims(1) == Ok(200));
     assert!(rt; hop.dues(0) == Ok(200));
+    assert!(rt; hop.all_claims() == 300);
+    assert!(rt; hop.all_dues() == 300);
     Ok(())
 }
 
@@ -355,6 +363,10 @@ fn bad_tables(rt: HostRuntime) -> Result<(), Fail> {
         prefix: "example",
         account: 0,
     };
+    let longer = Route {
+        prefix: "example.b",
+        account: 0,
+    };
     let nameless = Route {
         prefix: "",
         account: 0,
@@ -368,6 +380,8 @@ fn bad_tables(rt: HostRuntime) -> Result<(), Fail> {
     assert!(rt; is_bad(alloc, "example.c", 1, &[nameless]));
     assert!(rt; is_bad(alloc, "example.c", 1, &[astray]));
     assert!(rt; is_bad(alloc, "example.c", 1, &[route, route]));
+    assert!(rt; is_bad(alloc, "example.c", 1, &[route, longer, route]));
+    assert!(rt; !is_bad(alloc, "example.c", 1, &[route, longer]));
     assert!(rt; is_bad(alloc, "example.c", 1 << 63, &[route]));
     Ok(())
 }
