@@ -139,6 +139,8 @@ fn a_response_comes_in_pieces(rt: HostRuntime) -> Result<(), Fail> {
     let body = body_of(rt.alloc(), &pieces)?;
     assert!(rt; body.is_some_and(|body| body.as_slice() == b"ok".as_slice()));
     assert!(rt; body_of(rt.alloc(), &pieces[..2])?.is_none());
+    Ok(())
+}
 
 /// Seals "hi", the first bytes of stream 1, for an ILP Prepare, and opens the payload as the peer does, who has the secret.
 fn is_heard(secret: [u8; 32], iv: [u8; 12], alloc: Global) -> Result<bool, KeyError> {
