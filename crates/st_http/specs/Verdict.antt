@@ -5,7 +5,7 @@ use Rattle.httparse.specs.Spans.{name_and_value}
 use Rattle.st_http.specs.declared.error.HttpError.{HttpError}
 use Rattle.st_http.specs.declared.error.HttpError.TheVariants.{BadHead, Status, TooLong}
 use Rattle.st_http.specs.declared.length.Length.{Length}
-use Rattle.st_http.specs.declared.length.Length.TheVariants as length
+use Rattle.st_http.specs.declared.length.Length.TheVariants as said
 use Rattle.st_http.specs.declared.verdict.Lawful.{Lawful}
 use Rattle.st_http.specs.Fields.{Pair}
 use Rattle.st_http.specs.Length.{length_by}
@@ -19,10 +19,10 @@ pub data Expected : Type 0 where
 
 -- the answer to a request by its length, at an account
 abbrev pub request_of_length : ℕ → Length → Result Lawful HttpError
-request_of_length account length.Missing = Err (Status 411)
-request_of_length account length.Malformed = Err (Status 400)
-request_of_length account length.TooLong = Err (Status 413)
-request_of_length account (length.Of size) = Ok (record { account = Some account; size = size })
+request_of_length account said.Missing = Err (Status 411)
+request_of_length account said.Malformed = Err (Status 400)
+request_of_length account said.TooLong = Err (Status 413)
+request_of_length account (said.Of size) = Ok (record { account = Some account; size = size })
 
 -- the answer by its account, if it has one
 abbrev pub request_of_account : Option ℕ → Length → Result Lawful HttpError
@@ -38,10 +38,10 @@ request_verdict tokens target method fields =
 
 -- what the client's rules say of a 200's length
 abbrev pub response_of_length : Length → Result Lawful HttpError
-response_of_length length.Missing = Err BadHead
-response_of_length length.Malformed = Err BadHead
-response_of_length length.TooLong = Err TooLong
-response_of_length (length.Of size) = Ok (record { account = None; size = size })
+response_of_length said.Missing = Err BadHead
+response_of_length said.Malformed = Err BadHead
+response_of_length said.TooLong = Err TooLong
+response_of_length (said.Of size) = Ok (record { account = None; size = size })
 
 -- what the client's rules say
 abbrev pub response_verdict : ℕ → List Pair → Result Lawful HttpError
