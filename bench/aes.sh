@@ -9,23 +9,20 @@ seconds=${1:-3}
 echo "proving and building bench_aes where it is older than its sources" >&2
 rt run -- 0 0 >&2
 
-nanoseconds() { # that the program takes with these words
-    local from to
-    from=$(date +%s%N)
-    out/bench_aes "$@" >/dev/null
-    to=$(date +%s%N)
-    echo $((to - from))
+milliseconds() { # of the processor's time, as OpenSSL counts its own, that the program takes with these words
+    local TIMEFORMAT=%U taken
+    taken=$({ time out/bench_aes "$@" >/dev/null; } 2>&1)
+    echo $((10#${taken/./}))
 }
 
 each() { # picoseconds of one turn of those that the words ask for, @ being how many: as many as fill the seconds
-    local times=1000 taken=0 start
-    start=$(nanoseconds "${@//@/0}")
-    while [ "$taken" -lt 20000000 ]; do
+    local times=1000 taken=0
+    while [ "$taken" -lt 100 ]; do
         times=$((times * 4))
-        taken=$(($(nanoseconds "${@//@/$times}") - start))
+        taken=$(milliseconds "${@//@/$times}")
     done
-    times=$((times * seconds * 1000 / (taken / 1000000)))
-    echo $((($(nanoseconds "${@//@/$times}") - start) * 1000 / times))
+    times=$((times * seconds * 1000 / taken))
+    echo $(($(milliseconds "${@//@/$times}") * 1000000000 / times))
 }
 
 openssl_rate() { # bytes a second at $1 bytes
