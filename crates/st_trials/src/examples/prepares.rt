@@ -1,0 +1,26 @@
+//! A Prepare as bytes.
+
+use st_ilp::{IlpError, Prepare, write_prepare};
+use std::alloc::Allocator;
+
+/// The bytes of a Prepare of five units that expires on 2 January 2024 at 03:04:05.006.
+fn offer<A: Allocator>(alloc: A, payload: &[u8]) -> Result<Vec<u8, A>, IlpError> {
+    let prepare = Prepare {
+        amount: 5,
+        expiry: 1_704_164_645_006,
+        condition: [0; 32],
+        destination: "example.b",
+        payload,
+    };
+    write_prepare(alloc, &prepare)
+}
+
+#[test]
+fn a_prepare_is_written_and_read(rt: HostRuntime) -> Result<(), std::test::Fail> {
+    let bytes = offer(rt.alloc(), b"hi")?;
+    assert_eq!(rt; bytes.len(), 72);
+    let prepare = st_ilp::read_prepare(&bytes)?;
+    assert_eq!(rt; prepare.amount, 5);
+    assert_eq!(rt; prepare.payload, b"hi".as_slice());
+    Ok(())
+}
