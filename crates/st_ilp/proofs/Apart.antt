@@ -1,5 +1,5 @@
 -- Texts of one kind are no packets of another.
-use Rattle.std.proofs.Common.{◌≡◌, ℕ, Bool, true, false, cond, List, length, nat_eq, Result, Ok, Err, refl}
+use Rattle.std.proofs.Common.{◌≡◌, ℕ, Bool, true, false, List, length, nat_eq, Result, Ok, Err, refl}
 use Rattle.std.specs.Prelude.{◌==◌, if◌then◌else◌}
 use Rattle.st_oer.specs.declared.error.OerError.{OerError}
 use Rattle.st_oer.specs.Spelling.{octets}

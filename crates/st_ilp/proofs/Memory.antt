@@ -1,5 +1,5 @@
 -- Reading never answers want of memory.
-use Rattle.std.proofs.Common.{◌≡◌, ℕ, nat_eq, Bool, true, false, List, length, Result, Ok, Err, refl}
+use Rattle.std.proofs.Common.{ℕ, Bool, true, false, List, length, Result, Ok, Err, refl}
 use Rattle.std.specs.Prelude.{◌≢◌, nat_le, ◌==◌, ◌&&◌, IfErr}
 use Rattle.st_oer.specs.declared.error.OerError.{OerError}
 use Rattle.st_oer.specs.declared.error.OerError.TheVariants as fault

@@ -11,7 +11,7 @@ use Rattle.st_oer.proofs.Bytes.{length-bytes_high_first}
 use Rattle.st_ilp.specs.Packets.{PreparePacket, AnswerPacket, Fulfilled, Rejected}
 use Rattle.st_ilp.specs.Expiry.{expiry_text}
 use Rattle.st_ilp.specs.Spelling.{prepare_contents, prepare_text, answer_contents, answer_text}
-use Rattle.st_ilp.specs.Writing.{octets_size, reject_contents_size, reject_size, size_of_prepare, size_of_answer, answer_refusal}
+use Rattle.st_ilp.specs.Writing.{octets_size, reject_contents_size, reject_size, size_of_answer, answer_refusal}
 use Rattle.st_ilp.specs.declared.error.IlpError.{IlpError}
 use Rattle.st_ilp.specs.declared.error.IlpError.TheVariants.{Address, Code, DataTooLong}
 use Rattle.st_ilp.specs.Rules.{max_data, max_message, is_data, is_sender, is_code}

@@ -90,23 +90,10 @@ fn long_octets_are_appended_or_not(rt: HostRuntime) -> Result<(), Fail> {
     Ok(())
 }
 
-/// A vector of so many bytes with room for `more`.
-fn filled<'a>(
-    heap: &'a Refusing<Global>,
-    count: usize,
-    more: usize,
-) -> Result<Vec<u8, &'a Refusing<Global>>, Fail> {
-    let mut out = Vec::with_capacity(heap, count + more)?;
-    for _ in 0..count {
-        out.push(b'.')?;
-    }
-    Ok(out)
-}
-
-/// A field asks for no memory where the vector has just the room for it, whatever stands in front.
+/// A field asks for no memory where the vector has just the room for it, whatever stands in front; and once without room.
 #[test]
 fn a_field_with_room_asks_for_no_memory(rt: HostRuntime) -> Result<(), Fail> {
-    let rows: [(Field<'_>, usize); 8] = [
+    let rows: [(Field<'_>, u8); 8] = [
         (Field::U8(7), 1),
         (Field::U64(258), 8),
         (Field::VarUint(0), 2),
@@ -117,20 +104,23 @@ fn a_field_with_room_asks_for_no_memory(rt: HostRuntime) -> Result<(), Fail> {
         (Field::Octets(b""), 1),
     ];
     let heap: Refusing<Global> = Refusing::new(rt.alloc());
-    for count in [0, 1, 7, 64, 1000] {
+    for count in [0u8, 1, 7, 64, 255] {
         for (field, size) in rows {
             heap.refuse_none();
-            let mut out = filled(&heap, count, size)?;
-            let full = out.capacity() == count + size;
+            let length = usize::from(count) + usize::from(size);
+            let mut out = Vec::with_capacity(&heap, length)?;
+            for _ in 0..count {
+                out.push(b'.')?;
+            }
+            let is_full = out.capacity() == length;
             heap.refuse_from(1);
             assert_eq!(rt; put(&mut out, field), Ok(()), "{count}, {size}");
             assert_eq!(rt; heap.asked(), 0, "{count}, {size}");
-            assert_eq!(rt; out.len(), count + size);
-            // What goes past the capacity asks for memory, and is refused.
-            if full {
-                assert_eq!(rt; put(&mut out, field), Err(OerError::NoMemory));
+            assert_eq!(rt; out.len(), length, "{count}, {size}");
+            if is_full {
+                assert_eq!(rt; put_u8(&mut out, 7), Err(OerError::NoMemory));
                 assert_eq!(rt; heap.asked(), 1, "{count}, {size}");
-                assert_eq!(rt; out.len(), count + size);
+                assert_eq!(rt; out.len(), length, "{count}, {size}");
             }
         }
     }

@@ -210,23 +210,32 @@ fn a_reject_goes_into_kept_room(rt: HostRuntime) -> Result<(), Fail> {
     Ok(())
 }
 
+/// Whether bytes are a front and what is wanted behind it.
+fn is_behind(bytes: &[u8], front: &[u8], want: &[u8]) -> bool {
+    match bytes.split_at_checked(front.len()) {
+        Some((head, tail)) => head == front && tail == want,
+        None => false,
+    }
+}
+
+/// What stands in front of bytes that are appended.
+const FRONT: [u8; 64] = [b'.'; 64];
+
 /// The same of room behind bytes, whether more was kept or just as much.
 #[test]
 fn a_reject_with_room_asks_for_no_memory(rt: HostRuntime) -> Result<(), Fail> {
     let want = b"\x0e\x0fT04\x09example.c\0\0";
     let heap: Refusing<Global> = Refusing::new(rt.alloc());
-    for count in [0usize, 1, 17, 64] {
-        for more in [0usize, 1, 100] {
+    for front in [&FRONT[..0], &FRONT[..1], &FRONT[..17], &FRONT] {
+        for more in [0u8, 1, 100] {
             heap.refuse_none();
-            let mut out = Vec::with_capacity(&heap, count + want.len() + more)?;
-            for _ in 0..count {
-                out.push(b'.')?;
-            }
+            let mut out = front.to_vec(&heap)?;
+            out.reserve_exact(want.len() + usize::from(more))?;
             heap.refuse_from(1);
             let written = put_reject(&mut out, *b"T04", "example.c", &[]);
-            assert_eq!(rt; written, Ok(()), "{count}, {more}");
-            assert_eq!(rt; heap.asked(), 0, "{count}, {more}");
-            assert!(rt; &out[count..] == want.as_slice(), "{count}, {more}");
+            assert_eq!(rt; written, Ok(()), "{more}");
+            assert_eq!(rt; heap.asked(), 0, "{more}");
+            assert!(rt; is_behind(&out, front, want), "{more}");
         }
     }
     Ok(())
@@ -238,8 +247,7 @@ fn a_packet_is_appended_or_not(rt: HostRuntime) -> Result<(), Fail> {
     let size = packet_len(1, 0, &FRAMES)?;
     assert_eq!(rt; size, PACKET.len());
     let heap: Refusing<Global> = Refusing::new(rt.alloc());
-    let mut out = Vec::with_capacity(&heap, 2)?;
-    out.extend_from_slice(b"ab")?;
+    let mut out = b"ab".to_vec(&heap)?;
     heap.refuse_from(1);
     let refused = put_packet(&mut out, 12, 1, 0, &FRAMES);
     assert_eq!(rt; refused, Err(FrameError::NoMemory));
@@ -248,24 +256,17 @@ fn a_packet_is_appended_or_not(rt: HostRuntime) -> Result<(), Fail> {
     heap.refuse_only(2);
     put_packet(&mut out, 12, 1, 0, &FRAMES)?;
     assert_eq!(rt; heap.asked(), 1);
-    assert!(rt; out.strip_prefix(b"ab".as_slice()) == Some(PACKET));
-    for count in [0usize, 1, 28, 64] {
+    assert!(rt; is_behind(&out, b"ab", PACKET));
+    for front in [&FRONT[..0], &FRONT[..1], &FRONT[..28], &FRONT] {
         heap.refuse_none();
-        let mut room = Vec::with_capacity(&heap, count + size)?;
-        for _ in 0..count {
-            room.push(b'.')?;
-        }
+        let mut room = front.to_vec(&heap)?;
+        room.reserve_exact(size)?;
         heap.refuse_from(1);
-        assert_eq!(rt; put_packet(&mut room, 12, 1, 0, &FRAMES), Ok(()), "{count}");
-        assert_eq!(rt; heap.asked(), 0, "{count}");
-        assert!(rt; &room[count..] == PACKET, "{count}");
+        assert_eq!(rt; put_packet(&mut room, 12, 1, 0, &FRAMES), Ok(()));
+        assert_eq!(rt; heap.asked(), 0);
+        assert!(rt; is_behind(&room, front, PACKET));
     }
     Ok(())
-}
-
-/// The bytes that are wanted behind a front: so many bytes of data and nothing else.
-fn is_front_and_data(bytes: &[u8], front: &[u8], data: &[u8]) -> bool {
-    bytes.strip_prefix(front) == Some(data)
 }
 
 /// Packets with as much data as there may be are written where there is memory, and ask for it once. The fronts are the
@@ -284,7 +285,7 @@ fn the_longest_packets_are_written(rt: HostRuntime) -> Result<(), Fail> {
     assert_eq!(rt; heap.asked(), 1);
     let front = b"\x0c\x82\x80\x45\0\0\0\0\0\0\0\x0520240102030405006\
 \0\0\0\0\0\0\0\0\0\0\0\0\0\0\0\0\0\0\0\0\0\0\0\0\0\0\0\0\0\0\0\0\x09example.b\x82\x7f\xff";
-    assert!(rt; is_front_and_data(&prepare, front, most));
+    assert!(rt; is_behind(&prepare, front, most));
     let long = Prepare {
         payload: &data,
         ..OFFER
@@ -315,7 +316,7 @@ fn the_longest_packets_are_written(rt: HostRuntime) -> Result<(), Fail> {
         heap.refuse_only(2);
         let written = write_answer(&heap, &answer)?;
         assert_eq!(rt; heap.asked(), 1);
-        assert!(rt; is_front_and_data(&written, front, most));
+        assert!(rt; is_behind(&written, front, most));
     }
 
     let stream = [Frame::StreamData {
@@ -328,7 +329,7 @@ fn the_longest_packets_are_written(rt: HostRuntime) -> Result<(), Fail> {
     assert_eq!(rt; heap.asked(), 1);
     assert_eq!(rt; packet.len(), MAX_PACKET);
     let front = b"\x01\x0c\x01\x01\x01\0\x01\x01\x14\x82\x7f\xd7\x01\x01\x01\0\x82\x7f\xd0";
-    assert!(rt; is_front_and_data(&packet, front, &data[..32_720]));
+    assert!(rt; is_behind(&packet, front, &data[..32_720]));
     let longer = [Frame::StreamData {
         stream: 1,
         offset: 0,
