@@ -298,14 +298,14 @@ fn reads_come_in_turns(rt: HostRuntime) {
 
 #[test]
 fn texts_are_put_in_turns(rt: HostRuntime) {
-    let rows: [(u64, ErrorKind, u64, Result<(), PutError>, u64); 5] = [
-        (0, ErrorKind::Other, 9, Ok(()), 6),
-        (2, ErrorKind::Interrupted, 9, Ok(()), 5),
-        (2, ErrorKind::Interrupted, 3, Err(PutError::Turns(4)), 0),
-        (1, ErrorKind::Other, 9, Err(PutError::Fault(0)), 8),
-        (3, ErrorKind::Other, 9, Err(PutError::Fault(4)), 6),
+    let rows: [(u64, ErrorKind, u64, Result<(), PutError>, u64, u64); 5] = [
+        (0, ErrorKind::Other, 9, Ok(()), 3, 6),
+        (2, ErrorKind::Interrupted, 9, Ok(()), 4, 5),
+        (2, ErrorKind::Interrupted, 3, Err(PutError::Turns(4)), 3, 0),
+        (1, ErrorKind::Other, 9, Err(PutError::Fault(0)), 1, 8),
+        (3, ErrorKind::Other, 9, Err(PutError::Fault(4)), 3, 6),
     ];
-    for (fails_at, kind, given, want, left) in rows {
+    for (fails_at, kind, given, want, made, left) in rows {
         let device = Faulty::new(Vec::new(rt.alloc()), 2, fails_at, kind);
         let mut writer = CountWrite::new(device);
         let mut turns = given;
@@ -313,7 +313,7 @@ fn texts_are_put_in_turns(rt: HostRuntime) {
         assert_eq!(rt; turns, left, "call {fails_at}");
         let is_fault = matches!(want, Err(PutError::Fault(_)));
         let tally = Tally {
-            calls: given - left,
+            calls: made,
             faults: u64::from(is_fault),
             interruptions: u64::from(fails_at == 2),
             flushed: fails_at == 1,
@@ -325,7 +325,7 @@ fn texts_are_put_in_turns(rt: HostRuntime) {
         };
         let Faulty { inner, calls, .. } = writer.into_inner();
         assert_eq!(rt; Some(inner.as_slice()), b"abcde".get(..written));
-        assert_eq!(rt; calls, given - left);
+        assert_eq!(rt; calls, made);
     }
 }
 
@@ -398,14 +398,13 @@ fn one_call_fails(rt: HostRuntime) {
 /// What fails behind a wrapper is told by the turn of that call alone.
 #[test]
 fn a_text_meets_each_failing_call(rt: HostRuntime) {
-    for k in 1..=3u64 {
+    for (k, sent, left) in [(1, 0, 8), (2, 2, 7), (3, 4, 6)] {
         let device = FailAt::new(Faulty::new(Vec::new(rt.alloc()), 2, 0, ErrorKind::Other), k);
         let mut writer = CountWrite::new(device);
         let mut turns = 9;
-        let sent = (k as usize - 1) * 2;
         let answer = put_all(&mut writer, b"abcde", &mut turns);
         assert_eq!(rt; answer, Err(PutError::Fault(sent)), "call {k}");
-        assert_eq!(rt; turns, 9 - k, "call {k}");
+        assert_eq!(rt; turns, left, "call {k}");
         assert_eq!(rt; writer.faults(), 1, "call {k}");
         assert_eq!(rt;
             put_all(&mut writer, b"abcde", &mut turns),

@@ -26,36 +26,6 @@ fn put<A: Allocator>(out: &mut Vec<u8, A>, field: Field<'_>) -> Result<(), OerEr
     }
 }
 
-/// Where the room is there, an appended field asks for no memory, and the vector keeps its room.
-#[test]
-fn a_field_with_room_asks_for_none(rt: HostRuntime) -> Result<(), Fail> {
-    let text = [0xab; 300];
-    let rows: [(Field<'_>, usize); 11] = [
-        (Field::U8(7), 1),
-        (Field::U64(258), 8),
-        (Field::VarUint(0), 2),
-        (Field::VarUint(258), 3),
-        (Field::VarUint(u64::MAX), 9),
-        (Field::Length(127), 1),
-        (Field::Length(258), 3),
-        (Field::Length(u64::MAX), 9),
-        (Field::Octets(b""), 1),
-        (Field::Octets(b"hello"), 6),
-        (Field::Octets(&text), 303),
-    ];
-    let heap: Refusing<Global> = Refusing::new(rt.alloc());
-    for (field, size) in rows {
-        heap.refuse_none();
-        let mut out = Vec::with_capacity(&heap, size + 1)?;
-        out.push(0)?;
-        heap.refuse_from(1);
-        assert_eq!(rt; put(&mut out, field), Ok(()), "{size}");
-        assert_eq!(rt; heap.asked(), 0, "{size}");
-        assert_eq!(rt; out.len(), size + 1, "{size}");
-    }
-    Ok(())
-}
-
 /// Each request of an appended field is refused in turn: the vector is as before, and the same call then succeeds.
 #[test]
 fn a_field_is_appended_or_not(rt: HostRuntime) -> Result<(), Fail> {
