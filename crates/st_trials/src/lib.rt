@@ -28,6 +28,8 @@ mod packets;
 mod program;
 #[cfg(test)]
 mod sealing;
+#[cfg(test)]
+mod waiting;
 
 /// The number of the last request that is refused in turn. No call that is tried up to it makes as many.
 #[cfg(test)]
