@@ -433,13 +433,14 @@ fn amounts_are_exchanged(rt: HostRuntime) {
         (1, u32::MAX, u64::MAX, 4_294_967_297),
     ];
     for (num, den, amount, want) in rows {
-        let rate = Rate::new(num, den);
-        assert_eq!(rt; rate.map(|rate| rate.num()), Some(num));
-        assert_eq!(rt; rate.map(|rate| rate.den()), Some(den));
-        let out = rate.map(|rate| rate.of(amount));
-        assert_eq!(rt; out, Some(want), "{amount} at {num} to {den}");
+        let Some(rate) = Rate::new(num, den) else {
+            panic!(rt; "{num} to {den} is a rate");
+        };
+        assert_eq!(rt; rate.num(), num);
+        assert_eq!(rt; rate.den(), den);
+        assert_eq!(rt; rate.of(amount), want, "{amount} at {num} to {den}");
     }
-    assert_eq!(rt; Rate::new(0, 1), None);
-    assert_eq!(rt; Rate::new(1, 0), None);
-    assert_eq!(rt; Rate::new(0, 0), None);
+    assert!(rt; Rate::new(0, 1).is_none());
+    assert!(rt; Rate::new(1, 0).is_none());
+    assert!(rt; Rate::new(0, 0).is_none());
 }
