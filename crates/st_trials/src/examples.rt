@@ -8,3 +8,4 @@ mod prepares;
 mod responses;
 mod sealing;
 mod texts;
+mod tickets;

@@ -14,7 +14,7 @@ pub(crate) const PREPARE: &[u8; 70] = b"\x0c\x44\0\0\0\0\0\0\0\x0520240102030405
 \x08\x97\x14\x85\x6e\xe2\x33\xb3\x90\x2a\x59\x1d\x0d\x5f\x29\x25\x09example.b\0";
 
 /// The Fulfill of 32 zero bytes, without data.
-const FULFILL: &[u8; 35] =
+pub(crate) const FULFILL: &[u8; 35] =
     b"\x0d\x21\0\0\0\0\0\0\0\0\0\0\0\0\0\0\0\0\0\0\0\0\0\0\0\0\0\0\0\0\0\0\0\0\0";
 
 /// The Fulfill of another 32 bytes.

@@ -1,8 +1,7 @@
 //! Tickets in the hands of a caller.
 
 use super::{EXPIRY, EXPIRY_MS, ZERO_DIGEST, hop, moment, own_reject, prepare, zero_fulfill};
-use crate::{HopState, Open, Outcome, Ticket, Verdict};
-use st_ilp::Moment;
+use crate::{Open, Outcome, Ticket, Verdict};
 use std::alloc::Global;
 use std::test::Fail;
 
@@ -12,50 +11,6 @@ trait IsKept {}
 impl<T: Drop> IsKept for T {}
 
 impl IsKept for Ticket {}
-
-/// Settles the ticket that a slot keeps, and empties the slot.
-fn settle_slot(
-    hop: &mut HopState<Global>,
-    slot: &mut Option<Ticket>,
-    outcome: Outcome<Global>,
-    now: Moment,
-) -> Option<Vec<u8>> {
-    let ticket = slot.take()?;
-    if hop.is_open(&ticket) {
-        Some(hop.settle(ticket, outcome, now))
-    } else {
-        ticket.abandon();
-        None
-    }
-}
-
-#[test]
-fn a_slot_keeps_a_ticket(rt: HostRuntime) -> Result<(), Fail> {
-    let alloc = rt.alloc();
-    let now = moment(&rt, 0);
-    let bytes = prepare(alloc, 60, EXPIRY, &ZERO_DIGEST, "example.b.x")?;
-    let fulfill = zero_fulfill(alloc)?;
-    let outcome = Outcome::Answered(zero_fulfill(alloc)?);
-    let mut hop = hop(alloc, 100, 1000)?;
-    let mut slot = match hop.arrive(0, &bytes, now)? {
-        Verdict::Forward {
-            ticket,
-            account: _,
-            bytes: _,
-        } => Some(ticket),
-        Verdict::Answer(_) => None,
-    };
-    let first = settle_slot(&mut hop, &mut slot, outcome, now);
-    let second = settle_slot(&mut hop, &mut slot, Outcome::Fault, now);
-    if let Some(ticket) = slot {
-        ticket.abandon();
-    }
-    assert!(rt; first.is_some_and(|answer| answer.as_slice() == fulfill.as_slice()));
-    assert!(rt; second.is_none());
-    assert!(rt; hop.all_claims() == 60);
-    assert!(rt; hop.all_dues() == 60);
-    Ok(())
-}
 
 /// What a ticket tells, and whether its answers would be booked.
 #[test]
