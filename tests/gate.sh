@@ -1,5 +1,6 @@
 #!/usr/bin/env bash
-# The whole gate: `rt ci`, and then the program that it built, run as whoever uses it does. The last line counts both.
+# The whole gate: `rt ci`, then the program that it built, run as whoever uses it does, and the README's examples. The last
+# line counts all.
 set -u
 cd "$(dirname "$(readlink -f "${BASH_SOURCE[0]}")")/.." || exit 1
 log=$(mktemp)
@@ -15,6 +16,8 @@ else
     echo "0 passed, 1 failed" | tee -a "$log"
     status=1
 fi
+tests/readme.py | tee -a "$log"
+[ "${PIPESTATUS[0]}" = 0 ] || status=1
 
 sed -nE 's/^([0-9]+) passed, ([0-9]+) failed$/\1 \2/p' "$log" | {
     passed=0 failed=0

