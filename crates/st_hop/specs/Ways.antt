@@ -1,5 +1,5 @@
 -- A route as it is kept, by its prefix, and the account of a route.
-use Rattle.std.specs.Prelude.{ℕ, List, Option, Some, None, String, string_bytes}
+use Rattle.std.specs.Prelude.{ℕ, Option, Some, None, String, string_bytes}
 use Rattle.st_hop.specs.Hop.{Way}
 
 abbrev pub way_kept : {X : Type 0} → String X × ℕ → Way

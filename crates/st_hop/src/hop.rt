@@ -8,7 +8,8 @@ ghost use Rattle.st_hop.specs.Inside.{Serves};
 ghost use Rattle.st_hop.specs.Hop.{held_of, is_over_limit, last_next, holding, released, booked};
 ghost use Rattle.st_hop.specs.Tickets.{IsAmong};
 ghost use Rattle.st_hop.specs.Arriving.{Answers, judged, arrived, sent_on, ticket_for, onward};
-ghost use Rattle.st_hop.specs.Settling.{settled, claim_of, due_of, is_booked, is_fulfill};
+ghost use Rattle.st_ilp.specs.Reading.{is_fulfill_text};
+ghost use Rattle.st_hop.specs.Settling.{settled, claim_of, due_of, is_booked};
 ghost use Rattle.st_hop.specs.Table.{is_table, new_hop};
 ghost use Rattle.st_hop.specs.Lawful.{IsLawful};
 ghost use Rattle.st_hop.specs.Seen.{way_seen, verdict_seen, outcome_seen, IsReady, GoesAcross};
@@ -364,7 +365,7 @@ impl<A: Allocator + Copy> HopState<A> {
         requires plain { payload_of refusal ≡ [] }
         ensures state { self.new ≡ released self.old ticket }
         ensures text { result.items ≡ reject_text self.old.own refusal }
-        ensures fails { is_fulfill result.items ≡ false }
+        ensures fails { is_fulfill_text result.items ≡ false }
     {
         let room = self.release(ticket);
         answer_law();
@@ -380,7 +381,7 @@ impl<A: Allocator + Copy> HopState<A> {
         ensures settled { settled self.old ticket (outcome_seen outcome) now ≡ (result.items, self.new) }
         ensures claims { sum self.new.claims ≡ sum self.old.claims + claim_of ticket (outcome_seen outcome) now }
         ensures dues { sum self.new.dues ≡ sum self.old.dues + due_of ticket (outcome_seen outcome) now }
-        ensures fulfills { is_fulfill result.items ≡ is_booked ticket (outcome_seen outcome) now }
+        ensures fulfills { is_fulfill_text result.items ≡ is_booked ticket (outcome_seen outcome) now }
     {
         let ticket = ticket.spend();
         match outcome {

@@ -7,7 +7,8 @@ ghost use Rattle.st_hop.specs.declared.ticket.Open as tickets;
 ghost use Rattle.st_hop.specs.Hop.{Hop, Way, held_for, due_for};
 ghost use Rattle.st_hop.specs.Tickets.{IsAmong};
 ghost use Rattle.st_hop.specs.Arriving.{Forwards, arrived};
-ghost use Rattle.st_hop.specs.Settling.{settled, claim_of, due_of, is_booked, is_fulfill, KeepsRest};
+ghost use Rattle.st_ilp.specs.Reading.{is_fulfill_text};
+ghost use Rattle.st_hop.specs.Settling.{settled, claim_of, due_of, is_booked, KeepsRest};
 ghost use Rattle.st_hop.specs.Table.{is_table, new_hop};
 ghost use Rattle.st_hop.specs.Lawful.{IsLawful};
 ghost use Rattle.st_hop.specs.Runs.{Act, run, fulfilled};
@@ -49,7 +50,7 @@ pub fn arrivals_go_across()
 pub fn settlements_book()
     ensures claims { (h : Hop) (t : tickets.Open) (outcome : Option (List ℕ)) (now : ℤ) → IsLawful h → IsAmong h.tickets t → sum (settled h t outcome now).1.claims ≡ sum h.claims + claim_of t outcome now }
     ensures dues { (h : Hop) (t : tickets.Open) (outcome : Option (List ℕ)) (now : ℤ) → IsLawful h → IsAmong h.tickets t → sum (settled h t outcome now).1.dues ≡ sum h.dues + due_of t outcome now }
-    ensures fulfills { (h : Hop) (t : tickets.Open) (outcome : Option (List ℕ)) (now : ℤ) → IsLawful h → is_fulfill (settled h t outcome now).0 ≡ is_booked t outcome now }
+    ensures fulfills { (h : Hop) (t : tickets.Open) (outcome : Option (List ℕ)) (now : ℤ) → IsLawful h → is_fulfill_text (settled h t outcome now).0 ≡ is_booked t outcome now }
     ensures keeps_rest { (h : Hop) (t : tickets.Open) (outcome : Option (List ℕ)) (now : ℤ) → KeepsRest h (settled h t outcome now).1 t }
 {
     st_ilp::answer_law();

@@ -1,5 +1,5 @@
 -- Numbers and their bytes, the highest first.
-use Rattle.std.proofs.Common.{◌≡◌, ℕ, zero, suc, ◌+◌, ◌*◌, ◌%◌, ◌^◌, ◌<◌, ◌≤◌, List, [], ◌∷◌, length, get_or, fold, refl, sym, ap, ◌∙◌, arith, pow-suc, mul_comm, add-one}
+use Rattle.std.proofs.Common.{◌≡◌, ℕ, zero, suc, ◌+◌, ◌*◌, ◌%◌, ◌^◌, ◌<◌, ◌≤◌, List, [], ◌∷◌, length, fold, refl, sym, ap, ◌∙◌, arith, pow-suc, mul_comm, add-one}
 use Rattle.std.proofs.Math.Nat.{pow-le-pow_right, mod-eq_of_lt, one-le-pow, mul-le-mul_right, mul_assoc, add-mul-div_right}
 use Rattle.std.proofs.Math.Arith.{mod-mul}
 use Rattle.std.proofs.lemmas.Nat.{div-mul-add}

@@ -1,17 +1,17 @@
 -- The laws of each kind of field.
-use Rattle.std.proofs.Common.{◌≡◌, ℕ, ◌-◌, ◌^◌, ◌<◌, ◌≤◌, ◌⊎◌, cond, ltb, List, [], ◌∷◌, ◌++◌, length, take, drop, Result, Ok, Err, refl, sym, ap, ◌∙◌, subst, arith, inl, inr, append-nil}
-use Rattle.std.specs.Int.{w64, to_be_bytes, from_be_bytes}
+use Rattle.std.proofs.Common.{◌≡◌, ℕ, ◌-◌, ◌^◌, ◌<◌, ltb, List, [], ◌∷◌, ◌++◌, length, take, drop, Result, Ok, refl, sym, ap, ◌∙◌, subst, arith, inl, inr, append-nil}
+use Rattle.std.specs.Int.{w64, from_be_bytes}
 use Rattle.std.proofs.Math.Nat.{pow-le-pow_right}
 use Rattle.std.proofs.lemmas.Bool.{cases_lt, le-ltb, ltb-false}
 use Rattle.std.proofs.lemmas.List.{take_at, drop_at, take-append-drop, length-append, length-take}
 use Rattle.std.proofs.lemmas.Nat.{from_be_bytes-to_be_bytes_8, be_bytes_8}
 use Rattle.st_oer.specs.declared.error.OerError.{OerError}
 use Rattle.st_oer.specs.declared.error.OerError.TheVariants.{Short}
-use Rattle.st_oer.specs.Spelling.{number, byte_count, digits, uint64}
+use Rattle.st_oer.specs.Spelling.{byte_count, uint64}
 use Rattle.st_oer.specs.Limit.{IsLimit}
-use Rattle.st_oer.specs.Reading.{fixed_at, byte_at, u64_at, limit_at}
+use Rattle.st_oer.specs.Reading.{byte_at, u64_at, limit_at}
 use Rattle.st_oer.specs.Laws.{AreFewest, ByteReads, FixedReads, IsReading, IsSpelled, LimitReads, NoneBeginsAnother, U64Reads}
-use Rattle.st_oer.proofs.Bytes.{IsBytes, IsBytes-rest, number_below}
+use Rattle.st_oer.proofs.Bytes.{IsBytes, number_below}
 use Rattle.st_oer.proofs.Digits.{counted, length-digits, number-digits}
 use Rattle.st_oer.proofs.BothWays.{IsBytes-take, guard_ok, ok_is, fixed_takes, fixed_again}
 use Rattle.st_oer.proofs.Limits.{limit_takes, limit_again}

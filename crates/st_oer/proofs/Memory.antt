@@ -1,5 +1,5 @@
 -- Reading never answers want of memory.
-use Rattle.std.proofs.Common.{◌≡◌, ℕ, ◌-◌, nat_lt, Bool, true, false, cond, ◌&&◌, List, [], ◌∷◌, length, Result, Ok, Err}
+use Rattle.std.proofs.Common.{ℕ, ◌-◌, nat_lt, Bool, true, false, cond, ◌&&◌, List, [], ◌∷◌, length, Result, Ok, Err}
 use Rattle.std.specs.Prelude.{◌≢◌, ◌==◌, ◌||◌, slice_index, IfErr}
 use Rattle.st_oer.specs.declared.error.OerError.{OerError}
 use Rattle.st_oer.specs.declared.error.OerError.TheVariants.{Short, LongLength, LongNumber, TooBig, NoMemory}

@@ -1,4 +1,4 @@
-use Rattle.std.proofs.Common.{◌≡◌, refl, inl, inr, arith}
+use Rattle.std.proofs.Common.{refl, inl, inr, arith}
 use Rattle.st_commands.proofs.Spending.{ended_by, ended_well}
 use Rattle.st_oer.specs.Tallies.{tally_of}
 use Rattle.st_commands.proofs.frames.run_frames.Goals as goal

@@ -1,4 +1,4 @@
-use Rattle.std.proofs.Common.{◌≡◌, ap, refl, inl, inr}
+use Rattle.std.proofs.Common.{ap, refl, inl, inr}
 use Rattle.std.specs.Prelude.{Err}
 use Rattle.st_commands.specs.declared.error.Fault.{Fault}
 use Rattle.st_commands.specs.Endings.{most_turns}

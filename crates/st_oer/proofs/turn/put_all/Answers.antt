@@ -1,7 +1,7 @@
-use Rattle.std.proofs.Common.{rules, arith, ap, ◌≡◌, ◌≤◌, ◌<◌, ℕ, length, take, drop, zero, suc, zero-add, refl, ◌+◌, ◌-◌, List, [], ◌∷◌, ◌++◌, ◌∙◌}
+use Rattle.std.proofs.Common.{arith, ap, ◌≡◌, ℕ, length, take, drop, zero, suc, zero-add, refl, ◌+◌, ◌-◌, List, [], ◌∷◌, ◌++◌, ◌∙◌}
 use Rattle.std.proofs.lemmas.Grind.{common_steps}
 use Rattle.std.proofs.KnownBytes.{Appends-trans}
-use Rattle.st_oer.specs.Tallies.{TakesTurns, device_of, tally_of}
+use Rattle.st_oer.specs.Tallies.{device_of}
 use Rattle.st_oer.proofs.turn.put_all.Goals as goal
 
 take_sum : (i n : ℕ) (s : List ℕ) → take i s ++ take n (drop i s) ≡ take (i + n) s

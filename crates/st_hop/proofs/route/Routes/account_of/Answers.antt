@@ -1,9 +1,8 @@
-use Rattle.std.proofs.Common.{◌≡◌, ℕ, List, Option, None, Some, map, refl, sym, ap, ◌∙◌, rules}
-use Rattle.std.specs.Map.{lookup}
+use Rattle.std.proofs.Common.{List, refl, sym, ap, ◌∙◌, rules}
 use Rattle.st_hop.specs.Hop.{Way}
 use Rattle.st_hop.specs.Routing.{route_to}
 use Rattle.st_hop.specs.Ways.{account_of}
-use Rattle.st_hop.proofs.LongestLookup.{hit, hit_account, miss, miss_all, test}
+use Rattle.st_hop.proofs.LongestLookup.{hit, hit_account, miss, miss_all}
 use Rattle.st_hop.proofs.route.Routes.account_of.Goals as goal
 
 pub returns-in-Some : goal.returns-in-Some
