@@ -57,18 +57,40 @@ fn came<A: Allocator + Copy>(
     }
 }
 
-/// The answer to what waited, after a fault.
-fn settle<A: Allocator + Copy>(
+/// Lets the Prepare come, which must go on, and keeps what waits.
+fn let_come<A: Allocator + Copy>(
     rt: &impl Abort,
     hop: &mut HopState<A>,
-    waiting: Waiting,
+    waiting: &mut Vec<Waiting>,
+) -> Result<(), Fail> {
+    let next = came(rt, hop)?.expect(rt, "it goes on");
+    waiting.push(next)?;
+    Ok(())
+}
+
+/// The answer to a ticket, after a fault.
+fn settled<A: Allocator + Copy>(
+    rt: &impl Abort,
+    hop: &mut HopState<A>,
+    ticket: Ticket,
 ) -> Vec<u8, A> {
-    let ticket = waiting.spend();
     if hop.is_open(&ticket) {
-        return hop.settle(ticket, Outcome::Fault, moment(rt, EXPIRY));
+        hop.settle(ticket, Outcome::Fault, moment(rt, EXPIRY))
+    } else {
+        ticket.abandon();
+        panic!(rt; "the ticket is not open")
     }
-    ticket.abandon();
-    panic!(rt; "the ticket is not open")
+}
+
+/// Settles what came last of those that wait.
+fn settle_last<A: Allocator + Copy>(
+    rt: &impl Abort,
+    hop: &mut HopState<A>,
+    waiting: &mut Vec<Waiting>,
+) {
+    let last = waiting.pop().expect(rt, "one waits");
+    let answer = settled(rt, hop, last.spend());
+    assert!(rt; answer.as_slice() == b"\x0e\x0fT01\x09example.c\0\0".as_slice());
 }
 
 /// A thousand Prepares wait at once: each goes on, one more is past the limit, and each is settled, the last that came
@@ -78,23 +100,16 @@ fn a_thousand_wait(rt: HostRuntime) -> Result<(), Fail> {
     let heap: Refusing<Global> = Refusing::new(rt.alloc());
     let mut hop = wide_hop(&heap)?;
     let mut waiting = Vec::new(rt.alloc());
-    for n in 0..WAITING {
-        let Some(next) = came(&rt, &mut hop)? else {
-            panic!(rt; "number {n} was answered");
-        };
-        waiting.push(next)?;
-        assert_eq!(rt; hop.held(0), Ok(5 * n + 5), "at {n}");
+    for _ in 0..WAITING {
+        let_come(&rt, &mut hop, &mut waiting)?;
     }
+    assert_eq!(rt; hop.held(0), Ok(5 * WAITING));
     assert!(rt; came(&rt, &mut hop)?.is_none());
     heap.refuse_from(1);
-    let mut left = WAITING;
-    while let Some(last) = waiting.pop() {
-        let answer = settle(&rt, &mut hop, last);
-        assert!(rt; answer.as_slice() == b"\x0e\x0fT01\x09example.c\0\0".as_slice());
-        left = left.saturating_sub(1);
-        assert_eq!(rt; hop.held(0), Ok(left.saturating_mul(5)));
+    for _ in 0..WAITING {
+        settle_last(&rt, &mut hop, &mut waiting);
     }
-    assert_eq!(rt; left, 0);
+    assert_eq!(rt; hop.held(0), Ok(0));
     assert_eq!(rt; heap.asked(), 0);
     heap.refuse_none();
     assert!(rt; came(&rt, &mut hop)?.is_some());
