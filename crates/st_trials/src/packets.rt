@@ -284,26 +284,34 @@ fn the_longest_packets_are_written(rt: HostRuntime) -> Result<(), Fail> {
         assert_eq!(rt; heap.asked(), 1);
         assert!(rt; is_behind(&written, front, most));
     }
+    Ok(())
+}
 
+/// A STREAM packet of 32,739 bytes is written with one request, and one byte more is refused with none.
+#[test]
+fn the_longest_stream_packet_is_written(rt: HostRuntime) -> Result<(), Fail> {
+    let heap: Refusing<Global> = Refusing::new(rt.alloc());
+    let full = Vec::from_elem(rt.alloc(), 7, 32_720)?;
     let stream = [Frame::StreamData {
         stream: 1,
         offset: 0,
-        bytes: &data[..32_720],
+        bytes: &full,
     }];
     heap.refuse_only(2);
     let packet = write_packet(&heap, 12, 1, 0, &stream)?;
     assert_eq!(rt; heap.asked(), 1);
     assert_eq!(rt; packet.len(), MAX_PACKET);
     let front = b"\x01\x0c\x01\x01\x01\0\x01\x01\x14\x82\x7f\xd7\x01\x01\x01\0\x82\x7f\xd0";
-    assert!(rt; is_behind(&packet, front, &data[..32_720]));
-    let longer = [Frame::StreamData {
+    assert!(rt; is_behind(&packet, front, &full));
+    let longer = Vec::from_elem(rt.alloc(), 7, 32_721)?;
+    let stream = [Frame::StreamData {
         stream: 1,
         offset: 0,
-        bytes: &data[..32_721],
+        bytes: &longer,
     }];
     heap.refuse_from(1);
-    assert_eq!(rt; packet_len(1, 0, &longer), Err(FrameError::TooLong));
-    let refused = write_packet(&heap, 12, 1, 0, &longer).err();
+    assert_eq!(rt; packet_len(1, 0, &stream), Err(FrameError::TooLong));
+    let refused = write_packet(&heap, 12, 1, 0, &stream).err();
     assert_eq!(rt; refused, Some(FrameError::TooLong));
     assert_eq!(rt; heap.asked(), 0);
     Ok(())
