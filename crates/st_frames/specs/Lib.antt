@@ -1,4 +1,5 @@
 pub mod Frames
+pub mod Told
 pub mod Table
 pub mod Errors
 pub mod Contents
