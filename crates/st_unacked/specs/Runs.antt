@@ -1,5 +1,5 @@
 -- Runs of offsets, each up to its end, and what stands about the bytes there.
-use Rattle.std.specs.Prelude.{◌≡◌, ℕ, ◌+◌, ◌-◌, ◌^◌, ◌<◌, ◌≤◌, Bool, false, ◌&&◌, nat_lt, is_none, List, [], ◌∷◌, length, Option, Some, None, IsSome, slice_index, if◌then◌else◌}
+use Rattle.std.specs.Prelude.{◌≡◌, ℕ, zero, suc, ◌+◌, ◌-◌, ◌^◌, ◌<◌, ◌≤◌, Bool, false, ◌&&◌, nat_lt, is_none, List, [], ◌∷◌, length, Option, Some, None, IsSome, slice_index, if◌then◌else◌}
 use Rattle.st_unacked.specs.declared.run.Run.{Run}
 use Rattle.st_unacked.specs.declared.run.Status.{Status}
 use Rattle.st_tables.specs.Table.{is_between, table}
@@ -64,3 +64,12 @@ failed_run sequence r = if is_by sequence r.status.flight then record r { status
 
 abbrev pub dropped_run : Run → Run
 dropped_run r = record r { status = record { flight = r.status.flight; kept = false } }
+
+-- how many of the n offsets from first on pass a test
+unfoldable pub counted : (ℕ → Bool) → ℕ → ℕ → ℕ
+counted passes first zero = 0
+counted passes first (suc n) = counted passes first n + (if passes (first + n) then 1 else 0)
+
+-- how many of them are kept
+abbrev pub kept_in : List Run → ℕ → ℕ → ℕ
+kept_in runs first n = counted (λ q. is_kept (status_at runs q)) first n

@@ -1,5 +1,5 @@
 -- The bytes of one outgoing stream: which are accepted and not acknowledged yet, and which of them are in flight.
-use Rattle.std.specs.Prelude.{◌≡◌, ℕ, ◌+◌, ◌<◌, ◌≤◌, IsSome, Bool, false, not, nat_eq, List, length, Option, Some, None, is_some, if◌then◌else◌}
+use Rattle.std.specs.Prelude.{◌≡◌, ℕ, ◌+◌, ◌<◌, ◌≤◌, IsSome, Bool, true, false, not, nat_eq, List, length, Option, Some, None, is_some, if◌then◌else◌}
 use Rattle.std.specs.Ordering.{nat_cmp}
 use Rattle.std.specs.FinMap.{FinMap, empty, get, retain_keys}
 use Rattle.st_tables.specs.Table.{put_bytes, put_same}
@@ -18,7 +18,7 @@ nothing_sent = record { unacked = empty; flying = empty; accepted = 0 }
 abbrev pub due_at : Sent → ℕ → Option ℕ
 due_at s q = if is_some (get s.flying q) then None else get s.unacked q
 
--- s after more bytes were accepted
+-- s after more bytes were accepted, which are due
 abbrev pub after_accept : List ℕ → Sent → Sent
 after_accept xs s = record s { unacked = put_bytes s.unacked s.accepted xs; accepted = s.accepted + length xs }
 
@@ -46,6 +46,19 @@ after_failed sequence s = record s { flying = without_flight sequence s s.flying
 -- s once its bytes were dropped: what is in flight still is
 abbrev pub after_drop : Sent → Sent
 after_drop s = record s { unacked = empty }
+
+-- the unacknowledged bytes that a sequence carries
+abbrev pub carried : ℕ → Sent → FinMap nat_cmp ℕ
+carried sequence s = retain_keys s.unacked (λ q. is_by sequence (get s.flying q))
+
+-- end is past each offset that is in flight by a sequence, also those whose bytes were dropped
+abbrev pub IsPastFlight : ℕ → Sent → ℕ → Type 0
+IsPastFlight sequence s end = (q : ℕ) → is_by sequence (get s.flying q) ≡ true → q < end
+
+-- end is the least such offset: 0 where nothing is in flight by the sequence
+pub record IsFlightEnd (sequence : ℕ) (s : Sent) (end : ℕ) : Type 0 where
+  pub past : IsPastFlight sequence s end
+  pub least : (f : ℕ) → IsPastFlight sequence s f → end ≤ f
 
 -- from and to are the ends of the lowest row of due bytes
 pub record IsLowestDue (s : Sent) (from to : ℕ) : Type 0 where

@@ -1,12 +1,12 @@
 //! The bytes of one outgoing stream until they are acknowledged.
 ghost use Rattle.std.specs.Prelude.{◌≡◌, ◌≢◌, true, false, ℕ, ◌+◌, ◌-◌, ◌^◌, ◌<◌, ◌≤◌, IfOk, OnErr, OnOk, MatchOption, IsSome, None, Some, drop, length, slice_index};
-ghost use Rattle.std.specs.FinMap.{get, empty};
+ghost use Rattle.std.specs.FinMap.{get, empty, len};
 ghost use Rattle.std.specs.List.{slice_range};
-ghost use Rattle.st_unacked.specs.Sent.{nothing_sent, due_at, after_accept, after_claim, after_acknowledged, after_failed, after_drop, IsLowestDue};
+ghost use Rattle.st_unacked.specs.Sent.{nothing_sent, due_at, after_accept, after_claim, after_acknowledged, after_failed, after_drop, carried, IsFlightEnd, IsLowestDue};
 
 use crate::run::{
     DUE, Run, acknowledge, append, claim, drop_all, due_end, fail, first_due, first_kept,
-    gone_front,
+    flight_end, gone_front, kept_count,
 };
 use std::alloc::{AllocError, Allocator};
 use std::marker::Model;
@@ -80,10 +80,18 @@ impl<A: Allocator + Copy> Unacked<A> {
         self.first + self.bytes.len() as u64
     }
 
+    /// How many bytes are neither acknowledged nor dropped.
+    pub fn count(&self) -> u64
+        ensures { result ≡ len self.now.unacked }
+    {
+        kept_count(&self.runs, self.first)
+    }
+
     /// Takes in more bytes, which are due: all of them, or none.
     pub fn accept(&mut self, bytes: &[u8]) -> Result<(), AllocError>
         requires { self.old.accepted + length bytes.now < 2 ^ 64 }
         ensures accepts { OnOk result (self.new ≡ after_accept bytes.now self.old) }
+        ensures raises { OnOk result (len self.new.unacked ≡ len self.old.unacked + length bytes.now) }
         ensures unchanged { OnErr result (self.new ≡ self.old) }
     {
         let end = self.accepted() + bytes.len() as u64;
@@ -139,12 +147,18 @@ impl<A: Allocator + Copy> Unacked<A> {
         Ok(())
     }
 
-    /// The sequence was fulfilled: what it carried is acknowledged.
-    pub fn acknowledged(&mut self, sequence: u64)
-        ensures { self.new ≡ after_acknowledged sequence self.old }
+    /// The sequence was fulfilled: what it carried is acknowledged. Tells the offset past the last one that it carried,
+    /// dropped or not: 0 where it carried none. No memory is taken.
+    pub fn acknowledged(&mut self, sequence: u64) -> u64
+        ensures acknowledges { self.new ≡ after_acknowledged sequence self.old }
+        ensures end { IsFlightEnd sequence self.old result }
+        ensures within { result ≤ self.old.accepted }
+        ensures lowers { len self.new.unacked + len (carried sequence self.old) ≡ len self.old.unacked }
     {
+        let end = flight_end(&self.runs, self.first, sequence);
         acknowledge(&mut self.runs, sequence);
         self.trim();
+        end
     }
 
     /// The sequence failed: what it carried is due again, unless it was dropped.
