@@ -1,0 +1,75 @@
+-- Runs of offsets, each up to its end, and what stands about the bytes there.
+use Rattle.std.specs.Prelude.{◌≡◌, ℕ, zero, suc, ◌+◌, ◌-◌, ◌^◌, ◌<◌, ◌≤◌, Bool, false, ◌&&◌, nat_lt, is_none, List, [], ◌∷◌, length, Option, Some, None, IsSome, slice_index, if◌then◌else◌}
+use Rattle.st_unacked.specs.declared.run.Run.{Run}
+use Rattle.st_unacked.specs.declared.run.Status.{Status}
+use Rattle.st_tables.specs.Table.{is_between, table}
+use Rattle.st_unacked.specs.Sent.{Sent, is_by}
+
+-- what stands about the byte at an offset: the first run that ends past it says so
+abbrev pub status_at : List Run → ℕ → Option Status
+status_at [] q = None
+status_at (r ∷ rs) q = if nat_lt q r.end then Some r.status else status_at rs q
+
+-- the sequence by which it is in flight
+abbrev pub flight_of : Option Status → Option ℕ
+flight_of None = None
+flight_of (Some s) = s.flight
+
+-- whether it is neither acknowledged nor dropped
+abbrev pub is_kept : Option Status → Bool
+is_kept None = false
+is_kept (Some s) = s.kept
+
+-- whether it is due
+abbrev pub is_due : Option Status → Bool
+is_due None = false
+is_due (Some s) = s.kept && is_none s.flight
+
+-- the byte at an offset, where the first byte kept lies at `first`
+abbrev pub byte_at : List Run → List ℕ → ℕ → ℕ → Option ℕ
+byte_at runs bytes first q = if is_kept (status_at runs q) then Some (slice_index bytes (q - first)) else None
+
+abbrev pub flight_at : List Run → ℕ → Option ℕ
+flight_at runs q = flight_of (status_at runs q)
+
+-- the model's value
+abbrev pub shown_by : List Run → List ℕ → ℕ → Sent
+shown_by runs bytes first = record {
+  unacked = table (byte_at runs bytes first) first (length bytes);
+  flying = table (flight_at runs) first (length bytes);
+  accepted = first + length bytes;
+}
+
+-- the runs tell of each byte that is there and of no other
+pub record IsTiled (runs : List Run) (first n : ℕ) : Type 0 where
+  pub inside : (q : ℕ) → first ≤ q → q < first + n → IsSome (status_at runs q)
+  pub outside : (q : ℕ) → first + n ≤ q → status_at runs q ≡ None
+  pub fits : first + n < 2 ^ 64
+
+-- a status with another flight
+abbrev pub flown : ℕ → Option Status → Option Status
+flown sequence None = None
+flown sequence (Some s) = Some (record { flight = Some sequence; kept = s.kept })
+
+-- the status of an offset once those from `from` on and below `to` are in flight by a sequence
+abbrev pub claimed : ℕ → ℕ → ℕ → ℕ → Option Status → Option Status
+claimed sequence from to q s = if is_between from to q then flown sequence s else s
+
+-- a run once a sequence was fulfilled, once it failed, and once its bytes were dropped
+abbrev pub acknowledged_run : ℕ → Run → Run
+acknowledged_run sequence r = if is_by sequence r.status.flight then record r { status = record { flight = None; kept = false } } else r
+
+abbrev pub failed_run : ℕ → Run → Run
+failed_run sequence r = if is_by sequence r.status.flight then record r { status = record { flight = None; kept = r.status.kept } } else r
+
+abbrev pub dropped_run : Run → Run
+dropped_run r = record r { status = record { flight = r.status.flight; kept = false } }
+
+-- how many of the n offsets from first on pass a test
+unfoldable pub counted : (ℕ → Bool) → ℕ → ℕ → ℕ
+counted passes first zero = 0
+counted passes first (suc n) = counted passes first n + (if passes (first + n) then 1 else 0)
+
+-- how many of them are kept
+abbrev pub kept_in : List Run → ℕ → ℕ → ℕ
+kept_in runs first n = counted (λ q. is_kept (status_at runs q)) first n

@@ -1,0 +1,191 @@
+//! The bytes of one outgoing stream until they are acknowledged.
+ghost use Rattle.std.specs.Prelude.{◌≡◌, ◌≢◌, true, false, ℕ, ◌+◌, ◌-◌, ◌^◌, ◌<◌, ◌≤◌, IfOk, OnErr, OnOk, MatchOption, IsSome, None, Some, drop, length, slice_index};
+ghost use Rattle.std.specs.FinMap.{get, empty, len};
+ghost use Rattle.std.specs.List.{slice_range};
+ghost use Rattle.st_unacked.specs.Sent.{nothing_sent, due_at, after_accept, after_claim, after_acknowledged, after_failed, after_drop, carried, IsFlightEnd, IsLowestDue};
+
+use crate::run::{
+    DUE, Run, acknowledge, append, claim, drop_all, due_end, fail, first_due, first_kept,
+    flight_end, gone_front, kept_count,
+};
+use std::alloc::{AllocError, Allocator};
+use std::marker::Model;
+
+/// Takes the first `count` items away.
+fn cut_front<T: Copy, A: Allocator>(items: &mut Vec<T, A>, count: usize)
+    requires { count ≤ length items.old.items }
+    ensures { items.new.items ≡ drop count items.old.items }
+{
+    let rest = items.len() - count;
+    items.copy_within(count.., 0);
+    items.truncate(rest);
+}
+
+/// The bytes from one place on and before another.
+fn part<A: Allocator>(bytes: &Vec<u8, A>, from: usize, to: usize) -> &[u8]
+    requires order { from ≤ to }
+    requires within { to ≤ length bytes.now.items }
+    ensures { result.now ≡ slice_range bytes.now.items from to }
+{
+    &bytes[from..to]
+}
+
+/// The bytes of one outgoing stream that are accepted and not acknowledged, with those between them, and what stands
+/// about each.
+#[derive(Drop)]
+pub struct Unacked<A: Allocator + Copy> {
+    /// The bytes from `first` on.
+    bytes: Vec<u8, A>,
+    /// Runs of offsets up to the last byte's end.
+    runs: Vec<Run, A>,
+    alloc: A,
+    /// The offset of the first byte here: no lower one is kept or in flight.
+    first: u64,
+}
+
+impl<A: Allocator + Copy> Model for Unacked<A> {
+    ghost use Rattle.st_unacked.specs.Sent.{Sent};
+    ghost use Rattle.std.specs.FinMap as map;
+    ghost use Rattle.std.specs.Coded.{codes};
+
+    ghost Value = { Sent };
+
+    ghost coded = { Prim.hlevel (codes, map.code) };
+
+    ghost use Rattle.std.specs.Prelude.{length};
+    ghost use Rattle.st_unacked.specs.Runs.{IsTiled, shown_by};
+
+    ghost view = { λ s. shown_by s.runs.items s.bytes.items s.first };
+
+    ghost invariant = { λ s. IsTiled s.runs.items s.first (length s.bytes.items) };
+}
+
+impl<A: Allocator + Copy> Unacked<A> {
+    /// No byte was accepted. It takes no memory yet.
+    pub fn new(alloc: A) -> Unacked<A>
+        ensures { result ≡ nothing_sent }
+    {
+        Unacked {
+            bytes: Vec::new(alloc),
+            runs: Vec::new(alloc),
+            alloc,
+            first: 0,
+        }
+    }
+
+    /// How many bytes were accepted.
+    pub fn accepted(&self) -> u64
+        ensures { result ≡ self.now.accepted }
+    {
+        self.first + self.bytes.len() as u64
+    }
+
+    /// How many bytes are neither acknowledged nor dropped.
+    pub fn count(&self) -> u64
+        ensures { result ≡ len self.now.unacked }
+    {
+        kept_count(&self.runs, self.first)
+    }
+
+    /// Takes in more bytes, which are due: all of them, or none.
+    pub fn accept(&mut self, bytes: &[u8]) -> Result<(), AllocError>
+        requires { self.old.accepted + length bytes.now < 2 ^ 64 }
+        ensures accepts { OnOk result (self.new ≡ after_accept bytes.now self.old) }
+        ensures raises { OnOk result (len self.new.unacked ≡ len self.old.unacked + length bytes.now) }
+        ensures unchanged { OnErr result (self.new ≡ self.old) }
+    {
+        let end = self.accepted() + bytes.len() as u64;
+        self.bytes.reserve(bytes.len())?;
+        append(&mut self.runs, self.first, end, DUE)?;
+        self.bytes.extend_from_slice(bytes).unwrap();
+        Ok(())
+    }
+
+    /// Where the lowest row of due bytes begins and ends.
+    pub fn lowest_due(&self) -> Option<(u64, u64)>
+        ensures { MatchOption result ((q : ℕ) → due_at self.now q ≡ None) (λ r. IsLowestDue self.now r.0 r.1) }
+    {
+        let Some(from) = first_due(&self.runs, self.first) else {
+            return None;
+        };
+        Some((from, due_end(&self.runs, from)))
+    }
+
+    /// Whether each accepted byte is acknowledged or dropped.
+    pub fn is_done(&self) -> bool
+        ensures yes { result ≡ true → self.now.unacked ≡ empty }
+        ensures no { result ≡ false → self.now.unacked ≢ empty }
+    {
+        match first_kept(&self.runs, self.first) {
+            Some(_) => false,
+            None => true,
+        }
+    }
+
+    /// The bytes from `from` on and below `to`, each of them unacknowledged.
+    pub fn piece(&self, from: u64, to: u64) -> &[u8]
+        requires order { from < to }
+        requires there { (q : ℕ) → from ≤ q → q < to → IsSome (get self.now.unacked q) }
+        ensures len { length result.now ≡ to - from }
+        ensures bytes { (k : ℕ) → k < length result.now → get self.now.unacked (from + k) ≡ Some (slice_index result.now k) }
+    {
+        part(
+            &self.bytes,
+            (from - self.first) as usize,
+            (to - self.first) as usize,
+        )
+    }
+
+    /// The due bytes from `from` on and below `to` are in flight by the sequence from now on.
+    pub fn claim(&mut self, sequence: u64, from: u64, to: u64) -> Result<(), AllocError>
+        requires order { from ≤ to }
+        requires due { (q : ℕ) → from ≤ q → q < to → IsSome (due_at self.old q) }
+        ensures claims { OnOk result (self.new ≡ after_claim sequence from (to - from) self.old) }
+        ensures unchanged { OnErr result (self.new ≡ self.old) }
+    {
+        self.runs = claim(self.alloc, &self.runs, self.first, from, to, sequence)?;
+        Ok(())
+    }
+
+    /// The sequence was fulfilled: what it carried is acknowledged. Tells the offset past the last one that it carried,
+    /// dropped or not: 0 where it carried none. No memory is taken.
+    pub fn acknowledged(&mut self, sequence: u64) -> u64
+        ensures acknowledges { self.new ≡ after_acknowledged sequence self.old }
+        ensures end { IsFlightEnd sequence self.old result }
+        ensures within { result ≤ self.old.accepted }
+        ensures lowers { len self.new.unacked + len (carried sequence self.old) ≡ len self.old.unacked }
+    {
+        let end = flight_end(&self.runs, self.first, sequence);
+        acknowledge(&mut self.runs, sequence);
+        self.trim();
+        end
+    }
+
+    /// The sequence failed: what it carried is due again, unless it was dropped.
+    pub fn failed(&mut self, sequence: u64)
+        ensures { self.new ≡ after_failed sequence self.old }
+    {
+        fail(&mut self.runs, sequence);
+    }
+
+    /// All bytes are dropped. What is in flight still is, until its answer.
+    pub fn drop_bytes(&mut self)
+        ensures { self.new ≡ after_drop self.old }
+    {
+        drop_all(&mut self.runs);
+    }
+
+    /// Gives up the acknowledged bytes at the front once they are half of all, so that each byte is moved about once.
+    fn trim(&mut self)
+        ensures { self.new ≡ self.old }
+    {
+        let (count, end) = gone_front(&self.runs, self.first);
+        let gone = (end - self.first) as usize;
+        if self.bytes.len() - gone > gone {
+            return;
+        }
+        cut_front(&mut self.runs, count);
+        cut_front(&mut self.bytes, gone);
+        self.first = end;
+    }
+}
