@@ -8,10 +8,14 @@ use Rattle.std.proofs.lemmas.Bool.Decides.{nat_tests}
 use Rattle.st_tables.specs.Table.{is_between, table, put_same}
 use Rattle.st_tables.proofs.Tables.{get-table_in, table-inside, get-put_same, get-kept}
 use Rattle.st_unacked.specs.declared.run.Run.{Run}
-use Rattle.st_unacked.specs.Sent.{is_by, after_claim, after_failed, IsFlightEnd}
+use Rattle.st_unacked.specs.Sent.{Sent, is_by, after_claim, after_failed, IsFlightEnd}
 use Rattle.st_unacked.specs.Laws.{AClaimIsTakenBack}
 use Rattle.st_unacked.specs.Runs.{flight_of, flight_at, shown_by, IsTiled}
 use Rattle.st_unacked.proofs.Views.{same_sent}
+
+-- a sequence's end is one number
+pub one_end : (sequence : ℕ) (s : Sent) (e f : ℕ) → IsFlightEnd sequence s e → IsFlightEnd sequence s f → e ≡ f
+one_end sequence s e f a b = let low : e ≤ f = a.least f b.past in let high : f ≤ e = b.least e a.past in omega arith
 
 some_by : (sequence : ℕ) (o : Option ℕ) → is_by sequence o ≡ true → IsSome o
 some_by sequence None e = absurd cc
