@@ -1,0 +1,10 @@
+pub mod Errors
+pub mod Items
+pub mod Names
+pub mod Writing
+pub mod Reading
+pub mod WriteEnds
+pub mod ReadEnds
+pub mod Lanes
+pub mod Gauged
+pub mod Watching
