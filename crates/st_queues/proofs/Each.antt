@@ -1,5 +1,5 @@
 -- What holds of each element at its place.
-use Rattle.std.proofs.Common.{◌≡◌, ℕ, zero, suc, List, [], ◌∷◌, ◌++◌, length, map, set, Some, slice_get, ap, ◌∙◌, subst}
+use Rattle.std.proofs.Common.{◌≡◌, ℕ, zero, suc, List, [], ◌∷◌, ◌++◌, length, map, set, Some, slice_get, sym, ap, ◌∙◌, subst}
 use Rattle.std.specs.Prelude.{slice_index_or}
 use Rattle.std.specs.Option.{option_map}
 use Rattle.std.proofs.lemmas.Option.{slice_get-map, get_or_from_slice_get}
@@ -23,3 +23,7 @@ each-set P (z ∷ xs) (suc i) y h p (suc k) x e = each-set (λ n. P (suc n)) xs 
 -- the value at a place of a mapped list
 pub at_map : {A B : Type 0} (f : A → B) (xs : List A) (k : ℕ) (x : A) (d : B) → slice_get xs k ≡ Some x → slice_index_or (map f xs) k d ≡ f x
 at_map f xs k x d e = get_or_from_slice_get (map f xs) k (f x) d (slice_get-map f xs k ∙ ap (option_map f) e)
+
+-- one more at the end
+pub each-grown : {A : Type 0} (P : ℕ → A → Type 0) (xs ys : List A) (n : ℕ) (y : A) → Each P xs → ys ≡ xs ++ y ∷ [] → n ≡ length xs → P n y → Each P ys
+each-grown {A} P xs ys n y h grown at p = subst (λ (zs : List A). Each P zs) (sym grown) (each-push P xs y h (subst (λ k. P k y) at p))

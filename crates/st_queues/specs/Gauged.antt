@@ -1,35 +1,43 @@
--- The gauge: five words, of which the first is the stop word.
+-- The gauge's words: the first is the stop word, the others are the totals accepted, delivered, credited and paid. Each step on them keeps this rule.
 use Rattle.std.specs.Prelude.{◌≡◌, ℕ, ◌<◌, ◌≤◌, List, [], ◌∷◌, length, slice_index, slice_set, true, false}
 use mathlib.Core.Option.{some}
 use lib.ListN.{get_elem?}
 use Rattle.atomic_table.specs.Table.{State, Me, Step}
 use Rattle.st_queues.specs.declared.table.View.{View}
 
--- no seat has seen more than the words. The one seat that publishes has seen the totals as they are
-abbrev pub Sees : List ℕ → ℕ → View → Type 0
-Sees words id v =
-    ((i : ℕ) → i < 5 → slice_index v.seen i ≤ slice_index words i)
-    × (v.publishes ≡ true → (id ≡ 0) × ((i : ℕ) → 0 < i → i < 5 → slice_index v.seen i ≡ slice_index words i))
+-- what a seat has seen of the words is not above them; where it asked to stop, the stop word is 1; and the one seat that publishes has seen the totals as they are
+pub record Sees (words : List ℕ) (id : ℕ) (v : View) : Type 0 where
+  pub size : length v.seen ≡ 5
+  pub most : (i : ℕ) → i < 5 → slice_index v.seen i ≤ slice_index words i
+  pub asked : v.asked ≡ true → slice_index words 0 ≡ 1
+  pub published : v.publishes ≡ true → (id ≡ 0) × ((i : ℕ) → 0 < i → i < 5 → slice_index v.seen i ≡ slice_index words i)
 
-abbrev pub Gauged : State ℕ View → Type 0
-Gauged s = (length s.words ≡ 5) × (slice_index s.words 0 ≤ 1) × ((id : ℕ) (v : View) → get_elem? s.views id ≡ some v → (length v.seen ≡ 5) × Sees s.words id v)
+-- some seat asked to stop
+abbrev pub SomeAsked : List View → Type 0
+SomeAsked views = (id : ℕ) × (v : View) × (get_elem? views id ≡ some v) × (v.asked ≡ true)
+
+-- the stop word is 0 or 1, and 1 only where some seat asked
+pub record Gauged (s : State ℕ View) : Type 0 where
+  pub size : length s.words ≡ 5
+  pub stop : slice_index s.words 0 ≤ 1
+  pub why : slice_index s.words 0 ≡ 1 → SomeAsked s.views
+  pub seats : (id : ℕ) (v : View) → get_elem? s.views id ≡ some v → Sees s.words id v
 
 abbrev pub zeros : List ℕ
 zeros = 0 ∷ 0 ∷ 0 ∷ 0 ∷ 0 ∷ []
 
 -- the hub's seat as it is made
 abbrev pub publisher : View
-publisher = record { publishes = true; seen = zeros }
+publisher = record { publishes = true; asked = false; seen = zeros }
 
--- what a seat split from this one knows
+-- a seat made beside this one has seen as much; it does not publish, and did not ask
 abbrev pub watcher : View → View
-watcher v = record { publishes = false; seen = v.seen }
+watcher v = record { publishes = false; asked = false; seen = v.seen }
 
--- a seat that was joined
-abbrev pub joined_seat : View
-joined_seat = record { publishes = false; seen = zeros }
-
--- the word of the step, which was found or stored, is what the view now has of it
+-- the word of the step, which was found or stored, is not below what the seat had seen of it, and is what it has now seen of it
 abbrev pub Rises : Step ℕ → Me ℕ View → ℕ → Me ℕ View → Type 0
-Rises s v found w =
-    (w.1 ≡ v.1) × (w.0 ≡ record { publishes = v.0.publishes; seen = slice_set v.0.seen s.word found }) × (slice_index v.0.seen s.word ≤ found)
+Rises s v found w = (w.1 ≡ v.1) × (w.0 ≡ record v.0 { seen = slice_set v.0.seen s.word found }) × (slice_index v.0.seen s.word ≤ found)
+
+-- the stop word is 1 from now on, and the seat asked for it
+abbrev pub Asks : Step ℕ → Me ℕ View → ℕ → Me ℕ View → Type 0
+Asks s v found w = (w.1 ≡ v.1) × (w.0 ≡ record v.0 { asked = true; seen = slice_set v.0.seen 0 1 })

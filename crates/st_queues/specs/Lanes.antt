@@ -1,14 +1,9 @@
 -- The rings as they lie in the hub: a lane has the hub's end, and the application's until it is handed out.
-use Rattle.std.specs.Prelude.{◌≡◌, ℕ, List, [], Option, Some, None, IsSome, slice_get, slice_index_or}
-use Rattle.rtrb.specs.Ring.{sent, received, known_free, known_items}
-use Rattle.rtrb.specs.declared.producer.Producer.{Producer}
-use Rattle.rtrb.specs.declared.consumer.Consumer.{Consumer}
-use Rattle.rtrb.specs.declared.AnyItems.{AnyItems}
+use Rattle.std.specs.Prelude.{◌≡◌, ℕ, List, [], Some, IsSome, slice_get, slice_index_or}
 use Rattle.st_queues.specs.Names.{RingId, no_ring, producer_ring, consumer_ring}
 use Rattle.st_queues.specs.WriteEnds.{taken, known}
 use Rattle.st_queues.specs.ReadEnds.{put_in, free_of}
-use Rattle.st_queues.specs.declared.items.Item.{Item}
-use Rattle.st_queues.specs.declared.items.Delivery.{Delivery}
+use Rattle.st_queues.specs.Held.{HeldWrite, HeldRead}
 use Rattle.st_queues.specs.declared.lanes.WriteLane.{WriteLane}
 use Rattle.st_queues.specs.declared.lanes.ReadLane.{ReadLane}
 
@@ -22,16 +17,6 @@ module _ {A : Type 0} where
   -- the ring of a number
   abbrev pub ring_at : List (RingId A) → ℕ → RingId A
   ring_at ids k = slice_index_or ids k no_ring
-
-  -- a writer's end of the ring z that nobody used, with room for 64 items
-  abbrev pub HeldWrite : RingId A → Option (Producer (Item A) A AnyItems) → Type 0
-  HeldWrite z None = Unit {0}
-  HeldWrite z (Some p) = (producer_ring p ≡ z) × (sent p ≡ []) × (known_free p ≡ 64)
-
-  -- a reader's end of the ring z that nobody used
-  abbrev pub HeldRead : RingId A → Option (Consumer (Delivery A) A AnyItems) → Type 0
-  HeldRead z None = Unit {0}
-  HeldRead z (Some c) = (consumer_ring c ≡ z) × (received c ≡ []) × (known_items c ≡ [])
 
   -- the ring of number k, of which nobody used either end
   abbrev pub Fresh : ℕ → WriteLane A → Type 0

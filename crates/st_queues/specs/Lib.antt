@@ -5,6 +5,7 @@ pub mod Writing
 pub mod Reading
 pub mod WriteEnds
 pub mod ReadEnds
+pub mod Held
 pub mod Lanes
 pub mod Gauged
 pub mod Watching

@@ -1,7 +1,7 @@
 //! The totals that a hub publishes, and the word by which its workers are asked to stop.
-ghost use Rattle.std.specs.Prelude.{◌≡◌, ◌≤◌, [], true};
+ghost use Rattle.std.specs.Prelude.{◌≡◌, [], true, false};
 ghost use Rattle.std.specs.Arc.{arc_value};
-ghost use Rattle.st_queues.specs.Gauged.{zeros, publisher};
+ghost use Rattle.st_queues.specs.Gauged.{publisher, watcher};
 ghost use Rattle.st_queues.specs.Watching.{nothing_seen, no_totals, IsUpTo};
 
 use crate::name::HubName;
@@ -19,7 +19,8 @@ pub struct Gauge<N: HubName<A>, A: Allocator + Copy> {
     ghost is: { ((arc_value table).shared.table_id ≡ N.gauge) × (N.gauge.words ≡ 5) },
 }
 
-/// A seat at the gauge of the hub N. Contracts see it as what it has seen: totals, and whether to stop.
+/// A seat at the gauge of the hub N. Contracts see it as what it has seen, totals and whether to stop,
+/// and whether it asked for that itself.
 #[derive(Drop)]
 pub struct GaugeSeat<N: HubName<A>, A: Allocator + Copy> {
     seat: RawSeat,
@@ -32,7 +33,7 @@ impl<N: HubName<A>, A: Allocator + Copy> Model for GaugeSeat<N, A> {
 
     ghost Value = { Watched };
 
-    ghost view = { λ s. watched s.seat.me.0.seen };
+    ghost view = { λ s. watched s.seat.me.0.seen s.seat.me.0.asked };
 
     ghost invariant = { λ s. (s.seat.table_id ≡ N.gauge) × (length s.seat.me.0.seen ≡ 5) };
 }
@@ -61,7 +62,7 @@ impl<N: HubName<A>, A: Allocator + Copy> Gauge<N, A> {
     pub fn seen(&self, seat: &mut GaugeSeat<N, A>) -> Totals
         ensures totals { result ≡ seat.new.totals }
         ensures rises { IsUpTo seat.old.totals seat.new.totals }
-        ensures stop { seat.new.stop ≡ seat.old.stop }
+        ensures stop { (seat.new.stop ≡ seat.old.stop) × (seat.new.asked ≡ seat.old.asked) }
     {
         let GaugeSeat { seat, of: _ } = seat;
         let accepted = look(&self.table, seat, 1);
@@ -78,25 +79,25 @@ impl<N: HubName<A>, A: Allocator + Copy> Gauge<N, A> {
 
     /// Asks all who have a seat to stop. It stands for good.
     pub fn ask_stop(&self, seat: &mut GaugeSeat<N, A>)
-        ensures { (seat.new.stop ≡ true) × (seat.new.totals ≡ seat.old.totals) }
+        ensures { seat.new ≡ record seat.old { stop = true; asked = true } }
     {
         let GaugeSeat { seat, of: _ } = seat;
         set_stop(&self.table, seat);
     }
 
-    /// Whether some seat asked to stop. A seat that did so, or was told so before, is told so.
+    /// Whether some seat asked to stop. A seat that did so is told, and one that was told is told again.
     pub fn stopped(&self, seat: &mut GaugeSeat<N, A>) -> bool
         ensures told { result ≡ seat.new.stop }
         ensures stands { seat.old.stop ≡ true → result ≡ true }
-        ensures totals { seat.new.totals ≡ seat.old.totals }
+        ensures same { (seat.new.totals ≡ seat.old.totals) × (seat.new.asked ≡ seat.old.asked) }
     {
         let GaugeSeat { seat, of: _ } = seat;
         look(&self.table, seat, 0) > 0
     }
 
-    /// A further seat, which has seen as much as this one.
+    /// A further seat, which has seen as much as this one, and did not ask to stop.
     pub fn split(&self, seat: &mut GaugeSeat<N, A>) -> GaugeSeat<N, A>
-        ensures { (seat.new ≡ seat.old) × (result ≡ seat.old) }
+        ensures { (seat.new ≡ seat.old) × (result ≡ record seat.old { asked = false }) }
     {
         let GaugeSeat { seat, of: _ } = seat;
         GaugeSeat {
@@ -124,10 +125,10 @@ pub struct Opened<A: Allocator + Copy> {
     pub(crate) table: Arc<GaugeTable<A>, A>,
     again: Arc<GaugeTable<A>, A>,
     seat: RawSeat,
-    watcher: RawSeat,
+    beside: RawSeat,
     ghost one: { ((arc_value again).shared.table_id ≡ (arc_value table).shared.table_id) × ((arc_value table).shared.table_id.words ≡ 5) },
-    ghost seats: { (seat.table_id ≡ (arc_value table).shared.table_id) × (watcher.table_id ≡ (arc_value table).shared.table_id) },
-    ghost views: { (seat.me ≡ (publisher, [])) × (watcher.me.0.seen ≡ zeros) },
+    ghost seats: { (seat.table_id ≡ (arc_value table).shared.table_id) × (beside.table_id ≡ (arc_value table).shared.table_id) },
+    ghost views: { (seat.me ≡ (publisher, [])) × (beside.me.0 ≡ watcher publisher) },
 }
 
 // What a gauge is under its name: the hub's gauge and seat, and another gauge with a watcher's seat.
@@ -142,14 +143,14 @@ pub struct NamedGauge<N: HubName<A>, A: Allocator + Copy> {
 impl<A: Allocator + Copy> Opened<A> {
     pub(crate) fn new(alloc: A) -> Result<Opened<A>, AllocError> {
         let (table, mut seat) = open(alloc)?;
-        let watcher = split(&table, &mut seat);
+        let beside = split(&table, &mut seat);
         let table = Arc::new(alloc, table)?;
         let again = Arc::try_clone(&table)?;
         Ok(Opened {
             table,
             again,
             seat,
-            watcher,
+            beside,
         })
     }
 
@@ -161,7 +162,7 @@ impl<A: Allocator + Copy> Opened<A> {
             table,
             again,
             seat,
-            watcher,
+            beside,
         } = self;
         NamedGauge {
             hub_gauge: Gauge {
@@ -177,7 +178,7 @@ impl<A: Allocator + Copy> Opened<A> {
                 of: PhantomData,
             },
             seat: GaugeSeat {
-                seat: watcher,
+                seat: beside,
                 of: PhantomData,
             },
         }

@@ -35,8 +35,8 @@ impl<N: HubName<A>, A: Allocator + Copy> Model for StreamReader<N, A> {
 }
 
 impl<N: HubName<A>, A: Allocator + Copy> StreamReader<N, A> {
-    /// The end of the ring of the stream at this place in the hub, below 64.
-    pub fn new(consumer: Consumer<Delivery<A>, A>, stream: u8) -> StreamReader<N, A>
+    // The end of the ring of the stream at this place in the hub.
+    pub(crate) fn new(consumer: Consumer<Delivery<A>, A>, stream: u8) -> StreamReader<N, A>
         requires named { consumer_ring consumer ≡ N.read_ring stream }
         requires place { stream < 64 }
         ensures { (result.stream ≡ stream) × (result.items ≡ received consumer) × (result.known ≡ known_items consumer) × (result.over ≡ Open) }

@@ -7,9 +7,11 @@ use atomic_table::{Play, Seat, Split, Table, TableRule};
 use std::alloc::{AllocError, Allocator};
 use std::collections::LinkedList;
 
-// What a seat knows of the words, and whether it is the one that publishes. No value of it is made.
+// What a seat knows of the words, whether it is the one that publishes, and whether it asked to stop. No value of it is
+// made.
 pub struct View {
     pub publishes: bool,
+    pub asked: bool,
     pub seen: LinkedList<u64>,
 }
 
@@ -30,6 +32,15 @@ impl Play<u64, View> for Records {
     ghost use Rattle.st_queues.specs.Gauged.{Rises};
 
     ghost then = { Rises };
+}
+
+// The stop word is set, and the seat asked for it.
+pub struct AsksStop;
+
+impl Play<u64, View> for AsksStop {
+    ghost use Rattle.st_queues.specs.Gauged.{Asks};
+
+    ghost then = { Asks };
 }
 
 // A seat stays as it is, and another one is made that has seen as much and does not publish.
@@ -61,7 +72,7 @@ pub(crate) fn look<A: Allocator + Copy>(
     word: usize,
 ) -> u64
     requires { (seat.old.table_id ≡ table.now.shared.table_id) × (table.now.shared.table_id.words ≡ 5) × (word < 5) }
-    ensures { (seat.new.table_id ≡ seat.old.table_id) × (seat.new.me.0.publishes ≡ seat.old.me.0.publishes) × (seat.new.me.0.seen ≡ slice_set seat.old.me.0.seen word result) × (slice_index seat.old.me.0.seen word ≤ result) }
+    ensures { (seat.new.table_id ≡ seat.old.table_id) × (seat.new.me.0 ≡ record seat.old.me.0 { seen = slice_set seat.old.me.0.seen word result }) × (slice_index seat.old.me.0.seen word ≤ result) }
 {
     table.shared.load::<Records>(seat, word)
 }
@@ -74,7 +85,7 @@ pub(crate) fn put<A: Allocator + Copy>(
     new: u64,
 )
     requires { (seat.old.table_id ≡ table.now.shared.table_id) × (table.now.shared.table_id.words ≡ 5) × (0 < word) × (word < 5) × (seat.old.me.0.publishes ≡ true) × (slice_index seat.old.me.0.seen word ≤ new) }
-    ensures { (seat.new.table_id ≡ seat.old.table_id) × (seat.new.me.0.publishes ≡ seat.old.me.0.publishes) × (seat.new.me.0.seen ≡ slice_set seat.old.me.0.seen word new) }
+    ensures { (seat.new.table_id ≡ seat.old.table_id) × (seat.new.me.0 ≡ record seat.old.me.0 { seen = slice_set seat.old.me.0.seen word new }) }
 {
     table.shared.store::<Records>(seat, word, new);
 }
@@ -82,9 +93,9 @@ pub(crate) fn put<A: Allocator + Copy>(
 // The stop word is set.
 pub(crate) fn set_stop<A: Allocator + Copy>(table: &GaugeTable<A>, seat: &mut RawSeat)
     requires { (seat.old.table_id ≡ table.now.shared.table_id) × (table.now.shared.table_id.words ≡ 5) }
-    ensures { (seat.new.table_id ≡ seat.old.table_id) × (seat.new.me.0.publishes ≡ seat.old.me.0.publishes) × (seat.new.me.0.seen ≡ slice_set seat.old.me.0.seen 0 1) }
+    ensures { (seat.new.table_id ≡ seat.old.table_id) × (seat.new.me.0 ≡ record seat.old.me.0 { asked = true; seen = slice_set seat.old.me.0.seen 0 1 }) }
 {
-    table.shared.store::<Records>(seat, 0, 1);
+    table.shared.store::<AsksStop>(seat, 0, 1);
 }
 
 // A seat beside this one.

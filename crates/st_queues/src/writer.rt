@@ -39,8 +39,8 @@ impl<N: HubName<A>, A: Allocator + Copy> Model for StreamWriter<N, A> {
 }
 
 impl<N: HubName<A>, A: Allocator + Copy> StreamWriter<N, A> {
-    /// The end of the ring of this number in the hub, below 512.
-    pub fn new(alloc: A, producer: Producer<Item<A>, A>, ring: u16) -> StreamWriter<N, A>
+    // The end of the ring of this number in the hub.
+    pub(crate) fn new(alloc: A, producer: Producer<Item<A>, A>, ring: u16) -> StreamWriter<N, A>
         requires named { producer_ring producer ≡ N.write_ring ring }
         requires place { ring < 512 }
         ensures { (result.ring ≡ ring) × (result.items ≡ sent producer) × (result.free ≡ known_free producer) × (result.ended ≡ false) }
