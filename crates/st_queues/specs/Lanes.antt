@@ -1,5 +1,5 @@
 -- The rings as they lie in the hub: a lane has the hub's end, and the application's until it is handed out.
-use Rattle.std.specs.Prelude.{◌≡◌, ℕ, List, [], Some, IsSome, slice_get, slice_index_or}
+use Rattle.std.specs.Prelude.{◌≡◌, ℕ, ◌<◌, List, [], Some, IsSome, slice_get, slice_index_or}
 use Rattle.st_queues.specs.Names.{RingId, no_ring, producer_ring, consumer_ring}
 use Rattle.st_queues.specs.WriteEnds.{taken, known}
 use Rattle.st_queues.specs.ReadEnds.{put_in, free_of}
@@ -32,9 +32,16 @@ module _ {A : Type 0} where
   abbrev pub AllFreshReads : List (ReadLane A) → Type 0
   AllFreshReads xs = (k : ℕ) (x : ReadLane A) → slice_get xs k ≡ Some x → FreshRead k x
 
-  -- and it is the hub's ring of that number
+  -- the ring is the hub's of its number, and the writer's end, where it is held, is unused
+  abbrev pub IsOurs : (ℕ → RingId A) → WriteLane A → Type 0
+  IsOurs ring x = (x.end.ring < 512) × (write_lane_ring x ≡ ring x.end.ring) × HeldWrite (ring x.end.ring) x.held
+
+  abbrev pub IsOurRead : (ℕ → RingId A) → ReadLane A → Type 0
+  IsOurRead ring x = (x.end.stream < 64) × (read_lane_ring x ≡ ring x.end.stream) × HeldRead (ring x.end.stream) x.held
+
+  -- each lane has the hub's ring of its number, unused
   abbrev pub AllNamed : (ℕ → RingId A) → List (WriteLane A) → Type 0
-  AllNamed ring xs = (k : ℕ) (x : WriteLane A) → slice_get xs k ≡ Some x → Fresh k x × (write_lane_ring x ≡ ring k)
+  AllNamed ring xs = (k : ℕ) (x : WriteLane A) → slice_get xs k ≡ Some x → Fresh k x × IsOurs ring x
 
   abbrev pub AllNamedReads : (ℕ → RingId A) → List (ReadLane A) → Type 0
-  AllNamedReads ring xs = (k : ℕ) (x : ReadLane A) → slice_get xs k ≡ Some x → FreshRead k x × (read_lane_ring x ≡ ring k)
+  AllNamedReads ring xs = (k : ℕ) (x : ReadLane A) → slice_get xs k ≡ Some x → FreshRead k x × IsOurRead ring x

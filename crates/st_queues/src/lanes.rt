@@ -1,5 +1,5 @@
 //! A ring as it lies in the hub: the hub's end, and the application's until it is handed out.
-ghost use Rattle.std.specs.Prelude.{◌≡◌, ◌<◌, ◌↔◌, [], false, None, IfSome, IsSome};
+ghost use Rattle.std.specs.Prelude.{◌≡◌, ◌↔◌, [], false, None, IfSome, IsSome};
 
 use crate::ends::{ReadEnd, WriteEnd};
 use crate::items::{Delivery, Item};
@@ -19,11 +19,11 @@ pub struct WriteLane<A: Allocator + Copy> {
 }
 
 impl<A: Allocator + Copy> WriteLane<A> {
-    ghost use Rattle.st_queues.specs.Held.{HeldWrite};
+    ghost use Rattle.st_queues.specs.Lanes.{IsOurs};
 
     /// The writer, where it was not handed out before. It takes no memory.
     pub fn hand_out<N: HubName<A>>(&mut self, alloc: A) -> Option<StreamWriter<N, A>>
-        requires { HeldWrite (N.write_ring self.old.end.ring) self.old.held × (self.old.end.ring < 512) }
+        requires { IsOurs N.write_ring self.old }
         ensures found { IsSome result ↔ IsSome self.old.held }
         ensures fresh { IfSome result (λ w. (w.ring ≡ self.old.end.ring) × (w.items ≡ []) × (w.free ≡ 64) × (w.ended ≡ false)) }
         ensures left { (self.new.held ≡ None) × (self.new.end ≡ self.old.end) }
@@ -45,12 +45,12 @@ pub struct ReadLane<A: Allocator + Copy> {
 }
 
 impl<A: Allocator + Copy> ReadLane<A> {
-    ghost use Rattle.st_queues.specs.Held.{HeldRead};
+    ghost use Rattle.st_queues.specs.Lanes.{IsOurRead};
     ghost use Rattle.st_queues.specs.declared.items.Over.TheVariants.{Open};
 
     /// The reader, where it was not handed out before. It takes no memory.
     pub fn hand_out<N: HubName<A>>(&mut self) -> Option<StreamReader<N, A>>
-        requires { HeldRead (N.read_ring self.old.end.stream) self.old.held × (self.old.end.stream < 64) }
+        requires { IsOurRead N.read_ring self.old }
         ensures found { IsSome result ↔ IsSome self.old.held }
         ensures fresh { IfSome result (λ r. (r.stream ≡ self.old.end.stream) × (r.items ≡ []) × (r.known ≡ []) × (r.over ≡ Open)) }
         ensures left { (self.new.held ≡ None) × (self.new.end ≡ self.old.end) }
