@@ -38,7 +38,8 @@ impl<N: HubName<A>, A: Allocator + Copy> Model for GaugeSeat<N, A> {
     ghost invariant = { λ s. (s.seat.table_id ≡ N.gauge) × (length s.seat.me.0.seen ≡ 5) };
 }
 
-/// The hub's own seat, which alone publishes. Contracts see it as the totals that it published last.
+/// The hub's own seat, which alone publishes and never asks to stop. Contracts see it as the totals that it published
+/// last.
 #[derive(Drop)]
 pub struct HubSeat<N: HubName<A>, A: Allocator + Copy> {
     seat: RawSeat,
@@ -46,7 +47,7 @@ pub struct HubSeat<N: HubName<A>, A: Allocator + Copy> {
 }
 
 impl<N: HubName<A>, A: Allocator + Copy> Model for HubSeat<N, A> {
-    ghost use Rattle.std.specs.Prelude.{◌≡◌, length, true};
+    ghost use Rattle.std.specs.Prelude.{◌≡◌, length, true, false};
     ghost use Rattle.st_queues.specs.Watching.{totals_seen};
     ghost use Rattle.st_queues.specs.declared.totals.Totals.{Totals};
 
@@ -54,7 +55,7 @@ impl<N: HubName<A>, A: Allocator + Copy> Model for HubSeat<N, A> {
 
     ghost view = { λ s. totals_seen s.seat.me.0.seen };
 
-    ghost invariant = { λ s. (s.seat.table_id ≡ N.gauge) × (length s.seat.me.0.seen ≡ 5) × (s.seat.me.0.publishes ≡ true) };
+    ghost invariant = { λ s. (s.seat.table_id ≡ N.gauge) × (length s.seat.me.0.seen ≡ 5) × (s.seat.me.0.publishes ≡ true) × (s.seat.me.0.asked ≡ false) };
 }
 
 impl<N: HubName<A>, A: Allocator + Copy> Gauge<N, A> {
