@@ -1,0 +1,11 @@
+pub mod Errors
+pub mod Items
+pub mod Names
+pub mod Writing
+pub mod Reading
+pub mod WriteEnds
+pub mod ReadEnds
+pub mod Held
+pub mod Lanes
+pub mod Gauged
+pub mod Watching

@@ -1,0 +1,63 @@
+//! A ring as it lies in the hub: the hub's end, and the application's until it is handed out.
+ghost use Rattle.std.specs.Prelude.{◌≡◌, ◌↔◌, [], false, None, IfSome, IsSome};
+
+use crate::ends::{ReadEnd, WriteEnd};
+use crate::items::{Delivery, Item};
+use crate::name::HubName;
+use crate::reader::StreamReader;
+use crate::writer::StreamWriter;
+use rtrb::{Consumer, Producer};
+use std::alloc::Allocator;
+
+/// A ring to write to.
+#[derive(Drop)]
+pub struct WriteLane<A: Allocator + Copy> {
+    /// The hub's end.
+    pub end: WriteEnd<A>,
+    /// The writer's, until it is handed out.
+    pub held: Option<Producer<Item<A>, A>>,
+}
+
+impl<A: Allocator + Copy> WriteLane<A> {
+    ghost use Rattle.st_queues.specs.Lanes.{IsOurs};
+
+    /// The writer, where it was not handed out before. It takes no memory.
+    pub fn hand_out<N: HubName<A>>(&mut self, alloc: A) -> Option<StreamWriter<N, A>>
+        requires { IsOurs N.write_ring self.old }
+        ensures found { IsSome result ↔ IsSome self.old.held }
+        ensures fresh { IfSome result (λ w. (w.ring ≡ self.old.end.ring) × (w.items ≡ []) × (w.free ≡ 64) × (w.ended ≡ false)) }
+        ensures left { (self.new.held ≡ None) × (self.new.end ≡ self.old.end) }
+    {
+        match self.held.take() {
+            Some(producer) => Some(StreamWriter::new(alloc, producer, self.end.ring)),
+            None => None,
+        }
+    }
+}
+
+/// A ring to read from.
+#[derive(Drop)]
+pub struct ReadLane<A: Allocator + Copy> {
+    /// The hub's end.
+    pub end: ReadEnd<A>,
+    /// The reader's, until it is handed out.
+    pub held: Option<Consumer<Delivery<A>, A>>,
+}
+
+impl<A: Allocator + Copy> ReadLane<A> {
+    ghost use Rattle.st_queues.specs.Lanes.{IsOurRead};
+    ghost use Rattle.st_queues.specs.declared.items.Over.TheVariants.{Open};
+
+    /// The reader, where it was not handed out before. It takes no memory.
+    pub fn hand_out<N: HubName<A>>(&mut self) -> Option<StreamReader<N, A>>
+        requires { IsOurRead N.read_ring self.old }
+        ensures found { IsSome result ↔ IsSome self.old.held }
+        ensures fresh { IfSome result (λ r. (r.stream ≡ self.old.end.stream) × (r.items ≡ []) × (r.known ≡ []) × (r.over ≡ Open)) }
+        ensures left { (self.new.held ≡ None) × (self.new.end ≡ self.old.end) }
+    {
+        match self.held.take() {
+            Some(consumer) => Some(StreamReader::new(consumer, self.end.stream)),
+            None => None,
+        }
+    }
+}

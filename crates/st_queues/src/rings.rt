@@ -1,0 +1,159 @@
+//! All rings of a hub and its gauge, before it has a name.
+ghost use Rattle.std.specs.Prelude.{◌≡◌, ℕ, ◌<◌, length, vec_len, IfOk, IsOkUnless};
+ghost use Rattle.st_queues.specs.Lanes.{Fresh, FreshRead, AllFresh, AllFreshReads, AllNamed, AllNamedReads, ring_at};
+ghost use Rattle.st_queues.specs.Watching.{nothing_seen, no_totals};
+
+use crate::ends::{ReadEnd, WriteEnd};
+use crate::error::QueueError;
+use crate::gauge::{Gauge, GaugeSeat, HubSeat, NamedGauge, Opened};
+use crate::items::{Delivery, Item};
+use crate::lanes::{ReadLane, WriteLane};
+use crate::name::HubName;
+use rtrb::RingBuffer;
+use std::alloc::{AllocError, Allocator};
+use std::marker::Model;
+
+/// The streams of a hub.
+pub const STREAMS: u8 = 64;
+
+/// The rings to write to of each stream: writer j of the stream at place s has the ring number 8 s + j.
+pub const WRITERS: u8 = 8;
+
+/// The items for which a fresh ring has room.
+pub const ROOM: usize = 64;
+
+// The rings to write to: STREAMS times WRITERS.
+const WRITE_RINGS: u16 = 512;
+
+/// The rings and the gauge of a hub that has no name yet. Contracts see them as what they are called.
+#[derive(Drop)]
+pub struct Rings<A: Allocator + Copy> {
+    writes: Vec<WriteLane<A>, A>,
+    reads: Vec<ReadLane<A>, A>,
+    gauge: Opened<A>,
+    alloc: A,
+}
+
+impl<A: Allocator + Copy> Model for Rings<A> {
+    ghost use Rattle.std.specs.Prelude.{◌≡◌, map, vec_len};
+    ghost use Rattle.std.specs.Arc.{arc_value};
+    ghost use Rattle.st_queues.specs.Names.{HubIds};
+    ghost use Rattle.st_queues.specs.Lanes.{AllFresh, AllFreshReads, write_lane_ring, read_lane_ring};
+
+    ghost Value = { HubIds A };
+
+    ghost view = { λ r. record { gauge = (arc_value r.gauge.table).shared.table_id; writes = map write_lane_ring r.writes.items; reads = map read_lane_ring r.reads.items } };
+
+    ghost invariant = { λ r. (vec_len r.writes ≡ 512) × (vec_len r.reads ≡ 64) × AllFresh r.writes.items × AllFreshReads r.reads.items };
+}
+
+// The ring of this number, with both its ends.
+fn write_lane<A: Allocator + Copy>(alloc: A, ring: u16) -> Result<WriteLane<A>, AllocError>
+    ensures { IfOk result (λ x. Fresh ring x) }
+{
+    let (producer, consumer) = RingBuffer::<Item<A>>::new(alloc, ROOM)?;
+    Ok(WriteLane {
+        end: WriteEnd { consumer, ring },
+        held: Some(producer),
+    })
+}
+
+fn read_lane<A: Allocator + Copy>(alloc: A, stream: u8) -> Result<ReadLane<A>, AllocError>
+    ensures { IfOk result (λ x. FreshRead stream x) }
+{
+    let (producer, consumer) = RingBuffer::<Delivery<A>>::new(alloc, ROOM)?;
+    Ok(ReadLane {
+        end: ReadEnd { producer, stream },
+        held: Some(consumer),
+    })
+}
+
+fn write_lanes<A: Allocator + Copy>(alloc: A) -> Result<Vec<WriteLane<A>, A>, AllocError>
+    ensures { IfOk result (λ v. (vec_len v ≡ 512) × AllFresh v.items) }
+{
+    let mut lanes = Vec::new(alloc);
+    for ring in 0..WRITE_RINGS {
+        let lane = write_lane(alloc, ring)?;
+        lanes.push(lane)?;
+    }
+    Ok(lanes)
+}
+
+fn read_lanes<A: Allocator + Copy>(alloc: A) -> Result<Vec<ReadLane<A>, A>, AllocError>
+    ensures { IfOk result (λ v. (vec_len v ≡ 64) × AllFreshReads v.items) }
+{
+    let mut lanes = Vec::new(alloc);
+    for stream in 0..STREAMS {
+        let lane = read_lane(alloc, stream)?;
+        lanes.push(lane)?;
+    }
+    Ok(lanes)
+}
+
+impl<A: Allocator + Copy> Rings<A> {
+    /// The rings of 64 streams, with room for 64 items each, and a gauge at 0.
+    ///
+    /// Refuses with `NoMemory` where memory that it asked for was refused. No other call of this crate takes memory.
+    pub fn new(alloc: A) -> Result<Rings<A>, QueueError<A>>
+        ensures made { IfOk result (λ r. (length r.writes ≡ 512) × (length r.reads ≡ 64) × (r.gauge.words ≡ 5)) }
+        ensures refused { IsOkUnless result QueueError.NoMemory }
+    {
+        Ok(Rings {
+            writes: write_lanes(alloc)?,
+            reads: read_lanes(alloc)?,
+            gauge: Opened::new(alloc)?,
+            alloc,
+        })
+    }
+
+    /// The rings and the gauge under the name that was picked for them. It takes no memory.
+    pub fn named<N: HubName<A>>(self) -> Named<N, A>
+        requires gauge { self.gauge ≡ N.gauge }
+        requires writes { (k : ℕ) → N.write_ring k ≡ ring_at self.writes k }
+        requires reads { (k : ℕ) → N.read_ring k ≡ ring_at self.reads k }
+        ensures writes { (vec_len result.writes ≡ 512) × AllNamed N.write_ring result.writes.items }
+        ensures reads { (vec_len result.reads ≡ 64) × AllNamedReads N.read_ring result.reads.items }
+        ensures seats { (result.hub_seat ≡ no_totals) × (result.seat ≡ nothing_seen) }
+    {
+        let Rings {
+            writes,
+            reads,
+            gauge,
+            alloc,
+        } = self;
+        let NamedGauge {
+            hub_gauge,
+            hub_seat,
+            gauge,
+            seat,
+        } = gauge.named::<N>();
+        Named {
+            writes,
+            reads,
+            hub_gauge,
+            hub_seat,
+            gauge,
+            seat,
+            alloc,
+        }
+    }
+}
+
+/// The rings and the gauge of the hub N, as they lie in it at first.
+#[derive(Drop)]
+pub struct Named<N: HubName<A>, A: Allocator + Copy> {
+    /// The rings to write to, by their number: writer j of the stream at place s is at 8 s + j.
+    pub writes: Vec<WriteLane<A>, A>,
+    /// The rings to read from, by the place of their stream.
+    pub reads: Vec<ReadLane<A>, A>,
+    /// The gauge that the hub publishes on.
+    pub hub_gauge: Gauge<N, A>,
+    /// The one seat that publishes.
+    pub hub_seat: HubSeat<N, A>,
+    /// The gauge for those who watch.
+    pub gauge: Gauge<N, A>,
+    /// A watcher's seat.
+    pub seat: GaugeSeat<N, A>,
+    /// The allocator of the rings.
+    pub alloc: A,
+}
