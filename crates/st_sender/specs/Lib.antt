@@ -1,0 +1,11 @@
+pub mod Sending
+pub mod Configs
+pub mod Accepting
+pub mod Refusals
+pub mod Errors
+pub mod Flights
+pub mod Due
+pub mod Loads
+pub mod Answering
+pub mod Lanes
+pub mod Shown
