@@ -46,7 +46,7 @@ seen_changed v s lanes news k f e is n =
     ap (λ (xs : Slots Lane). record v { streams = outs xs }) n ∙ outs_to v lanes k f (slot lanes k) is ∙ ap (λ y. changed_at v k f y) (sym (ap (λ (xs : Slots Outgoing). slot xs k) is ∙ out_slot lanes k))
     ∙ ap (λ (t : Sending). changed t k f) e
 
-booked_to : (lanes : Slots Lane) (flights : List Flight) (k : ℕ) (f : Lane → Lane) (o : Option Lane) → slot lanes k ≡ o → ((l : Lane) → (f l).flying ≡ l.flying) → AreBooked lanes flights → AreBooked (changed_to lanes k f o) flights
+pub booked_to : (lanes : Slots Lane) (flights : List Flight) (k : ℕ) (f : Lane → Lane) (o : Option Lane) → slot lanes k ≡ o → ((l : Lane) → (f l).flying ≡ l.flying) → AreBooked lanes flights → AreBooked (changed_to lanes k f o) flights
 booked_to lanes flights k f None e same h = λ j q. h j q
 booked_to lanes flights k f (Some l) e same h = λ j q. elim (slot_cases lanes k (f l) j) [
   | inl here ↦ ap (λ y. flying_in y q) (ap (λ i. slot (with_slot lanes k (f l)) i) here.0 ∙ here.1) ∙ ap (λ m. fmap.get m q) (same l) ∙ sym (ap (λ y. flying_in y q) e) ∙ h k q ∙ ap (λ i. flying_by i flights q) (sym here.0)
@@ -106,3 +106,11 @@ seen_streams v s lanes e is = sym is ∙ ap (λ (t : Sending). t.streams) e
 -- a refusal by what the streams hold is one by the model
 pub refused_as : (v s : Sending) (lanes : Slots Lane) (k : ℕ) (P : Option Outgoing → Slots Outgoing → Type 0) → v ≡ s → v.streams ≡ outs lanes → P (out_of (slot lanes k)) (outs lanes) → P (outgoing_at s k) s.streams
 refused_as v s lanes k P e is p = subst (λ o. P o s.streams) (seen_at v s lanes k e is) (subst (λ xs. P (out_of (slot lanes k)) xs) (seen_streams v s lanes e is) p)
+
+-- and flights that stay
+pub seen_stays : (v s : Sending) (lanes news : Slots Lane) (fl : List Flight) → v ≡ s → v.streams ≡ outs lanes → news ≡ lanes → fl ≡ v.flights → ◌≡◌ {A = Sending} (record v { streams = outs news; flights = fl }) s
+seen_stays v s lanes news fl e is n f = ap (λ (ps : List Flight). record v { streams = outs news; flights = ps }) f ∙ seen_same v s lanes news e is n
+
+pub err_of : {T E : Type 0} (r : Result T E) {P : Type 0} → P → OnErr r P
+err_of (Ok x) p = tt
+err_of (Err e) p = p

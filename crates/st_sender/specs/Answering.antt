@@ -1,5 +1,5 @@
 -- What the answer to a load leaves, and what the peer tells of its limits.
-use Rattle.std.specs.Prelude.{ℕ, ◌+◌, ◌*◌, ◌/◌, Bool, true, false, ◌||◌, not, List, [], ◌∷◌, max, min, nat_lt, nat_le, nat_eq, slice_set, if◌then◌else◌}
+use Rattle.std.specs.Prelude.{ℕ, ◌+◌, ◌*◌, ◌/◌, Bool, true, false, ◌||◌, not, List, [], ◌∷◌, max, min, nat_lt, nat_le, nat_eq, slice_set, if◌then◌else◌, bytes_eq}
 use Rattle.std.specs.declared.option.Option.{Option}
 use Rattle.std.specs.declared.option.Option.TheVariants.{None, Some}
 use Rattle.std.specs.Ordering.{nat_cmp}
@@ -75,6 +75,23 @@ pub data Failure : Type 0 where
   Plain : Failure
   Final : Failure  -- a code of letter F, but F08 and F99
   TooLarge : (told : Option (ℕ × ℕ)) → Failure  -- F08, with the received and the maximum amount where they can be read
+
+-- why a Reject of this code fails a flight (RFC 0027): three ASCII characters
+abbrev pub f08 : List ℕ
+f08 = 70 ∷ 48 ∷ 56 ∷ []
+
+abbrev pub f99 : List ℕ
+f99 = 70 ∷ 57 ∷ 57 ∷ []
+
+abbrev pub is_of_letter_f : List ℕ → Bool
+is_of_letter_f [] = false
+is_of_letter_f (letter ∷ digits) = nat_eq letter 70
+
+abbrev pub failure_of : List ℕ → Failure
+failure_of code =
+    if bytes_eq code f08 then TooLarge None
+    else (if bytes_eq code f99 then Plain
+    else (if is_of_letter_f code then Final else Plain))
 
 -- the packet limit that F08 asks for
 abbrev pub half : ℕ → ℕ

@@ -6,6 +6,10 @@ pub mod Errors
 pub mod Flights
 pub mod Due
 pub mod Loads
+pub mod Filling
+pub mod Plain
 pub mod Answering
 pub mod Lanes
 pub mod Shown
+pub mod Allowed
+pub mod Landing

@@ -1,18 +1,27 @@
 //! What an end sends.
 
-ghost use Rattle.std.specs.Prelude.{◌≡◌, ◌≢◌, ℕ, ◌<◌, length, slice_set, None, Some, OnOk, OnErr, IfOk, IsOkUnless};
+ghost use Rattle.std.specs.Prelude.{true, false, ◌≡◌, ◌≢◌, ℕ, ◌<◌, List, length, slice_set, None, Some, OnOk, OnErr, IfOk, IfSome, IsOkUnless, MatchOption};
+ghost use Rattle.std.specs.List.{AllByRecursion};
+ghost use Rattle.st_frames.specs.Frames.{Known};
 ghost use Rattle.st_frames.specs.Seen.{seen};
-ghost use Rattle.st_sender.specs.Sending.{new_sending, new_outgoing, outgoing_at, with_outgoing, changed};
+ghost use Rattle.st_sender.specs.Sending.{Sending, new_sending, new_outgoing, outgoing_at, with_outgoing, changed};
 ghost use Rattle.st_sender.specs.Accepting.{after_write, after_clean, after_stream_abort, after_offer};
-ghost use Rattle.st_sender.specs.Answering.{after_told, after_marked, told_data, told_receive_max};
+ghost use Rattle.st_sender.specs.Answering.{after_told, after_marked, told_data, told_receive_max, after_fulfilled, after_failed, failure_of, TooLarge};
+ghost use Rattle.st_sender.specs.Flights.{flight_at};
+ghost use Rattle.st_sender.specs.Shown.{why};
 ghost use Rattle.st_sender.specs.Refusals.{write_refusal, close_refusal, abort_refusal, offer_refusal, Answers, AnswersOrWants};
+ghost use Rattle.st_sender.specs.Loads.{Sends};
+ghost use Rattle.st_sender.specs.Plain.{IsFilled, IsPlainIdle};
 
+use crate::choose::{choose, launch};
 use crate::config::EndConfig;
 use crate::error::OutboxError;
-use crate::load::Flight;
+use crate::failure::{Failure, fails};
+use crate::load::{Flight, Load, take_flight};
 use crate::stream::Stream;
 use crate::streams::{
-    abort, accept, close, no_marks, no_streams, offer, open, raise, raise_money, set_mark,
+    abort, accept, acknowledge, close, free, is_open, no_marks, no_streams, offer, open, raise,
+    raise_money, set_mark,
 };
 use st_frames::Frame;
 use std::alloc::Allocator;
@@ -24,7 +33,7 @@ pub struct Outbox<A: Allocator + Copy> {
     config: EndConfig,
     streams: Vec<Option<Stream<A>>, A>,
     /// In the order in which they went.
-    flights: Vec<Flight<A>, A>,
+    flights: Vec<Flight, A>,
     /// The last sequence.
     last: u64,
     /// The peer's limit on the sum of the streams' ends.
@@ -48,6 +57,7 @@ impl<A: Allocator + Copy> Model for Outbox<A> {
     ghost use Rattle.std.specs.Coded.{codes};
     ghost use Rattle.st_sender.specs.Sending as sending;
     ghost use Rattle.st_sender.specs.Lanes.{outs, AreBooked};
+    ghost use Rattle.st_sender.specs.Landing.{AreOrdered};
 
     ghost Value = { sending.Sending };
 
@@ -67,7 +77,7 @@ impl<A: Allocator + Copy> Model for Outbox<A> {
       paid = a.paid;
     } };
 
-    ghost invariant = { λ a. (length a.streams.items ≡ 65) × AreBooked a.streams.items a.flights.items };
+    ghost invariant = { λ a. (length a.streams.items ≡ 65) × AreBooked a.streams.items a.flights.items × AreOrdered a.flights.items a.last a.failures };
 }
 
 impl<A: Allocator + Copy> Outbox<A> {
@@ -95,6 +105,14 @@ impl<A: Allocator + Copy> Outbox<A> {
             paid: 0,
             alloc,
         })
+    }
+
+    /// Whether a stream is open. No memory.
+    pub fn has_stream(&self, stream: u8) -> bool
+        ensures yes { result ≡ true → outgoing_at self.now stream ≢ None }
+        ensures no { result ≡ false → outgoing_at self.now stream ≡ None }
+    {
+        is_open(&self.streams, stream)
     }
 
     /// A stream opens that is not open yet, of number 1 to 64.
@@ -202,5 +220,104 @@ impl<A: Allocator + Copy> Outbox<A> {
             } => self.mark_money(stream, receive_max),
             _ => {}
         }
+    }
+
+    /// The load that goes next, of data and closes (RFC 0029, section 4): the lowest due bytes of a stream, or a close.
+    /// `None` comes only where a limit that stands, the room among them, stops each byte and close that is due. `room` is
+    /// how many bytes the packet may take. Refused is want of memory alone.
+    pub fn next(&mut self, room: usize) -> Result<Option<Load<A>>, OutboxError>
+        ensures only_memory { IsOkUnless result OutboxError.NoMemory }
+        ensures sends { IfOk result (λ r. (limits : List Known) → MatchOption r (IsPlainIdle self.old limits room × (self.new ≡ self.old)) (λ load. Sends self.old limits room load self.new)) }
+        ensures filled { IfOk result (λ r. IfSome r (λ load. AllByRecursion (IsFilled self.old room) load.frames)) }
+        ensures unchanged { OnErr result (self.new ≡ self.old) }
+    {
+        if self.failed {
+            return Ok(None);
+        }
+        if self.flights.len() >= self.config.in_flight() {
+            return Ok(None);
+        }
+        if self.last >= self.config.packets() {
+            return Ok(None);
+        }
+        let sequence = self.last + 1;
+        let Some(frame) = choose(&self.streams, &self.flights, self.told, sequence, room) else {
+            return Ok(None);
+        };
+        let bytes = launch(
+            &mut self.streams,
+            &mut self.flights,
+            self.alloc,
+            sequence,
+            frame,
+        )?;
+        self.last = sequence;
+        Ok(Some(Load {
+            sequence,
+            amount: 0,
+            least: 0,
+            frame,
+            bytes,
+            alloc: self.alloc,
+        }))
+    }
+
+    /// A fitting Fulfill came for the flight of this sequence: what it carried is acknowledged. Where none is in flight by
+    /// this sequence, nothing changes. No memory.
+    pub fn acknowledged(&mut self, sequence: u64)
+        ensures { MatchOption (flight_at self.old.flights sequence) (self.new ≡ self.old) (λ p. self.new ≡ after_fulfilled self.old p) }
+    {
+        let Some(frame) = take_flight(&mut self.flights, sequence) else {
+            return;
+        };
+        acknowledge(&mut self.streams, sequence, frame);
+        self.failures = 0;
+    }
+
+    /// The flight of this sequence failed.
+    fn fail(&mut self, sequence: u64, failure: Failure)
+        ensures { MatchOption (flight_at self.old.flights sequence) (self.new ≡ self.old) (λ p. self.new ≡ after_failed self.old p (why failure)) }
+    {
+        let Some(frame) = take_flight(&mut self.flights, sequence) else {
+            return;
+        };
+        free(&mut self.streams, sequence, frame);
+        self.packet_limit = failure.limit_after(self.packet_limit, 0);
+        self.failures += 1;
+        self.failed = fails(self.failed, failure, self.failures);
+    }
+
+    /// A Reject of this code came for the flight of this sequence (RFC 0027): what it carried is due again, unless an abort
+    /// dropped it. F08 lowers the packet limit as `too_large` without data does; another code of letter F, but F99, fails
+    /// the connection; so do `MAX_FAILURES` failures in a row. A fault, and an answer that does not fit, count as a code of
+    /// letter T. Where none is in flight by this sequence, nothing changes. No memory.
+    pub fn failed(&mut self, sequence: u64, code: [u8; 3])
+        ensures { MatchOption (flight_at self.old.flights sequence) (self.new ≡ self.old) (λ p. self.new ≡ after_failed self.old p (failure_of code)) }
+    {
+        self.fail(sequence, Failure::of(code));
+    }
+
+    /// F08 came for the flight of this sequence, with the received and the maximum amount where they can be read: the packet
+    /// limit becomes the lesser of itself and what was sent times the maximum by the received, at least 1; half of what was
+    /// sent where they say nothing. No memory.
+    pub fn too_large(&mut self, sequence: u64, told: Option<(u64, u64)>)
+        ensures { MatchOption (flight_at self.old.flights sequence) (self.new ≡ self.old) (λ p. self.new ≡ after_failed self.old p (TooLarge told)) }
+    {
+        self.fail(sequence, Failure::TooLarge(told));
+    }
+
+    /// Undoes the `next` that gave this load and was the last call: its sequence goes again. No memory.
+    pub fn take_back(&mut self, load: Load<A>)
+        ensures { (before : Sending) (limits : List Known) (room : ℕ) → Sends before limits room load self.old → self.new ≡ before }
+    {
+        let sequence = load.sequence();
+        if sequence != self.last {
+            return;
+        }
+        let Some(frame) = take_flight(&mut self.flights, sequence) else {
+            return;
+        };
+        free(&mut self.streams, sequence, frame);
+        self.last -= 1;
     }
 }

@@ -1,12 +1,18 @@
 //! One outgoing stream.
 
-ghost use Rattle.std.specs.Prelude.{◌≡◌, ℕ, ◌+◌, ◌<◌, ◌≤◌, ◌^◌, length, is_some, nat_lt, ◌||◌, OnOk, OnErr, IsOkUnless};
+ghost use Rattle.std.specs.Prelude.{◌≡◌, ◌≢◌, ℕ, ◌+◌, ◌-◌, ◌<◌, ◌≤◌, ◌^◌, length, max, is_some, nat_lt, ◌||◌, IsSome, OnOk, OnErr, IfOk, MatchOption};
+ghost use Rattle.std.specs.declared.option.Option.TheVariants.{Some, None};
 ghost use Rattle.std.specs.FinMap.{len};
 ghost use Rattle.st_sender.specs.Accepting.{after_write, after_clean, after_stream_abort, after_offer};
-ghost use Rattle.st_sender.specs.Answering.{told_data, told_receive_max};
+ghost use Rattle.st_sender.specs.Answering.{told_data, told_receive_max, acked_close};
+ghost use Rattle.st_sender.specs.Landing.{acked_by, freed_by};
+ghost use Rattle.st_sender.specs.Flights.{flying_end};
 ghost use Rattle.st_sender.specs.Refusals.{is_closed};
-ghost use Rattle.st_sender.specs.Lanes.{Lane, new_lane, on_out};
+ghost use Rattle.st_sender.specs.Lanes.{Lane, new_lane, due_in, on_out, claimed_by};
+ghost use Rattle.st_sender.specs.Allowed.{Bounds, IsStopped, IsReady, IsFinished, AreBytes};
 
+use crate::load::{Flight, closing, flights_end};
+use crate::sizes::{close_size, longest};
 use st_unacked::Unacked;
 use std::alloc::{AllocError, Allocator};
 use std::marker::Model;
@@ -20,7 +26,7 @@ pub struct Stream<A: Allocator + Copy> {
     /// What was accepted and is not acknowledged.
     bytes: Unacked<A>,
     /// The highest end of acknowledged data.
-    acked_end: u64,
+    acked_end: u128,
     /// All money ever offered.
     offered: u64,
     /// What of it was fulfilled.
@@ -44,6 +50,7 @@ pub struct Stream<A: Allocator + Copy> {
 }
 
 impl<A: Allocator + Copy> Model for Stream<A> {
+    ghost use Rattle.std.specs.Prelude.{◌<◌, ◌^◌};
     ghost use Rattle.std.specs.FinMap as map;
     ghost use Rattle.std.specs.Coded.{codes};
     ghost use Rattle.st_sender.specs.Lanes.{Lane};
@@ -56,6 +63,8 @@ impl<A: Allocator + Copy> Model for Stream<A> {
       out = record { accepted = a.bytes.accepted; unacked = a.bytes.unacked; acked_end = a.acked_end; offered = a.offered; fulfilled = a.fulfilled; clean = a.clean; abort = a.abort; clean_settled = a.clean_settled; abort_settled = a.abort_settled; told = a.told; told_money = a.told_money; blocked = a.blocked; blocked_money = a.blocked_money };
       flying = a.bytes.flying;
     } };
+
+    ghost invariant = { λ a. a.acked_end < 2 ^ 65 };
 }
 
 impl<A: Allocator + Copy> Stream<A> {
@@ -162,5 +171,124 @@ impl<A: Allocator + Copy> Stream<A> {
             None => Some((receive_max, total)),
             Some((old, received)) => Some((old.max(receive_max), received.max(total))),
         };
+    }
+
+    /// Where its data in flight or acknowledged end.
+    pub fn sent_end(&self, flights: &[Flight], number: u8) -> u128
+        ensures end { result ≡ max self.now.out.acked_end (flying_end number flights.now) }
+        ensures small { result < 2 ^ 65 }
+    {
+        self.acked_end.max(flights_end(flights, number))
+    }
+
+    /// The lowest due bytes, as many as may go: where they begin, and how many.
+    pub fn ready(
+        &self,
+        flights: &[Flight],
+        number: u8,
+        spare: u128,
+        sequence: u64,
+        room: usize,
+    ) -> Option<(u64, u64)>
+        requires { spare < 2 ^ 64 }
+        ensures { MatchOption result (IsStopped flights.now (record { spare = spare; sequence = sequence; room = room }) number self.now) (λ r. IsReady flights.now (record { spare = spare; sequence = sequence; room = room }) number self.now r.0 r.1) }
+    {
+        let Some((from, end)) = self.bytes.lowest_due() else {
+            return None;
+        };
+        let allowed = u128::from(self.told).min(self.sent_end(flights, number) + spare);
+        if allowed <= u128::from(from) {
+            return None;
+        }
+        let most = (allowed - u128::from(from))
+            .min(u128::from(end - from))
+            .min(16_000) as u64;
+        let count = longest(sequence, number, from, most, room);
+        if count == 0 {
+            return None;
+        }
+        Some((from, count))
+    }
+
+    /// The code of a close that is due.
+    pub fn finished(
+        &self,
+        flights: &[Flight],
+        number: u8,
+        spare: u128,
+        sequence: u64,
+        room: usize,
+    ) -> Option<u8>
+        ensures { MatchOption result ((code : ℕ) → ¬ IsFinished flights.now (record { spare = spare; sequence = sequence; room = room }) number self.now code) (λ code. IsFinished flights.now (record { spare = spare; sequence = sequence; room = room }) number self.now code) }
+    {
+        if close_size(sequence, number) > room {
+            return None;
+        }
+        match self.abort {
+            Some(code) => {
+                if self.abort_settled {
+                    return None;
+                }
+                if closing(flights, number, code) {
+                    return None;
+                }
+                Some(code)
+            }
+            None => {
+                if !self.clean || self.clean_settled || self.offered != self.fulfilled {
+                    return None;
+                }
+                if closing(flights, number, 1) {
+                    return None;
+                }
+                if self.bytes.is_done() { Some(1) } else { None }
+            }
+        }
+    }
+
+    /// A copy of its due bytes from an offset on, which are in flight from now on.
+    pub fn take(
+        &mut self,
+        alloc: A,
+        sequence: u64,
+        offset: u64,
+        count: u64,
+    ) -> Result<Vec<u8, A>, AllocError>
+        requires some { 0 < count }
+        requires fits { offset + count < 2 ^ 64 }
+        requires due { (q : ℕ) → offset ≤ q → q < offset + count → IsSome (due_in self.old q) }
+        ensures bytes { IfOk result (λ v. AreBytes self.old offset count v.items) }
+        ensures books { OnOk result (self.new ≡ claimed_by sequence offset count self.old) }
+        ensures unchanged { OnErr result (self.new ≡ self.old) }
+    {
+        let bytes = Vec::from_slice(alloc, self.bytes.piece(offset, offset + count))?;
+        self.bytes.claim(sequence, offset, offset + count)?;
+        Ok(bytes)
+    }
+
+    /// A frame of its data was fulfilled.
+    pub fn acknowledged(&mut self, sequence: u64, offset: u64, count: u64)
+        ensures { self.new ≡ acked_by sequence offset count self.old }
+    {
+        let _end = self.bytes.acknowledged(sequence);
+        self.acked_end = self.acked_end.max(u128::from(offset) + u128::from(count));
+    }
+
+    /// What a sequence carried failed.
+    pub fn failed(&mut self, sequence: u64)
+        ensures { self.new ≡ freed_by sequence self.old }
+    {
+        self.bytes.failed(sequence);
+    }
+
+    /// Its StreamClose of this code was fulfilled.
+    pub fn settle(&mut self, code: u8)
+        ensures { self.new ≡ on_out (acked_close code) self.old }
+    {
+        if code == 1 {
+            self.clean_settled = true;
+        } else {
+            self.abort_settled = true;
+        }
     }
 }

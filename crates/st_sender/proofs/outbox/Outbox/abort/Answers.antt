@@ -14,7 +14,7 @@ invariant_of-self g c =
     (kept c.self.inside.streams.items c.abort.new.streams.items c.self.inside.flights.items c.args.stream (on_out (after_stream_abort c.args.code)) (λ l. refl) c.self.invariant.0 c.self.invariant.1)
     (unchanged c.self.inside.streams.items c.abort.new.streams.items c.self.inside.flights.items c.self.invariant.0 c.self.invariant.1)
     c.abort.ensures.aborts c.abort.ensures.unchanged in
-    (h.0, h.1)
+    (h.0, h.1, c.self.invariant.2)
 
 pub returns-clause-aborts : goal.returns-clause-aborts
 returns-clause-aborts g c =

@@ -14,7 +14,7 @@ invariant_of-self g c =
     (kept c.self.inside.streams.items c.accept.new.streams.items c.self.inside.flights.items c.args.stream (on_out (after_write c.args.bytes.now)) (λ l. refl) c.self.invariant.0 c.self.invariant.1)
     (unchanged c.self.inside.streams.items c.accept.new.streams.items c.self.inside.flights.items c.self.invariant.0 c.self.invariant.1)
     c.accept.ensures.accepts c.accept.ensures.unchanged in
-    (h.0, h.1)
+    (h.0, h.1, c.self.invariant.2)
 
 pub returns-clause-accepts : goal.returns-clause-accepts
 returns-clause-accepts g c =

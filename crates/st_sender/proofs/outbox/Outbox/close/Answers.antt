@@ -14,7 +14,7 @@ invariant_of-self g c =
     (kept c.self.inside.streams.items c.close.new.streams.items c.self.inside.flights.items c.args.stream (on_out after_clean) (λ l. refl) c.self.invariant.0 c.self.invariant.1)
     (unchanged c.self.inside.streams.items c.close.new.streams.items c.self.inside.flights.items c.self.invariant.0 c.self.invariant.1)
     c.close.ensures.closes c.close.ensures.unchanged in
-    (h.0, h.1)
+    (h.0, h.1, c.self.invariant.2)
 
 pub returns-clause-closes : goal.returns-clause-closes
 returns-clause-closes g c =

@@ -14,7 +14,7 @@ invariant_of-self g c =
     (kept c.self.inside.streams.items c.offer.new.streams.items c.self.inside.flights.items c.args.stream (on_out (after_offer c.args.amount)) (λ l. refl) c.self.invariant.0 c.self.invariant.1)
     (unchanged c.self.inside.streams.items c.offer.new.streams.items c.self.inside.flights.items c.self.invariant.0 c.self.invariant.1)
     c.offer.ensures.offers c.offer.ensures.unchanged in
-    (h.0, h.1)
+    (h.0, h.1, c.self.invariant.2)
 
 pub returns-clause-offers : goal.returns-clause-offers
 returns-clause-offers g c =
