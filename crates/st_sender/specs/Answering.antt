@@ -24,6 +24,11 @@ acked_money amount x = record x { fulfilled = x.fulfilled + amount }
 abbrev pub acked_close : (code : ℕ) → Outgoing → Outgoing
 acked_close code x = if nat_eq code 1 then record x { clean_settled = true } else record x { abort_settled = true }
 
+-- a StreamClose of a stream was fulfilled: the clean one, or an abort's
+abbrev pub is_settled : Option Outgoing → Bool
+is_settled None = false
+is_settled (Some x) = x.clean_settled || x.abort_settled
+
 -- the higher of the limits for which a Blocked was fulfilled
 abbrev pub higher : Option ℕ → ℕ → Option ℕ
 higher None n = Some n

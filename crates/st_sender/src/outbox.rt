@@ -6,10 +6,11 @@ ghost use Rattle.st_frames.specs.Frames.{Known};
 ghost use Rattle.st_frames.specs.Seen.{seen};
 ghost use Rattle.st_sender.specs.Sending.{Sending, new_sending, new_outgoing, outgoing_at, with_outgoing, changed};
 ghost use Rattle.st_sender.specs.Accepting.{after_write, after_clean, after_stream_abort, after_offer};
-ghost use Rattle.st_sender.specs.Answering.{after_told, after_marked, told_data, told_receive_max, after_fulfilled, after_failed, failure_of, TooLarge};
+ghost use Rattle.st_sender.specs.Answering.{after_told, after_marked, told_data, told_receive_max, after_fulfilled, after_failed, failure_of, is_settled, TooLarge};
 ghost use Rattle.st_sender.specs.Flights.{flight_at};
 ghost use Rattle.st_sender.specs.Shown.{why};
 ghost use Rattle.st_sender.specs.Refusals.{write_refusal, close_refusal, abort_refusal, offer_refusal, Answers, AnswersOrWants};
+ghost use Rattle.st_sender.specs.Refusals as specs;
 ghost use Rattle.st_sender.specs.Loads.{Sends};
 ghost use Rattle.st_sender.specs.Plain.{IsFilled, IsPlainIdle};
 
@@ -20,8 +21,8 @@ use crate::failure::{Failure, fails};
 use crate::load::{Flight, Load, take_flight};
 use crate::stream::Stream;
 use crate::streams::{
-    abort, accept, acknowledge, close, free, is_open, no_marks, no_streams, offer, open, raise,
-    raise_money, set_mark,
+    abort, accept, acknowledge, all_accepted, close, free, is_open, no_marks, no_streams, offer,
+    open, raise, raise_money, set_mark, settled,
 };
 use st_frames::Frame;
 use std::alloc::Allocator;
@@ -113,6 +114,34 @@ impl<A: Allocator + Copy> Outbox<A> {
         ensures no { result ≡ false → outgoing_at self.now stream ≡ None }
     {
         is_open(&self.streams, stream)
+    }
+
+    /// Whether a StreamClose of the stream was fulfilled: its clean one, or that of its abort. No memory.
+    pub fn is_settled(&self, stream: u8) -> bool
+        ensures { result ≡ is_settled (outgoing_at self.now stream) }
+    {
+        settled(&self.streams, stream)
+    }
+
+    /// Whether the connection failed: nothing goes any more. No memory.
+    pub fn is_failed(&self) -> bool
+        ensures { result ≡ self.now.failed }
+    {
+        self.failed
+    }
+
+    /// How many bytes were accepted on all streams. No memory.
+    pub fn accepted(&self) -> u128
+        ensures { result ≡ specs.all_accepted self.now.streams }
+    {
+        all_accepted(&self.streams)
+    }
+
+    /// The amounts of the loads that were fulfilled, in all. No memory.
+    pub fn paid(&self) -> u128
+        ensures { result ≡ self.now.paid }
+    {
+        self.paid
     }
 
     /// A stream opens that is not open yet, of number 1 to 64.

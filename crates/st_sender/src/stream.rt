@@ -102,6 +102,13 @@ impl<A: Allocator + Copy> Stream<A> {
         self.abort.is_some()
     }
 
+    /// Its StreamClose was fulfilled.
+    pub fn is_settled(&self) -> bool
+        ensures { result ≡ (self.now.out.clean_settled || self.now.out.abort_settled) }
+    {
+        self.clean_settled || self.abort_settled
+    }
+
     /// So many more bytes would be too many to keep.
     pub fn is_full_with(&self, count: usize) -> bool
         ensures { result ≡ nat_lt 262144 (len self.now.out.unacked + count) }

@@ -3,7 +3,7 @@
 ghost use Rattle.std.specs.Prelude.{true, false, ◌≡◌, ◌≢◌, ℕ, ◌+◌, ◌<◌, ◌≤◌, ◌^◌, None, Some, length, nat_le, slice_set, OnOk, OnErr, IfOk};
 ghost use Rattle.st_tables.specs.Slots.{slot, with_slot, no_slots};
 ghost use Rattle.st_sender.specs.Accepting.{after_write, after_clean, after_stream_abort, after_offer};
-ghost use Rattle.st_sender.specs.Answering.{told_data, told_receive_max, acked_close};
+ghost use Rattle.st_sender.specs.Answering.{told_data, told_receive_max, acked_close, is_settled};
 ghost use Rattle.st_sender.specs.Landing.{acked_by, freed_by, acked, freed};
 ghost use Rattle.st_sender.specs.Lanes.{changed_lane, on_out, out_of, outs, new_lane};
 ghost use Rattle.st_sender.specs.Refusals.{refusal_at, is_closed, is_aborted, no_more, full, too_much, Answers, AnswersOrWants, accepted_of, offered_of};
@@ -48,6 +48,19 @@ pub fn is_open<A: Allocator + Copy>(streams: &Vec<Option<Stream<A>>, A>, stream:
     streams[stream as usize].is_some()
 }
 
+/// Whether a StreamClose of the stream was fulfilled.
+pub fn settled<A: Allocator + Copy>(streams: &Vec<Option<Stream<A>>, A>, stream: u8) -> bool
+    ensures { result ≡ is_settled (out_of (slot streams.now.items stream)) }
+{
+    if stream as usize >= streams.len() {
+        return false;
+    }
+    match &streams[stream as usize] {
+        Some(found) => found.is_settled(),
+        None => false,
+    }
+}
+
 /// One more stream.
 pub fn open<A: Allocator + Copy>(streams: &mut Vec<Option<Stream<A>>, A>, alloc: A, stream: u8)
     requires { stream < length streams.old.items }
@@ -67,7 +80,7 @@ fn accepted_in<A: Allocator + Copy>(place: &Option<Stream<A>>) -> u64
 }
 
 /// The bytes accepted on all streams.
-fn all_accepted<A: Allocator + Copy>(streams: &Vec<Option<Stream<A>>, A>) -> u128
+pub fn all_accepted<A: Allocator + Copy>(streams: &Vec<Option<Stream<A>>, A>) -> u128
     ensures { result ≡ specs.all_accepted (outs streams.now.items) }
 {
     let mut total = 0;
