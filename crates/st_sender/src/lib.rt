@@ -17,3 +17,6 @@ pub use failure::MAX_FAILURES;
 pub use load::Load;
 pub use outbox::Outbox;
 pub use stream::MAX_UNACKED;
+
+#[cfg(test)]
+mod tests;
