@@ -1,0 +1,270 @@
+-- The numbers by which a frame may go, and the limits that stand.
+use Rattle.std.proofs.Common.{◌≡◌, ◌≢◌, ℕ, zero, suc, ◌+◌, ◌/◌, ◌<◌, ◌≤◌, Bool, true, false, cond, ◌||◌, List, [], ◌∷◌, length, max, slice_get, refl, sym, ap, subst, ◌∙◌, arith, Option, None, Some, inl, inr, eqb}
+use Rattle.std.specs.Prelude.{is_some, slice_index, IsSome}
+use Rattle.std.specs.List.{list_any}
+use Rattle.std.specs.FinMap as fmap
+use Rattle.std.proofs.lemmas.Bool.{cases_lt, cases_eq}
+use Rattle.std.proofs.lemmas.Bool.Decides.{nat_tests}
+use Rattle.st_frames.specs.Frames.{Known, ConnectionClose, ConnectionNewAddress, ConnectionMaxData, ConnectionDataBlocked, StreamClose, StreamMoney, StreamMaxMoney, StreamMoneyBlocked, StreamData, StreamMaxData, StreamDataBlocked}
+use Rattle.st_tables.specs.Slots.{Slots, slot}
+use Rattle.st_sender.specs.Sending.{Outgoing, Data, Whole, Flown, Flight, Sending, outgoing_at}
+use Rattle.st_sender.specs.Flights.{any_frame, carries, due_at, sent_end, flying_end, highest_end, all_ends, flying_least}
+use Rattle.st_sender.specs.Due.{IsDueData, IsDueClose}
+use Rattle.st_sender.specs.Loads.{Fits, MoneyFits, least_of, load_with}
+use Rattle.st_sender.specs.Plain.{IsFilled, IsPlainIdle}
+use Rattle.st_oer.specs.Ratios.{Ratio, exchanged}
+use Rattle.st_frames.specs.Written.{packet_length}
+use native.Mathlib.Nat.{zero-mul, zero-div}
+use Rattle.st_sender.specs.Lanes.{Lane, due_in, out_of, outs, flying_by, flying_in, AreBooked}
+use Rattle.st_sender.specs.Allowed.{Bounds, bounds, end_in, end_at, lane_ends, IsAllowed, IsReadyAt, NoneReady, IsFinishedAt, IsNone, AreBytes}
+use Rattle.st_tables.proofs.SlotLemmas.{slot_within}
+use Rattle.st_sender.proofs.Seen.{out_slot}
+use Rattle.st_sender.proofs.Sums.{sum_over, sum_same, sum_with}
+use Rattle.st_sender.proofs.Lengths.{data_rises, data_packet, close_packet}
+
+abbrev pub data_alone : ℕ → ℕ → List ℕ → List Known
+data_alone k o xs = StreamData k o xs ∷ []
+
+abbrev pub data_flown : ℕ → ℕ → ℕ → List Flown
+data_flown k o n = Data k o n ∷ []
+
+abbrev pub close_alone : ℕ → ℕ → List Known
+close_alone k code = StreamClose k code [] ∷ []
+
+own_end : (k o n : ℕ) → max (cond (eqb k k) (o + n) 0) 0 ≡ o + n
+own_end k o n = grind (arith, nat_tests)
+
+other_end : (k m o n : ℕ) → k ≢ m → max (cond (eqb k m) (o + n) 0) 0 ≡ 0
+other_end k m o n h = grind (arith, nat_tests)
+
+other_or_own : (k m o n : ℕ) → max (cond (eqb k m) (o + n) 0) 0 ≤ o + n
+other_or_own k m o n = grind (arith, nat_tests)
+
+no_higher : (a c d : ℕ) → a ≡ d → c ≡ 0 → max a c ≡ d
+no_higher a c d e z = omega arith
+
+flown_test : (b c : Bool) (n : ℕ) (r : Option ℕ) → is_some r ≡ c → is_some (cond b (Some n) r) ≡ (b || c)
+flown_test true c n r e = refl
+flown_test false c n r e = e
+
+-- a byte is in flight where some flight carries it
+pub flown : (k : ℕ) (ps : List Flight) (o : ℕ) → is_some (flying_by k ps o) ≡ any_frame (carries k o) ps
+flown k [] o = refl
+flown k (p ∷ ps) o = flown_test (list_any (carries k o) p.frames) (any_frame (carries k o) ps) p.sequence (flying_by k ps o) (flown k ps o)
+
+-- nothing is exchanged for nothing
+pub none_exchanged : (r : Ratio) → exchanged r 0 ≡ 0
+none_exchanged r = ap (λ n. n / r.den) (zero-mul r.num) ∙ zero-div r.den
+
+pub none_least : (s : Sending) → least_of s 0 ≡ 0
+none_least s = omega (arith, none_exchanged s.config.least)
+
+free_length : (s : Sending) (n room : ℕ) (fs : List Known) → packet_length n (least_of s 0) fs ≤ room → packet_length n 0 fs ≤ room
+free_length s n room fs h = subst (λ (l : ℕ). packet_length n l fs ≤ room) (none_least s) h
+
+length_free : (s : Sending) (n room : ℕ) (fs : List Known) → packet_length n 0 fs ≤ room → packet_length n (least_of s 0) fs ≤ room
+length_free s n room fs h = subst (λ (l : ℕ). packet_length n l fs ≤ room) (sym (none_least s)) h
+
+none_more : (t : Option (ℕ × ℕ)) (flying more : ℕ) → more ≡ 0 → MoneyFits t flying more
+none_more None flying more e = tt
+none_more (Some t) flying more e = omega arith
+
+no_money : (s : Sending) (t : Option (ℕ × ℕ)) (flying : ℕ) → MoneyFits t flying (exchanged s.config.least 0)
+no_money s t flying = none_more t flying (exchanged s.config.least 0) (none_exchanged s.config.least)
+
+opened : (o : Option Lane) (x : Outgoing) → out_of o ≡ Some x → (l : Lane) × (o ≡ Some l) × (l.out ≡ x)
+opened None x e = absurd (cc)
+opened (Some l) x e = (l, refl, (let f : ◌≡◌ {A = Option Outgoing} (Some l.out) (Some x) = e in cc))
+
+first_byte : (xs : List ℕ) → 0 < length xs → (b : ℕ) × (slice_get xs 0 ≡ Some b)
+first_byte [] h = absurd (omega arith)
+first_byte (x ∷ xs) h = (x, refl)
+
+byte_at : (xs : List ℕ) (i : ℕ) → i < length xs → (b : ℕ) × (slice_get xs i ≡ Some b)
+byte_at [] i h = absurd (omega arith)
+byte_at (x ∷ xs) zero h = (x, refl)
+byte_at (x ∷ xs) (suc i) h = byte_at xs i (omega arith)
+
+index_get : (xs : List ℕ) (i b : ℕ) → slice_get xs i ≡ Some b → (i < length xs) × (slice_index xs i ≡ b)
+index_get [] i b e = absurd (cc)
+index_get (x ∷ xs) zero b e = (omega arith, cc)
+index_get (x ∷ xs) (suc i) b e = let r = index_get xs i b e in (omega (arith, r.0), r.1)
+
+same_end : (flights : List Flight) (k : ℕ) (s : Sending) (o : Option Lane) → s.flights ≡ flights → sent_end s k (out_of o) ≡ end_in flights k o
+same_end flights k s None e = refl
+same_end flights k s (Some l) e = ap (λ ps. max l.out.acked_end (flying_end k ps)) e
+
+module _ (s : Sending) (lanes : Slots Lane) (room : ℕ) (is : s.streams ≡ outs lanes) (len : length lanes ≡ 65) (booked : AreBooked lanes s.flights) where
+  abbrev b : Bounds
+  b = bounds lanes s.flights s.told (s.last + 1) room
+
+  lane_of : (k : ℕ) → outgoing_at s k ≡ out_of (slot lanes k)
+  lane_of k = ap (λ (xs : Slots Outgoing). slot xs k) is ∙ out_slot lanes k
+
+  lane_open : (k : ℕ) (x : Outgoing) → outgoing_at s k ≡ Some x → (l : Lane) × (slot lanes k ≡ Some l) × (l.out ≡ x)
+  lane_open k x e = opened (slot lanes k) x (sym (lane_of k) ∙ e)
+
+  seen_open : (k : ℕ) (l : Lane) → slot lanes k ≡ Some l → outgoing_at s k ≡ Some l.out
+  seen_open k l e = lane_of k ∙ ap out_of e
+
+  within : (k : ℕ) (l : Lane) → slot lanes k ≡ Some l → k < 65
+  within k l e = omega (arith, slot_within lanes k l e, len)
+
+  -- what is due in the model is due in the lane
+  pub due_same : (k : ℕ) (l : Lane) → slot lanes k ≡ Some l → (q : ℕ) → due_at s k l.out q ≡ due_in l q
+  due_same k l e q = ap (λ t. cond t None (fmap.get l.out.unacked q)) (sym (ap is_some (sym (ap (λ y. flying_in y q) e) ∙ booked k q) ∙ flown k s.flights q))
+
+  due_lane : (k o : ℕ) (xs : List ℕ) (d : IsDueData s k o xs) (l : Lane) → slot lanes k ≡ Some l → (i byte : ℕ) → slice_get xs i ≡ Some byte → due_in l (o + i) ≡ Some byte
+  due_lane k o xs d l e i byte g =
+      let a = d.is_open in
+      let c = seen_open k l e in
+      let same : d.stream ≡ l.out = cc in
+      sym (due_same k l e (o + i)) ∙ ap (λ (x : Outgoing). due_at s k x (o + i)) (sym same) ∙ d.bytes i byte g
+
+  sent_at : (k : ℕ) → sent_end s k (outgoing_at s k) ≡ end_at lanes s.flights k
+  sent_at k = ap (λ y. sent_end s k y) (lane_of k) ∙ same_end s.flights k s (slot lanes k) refl
+
+  pub ends_same : all_ends s [] ≡ lane_ends lanes s.flights 0 65
+  unfolding all_ends lane_ends
+  ends_same = sum_same (λ k. max (sent_end s k (outgoing_at s k)) 0) (end_at lanes s.flights) 0 65 (λ k h. omega (arith, sent_at k))
+
+  ends_with : (k o n : ℕ) → k < 65 → all_ends s (data_flown k o n) + end_at lanes s.flights k ≡ lane_ends lanes s.flights 0 65 + max (end_at lanes s.flights k) (o + n)
+  unfolding all_ends lane_ends
+  ends_with k o n h =
+      sum_with (end_at lanes s.flights) (λ j. max (sent_end s j (outgoing_at s j)) (highest_end j (data_flown k o n))) k 0 65 (omega arith) (omega arith)
+      (λ j d. no_higher _ _ _ (sent_at j) (other_end k j o n (λ e. d (sym e))))
+      ∙ ap (λ z. sum_over (end_at lanes s.flights) 0 65 + z) (ap (λ z. max z (highest_end k (data_flown k o n))) (sent_at k) ∙ ap (λ z. max (end_at lanes s.flights k) z) (own_end k o n))
+
+  pub ends_whole : (g : Known) → all_ends s (Whole g ∷ []) ≡ lane_ends lanes s.flights 0 65
+  unfolding all_ends lane_ends
+  ends_whole g = sum_same (λ j. max (sent_end s j (outgoing_at s j)) 0) (end_at lanes s.flights) 0 65 (λ j h. omega (arith, sent_at j))
+
+  end_here : (k : ℕ) (l : Lane) → slot lanes k ≡ Some l → end_at lanes s.flights k ≡ max l.out.acked_end (flying_end k s.flights)
+  end_here k l e = ap (λ y. end_in s.flights k y) e
+
+  -- what fits is allowed by the numbers, and so is a part of it
+  allowed_by : (k o : ℕ) (xs : List ℕ) (l : Lane) → slot lanes k ≡ Some l → lane_ends lanes s.flights 0 65 ≤ s.told → Fits s room (load_with s (data_alone k o xs)) → (n : ℕ) → n ≤ length xs → IsAllowed s.flights b k l o n
+  allowed_by k o xs l e under fits n short =
+      let top = fits.streams k l.out (seen_open k l e) in
+      let grown = ends_with k o (length xs) (within k l e) in
+      let size = free_length s (s.last + 1) room (data_alone k o xs) fits.room_left in
+      record {
+        stream = omega (arith, top, own_end k o (length xs), short);
+        connection = omega (arith, grown, end_here k l e, fits.connection, short, under);
+        room_left = omega (arith, size, data_packet (s.last + 1) k o xs, data_rises (s.last + 1) k o o n (length xs) (omega arith) short);
+      }
+
+  -- where no byte is ready by the numbers, no due data fits
+  pub no_data : lane_ends lanes s.flights 0 65 ≤ s.told → NoneReady lanes s.flights b 65 → (k o : ℕ) (xs : List ℕ) → IsDueData s k o xs → Fits s room (load_with s (data_alone k o xs)) → ⊥
+  no_data under none k o xs due fits =
+      let found = lane_open k due.stream due.is_open in
+      let l = found.0 in
+      let first = first_byte xs due.some in
+      let at : o + 0 ≡ o = omega arith in
+      none k l (within k l found.1) found.1 o first.0 (rw at at (due_lane k o xs due l found.1 0 first.0 first.1)) (allowed_by k o xs l found.1 under fits 1 (omega (arith, due.some)))
+
+  pub over_limit : (limits : List Known) → s.told < lane_ends lanes s.flights 0 65 → IsPlainIdle s limits room
+  over_limit limits h (StreamData k o xs) p due fits =
+      let found = lane_open k due.stream due.is_open in
+      let grown = ends_with k o (length xs) (within k found.0 found.1) in
+      omega (arith, grown, fits.connection)
+  over_limit limits h (StreamClose k code message) p due fits =
+      omega (arith, ends_whole (StreamClose k code message), fits.connection)
+  over_limit limits h (StreamMoney k n) p due fits = absurd (cc)
+  over_limit limits h (StreamDataBlocked k n) p due fits = absurd (cc)
+  over_limit limits h (ConnectionDataBlocked n) p due fits = absurd (cc)
+  over_limit limits h (StreamMoneyBlocked k n t) p due fits = absurd (cc)
+  over_limit limits h (ConnectionMaxData n) p due fits = absurd (cc)
+  over_limit limits h (StreamMaxData k n) p due fits = absurd (cc)
+  over_limit limits h (StreamMaxMoney k n t) p due fits = absurd (cc)
+  over_limit limits h (ConnectionClose code message) p due fits = absurd (cc)
+  over_limit limits h (ConnectionNewAddress address) p due fits = absurd (cc)
+
+  -- neither bytes nor a close may go
+  pub idle : (limits : List Known) → lane_ends lanes s.flights 0 65 ≤ s.told → IsNone lanes s.flights b → IsPlainIdle s limits room
+  idle limits under none (StreamData k o xs) p due fits = no_data under none.0 k o xs due fits
+  idle limits under none (StreamClose k code message) p due fits =
+      let d : IsDueClose s k code = due.0 in
+      let found = lane_open k d.stream d.is_open in
+      let empty : message ≡ [] = due.1 in
+      let f : Fits s room (load_with s (close_alone k code)) = subst (λ m. Fits s room (load_with s (StreamClose k code m ∷ []))) empty fits in
+      let size = free_length s (s.last + 1) room (close_alone k code) f.room_left in
+      none.1 k found.0 (within k found.0 found.1) found.1 code (record { idle = d.idle; asked = rw found.2 d.asked; room_left = omega (arith, size, close_packet (s.last + 1) k code) })
+  idle limits under none (StreamMoney k n) p due fits = absurd (cc)
+  idle limits under none (StreamDataBlocked k n) p due fits = absurd (cc)
+  idle limits under none (ConnectionDataBlocked n) p due fits = absurd (cc)
+  idle limits under none (StreamMoneyBlocked k n t) p due fits = absurd (cc)
+  idle limits under none (ConnectionMaxData n) p due fits = absurd (cc)
+  idle limits under none (StreamMaxData k n) p due fits = absurd (cc)
+  idle limits under none (StreamMaxMoney k n t) p due fits = absurd (cc)
+  idle limits under none (ConnectionClose code message) p due fits = absurd (cc)
+  idle limits under none (ConnectionNewAddress address) p due fits = absurd (cc)
+
+  -- a frame that is ready by the numbers is due, fits, and is filled
+  pub data_due : (k o n : ℕ) (r : IsReadyAt lanes s.flights b k o n) (xs : List ℕ) → AreBytes r.lane o n xs → IsDueData s k o xs
+  data_due k o n r xs bytes = record {
+    stream = r.lane.out;
+    is_open = seen_open k r.lane r.is_open;
+    some = omega (arith, bytes.long, r.ready.some);
+    short = omega (arith, bytes.long, r.ready.short);
+    bytes = λ i byte g.
+        let at = index_get xs i byte g in
+        due_same k r.lane r.is_open (o + i)
+        ∙ due_held (is_some (fmap.get r.lane.flying (o + i))) (fmap.get r.lane.out.unacked (o + i)) byte (r.ready.due (o + i) (omega arith) (omega (arith, at.0, bytes.long)))
+        (bytes.bytes i (omega (arith, at.0, bytes.long)) ∙ ap (λ z. Some z) at.1);
+  }
+    where
+      due_held : (t : Bool) (g : Option ℕ) (x : ℕ) → IsSome (cond t None g) → g ≡ Some x → cond t None g ≡ Some x
+      due_held true g x h e = absurd (cc)
+      due_held false g x h e = e
+
+  pub data_fits : s.failed ≡ false → length s.flights < s.config.in_flight → s.last < s.config.packets → lane_ends lanes s.flights 0 65 ≤ s.told
+      → (k o n : ℕ) (r : IsReadyAt lanes s.flights b k o n) (xs : List ℕ) → length xs ≡ n → Fits s room (load_with s (data_alone k o xs))
+  data_fits alive flights packets under k o n r xs long =
+      let a = r.ready.allowed in
+      let grown = ends_with k o (length xs) (within k r.lane r.is_open) in
+      record {
+        alive = alive;
+        flights = flights;
+        packets = packets;
+        amount = omega arith;
+        streams = λ m y at. elim (cases_eq k m) [
+          | inl q ↦ (let c = seen_open k r.lane r.is_open in let d : outgoing_at s k ≡ Some y = rw q at in let t : r.lane.out ≡ y = cc in omega (arith, other_or_own k m o (length xs), a.stream, long, ap (λ (z : Outgoing). z.told) t))
+          | inr q ↦ omega (arith, other_end k m o (length xs) q)
+        ];
+        connection = omega (arith, grown, end_here k r.lane r.is_open, a.connection, long, under);
+        money = λ m y at. no_money s y.told_money (flying_least s m);
+        room_left = (let size = rw (sym long) at a.room_left in length_free s (s.last + 1) room (data_alone k o xs) (omega (arith, size, data_packet (s.last + 1) k o xs)));
+      }
+
+  pub data_filled : lane_ends lanes s.flights 0 65 ≤ s.told → (k o n : ℕ) (r : IsReadyAt lanes s.flights b k o n) (xs : List ℕ) → length xs ≡ n → IsFilled s room (StreamData k o xs)
+  data_filled under k o n r xs long = (
+    λ p byte h due.
+        let at : p + 0 ≡ p = omega arith in
+        let d : due_in r.lane p ≡ Some byte = rw at at (due_lane k p (byte ∷ []) due r.lane r.is_open 0 byte refl) in
+        let z = r.ready.none_below p h in
+        cc,
+    λ ys due fits. elim (cases_lt n (length ys)) [
+      | inl h ↦ (let next = byte_at ys n h in
+          let d = due_lane k o ys due r.lane r.is_open n next.0 next.1 in
+          let z = r.ready.full (omega (arith, due.short)) (allowed_by k o ys r.lane r.is_open under fits (n + 1) (omega arith)) in
+          absurd (cc))
+      | inr h ↦ omega (arith, long)
+    ],
+  )
+
+  pub close_due : (k code : ℕ) → IsFinishedAt lanes s.flights b k code → IsDueClose s k code
+  close_due k code r = record { stream = r.lane.out; is_open = seen_open k r.lane r.is_open; idle = r.finished.idle; asked = r.finished.asked }
+
+  pub close_fits : s.failed ≡ false → length s.flights < s.config.in_flight → s.last < s.config.packets → lane_ends lanes s.flights 0 65 ≤ s.told
+      → (k code : ℕ) → IsFinishedAt lanes s.flights b k code → Fits s room (load_with s (close_alone k code))
+  close_fits alive flights packets under k code r = record {
+    alive = alive;
+    flights = flights;
+    packets = packets;
+    amount = omega arith;
+    streams = λ m y at. omega arith;
+    connection = omega (arith, ends_whole (StreamClose k code []));
+    money = λ m y at. no_money s y.told_money (flying_least s m);
+    room_left = (let size = r.finished.room_left in length_free s (s.last + 1) room (close_alone k code) (omega (arith, size, close_packet (s.last + 1) k code)));
+  }

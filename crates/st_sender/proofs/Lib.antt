@@ -1,0 +1,12 @@
+pub mod Seen
+pub mod Totals
+pub mod Sums
+pub mod Lengths
+pub mod Readiness
+pub mod Idle
+pub mod Going
+pub mod Landing
+pub mod Landed
+pub mod Products
+pub mod Places
+pub mod Taken

@@ -1,0 +1,15 @@
+pub mod Sending
+pub mod Configs
+pub mod Accepting
+pub mod Refusals
+pub mod Errors
+pub mod Flights
+pub mod Due
+pub mod Loads
+pub mod Filling
+pub mod Plain
+pub mod Answering
+pub mod Lanes
+pub mod Shown
+pub mod Allowed
+pub mod Landing

@@ -1,0 +1,24 @@
+-- Data and closes: that none may go, and how much a load of them holds.
+use Rattle.std.specs.Prelude.{◌≡◌, ℕ, ◌<◌, ◌≤◌, Bool, true, false, List, [], ◌∷◌, length}
+use Rattle.st_frames.specs.Frames.{Known, StreamClose, StreamData}
+use Rattle.st_sender.specs.Sending.{Sending}
+use Rattle.st_sender.specs.Due.{IsDue, IsDueData}
+use Rattle.st_sender.specs.Loads.{Fits, load_with}
+
+-- data or a close
+abbrev pub is_plain : Known → Bool
+is_plain (StreamData k offset xs) = true
+is_plain (StreamClose k code message) = true
+is_plain f = false
+
+-- each due data frame and close is stopped by a limit that stands
+abbrev pub IsPlainIdle : Sending → (limits : List Known) → (room : ℕ) → Type 0
+IsPlainIdle s limits room = (f : Known) → is_plain f ≡ true → IsDue s limits f → ¬ Fits s room (load_with s (f ∷ []))
+
+-- how much a load holds in one frame: a data frame has its stream's lowest due byte and all that may follow it, and a
+-- close goes where no data may
+abbrev pub IsFilled : Sending → (room : ℕ) → Known → Type 0
+IsFilled s room (StreamData k o xs) =
+    ((p byte : ℕ) → p < o → ¬ IsDueData s k p (byte ∷ [])) × ((ys : List ℕ) → IsDueData s k o ys → Fits s room (load_with s (StreamData k o ys ∷ [])) → length ys ≤ length xs)
+IsFilled s room (StreamClose k code message) = (m o : ℕ) (xs : List ℕ) → IsDueData s m o xs → ¬ Fits s room (load_with s (StreamData m o xs ∷ []))
+IsFilled s room f = Unit {0}

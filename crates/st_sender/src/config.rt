@@ -1,0 +1,105 @@
+//! What is set for a connection.
+
+ghost use Rattle.std.specs.Prelude.{◌≡◌, ◌<◌, ◌≤◌, MatchOption};
+ghost use Rattle.st_oer.specs.Ratios.{ratio};
+ghost use Rattle.st_sender.specs.Configs.{IsConfig, config, with_least};
+
+use st_oer::Rate;
+use std::marker::Model;
+
+/// The most Prepares in flight at once.
+pub const MAX_IN_FLIGHT: usize = 64;
+/// The most Prepares of a connection: 2^31 - 1, less than RFC 0029 (section 5.1) lets one key seal.
+pub const MAX_PACKETS: u64 = (1 << 31) - 1;
+/// The greatest packet limit: 2^63 - 1.
+pub const MAX_PACKET_LIMIT: u64 = (1 << 63) - 1;
+
+/// How many Prepares a connection sends, and of what amounts.
+#[derive(Clone, Copy)]
+pub struct EndConfig {
+    in_flight: usize,
+    packets: u64,
+    packet_limit: u64,
+    least: Rate,
+}
+
+impl Model for EndConfig {
+    ghost use Rattle.st_sender.specs.Sending.{Config};
+    ghost use Rattle.st_sender.specs.Configs.{IsConfig};
+
+    ghost Value = { Config };
+
+    ghost view = { λ c. record { in_flight = c.in_flight; packets = c.packets; packet_limit = c.packet_limit; least = c.least } };
+
+    ghost inverse = { λ c. record { in_flight = c.in_flight; packets = c.packets; packet_limit = c.packet_limit; least = c.least } };
+
+    ghost invariant = { λ c. IsConfig (record { in_flight = c.in_flight; packets = c.packets; packet_limit = c.packet_limit; least = c.least }) };
+}
+
+impl EndConfig {
+    /// At most so many Prepares in flight at once, 1 to `MAX_IN_FLIGHT`, and so many in all, 1 to `MAX_PACKETS`, each of
+    /// at most so many units at first, 1 to `MAX_PACKET_LIMIT`. `None` exactly where one of these is another number. All
+    /// that is sent should arrive, unless `with_least` says less.
+    pub fn new(in_flight: usize, packets: u64, packet_limit: u64) -> Option<EndConfig>
+        ensures { MatchOption result (¬ IsConfig (config in_flight packets packet_limit)) (λ c. (c ≡ config in_flight packets packet_limit) × IsConfig c) }
+    {
+        let least = Rate::new(1, 1)?;
+        if in_flight == 0 || in_flight > MAX_IN_FLIGHT {
+            return None;
+        }
+        if packets == 0 || packets > MAX_PACKETS {
+            return None;
+        }
+        if packet_limit == 0 || packet_limit > MAX_PACKET_LIMIT {
+            return None;
+        }
+        Some(EndConfig {
+            in_flight,
+            packets,
+            packet_limit,
+            least,
+        })
+    }
+
+    /// Of an amount that is sent, so much should arrive, rounded down: the prepare amount of each packet (RFC 0029,
+    /// section 5.2), at most 2^64 - 1.
+    pub fn with_least(self, least: Rate) -> EndConfig
+        ensures { result ≡ with_least least self }
+    {
+        EndConfig {
+            in_flight: self.in_flight,
+            packets: self.packets,
+            packet_limit: self.packet_limit,
+            least,
+        }
+    }
+
+    /// At most so many Prepares are in flight at once.
+    pub fn in_flight(&self) -> usize
+        ensures { result ≡ self.now.in_flight }
+    {
+        self.in_flight
+    }
+
+    /// At most so many Prepares go in all.
+    pub fn packets(&self) -> u64
+        ensures value { result ≡ self.now.packets }
+        ensures few { result < 2147483648 }
+    {
+        self.packets
+    }
+
+    /// The packet limit at first.
+    pub fn packet_limit(&self) -> u64
+        ensures { result ≡ self.now.packet_limit }
+    {
+        self.packet_limit
+    }
+
+    /// How much of an amount should arrive.
+    pub fn least(&self) -> Rate
+        ensures { result ≡ self.now.least }
+    {
+        self.least
+    }
+}

@@ -1,0 +1,66 @@
+//! Why an outbox refuses a call.
+
+ghost use Rattle.std.specs.Prelude.{◌≡◌};
+ghost use Rattle.st_sender.specs.Errors as errors;
+ghost use Rattle.st_sender.specs.declared.error.OutboxError.TheVariants.{NoMemory};
+
+use std::alloc::{AllocError, AllocFailed};
+use thiserror::Error;
+
+/// Why a call was refused.
+#[derive(Clone, Copy, Debug, PartialEq, Eq, Error)]
+pub enum OutboxError {
+    /// The stream is not open.
+    #[error("the stream is not open")]
+    NoStream,
+    /// The stream was closed.
+    #[error("the stream was closed")]
+    Closed,
+    /// More than `MAX_UNACKED` bytes of the stream would be kept, or 2^63 bytes be accepted in all.
+    #[error("too many bytes are not acknowledged")]
+    Full,
+    /// All offers would come to 2^63 or more.
+    #[error("the offers come to too much")]
+    AmountTooLarge,
+    /// Memory that the call asked for was refused.
+    #[error("out of memory")]
+    NoMemory,
+}
+
+impl OutboxError {
+    /// The number by which the refusal is known: 50 to 54.
+    pub fn number(&self) -> u8
+        ensures { result ≡ errors.number self.now }
+    {
+        match self {
+            OutboxError::NoStream => 50,
+            OutboxError::Closed => 51,
+            OutboxError::Full => 52,
+            OutboxError::AmountTooLarge => 53,
+            OutboxError::NoMemory => 54,
+        }
+    }
+
+    /// The number that the refusal wraps: none does.
+    pub fn inner(&self) -> Option<u64>
+        ensures { result ≡ errors.inner self.now }
+    {
+        None
+    }
+}
+
+impl From<AllocError> for OutboxError {
+    ghost from_gives = { λ _ e. e ≡ NoMemory };
+
+    fn from(_error: AllocError) -> OutboxError {
+        OutboxError::NoMemory
+    }
+}
+
+impl<T: Drop> From<AllocFailed<T>> for OutboxError {
+    ghost from_gives = { λ _ e. e ≡ NoMemory };
+
+    fn from(_error: AllocFailed<T>) -> OutboxError {
+        OutboxError::NoMemory
+    }
+}

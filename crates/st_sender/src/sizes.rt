@@ -1,0 +1,72 @@
+//! How long a packet is that has one frame.
+
+ghost use Rattle.std.specs.Prelude.{◌≡◌, ◌<◌, ◌≤◌, ◌+◌, ◌^◌, ◌⊎◌};
+ghost use Rattle.st_sender.specs.Allowed.{packet_size, data_contents, close_contents, data_size, close_size};
+
+use st_oer::{length_size, var_uint_size};
+
+#[tactic(auto, unfolding(crate::specs::Allowed::packet_size))]
+fn packet_size(sequence: u64, contents: usize) -> usize
+    requires { contents < 2 ^ 62 }
+    ensures { result ≡ packet_size sequence contents }
+{
+    2 + var_uint_size(sequence)
+        + var_uint_size(0)
+        + var_uint_size(1)
+        + 1
+        + length_size(contents as u64)
+        + contents
+}
+
+#[tactic(auto, unfolding(crate::specs::Allowed::data_contents))]
+fn data_contents(stream: u8, offset: u64, count: u64) -> usize
+    requires { count < 2 ^ 32 }
+    ensures value { result ≡ data_contents stream offset count }
+    ensures small { result < 2 ^ 62 }
+{
+    var_uint_size(u64::from(stream)) + var_uint_size(offset) + length_size(count) + count as usize
+}
+
+#[tactic(auto, unfolding(crate::specs::Allowed::close_contents))]
+fn close_contents(stream: u8) -> usize
+    ensures value { result ≡ close_contents stream }
+    ensures small { result < 2 ^ 62 }
+{
+    var_uint_size(u64::from(stream)) + 1 + length_size(0)
+}
+
+fn data_size(sequence: u64, stream: u8, offset: u64, count: u64) -> usize
+    requires { count < 2 ^ 32 }
+    ensures { result ≡ data_size sequence stream offset count }
+{
+    packet_size(sequence, data_contents(stream, offset, count))
+}
+
+/// The length of a packet that closes a stream.
+pub fn close_size(sequence: u64, stream: u8) -> usize
+    ensures { result ≡ close_size sequence stream }
+{
+    packet_size(sequence, close_contents(stream))
+}
+
+/// How many bytes of a stream go into a packet, at most so many.
+pub fn longest(sequence: u64, stream: u8, offset: u64, most: u64, room: usize) -> u64
+    requires { most ≤ 16000 }
+    ensures most { result ≤ most }
+    ensures fits { (result ≡ 0) ⊎ (data_size sequence stream offset result ≤ room) }
+    ensures longest { result < most → room < data_size sequence stream offset (result + 1) }
+{
+    let all = data_size(sequence, stream, offset, most);
+    let guess = most.saturating_sub(all.saturating_sub(room) as u64);
+    let start = if data_size(sequence, stream, offset, guess) <= room {
+        guess
+    } else {
+        0
+    };
+    for count in start..most {
+        if data_size(sequence, stream, offset, count + 1) > room {
+            return count;
+        }
+    }
+    most
+}

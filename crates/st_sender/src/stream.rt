@@ -1,0 +1,301 @@
+//! One outgoing stream.
+
+ghost use Rattle.std.specs.Prelude.{◌≡◌, ◌≢◌, ℕ, ◌+◌, ◌-◌, ◌<◌, ◌≤◌, ◌^◌, length, max, is_some, nat_lt, ◌||◌, IsSome, OnOk, OnErr, IfOk, MatchOption};
+ghost use Rattle.std.specs.declared.option.Option.TheVariants.{Some, None};
+ghost use Rattle.std.specs.FinMap.{len};
+ghost use Rattle.st_sender.specs.Accepting.{after_write, after_clean, after_stream_abort, after_offer};
+ghost use Rattle.st_sender.specs.Answering.{told_data, told_receive_max, acked_close};
+ghost use Rattle.st_sender.specs.Landing.{acked_by, freed_by};
+ghost use Rattle.st_sender.specs.Flights.{flying_end};
+ghost use Rattle.st_sender.specs.Refusals.{is_closed};
+ghost use Rattle.st_sender.specs.Lanes.{Lane, new_lane, due_in, on_out, claimed_by};
+ghost use Rattle.st_sender.specs.Allowed.{Bounds, IsStopped, IsReady, IsFinished, AreBytes};
+
+use crate::load::{Flight, closing, flights_end};
+use crate::sizes::{close_size, longest};
+use st_unacked::Unacked;
+use std::alloc::{AllocError, Allocator};
+use std::marker::Model;
+
+/// The most bytes of a stream that are kept until they are acknowledged.
+pub const MAX_UNACKED: u64 = 262_144;
+
+/// What a stream has sent and has still to send.
+#[derive(Drop)]
+pub struct Stream<A: Allocator + Copy> {
+    /// What was accepted and is not acknowledged.
+    bytes: Unacked<A>,
+    /// The highest end of acknowledged data.
+    acked_end: u128,
+    /// All money ever offered.
+    offered: u64,
+    /// What of it was fulfilled.
+    fulfilled: u64,
+    /// A clean close was accepted, and no abort.
+    clean: bool,
+    /// The code of an accepted abort.
+    abort: Option<u8>,
+    /// A clean close was fulfilled.
+    clean_settled: bool,
+    /// An abort was fulfilled.
+    abort_settled: bool,
+    /// The peer's limit on offsets.
+    told: u64,
+    /// The peer's receive max, and what it received.
+    told_money: Option<(u64, u64)>,
+    /// The highest limit on offsets for which a Blocked was fulfilled.
+    blocked: Option<u64>,
+    /// The highest receive max for which a Blocked was fulfilled.
+    blocked_money: Option<u64>,
+}
+
+impl<A: Allocator + Copy> Model for Stream<A> {
+    ghost use Rattle.std.specs.Prelude.{◌<◌, ◌^◌};
+    ghost use Rattle.std.specs.FinMap as map;
+    ghost use Rattle.std.specs.Coded.{codes};
+    ghost use Rattle.st_sender.specs.Lanes.{Lane};
+
+    ghost Value = { Lane };
+
+    ghost coded = { Prim.hlevel (codes, map.code) };
+
+    ghost view = { λ a. record {
+      out = record { accepted = a.bytes.accepted; unacked = a.bytes.unacked; acked_end = a.acked_end; offered = a.offered; fulfilled = a.fulfilled; clean = a.clean; abort = a.abort; clean_settled = a.clean_settled; abort_settled = a.abort_settled; told = a.told; told_money = a.told_money; blocked = a.blocked; blocked_money = a.blocked_money };
+      flying = a.bytes.flying;
+    } };
+
+    ghost invariant = { λ a. a.acked_end < 2 ^ 65 };
+}
+
+impl<A: Allocator + Copy> Stream<A> {
+    /// A stream on which nothing was accepted. It takes no memory yet.
+    pub fn new(alloc: A) -> Stream<A>
+        ensures { result ≡ new_lane }
+    {
+        Stream {
+            bytes: Unacked::new(alloc),
+            acked_end: 0,
+            offered: 0,
+            fulfilled: 0,
+            clean: false,
+            abort: None,
+            clean_settled: false,
+            abort_settled: false,
+            told: 16_384,
+            told_money: None,
+            blocked: None,
+            blocked_money: None,
+        }
+    }
+
+    /// A clean close or an abort was accepted.
+    pub fn is_closed(&self) -> bool
+        ensures { result ≡ is_closed self.now.out }
+    {
+        self.abort.is_some() || self.clean
+    }
+
+    /// An abort was accepted.
+    pub fn is_aborted(&self) -> bool
+        ensures { result ≡ is_some self.now.out.abort }
+    {
+        self.abort.is_some()
+    }
+
+    /// Its StreamClose was fulfilled.
+    pub fn is_settled(&self) -> bool
+        ensures { result ≡ (self.now.out.clean_settled || self.now.out.abort_settled) }
+    {
+        self.clean_settled || self.abort_settled
+    }
+
+    /// So many more bytes would be too many to keep.
+    pub fn is_full_with(&self, count: usize) -> bool
+        ensures { result ≡ nat_lt 262144 (len self.now.out.unacked + count) }
+    {
+        u128::from(self.bytes.count()) + count as u128 > u128::from(MAX_UNACKED)
+    }
+
+    /// How many bytes were accepted.
+    pub fn accepted(&self) -> u64
+        ensures { result ≡ self.now.out.accepted }
+    {
+        self.bytes.accepted()
+    }
+
+    /// All money ever offered.
+    pub fn offered(&self) -> u64
+        ensures { result ≡ self.now.out.offered }
+    {
+        self.offered
+    }
+
+    /// Takes in bytes: all of them, or none.
+    pub fn accept(&mut self, bytes: &[u8]) -> Result<(), AllocError>
+        requires { self.old.out.accepted + length bytes.now < 2 ^ 64 }
+        ensures accepts { OnOk result (self.new ≡ on_out (after_write bytes.now) self.old) }
+        ensures unchanged { OnErr result (self.new ≡ self.old) }
+    {
+        self.bytes.accept(bytes)
+    }
+
+    /// A clean close.
+    pub fn close(&mut self)
+        ensures { self.new ≡ on_out after_clean self.old }
+    {
+        self.clean = true;
+    }
+
+    /// An abort drops what is not acknowledged.
+    pub fn abort(&mut self, code: u8)
+        ensures { self.new ≡ on_out (after_stream_abort code) self.old }
+    {
+        self.abort = Some(code);
+        self.clean = false;
+        self.bytes.drop_bytes();
+    }
+
+    /// More money.
+    pub fn offer(&mut self, amount: u64)
+        requires { self.old.out.offered + amount < 2 ^ 64 }
+        ensures { self.new ≡ on_out (after_offer amount) self.old }
+    {
+        self.offered += amount;
+    }
+
+    /// The peer's limit on offsets.
+    pub fn raise(&mut self, max_offset: u64)
+        ensures { self.new ≡ on_out (told_data max_offset) self.old }
+    {
+        self.told = self.told.max(max_offset);
+    }
+
+    /// The peer's receive max, and what it received.
+    pub fn raise_money(&mut self, receive_max: u64, total: u64)
+        ensures { self.new ≡ on_out (told_receive_max receive_max total) self.old }
+    {
+        self.told_money = match self.told_money {
+            None => Some((receive_max, total)),
+            Some((old, received)) => Some((old.max(receive_max), received.max(total))),
+        };
+    }
+
+    /// Where its data in flight or acknowledged end.
+    pub fn sent_end(&self, flights: &[Flight], number: u8) -> u128
+        ensures end { result ≡ max self.now.out.acked_end (flying_end number flights.now) }
+        ensures small { result < 2 ^ 65 }
+    {
+        self.acked_end.max(flights_end(flights, number))
+    }
+
+    /// The lowest due bytes, as many as may go: where they begin, and how many.
+    pub fn ready(
+        &self,
+        flights: &[Flight],
+        number: u8,
+        spare: u128,
+        sequence: u64,
+        room: usize,
+    ) -> Option<(u64, u64)>
+        requires { spare < 2 ^ 64 }
+        ensures { MatchOption result (IsStopped flights.now (record { spare = spare; sequence = sequence; room = room }) number self.now) (λ r. IsReady flights.now (record { spare = spare; sequence = sequence; room = room }) number self.now r.0 r.1) }
+    {
+        let Some((from, end)) = self.bytes.lowest_due() else {
+            return None;
+        };
+        let allowed = u128::from(self.told).min(self.sent_end(flights, number) + spare);
+        if allowed <= u128::from(from) {
+            return None;
+        }
+        let most = (allowed - u128::from(from))
+            .min(u128::from(end - from))
+            .min(16_000) as u64;
+        let count = longest(sequence, number, from, most, room);
+        if count == 0 {
+            return None;
+        }
+        Some((from, count))
+    }
+
+    /// The code of a close that is due.
+    pub fn finished(
+        &self,
+        flights: &[Flight],
+        number: u8,
+        spare: u128,
+        sequence: u64,
+        room: usize,
+    ) -> Option<u8>
+        ensures { MatchOption result ((code : ℕ) → ¬ IsFinished flights.now (record { spare = spare; sequence = sequence; room = room }) number self.now code) (λ code. IsFinished flights.now (record { spare = spare; sequence = sequence; room = room }) number self.now code) }
+    {
+        if close_size(sequence, number) > room {
+            return None;
+        }
+        match self.abort {
+            Some(code) => {
+                if self.abort_settled {
+                    return None;
+                }
+                if closing(flights, number, code) {
+                    return None;
+                }
+                Some(code)
+            }
+            None => {
+                if !self.clean || self.clean_settled || self.offered != self.fulfilled {
+                    return None;
+                }
+                if closing(flights, number, 1) {
+                    return None;
+                }
+                if self.bytes.is_done() { Some(1) } else { None }
+            }
+        }
+    }
+
+    /// A copy of its due bytes from an offset on, which are in flight from now on.
+    pub fn take(
+        &mut self,
+        alloc: A,
+        sequence: u64,
+        offset: u64,
+        count: u64,
+    ) -> Result<Vec<u8, A>, AllocError>
+        requires some { 0 < count }
+        requires fits { offset + count < 2 ^ 64 }
+        requires due { (q : ℕ) → offset ≤ q → q < offset + count → IsSome (due_in self.old q) }
+        ensures bytes { IfOk result (λ v. AreBytes self.old offset count v.items) }
+        ensures books { OnOk result (self.new ≡ claimed_by sequence offset count self.old) }
+        ensures unchanged { OnErr result (self.new ≡ self.old) }
+    {
+        let bytes = Vec::from_slice(alloc, self.bytes.piece(offset, offset + count))?;
+        self.bytes.claim(sequence, offset, offset + count)?;
+        Ok(bytes)
+    }
+
+    /// A frame of its data was fulfilled.
+    pub fn acknowledged(&mut self, sequence: u64, offset: u64, count: u64)
+        ensures { self.new ≡ acked_by sequence offset count self.old }
+    {
+        let _end = self.bytes.acknowledged(sequence);
+        self.acked_end = self.acked_end.max(u128::from(offset) + u128::from(count));
+    }
+
+    /// What a sequence carried failed.
+    pub fn failed(&mut self, sequence: u64)
+        ensures { self.new ≡ freed_by sequence self.old }
+    {
+        self.bytes.failed(sequence);
+    }
+
+    /// Its StreamClose of this code was fulfilled.
+    pub fn settle(&mut self, code: u8)
+        ensures { self.new ≡ on_out (acked_close code) self.old }
+    {
+        if code == 1 {
+            self.clean_settled = true;
+        } else {
+            self.abort_settled = true;
+        }
+    }
+}

@@ -1,0 +1,369 @@
+//! The streams by their numbers, 0 to 64, of which 0 stays free.
+
+ghost use Rattle.std.specs.Prelude.{true, false, ◌≡◌, ◌≢◌, ℕ, ◌+◌, ◌<◌, ◌≤◌, ◌^◌, None, Some, length, nat_le, slice_set, OnOk, OnErr, IfOk};
+ghost use Rattle.st_tables.specs.Slots.{slot, with_slot, no_slots};
+ghost use Rattle.st_sender.specs.Accepting.{after_write, after_clean, after_stream_abort, after_offer};
+ghost use Rattle.st_sender.specs.Answering.{told_data, told_receive_max, acked_close, is_settled};
+ghost use Rattle.st_sender.specs.Landing.{acked_by, freed_by, acked, freed};
+ghost use Rattle.st_sender.specs.Lanes.{changed_lane, on_out, out_of, outs, new_lane};
+ghost use Rattle.st_sender.specs.Refusals.{refusal_at, is_closed, is_aborted, no_more, full, too_much, Answers, AnswersOrWants, accepted_of, offered_of};
+ghost use Rattle.st_sender.specs.Allowed.{IsTakeable, AreItsBytes, booked};
+ghost use Rattle.st_sender.specs.Refusals as specs;
+
+use crate::error::OutboxError;
+use crate::load::Flown;
+use crate::stream::Stream;
+use std::alloc::{AllocError, Allocator};
+
+/// No stream.
+pub fn no_streams<A: Allocator + Copy>(alloc: A) -> Result<Vec<Option<Stream<A>>, A>, AllocError>
+    ensures { IfOk result (λ v. v.items ≡ no_slots) }
+{
+    let mut slots = Vec::new(alloc);
+    for _number in 0..65_u8 {
+        slots.push(None)?;
+    }
+    Ok(slots)
+}
+
+/// No mark.
+pub fn no_marks<A: Allocator + Copy>(alloc: A) -> Result<Vec<Option<u64>, A>, AllocError>
+    ensures { IfOk result (λ v. v.items ≡ no_slots) }
+{
+    let mut slots = Vec::new(alloc);
+    for _number in 0..65_u8 {
+        slots.push(None)?;
+    }
+    Ok(slots)
+}
+
+/// Whether a stream is open.
+pub fn is_open<A: Allocator + Copy>(streams: &Vec<Option<Stream<A>>, A>, stream: u8) -> bool
+    ensures yes { result ≡ true → slot streams.now.items stream ≢ None }
+    ensures no { result ≡ false → slot streams.now.items stream ≡ None }
+{
+    if stream as usize >= streams.len() {
+        return false;
+    }
+    streams[stream as usize].is_some()
+}
+
+/// Whether a StreamClose of the stream was fulfilled.
+pub fn settled<A: Allocator + Copy>(streams: &Vec<Option<Stream<A>>, A>, stream: u8) -> bool
+    ensures { result ≡ is_settled (out_of (slot streams.now.items stream)) }
+{
+    if stream as usize >= streams.len() {
+        return false;
+    }
+    match &streams[stream as usize] {
+        Some(found) => found.is_settled(),
+        None => false,
+    }
+}
+
+/// One more stream.
+pub fn open<A: Allocator + Copy>(streams: &mut Vec<Option<Stream<A>>, A>, alloc: A, stream: u8)
+    requires { stream < length streams.old.items }
+    ensures { streams.new.items ≡ with_slot streams.old.items stream new_lane }
+{
+    streams[stream as usize] = Some(Stream::new(alloc));
+}
+
+/// The bytes accepted on a stream.
+fn accepted_in<A: Allocator + Copy>(place: &Option<Stream<A>>) -> u64
+    ensures { result ≡ accepted_of (out_of place.now) }
+{
+    match place {
+        Some(stream) => stream.accepted(),
+        None => 0,
+    }
+}
+
+/// The bytes accepted on all streams.
+pub fn all_accepted<A: Allocator + Copy>(streams: &Vec<Option<Stream<A>>, A>) -> u128
+    ensures { result ≡ specs.all_accepted (outs streams.now.items) }
+{
+    let mut total = 0;
+    for place in streams {
+        total += u128::from(accepted_in(place));
+    }
+    total
+}
+
+/// The money offered on a stream.
+fn offered_in<A: Allocator + Copy>(place: &Option<Stream<A>>) -> u64
+    ensures { result ≡ offered_of (out_of place.now) }
+{
+    match place {
+        Some(stream) => stream.offered(),
+        None => 0,
+    }
+}
+
+/// The money offered on all streams.
+fn all_offered<A: Allocator + Copy>(streams: &Vec<Option<Stream<A>>, A>) -> u128
+    ensures { result ≡ specs.all_offered (outs streams.now.items) }
+{
+    let mut total = 0;
+    for place in streams {
+        total += u128::from(offered_in(place));
+    }
+    total
+}
+
+/// So much more would come to 2^63 or more.
+fn is_too_much(all: u128, more: u64) -> bool
+    ensures { result ≡ nat_le (2 ^ 63) (all + more) }
+{
+    all.saturating_add(u128::from(more)) >= 1 << 63
+}
+
+/// A write on a stream.
+pub fn accept<A: Allocator + Copy>(
+    streams: &mut Vec<Option<Stream<A>>, A>,
+    stream: u8,
+    bytes: &[u8],
+) -> Result<(), OutboxError>
+    ensures accepts { OnOk result (streams.new.items ≡ changed_lane streams.old.items stream (on_out (after_write bytes.now))) }
+    ensures unchanged { OnErr result (streams.new.items ≡ streams.old.items) }
+    ensures refuses { AnswersOrWants (refusal_at (out_of (slot streams.old.items stream)) is_closed (full (specs.all_accepted (outs streams.old.items)) (length bytes.now))) result }
+{
+    if stream as usize >= streams.len() {
+        return Err(OutboxError::NoStream);
+    }
+    let all = all_accepted(streams);
+    match &mut streams[stream as usize] {
+        None => Err(OutboxError::NoStream),
+        Some(found) => {
+            if found.is_closed() {
+                return Err(OutboxError::Closed);
+            }
+            if found.is_full_with(bytes.len()) || is_too_much(all, bytes.len() as u64) {
+                return Err(OutboxError::Full);
+            }
+            found.accept(bytes).map_err(|_| OutboxError::NoMemory)
+        }
+    }
+}
+
+/// A clean close of a stream.
+pub fn close<A: Allocator + Copy>(
+    streams: &mut Vec<Option<Stream<A>>, A>,
+    stream: u8,
+) -> Result<(), OutboxError>
+    ensures closes { OnOk result (streams.new.items ≡ changed_lane streams.old.items stream (on_out after_clean)) }
+    ensures unchanged { OnErr result (streams.new.items ≡ streams.old.items) }
+    ensures refuses { Answers (refusal_at (out_of (slot streams.old.items stream)) is_closed no_more) result }
+{
+    if stream as usize >= streams.len() {
+        return Err(OutboxError::NoStream);
+    }
+    match &mut streams[stream as usize] {
+        None => Err(OutboxError::NoStream),
+        Some(found) => {
+            if found.is_closed() {
+                return Err(OutboxError::Closed);
+            }
+            found.close();
+            Ok(())
+        }
+    }
+}
+
+/// An abort of a stream, with this code.
+pub fn abort<A: Allocator + Copy>(
+    streams: &mut Vec<Option<Stream<A>>, A>,
+    stream: u8,
+    code: u8,
+) -> Result<(), OutboxError>
+    ensures aborts { OnOk result (streams.new.items ≡ changed_lane streams.old.items stream (on_out (after_stream_abort code))) }
+    ensures unchanged { OnErr result (streams.new.items ≡ streams.old.items) }
+    ensures refuses { Answers (refusal_at (out_of (slot streams.old.items stream)) is_aborted no_more) result }
+{
+    if stream as usize >= streams.len() {
+        return Err(OutboxError::NoStream);
+    }
+    match &mut streams[stream as usize] {
+        None => Err(OutboxError::NoStream),
+        Some(found) => {
+            if found.is_aborted() {
+                return Err(OutboxError::Closed);
+            }
+            found.abort(code);
+            Ok(())
+        }
+    }
+}
+
+/// An offer of money on a stream.
+pub fn offer<A: Allocator + Copy>(
+    streams: &mut Vec<Option<Stream<A>>, A>,
+    stream: u8,
+    amount: u64,
+) -> Result<(), OutboxError>
+    ensures offers { OnOk result (streams.new.items ≡ changed_lane streams.old.items stream (on_out (after_offer amount))) }
+    ensures unchanged { OnErr result (streams.new.items ≡ streams.old.items) }
+    ensures refuses { Answers (refusal_at (out_of (slot streams.old.items stream)) is_closed (too_much (specs.all_offered (outs streams.old.items)) amount)) result }
+{
+    if stream as usize >= streams.len() {
+        return Err(OutboxError::NoStream);
+    }
+    let all = all_offered(streams);
+    match &mut streams[stream as usize] {
+        None => Err(OutboxError::NoStream),
+        Some(found) => {
+            if found.is_closed() {
+                return Err(OutboxError::Closed);
+            }
+            if is_too_much(all, amount) {
+                return Err(OutboxError::AmountTooLarge);
+            }
+            found.offer(amount);
+            Ok(())
+        }
+    }
+}
+
+/// The peer's limit on a stream's offsets. That of a stream that is not open is ignored.
+pub fn raise<A: Allocator + Copy>(
+    streams: &mut Vec<Option<Stream<A>>, A>,
+    stream: u64,
+    max_offset: u64,
+)
+    ensures { streams.new.items ≡ changed_lane streams.old.items stream (on_out (told_data max_offset)) }
+{
+    if stream < streams.len() as u64 {
+        if let Some(found) = &mut streams[stream as usize] {
+            found.raise(max_offset);
+        }
+    }
+}
+
+/// The peer's receive max of a stream, and what it received. Those of a stream that is not open are ignored.
+pub fn raise_money<A: Allocator + Copy>(
+    streams: &mut Vec<Option<Stream<A>>, A>,
+    stream: u64,
+    receive_max: u64,
+    total: u64,
+)
+    ensures { streams.new.items ≡ changed_lane streams.old.items stream (on_out (told_receive_max receive_max total)) }
+{
+    if stream < streams.len() as u64 {
+        if let Some(found) = &mut streams[stream as usize] {
+            found.raise_money(receive_max, total);
+        }
+    }
+}
+
+/// Sets a mark, where there is such a stream.
+pub fn set_mark<A: Allocator + Copy>(marks: &mut Vec<Option<u64>, A>, stream: u64, value: u64)
+    ensures { marks.new.items ≡ slice_set marks.old.items stream (Some value) }
+{
+    if stream < marks.len() as u64 {
+        marks[stream as usize] = Some(value);
+    }
+}
+
+/// The bytes of a frame, which are in flight by the sequence from now on.
+pub fn take<A: Allocator + Copy>(
+    streams: &mut Vec<Option<Stream<A>>, A>,
+    alloc: A,
+    sequence: u64,
+    frame: Flown,
+) -> Result<Vec<u8, A>, AllocError>
+    requires { IsTakeable streams.old.items frame }
+    ensures whole { IfOk result (λ v. AreItsBytes streams.old.items frame v.items) }
+    ensures books { OnOk result (streams.new.items ≡ booked streams.old.items sequence frame) }
+    ensures unchanged { OnErr result (streams.new.items ≡ streams.old.items) }
+{
+    match frame {
+        Flown::Data {
+            stream,
+            offset,
+            count,
+        } => match &mut streams[stream as usize] {
+            None => Err(AllocError),
+            Some(found) => found.take(alloc, sequence, offset, count),
+        },
+        Flown::Close { .. } => Ok(Vec::new(alloc)),
+    }
+}
+
+/// Data of a stream were fulfilled.
+fn acknowledge_data<A: Allocator + Copy>(
+    streams: &mut Vec<Option<Stream<A>>, A>,
+    sequence: u64,
+    stream: u8,
+    offset: u64,
+    count: u64,
+)
+    ensures { streams.new.items ≡ changed_lane streams.old.items stream (acked_by sequence offset count) }
+{
+    if (stream as usize) < streams.len() {
+        if let Some(found) = &mut streams[stream as usize] {
+            found.acknowledged(sequence, offset, count);
+        }
+    }
+}
+
+/// A close of a stream was fulfilled.
+fn acknowledge_close<A: Allocator + Copy>(
+    streams: &mut Vec<Option<Stream<A>>, A>,
+    stream: u8,
+    code: u8,
+)
+    ensures { streams.new.items ≡ changed_lane streams.old.items stream (on_out (acked_close code)) }
+{
+    if (stream as usize) < streams.len() {
+        if let Some(found) = &mut streams[stream as usize] {
+            found.settle(code);
+        }
+    }
+}
+
+/// Data of a stream failed.
+fn free_data<A: Allocator + Copy>(
+    streams: &mut Vec<Option<Stream<A>>, A>,
+    sequence: u64,
+    stream: u8,
+)
+    ensures { streams.new.items ≡ changed_lane streams.old.items stream (freed_by sequence) }
+{
+    if (stream as usize) < streams.len() {
+        if let Some(found) = &mut streams[stream as usize] {
+            found.failed(sequence);
+        }
+    }
+}
+
+/// A frame was fulfilled.
+pub fn acknowledge<A: Allocator + Copy>(
+    streams: &mut Vec<Option<Stream<A>>, A>,
+    sequence: u64,
+    frame: Flown,
+)
+    ensures { streams.new.items ≡ acked streams.old.items sequence frame }
+{
+    match frame {
+        Flown::Data {
+            stream,
+            offset,
+            count,
+        } => acknowledge_data(streams, sequence, stream, offset, count),
+        Flown::Close { stream, code } => acknowledge_close(streams, stream, code),
+    }
+}
+
+/// A frame failed: what it carried is due again, unless it was dropped.
+pub fn free<A: Allocator + Copy>(
+    streams: &mut Vec<Option<Stream<A>>, A>,
+    sequence: u64,
+    frame: Flown,
+)
+    ensures { streams.new.items ≡ freed streams.old.items sequence frame }
+{
+    match frame {
+        Flown::Data { stream, .. } => free_data(streams, sequence, stream),
+        Flown::Close { .. } => {}
+    }
+}
