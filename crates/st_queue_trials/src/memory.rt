@@ -1,0 +1,142 @@
+//! The rings and the gauge of a hub, made and used while memory is refused.
+ghost use Rattle.std.specs.Prelude.{◌≡◌, ℕ, IfSome};
+ghost use Rattle.st_queues.specs.Lanes.{AllNamed, AllNamedReads, IsOurs, IsOurRead, ring_at};
+ghost use Rattle.st_queues.specs.ReadEnds.{SameReadEnd};
+ghost use Rattle.st_queues.specs.WriteEnds.{SameWriteEnd};
+
+use refusing::Refusing;
+use st_queues::{
+    Delivery, Got, HubName, Named, QueueError, ReadEnd, ReadLane, Rings, Totals, WriteEnd,
+    WriteLane,
+};
+use std::alloc::{Allocator, Global};
+use std::marker::Brand;
+use std::process::Abort;
+use std::test::Fail;
+
+/// Each request of new rings is refused in turn.
+#[test]
+fn rings_are_refused_where_memory_is(rt: HostRuntime) -> Result<(), Fail> {
+    let heap: Refusing<Global> = Refusing::new(rt.alloc());
+    for n in 1..3000u64 {
+        heap.refuse_only(n);
+        let answer = Rings::new(&heap);
+        let met = heap.has_refused();
+        heap.refuse_none();
+        match answer {
+            Err(error) => {
+                assert!(rt; met, "at {n}");
+                assert_eq!(rt; error.number(), 69);
+            }
+            Ok(_) => {
+                assert!(rt; !met, "at {n}");
+                assert!(rt; 1152 < n);
+                return Ok(());
+            }
+        }
+    }
+    panic!(rt; "no run met no refusal");
+}
+
+/// The first ring.
+fn first_write<N: HubName<A>, A: Allocator + Copy>(
+    mut lanes: Vec<WriteLane<A>, A>,
+) -> Option<WriteLane<A>>
+    requires { AllNamed N.write_ring lanes.items }
+    ensures { IfSome result (λ x. IsOurs N.write_ring x) }
+{
+    if lanes.is_empty() {
+        return None;
+    }
+    Some(lanes.swap_remove(0))
+}
+
+fn first_read<N: HubName<A>, A: Allocator + Copy>(
+    mut lanes: Vec<ReadLane<A>, A>,
+) -> Option<ReadLane<A>>
+    requires { AllNamedReads N.read_ring lanes.items }
+    ensures { IfSome result (λ x. IsOurRead N.read_ring x) }
+{
+    if lanes.is_empty() {
+        return None;
+    }
+    Some(lanes.swap_remove(0))
+}
+
+fn drop_one<A: Allocator + Copy>(end: &mut WriteEnd<A>)
+    ensures { SameWriteEnd end.old end.new }
+{
+    if end.look() {
+        end.drop_first();
+    }
+}
+
+fn put_abort<A: Allocator + Copy>(end: &mut ReadEnd<A>)
+    ensures { SameReadEnd end.old end.new }
+{
+    if end.room() > 0 {
+        end.put(Delivery::Aborted(3));
+    }
+}
+
+/// Two chunks and an end go through the first ring, an abort through the first reader's, and totals are published.
+fn use_all<N: HubName<A>, A: Allocator + Copy, R: Abort>(
+    rt: &R,
+    alloc: A,
+    rings: Rings<A>,
+    one: Vec<u8, A>,
+    two: Vec<u8, A>,
+)
+    requires gauge { rings.gauge ≡ N.gauge }
+    requires writes { (k : ℕ) → N.write_ring k ≡ ring_at rings.writes k }
+    requires reads { (k : ℕ) → N.read_ring k ≡ ring_at rings.reads k }
+{
+    let Named {
+        writes,
+        reads,
+        hub_gauge,
+        mut hub_seat,
+        gauge,
+        mut seat,
+        ..
+    } = rings.named::<N>();
+    let mut lane = first_write::<N, A>(writes).expect(rt, "there is a ring");
+    let mut writer = lane.hand_out::<N>(alloc).expect(rt, "nobody took it");
+    assert!(rt; writer.try_write(one).is_ok());
+    assert!(rt; writer.try_write(two).is_ok());
+    assert!(rt; writer.try_end().is_ok());
+    assert!(rt; matches!(writer.try_end(), Err(QueueError::Ended(_))));
+    assert_eq!(rt; writer.free(), 0);
+    assert_eq!(rt; lane.end.meet(&mut writer), 3);
+    drop_one(&mut lane.end);
+    assert_eq!(rt; lane.end.meet(&mut writer), 2);
+    let mut lane = first_read::<N, A>(reads).expect(rt, "there is a ring");
+    let mut reader = lane.hand_out::<N>().expect(rt, "nobody took it");
+    put_abort(&mut lane.end);
+    assert_eq!(rt; lane.end.meet(&mut reader), 1);
+    assert!(rt; matches!(reader.try_read(), Got::Aborted(3)));
+    let totals = Totals {
+        accepted: 2,
+        delivered: 0,
+        credited: 0,
+        paid: 0,
+    };
+    hub_gauge.publish(&mut hub_seat, totals);
+    let mut other = gauge.split(&mut seat);
+    assert_eq!(rt; gauge.seen(&mut other), totals);
+    gauge.ask_stop(&mut seat);
+    assert!(rt; gauge.stopped(&mut other));
+}
+
+/// Once rings are made no call asks for memory.
+#[test]
+fn rings_that_are_made_ask_for_no_memory(rt: HostRuntime) -> Result<(), Fail> {
+    let heap: Refusing<Global> = Refusing::new(rt.alloc());
+    let rings = Rings::new(&heap)?;
+    let one = Vec::from_slice(&heap, b"ab")?;
+    let two = Vec::from_elem(&heap, 7, 4096)?;
+    heap.refuse_from(1);
+    use_all::<Brand, &Refusing<Global>, HostRuntime>(&rt, &heap, rings, one, two);
+    assert_eq!(rt; heap.asked(), 0);
+    Ok(())
+}
