@@ -335,9 +335,11 @@ impl<A: Allocator + Copy> Outbox<A> {
         self.fail(sequence, Failure::TooLarge(told));
     }
 
-    /// Undoes the `next` that gave this load and was the last call: its sequence goes again. No memory.
+    /// Undoes the `next` that gave this load and was the last call: its sequence goes again. Where another sequence was the
+    /// last, nothing changes. No memory.
     pub fn take_back(&mut self, load: Load<A>)
-        ensures { (before : Sending) (limits : List Known) (room : ℕ) → Sends before limits room load self.old → self.new ≡ before }
+        ensures stale { load.sequence ≢ self.old.last → self.new ≡ self.old }
+        ensures undoes { (before : Sending) (limits : List Known) (room : ℕ) → Sends before limits room load self.old → self.new ≡ before }
     {
         let sequence = load.sequence();
         if sequence != self.last {
