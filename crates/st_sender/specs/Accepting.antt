@@ -1,4 +1,4 @@
--- What a stream accepts.
+-- What a stream accepts: own rules of this profile.
 use Rattle.std.specs.Prelude.{ℕ, ◌+◌, true, false, List, length}
 use Rattle.std.specs.declared.option.Option.TheVariants.{Some}
 use Rattle.std.specs.FinMap.{empty}

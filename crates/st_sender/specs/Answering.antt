@@ -1,4 +1,5 @@
--- What the answer to a load leaves, and what the peer tells of its limits.
+-- What the answer to a load leaves, and what the peer tells of its limits. Frames are those of RFC 0029, section 5.3, and
+-- codes those of RFC 0027; what they do to the sender is this profile's own.
 use Rattle.std.specs.Prelude.{ℕ, ◌+◌, ◌*◌, ◌/◌, Bool, true, false, ◌||◌, not, List, [], ◌∷◌, max, min, nat_lt, nat_le, nat_eq, slice_set, if◌then◌else◌, bytes_eq}
 use Rattle.std.specs.declared.option.Option.{Option}
 use Rattle.std.specs.declared.option.Option.TheVariants.{None, Some}

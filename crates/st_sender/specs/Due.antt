@@ -9,7 +9,9 @@ use Rattle.st_frames.specs.Frames.{Known, ConnectionClose, ConnectionNewAddress,
 use Rattle.st_sender.specs.Sending.{Outgoing, Data, Sending, outgoing_at}
 use Rattle.st_sender.specs.Flights.{any_frame, closes, tells, due_at, all_ends, due_money}
 
--- StreamData (RFC 0029, section 5.3.2.5): bytes in a row, each of them due, at most 16,000
+-- Frames are those of RFC 0029, section 5.3; when each is due is this profile's own rule.
+
+-- StreamData: bytes in a row, each of them due, at most 16,000
 pub record IsDueData (s : Sending) (k offset : ℕ) (xs : List ℕ) : Type 0 where
   pub stream : Outgoing
   pub is_open : outgoing_at s k ≡ Some stream

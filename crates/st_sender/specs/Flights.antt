@@ -1,4 +1,4 @@
--- What is in flight.
+-- What is in flight, and how far its data and its money reach.
 use Rattle.std.specs.Prelude.{ℕ, ◌+◌, ◌-◌, Bool, true, false, ◌&&◌, List, [], ◌∷◌, length, map, max, sum, nat_lt, nat_le, nat_eq, is_some, if◌then◌else◌}
 use Rattle.std.specs.List.{sum_by, list_any, range_with_len}
 use Rattle.std.specs.declared.option.Option.{Option}

@@ -1,4 +1,4 @@
--- The load that goes next, or that none may go.
+-- The load that goes next, or that none may go: own rules of this profile.
 use Rattle.std.specs.Prelude.{◌≡◌, ◌≢◌, ℕ, ◌+◌, ◌-◌, ◌^◌, ◌<◌, ◌≤◌, Bool, false, ◌&&◌, List, [], ◌∷◌, ◌++◌, length, min, nat_lt, nat_eq}
 use Rattle.std.specs.List.{sum_by, AllByRecursion}
 use Rattle.std.specs.declared.option.Option.{Option}

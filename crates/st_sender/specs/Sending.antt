@@ -1,4 +1,5 @@
--- What an end keeps of the streams that it sends (RFC 0029, section 4). Rules without a section are this profile's own.
+-- What an end keeps of the streams that it sends. Packets and frames are those of RFC 0029; how much is kept, how it is
+-- counted, and what is assumed before the peer tells a limit are this profile's own.
 use Rattle.std.specs.Prelude.{ℕ, Bool, false, List, []}
 use Rattle.std.specs.declared.option.Option.{Option}
 use Rattle.std.specs.declared.option.Option.TheVariants.{None, Some}
@@ -46,7 +47,7 @@ new_outgoing = record {
 pub record Load : Type 0 where
   pub sequence : ℕ
   pub amount : ℕ  -- of the Prepare
-  pub least : ℕ  -- the packet's prepare amount (section 5.2): the least that the peer should accept
+  pub least : ℕ  -- the packet's prepare amount (RFC 0029, section 5.2): the least that the peer should accept
   pub frames : List Known
 
 -- a frame in flight: of data where it lay, of the others all

@@ -9,7 +9,7 @@ use std::marker::Model;
 
 /// The most Prepares in flight at once.
 pub const MAX_IN_FLIGHT: usize = 64;
-/// The most Prepares of a connection: 2^31 - 1, less than RFC 0029 (section 5.1) lets one key seal.
+/// The most Prepares of a connection: 2^31 - 1. Both ends seal with one key, so RFC 0029 has a connection closed by then.
 pub const MAX_PACKETS: u64 = (1 << 31) - 1;
 /// The greatest packet limit: 2^63 - 1.
 pub const MAX_PACKET_LIMIT: u64 = (1 << 63) - 1;

@@ -1,4 +1,8 @@
-//! What an end sends: what each stream accepted, what of it is due, in flight and acknowledged, and what goes next.
+//! The sending side of a STREAM end (RFC 0029): `Outbox` keeps what each stream accepted until it is acknowledged, says
+//! what goes in the next Prepare, and takes the answers. There is no I/O, no clock and no cipher here. `specs/Sending.antt`
+//! says what is kept, `Accepting` and `Refusals` what a call on a stream does, `Due` and `Loads` what may go, `Answering`
+//! what an answer leaves; `Lanes`, `Landing` and `Allowed` join them to the runs of `st_unacked`. A load has one frame, of
+//! data or a close (`Plain`); money, Blocked frames and own limits are defined and not sent yet, so each amount is 0.
 #![tactic(auto)]
 
 mod choose;

@@ -205,7 +205,7 @@ impl<A: Allocator + Copy> Outbox<A> {
         raise_money(&mut self.streams, stream, receive_max, total);
     }
 
-    /// A limit that the peer tells (RFC 0029, sections 5.3.2.3 to 5.3.2.6). It only rises, and that of a stream that is
+    /// A limit that the peer tells (RFC 0029, section 5.3). It only rises, and that of a stream that is
     /// not open is ignored, as are other frames. No memory.
     pub fn raise_limits(&mut self, frame: &Frame<'_>)
         ensures { self.new ≡ after_told self.old (seen frame.now) }
@@ -251,7 +251,7 @@ impl<A: Allocator + Copy> Outbox<A> {
         }
     }
 
-    /// The load that goes next, of data and closes (RFC 0029, section 4): the lowest due bytes of a stream, or a close.
+    /// The load that goes next, of data and closes: the lowest due bytes of a stream, or a close.
     /// `None` comes only where a limit that stands, the room among them, stops each byte and close that is due. `room` is
     /// how many bytes the packet may take. Refused is want of memory alone.
     pub fn next(&mut self, room: usize) -> Result<Option<Load<A>>, OutboxError>
@@ -335,9 +335,11 @@ impl<A: Allocator + Copy> Outbox<A> {
         self.fail(sequence, Failure::TooLarge(told));
     }
 
-    /// Undoes the `next` that gave this load and was the last call: its sequence goes again. No memory.
+    /// Undoes the `next` that gave this load and was the last call: its sequence goes again. Where another sequence was the
+    /// last, nothing changes. No memory.
     pub fn take_back(&mut self, load: Load<A>)
-        ensures { (before : Sending) (limits : List Known) (room : ℕ) → Sends before limits room load self.old → self.new ≡ before }
+        ensures stale { load.sequence ≢ self.old.last → self.new ≡ self.old }
+        ensures undoes { (before : Sending) (limits : List Known) (room : ℕ) → Sends before limits room load self.old → self.new ≡ before }
     {
         let sequence = load.sequence();
         if sequence != self.last {

@@ -1,6 +1,6 @@
 use Rattle.std.proofs.Common.{◌≡◌, ◌-◌, List, length, sym, ap, refl, subst, ◌∙◌, arith}
 use Rattle.st_tables.specs.Slots.{Slots}
-use Rattle.st_sender.specs.Sending.{Flight}
+use Rattle.st_sender.specs.Sending.{Flight, Sending}
 use Rattle.st_sender.specs.Flights.{flight_at, without_flight}
 use Rattle.st_sender.specs.Lanes.{Lane, AreBooked}
 use Rattle.st_sender.specs.Landing.{AreOrdered}
@@ -14,8 +14,8 @@ invariant_of-self g c =
     let same = sym c.in_default.ensures.same in
     (c.self.invariant.0, subst (λ (ps : List Flight). AreBooked c.self.inside.streams.items ps) same c.self.invariant.1, subst (λ (ps : List Flight). AreOrdered ps c.self.inside.last c.self.inside.failures) same c.self.invariant.2)
 
-pub returns-in_default : goal.returns-in_default
-returns-in_default g c = λ before limits room sends.
+pub returns-in_default-clause-undoes : goal.returns-in_default-clause-undoes
+returns-in_default-clause-undoes g c = λ before limits room sends.
     let last : c.sequence-sequence.result ≡ c.self.inside.last = omega (arith, c.if-sequence-self.false) in
     let named = last ∙ sent_last _ _ before limits room c.args.load c.self.view_is sends in
     absurd (sent_flies _ _ before limits room c.args.load c.self.view_is c.self.invariant.2.apart sends (ap (λ n. flight_at c.self.inside.flights.items n) (sym named) ∙ c.in_default.ensures.found))
@@ -42,8 +42,18 @@ invariant_of-self-2 g c =
           (back_ordered c.self.inside.last c.self.inside.failures flights (flight_with sequence c.in-Some.frame) c.self.invariant.2 found)),
     )
 
-pub returns : goal.returns
-returns g c = λ before limits room sends.
+pub returns-clause-undoes : goal.returns-clause-undoes
+returns-clause-undoes g c = λ before limits room sends.
     let last : c.sequence-sequence.result ≡ c.self.inside.last = omega (arith, c.if-sequence-self.false) in
     taken_view _ _ before limits room c.args.load c.self.inside.streams.items c.free.new.streams.items c.take_flight.new.flights.items c.sequence-sequence.result c.in-Some.frame c.self.view_is refl c.self.invariant.2.apart sends last
     c.free.ensures c.take_flight.ensures.rest
+
+pub returns-in_default-clause-stale : goal.returns-in_default-clause-stale
+returns-in_default-clause-stale g c = λ other.
+    let last : c.sequence-sequence.result ≡ c.self.inside.last = omega (arith, c.if-sequence-self.false) in
+    absurd (other (sym c.sequence-sequence.ensures ∙ last ∙ ap (λ (s : Sending). s.last) c.self.view_is))
+
+pub returns-clause-stale : goal.returns-clause-stale
+returns-clause-stale g c = λ other.
+    let last : c.sequence-sequence.result ≡ c.self.inside.last = omega (arith, c.if-sequence-self.false) in
+    absurd (other (sym c.sequence-sequence.ensures ∙ last ∙ ap (λ (s : Sending). s.last) c.self.view_is))
