@@ -1,0 +1,4 @@
+pub mod Pieces
+pub mod Seating
+pub mod Tracking
+pub mod Applying

@@ -1,0 +1,61 @@
+-- How a packet is judged while nothing changes: by the streams as they were, and the highest byte ends as they would be.
+use Rattle.std.specs.Prelude.{◌≡◌, ℕ, ◌+◌, Bool, not, ◌&&◌, ◌||◌, List, length, map, max, sum, slice_index, slice_set, nat_eq, nat_lt, is_err, if◌then◌else◌}
+use Rattle.std.specs.declared.option.Option.{Option}
+use Rattle.std.specs.declared.option.Option.TheVariants.{None, Some}
+use Rattle.std.specs.Option.{option_or}
+use Rattle.st_tables.specs.Slots.{slot}
+use Rattle.st_frames.specs.Frames.{Known, StreamClose, StreamMoney, StreamData}
+use Rattle.st_reassembly.specs.Held.{Held, nothing_held, is_over}
+use Rattle.st_reassembly.specs.Inserting.{inserted}
+use Rattle.st_receiver.specs.declared.reason.Reason.{Reason}
+use Rattle.st_receiver.specs.declared.reason.Reason.TheVariants.{FlowControl}
+use Rattle.st_receiver.specs.Streams.{Incoming, Receiving, incoming_at, may_name, received_of, read_of}
+use Rattle.st_receiver.specs.Data.{stream_fault}
+
+-- what a stream holds, or a new one
+abbrev pub held_or : Option Incoming → Held
+held_or None = nothing_held
+held_or (Some x) = x.held
+
+abbrev pub held_at : Receiving → ℕ → Held
+held_at r k = held_or (slot r.streams k)
+
+-- a piece has bytes that count for the connection
+abbrev pub counts : Held → List ℕ → Bool
+counts h xs = not (is_over h || nat_eq (length xs) 0)
+
+-- the highest byte end once a piece came
+abbrev pub raised : Held → (highest offset : ℕ) → List ℕ → ℕ
+raised h highest offset xs = if is_over h || nat_eq (length xs) 0 then highest else max highest (offset + length xs)
+
+abbrev pub ends_with : Receiving → List ℕ → (stream offset : ℕ) → List ℕ → List ℕ
+ends_with r ends stream offset xs = slice_set ends stream (raised (held_at r stream) (slice_index ends stream) offset xs)
+
+abbrev pub piece_fault : Receiving → List ℕ → (limit stream offset : ℕ) → List ℕ → Option Reason
+piece_fault r ends limit stream offset xs =
+    if is_err (inserted offset xs (held_at r stream)) || (counts (held_at r stream) xs && nat_lt limit (sum (ends_with r ends stream offset xs)))
+    then Some FlowControl else None
+
+abbrev pub told_fault : Receiving → List ℕ → (limit : ℕ) → Known → Option Reason
+told_fault r ends limit (StreamData stream offset xs) = option_or (stream_fault r stream) (piece_fault r ends limit stream offset xs)
+told_fault r ends limit (StreamMoney stream shares) = stream_fault r stream
+told_fault r ends limit (StreamClose stream code message) = stream_fault r stream
+told_fault r ends limit f = None
+
+abbrev pub ends_after : Receiving → List ℕ → Known → List ℕ
+ends_after r ends (StreamData stream offset xs) = ends_with r ends stream offset xs
+ends_after r ends f = ends
+
+-- what data leave of a direction
+pub record SameSpan (s t : Held) : Type 0 where
+  pub read : t.read ≡ s.read
+  pub end : t.end ≡ s.end
+  pub aborted : t.aborted ≡ s.aborted
+
+-- cur came from r by data, and these are its highest byte ends
+pub record Tracks (r cur : Receiving) (ends : List ℕ) : Type 0 where
+  pub highest : ends ≡ map received_of cur.streams
+  pub reads : map read_of cur.streams ≡ map read_of r.streams
+  pub spans : (k : ℕ) → SameSpan (held_at r k) (held_at cur k)
+  pub names : (k : ℕ) → may_name cur k ≡ may_name r k
+  pub len : length cur.streams ≡ 65
