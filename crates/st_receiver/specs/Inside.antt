@@ -1,5 +1,5 @@
 -- How a packet is judged while nothing changes: by the streams as they were, and the highest byte ends as they would be.
-use Rattle.std.specs.Prelude.{◌≡◌, ℕ, ◌+◌, Bool, not, ◌&&◌, ◌||◌, List, length, map, max, sum, slice_index, slice_set, nat_eq, nat_lt, is_err, if◌then◌else◌}
+use Rattle.std.specs.Prelude.{◌≡◌, ◌<◌, ℕ, zero, suc, ◌+◌, Bool, true, false, not, ◌&&◌, ◌||◌, List, [], ◌∷◌, length, map, max, sum, slice_index, slice_set, nat_eq, nat_lt, is_err, if◌then◌else◌}
 use Rattle.std.specs.declared.option.Option.{Option}
 use Rattle.std.specs.declared.option.Option.TheVariants.{None, Some}
 use Rattle.std.specs.Option.{option_or}
@@ -59,3 +59,38 @@ pub record Tracks (r cur : Receiving) (ends : List ℕ) : Type 0 where
   pub spans : (k : ℕ) → SameSpan (held_at r k) (held_at cur k)
   pub names : (k : ℕ) → may_name cur k ≡ may_name r k
   pub len : length cur.streams ≡ 65
+
+-- ---- money
+
+-- the shares with those of one frame more
+abbrev pub with_shares : List ℕ → Known → List ℕ
+with_shares ms (StreamMoney stream shares) = slice_set ms stream (slice_index ms stream + shares)
+with_shares ms f = ms
+
+unfoldable pub with_all_shares : List ℕ → List Known → List ℕ
+with_all_shares ms [] = ms
+with_all_shares ms (f ∷ fs) = with_all_shares (with_shares ms f) fs
+
+-- shares for a stream, where there are any
+abbrev pub plus : List ℕ → Option (ℕ × ℕ) → List ℕ
+plus ms None = ms
+plus ms (Some x) = slice_set ms x.0 (slice_index ms x.0 + x.1)
+
+abbrev pub below_end : Option (ℕ × ℕ) → Type 0
+below_end None = Unit {0}
+below_end (Some x) = x.0 < 65
+
+-- a part past what its stream may receive, as it is or as it would open
+abbrev pub over_at : Receiving → ℕ → ℕ → Bool
+over_at r k p = nat_lt (incoming_at r k).receive_max ((incoming_at r k).credited + p)
+
+-- whether a part of these is
+abbrev pub IsOverAt : Receiving → List ℕ → Bool → Type 0
+IsOverAt r ps true = (k : ℕ) × (k < 65) × (over_at r k (slice_index ps k) ≡ true)
+IsOverAt r ps false = (k : ℕ) → k < 65 → over_at r k (slice_index ps k) ≡ false
+
+-- the first k of one list, and then those of the other
+unfoldable pub mix : {A : Type 0} → ℕ → List A → List A → List A
+mix zero gs os = os
+mix (suc k) (g ∷ gs) (o ∷ os) = g ∷ mix k gs os
+mix (suc k) gs os = os

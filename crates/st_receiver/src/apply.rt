@@ -8,7 +8,7 @@ ghost use Rattle.st_tables.specs.Slots.{slot};
 ghost use Rattle.st_reassembly.specs.Inserting.{inserted};
 ghost use Rattle.st_receiver.specs.Streams.{incoming_or, fresh_incoming, incoming_at, with_incoming, opened_stream};
 ghost use Rattle.st_receiver.specs.Data.{after_data, after_frame, frame_fault, after_frames, frames_fault};
-ghost use Rattle.st_receiver.specs.Closes.{with_close, after_close, after_closes};
+ghost use Rattle.st_receiver.specs.Closes.{with_close, after_close, after_closes, with_abort, after_connection_close, after_connection_closes};
 ghost use Rattle.st_receiver.specs.Standing.{is_ready, opens, Keeps, AllReady};
 
 use crate::incoming::{Incoming, Window};
@@ -151,6 +151,61 @@ impl<A: Allocator + Copy> Intake<A> {
     {
         while let Some((_, frame)) = frames.next() {
             self.take_close(frame);
+        }
+    }
+}
+
+/// A stream after an abort.
+fn aborted<A: Allocator + Copy>(slot: Option<Incoming<A>>, code: u8) -> Option<Incoming<A>>
+    ensures { result ≡ with_abort code slot }
+{
+    match slot {
+        Some(mut incoming) => {
+            incoming.abort(code);
+            Some(incoming)
+        }
+        None => None,
+    }
+}
+
+/// Aborts each direction that has not ended.
+fn abort_all<A: Allocator + Copy>(slots: &mut Vec<Option<Incoming<A>>, A>, code: u8)
+    requires { length slots.old.items ≡ 65 }
+    ensures { slots.new.items ≡ map (with_abort code) slots.old.items }
+{
+    for k in 0..65 {
+        let slot = slots[k].take();
+        slots[k] = aborted(slot, code);
+    }
+}
+
+impl<A: Allocator + Copy> Intake<A> {
+    /// The peer closes the connection.
+    fn close_connection(&mut self, code: u8)
+        ensures state { self.new.state ≡ record self.old.state { streams = map (with_abort code) self.old.state.streams; closed = true } }
+        ensures room { self.new.room ≡ self.old.room }
+    {
+        abort_all(&mut self.slots, code);
+        self.closed = true;
+    }
+
+    /// A frame closes the connection, where it is a ConnectionClose.
+    fn take_connection_close(&mut self, frame: Frame<'_>)
+        ensures state { self.new.state ≡ after_connection_close self.old.state (seen frame.entry) }
+        ensures room { self.new.room ≡ self.old.room }
+    {
+        if let Frame::ConnectionClose { code, message: _ } = frame {
+            self.close_connection(code);
+        }
+    }
+
+    /// The ConnectionClose frames of a packet, one after another.
+    pub(crate) fn take_connection_closes(&mut self, mut frames: Frames<'_>)
+        ensures state { self.new.state ≡ after_connection_closes self.old.state (map frame_of frames.entry) }
+        ensures room { self.new.room ≡ self.old.room }
+    {
+        while let Some((_, frame)) = frames.next() {
+            self.take_connection_close(frame);
         }
     }
 }

@@ -23,7 +23,7 @@ use std::alloc::Allocator;
 pub const CONNECTION_WINDOW: u64 = 1_048_576;
 
 /// The sum of the highest byte ends.
-fn sum_of(ends: &[u64; 65]) -> u128
+pub(crate) fn sum_of(ends: &[u64; 65]) -> u128
     ensures { result ≡ sum ends.now }
 {
     let mut total = 0;

@@ -9,6 +9,8 @@ mod apply;
 mod decide;
 mod incoming;
 mod intake;
+mod judge;
+mod money;
 mod reason;
 mod sequences;
 
