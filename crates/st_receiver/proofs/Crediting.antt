@@ -1,21 +1,23 @@
 -- What the money of a packet is refused for, and what it leaves.
-use Rattle.std.proofs.Common.{◌≡◌, ◌≢◌, ℕ, zero, suc, ◌+◌, ◌-◌, ◌*◌, ◌/◌, ◌^◌, ◌<◌, ◌≤◌, Bool, true, false, cond, ◌&&◌, ◌||◌, not, List, [], ◌∷◌, length, map, set, get_or, Option, Some, None, refl, sym, ap, ◌∙◌, subst, arith, nat_eq, nat_lt, nat_le, ◌⊎◌, inl, inr}
+use Rattle.std.proofs.Common.{◌≡◌, ℕ, zero, suc, ◌+◌, ◌^◌, ◌<◌, ◌≤◌, Bool, true, false, cond, ◌&&◌, ◌||◌, List, [], ◌∷◌, length, get_or, Option, Some, None, refl, sym, ap, ◌∙◌, subst, arith, nat_eq, nat_lt, nat_le, inl, inr}
 use Rattle.std.specs.Prelude.{is_some, sum, slice_index}
 use Rattle.std.specs.Ordering.{nat_cmp}
-use Rattle.std.specs.FinSet.{FinSet}
+use Rattle.std.specs.FinSet.{FinSet, contains}
+use Rattle.std.specs.Option.{option_or}
+use Rattle.st_receiver.specs.Judged.{fault_of}
 use Rattle.std.proofs.lemmas.Bool.Decides.{nat_tests}
 use Rattle.std.proofs.lemmas.Bool.{cases_eq}
-use Rattle.std.proofs.lemmas.List.{get_or-set_same, get_or-set_other, length-set}
+use Rattle.std.proofs.lemmas.List.{length-set}
 use Rattle.st_tables.specs.Slots.{Slots, slot}
 use Rattle.st_tables.proofs.SlotLemmas.{slot_cases, slot_here}
-use Rattle.st_frames.specs.Frames.{Known, ConnectionClose, ConnectionNewAddress, ConnectionMaxData, ConnectionDataBlocked, StreamClose, StreamMoney, StreamMaxMoney, StreamMoneyBlocked, StreamData, StreamMaxData, StreamDataBlocked}
+use Rattle.st_frames.specs.Frames.{Known, Packet, frames_of, ConnectionClose, ConnectionNewAddress, ConnectionMaxData, ConnectionDataBlocked, StreamClose, StreamMoney, StreamMaxMoney, StreamMoneyBlocked, StreamData, StreamMaxData, StreamDataBlocked}
 use Rattle.st_frames.specs.Told.{money_of, money_in, shares}
 use Rattle.st_reassembly.specs.Held.{Held}
 use Rattle.st_receiver.specs.declared.reason.Reason.{Reason}
-use Rattle.st_receiver.specs.declared.reason.Reason.TheVariants.{NoShares, OverReceiveMax}
+use Rattle.st_receiver.specs.declared.reason.Reason.TheVariants.{NoShares, OverReceiveMax, Repeated, AmountTooSmall, ConnectionClosed}
 use Rattle.st_receiver.specs.Streams.{Incoming, Receiving, fresh_incoming, incoming_or, incoming_at, with_incoming, is_open}
-use Rattle.st_receiver.specs.Data.{with_data, after_frame, after_frames}
-use Rattle.st_receiver.specs.Money.{parts, with_credit, with_credits, is_over_max, any_over_max, money_fault, after_money, credited_streams}
+use Rattle.st_receiver.specs.Data.{with_data, after_frame, after_frames, frames_fault}
+use Rattle.st_receiver.specs.Money.{parts, with_credits, is_over_max, any_over_max, money_fault, after_money}
 use Rattle.st_receiver.specs.Standing.{Standing, is_ready, Keeps}
 use Rattle.st_receiver.specs.Inside.{over_at, IsOverAt}
 use Rattle.st_receiver.proofs.Applying.{shown, standing}
@@ -222,7 +224,7 @@ over_same r fs amount true len h =
 over_same r fs amount false len h =
     let both : length (parts amount (shares fs)) ≡ length (after_frames r fs).streams = length-parts amount (shares fs) ∙ length_shares fs ∙ sym (frames_length r fs ∙ len) in
     none_over (after_frames r fs).streams (parts amount (shares fs)) both (λ k l.
-        let m : k < 65 = subst (λ n. k < n) (frames_length r fs ∙ len) l in over_one r fs amount k len m ∙ h k m)
+    let m : k < 65 = subst (λ n. k < n) (frames_length r fs ∙ len) l in over_one r fs amount k len m ∙ h k m)
 
 frame_credit : (r : Receiving) (f : Known) → (after_frame r f).credit ≡ r.credit
 frame_credit r (StreamData k o xs) = refl
@@ -275,3 +277,15 @@ pub fault_much : (r : Receiving) (amount : ℕ) (fs : List Known) (b : Bool) →
     → cond b (Some OverReceiveMax) None ≡ money_fault r amount fs
 fault_much r amount fs b l pos some over much =
     λ i. fault_by (sym (le_not (2 ^ 64) (sum (shares fs)) l) i) (sym (pays_true amount pos) i) (sym (eq_not (sum (shares fs)) some) i) (sym over i) (sym much i)
+
+-- ---- a packet that breaks no rule
+
+rules_by : (closed seen small : Bool) (a b : Option Reason) → cond closed (Some ConnectionClosed) (cond seen (Some Repeated) (cond small (Some AmountTooSmall) (option_or a b))) ≡ None → (a ≡ None) × (b ≡ None)
+rules_by true seen small a b e = absurd cc
+rules_by false true small a b e = absurd cc
+rules_by false false true a b e = absurd cc
+rules_by false false false (Some x) b e = absurd cc
+rules_by false false false None b e = (refl, e)
+
+pub lawful_of : (r : Receiving) (p : Packet) (amount : ℕ) → fault_of r p amount ≡ None → (frames_fault r (frames_of p) ≡ None) × (money_fault (after_frames r (frames_of p)) amount (frames_of p) ≡ None)
+lawful_of r p amount e = rules_by r.closed (contains r.fulfilled p.sequence) (nat_lt amount p.amount) (frames_fault r (frames_of p)) (money_fault (after_frames r (frames_of p)) amount (frames_of p)) e

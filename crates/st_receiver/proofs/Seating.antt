@@ -6,7 +6,6 @@ use Rattle.std.specs.Cmp.{nat_cmp_total}
 use Rattle.std.specs.FinSet as fset
 use Rattle.std.proofs.lemmas.Bool.{cases_eq}
 use Rattle.std.proofs.lemmas.Bool.Decides.{nat_tests}
-use Rattle.std.proofs.lemmas.Grind.{common_steps}
 use Rattle.st_receiver.specs.declared.sequences.Run.{Run}
 use Rattle.st_receiver.specs.Sequences.{is_in, is_among, numbers, set_of, Rise, IsPlace, IsMore, last_at, first_at}
 

@@ -1,7 +1,7 @@
 -- The shares of a packet, and the parts of its amount.
-use Rattle.std.proofs.Common.{◌≡◌, ◌≢◌, ℕ, zero, suc, ◌+◌, ◌-◌, ◌*◌, ◌/◌, ◌^◌, ◌<◌, ◌≤◌, Bool, true, false, cond, ◌||◌, List, [], ◌∷◌, length, map, set, get_or, Option, Some, None, refl, sym, ap, ◌∙◌, subst, arith, nat_eq, nat_lt, inl, inr}
-use Rattle.std.specs.Prelude.{sum, slice_index, replicate}
-use Rattle.std.specs.List.{range_with_len, sum_by}
+use Rattle.std.proofs.Common.{◌≡◌, ℕ, zero, suc, ◌+◌, ◌-◌, ◌*◌, ◌/◌, ◌<◌, ◌≤◌, Bool, true, false, cond, List, [], ◌∷◌, length, map, set, get_or, refl, sym, ap, ◌∙◌, subst, arith, nat_eq, inl, inr}
+use Rattle.std.specs.Prelude.{sum, replicate}
+use Rattle.std.specs.List.{range_with_len}
 use Rattle.std.proofs.lemmas.Bool.Decides.{nat_tests}
 use Rattle.std.proofs.lemmas.Bool.{cases_eq}
 use Rattle.std.proofs.lemmas.Grind.{common_steps}
@@ -148,10 +148,10 @@ shares_are fs =
     let xs = with_all_shares (replicate 65 0) fs in
     let len : length xs ≡ 65 = length-all (replicate 65 0) fs ∙ length-zeros 65 in
     as_map xs (λ k. money_in k fs) 0 (λ k l.
-        let z = zero_at 65 k in
-        let h = all_at (replicate 65 0) fs k (let e = length-zeros 65 in subst (λ n. k < n) (sym e) (subst (λ n. k < n) len l)) in
-        let e : 0 + k ≡ k = omega arith in
-        h ∙ (let y : get_or (replicate 65 0) k 0 + money_in k fs ≡ money_in k fs = omega (arith, z) in y) ∙ ap (λ j. money_in j fs) (sym e))
+    let z = zero_at 65 k in
+    let h = all_at (replicate 65 0) fs k (let e = length-zeros 65 in subst (λ n. k < n) (sym e) (subst (λ n. k < n) len l)) in
+    let e : 0 + k ≡ k = omega arith in
+    h ∙ (let y : get_or (replicate 65 0) k 0 + money_in k fs ≡ money_in k fs = omega (arith, z) in y) ∙ ap (λ j. money_in j fs) (sym e))
     ∙ ap (λ n. map (λ k. money_in k fs) (range_with_len 0 n)) len
 
 pub length_shares : (fs : List Known) → length (shares fs) ≡ 65

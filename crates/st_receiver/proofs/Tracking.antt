@@ -1,5 +1,5 @@
 -- Streams that take data, one frame after another, as they are judged before any of it comes.
-use Rattle.std.proofs.Common.{◌≡◌, ◌≢◌, ℕ, zero, suc, ◌+◌, ◌-◌, ◌%◌, ◌^◌, ◌<◌, ◌≤◌, Bool, true, false, not, ◌&&◌, ◌||◌, cond, List, [], ◌∷◌, length, map, set, take, get_or, max, Option, Some, None, refl, sym, ap, ◌∙◌, subst, arith, nat_eq, nat_lt, nat_le, ◌⊎◌, inl, inr}
+use Rattle.std.proofs.Common.{◌≡◌, ℕ, zero, suc, ◌+◌, ◌%◌, ◌<◌, Bool, true, false, not, ◌&&◌, ◌||◌, cond, List, [], ◌∷◌, length, map, set, take, get_or, max, Option, Some, None, refl, sym, ap, ◌∙◌, subst, arith, nat_eq, nat_lt, nat_le, inl, inr}
 use Rattle.std.specs.Prelude.{is_some, is_err, sum, slice_index}
 use Rattle.std.specs.Option.{option_or}
 use Rattle.std.proofs.lemmas.List.{map-set, set-get_or, get_or-set_same, get_or-set_other, get_or_read, length-set, length-map}
@@ -8,16 +8,16 @@ use Rattle.std.proofs.lemmas.Bool.{cases_eq}
 use Rattle.std.proofs.lemmas.Bool.Decides.{nat_tests}
 use Rattle.st_tables.specs.Slots.{Slots, slot}
 use Rattle.st_frames.specs.Frames.{Known, ConnectionClose, ConnectionNewAddress, ConnectionMaxData, ConnectionDataBlocked, StreamClose, StreamMoney, StreamMaxMoney, StreamMoneyBlocked, StreamData, StreamMaxData, StreamDataBlocked}
-use Rattle.st_reassembly.specs.Held.{Held, is_over, after_insert, with_byte, is_wanted}
+use Rattle.st_reassembly.specs.Held.{Held, is_over}
 use Rattle.st_reassembly.specs.Inserting.{inserted}
 use Rattle.st_receiver.specs.declared.reason.Reason.{Reason}
 use Rattle.st_receiver.specs.declared.reason.Reason.TheVariants.{FlowControl, StreamId}
-use Rattle.st_receiver.specs.Streams.{Incoming, Receiving, fresh_incoming, incoming_or, incoming_at, with_incoming, opened_stream, is_open, may_name, received_of, read_of, all_read, all_received}
-use Rattle.st_receiver.specs.Data.{raised_to, with_data, after_data, stream_fault, data_fault, frame_fault, after_frame, frames_fault, is_past_connection}
+use Rattle.st_receiver.specs.Streams.{Incoming, Receiving, fresh_incoming, incoming_or, incoming_at, with_incoming, opened_stream, is_open, may_name, received_of, read_of}
+use Rattle.st_receiver.specs.Data.{with_data, after_data, stream_fault, data_fault, frame_fault, after_frame, frames_fault}
 use Rattle.st_receiver.specs.Limits.{connection_limit, capped}
 use Rattle.st_reassembly.proofs.Pointwise.{joins_after}
 use Rattle.st_receiver.proofs.Pieces.{err_same}
-use Rattle.st_receiver.specs.Inside.{held_or, held_at, counts, raised, ends_with, piece_fault, told_fault, ends_after, SameSpan, Tracks}
+use Rattle.st_receiver.specs.Inside.{held_or, held_at, raised, ends_with, piece_fault, told_fault, ends_after, SameSpan, Tracks}
 
 get_or-map : (f : Option Incoming → ℕ) (ss : Slots Incoming) (k : ℕ) → f None ≡ 0 → get_or (map f ss) k 0 ≡ f (get_or ss k None)
 get_or-map f [] k e = sym e
@@ -112,7 +112,7 @@ tracks-with r cur ends k y h may t span high read =
       names = λ j. elim (cases_eq j k) [
         | inl e ↦ subst (λ i. may_name (with_incoming cur k y) i ≡ may_name r i) (sym e)
             (ap (λ o. nat_le 1 k && nat_le k 64 && (is_some o || not (nat_eq (k % 2) cur.parity))) (get_or-set_same ss k (Some y) None in_cur)
-             ∙ named (nat_le 1 k && nat_le k 64) (is_open r k || not (nat_eq (k % 2) r.parity)) (not (nat_eq (k % 2) cur.parity)) may)
+            ∙ named (nat_le 1 k && nat_le k 64) (is_open r k || not (nat_eq (k % 2) r.parity)) (not (nat_eq (k % 2) cur.parity)) may)
         | inr n ↦ ap (λ o. nat_le 1 j && nat_le j 64 && (is_some o || not (nat_eq (j % 2) cur.parity))) (get_or-set_other ss k j (Some y) None n) ∙ t.names j
       ];
       len = length-set ss k (Some y) ∙ t.len;
@@ -180,8 +180,8 @@ piece_same r cur ends limit k o xs b t =
     let over = sym (span_over (held_at r k) x.held span) in
     let bound : limit ≡ connection_limit cur = b ∙ ap (λ rs. capped (sum rs + 1048576)) (sym t.reads) in
     let all : ends_with r ends k o xs ≡ map received_of (after_data cur k o xs).streams =
-        ap (λ es. set es k (raised (held_at r k) (slice_index ends k) o xs)) t.highest
-        ∙ ap (set (map received_of cur.streams) k) (sym (end_with r cur ends k o xs t)) ∙ sym (map-set received_of cur.streams k (Some (with_data o xs x))) in
+    ap (λ es. set es k (raised (held_at r k) (slice_index ends k) o xs)) t.highest
+    ∙ ap (set (map received_of cur.streams) k) (sym (end_with r cur ends k o xs t)) ∙ sym (map-set received_of cur.streams k (Some (with_data o xs x))) in
     λ i. cond (err i || (not (over i || nat_eq (length xs) 0) && nat_lt (bound i) (sum (all i)))) (Some FlowControl) None
 
 -- a frame is judged by what was as by what the frames before it leave

@@ -4,7 +4,7 @@ use Rattle.std.specs.declared.option.Option.{Option}
 use Rattle.std.specs.declared.option.Option.TheVariants.{None, Some}
 use Rattle.st_reassembly.specs.Held.{Held}
 use Rattle.st_reassembly.specs.Run.{run, after_take}
-use Rattle.st_receiver.specs.Streams.{Incoming, Receiving, incoming_at, with_incoming}
+use Rattle.st_receiver.specs.Streams.{Receiving, incoming_at, with_incoming}
 
 pub data Got : Type 0 where
   Bytes : (bytes : List ℕ) → Got

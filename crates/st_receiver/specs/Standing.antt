@@ -6,7 +6,7 @@ use Rattle.std.specs.FinSet.{FinSet}
 use Rattle.st_tables.specs.Slots.{Slots, slot}
 use Rattle.st_frames.specs.Frames.{Known, Packet, StreamClose, StreamMoney, StreamData, frames_of}
 use Rattle.st_reassembly.specs.Held.{Held}
-use Rattle.st_receiver.specs.Streams.{Receiving, is_open}
+use Rattle.st_receiver.specs.Streams.{Receiving}
 
 -- a set of sequences, and how many more runs it takes without memory
 pub record Seated : Type 0 where

@@ -48,9 +48,9 @@ impl<A: Allocator + Copy> Model for Intake<A> {
     ghost coded = { Prim.hlevel (codes, map.code) };
 
     ghost view = { λ s. record {
-        state = record { parity = s.parity; streams = s.slots.items; kept = s.kept; fulfilled = s.fulfilled.set; credit = s.credit; closed = s.closed };
-        room = s.fulfilled.room;
-        windows = s.windows.items;
+      state = record { parity = s.parity; streams = s.slots.items; kept = s.kept; fulfilled = s.fulfilled.set; credit = s.credit; closed = s.closed };
+      room = s.fulfilled.room;
+      windows = s.windows.items;
     } };
 
     ghost invariant = { λ s. (length s.slots.items ≡ 65) × (length s.windows.items ≡ 65) };

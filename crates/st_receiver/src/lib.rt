@@ -6,6 +6,7 @@
 #![tactic(auto)]
 
 mod apply;
+mod commit;
 mod decide;
 mod incoming;
 mod intake;

@@ -1,4 +1,4 @@
-use Rattle.std.proofs.Common.{◌≡◌, ◌<◌, ◌∙◌, length, map, sym, ap, arith}
+use Rattle.std.proofs.Common.{◌<◌, ◌∙◌, length, map, sym, ap, arith}
 use Rattle.std.proofs.lemmas.List.{length-map}
 use Rattle.st_receiver.specs.Closes.{with_abort}
 use Rattle.st_receiver.proofs.Mixing.{mix-none, read_place, write_place, whole, map_at}

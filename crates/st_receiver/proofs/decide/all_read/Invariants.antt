@@ -1,4 +1,4 @@
-use Rattle.std.proofs.Common.{◌≡◌, ◌+◌, ◌*◌, ◌^◌, ◌-◌, ◌≤◌, take, map}
+use Rattle.std.proofs.Common.{◌≡◌, ◌*◌, ◌^◌, ◌-◌, ◌≤◌, take, map}
 use Rattle.std.specs.Prelude.{sum}
 use Rattle.st_receiver.specs.Streams.{read_of}
 use Rattle.st_receiver.proofs.decide.all_read.Given as goal

@@ -1,4 +1,4 @@
-use Rattle.std.proofs.Common.{◌≡◌, ◌+◌, ◌*◌, ◌^◌, ◌≤◌, take}
+use Rattle.std.proofs.Common.{◌≡◌, ◌*◌, ◌^◌, ◌≤◌, take}
 use Rattle.std.specs.Prelude.{sum}
 use Rattle.st_receiver.proofs.decide.sum_of.Given as goal
 

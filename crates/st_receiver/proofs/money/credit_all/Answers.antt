@@ -1,4 +1,4 @@
-use Rattle.std.proofs.Common.{◌≡◌, ◌<◌, ◌∙◌, Option, false, length, map, get_or, sym, ap, subst, arith}
+use Rattle.std.proofs.Common.{◌≡◌, ◌<◌, ◌∙◌, Option, false, length, get_or, sym, ap, subst, arith}
 use Rattle.st_receiver.specs.Streams.{Incoming}
 use Rattle.st_receiver.specs.Money.{with_credit, with_credits, is_over_max}
 use Rattle.st_receiver.proofs.Mixing.{mix-none, read_place, write_place, whole, credit_at, length-credits, fits_at}

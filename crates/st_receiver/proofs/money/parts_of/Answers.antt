@@ -1,6 +1,6 @@
-use Rattle.std.proofs.Common.{◌≡◌, ◌+◌, ◌-◌, ◌<◌, ◌≤◌, ◌∙◌, length, set, get_or, sym, ap, subst, arith}
+use Rattle.std.proofs.Common.{◌≡◌, ◌+◌, ◌-◌, ◌<◌, ◌∙◌, length, set, get_or, ap, subst, arith}
 use Rattle.std.specs.Prelude.{sum}
-use Rattle.st_receiver.specs.Money.{rounded, parts}
+use Rattle.st_receiver.specs.Money.{rounded}
 use Rattle.st_receiver.proofs.Splits.{rounded-least, parts_are, some_share}
 use Rattle.st_receiver.proofs.money.parts_of.Goals as goal
 

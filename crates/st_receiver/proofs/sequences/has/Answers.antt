@@ -1,4 +1,4 @@
-use Rattle.std.proofs.Common.{◌≡◌, ◌<◌, ◌∙◌, length, nat_le, sym, ap, arith}
+use Rattle.std.proofs.Common.{◌<◌, ◌∙◌, length, nat_le, sym, ap, arith}
 use Rattle.st_receiver.proofs.Seating.{run_at, among_here, among_past}
 use Rattle.st_receiver.proofs.sequences.has.Goals as goal
 

@@ -1,4 +1,4 @@
-use Rattle.std.proofs.Common.{◌≡◌, ◌+◌, ◌-◌, ◌∙◌, List, set, get_or, insert, cond, is_ok, refl, sym, ap, subst, arith}
+use Rattle.std.proofs.Common.{◌≡◌, ◌-◌, ◌∙◌, List, set, get_or, insert, cond, is_ok, refl, sym, ap, subst}
 use Rattle.st_receiver.specs.declared.sequences.Run.{Run}
 use Rattle.st_receiver.specs.Sequences.{IsMore}
 use Rattle.st_receiver.proofs.Seating.{more_behind, more_front, more_alone, more_both}

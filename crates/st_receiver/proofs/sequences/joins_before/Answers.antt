@@ -1,4 +1,4 @@
-use Rattle.std.proofs.Common.{◌≡◌, ◌<◌, ◌+◌, ◌-◌, ◌∙◌, length, nat_eq, sym, ap, arith}
+use Rattle.std.proofs.Common.{◌<◌, ◌+◌, ◌-◌, ◌∙◌, length, nat_eq, sym, ap, arith}
 use Rattle.st_receiver.proofs.Seating.{run_at, one_apart}
 use Rattle.st_receiver.proofs.sequences.joins_before.Goals as goal
 

@@ -1,5 +1,4 @@
-use Rattle.std.proofs.Common.{◌≡◌, ◌<◌, ◌≤◌, ◌+◌, ◌-◌, ◌/◌, ℕ, length, arith, subst}
-use Rattle.st_receiver.specs.Sequences.{last_at}
+use Rattle.std.proofs.Common.{◌<◌, ◌+◌, ◌-◌, ◌/◌, length, arith}
 use Rattle.st_receiver.proofs.Seating.{run_at, ends_rise, half}
 use Rattle.st_receiver.proofs.sequences.runs_before.Goals as goal
 

@@ -1,4 +1,4 @@
-use Rattle.std.proofs.Common.{◌<◌, ◌∙◌, refl, sym, ap, subst}
+use Rattle.std.proofs.Common.{◌<◌, ◌∙◌, sym, ap, subst}
 use Rattle.st_receiver.specs.Closes.{with_close}
 use Rattle.st_receiver.specs.Standing.{Standing, is_ready}
 use Rattle.st_receiver.proofs.Applying.{changed, changed_keeps, ready_within}

@@ -1,10 +1,10 @@
 use Rattle.std.proofs.Common.{◌≡◌, ◌∙◌, map, length, None, refl, sym, ap, subst}
-use Rattle.st_frames.specs.Frames.{Known, frame_of}
+use Rattle.st_frames.specs.Frames.{frame_of}
 use Rattle.st_frames.specs.Seen.{seen}
-use Rattle.st_receiver.specs.Data.{frame_fault, after_frame, frames_fault}
+use Rattle.st_receiver.specs.Data.{after_frame, frames_fault}
 use Rattle.st_receiver.specs.Streams.{received_of}
 use Rattle.st_receiver.specs.Standing.{Standing}
-use Rattle.st_receiver.specs.Inside.{Tracks, ends_after, told_fault}
+use Rattle.st_receiver.specs.Inside.{Tracks, told_fault}
 use Rattle.st_receiver.proofs.Tracking.{tracks-fault, tracks-next, tracks-itself, fault-nil, first_some, first_none, none_from}
 use Rattle.st_receiver.proofs.intake.Intake.frames_fault.Goals as goal
 
@@ -29,8 +29,7 @@ loop-frame-preserved g c =
     let r = c.args.self.now.state in
     let f = seen c.in-Some.frame in
     let none : c.frame_fault-fault.result ≡ None = none_from c.frame_fault-fault.result (sym c.if-is_some.ensures) in
-    let told : told_fault r c.loop-frame.ends c.connection_limit-limit.result f ≡ None = sym c.frame_fault-fault.ensures.fault ∙ none in
-    (
+    let told : told_fault r c.loop-frame.ends c.connection_limit-limit.result f ≡ None = sym c.frame_fault-fault.ensures.fault ∙ none in (
       after_frame i.0 f,
       subst (Tracks r (after_frame i.0 f)) (sym (c.frame_fault-fault.ensures.next none)) (tracks-next r i.0 c.loop-frame.ends c.connection_limit-limit.result f told i.1),
       first_none i.0 f (map frame_of c.next.new.self) (sym (tracks-fault r i.0 c.loop-frame.ends c.connection_limit-limit.result f c.connection_limit-limit.ensures i.1) ∙ told) ∙ ap (λ fs. frames_fault i.0 (map frame_of fs)) (sym c.in-Some.ensures.steps) ∙ i.2,

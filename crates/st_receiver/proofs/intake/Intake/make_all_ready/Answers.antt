@@ -1,4 +1,4 @@
-use Rattle.std.proofs.Common.{◌≡◌, ◌∙◌, ◌||◌, Bool, true, map, refl, sym, ap}
+use Rattle.std.proofs.Common.{◌∙◌, map, refl}
 use Rattle.std.specs.List.{list_any}
 use Rattle.st_frames.specs.Frames.{frame_of}
 use Rattle.st_frames.specs.Seen.{seen_at}

@@ -1,4 +1,4 @@
-use Rattle.std.proofs.Common.{◌≡◌, ◌<◌, ◌∙◌, length, sym, arith}
+use Rattle.std.proofs.Common.{◌<◌, length, arith}
 use Rattle.st_receiver.proofs.Applying.{window_made, window_stays}
 use Rattle.st_receiver.proofs.intake.Intake.make_ready.Goals as goal
 

@@ -1,4 +1,4 @@
-use Rattle.std.proofs.Common.{◌≡◌, ◌+◌, ◌^◌, ◌<◌, ◌≤◌, ◌∙◌, true, false, length, map, sym, ap, subst, arith}
+use Rattle.std.proofs.Common.{◌≡◌, ◌+◌, ◌^◌, ◌<◌, ◌∙◌, true, false, length, map, sym, ap, subst, arith}
 use Rattle.std.specs.Prelude.{sum}
 use Rattle.st_frames.specs.Frames.{frame_of}
 use Rattle.st_frames.specs.Told.{shares}

@@ -1,10 +1,10 @@
-use Rattle.std.proofs.Common.{◌≡◌, ◌<◌, ◌∙◌, length, refl, sym, ap, subst, arith, false}
+use Rattle.std.proofs.Common.{◌≡◌, ◌<◌, ◌∙◌, length, sym, ap, subst, arith, false}
 use Rattle.std.specs.declared.option.Option.{Option}
 use Rattle.std.specs.declared.option.Option.TheVariants.{None}
 use Rattle.std.specs.Prelude.{is_err}
 use Rattle.std.proofs.lemmas.List.{length-set}
 use Rattle.st_reassembly.specs.Inserting.{inserted}
-use Rattle.st_receiver.specs.Streams.{Incoming, incoming_at}
+use Rattle.st_receiver.specs.Streams.{Incoming}
 use Rattle.st_receiver.specs.Data.{with_data}
 use Rattle.st_receiver.specs.Standing.{Standing, is_ready}
 use Rattle.st_receiver.proofs.Applying.{changed, changed_keeps, drawn_is, ready_within}

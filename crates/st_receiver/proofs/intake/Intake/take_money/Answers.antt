@@ -1,4 +1,4 @@
-use Rattle.std.proofs.Common.{◌≡◌, ◌+◌, ◌^◌, ◌<◌, ◌≤◌, ◌∙◌, Option, List, ℕ, false, length, map, sym, ap, subst, arith, MatchOption}
+use Rattle.std.proofs.Common.{◌≡◌, ◌+◌, ◌^◌, ◌<◌, ◌≤◌, ◌∙◌, Option, List, ℕ, length, map, ap, subst, arith, MatchOption}
 use Rattle.std.specs.Prelude.{sum}
 use Rattle.st_frames.specs.Frames.{frame_of}
 use Rattle.st_frames.specs.Told.{shares}

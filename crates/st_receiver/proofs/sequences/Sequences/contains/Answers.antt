@@ -1,4 +1,4 @@
-use Rattle.std.proofs.Common.{◌≡◌, ◌∙◌, ap, sym}
+use Rattle.std.proofs.Common.{◌∙◌, ap, sym}
 use Rattle.std.specs.FinSet.{contains}
 use Rattle.st_receiver.specs.Standing.{Seated}
 use Rattle.st_receiver.proofs.Seating.{contains_runs}
