@@ -17,7 +17,7 @@ use std::alloc::Allocator;
 
 impl<A: Allocator + Copy> Intake<A> {
     /// A window waits for a stream that is not open.
-    fn make_ready(&mut self, stream: u64) -> Result<(), Reason>
+    pub(crate) fn make_ready(&mut self, stream: u64) -> Result<(), Reason>
         ensures only_memory { IsOkUnless result Reason.NoMemory }
         ensures state { self.new.state ≡ self.old.state }
         ensures stays { StaysReady self.old self.new }

@@ -6,6 +6,7 @@
 #![tactic(auto)]
 
 mod apply;
+mod asking;
 mod commit;
 mod decide;
 mod incoming;
