@@ -5,3 +5,4 @@ pub mod Applying
 pub mod Splits
 pub mod Mixing
 pub mod Crediting
+pub mod Answering

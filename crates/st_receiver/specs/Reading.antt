@@ -4,7 +4,7 @@ use Rattle.std.specs.declared.option.Option.{Option}
 use Rattle.std.specs.declared.option.Option.TheVariants.{None, Some}
 use Rattle.st_reassembly.specs.Held.{Held}
 use Rattle.st_reassembly.specs.Run.{run, after_take}
-use Rattle.st_receiver.specs.Streams.{Receiving, incoming_at, with_incoming}
+use Rattle.st_receiver.specs.Streams.{Incoming, Receiving, incoming_at, with_incoming}
 
 pub data Got : Type 0 where
   Bytes : (bytes : List ℕ) → Got
@@ -42,5 +42,8 @@ abbrev pub after_got_by : Option ℕ → (limit : ℕ) → Held → Held
 after_got_by (Some code) limit h = h
 after_got_by None limit h = after_bytes limit h (take limit (run h))
 
+abbrev pub after_get : (limit : ℕ) → Incoming → Incoming
+after_get limit x = record x { held = after_got_by x.held.aborted limit x.held }
+
 abbrev pub after_got : Receiving → (stream limit : ℕ) → Receiving
-after_got r k limit = let x = incoming_at r k in with_incoming r k (record x { held = after_got_by x.held.aborted limit x.held })
+after_got r k limit = with_incoming r k (after_get limit (incoming_at r k))

@@ -75,8 +75,13 @@ credited_of (Some x) = x.credited
 abbrev pub all_credited : Receiving → ℕ
 all_credited r = sum (map credited_of r.streams)
 
--- the greater of the old and the new receive max stands. A number that is not open yet keeps the value for when it opens
+-- the greater of the old and the new receive max stands
+abbrev pub with_max : ℕ → Incoming → Incoming
+with_max amount x = record x { receive_max = max x.receive_max amount }
+
+abbrev pub with_kept : Receiving → (stream amount : ℕ) → Receiving
+with_kept r k amount = record r { kept = slice_set r.kept k (max (slice_index r.kept k) amount) }
+
+-- a number that is not open yet keeps the value for when it opens
 abbrev pub with_receive_max : Receiving → (stream amount : ℕ) → Receiving
-with_receive_max r k amount =
-    if is_open r k then with_incoming r k (record (incoming_at r k) { receive_max = max (incoming_at r k).receive_max amount })
-    else record r { kept = slice_set r.kept k (max (slice_index r.kept k) amount) }
+with_receive_max r k amount = if is_open r k then with_incoming r k (with_max amount (incoming_at r k)) else with_kept r k amount

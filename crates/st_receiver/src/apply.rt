@@ -34,7 +34,7 @@ fn opened<A: Allocator + Copy>(
 }
 
 /// The stream of a place as it is, or as it opens. It leaves its slot.
-fn drawn<A: Allocator + Copy>(
+pub(crate) fn drawn<A: Allocator + Copy>(
     slots: &mut Vec<Option<Incoming<A>>, A>,
     windows: &mut Vec<Option<Window<A>>, A>,
     kept: &[u64; 65],

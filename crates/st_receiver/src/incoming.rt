@@ -1,6 +1,6 @@
 //! One stream's incoming direction, and the window that waits for a stream that is not open.
 
-ghost use Rattle.std.specs.Prelude.{◌≡◌, ◌+◌, ◌^◌, ◌<◌, false, length, is_err, max, IfOk, IsOkUnless};
+ghost use Rattle.std.specs.Prelude.{◌≡◌, ◌+◌, ◌^◌, ◌<◌, false, length, is_err, max, take, IfOk, OnOk, OnErr, IsOkUnless};
 ghost use Rattle.st_reassembly.specs.Held.{nothing_held, is_over};
 ghost use Rattle.st_reassembly.specs.Inserting.{inserted};
 ghost use Rattle.st_receiver.specs.Streams.{fresh_incoming, read_of};
@@ -8,7 +8,12 @@ ghost use Rattle.st_receiver.specs.Data.{with_data, raised_to};
 ghost use Rattle.st_receiver.specs.Closes.{with_close};
 ghost use Rattle.std.specs.Prelude.{Some};
 ghost use Rattle.st_reassembly.specs.Closing.{after_abort};
+ghost use Rattle.st_reassembly.specs.Run.{run, after_take};
+ghost use Rattle.st_receiver.specs.Reading.{Bytes, is_read, got_none, got, after_get};
+ghost use Rattle.st_receiver.specs.Decided.{got_seen};
 
+use crate::got::Got;
+use crate::reason::Reason;
 use st_reassembly::{Inbox, InboxError};
 use std::alloc::Allocator;
 use std::marker::Model;
@@ -179,5 +184,55 @@ impl<A: Allocator + Copy> Incoming<A> {
         ensures { self.new ≡ record self.old { receive_max = max self.old.receive_max amount } }
     {
         self.receive_max = self.receive_max.max(amount);
+    }
+
+    /// All bytes before the fixed end were read.
+    fn is_read(&self) -> bool
+        ensures { result ≡ is_read self.now.held.read self.now.held.end }
+    {
+        match self.inbox.end_at() {
+            Some(end) => end == self.inbox.read_count(),
+            None => false,
+        }
+    }
+
+    /// What can be told where no byte can be read.
+    fn get_none(&self) -> Got<A>
+        ensures { got_seen result ≡ got_none self.now.held }
+    {
+        if self.is_read() {
+            Got::End
+        } else {
+            Got::Nothing
+        }
+    }
+
+    /// The first bytes of the run, where there are any.
+    fn get_some(&mut self, max: usize) -> Result<Got<A>, Reason>
+        ensures only_memory { IsOkUnless result Reason.NoMemory }
+        ensures got { IfOk result (λ g. got_seen g ≡ Bytes (take max (run self.old.held))) }
+        ensures left { OnOk result (self.new ≡ record self.old { held = after_take max self.old.held }) }
+        ensures unchanged { OnErr result (self.new ≡ self.old) }
+    {
+        match self.inbox.take(max) {
+            Ok(bytes) => Ok(Got::Bytes(bytes)),
+            Err(_) => Err(Reason::NoMemory),
+        }
+    }
+
+    /// A read, of at most `max` bytes.
+    pub(crate) fn get(&mut self, max: usize) -> Result<Got<A>, Reason>
+        ensures only_memory { IsOkUnless result Reason.NoMemory }
+        ensures got { IfOk result (λ g. got_seen g ≡ got max self.old.held) }
+        ensures left { OnOk result (self.new ≡ after_get max self.old) }
+        ensures unchanged { OnErr result (self.new ≡ self.old) }
+    {
+        if let Some(code) = self.inbox.abort_code() {
+            return Ok(Got::Aborted(code));
+        }
+        if self.inbox.run_length().min(max) == 0 {
+            return Ok(self.get_none());
+        }
+        self.get_some(max)
     }
 }

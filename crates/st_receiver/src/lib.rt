@@ -9,6 +9,7 @@ mod apply;
 mod asking;
 mod commit;
 mod decide;
+mod got;
 mod incoming;
 mod intake;
 mod judge;
@@ -16,5 +17,9 @@ mod money;
 mod reason;
 mod sequences;
 
+pub use got::Got;
 pub use intake::{Decision, Intake, Plan};
 pub use reason::Reason;
+
+#[cfg(test)]
+mod tests;
