@@ -73,11 +73,28 @@ fn receive<A: Allocator + Copy>(
     }
 }
 
+/// Sets a receive max, and tells whether the stream may be named.
+fn allow<A: Allocator + Copy>(intake: &mut Intake<A>, stream: u64, amount: u64) -> bool {
+    if !intake.may_name(stream) {
+        return false;
+    }
+    intake.set_receive_max(stream, amount);
+    true
+}
+
+/// A read of stream 1, where it is open.
+fn read<A: Allocator + Copy>(intake: &mut Intake<A>) -> Result<Option<Got<A>>, Reason> {
+    if !intake.has_stream(1) {
+        return Ok(None);
+    }
+    Ok(Some(intake.read(1, 9)?))
+}
+
 #[test]
 fn an_amount_is_split_by_the_shares(rt: HostRuntime) -> Result<(), Fail> {
     let mut intake = Intake::new(rt.alloc(), 0)?;
-    intake.set_receive_max(1, 100);
-    intake.set_receive_max(3, 100);
+    assert!(rt; allow(&mut intake, 1, 100));
+    assert!(rt; allow(&mut intake, 3, 100));
     assert_eq!(rt; receive(&mut intake, &SHARED, 10)?, 0);
     assert_eq!(rt; intake.credited_to(1), 4);
     assert_eq!(rt; intake.credited_to(3), 6);
@@ -90,7 +107,7 @@ fn an_amount_is_split_by_the_shares(rt: HostRuntime) -> Result<(), Fail> {
 #[test]
 fn an_amount_without_shares_is_rejected(rt: HostRuntime) -> Result<(), Fail> {
     let mut intake = Intake::new(rt.alloc(), 0)?;
-    intake.set_receive_max(1, 100);
+    assert!(rt; allow(&mut intake, 1, 100));
     assert_eq!(rt; receive(&mut intake, &SHARELESS, 10)?, 64);
     assert_eq!(rt; receive(&mut intake, &SHARELESS, 0)?, 0);
     Ok(())
@@ -99,14 +116,14 @@ fn an_amount_without_shares_is_rejected(rt: HostRuntime) -> Result<(), Fail> {
 #[test]
 fn no_stream_is_credited_past_its_receive_max(rt: HostRuntime) -> Result<(), Fail> {
     let mut intake = Intake::new(rt.alloc(), 0)?;
-    intake.set_receive_max(1, 100);
-    intake.set_receive_max(3, 5);
+    assert!(rt; allow(&mut intake, 1, 100));
+    assert!(rt; allow(&mut intake, 3, 5));
     assert_eq!(rt; receive(&mut intake, &SHARED, 10)?, 65);
     assert_eq!(rt; intake.credited(), 0);
     assert_eq!(rt; intake.credited_to(1), 0);
     assert!(rt; !intake.has_stream(1));
-    intake.set_receive_max(3, 6);
-    intake.set_receive_max(3, 2);
+    assert!(rt; allow(&mut intake, 3, 6));
+    assert!(rt; allow(&mut intake, 3, 2));
     assert_eq!(rt; receive(&mut intake, &SHARED, 10)?, 0);
     Ok(())
 }
@@ -151,8 +168,8 @@ fn nothing_is_taken_once_the_connection_is_closed(rt: HostRuntime) -> Result<(),
 
 /// Whether a read of stream 1 gives these bytes.
 fn reads<A: Allocator + Copy>(intake: &mut Intake<A>, bytes: &[u8]) -> Result<bool, Reason> {
-    match intake.read(1, 9)? {
-        Got::Bytes(got) => Ok(got.as_slice() == bytes),
+    match read(intake)? {
+        Some(Got::Bytes(got)) => Ok(got.as_slice() == bytes),
         _ => Ok(false),
     }
 }
@@ -163,8 +180,8 @@ fn a_close_comes_after_the_data_of_its_packet(rt: HostRuntime) -> Result<(), Fai
     assert_eq!(rt; receive(&mut intake, &CLOSED_HI, 0)?, 0);
     assert_eq!(rt; receive(&mut intake, &ABORT, 0)?, 0);
     assert!(rt; reads(&mut intake, b"hi")?);
-    assert!(rt; matches!(intake.read(1, 9)?, Got::End));
-    assert!(rt; matches!(intake.read(1, 9)?, Got::End));
+    assert!(rt; matches!(read(&mut intake)?, Some(Got::End)));
+    assert!(rt; matches!(read(&mut intake)?, Some(Got::End)));
     Ok(())
 }
 
@@ -172,9 +189,9 @@ fn a_close_comes_after_the_data_of_its_packet(rt: HostRuntime) -> Result<(), Fai
 fn an_abort_ends_reading_at_once(rt: HostRuntime) -> Result<(), Fail> {
     let mut intake = Intake::new(rt.alloc(), 0)?;
     assert_eq!(rt; receive(&mut intake, &ENDS_AT_65536, 0)?, 0);
-    assert!(rt; matches!(intake.read(1, 9)?, Got::Nothing));
+    assert!(rt; matches!(read(&mut intake)?, Some(Got::Nothing)));
     assert_eq!(rt; receive(&mut intake, &ABORT, 0)?, 0);
-    assert!(rt; matches!(intake.read(1, 9)?, Got::Aborted(9)));
-    assert!(rt; matches!(intake.read(1, 9)?, Got::Aborted(9)));
+    assert!(rt; matches!(read(&mut intake)?, Some(Got::Aborted(9))));
+    assert!(rt; matches!(read(&mut intake)?, Some(Got::Aborted(9))));
     Ok(())
 }
