@@ -6,3 +6,4 @@ pub mod Splits
 pub mod Mixing
 pub mod Crediting
 pub mod Answering
+pub mod Rows

@@ -16,6 +16,7 @@ mod judge;
 mod money;
 mod reason;
 mod sequences;
+mod telling;
 
 pub use got::Got;
 pub use intake::{Decision, Intake, Plan};
