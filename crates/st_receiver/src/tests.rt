@@ -1,5 +1,5 @@
 use crate::{Decision, Got, Intake, Reason};
-use st_frames::{FrameError, read_packet};
+use st_frames::{Frame, FrameError, read_packet};
 use std::alloc::Allocator;
 use std::test::Fail;
 
@@ -193,5 +193,33 @@ fn an_abort_ends_reading_at_once(rt: HostRuntime) -> Result<(), Fail> {
     assert_eq!(rt; receive(&mut intake, &ABORT, 0)?, 0);
     assert!(rt; matches!(read(&mut intake)?, Some(Got::Aborted(9))));
     assert!(rt; matches!(read(&mut intake)?, Some(Got::Aborted(9))));
+    Ok(())
+}
+
+#[test]
+fn the_limits_that_stand_are_told(rt: HostRuntime) -> Result<(), Fail> {
+    let mut intake = Intake::new(rt.alloc(), 0)?;
+    assert!(rt; allow(&mut intake, 1, 7));
+    assert_eq!(rt; receive(&mut intake, &CLOSED_HI, 0)?, 0);
+    assert!(rt; reads(&mut intake, b"hi")?);
+    let limits = intake.limits()?;
+    assert_eq!(rt; limits.len(), 65);
+    let connection = Frame::ConnectionMaxData {
+        max_offset: 1_048_578,
+    };
+    let data = Frame::StreamMaxData {
+        stream: 1,
+        max_offset: 65_538,
+    };
+    let money = Frame::StreamMaxMoney {
+        stream: 1,
+        receive_max: 7,
+        total_received: 0,
+    };
+    assert_eq!(rt; limits.get(0), Some(&connection));
+    assert_eq!(rt; limits.get(1), Some(&data));
+    assert_eq!(rt; limits.get(2), Some(&money));
+    intake.open(2)?;
+    assert_eq!(rt; intake.limits()?.len(), 67);
     Ok(())
 }
