@@ -1,0 +1,291 @@
+-- What the money of a packet is refused for, and what it leaves.
+use Rattle.std.proofs.Common.{◌≡◌, ℕ, zero, suc, ◌+◌, ◌^◌, ◌<◌, ◌≤◌, Bool, true, false, cond, ◌&&◌, ◌||◌, List, [], ◌∷◌, length, get_or, Option, Some, None, refl, sym, ap, ◌∙◌, subst, arith, nat_eq, nat_lt, nat_le, inl, inr}
+use Rattle.std.specs.Prelude.{is_some, sum, slice_index}
+use Rattle.std.specs.Ordering.{nat_cmp}
+use Rattle.std.specs.FinSet.{FinSet, contains}
+use Rattle.std.specs.Option.{option_or}
+use Rattle.st_receiver.specs.Judged.{fault_of}
+use Rattle.std.proofs.lemmas.Bool.Decides.{nat_tests}
+use Rattle.std.proofs.lemmas.Bool.{cases_eq}
+use Rattle.std.proofs.lemmas.List.{length-set}
+use Rattle.st_tables.specs.Slots.{Slots, slot}
+use Rattle.st_tables.proofs.SlotLemmas.{slot_cases, slot_here}
+use Rattle.st_frames.specs.Frames.{Known, Packet, frames_of, ConnectionClose, ConnectionNewAddress, ConnectionMaxData, ConnectionDataBlocked, StreamClose, StreamMoney, StreamMaxMoney, StreamMoneyBlocked, StreamData, StreamMaxData, StreamDataBlocked}
+use Rattle.st_frames.specs.Told.{money_of, money_in, shares}
+use Rattle.st_reassembly.specs.Held.{Held}
+use Rattle.st_receiver.specs.declared.reason.Reason.{Reason}
+use Rattle.st_receiver.specs.declared.reason.Reason.TheVariants.{NoShares, OverReceiveMax, Repeated, AmountTooSmall, ConnectionClosed}
+use Rattle.st_receiver.specs.Streams.{Incoming, Receiving, fresh_incoming, incoming_or, incoming_at, with_incoming, is_open}
+use Rattle.st_receiver.specs.Data.{with_data, after_frame, after_frames, frames_fault}
+use Rattle.st_receiver.specs.Money.{parts, with_credits, is_over_max, any_over_max, money_fault, after_money}
+use Rattle.st_receiver.specs.Standing.{Standing, is_ready, Keeps}
+use Rattle.st_receiver.specs.Inside.{over_at, IsOverAt}
+use Rattle.st_receiver.proofs.Applying.{shown, standing}
+use Rattle.st_receiver.proofs.Mixing.{none_over, some_over}
+use Rattle.st_receiver.proofs.Splits.{share_at, length_shares, length-parts, part_none, money-cons, money-nil}
+
+-- ---- the tests
+
+abbrev fault_by : Bool → Bool → Bool → Bool → Bool → Option Reason
+fault_by past pays none over much = cond (past || (pays && none)) (Some NoShares) (cond (pays && (over || much)) (Some OverReceiveMax) None)
+
+pub record Lawful (r : Receiving) (amount : ℕ) (fs : List Known) : Type 0 where
+  pub fits : sum (shares fs) < 2 ^ 64
+  pub some : 0 < sum (shares fs)
+  pub over : any_over_max r.streams (parts amount (shares fs)) ≡ false
+  pub credit : r.credit + amount < 2 ^ 63
+
+none_by : (past none over much : Bool) → fault_by past true none over much ≡ None → (past ≡ false) × (none ≡ false) × (over ≡ false) × (much ≡ false)
+none_by true none over much e = absurd cc
+none_by false true over much e = absurd cc
+none_by false false true much e = absurd cc
+none_by false false false true e = absurd cc
+none_by false false false false e = (refl, refl, refl, refl)
+
+le_false : (a b : ℕ) → nat_le a b ≡ false → b < a
+le_false a b e = grind (arith, nat_tests)
+
+eq_false : (n : ℕ) → nat_eq n 0 ≡ false → 0 < n
+eq_false n e = grind (arith, nat_tests)
+
+pays_true : (n : ℕ) → 0 < n → nat_lt 0 n ≡ true
+pays_true n l = grind (arith, nat_tests)
+
+pub money_lawful : (r : Receiving) (amount : ℕ) (fs : List Known) → money_fault r amount fs ≡ None → 0 < amount → Lawful r amount fs
+money_lawful r amount fs e pos =
+    let past = nat_le (2 ^ 64) (sum (shares fs)) in
+    let none = nat_eq (sum (shares fs)) 0 in
+    let over = any_over_max r.streams (parts amount (shares fs)) in
+    let much = nat_le (2 ^ 63) (r.credit + amount) in
+    let h = none_by past none over much (ap (λ b. fault_by past b none over much) (sym (pays_true amount pos)) ∙ e) in
+    record { fits = le_false (2 ^ 64) (sum (shares fs)) h.0; some = eq_false (sum (shares fs)) h.1; over = h.2; credit = le_false (2 ^ 63) (r.credit + amount) h.3 }
+
+-- ---- what the credit leaves
+
+pub credits_open : (ss : Slots Incoming) (ps : List ℕ) (k : ℕ) → is_some (slot (with_credits ss ps) k) ≡ is_some (slot ss k)
+credits_open [] ps k = refl
+credits_open (s ∷ ss) [] k = refl
+credits_open (None ∷ ss) (p ∷ ps) zero = refl
+credits_open (Some x ∷ ss) (p ∷ ps) zero = refl
+credits_open (s ∷ ss) (p ∷ ps) (suc k) = credits_open ss ps k
+
+pub money_shown : (s : Standing) (parity : ℕ) (ss after : Slots Incoming) (kept : List ℕ) (fulfilled : FinSet nat_cmp) (credit : ℕ) (closed : Bool) (room : ℕ) (windows : Slots Held) (amount : ℕ) (fs : List Known) (ps : List ℕ)
+    → standing (shown parity ss kept fulfilled credit closed) room windows ≡ s → 0 < amount → ps ≡ parts amount (shares fs) → after ≡ with_credits ss ps
+    → shown parity after kept fulfilled (credit + amount) closed ≡ after_money s.state amount fs
+money_shown s parity ss after kept fulfilled credit closed room windows amount fs ps e pos is to =
+    ap (λ qs. shown parity qs kept fulfilled (credit + amount) closed) (to ∙ ap (with_credits ss) is ∙ ap (λ b. cond b (with_credits ss (parts amount (shares fs))) ss) (sym (pays_true amount pos)))
+    ∙ ap (λ (t : Standing). after_money t.state amount fs) e
+
+pub money_keeps : (s : Standing) (parity : ℕ) (ss after : Slots Incoming) (kept : List ℕ) (fulfilled : FinSet nat_cmp) (credit more : ℕ) (closed : Bool) (room : ℕ) (windows : Slots Held) (ps : List ℕ)
+    → standing (shown parity ss kept fulfilled credit closed) room windows ≡ s → after ≡ with_credits ss ps → Keeps s (standing (shown parity after kept fulfilled more closed) room windows)
+money_keeps s parity ss after kept fulfilled credit more closed room windows ps e to = record {
+  room = ap (λ (t : Standing). t.room) e;
+  ready = λ k h. ap (λ b. b || is_some (slot windows k)) (ap (λ qs. is_some (slot qs k)) to ∙ credits_open ss ps k) ∙ ap (λ (t : Standing). is_ready t k) e ∙ h;
+}
+
+-- ---- what frames leave of money
+
+pub record SameMoney (x y : Incoming) : Type 0 where
+  pub receive_max : y.receive_max ≡ x.receive_max
+  pub credited : y.credited ≡ x.credited
+
+money_itself : (x : Incoming) → SameMoney x x
+money_itself x = record { receive_max = refl; credited = refl }
+
+money_join : (x y z : Incoming) → SameMoney x y → SameMoney y z → SameMoney x z
+money_join x y z a b = record { receive_max = b.receive_max ∙ a.receive_max; credited = b.credited ∙ a.credited }
+
+money_with : (r : Receiving) (k : ℕ) (y : Incoming) (j : ℕ) → SameMoney (incoming_at r k) y → SameMoney (incoming_at r j) (incoming_at (with_incoming r k y) j)
+money_with r k y j h = elim (slot_cases r.streams k y j) [
+  | inl e ↦ subst (λ i. SameMoney (incoming_at r i) (incoming_at (with_incoming r k y) i)) (sym e.0) (subst (λ o. SameMoney (incoming_at r k) (incoming_or (fresh_incoming (slice_index r.kept k)) o)) (sym e.1) h)
+  | inr e ↦ subst (λ o. SameMoney (incoming_at r j) (incoming_or (fresh_incoming (slice_index r.kept j)) o)) (sym e) (money_itself (incoming_at r j))
+]
+
+frame_money : (r : Receiving) (f : Known) (j : ℕ) → SameMoney (incoming_at r j) (incoming_at (after_frame r f) j)
+frame_money r (StreamData k o xs) j = money_with r k (with_data o xs (incoming_at r k)) j (record { receive_max = refl; credited = refl })
+frame_money r (StreamMoney k n) j = money_with r k (incoming_at r k) j (money_itself (incoming_at r k))
+frame_money r (StreamClose k code message) j = money_with r k (incoming_at r k) j (money_itself (incoming_at r k))
+frame_money r (ConnectionClose code message) j = money_itself (incoming_at r j)
+frame_money r (ConnectionNewAddress address) j = money_itself (incoming_at r j)
+frame_money r (ConnectionMaxData n) j = money_itself (incoming_at r j)
+frame_money r (ConnectionDataBlocked n) j = money_itself (incoming_at r j)
+frame_money r (StreamMaxMoney k n m) j = money_itself (incoming_at r j)
+frame_money r (StreamMoneyBlocked k n m) j = money_itself (incoming_at r j)
+frame_money r (StreamMaxData k n) j = money_itself (incoming_at r j)
+frame_money r (StreamDataBlocked k n) j = money_itself (incoming_at r j)
+
+frames_money : (r : Receiving) (fs : List Known) (j : ℕ) → SameMoney (incoming_at r j) (incoming_at (after_frames r fs) j)
+unfolding after_frames
+frames_money r [] j = money_itself (incoming_at r j)
+frames_money r (f ∷ fs) j = money_join (incoming_at r j) (incoming_at (after_frame r f) j) (incoming_at (after_frames (after_frame r f) fs) j) (frame_money r f j) (frames_money (after_frame r f) fs j)
+
+open_with : (r : Receiving) (k : ℕ) (y : Incoming) (j : ℕ) → is_open r j ≡ true → is_open (with_incoming r k y) j ≡ true
+open_with r k y j h = elim (slot_cases r.streams k y j) [
+  | inl e ↦ subst (λ i. is_open (with_incoming r k y) i ≡ true) (sym e.0) (ap is_some e.1)
+  | inr e ↦ ap is_some e ∙ h
+]
+
+frame_stays : (r : Receiving) (f : Known) (j : ℕ) → is_open r j ≡ true → is_open (after_frame r f) j ≡ true
+frame_stays r (StreamData k o xs) j h = open_with r k (with_data o xs (incoming_at r k)) j h
+frame_stays r (StreamMoney k n) j h = open_with r k (incoming_at r k) j h
+frame_stays r (StreamClose k code message) j h = open_with r k (incoming_at r k) j h
+frame_stays r (ConnectionClose code message) j h = h
+frame_stays r (ConnectionNewAddress address) j h = h
+frame_stays r (ConnectionMaxData n) j h = h
+frame_stays r (ConnectionDataBlocked n) j h = h
+frame_stays r (StreamMaxMoney k n m) j h = h
+frame_stays r (StreamMoneyBlocked k n m) j h = h
+frame_stays r (StreamMaxData k n) j h = h
+frame_stays r (StreamDataBlocked k n) j h = h
+
+frames_stay : (r : Receiving) (fs : List Known) (j : ℕ) → is_open r j ≡ true → is_open (after_frames r fs) j ≡ true
+unfolding after_frames
+frames_stay r [] j h = h
+frames_stay r (f ∷ fs) j h = frames_stay (after_frame r f) fs j (frame_stays r f j h)
+
+frame_length : (r : Receiving) (f : Known) → length (after_frame r f).streams ≡ length r.streams
+frame_length r (StreamData k o xs) = length-set r.streams k (Some (with_data o xs (incoming_at r k)))
+frame_length r (StreamMoney k n) = length-set r.streams k (Some (incoming_at r k))
+frame_length r (StreamClose k code message) = length-set r.streams k (Some (incoming_at r k))
+frame_length r (ConnectionClose code message) = refl
+frame_length r (ConnectionNewAddress address) = refl
+frame_length r (ConnectionMaxData n) = refl
+frame_length r (ConnectionDataBlocked n) = refl
+frame_length r (StreamMaxMoney k n m) = refl
+frame_length r (StreamMoneyBlocked k n m) = refl
+frame_length r (StreamMaxData k n) = refl
+frame_length r (StreamDataBlocked k n) = refl
+
+pub frames_length : (r : Receiving) (fs : List Known) → length (after_frames r fs).streams ≡ length r.streams
+unfolding after_frames
+frames_length r [] = refl
+frames_length r (f ∷ fs) = frames_length (after_frame r f) fs ∙ frame_length r f
+
+same_stream : (b : Bool) (n : ℕ) → 0 < cond b n 0 → b ≡ true
+same_stream true n l = refl
+same_stream false n l = absurd (omega arith)
+
+equal : (a b : ℕ) → nat_eq a b ≡ true → b ≡ a
+equal a b e = grind (arith, nat_tests)
+
+no_money : {P : Type 0} → 0 < 0 → P
+no_money l = absurd (omega arith)
+
+frame_opens : (r : Receiving) (f : Known) (k : ℕ) → k < length r.streams → 0 < money_of k f → is_open (after_frame r f) k ≡ true
+frame_opens r (StreamMoney stream n) k l h =
+    let e : k ≡ stream = equal stream k (same_stream (nat_eq stream k) n h) in
+    subst (λ i. is_open (with_incoming r i (incoming_at r i)) k ≡ true) e (ap is_some (slot_here r.streams k (incoming_at r k) l))
+frame_opens r (StreamData s o xs) k l h = no_money h
+frame_opens r (StreamClose s code message) k l h = no_money h
+frame_opens r (ConnectionClose code message) k l h = no_money h
+frame_opens r (ConnectionNewAddress address) k l h = no_money h
+frame_opens r (ConnectionMaxData n) k l h = no_money h
+frame_opens r (ConnectionDataBlocked n) k l h = no_money h
+frame_opens r (StreamMaxMoney s n m) k l h = no_money h
+frame_opens r (StreamMoneyBlocked s n m) k l h = no_money h
+frame_opens r (StreamMaxData s n) k l h = no_money h
+frame_opens r (StreamDataBlocked s n) k l h = no_money h
+
+-- a stream that has shares is open once the frames came
+frames_open : (r : Receiving) (fs : List Known) (k : ℕ) → k < length r.streams → 0 < money_in k fs → is_open (after_frames r fs) k ≡ true
+unfolding after_frames
+frames_open r [] k l h = let z = money-nil k in absurd (omega (arith, h, z))
+frames_open r (f ∷ fs) k l h = elim (cases_eq (money_of k f) 0) [
+  | inl z ↦ frames_open (after_frame r f) fs k (subst (λ n. k < n) (sym (frame_length r f)) l) (let c = money-cons k f fs in omega (arith, z, c, h))
+  | inr n ↦ frames_stay (after_frame r f) fs k (frame_opens r f k l (omega (arith, n)))
+]
+
+over_slot : (m : ℕ) (o : Option Incoming) (p : ℕ) → (is_some o ≡ false → p ≡ 0) → is_over_max o p ≡ nat_lt (incoming_or (fresh_incoming m) o).receive_max ((incoming_or (fresh_incoming m) o).credited + p)
+over_slot m (Some x) p h = refl
+over_slot m None p h = none m p (h refl)
+  where
+    none : (m p : ℕ) → p ≡ 0 → nat_lt 0 p ≡ nat_lt m (0 + p)
+    none m p e = grind (arith, nat_tests)
+
+closed_part : (r : Receiving) (fs : List Known) (amount k : ℕ) → length r.streams ≡ 65 → k < 65 → is_open (after_frames r fs) k ≡ false → get_or (parts amount (shares fs)) k 0 ≡ 0
+closed_part r fs amount k len l shut = elim (cases_eq (money_in k fs) 0) [
+  | inl z ↦ part_none amount (shares fs) k (share_at fs k l ∙ z)
+  | inr n ↦ absurd (let there : is_open (after_frames r fs) k ≡ true = frames_open r fs k (subst (λ n. k < n) (sym len) l) (omega (arith, n)) in cc)
+]
+
+over_one : (r : Receiving) (fs : List Known) (amount k : ℕ) → length r.streams ≡ 65 → k < 65
+    → is_over_max (slot (after_frames r fs).streams k) (get_or (parts amount (shares fs)) k 0) ≡ over_at r k (get_or (parts amount (shares fs)) k 0)
+over_one r fs amount k len l =
+    let t = after_frames r fs in
+    let p = get_or (parts amount (shares fs)) k 0 in
+    let same = frames_money r fs k in
+    over_slot (slice_index t.kept k) (slot t.streams k) p (closed_part r fs amount k len l) ∙ (λ i. nat_lt (same.receive_max i) (same.credited i + p))
+
+-- the streams as they were tell as well whether a part is past what its stream may receive
+pub over_same : (r : Receiving) (fs : List Known) (amount : ℕ) (b : Bool) → length r.streams ≡ 65 → IsOverAt r (parts amount (shares fs)) b → any_over_max (after_frames r fs).streams (parts amount (shares fs)) ≡ b
+over_same r fs amount true len h =
+    let both : length (parts amount (shares fs)) ≡ length (after_frames r fs).streams = length-parts amount (shares fs) ∙ length_shares fs ∙ sym (frames_length r fs ∙ len) in
+    some_over (after_frames r fs).streams (parts amount (shares fs)) h.0 both (subst (λ n. h.0 < n) (sym (frames_length r fs ∙ len)) h.1) (over_one r fs amount h.0 len h.1 ∙ h.2)
+over_same r fs amount false len h =
+    let both : length (parts amount (shares fs)) ≡ length (after_frames r fs).streams = length-parts amount (shares fs) ∙ length_shares fs ∙ sym (frames_length r fs ∙ len) in
+    none_over (after_frames r fs).streams (parts amount (shares fs)) both (λ k l.
+    let m : k < 65 = subst (λ n. k < n) (frames_length r fs ∙ len) l in over_one r fs amount k len m ∙ h k m)
+
+frame_credit : (r : Receiving) (f : Known) → (after_frame r f).credit ≡ r.credit
+frame_credit r (StreamData k o xs) = refl
+frame_credit r (StreamMoney k n) = refl
+frame_credit r (StreamClose k code message) = refl
+frame_credit r (ConnectionClose code message) = refl
+frame_credit r (ConnectionNewAddress address) = refl
+frame_credit r (ConnectionMaxData n) = refl
+frame_credit r (ConnectionDataBlocked n) = refl
+frame_credit r (StreamMaxMoney k n m) = refl
+frame_credit r (StreamMoneyBlocked k n m) = refl
+frame_credit r (StreamMaxData k n) = refl
+frame_credit r (StreamDataBlocked k n) = refl
+
+pub frames_credit : (r : Receiving) (fs : List Known) → (after_frames r fs).credit ≡ r.credit
+unfolding after_frames
+frames_credit r [] = refl
+frames_credit r (f ∷ fs) = frames_credit (after_frame r f) fs ∙ frame_credit r f
+
+-- ---- the answers, case by case
+
+pub le_true : (a b : ℕ) → a ≤ b → nat_le a b ≡ true
+le_true a b l = grind (arith, nat_tests)
+
+pub le_not : (a b : ℕ) → b < a → nat_le a b ≡ false
+le_not a b l = grind (arith, nat_tests)
+
+eq_not : (n : ℕ) → 0 < n → nat_eq n 0 ≡ false
+eq_not n l = grind (arith, nat_tests)
+
+pub fault_past : (r : Receiving) (amount : ℕ) (fs : List Known) → 2 ^ 64 ≤ sum (shares fs) → Some NoShares ≡ money_fault r amount fs
+fault_past r amount fs l =
+    ap (λ b. fault_by b (nat_lt 0 amount) (nat_eq (sum (shares fs)) 0) (any_over_max r.streams (parts amount (shares fs))) (nat_le (2 ^ 63) (r.credit + amount))) (sym (le_true (2 ^ 64) (sum (shares fs)) l))
+
+pub fault_nothing : (r : Receiving) (amount : ℕ) (fs : List Known) → sum (shares fs) < 2 ^ 64 → amount ≡ 0 → None ≡ money_fault r amount fs
+fault_nothing r amount fs l z =
+    let no : nat_lt 0 amount ≡ false = grind (arith, nat_tests) in
+    λ i. fault_by (sym (le_not (2 ^ 64) (sum (shares fs)) l) i) (sym no i) (nat_eq (sum (shares fs)) 0) (any_over_max r.streams (parts amount (shares fs))) (nat_le (2 ^ 63) (r.credit + amount))
+
+pub fault_none : (r : Receiving) (amount : ℕ) (fs : List Known) → sum (shares fs) < 2 ^ 64 → 0 < amount → sum (shares fs) ≡ 0 → Some NoShares ≡ money_fault r amount fs
+fault_none r amount fs l pos z =
+    let yes : nat_eq (sum (shares fs)) 0 ≡ true = grind (arith, nat_tests) in
+    λ i. fault_by (sym (le_not (2 ^ 64) (sum (shares fs)) l) i) (sym (pays_true amount pos) i) (sym yes i) (any_over_max r.streams (parts amount (shares fs))) (nat_le (2 ^ 63) (r.credit + amount))
+
+pub fault_over : (r : Receiving) (amount : ℕ) (fs : List Known) → sum (shares fs) < 2 ^ 64 → 0 < amount → 0 < sum (shares fs) → any_over_max r.streams (parts amount (shares fs)) ≡ true → Some OverReceiveMax ≡ money_fault r amount fs
+fault_over r amount fs l pos some over =
+    λ i. fault_by (sym (le_not (2 ^ 64) (sum (shares fs)) l) i) (sym (pays_true amount pos) i) (sym (eq_not (sum (shares fs)) some) i) (sym over i) (nat_le (2 ^ 63) (r.credit + amount))
+
+pub fault_much : (r : Receiving) (amount : ℕ) (fs : List Known) (b : Bool) → sum (shares fs) < 2 ^ 64 → 0 < amount → 0 < sum (shares fs) → any_over_max r.streams (parts amount (shares fs)) ≡ false → nat_le (2 ^ 63) (r.credit + amount) ≡ b
+    → cond b (Some OverReceiveMax) None ≡ money_fault r amount fs
+fault_much r amount fs b l pos some over much =
+    λ i. fault_by (sym (le_not (2 ^ 64) (sum (shares fs)) l) i) (sym (pays_true amount pos) i) (sym (eq_not (sum (shares fs)) some) i) (sym over i) (sym much i)
+
+-- ---- a packet that breaks no rule
+
+rules_by : (closed seen small : Bool) (a b : Option Reason) → cond closed (Some ConnectionClosed) (cond seen (Some Repeated) (cond small (Some AmountTooSmall) (option_or a b))) ≡ None → (a ≡ None) × (b ≡ None)
+rules_by true seen small a b e = absurd cc
+rules_by false true small a b e = absurd cc
+rules_by false false true a b e = absurd cc
+rules_by false false false (Some x) b e = absurd cc
+rules_by false false false None b e = (refl, e)
+
+pub lawful_of : (r : Receiving) (p : Packet) (amount : ℕ) → fault_of r p amount ≡ None → (frames_fault r (frames_of p) ≡ None) × (money_fault (after_frames r (frames_of p)) amount (frames_of p) ≡ None)
+lawful_of r p amount e = rules_by r.closed (contains r.fulfilled p.sequence) (nat_lt amount p.amount) (frames_fault r (frames_of p)) (money_fault (after_frames r (frames_of p)) amount (frames_of p)) e

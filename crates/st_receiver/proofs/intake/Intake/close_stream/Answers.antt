@@ -1,0 +1,17 @@
+use Rattle.std.proofs.Common.{◌<◌, ◌∙◌, sym, ap, subst}
+use Rattle.st_receiver.specs.Closes.{with_close}
+use Rattle.st_receiver.specs.Standing.{Standing, is_ready}
+use Rattle.st_receiver.proofs.Applying.{changed, changed_keeps, ready_within}
+use Rattle.st_receiver.proofs.intake.Intake.close_stream.Goals as goal
+
+pub returns-clause-state : goal.returns-clause-state
+returns-clause-state g c =
+    changed c.args.self.now c.self.inside.parity c.self.inside.slots.items c.drawn-incoming.new.slots.items c.self.inside.kept c.self.inside.fulfilled.set c.self.inside.credit c.self.inside.closed c.self.inside.fulfilled.room c.self.inside.windows.items
+    c.args.stream (with_close c.args.code) c.drawn-incoming.result c.close.new.self c.self.view_is c.drawn-incoming.ensures.left c.drawn-incoming.ensures.stream c.close.ensures
+
+pub returns-clause-keeps : goal.returns-clause-keeps
+returns-clause-keeps g c =
+    changed_keeps c.args.self.now c.self.inside.parity c.self.inside.slots.items c.drawn-incoming.new.slots.items c.self.inside.kept c.self.inside.fulfilled.set c.self.inside.credit c.self.inside.closed c.self.inside.fulfilled.room c.self.inside.windows.items c.drawn-incoming.new.windows.items
+    c.args.stream c.close.new.self c.self.view_is c.drawn-incoming.ensures.left
+    (subst (λ n. c.args.stream < n) (sym c.self.invariant.0) (ready_within c.self.inside.slots.items c.self.inside.windows.items c.args.stream c.self.invariant.0 c.self.invariant.1 (ap (λ (t : Standing). is_ready t c.args.stream) c.self.view_is ∙ c.requires.ready)))
+    c.drawn-incoming.ensures.others

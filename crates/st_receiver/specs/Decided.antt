@@ -1,0 +1,30 @@
+-- What a decision says, and what a read gave, in the definitions' terms.
+use Rattle.std.specs.Prelude.{◌≡◌, ℕ, ◌⊎◌, None, Some}
+use Rattle.st_frames.specs.Frames.{Packet}
+use Rattle.st_receiver.specs.declared.reason.Reason.TheVariants.{NoMemory}
+use Rattle.st_receiver.specs.declared.intake.Decision.{Decision}
+use Rattle.st_receiver.specs.declared.intake.Decision.TheVariants.{Fulfill, Reject}
+use Rattle.st_receiver.specs.declared.intake.Plan.{Plan}
+use Rattle.st_receiver.specs.declared.got.Got.{Got}
+use Rattle.st_receiver.specs.declared.got.Got.TheVariants.{Bytes, Nothing, End, Aborted}
+use Rattle.st_receiver.specs.Reading as reading
+use Rattle.st_receiver.specs.Reasons.{code_of}
+use Rattle.st_receiver.specs.Judged.{fault_of}
+use Rattle.st_receiver.specs.Standing.{Standing, HasRoom}
+
+-- a plan by which the packet may take effect: it breaks no rule, and there is room
+pub record IsPlanFor (s : Standing) (p : Packet) (plan : Plan) : Type 0 where
+  pub lawful : fault_of s.state p plan.amount ≡ None
+  pub room : HasRoom s p
+
+-- the packet may take effect, or a reason stands: want of memory only where no other reason does
+abbrev pub IsDecision : Standing → Packet → (amount : ℕ) → Decision → Type 0
+IsDecision s p amount (Fulfill plan) = (plan.amount ≡ amount) × IsPlanFor s p plan
+IsDecision s p amount (Reject code reason) =
+    (code ≡ code_of reason) × ((fault_of s.state p amount ≡ Some reason) ⊎ ((reason ≡ NoMemory) × (fault_of s.state p amount ≡ None)))
+
+abbrev pub got_seen : {X : Type 0} → Got X → reading.Got
+got_seen (Bytes bytes) = reading.Bytes bytes.items
+got_seen Nothing = reading.Nothing
+got_seen End = reading.End
+got_seen (Aborted code) = reading.Aborted code

@@ -1,0 +1,96 @@
+-- How a packet is judged while nothing changes: by the streams as they were, and the highest byte ends as they would be.
+use Rattle.std.specs.Prelude.{◌≡◌, ◌<◌, ℕ, zero, suc, ◌+◌, Bool, true, false, not, ◌&&◌, ◌||◌, List, [], ◌∷◌, length, map, max, sum, slice_index, slice_set, nat_eq, nat_lt, is_err, if◌then◌else◌}
+use Rattle.std.specs.declared.option.Option.{Option}
+use Rattle.std.specs.declared.option.Option.TheVariants.{None, Some}
+use Rattle.std.specs.Option.{option_or}
+use Rattle.st_tables.specs.Slots.{slot}
+use Rattle.st_frames.specs.Frames.{Known, StreamClose, StreamMoney, StreamData}
+use Rattle.st_reassembly.specs.Held.{Held, nothing_held, is_over}
+use Rattle.st_reassembly.specs.Inserting.{inserted}
+use Rattle.st_receiver.specs.declared.reason.Reason.{Reason}
+use Rattle.st_receiver.specs.declared.reason.Reason.TheVariants.{FlowControl}
+use Rattle.st_receiver.specs.Streams.{Incoming, Receiving, incoming_at, may_name, received_of, read_of}
+use Rattle.st_receiver.specs.Data.{stream_fault}
+
+-- what a stream holds, or a new one
+abbrev pub held_or : Option Incoming → Held
+held_or None = nothing_held
+held_or (Some x) = x.held
+
+abbrev pub held_at : Receiving → ℕ → Held
+held_at r k = held_or (slot r.streams k)
+
+-- a piece has bytes that count for the connection
+abbrev pub counts : Held → List ℕ → Bool
+counts h xs = not (is_over h || nat_eq (length xs) 0)
+
+-- the highest byte end once a piece came
+abbrev pub raised : Held → (highest offset : ℕ) → List ℕ → ℕ
+raised h highest offset xs = if is_over h || nat_eq (length xs) 0 then highest else max highest (offset + length xs)
+
+abbrev pub ends_with : Receiving → List ℕ → (stream offset : ℕ) → List ℕ → List ℕ
+ends_with r ends stream offset xs = slice_set ends stream (raised (held_at r stream) (slice_index ends stream) offset xs)
+
+abbrev pub piece_fault : Receiving → List ℕ → (limit stream offset : ℕ) → List ℕ → Option Reason
+piece_fault r ends limit stream offset xs =
+    if is_err (inserted offset xs (held_at r stream)) || (counts (held_at r stream) xs && nat_lt limit (sum (ends_with r ends stream offset xs)))
+    then Some FlowControl else None
+
+abbrev pub told_fault : Receiving → List ℕ → (limit : ℕ) → Known → Option Reason
+told_fault r ends limit (StreamData stream offset xs) = option_or (stream_fault r stream) (piece_fault r ends limit stream offset xs)
+told_fault r ends limit (StreamMoney stream shares) = stream_fault r stream
+told_fault r ends limit (StreamClose stream code message) = stream_fault r stream
+told_fault r ends limit f = None
+
+abbrev pub ends_after : Receiving → List ℕ → Known → List ℕ
+ends_after r ends (StreamData stream offset xs) = ends_with r ends stream offset xs
+ends_after r ends f = ends
+
+-- what data leave of a direction
+pub record SameSpan (s t : Held) : Type 0 where
+  pub read : t.read ≡ s.read
+  pub end : t.end ≡ s.end
+  pub aborted : t.aborted ≡ s.aborted
+
+-- cur came from r by data, and these are its highest byte ends
+pub record Tracks (r cur : Receiving) (ends : List ℕ) : Type 0 where
+  pub highest : ends ≡ map received_of cur.streams
+  pub reads : map read_of cur.streams ≡ map read_of r.streams
+  pub spans : (k : ℕ) → SameSpan (held_at r k) (held_at cur k)
+  pub names : (k : ℕ) → may_name cur k ≡ may_name r k
+  pub len : length cur.streams ≡ 65
+
+-- ---- money
+
+-- the shares with those of one frame more
+abbrev pub with_shares : List ℕ → Known → List ℕ
+with_shares ms (StreamMoney stream shares) = slice_set ms stream (slice_index ms stream + shares)
+with_shares ms f = ms
+
+unfoldable pub with_all_shares : List ℕ → List Known → List ℕ
+with_all_shares ms [] = ms
+with_all_shares ms (f ∷ fs) = with_all_shares (with_shares ms f) fs
+
+-- shares for a stream, where there are any
+abbrev pub plus : List ℕ → Option (ℕ × ℕ) → List ℕ
+plus ms None = ms
+plus ms (Some x) = slice_set ms x.0 (slice_index ms x.0 + x.1)
+
+abbrev pub below_end : Option (ℕ × ℕ) → Type 0
+below_end None = Unit {0}
+below_end (Some x) = x.0 < 65
+
+-- a part past what its stream may receive, as it is or as it would open
+abbrev pub over_at : Receiving → ℕ → ℕ → Bool
+over_at r k p = nat_lt (incoming_at r k).receive_max ((incoming_at r k).credited + p)
+
+-- whether a part of these is
+abbrev pub IsOverAt : Receiving → List ℕ → Bool → Type 0
+IsOverAt r ps true = (k : ℕ) × (k < 65) × (over_at r k (slice_index ps k) ≡ true)
+IsOverAt r ps false = (k : ℕ) → k < 65 → over_at r k (slice_index ps k) ≡ false
+
+-- the first k of one list, and then those of the other
+unfoldable pub mix : {A : Type 0} → ℕ → List A → List A → List A
+mix zero gs os = os
+mix (suc k) (g ∷ gs) (o ∷ os) = g ∷ mix k gs os
+mix (suc k) gs os = os

@@ -1,0 +1,12 @@
+pub mod Reasons
+pub mod Streams
+pub mod Data
+pub mod Money
+pub mod Closes
+pub mod Judged
+pub mod Limits
+pub mod Reading
+pub mod Sequences
+pub mod Standing
+pub mod Decided
+pub mod Inside

@@ -1,0 +1,106 @@
+//! What an end is told of what it received, and the streams that it opens itself.
+
+ghost use Rattle.std.specs.Prelude.{◌≡◌, ◌<◌, true, IfOk, OnOk, OnErr, IsOkUnless};
+ghost use Rattle.st_tables.specs.Slots.{slot};
+ghost use Rattle.st_receiver.specs.Streams.{opened_stream, may_name, is_open, incoming_at, with_incoming, with_max, with_kept, with_receive_max, credited_of};
+ghost use Rattle.st_receiver.specs.Reading.{got, after_got};
+ghost use Rattle.st_receiver.specs.Decided.{got_seen};
+
+use crate::apply::drawn;
+use crate::got::Got;
+use crate::incoming::Incoming;
+use crate::intake::Intake;
+use crate::reason::Reason;
+use std::alloc::Allocator;
+
+/// What a stream was credited.
+fn credited_of<A: Allocator + Copy>(slot: &Option<Incoming<A>>) -> u64
+    ensures { result ≡ credited_of slot.now }
+{
+    match slot {
+        Some(incoming) => incoming.credited(),
+        None => 0,
+    }
+}
+
+impl<A: Allocator + Copy> Intake<A> {
+    /// What was credited on all streams, in units of this end's asset.
+    pub fn credited(&self) -> u64
+        ensures { result ≡ self.now.state.credit }
+    {
+        self.credit
+    }
+
+    /// Opens a stream, as one of this end's own, where it is not open. After `NoMemory` nothing that is received has
+    /// changed.
+    pub fn open(&mut self, stream: u64) -> Result<(), Reason>
+        requires { stream < 65 }
+        ensures only_memory { IsOkUnless result Reason.NoMemory }
+        ensures opened { OnOk result (self.new.state ≡ opened_stream self.old.state stream) }
+        ensures unchanged { OnErr result (self.new.state ≡ self.old.state) }
+    {
+        self.make_ready(stream)?;
+        self.open_ready(stream);
+        Ok(())
+    }
+
+    /// What was credited on a stream, in units of this end's asset: 0 where it is not open.
+    pub fn credited_to(&self, stream: u64) -> u64
+        ensures { result ≡ credited_of (slot self.now.state.streams stream) }
+    {
+        if self.has_stream(stream) {
+            return credited_of(&self.slots[stream as usize]);
+        }
+        0
+    }
+
+    /// Raises the receive max of a stream that is open.
+    fn raise_open(&mut self, stream: u64, amount: u64)
+        requires { is_open self.old.state stream ≡ true }
+        ensures { self.new.state ≡ with_incoming self.old.state stream (with_max amount (incoming_at self.old.state stream)) }
+    {
+        let k = stream as usize;
+        let mut incoming = drawn(&mut self.slots, &mut self.windows, &self.kept, k);
+        incoming.raise_receive_max(amount);
+        self.slots[k] = Some(incoming);
+    }
+
+    /// Raises the receive max that waits for a stream that is not open.
+    fn raise_kept(&mut self, stream: u64, amount: u64)
+        requires { stream < 65 }
+        ensures { self.new.state ≡ with_kept self.old.state stream amount }
+    {
+        let k = stream as usize;
+        self.kept[k] = self.kept[k].max(amount);
+    }
+
+    /// Lets a stream receive up to an amount in all, in units of this end's asset: the greater of the old and the new
+    /// stands. A stream of the peer that is not open keeps it for when it opens.
+    pub fn set_receive_max(&mut self, stream: u64, amount: u64)
+        requires { may_name self.old.state stream ≡ true }
+        ensures { self.new.state ≡ with_receive_max self.old.state stream amount }
+    {
+        if self.has_stream(stream) {
+            self.raise_open(stream, amount);
+        } else {
+            self.raise_kept(stream, amount);
+        }
+    }
+
+    /// Reads the first bytes that can be read on a stream that is open, at most `max` of them. Where there are none it
+    /// tells the end, once all before it was read, or that there is nothing yet. After an abort it tells its code alone.
+    /// After `NoMemory` nothing that is received has changed.
+    pub fn read(&mut self, stream: u64, max: usize) -> Result<Got<A>, Reason>
+        requires { is_open self.old.state stream ≡ true }
+        ensures only_memory { IsOkUnless result Reason.NoMemory }
+        ensures got { IfOk result (λ g. got_seen g ≡ got max (incoming_at self.old.state stream).held) }
+        ensures left { OnOk result (self.new.state ≡ after_got self.old.state stream max) }
+        ensures unchanged { OnErr result (self.new.state ≡ self.old.state) }
+    {
+        let k = stream as usize;
+        let mut incoming = drawn(&mut self.slots, &mut self.windows, &self.kept, k);
+        let got = incoming.get(max);
+        self.slots[k] = Some(incoming);
+        got
+    }
+}

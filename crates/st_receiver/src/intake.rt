@@ -1,0 +1,121 @@
+//! What an end receives on all streams of a connection.
+
+ghost use Rattle.std.specs.Prelude.{◌≡◌, ◌≤◌, ◌<◌, IfOk, IsOkUnless, true};
+ghost use Rattle.st_frames.specs.Packets.{packet_of};
+ghost use Rattle.st_frames.specs.Frames.{frame_of};
+ghost use Rattle.st_receiver.specs.Streams.{new_receiving, may_name, is_open};
+ghost use Rattle.st_receiver.specs.Judged.{effect};
+ghost use Rattle.st_tables.specs.Slots.{no_slots};
+ghost use Rattle.st_receiver.specs.Decided.{IsDecision, IsPlanFor};
+
+use crate::incoming::{Incoming, Window};
+use crate::reason::Reason;
+use crate::sequences::Sequences;
+use st_frames::StreamPacket;
+use std::alloc::Allocator;
+use std::marker::Model;
+
+/// How many places a table of streams has: streams are numbered from 1 to 64.
+pub(crate) const PLACES: usize = 65;
+
+/// What an end receives on all streams of a connection: bytes, money, closes, and which Prepares were fulfilled.
+#[derive(Drop)]
+pub struct Intake<A: Allocator + Copy> {
+    pub(crate) alloc: A,
+    /// Of this end's own stream numbers: 1 for a client, 0 for a server.
+    pub(crate) parity: u8,
+    /// The streams by number, where they are open.
+    pub(crate) slots: Vec<Option<Incoming<A>>, A>,
+    /// The empty windows that wait for streams that are not open.
+    pub(crate) windows: Vec<Option<Window<A>>, A>,
+    /// The receive max that waits for each stream that is not open.
+    pub(crate) kept: [u64; 65],
+    pub(crate) fulfilled: Sequences<A>,
+    /// What was credited on all streams: at most 2^63 - 1.
+    pub(crate) credit: u64,
+    /// The peer closed the connection.
+    pub(crate) closed: bool,
+}
+
+impl<A: Allocator + Copy> Model for Intake<A> {
+    ghost use Rattle.std.specs.Prelude.{◌≡◌, length};
+    ghost use Rattle.std.specs.Coded.{codes};
+    ghost use Rattle.std.specs.FinMap as map;
+    ghost use Rattle.st_receiver.specs.Standing.{Standing};
+
+    ghost Value = { Standing };
+
+    ghost coded = { Prim.hlevel (codes, map.code) };
+
+    ghost view = { λ s. record {
+      state = record { parity = s.parity; streams = s.slots.items; kept = s.kept; fulfilled = s.fulfilled.set; credit = s.credit; closed = s.closed };
+      room = s.fulfilled.room;
+      windows = s.windows.items;
+    } };
+
+    ghost invariant = { λ s. (length s.slots.items ≡ 65) × (length s.windows.items ≡ 65) };
+}
+
+/// By which a packet may take effect: the amount that came with it. `judge` gives it and `commit` spends it.
+#[derive(Debug, PartialEq, Eq, Drop)]
+pub struct Plan {
+    pub(crate) amount: u64,
+}
+
+/// What becomes of a packet.
+#[derive(Debug, PartialEq, Eq, Drop)]
+pub enum Decision {
+    /// The Prepare may be fulfilled, once the packet took effect.
+    Fulfill(Plan),
+    /// The Prepare is rejected.
+    Reject { code: [u8; 3], reason: Reason },
+}
+
+/// A list of empty places.
+fn no_places<T: Drop, A: Allocator>(alloc: A) -> Result<Vec<Option<T>, A>, Reason>
+    ensures only_memory { IsOkUnless result Reason.NoMemory }
+    ensures empty { IfOk result (λ v. v.items ≡ no_slots) }
+{
+    let mut places = Vec::with_capacity(alloc, PLACES)?;
+    for k in 0..PLACES {
+        places.push(None)?;
+    }
+    Ok(places)
+}
+
+impl<A: Allocator + Copy> Intake<A> {
+    /// With no stream open yet. The parity is that of this end's own stream numbers: 1 for a client, 0 for a server.
+    pub fn new(alloc: A, parity: u8) -> Result<Intake<A>, Reason>
+        ensures only_memory { IsOkUnless result Reason.NoMemory }
+        ensures empty { IfOk result (λ s. s.state ≡ new_receiving parity) }
+    {
+        let slots = no_places(alloc)?;
+        let windows = no_places(alloc)?;
+        Ok(Intake {
+            alloc,
+            parity,
+            slots,
+            windows,
+            kept: [0; 65],
+            fulfilled: Sequences::new(alloc),
+            credit: 0,
+            closed: false,
+        })
+    }
+
+    /// Whether a stream is open.
+    pub fn has_stream(&self, stream: u64) -> bool
+        ensures { result ≡ is_open self.now.state stream }
+    {
+        stream < 65 && self.slots[stream as usize].is_some()
+    }
+
+    /// Whether a stream is open, or of a number that the peer may open.
+    pub fn may_name(&self, stream: u64) -> bool
+        ensures { result ≡ may_name self.now.state stream }
+    {
+        1 <= stream
+            && stream <= 64
+            && (self.slots[stream as usize].is_some() || stream % 2 != u64::from(self.parity))
+    }
+}

@@ -1,0 +1,26 @@
+//! The receiving side of a STREAM end (RFC 0029). `Intake::judge` decides on a packet that came with a Prepare: the first
+//! rule that it breaks, or a `Plan` by which it may take effect. `commit` lets it take effect, and takes no memory: the
+//! data first, then the money, then the closes. `specs/Judged.antt` has both as functions of what was received so far;
+//! `specs/Data.antt`, `specs/Money.antt` and `specs/Closes.antt` have their parts, `specs/Limits.antt` the limits that are
+//! told. Memory that was taken in advance is no part of what is received (`specs/Standing.antt`).
+#![tactic(auto)]
+
+mod apply;
+mod asking;
+mod commit;
+mod decide;
+mod got;
+mod incoming;
+mod intake;
+mod judge;
+mod money;
+mod reason;
+mod sequences;
+mod telling;
+
+pub use got::Got;
+pub use intake::{Decision, Intake, Plan};
+pub use reason::Reason;
+
+#[cfg(test)]
+mod tests;

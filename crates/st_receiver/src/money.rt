@@ -1,0 +1,195 @@
+//! The split of a packet's amount over its streams.
+
+ghost use Rattle.std.specs.Prelude.{◌≡◌, ◌<◌, ◌≤◌, ◌+◌, ◌*◌, ◌/◌, ◌^◌, ℕ, List, map, sum, set, length, slice_index, MatchOption, None, false, IsTrue};
+ghost use Rattle.st_frames.specs.Frames.{frame_of};
+ghost use Rattle.st_frames.specs.Seen.{seen};
+ghost use Rattle.st_frames.specs.Told.{shares};
+ghost use Rattle.st_tables.specs.Slots.{slot};
+ghost use Rattle.st_receiver.specs.Data as taken;
+ghost use Rattle.st_receiver.specs.Money as money;
+ghost use Rattle.st_receiver.specs.Inside as inside;
+ghost use Rattle.st_receiver.specs.Standing.{Keeps};
+
+use crate::decide::sum_of;
+use crate::incoming::Incoming;
+use crate::intake::Intake;
+use crate::reason::Reason;
+use st_frames::{Frame, Frames};
+use std::alloc::Allocator;
+
+/// The shares that a frame gives, and the place of their stream.
+fn shares_of(frame: Frame<'_>) -> Option<(usize, u64)>
+    ensures within { inside.below_end result }
+    ensures shares { (ms : List ℕ) → length ms ≡ 65 → inside.plus ms result ≡ inside.with_shares ms (seen frame.entry) }
+{
+    match frame {
+        Frame::StreamMoney { stream, shares } => {
+            if stream >= 65 {
+                return None;
+            }
+            Some((stream as usize, shares))
+        }
+        _ => None,
+    }
+}
+
+/// The shares of each stream, by number, where their sum is below 2^64.
+fn shares_in(mut frames: Frames<'_>) -> Option<[u64; 65]>
+    ensures { MatchOption result (2 ^ 64 ≤ sum (shares (map frame_of frames.entry))) (λ ms. (ms ≡ shares (map frame_of frames.entry)) × (sum ms < 2 ^ 64)) }
+{
+    let mut all = [0; 65];
+    let mut total: u64 = 0;
+    while let Some((_, frame)) = frames.next() {
+        if let Some((k, shares)) = shares_of(frame) {
+            let Some(more) = total.checked_add(shares) else {
+                return None;
+            };
+            all[k] += shares;
+            total = more;
+        }
+    }
+    Some(all)
+}
+
+/// The part of one stream, rounded down.
+fn part(amount: u64, shares: u64, all: u64) -> u64
+    requires some { 0 < all }
+    requires among { shares ≤ all }
+    ensures { result ≡ amount * shares / all }
+{
+    (u128::from(amount) * u128::from(shares) / u128::from(all)) as u64
+}
+
+/// All parts, rounded down.
+fn rounded_parts(amount: u64, shares: &[u64; 65], all: u64) -> [u64; 65]
+    requires some { 0 < all }
+    requires all { all ≡ sum shares.now }
+    ensures { result ≡ money.rounded amount all shares.now }
+{
+    let mut parts = [0; 65];
+    for k in 0..65 {
+        parts[k] = part(amount, shares[k], all);
+    }
+    parts
+}
+
+/// The place of the first stream that has shares, or 65.
+fn first_with_shares(shares: &[u64; 65]) -> usize
+    ensures within { result ≤ 65 }
+    ensures none { (j : ℕ) → j < result → slice_index shares.now j ≡ 0 }
+    ensures some { result < 65 → 0 < slice_index shares.now result }
+{
+    for k in 0..65 {
+        if shares[k] > 0 {
+            return k;
+        }
+    }
+    65
+}
+
+/// The parts of an amount: what is left over by the rounding goes to the first stream that has shares.
+fn parts_of(amount: u64, shares: &[u64; 65], all: u64) -> [u64; 65]
+    requires some { 0 < all }
+    requires all { all ≡ sum shares.now }
+    ensures { result ≡ money.parts amount shares.now }
+{
+    let mut parts = rounded_parts(amount, shares, all);
+    let rest = amount - sum_of(&parts) as u64;
+    let first = first_with_shares(shares);
+    if first < 65 {
+        parts[first] += rest;
+    }
+    parts
+}
+
+/// A stream with a part of an amount.
+fn credited<A: Allocator + Copy>(slot: Option<Incoming<A>>, part: u64) -> Option<Incoming<A>>
+    requires { money.is_over_max slot part ≡ false }
+    ensures { result ≡ money.with_credit slot part }
+{
+    match slot {
+        Some(mut incoming) => {
+            incoming.credit(part);
+            Some(incoming)
+        }
+        None => None,
+    }
+}
+
+/// Credits each stream with its part.
+fn credit_all<A: Allocator + Copy>(slots: &mut Vec<Option<Incoming<A>>, A>, parts: &[u64; 65])
+    requires size { length slots.old.items ≡ 65 }
+    requires fits { money.any_over_max slots.old.items parts.now ≡ false }
+    ensures { slots.new.items ≡ money.with_credits slots.old.items parts.now }
+{
+    for k in 0..65 {
+        let slot = slots[k].take();
+        slots[k] = credited(slot, parts[k]);
+    }
+}
+
+impl<A: Allocator + Copy> Intake<A> {
+    /// Whether a part is past what its stream may receive.
+    fn is_over(&self, k: usize, part: u64) -> bool
+        requires { k < 65 }
+        ensures { result ≡ inside.over_at self.now.state k part }
+    {
+        let (receive_max, credited) = match &self.slots[k] {
+            Some(incoming) => (incoming.receive_max(), incoming.credited()),
+            None => (self.kept[k], 0),
+        };
+        u128::from(receive_max) < u128::from(credited) + u128::from(part)
+    }
+
+    /// Whether any part is.
+    fn any_over(&self, parts: &[u64; 65]) -> bool
+        ensures { inside.IsOverAt self.now.state parts.now result }
+    {
+        for k in 0..65 {
+            if self.is_over(k, parts[k]) {
+                return true;
+            }
+        }
+        false
+    }
+
+    /// Why the money of a packet is not taken, where its frames are.
+    pub(crate) fn money_fault(&self, frames: Frames<'_>, amount: u64) -> Option<Reason>
+        requires { taken.frames_fault self.now.state (map frame_of frames) ≡ None }
+        ensures { result ≡ money.money_fault (taken.after_frames self.now.state (map frame_of frames.entry)) amount (map frame_of frames.entry) }
+    {
+        let _ = &self.alloc;
+        let Some(shares) = shares_in(frames) else {
+            return Some(Reason::NoShares);
+        };
+        if amount == 0 {
+            return None;
+        }
+        let all = sum_of(&shares) as u64;
+        if all == 0 {
+            return Some(Reason::NoShares);
+        }
+        if self.any_over(&parts_of(amount, &shares, all)) {
+            return Some(Reason::OverReceiveMax);
+        }
+        if u128::from(self.credit) + u128::from(amount) >= 1 << 63 {
+            return Some(Reason::OverReceiveMax);
+        }
+        None
+    }
+
+    /// A packet's amount is credited to its streams.
+    pub(crate) fn take_money(&mut self, frames: Frames<'_>, amount: u64)
+        requires { money.money_fault self.old.state amount (map frame_of frames) ≡ None }
+        ensures state { self.new.state ≡ money.after_money self.old.state amount (map frame_of frames.entry) }
+        ensures keeps { Keeps self.old self.new }
+    {
+        if amount == 0 {
+            return;
+        }
+        let shares = shares_in(frames).unwrap();
+        let parts = parts_of(amount, &shares, sum_of(&shares) as u64);
+        credit_all(&mut self.slots, &parts);
+        self.credit += amount;
+    }
+}

@@ -1,0 +1,85 @@
+//! The limits that an end tells its peer (RFC 0029, section 5.3).
+
+ghost use Rattle.std.specs.Prelude.{◌≡◌, ◌<◌, ◌++◌, map, IfOk, OnOk, IsOkUnless};
+ghost use Rattle.st_frames.specs.Seen.{seen};
+ghost use Rattle.st_receiver.specs.Streams.{fresh_incoming, incoming_or, incoming_at};
+ghost use Rattle.st_receiver.specs.Limits.{told_by, limits_of, limits};
+
+use crate::decide::capped;
+use crate::incoming::Incoming;
+use crate::intake::Intake;
+use crate::reason::Reason;
+use st_frames::Frame;
+use std::alloc::Allocator;
+
+/// How far past what was read the bytes of a stream may reach.
+const STREAM_WINDOW: u128 = 65_536;
+
+/// The limits of a stream, as it is or as it would open, behind those that are there.
+fn push_both<'f, A: Allocator + Copy>(
+    frames: &mut Vec<Frame<'f>, A>,
+    stream: u64,
+    slot: &Option<Incoming<A>>,
+    kept: u64,
+) -> Result<(), Reason>
+    ensures only_memory { IsOkUnless result Reason.NoMemory }
+    ensures told { OnOk result (map seen frames.new.items ≡ map seen frames.old.items ++ told_by stream (incoming_or (fresh_incoming kept) slot.now)) }
+{
+    let (read, receive_max, total_received) = match slot {
+        Some(incoming) => (
+            incoming.read_count(),
+            incoming.receive_max(),
+            incoming.credited(),
+        ),
+        None => (0, kept, 0),
+    };
+    frames.push(Frame::StreamMaxData {
+        stream,
+        max_offset: capped(u128::from(read) + STREAM_WINDOW),
+    })?;
+    frames.push(Frame::StreamMaxMoney {
+        stream,
+        receive_max,
+        total_received,
+    })?;
+    Ok(())
+}
+
+impl<A: Allocator + Copy> Intake<A> {
+    /// The limits of a stream, behind those that are there.
+    fn push_stream<'f>(&self, frames: &mut Vec<Frame<'f>, A>, stream: u64) -> Result<(), Reason>
+        requires { stream < 65 }
+        ensures only_memory { IsOkUnless result Reason.NoMemory }
+        ensures told { OnOk result (map seen frames.new.items ≡ map seen frames.old.items ++ told_by stream (incoming_at self.now.state stream)) }
+    {
+        let k = stream as usize;
+        push_both(frames, stream, &self.slots[k], self.kept[k])
+    }
+
+    /// The same where the stream is open or the peer may open it.
+    fn push_limits<'f>(&self, frames: &mut Vec<Frame<'f>, A>, stream: u64) -> Result<(), Reason>
+        requires { stream < 65 }
+        ensures only_memory { IsOkUnless result Reason.NoMemory }
+        ensures told { OnOk result (map seen frames.new.items ≡ map seen frames.old.items ++ limits_of self.now.state stream) }
+    {
+        if self.may_name(stream) {
+            return self.push_stream(frames, stream);
+        }
+        Ok(())
+    }
+
+    /// The limits that stand: the connection's, and those of each stream that is open or that the peer may open.
+    pub fn limits<'f>(&self) -> Result<Vec<Frame<'f>, A>, Reason>
+        ensures only_memory { IsOkUnless result Reason.NoMemory }
+        ensures told { IfOk result (λ frames. map seen frames.items ≡ limits self.now.state) }
+    {
+        let mut frames = Vec::new(self.alloc);
+        frames.push(Frame::ConnectionMaxData {
+            max_offset: self.connection_limit(),
+        })?;
+        for k in 0..64 {
+            self.push_limits(&mut frames, k + 1)?;
+        }
+        Ok(frames)
+    }
+}
