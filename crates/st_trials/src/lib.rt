@@ -29,8 +29,6 @@ mod program;
 #[cfg(test)]
 mod sealing;
 #[cfg(test)]
-mod unacked;
-#[cfg(test)]
 mod waiting;
 
 /// The number of the last request that is refused in turn. No call that is tried up to it makes as many.
