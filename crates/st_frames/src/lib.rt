@@ -20,6 +20,3 @@ pub use laws::{frames_law, packet_law, prefix_law, reading_wants_no_memory, writ
 pub use length::packet_len;
 pub use packet::{Frames, MAX_PACKET, StreamPacket, VERSION, read_packet};
 pub use writing::{put_packet, write_packet};
-
-#[cfg(test)]
-mod tests;

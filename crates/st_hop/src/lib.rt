@@ -31,6 +31,3 @@ pub use route::Route;
 pub use settling::{Closing, Outcome};
 pub use ticket::{Open, Ticket};
 pub use verdict::Verdict;
-
-#[cfg(test)]
-mod tests;

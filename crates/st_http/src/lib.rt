@@ -18,8 +18,6 @@ mod length;
 mod reading;
 mod reads;
 mod server;
-#[cfg(test)]
-mod tests;
 mod texts;
 mod verdict;
 

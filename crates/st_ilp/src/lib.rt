@@ -26,6 +26,3 @@ pub use packet::{Answer, MAX_DATA, MAX_MESSAGE, Prepare};
 pub use reading::{read_answer, read_prepare};
 pub use reject::{put_reject, reject_len};
 pub use writing::{write_answer, write_prepare};
-
-#[cfg(test)]
-mod tests;

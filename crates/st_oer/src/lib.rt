@@ -15,8 +15,6 @@ mod put;
 mod rate;
 mod reading;
 mod tally;
-#[cfg(test)]
-mod tests;
 mod text;
 mod turn;
 

@@ -29,6 +29,3 @@ pub use reader::StreamReader;
 pub use rings::{Named, ROOM, Rings, STREAMS, WRITERS};
 pub use totals::Totals;
 pub use writer::{MAX_CHUNK, StreamWriter};
-
-#[cfg(test)]
-mod tests;

@@ -17,6 +17,3 @@ pub use error::InboxError;
 pub use inbox::Inbox;
 pub use laws::{finish_is_least, insert_is_pointwise, read_is_pointwise, run_is_longest};
 pub use ring::WINDOW;
-
-#[cfg(test)]
-mod tests;

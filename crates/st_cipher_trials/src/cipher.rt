@@ -1,0 +1,150 @@
+mod vectors;
+
+use st_aes::{Key, block, seal, unseal};
+use std::test::*;
+use vectors::{CIPHERTEXT, LONG_FIRST, LONG_LAST, LONG_TAG, TAG_OF_TAGS, TAGS, case_15};
+
+/// Byte i is `first + step * i` modulo 256.
+fn rising<const N: usize>(first: u8, step: u8) -> [u8; N] {
+    let mut bytes = [0u8; N];
+    let mut next = first;
+    for i in 0..N {
+        bytes[i] = next;
+        next = next.wrapping_add(step);
+    }
+    bytes
+}
+
+/// FIPS 197, appendix C.3.
+#[test]
+fn block_of_the_standard(rt: HostRuntime) {
+    let key = Key::new(rising(0, 1));
+    assert_eq!(rt;
+        block(&key, rising(0x00, 0x11)),
+        [
+            0x8e, 0xa2, 0xb7, 0xca, 0x51, 0x67, 0x45, 0xbf, 0xea, 0xfc, 0x49, 0x90, 0x4b, 0x49,
+            0x60, 0x89,
+        ]
+    );
+}
+
+/// Test cases 13 and 14 of the GCM submission: key and IV are zero.
+#[test]
+fn zero_key(rt: HostRuntime) {
+    let key = Key::new([0; 32]);
+    let tag = seal(&key, [0; 12], &mut []);
+    assert_eq!(rt;
+        tag,
+        [
+            0x53, 0x0f, 0x8a, 0xfb, 0xc7, 0x45, 0x36, 0xb9, 0xa9, 0x63, 0xb4, 0xf1, 0xc4, 0xcb,
+            0x73, 0x8b,
+        ]
+    );
+    let mut text = [0u8; 16];
+    let tag = seal(&key, [0; 12], &mut text);
+    assert_eq!(rt;
+        text,
+        [
+            0xce, 0xa7, 0x40, 0x3d, 0x4d, 0x60, 0x6b, 0x6e, 0x07, 0x4e, 0xc5, 0xd3, 0xba, 0xf3,
+            0x9d, 0x18,
+        ]
+    );
+    assert_eq!(rt;
+        tag,
+        [
+            0xd0, 0xd1, 0xc8, 0xa7, 0x99, 0x99, 0x6b, 0xf0, 0x26, 0x5b, 0x98, 0xb5, 0xd4, 0x8a,
+            0xb9, 0x19,
+        ]
+    );
+    assert!(rt; unseal(&key, [0; 12], tag, &mut text));
+    assert_eq!(rt; text, [0u8; 16]);
+}
+
+/// A tag that is wrong in its last byte alone leaves the bytes, also where there are none.
+#[test]
+fn wrong_tag(rt: HostRuntime) {
+    let key = Key::new([0; 32]);
+    let mut tag = seal(&key, [0; 12], &mut []);
+    assert_eq!(rt; tag[15], 0x8b);
+    tag[15] = 0x8a;
+    assert!(rt; !unseal(&key, [0; 12], tag, &mut []));
+
+    let mut text = [0u8; 16];
+    let mut tag = seal(&key, [0; 12], &mut text);
+    let sealed = text;
+    tag[15] ^= 1;
+    assert!(rt; !unseal(&key, [0; 12], tag, &mut text));
+    assert_eq!(rt; text, sealed);
+}
+
+#[test]
+fn case_of_the_submission(rt: HostRuntime) {
+    let key = Key::new(case_15::KEY);
+    let mut text = case_15::TEXT;
+    let tag = seal(&key, case_15::IV, &mut text);
+    assert_eq!(rt; text, case_15::CIPHERTEXT);
+    assert_eq!(rt; tag, case_15::TAG);
+}
+
+#[test]
+fn lengths(rt: HostRuntime) {
+    let key = Key::new(rising(0, 1));
+    let iv = rising(0xa0, 1);
+    let text: [u8; 33] = rising(3, 7);
+    for (length, tag) in TAGS {
+        assert!(rt; length <= 33);
+        let mut sealed = text;
+        let part = &mut sealed[..length];
+        assert_eq!(rt; seal(&key, iv, part), tag, "at {length} bytes");
+        assert!(rt;
+            sealed[..length] == CIPHERTEXT[..length],
+            "at {length} bytes"
+        );
+        assert!(rt; sealed[length..] == text[length..], "at {length} bytes");
+        assert!(rt;
+            unseal(&key, iv, tag, &mut sealed[..length]),
+            "at {length} bytes"
+        );
+        assert_eq!(rt; sealed, text, "at {length} bytes");
+    }
+}
+
+/// Whole blocks with and without a short one behind them, from none to eight: fewer than one pass takes, as many, one more,
+/// and the same about two passes.
+#[test]
+fn each_length(rt: HostRuntime) {
+    let key = Key::new(rising(0, 1));
+    let iv = rising(0xa0, 1);
+    let text: [u8; 130] = rising(3, 7);
+    let mut tags = [0u8; 2096];
+    for length in 0..131usize {
+        let mut sealed = text;
+        let tag = seal(&key, iv, &mut sealed[..length]);
+        assert!(rt;
+            sealed[..length] == CIPHERTEXT[..length],
+            "at {length} bytes"
+        );
+        assert!(rt; sealed[length..] == text[length..], "at {length} bytes");
+        assert!(rt;
+            unseal(&key, iv, tag, &mut sealed[..length]),
+            "at {length} bytes"
+        );
+        assert!(rt; sealed == text, "at {length} bytes");
+        tags[16 * length..16 * length + 16].copy_from_slice(&tag);
+    }
+    assert_eq!(rt; seal(&key, [0; 12], &mut tags), TAG_OF_TAGS);
+}
+
+#[test]
+fn long_text(rt: HostRuntime) {
+    let key = Key::new(rising(0, 1));
+    let iv = rising(0xa0, 1);
+    let text: [u8; 16384] = rising(3, 7);
+    let mut sealed = text;
+    let tag = seal(&key, iv, &mut sealed);
+    assert_eq!(rt; tag, LONG_TAG);
+    assert!(rt; sealed.starts_with(&LONG_FIRST));
+    assert!(rt; sealed.ends_with(&LONG_LAST));
+    assert!(rt; unseal(&key, iv, tag, &mut sealed));
+    assert_eq!(rt; sealed, text);
+}

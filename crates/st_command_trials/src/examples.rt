@@ -1,0 +1,3 @@
+//! An example of the README, word for word: what it does and what it answers. It can be pasted as it is.
+
+mod lines;

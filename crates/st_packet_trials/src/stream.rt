@@ -1,0 +1,355 @@
+use plain::{Refusal, Summary};
+use st_frames::{Frame, FrameError, MAX_PACKET, put_packet, read_packet, write_packet};
+use std::test::Fail;
+
+mod plain;
+
+/// Kind 12, sequence 1, amount 0, one frame: StreamData, stream 1, offset 0, "hi".
+const HI: [u8; 17] = [
+    0x01, 0x0c, 0x01, 0x01, 0x01, 0x00, 0x01, 0x01, 0x14, 0x07, 0x01, 0x01, 0x01, 0x00, 0x02, 0x68,
+    0x69,
+];
+
+/// Kind 12, sequence 1, amount 0, one frame.
+const HEAD: [u8; 8] = [0x01, 0x0c, 0x01, 0x01, 0x01, 0x00, 0x01, 0x01];
+
+/// What a packet of kind 12 reads as.
+fn told(bytes: &[u8]) -> Result<Summary, Refusal> {
+    let packet = match read_packet(bytes, 12) {
+        Ok(packet) => packet,
+        Err(error) => {
+            return Err(Refusal {
+                number: error.number(),
+                inner: error.inner(),
+            });
+        }
+    };
+    let mut summary = Summary {
+        sequence: packet.sequence,
+        amount: packet.amount,
+        known: 0,
+        data: 0,
+    };
+    for (index, frame) in packet.frames {
+        summary.known = summary.known.wrapping_add(1);
+        if let Frame::StreamData {
+            stream,
+            offset,
+            bytes,
+        } = frame
+        {
+            summary.add_data(index, stream, offset, bytes.len() as u64);
+        }
+    }
+    Ok(summary)
+}
+
+fn read_as(sequence: u64, known: u64, data: u64) -> Result<Summary, Refusal> {
+    Ok(Summary {
+        sequence,
+        amount: 0,
+        known,
+        data,
+    })
+}
+
+fn refused(number: u8, inner: Option<u64>) -> Result<Summary, Refusal> {
+    Err(Refusal { number, inner })
+}
+
+#[test]
+fn packets_read(rt: HostRuntime) -> Result<(), Fail> {
+    let hi = Frame::StreamData {
+        stream: 1,
+        offset: 0,
+        bytes: b"hi",
+    };
+    assert_eq!(rt; told(&HI), read_as(1, 1, 3));
+    let trailing = [
+        0x01, 0x0c, 0x01, 0x01, 0x01, 0x00, 0x01, 0x01, 0x14, 0x07, 0x01, 0x01, 0x01, 0x00, 0x02,
+        0x68, 0x69, 0xff, 0xff,
+    ];
+    assert_eq!(rt; told(&trailing), read_as(1, 1, 3));
+    let mut frames = read_packet(&trailing, 12)?.frames;
+    assert_eq!(rt; frames.next(), Some((0, hi)));
+    assert_eq!(rt; frames.next(), None);
+    let skipped = [
+        0x01, 0x0c, 0x01, 0x01, 0x01, 0x00, 0x01, 0x02, 0x99, 0x01, 0x00, 0x14, 0x07, 0x01, 0x01,
+        0x01, 0x00, 0x02, 0x68, 0x69,
+    ];
+    assert_eq!(rt; told(&skipped), read_as(1, 1, 4));
+    let mut frames = read_packet(&skipped, 12)?.frames;
+    assert_eq!(rt; frames.next(), Some((1, hi)));
+    assert_eq!(rt; frames.next(), None);
+    Ok(())
+}
+
+#[test]
+fn packets_refused(rt: HostRuntime) -> Result<(), Fail> {
+    assert_eq!(rt; told(&HI[..12]), refused(22, Some(1)));
+    let mut other_version = HI;
+    other_version[0] = 2;
+    assert_eq!(rt; told(&other_version), refused(20, None));
+    assert_eq!(rt; read_packet(&HI, 13).err(), Some(FrameError::Kind));
+    assert_eq!(rt;
+        told(&[
+            0x01, 0x0c, 0x01, 0x01, 0x01, 0x00, 0x01, 0x01, 0x03, 0x01, 0x01
+        ]),
+        refused(23, Some(0))
+    );
+    let many = [
+        0x01, 0x0c, 0x01, 0x01, 0x01, 0x00, 0x08, 0xff, 0xff, 0xff, 0xff, 0xff, 0xff, 0xff, 0xff,
+    ];
+    assert_eq!(rt; told(&many), refused(22, Some(1)));
+    assert_eq!(rt;
+        told(&[
+            0x01, 0x0c, 0x01, 0x01, 0x01, 0x00, 0x01, 0x01, 0x14, 0x01, 0x02
+        ]),
+        refused(23, Some(0))
+    );
+    assert_eq!(rt;
+        told(&[
+            0x01, 0x0c, 0x09, 0x01, 0x00, 0x00, 0x00, 0x00, 0x00, 0x00, 0x00, 0x00
+        ]),
+        refused(22, Some(4))
+    );
+    // the skeleton of the second frame comes before the contents of the first
+    assert_eq!(rt;
+        told(&[
+            0x01, 0x0c, 0x01, 0x01, 0x01, 0x00, 0x01, 0x02, 0x03, 0x01, 0x01, 0x99, 0x80
+        ]),
+        refused(22, Some(2))
+    );
+    // a message that is no UTF-8, and an address with an empty segment, behind an unknown frame
+    assert_eq!(rt;
+        told(&[
+            0x01, 0x0c, 0x01, 0x01, 0x01, 0x00, 0x01, 0x01, 0x01, 0x03, 0x01, 0x01, 0xff
+        ]),
+        refused(23, Some(0))
+    );
+    assert_eq!(rt;
+        told(&[
+            0x01, 0x0c, 0x01, 0x01, 0x01, 0x00, 0x01, 0x02, 0x99, 0x00, 0x02, 0x03, 0x02, 0x67,
+            0x2e
+        ]),
+        refused(23, Some(1))
+    );
+    let long = vec![in rt.alloc(); 1u8; MAX_PACKET + 1]?;
+    assert_eq!(rt; told(&long), refused(24, None));
+    Ok(())
+}
+
+/// Each frame type, and its bytes by RFC 0029, section 5.3.
+fn samples() -> [(&'static [u8], Frame<'static>); 13] {
+    [
+        (
+            &[0x01, 0x04, 0x01, 0x02, 0x6e, 0x6f],
+            Frame::ConnectionClose {
+                code: 1,
+                message: "no",
+            },
+        ),
+        (
+            &[0x02, 0x04, 0x03, 0x67, 0x2e, 0x61],
+            Frame::ConnectionNewAddress { address: "g.a" },
+        ),
+        (
+            &[0x02, 0x01, 0x00],
+            Frame::ConnectionNewAddress { address: "" },
+        ),
+        (
+            &[0x03, 0x03, 0x02, 0x01, 0x00],
+            Frame::ConnectionMaxData { max_offset: 256 },
+        ),
+        (
+            &[0x04, 0x02, 0x01, 0x7f],
+            Frame::ConnectionDataBlocked { max_offset: 127 },
+        ),
+        (
+            &[0x10, 0x04, 0x01, 0x01, 0x09, 0x00],
+            Frame::StreamClose {
+                stream: 1,
+                code: 9,
+                message: "",
+            },
+        ),
+        (
+            &[0x10, 0x06, 0x01, 0x01, 0xff, 0x02, 0xc3, 0xa9],
+            Frame::StreamClose {
+                stream: 1,
+                code: 255,
+                message: "é",
+            },
+        ),
+        (
+            &[0x11, 0x04, 0x01, 0x03, 0x01, 0x80],
+            Frame::StreamMoney {
+                stream: 3,
+                shares: 128,
+            },
+        ),
+        (
+            &[0x12, 0x07, 0x01, 0x02, 0x02, 0xff, 0xff, 0x01, 0x00],
+            Frame::StreamMaxMoney {
+                stream: 2,
+                receive_max: 65_535,
+                total_received: 0,
+            },
+        ),
+        (
+            &[
+                0x13, 0x0d, 0x01, 0x01, 0x08, 0xff, 0xff, 0xff, 0xff, 0xff, 0xff, 0xff, 0xff, 0x01,
+                0x05,
+            ],
+            Frame::StreamMoneyBlocked {
+                stream: 1,
+                send_max: u64::MAX,
+                total_sent: 5,
+            },
+        ),
+        (
+            &[0x14, 0x07, 0x01, 0x01, 0x01, 0x00, 0x02, 0x68, 0x69],
+            Frame::StreamData {
+                stream: 1,
+                offset: 0,
+                bytes: b"hi",
+            },
+        ),
+        (
+            &[0x15, 0x05, 0x01, 0x05, 0x02, 0x40, 0x00],
+            Frame::StreamMaxData {
+                stream: 5,
+                max_offset: 16_384,
+            },
+        ),
+        (
+            &[0x16, 0x04, 0x01, 0x40, 0x01, 0x00],
+            Frame::StreamDataBlocked {
+                stream: 64,
+                max_offset: 0,
+            },
+        ),
+    ]
+}
+
+#[test]
+fn each_frame_both_ways(rt: HostRuntime) -> Result<(), Fail> {
+    for (bytes, frame) in samples() {
+        let mut packet = HEAD.to_vec(rt.alloc())?;
+        packet.extend_from_slice(bytes)?;
+        let read = read_packet(&packet, 12)?;
+        let mut frames = read.frames.again();
+        assert_eq!(rt; frames.next(), Some((0, frame)));
+        assert_eq!(rt; frames.next(), None);
+        assert_eq!(rt;
+            write_packet(rt.alloc(), 12, 1, 0, &[frame])?.as_slice(),
+            packet.as_slice()
+        );
+    }
+    Ok(())
+}
+
+#[test]
+fn a_limit_of_nine_bytes(rt: HostRuntime) -> Result<(), Fail> {
+    let bytes = [
+        0x01, 0x0c, 0x01, 0x01, 0x01, 0x00, 0x01, 0x01, 0x03, 0x0a, 0x09, 0x01, 0x00, 0x00, 0x00,
+        0x00, 0x00, 0x00, 0x00, 0x00,
+    ];
+    let mut frames = read_packet(&bytes, 12)?.frames;
+    assert_eq!(rt;
+        frames.next(),
+        Some((
+            0,
+            Frame::ConnectionMaxData {
+                max_offset: u64::MAX
+            }
+        ))
+    );
+    Ok(())
+}
+
+#[test]
+fn packets_written(rt: HostRuntime) -> Result<(), Fail> {
+    let hi = [Frame::StreamData {
+        stream: 1,
+        offset: 0,
+        bytes: b"hi",
+    }];
+    assert_eq!(rt;
+        write_packet(rt.alloc(), 12, 1, 0, &hi)?.as_slice(),
+        HI.as_slice()
+    );
+    let empty = write_packet(rt.alloc(), 14, 256, 1, &[])?;
+    assert_eq!(rt;
+        empty.as_slice(),
+        [0x01, 0x0e, 0x02, 0x01, 0x00, 0x01, 0x01, 0x01, 0x00].as_slice()
+    );
+    let many = [Frame::ConnectionMaxData { max_offset: 0 }; 300];
+    let text = write_packet(rt.alloc(), 12, 1, 0, &many)?;
+    assert_eq!(rt; text.len(), 1_209);
+    assert_eq!(rt; told(&text), read_as(1, 300, 0));
+    Ok(())
+}
+
+#[test]
+fn a_packet_is_appended(rt: HostRuntime) -> Result<(), Fail> {
+    let hi = Frame::StreamData {
+        stream: 1,
+        offset: 0,
+        bytes: b"hi",
+    };
+    let mut out = b"ab".to_vec(rt.alloc())?;
+    put_packet(&mut out, 12, 1, 0, &[hi])?;
+    let mut want = b"ab".to_vec(rt.alloc())?;
+    want.extend_from_slice(&HI)?;
+    assert_eq!(rt; out.as_slice(), want.as_slice());
+    let nowhere = Frame::ConnectionNewAddress { address: "a..b" };
+    let refused = put_packet(&mut out, 12, 1, 0, &[hi, nowhere]);
+    assert_eq!(rt; refused, Err(FrameError::FrameFormat(1)));
+    assert_eq!(rt; out.as_slice(), want.as_slice());
+    Ok(())
+}
+
+#[test]
+fn packets_not_written(rt: HostRuntime) -> Result<(), Fail> {
+    // the longest data of a packet with one frame, and one byte more
+    let data = vec![in rt.alloc(); 7u8; 32_721]?;
+    let fits = [Frame::StreamData {
+        stream: 1,
+        offset: 0,
+        bytes: &data[..32_720],
+    }];
+    assert_eq!(rt;
+        write_packet(rt.alloc(), 12, 1, 0, &fits)?.len(),
+        MAX_PACKET
+    );
+    let long = Frame::StreamData {
+        stream: 1,
+        offset: 0,
+        bytes: &data,
+    };
+    assert_eq!(rt;
+        write_packet(rt.alloc(), 12, 1, 0, &[long]).err(),
+        Some(FrameError::TooLong)
+    );
+    let nowhere = Frame::ConnectionNewAddress { address: "a..b" };
+    assert_eq!(rt;
+        write_packet(rt.alloc(), 12, 1, 0, &[long, nowhere]).err(),
+        Some(FrameError::FrameFormat(1))
+    );
+    Ok(())
+}
+
+#[test]
+fn every_prefix_and_change(rt: HostRuntime) {
+    for n in 0..=HI.len() {
+        assert_eq!(rt; told(&HI[..n]), plain::told(&HI[..n]), "the first {n}");
+    }
+    for i in 0..HI.len() {
+        for byte in [0x00, 0x7f, 0x80, 0xff] {
+            let mut changed = HI;
+            changed[i] = byte;
+            assert_eq!(rt; told(&changed), plain::told(&changed), "{byte} at {i}");
+        }
+    }
+}
