@@ -203,7 +203,7 @@ over_slot m None p h = none m p (h refl)
     none : (m p : ℕ) → p ≡ 0 → nat_lt 0 p ≡ nat_lt m (0 + p)
     none m p e = grind (arith, nat_tests)
 
-closed_part : (r : Receiving) (fs : List Known) (amount k : ℕ) → length r.streams ≡ 65 → k < 65 → is_open (after_frames r fs) k ≡ false → get_or (parts amount (shares fs)) k 0 ≡ 0
+pub closed_part : (r : Receiving) (fs : List Known) (amount k : ℕ) → length r.streams ≡ 65 → k < 65 → is_open (after_frames r fs) k ≡ false → get_or (parts amount (shares fs)) k 0 ≡ 0
 closed_part r fs amount k len l shut = elim (cases_eq (money_in k fs) 0) [
   | inl z ↦ part_none amount (shares fs) k (share_at fs k l ∙ z)
   | inr n ↦ absurd (let there : is_open (after_frames r fs) k ≡ true = frames_open r fs k (subst (λ n. k < n) (sym len) l) (omega (arith, n)) in cc)
@@ -236,7 +236,7 @@ fits_over r fs amount len e k l =
 
 -- ---- what a stream is credited in all
 
-credited_or : (m : ℕ) (o : Option Incoming) → credited_of o ≡ (incoming_or (fresh_incoming m) o).credited
+pub credited_or : (m : ℕ) (o : Option Incoming) → credited_of o ≡ (incoming_or (fresh_incoming m) o).credited
 credited_or m None = refl
 credited_or m (Some x) = refl
 

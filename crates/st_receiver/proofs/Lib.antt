@@ -9,3 +9,5 @@ pub mod Answering
 pub mod Rows
 pub mod Leaving
 pub mod Tallying
+pub mod HighestEnds
+pub mod LawfulSteps

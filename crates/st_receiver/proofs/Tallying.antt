@@ -21,7 +21,7 @@ use Rattle.st_receiver.proofs.Leaving.{all_track}
 -- ---- one close
 
 -- what a stream that is written leaves of a number for each
-same_at : {X : Type 0} (f : Option Incoming → X) (d : X) (ss : Slots Incoming) (k : ℕ) (o : Option Incoming) → f None ≡ d → f o ≡ f (slot ss k) → map f (set ss k o) ≡ map f ss
+pub same_at : {X : Type 0} (f : Option Incoming → X) (d : X) (ss : Slots Incoming) (k : ℕ) (o : Option Incoming) → f None ≡ d → f o ≡ f (slot ss k) → map f (set ss k o) ≡ map f ss
 same_at f d ss k o z e = map-set f ss k o ∙ ap (set (map f ss) k) (e ∙ sym (at f d ss k z)) ∙ set-get_or (map f ss) k d
   where
     at : {X : Type 0} (f : Option Incoming → X) (d : X) (ss : Slots Incoming) (k : ℕ) → f None ≡ d → get_or (map f ss) k d ≡ f (slot ss k)
@@ -45,7 +45,7 @@ or_true : (b : Bool) → (b || true) ≡ true
 or_true true = refl
 or_true false = refl
 
-closed_over : (o b : Bool) (h : Held) (e code : Option ℕ) → is_over h ≡ o → is_some e ≡ true → is_some code ≡ true
+pub closed_over : (o b : Bool) (h : Held) (e code : Option ℕ) → is_over h ≡ o → is_some e ≡ true → is_some code ≡ true
     → is_over (cond b (cond o h (record h { end = e })) (cond o h (record h { bytes = empty; aborted = code }))) ≡ true
 closed_over true true h e code is a c = is
 closed_over true false h e code is a c = is
@@ -97,7 +97,7 @@ paid_by : {X : Type 0} (f : Option Incoming → X) → ((o : Option Incoming) (p
 paid_by f h true ss ps = paid_map f h ss ps
 paid_by f h false ss ps = refl
 
-paid_length : (b : Bool) (ss : Slots Incoming) (ps : List ℕ) → length (cond b (with_credits ss ps) ss) ≡ length ss
+pub paid_length : (b : Bool) (ss : Slots Incoming) (ps : List ℕ) → length (cond b (with_credits ss ps) ss) ≡ length ss
 paid_length true ss ps = length-credits ss ps
 paid_length false ss ps = refl
 
