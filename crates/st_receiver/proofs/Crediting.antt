@@ -218,7 +218,7 @@ over_one r fs amount k len l =
     over_slot (slice_index t.kept k) (slot t.streams k) p (closed_part r fs amount k len l) ∙ (λ i. nat_lt (same.receive_max i) (same.credited i + p))
 
 -- the streams as they were tell as well whether a part is past what its stream may receive
-pub over_same : (r : Receiving) (fs : List Known) (amount : ℕ) (b : Bool) → length r.streams ≡ 65 → IsOverAt r (parts amount (shares fs)) b → any_over_max (after_frames r fs).streams (parts amount (shares fs)) ≡ b
+over_same : (r : Receiving) (fs : List Known) (amount : ℕ) (b : Bool) → length r.streams ≡ 65 → IsOverAt r (parts amount (shares fs)) b → any_over_max (after_frames r fs).streams (parts amount (shares fs)) ≡ b
 over_same r fs amount true len h =
     let both : length (parts amount (shares fs)) ≡ length (after_frames r fs).streams = length-parts amount (shares fs) ∙ length_shares fs ∙ sym (frames_length r fs ∙ len) in
     some_over (after_frames r fs).streams (parts amount (shares fs)) h.0 both (subst (λ n. h.0 < n) (sym (frames_length r fs ∙ len)) h.1) (over_one r fs amount h.0 len h.1 ∙ h.2)
@@ -309,14 +309,28 @@ fault_none r amount fs l pos z =
     let yes : nat_eq (sum (shares fs)) 0 ≡ true = grind (arith, nat_tests) in
     λ i. fault_by (sym (le_not (2 ^ 64) (sum (shares fs)) l) i) (sym (pays_true amount pos) i) (sym yes i) (any_over_max r.streams (parts amount (shares fs))) (nat_le (2 ^ 63) (r.credit + amount))
 
-pub fault_over : (r : Receiving) (amount : ℕ) (fs : List Known) → sum (shares fs) < 2 ^ 64 → 0 < amount → 0 < sum (shares fs) → any_over_max r.streams (parts amount (shares fs)) ≡ true → Some OverReceiveMax ≡ money_fault r amount fs
+fault_over : (r : Receiving) (amount : ℕ) (fs : List Known) → sum (shares fs) < 2 ^ 64 → 0 < amount → 0 < sum (shares fs) → any_over_max r.streams (parts amount (shares fs)) ≡ true → Some OverReceiveMax ≡ money_fault r amount fs
 fault_over r amount fs l pos some over =
     λ i. fault_by (sym (le_not (2 ^ 64) (sum (shares fs)) l) i) (sym (pays_true amount pos) i) (sym (eq_not (sum (shares fs)) some) i) (sym over i) (nat_le (2 ^ 63) (r.credit + amount))
 
-pub fault_much : (r : Receiving) (amount : ℕ) (fs : List Known) (b : Bool) → sum (shares fs) < 2 ^ 64 → 0 < amount → 0 < sum (shares fs) → any_over_max r.streams (parts amount (shares fs)) ≡ false → nat_le (2 ^ 63) (r.credit + amount) ≡ b
+fault_much : (r : Receiving) (amount : ℕ) (fs : List Known) (b : Bool) → sum (shares fs) < 2 ^ 64 → 0 < amount → 0 < sum (shares fs) → any_over_max r.streams (parts amount (shares fs)) ≡ false → nat_le (2 ^ 63) (r.credit + amount) ≡ b
     → cond b (Some OverReceiveMax) None ≡ money_fault r amount fs
 fault_much r amount fs b l pos some over much =
     λ i. fault_by (sym (le_not (2 ^ 64) (sum (shares fs)) l) i) (sym (pays_true amount pos) i) (sym (eq_not (sum (shares fs)) some) i) (sym over i) (sym much i)
+
+over_or_much : (r : Receiving) (amount : ℕ) (fs : List Known) (over much : Bool) → sum (shares fs) < 2 ^ 64 → 0 < amount → 0 < sum (shares fs) → any_over_max r.streams (parts amount (shares fs)) ≡ over → nat_le (2 ^ 63) (r.credit + amount) ≡ much
+    → cond over (Some OverReceiveMax) (cond much (Some OverReceiveMax) None) ≡ money_fault r amount fs
+over_or_much r amount fs true much l pos some a b = fault_over r amount fs l pos some a
+over_or_much r amount fs false much l pos some a b = fault_much r amount fs much l pos some a b
+
+-- an amount that has shares to go by is judged by its parts, as the code has them
+pub paid_fault : (r : Receiving) (amount all : ℕ) (fs : List Known) (ms ps : List ℕ) (over much : Bool) → length r.streams ≡ 65 → ms ≡ shares fs → sum ms < 2 ^ 64 → (amount ≡ 0 → ⊥) → all ≡ sum ms → (all ≡ 0 → ⊥) → ps ≡ parts amount ms
+    → IsOverAt r ps over → nat_le (2 ^ 63) ((after_frames r fs).credit + amount) ≡ much → cond over (Some OverReceiveMax) (cond much (Some OverReceiveMax) None) ≡ money_fault (after_frames r fs) amount fs
+paid_fault r amount all fs ms ps over much len e fits pays total some parted is b =
+    let l : sum (shares fs) < 2 ^ 64 = subst (λ xs. sum xs < 2 ^ 64) e fits in
+    let z : all ≡ sum (shares fs) = total ∙ ap sum e in
+    let any = over_same r fs amount over len (subst (λ xs. IsOverAt r xs over) (parted ∙ ap (parts amount) e) is) in
+    over_or_much (after_frames r fs) amount fs over much l (omega (arith, pays)) (omega (arith, z, some)) any b
 
 -- ---- a packet that breaks no rule
 
