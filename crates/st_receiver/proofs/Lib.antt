@@ -7,3 +7,7 @@ pub mod Mixing
 pub mod Crediting
 pub mod Answering
 pub mod Rows
+pub mod Leaving
+pub mod Tallying
+pub mod HighestEnds
+pub mod LawfulSteps

@@ -182,6 +182,32 @@ cancel x a s pos h = grind arith
 pub rounded-least : (amount all : ℕ) (ms : List ℕ) → 0 < all → all ≡ sum ms → sum (rounded amount all ms) ≤ amount
 rounded-least amount all ms pos e = cancel (sum (rounded amount all ms)) amount all pos (subst (λ n. sum (rounded amount all ms) * all ≤ amount * n) (sym e) (rounded-sum amount all ms))
 
+is_zero : (m : ℕ) → nat_eq m 0 ≡ true → m ≡ 0
+is_zero m e = grind (arith, nat_tests)
+
+rest-sum : (amount all rest : ℕ) (ms : List ℕ) → 0 < sum ms → sum (with_rest rest ms (rounded amount all ms)) ≡ sum (rounded amount all ms) + rest
+rest-sum amount all rest [] pos = absurd (let z : sum [] ≡ 0 = grind (arith, common_steps) in omega (arith, pos, z))
+rest-sum amount all rest (m ∷ ms) pos = step (nat_eq m 0) refl (λ z. rest-sum amount all rest ms (let e = sum-cons m ms in omega (arith, pos, z, e)))
+  where
+    step : (b : Bool) → nat_eq m 0 ≡ b → (m ≡ 0 → sum (with_rest rest ms (rounded amount all ms)) ≡ sum (rounded amount all ms) + rest)
+        → sum (cond b ((amount * m / all) ∷ with_rest rest ms (rounded amount all ms)) ((amount * m / all + rest) ∷ rounded amount all ms)) ≡ sum (rounded amount all (m ∷ ms)) + rest
+    step true e h =
+        let r = h (is_zero m e) in
+        let a = sum-cons (amount * m / all) (with_rest rest ms (rounded amount all ms)) in
+        let b = sum-cons (amount * m / all) (rounded amount all ms) in
+        omega (arith, r, a, b)
+    step false e h =
+        let a = sum-cons (amount * m / all + rest) (rounded amount all ms) in
+        let b = sum-cons (amount * m / all) (rounded amount all ms) in
+        omega (arith, a, b)
+
+-- the parts add up to the amount
+pub parts-sum : (amount : ℕ) (ms : List ℕ) → 0 < sum ms → sum (parts amount ms) ≡ amount
+unfolding parts
+parts-sum amount ms pos =
+    let l = rounded-least amount (sum ms) ms pos refl in
+    rest-sum amount (sum ms) (amount - sum (rounded amount (sum ms) ms)) ms pos ∙ (let e : sum (rounded amount (sum ms) ms) + (amount - sum (rounded amount (sum ms) ms)) ≡ amount = omega (arith, l) in e)
+
 zero_test : (m : ℕ) → m ≡ 0 → nat_eq m 0 ≡ true
 zero_test m e = grind (arith, nat_tests)
 

@@ -10,3 +10,4 @@ pub mod Sequences
 pub mod Standing
 pub mod Decided
 pub mod Inside
+pub mod Lawful

@@ -57,6 +57,12 @@ const ENDS_AT_65537: [u8; 18] = [
     0x01, 0x61,
 ];
 
+/// Sequence 9, two frames: StreamData, stream 1, offset 65,535, "a"; StreamClose, stream 1, code 9, no message.
+const ABORT_AT_65536: [u8; 23] = [
+    0x01, 0x0c, 0x01, 0x09, 0x01, 0x00, 0x01, 0x02, 0x14, 0x07, 0x01, 0x01, 0x02, 0xff, 0xff, 0x01,
+    0x61, 0x10, 0x04, 0x01, 0x01, 0x09, 0x00,
+];
+
 /// The number of the Reject of a packet that came with an amount, or 0 where it took effect.
 fn receive<A: Allocator + Copy>(
     intake: &mut Intake<A>,
@@ -221,5 +227,45 @@ fn the_limits_that_stand_are_told(rt: HostRuntime) -> Result<(), Fail> {
     assert_eq!(rt; limits.get(2), Some(&money));
     intake.open(2)?;
     assert_eq!(rt; intake.limits()?.len(), 67);
+    Ok(())
+}
+
+#[test]
+fn a_reply_tells_what_the_packet_will_leave(rt: HostRuntime) -> Result<(), Fail> {
+    let mut intake = Intake::new(rt.alloc(), 0)?;
+    assert!(rt; allow(&mut intake, 1, 100));
+    assert!(rt; allow(&mut intake, 3, 100));
+    let packet = read_packet(&SHARED, 12)?;
+    match intake.judge(&packet, 10) {
+        Decision::Fulfill(plan) => {
+            let money = Frame::StreamMaxMoney {
+                stream: 3,
+                receive_max: 100,
+                total_received: 6,
+            };
+            let reply = intake.reply_frames(&packet, Some(&plan))?;
+            assert_eq!(rt; reply.len(), 5);
+            assert_eq!(rt; reply.get(4), Some(&money));
+        }
+        Decision::Reject { code: _, reason: _ } => panic!(rt; "the packet breaks no rule"),
+    }
+    assert_eq!(rt; intake.credited(), 0);
+    Ok(())
+}
+
+#[test]
+fn a_reply_to_an_abort_tells_its_bytes_as_read(rt: HostRuntime) -> Result<(), Fail> {
+    let mut intake = Intake::new(rt.alloc(), 0)?;
+    let packet = read_packet(&ABORT_AT_65536, 12)?;
+    match intake.judge(&packet, 0) {
+        Decision::Fulfill(plan) => {
+            let connection = Frame::ConnectionMaxData {
+                max_offset: 1_114_112,
+            };
+            let reply = intake.reply_frames(&packet, Some(&plan))?;
+            assert_eq!(rt; reply.get(0), Some(&connection));
+        }
+        Decision::Reject { code: _, reason: _ } => panic!(rt; "the packet breaks no rule"),
+    }
     Ok(())
 }

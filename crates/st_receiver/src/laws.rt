@@ -1,0 +1,31 @@
+//! Laws of the definitions.
+
+ghost use Rattle.std.specs.Prelude.{◌≡◌, ◌<◌, ℕ, List, None, Some, sum, false};
+ghost use Rattle.st_frames.specs.Frames.{Packet};
+ghost use Rattle.st_reassembly.specs.Held.{is_over};
+ghost use Rattle.st_receiver.specs.Streams.{Incoming, Receiving, new_receiving, opened_stream, with_receive_max};
+ghost use Rattle.st_receiver.specs.Money.{parts};
+ghost use Rattle.st_receiver.specs.Closes.{with_close};
+ghost use Rattle.st_receiver.specs.Judged.{fault_of, effect};
+ghost use Rattle.st_receiver.specs.Reading.{after_got};
+ghost use Rattle.st_receiver.specs.Lawful.{EndsAtHighest, IsLawful};
+
+/// The parts of an amount add up to it, as long as there is any share.
+pub fn parts_add_up()
+    ensures { (amount : ℕ) (shares : List ℕ) → 0 < sum shares → sum (parts amount shares) ≡ amount }
+{}
+
+/// A clean close fixes the end of a direction at the highest byte end received.
+pub fn clean_close_ends_at_highest()
+    ensures { (x : Incoming) → EndsAtHighest x → is_over x.held ≡ false → (with_close 1 x).held.end ≡ Some x.highest }
+{}
+
+/// Whatever comes and is read, the streams' credits add up to the credit, and each direction that is not over would end at
+/// its highest byte end.
+pub fn every_step_is_lawful()
+    ensures new { (parity : ℕ) → IsLawful (new_receiving parity) }
+    ensures packets { (r : Receiving) (p : Packet) (amount : ℕ) → IsLawful r → fault_of r p amount ≡ None → IsLawful (effect r p amount) }
+    ensures reads { (r : Receiving) (stream limit : ℕ) → IsLawful r → IsLawful (after_got r stream limit) }
+    ensures opens { (r : Receiving) (stream : ℕ) → IsLawful r → IsLawful (opened_stream r stream) }
+    ensures limits { (r : Receiving) (stream amount : ℕ) → IsLawful r → IsLawful (with_receive_max r stream amount) }
+{}
