@@ -1,15 +1,13 @@
--- Link agreement, and the hops' balances: claims are all Fulfills that were given on a lane, dues are those that were taken.
+-- Link agreement: claims are all Fulfills that were given on a lane, dues are those that were taken.
 use Rattle.std.proofs.Common.{◌≡◌, ◌≢◌, ℕ, zero, suc, ◌+◌, ◌<◌, Bool, true, false, not, ◌&&◌, cond, List, [], ◌∷◌, ◌++◌, map, replicate, length, set, get_or, slice_get, refl, sym, ap, subst, ◌∙◌, arith, ℤ, Option, None, Some, ◌⊎◌, inl, inr, nat_eq, length-set, Result, Ok, Err, take}
 use Rattle.std.proofs.lemmas.Option.{slice_get_within}
 use Rattle.std.proofs.lemmas.List.{length-replicate}
-use Rattle.std.specs.List.{sum_by, AllByRecursion}
-use Rattle.std.proofs.lemmas.List.Sums.{sum_by_push, sum_by-cons}
+use Rattle.std.specs.List.{sum_by}
+use Rattle.std.proofs.lemmas.List.Sums.{sum_by-cons}
 use Rattle.std.proofs.lemmas.Bool.{cases_eq}
-use Rattle.st_hop.specs.declared.ticket.Open.{Open}
-use Rattle.st_hop.specs.Hop.{Hop, holding}
+use Rattle.st_hop.specs.Hop.{holding}
 use Rattle.st_hop.specs.Lawful.{IsNamed}
-use Rattle.st_hop.specs.Tickets.{without}
-use Rattle.st_hop.proofs.Sums.{raised_same, all_at, all_push, all_without}
+use Rattle.st_hop.proofs.Sums.{all_at}
 use Rattle.st_sender.specs.Sending.{Sending, with_outgoing}
 use Rattle.st_receiver.specs.Streams.{Receiving}
 use Rattle.st_end.specs.State.{EndState}
@@ -22,220 +20,22 @@ use Rattle.st_ilp.specs.Reading.{answer_at, is_fulfill_text, fulfills}
 use Rattle.st_ilp.specs.declared.error.IlpError.{IlpError}
 use Rattle.st_keys.specs.Keys.{DerivedKeys, keys_of}
 use Rattle.st_world.specs.Sides.{Side, Client, Server, other, Both, at}
-use Rattle.st_world.specs.State.{World, Party, EndEntry, end_at, with_end, with_entry, with_hop_entry, with_node, Node, Put, Given, Lane, no_lanes, lane_at, with_given, nth, Place, AtEnd, AtHop, next_link, prev_link, first_link, account_from, account_to}
-use Rattle.st_world.specs.Ends.{put_by, given_by, took, taken_if, flight_of}
+use Rattle.st_world.specs.State.{World, Party, EndEntry, end_at, with_end, with_entry, with_node, Node, Put, Given, no_lanes, lane_at, nth, Place, AtEnd, AtHop, next_link, prev_link, first_link, account_from, account_to}
+use Rattle.st_world.specs.Ends.{put_by, given_by, taken_if, flight_of}
 use Rattle.st_world.specs.Hops.{reject_entry, put_on, settled_entry}
 use Rattle.st_world.specs.Steps.{noted}
 use Rattle.st_world.specs.Runs.{Chain, Table, opening, new_node}
-use Rattle.st_world.specs.Holds.{amount_of, open_amount, node_claims, claims_at, node_dues, dues_at, LinksAgree, IsBalanced, claim_of, due_of}
-use Rattle.st_world.proofs.Moves.{Turns, Replied, rejected, risen, accepted, Came, by_answer, by_fault, Settles, Move, stays, turns, accepts, tells, reads, goes, replies, refuses, forwards, lands, settles, after_reading}
+use Rattle.st_world.specs.Holds.{amount_of, open_amount, node_claims, claims_at, node_dues, dues_at, LinksAgree}
+use Rattle.st_world.proofs.Moves.{Turns, Replied, rejected, risen, accepted, Came, by_answer, by_fault, Move, stays, turns, accepts, tells, reads, goes, replies, refuses, forwards, lands, settles, after_reading}
 use Rattle.st_world.proofs.Lanes as lanes
 use Rattle.st_world.proofs.Lanes.{far_of, near_of}
-use Rattle.st_world.proofs.Names.{turns_flies, replied_flies, outcome_lands, Aside, taken_aside, NamedAt, FlightNamed, SpentAt, NamesFine, nth_named, names_move, noted_names, opening_names, came_put, settles_some}
-use Rattle.st_world.proofs.Credits.{turns_keep, PartiesFine, false_and}
+use Rattle.st_world.proofs.Flies.{turns_flies, replied_flies, outcome_lands}
+use Rattle.st_world.proofs.Later.{Aside, taken_aside}
+use Rattle.st_world.proofs.Names.{NamedAt, FlightNamed, SpentAt, NamesFine, nth_named, names_move, noted_names, opening_names, came_put, settles_some}
+use Rattle.st_world.proofs.Credits.{turns_keep, PartiesFine}
 use Rattle.st_world.proofs.Credited.{faultless, effect_adds}
-
-abbrev claims_of : Hop → ℕ → ℕ
-claims_of h a = get_or h.claims a 0
-
-abbrev dues_of : Hop → ℕ → ℕ
-dues_of h a = get_or h.dues a 0
-
--- ---- a hop with its two accounts, its tickets between them, and its balances
-
-pub record NodeFine (n : Node) : Type 0 where
-  pub claims : length n.state.claims ≡ 2
-  pub dues : length n.state.dues ≡ 2
-  pub tickets : AllByRecursion (IsNamed 2) n.state.tickets
-  pub balanced : IsBalanced n
-
-abbrev pub NodesFine : List Node → Type 0
-NodesFine ns = (i : ℕ) (n : Node) → slice_get ns i ≡ Some n → NodeFine n
-
-set_got : {A : Type 0} (xs : List A) (i : ℕ) (x : A) (j : ℕ) (y : A) → slice_get (set xs i x) j ≡ Some y → (x ≡ y) ⊎ (slice_get xs j ≡ Some y)
-set_got [] i x j y e = inr e
-set_got (z ∷ xs) zero x zero y e = inl (cc)
-set_got (z ∷ xs) zero x (suc j) y e = inr e
-set_got (z ∷ xs) (suc i) x zero y e = inr e
-set_got (z ∷ xs) (suc i) x (suc j) y e = set_got xs i x j y e
-
-nodes_set : (ns : List Node) (i : ℕ) (n : Node) → NodesFine ns → NodeFine n → NodesFine (set ns i n)
-nodes_set ns i n fine here j m e =
-    elim (set_got ns i n j m e) [
-      | inl same ↦ let P : Node → Type 0 = λ y. NodeFine y in subst P same here
-      | inr old ↦ fine j m old
-    ]
-
--- a rejected Prepare adds nothing
-rejected_node : (n : Node) (account : ℕ) (bytes : List ℕ) → NodeFine n → NodeFine (record { state = n.state; bag = n.bag ++ reject_entry account bytes ∷ [] })
-rejected_node n account bytes f = record {
-  claims = f.claims;
-  dues = f.dues;
-  tickets = f.tickets;
-  balanced = record {
-    claims = λ a. (let e = sum_by_push (claim_of a) n.bag (reject_entry account bytes) in let g : claims_of n.state a ≡ sum_by (claim_of a) n.bag = f.balanced.claims a in omega arith);
-    dues = λ a. (let e = sum_by_push (due_of a) n.bag (reject_entry account bytes) in let g : dues_of n.state a ≡ sum_by (due_of a) n.bag = f.balanced.dues a in omega arith);
-  };
-}
-
-account_small : (way : Side) → account_from way < 2
-account_small Client = omega arith
-account_small Server = omega arith
-
--- what settling adds to an account
-settled_claims : (h g : Hop) (t : Open) (o : Option (List ℕ)) (answer : List ℕ) (a : ℕ) → Settles h t o answer g → t.incoming < length h.claims → claims_of g a ≡ claims_of h a + cond (is_fulfill_text answer) (cond (nat_eq t.incoming a) t.amount_in 0) 0
-settled_claims h g t o answer a s l =
-    let n = cond (nat_eq t.incoming a) t.amount_in 0 in
-    elim s [
-      | inl x ↦ ap (λ (y : Hop). claims_of y a) x.1 ∙ (let z : cond (is_fulfill_text answer) n 0 ≡ 0 = ap (λ b. cond b n 0) x.0 in let e : claims_of h a ≡ claims_of h a + cond (is_fulfill_text answer) n 0 = omega arith in e)
-      | inr x ↦ ap (λ (y : Hop). claims_of y a) x.1 ∙ raised_same h.claims t.incoming t.amount_in a l ∙ sym (ap (λ b. claims_of h a + cond b n 0) x.0)
-    ]
-
-settled_dues : (h g : Hop) (t : Open) (o : Option (List ℕ)) (answer : List ℕ) (a : ℕ) → Settles h t o answer g → t.outgoing < length h.dues → dues_of g a ≡ dues_of h a + cond (is_fulfill_text answer) (cond (nat_eq t.outgoing a) t.amount_out 0) 0
-settled_dues h g t o answer a s l =
-    let n = cond (nat_eq t.outgoing a) t.amount_out 0 in
-    elim s [
-      | inl x ↦ ap (λ (y : Hop). dues_of y a) x.1 ∙ (let z : cond (is_fulfill_text answer) n 0 ≡ 0 = ap (λ b. cond b n 0) x.0 in let e : dues_of h a ≡ dues_of h a + cond (is_fulfill_text answer) n 0 = omega arith in e)
-      | inr x ↦ ap (λ (y : Hop). dues_of y a) x.1 ∙ raised_same h.dues t.outgoing t.amount_out a l ∙ sym (ap (λ b. dues_of h a + cond b n 0) x.0)
-    ]
-
-claim_is : (b c : Bool) (n : ℕ) → cond b (cond c n 0) 0 ≡ cond (b && c) n 0
-claim_is true c n = refl
-claim_is false c n = refl
-
--- a ticket that is settled
-settled_node : (n : Node) (g : Hop) (t : Open) (o : Option (List ℕ)) (answer : List ℕ) → IsNamed 2 t → Settles n.state t o answer g → NodeFine n
-    → NodeFine (record { state = g; bag = n.bag ++ settled_entry t (is_fulfill_text answer) ∷ [] })
-settled_node n g t o answer named s f =
-    let h = n.state in
-    let x = settled_entry t (is_fulfill_text answer) in
-    let incoming : t.incoming < length h.claims = rw f.claims named.incoming in
-    let outgoing : t.outgoing < length h.dues = rw f.dues named.outgoing in
-    record {
-      claims = elim s [ inl y ↦ ap (λ (z : Hop). length z.claims) y.1 ∙ f.claims | inr y ↦ ap (λ (z : Hop). length z.claims) y.1 ∙ length-set h.claims t.incoming _ ∙ f.claims ];
-      dues = elim s [ inl y ↦ ap (λ (z : Hop). length z.dues) y.1 ∙ f.dues | inr y ↦ ap (λ (z : Hop). length z.dues) y.1 ∙ length-set h.dues t.outgoing _ ∙ f.dues ];
-      tickets =
-          let P : List Open → Type 0 = λ ts. AllByRecursion (IsNamed 2) ts in
-          let same : g.tickets ≡ without h.tickets t.number = elim s [ inl y ↦ ap (λ (z : Hop). z.tickets) y.1 | inr y ↦ ap (λ (z : Hop). z.tickets) y.1 ] in
-          subst P (sym same) (all_without (IsNamed 2) h.tickets t.number f.tickets);
-      balanced = record {
-        claims = λ a. settled_claims h g t o answer a s incoming ∙ ap (λ m. m + cond (is_fulfill_text answer) (cond (nat_eq t.incoming a) t.amount_in 0) 0) (f.balanced.claims a)
-            ∙ ap (λ m. sum_by (claim_of a) n.bag + m) (claim_is (is_fulfill_text answer) (nat_eq t.incoming a) t.amount_in) ∙ sym (sum_by_push (claim_of a) n.bag x);
-        dues = λ a. settled_dues h g t o answer a s outgoing ∙ ap (λ m. m + cond (is_fulfill_text answer) (cond (nat_eq t.outgoing a) t.amount_out 0) 0) (f.balanced.dues a)
-            ∙ ap (λ m. sum_by (due_of a) n.bag + m) (claim_is (is_fulfill_text answer) (nat_eq t.outgoing a) t.amount_out) ∙ sym (sum_by_push (due_of a) n.bag x);
-      };
-    }
-
-zero_at : (a : ℕ) → ◌≡◌ {A = ℕ} (get_or (replicate 2 0) a 0) 0
-zero_at zero = refl
-zero_at (suc zero) = refl
-zero_at (suc (suc a)) = refl
-
-new_fine : (ts : List Table) → NodesFine (map new_node ts)
-new_fine [] i n e = absurd (cc)
-new_fine (t ∷ ts) (suc i) n e = new_fine ts i n e
-new_fine (t ∷ ts) zero n e =
-    let P : Node → Type 0 = λ y. NodeFine y in
-    let same : new_node t ≡ n = cc in
-    subst P same (record { claims = refl; dues = refl; tickets = tt; balanced = record { claims = zero_at; dues = zero_at } })
-
--- ---- lanes
-
-abbrev pub given_amount : List Put → Given → ℕ
-given_amount puts g = cond (is_fulfill_text g.bytes) (amount_of (nth puts g.which)) 0
-
-abbrev pub taken_amount : List Put → Given → ℕ
-taken_amount puts g = cond (is_fulfill_text g.bytes && g.taken) (amount_of (nth puts g.which)) 0
-
-abbrev pub all_given : Lane → ℕ
-all_given x = sum_by (given_amount x.puts) x.given
-
-abbrev pub all_taken : Lane → ℕ
-all_taken x = sum_by (taken_amount x.puts) x.given
-
-pub record LinksFine (m : ℕ) (w : World) : Type 0 where
-  pub width : length w.links ≡ m + 1
-  pub claims : (link : ℕ) (way : Side) → link < m + 1 → claims_at w way (far_of m link way) ≡ all_given (lane_at w link way)
-  pub dues : (link : ℕ) (way : Side) → link < m + 1 → dues_at w way (near_of m link way) ≡ all_taken (lane_at w link way)
-
--- sums
-sum_same : {A : Type 0} (f g : A → ℕ) (xs : List A) → ((j : ℕ) (x : A) → slice_get xs j ≡ Some x → f x ≡ g x) → sum_by f xs ≡ sum_by g xs
-sum_same f g [] h = refl
-sum_same f g (x ∷ xs) h = sum_by-cons f x xs ∙ (let a = h zero x refl in let b = sum_same f g xs (λ j y e. h (suc j) y e) in let c = sum_by-cons g x xs in omega arith)
-
-sum_set : (f : Given → ℕ) (xs : List Given) (i : ℕ) (x d : Given) (n : ℕ) → slice_get xs i ≡ Some x → f (took x) ≡ f x + n → sum_by f (set xs i (took (get_or xs i d))) ≡ sum_by f xs + n
-sum_set f [] i x d n e h = absurd (cc)
-sum_set f (y ∷ ys) zero x d n e h =
-    let same : y ≡ x = cc in
-    let P : Given → Type 0 = λ z. f (took z) ≡ f z + n in
-    let k : f (took y) ≡ f y + n = subst P (sym same) h in
-    let a = sum_by-cons f (took y) ys in let b = sum_by-cons f y ys in omega arith
-sum_set f (y ∷ ys) (suc i) x d n e h =
-    let r = sum_set f ys i x d n e h in let a = sum_by-cons f y (set ys i (took (get_or ys i d))) in let b = sum_by-cons f y ys in omega arith
-
-sum_kept : (f : Given → ℕ) (xs : List Given) (i : ℕ) (d : Given) → ((x : Given) → f (took x) ≡ f x) → sum_by f (set xs i (took (get_or xs i d))) ≡ sum_by f xs
-sum_kept f [] i d h = refl
-sum_kept f (y ∷ ys) zero d h = let k = h y in let a = sum_by-cons f (took y) ys in let b = sum_by-cons f y ys in omega arith
-sum_kept f (y ∷ ys) (suc i) d h = let r = sum_kept f ys i d h in let a = sum_by-cons f y (set ys i (took (get_or ys i d))) in let b = sum_by-cons f y ys in omega arith
-
--- where the Prepares grow and the answers stay
-abbrev Answers : Lane → Type 0
-Answers x = (j : ℕ) (g : Given) → slice_get x.given j ≡ Some g → (p : Put) × (nth x.puts g.which ≡ Some p)
-
-grown_given : (x y : Lane) → y.given ≡ x.given → ((k : ℕ) (p : Put) → nth x.puts k ≡ Some p → nth y.puts k ≡ Some p) → Answers x → all_given y ≡ all_given x
-grown_given x y e grow h =
-    ap (sum_by (given_amount y.puts)) e ∙ sum_same (given_amount y.puts) (given_amount x.puts) x.given
-    (λ j g i. let p = h j g i in ap (λ o. cond (is_fulfill_text g.bytes) (amount_of o) 0) (grow g.which p.0 p.1 ∙ sym p.1))
-
-grown_taken : (x y : Lane) → y.given ≡ x.given → ((k : ℕ) (p : Put) → nth x.puts k ≡ Some p → nth y.puts k ≡ Some p) → Answers x → all_taken y ≡ all_taken x
-grown_taken x y e grow h =
-    ap (sum_by (taken_amount y.puts)) e ∙ sum_same (taken_amount y.puts) (taken_amount x.puts) x.given
-    (λ j g i. let p = h j g i in ap (λ o. cond (is_fulfill_text g.bytes && g.taken) (amount_of o) 0) (grow g.which p.0 p.1 ∙ sym p.1))
-
-answers : (m : ℕ) (keys : DerivedKeys) (w : World) (l : ℕ) (y : Side) → NamesFine m keys w → Answers (lane_at w l y)
-answers m keys w l y h j g e = let f = h.given l y j g e in (f.put, f.is_put)
-
--- one more answer
-given_here : (w : World) (link : ℕ) (way : Side) (g : Given) → link < length w.links → all_given (lane_at (with_given w link way g) link way) ≡ all_given (lane_at w link way) + given_amount (lane_at w link way).puts g
-given_here w link way g h =
-    ap all_given (lanes.lane_here w link way (record { puts = (lane_at w link way).puts; given = (lane_at w link way).given ++ g ∷ [] }) h)
-    ∙ sum_by_push (given_amount (lane_at w link way).puts) (lane_at w link way).given g
-
-untaken : (w : World) (link : ℕ) (way : Side) (which : ℕ) (reply : List ℕ) (l : ℕ) (y : Side) → all_taken (lane_at (with_given w link way (given_by which reply)) l y) ≡ all_taken (lane_at w l y)
-untaken w link way which reply l y =
-    let g = given_by which reply in
-    elim (lanes.lane_cases w link way (record { puts = (lane_at w link way).puts; given = (lane_at w link way).given ++ g ∷ [] }) l y) [
-      | inl h ↦ ap all_taken h.2 ∙ sum_by_push (taken_amount (lane_at w link way).puts) (lane_at w link way).given g
-          ∙ (let z : taken_amount (lane_at w link way).puts g ≡ 0 = ap (λ b. cond b (amount_of (nth (lane_at w link way).puts which)) 0) (false_and (is_fulfill_text reply)) in
-          let a : all_taken (lane_at w link way) + taken_amount (lane_at w link way).puts g ≡ all_taken (lane_at w link way) = omega arith in a) ∙ (rw (h.0, h.1) refl)
-      | inr h ↦ ap all_taken h
-    ]
-
--- an answer that is taken
-taken_kept : (b : Bool) (w : World) (link : ℕ) (way : Side) (j l : ℕ) (y : Side) → all_given (lane_at (taken_if b w link way j) l y) ≡ all_given (lane_at w l y)
-taken_kept false w link way j l y = refl
-taken_kept true w link way zero l y = refl
-taken_kept true w link way (suc j) l y =
-    elim (lanes.lane_cases w link way (record { puts = (lane_at w link way).puts; given = set (lane_at w link way).given j (took (get_or (lane_at w link way).given j (given_by 0 []))) }) l y) [
-      | inl h ↦ ap all_given h.2 ∙ sum_kept (given_amount (lane_at w link way).puts) (lane_at w link way).given j (given_by 0 []) (λ x. refl) ∙ (rw (h.0, h.1) refl)
-      | inr h ↦ ap all_given h
-    ]
-
-taken_there : (b : Bool) (w : World) (link : ℕ) (way : Side) (j l : ℕ) (y : Side) → ((l ≡ link) × (y ≡ way) → ⊥) → lane_at (taken_if b w link way j) l y ≡ lane_at w l y
-taken_there false w link way j l y n = refl
-taken_there true w link way zero l y n = refl
-taken_there true w link way (suc j) l y n = lanes.lane_there w link way _ l y n
-
-taken_here : (w : World) (link : ℕ) (way : Side) (j : ℕ) (g : Given) (p : Put) → link < length w.links → nth (lane_at w link way).given j ≡ Some g → nth (lane_at w link way).puts g.which ≡ Some p → is_fulfill_text g.bytes ≡ true → g.taken ≡ false
-    → all_taken (lane_at (taken_if true w link way j) link way) ≡ all_taken (lane_at w link way) + (prepare_in p.bytes).amount
-taken_here w link way zero g p h e is f t = absurd (cc)
-taken_here w link way (suc j) g p h e is f t =
-    ap all_taken (lanes.lane_here w link way _ h)
-    ∙ sum_set (taken_amount (lane_at w link way).puts) (lane_at w link way).given j g (given_by 0 []) (prepare_in p.bytes).amount e
-    (let a : amount_of (nth (lane_at w link way).puts g.which) ≡ (prepare_in p.bytes).amount = ap amount_of is in
-    let b : taken_amount (lane_at w link way).puts g ≡ 0 = ap (λ c. cond (is_fulfill_text g.bytes && c) (amount_of (nth (lane_at w link way).puts g.which)) 0) t ∙ ap (λ c. cond c (amount_of (nth (lane_at w link way).puts g.which)) 0) (false_and (is_fulfill_text g.bytes)) in
-    let c : taken_amount (lane_at w link way).puts (took g) ≡ amount_of (nth (lane_at w link way).puts g.which) = ap (λ c. cond (c && true) (amount_of (nth (lane_at w link way).puts g.which)) 0) f in
-    omega arith)
+use Rattle.st_world.proofs.Balances.{NodesFine, claims_of, dues_of, new_fine, nodes_move, settled_claims, settled_dues}
+use Rattle.st_world.proofs.LaneSums.{LinksFine, all_given, all_taken, answers, given_amount, given_here, grown_given, grown_taken, taken_amount, taken_here, taken_kept, taken_there, untaken}
 
 -- claims and dues at the places
 pub record Steady (w v : World) : Type 0 where
@@ -458,33 +258,6 @@ apart_dues w i n x way e same y (AtHop k) d =
       ]
       | inr ne ↦ ap (node_dues (account_to y)) (node_there w.nodes i x k ne)
     ]
-
--- the hops stay as they should be
-pub nodes_move : (m : ℕ) (keys : DerivedKeys) (w v : World) → Move w v → NamesFine m keys w → NodesFine w.nodes → NodesFine v.nodes
-nodes_move m keys w v stays n h = h
-nodes_move m keys w v (turns a e t) n h = h
-nodes_move m keys w v (accepts a k x y l is live c) n h = h
-nodes_move m keys w v (tells a k x g is t) n h = h
-nodes_move m keys w v (reads a k n x run is live r) z h = h
-nodes_move m keys w v (goes a iv now flight bytes e l g) n h = h
-nodes_move m keys w v (replies link way which p a reply e x is place r) n h = h
-nodes_move m keys w v (refuses link way which p i n reply is place here r) z h = nodes_set w.nodes i _ h (rejected_node n (account_from way) p.bytes (h i n here))
-nodes_move m keys w v (forwards link way which p i n t bytes is place here num a b c d f sp) z h =
-    let x = h i n here in
-    nodes_set w.nodes i _ h (record {
-      claims = x.claims;
-      dues = x.dues;
-      tickets = all_push (IsNamed 2) n.state.tickets t x.tickets (record { incoming = rw a (account_small way); outgoing = rw b (account_small (other way)) });
-      balanced = record { claims = x.balanced.claims; dues = x.balanced.dues };
-    })
-nodes_move m keys w v (lands link way j p o a load came place is) z h =
-    let P : List Node → Type 0 = λ ns. NodesFine ns in
-    subst P (sym (taken_aside (pays (flight_of p) o) (with_end w a (after_outcome (end_at w a) (flight_of p) load o)) link way j).nodes) h
-nodes_move m keys w v (settles link way j p o i n t reply g came place here is st) z h =
-    let P : List Node → Type 0 = λ ns. NodesFine ns in
-    let x = h i n here in
-    subst P (sym (taken_aside (is_fulfill_text reply) (with_hop_entry w i n g (settled_entry t (is_fulfill_text reply))) link way j).nodes)
-    (nodes_set w.nodes i _ h (settled_node n g t o reply (all_at (IsNamed 2) n.state.tickets p.name t x.tickets is) st x))
 
 -- the moves
 pub links_move : (m : ℕ) (keys : DerivedKeys) (w v : World) → Move w v → NamesFine m keys w → PartiesFine w.ends → NodesFine w.nodes → LinksFine m w → LinksFine m v

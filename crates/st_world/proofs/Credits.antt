@@ -27,7 +27,7 @@ use Rattle.st_world.proofs.Maps.{got_push}
 use Rattle.st_world.proofs.DataWays.{by_side}
 use Rattle.st_world.proofs.DataRuns.{put_keeps}
 use Rattle.st_world.proofs.Moves.{Turns, opens, raises, Replied, rejected, risen, accepted, Move, stays, turns, accepts, tells, reads, goes, replies, refuses, forwards, lands, settles, after_reading}
-use Rattle.st_world.proofs.Names.{taken_aside}
+use Rattle.st_world.proofs.Later.{taken_aside}
 use Rattle.st_world.proofs.Credited.{credits, credits-cons, Keeps, keeps_same, keeps_with, credit_at, Adds, effect_adds, faultless}
 
 -- ---- an end and its bag

@@ -16,13 +16,16 @@ use Rattle.st_world.specs.Steps.{noted}
 use Rattle.st_world.specs.Runs.{Run, Chain, opening}
 use Rattle.st_world.specs.Holds.{ReadsPrefix, EndsWhole, StaysRead, IsCredited, IsBalanced, LinksAgree}
 use Rattle.st_world.proofs.Spellings.{IsSpelled}
-use Rattle.st_world.proofs.Moves.{Move, stays, turns, accepts, tells, reads, goes, replies, refuses, forwards, lands, settles, AllSpelled, step_move, refuses_move}
+use Rattle.st_world.proofs.Moves.{Move, stays, turns, accepts, tells, reads, goes, replies, refuses, forwards, lands, settles}
+use Rattle.st_world.proofs.AnswerMoves.{AllSpelled}
+use Rattle.st_world.proofs.EventMoves.{step_move, refuses_move}
 use Rattle.st_world.proofs.Lanes as lanes
 use Rattle.st_world.proofs.DataWays.{DataFine}
 use Rattle.st_world.proofs.DataRuns.{data_move, data_noted, opening-fine, read_prefix}
 use Rattle.st_world.proofs.Credits.{PartiesFine, credit_move, opening_parties, party_credited}
 use Rattle.st_world.proofs.Agreement.{AllLinks, all_move, all_noted, opening_links, agree}
-use Rattle.st_world.proofs.WholeRuns.{WholeFine, StaysTold, ledger_in, whole_move, opening_whole, told_side}
+use Rattle.st_world.proofs.WholeStates.{WholeFine, StaysTold, ledger_in}
+use Rattle.st_world.proofs.WholeRuns.{whole_move, opening_whole, told_side}
 
 found_in : {A : Type 0} (xs ys : List A) (j : ℕ) (p : A) → ys ≡ xs → slice_get ys j ≡ Some p → slice_get xs j ≡ Some p
 found_in xs ys j p e h = rw e at h

@@ -1,361 +1,41 @@
 -- The names' pass: who put a Prepare, under which name, and for which Prepare.
-use Rattle.std.proofs.Common.{◌≡◌, ℕ, zero, suc, ◌+◌, ◌<◌, ◌≤◌, Result, Ok, Err, Bool, true, false, cond, List, [], ◌∷◌, ◌++◌, map, replicate, length, set, get_or, slice_get, refl, sym, ap, subst, ◌∙◌, arith, ℤ, Option, None, Some, ◌⊎◌, inl, inr, nat_eq, length-set, take}
+use Rattle.std.proofs.Common.{◌≡◌, ℕ, zero, suc, ◌+◌, ◌<◌, ◌≤◌, Ok, Bool, true, false, cond, List, [], ◌∷◌, ◌++◌, map, replicate, length, set, get_or, slice_get, refl, sym, ap, subst, ◌∙◌, arith, ℤ, Option, None, Some, ◌⊎◌, inl, inr, nat_eq}
 use Rattle.std.proofs.lemmas.List.{length-map}
 use Rattle.std.proofs.lemmas.Option.{slice_get_within}
-use Rattle.st_ilp.specs.Packets.{PreparePacket, AnswerPacket, Fulfilled, Rejected}
-use Rattle.st_ilp.specs.Reading.{answer_at, is_fulfill_text}
-use Rattle.st_ilp.specs.declared.error.IlpError.{IlpError}
-use Rattle.st_frames.specs.Frames.{Known, ConnectionClose, ConnectionNewAddress, ConnectionMaxData, ConnectionDataBlocked, StreamClose, StreamMoney, StreamMaxMoney, StreamMoneyBlocked, StreamData, StreamMaxData, StreamDataBlocked, Packet, frames_of}
+use Rattle.st_ilp.specs.Packets.{PreparePacket}
+use Rattle.st_ilp.specs.Reading.{is_fulfill_text}
+use Rattle.st_frames.specs.Frames.{Packet, frames_of}
 use Rattle.st_frames.specs.Written.{packet_with}
-use Rattle.st_keys.specs.declared.error.KeyError.{KeyError}
-use Rattle.st_keys.specs.Keys.{DerivedKeys, keys_of, fulfillment}
+use Rattle.st_keys.specs.Keys.{DerivedKeys, keys_of}
 use Rattle.st_keys.specs.Sealed.{opened}
 use Rattle.st_keys.proofs.Payloads.{packet_opens}
 use Rattle.st_hop.specs.declared.ticket.Open.{Open}
-use Rattle.st_hop.specs.Hop.{Hop, holding, booked, released}
+use Rattle.st_hop.specs.Hop.{Hop, holding}
 use Rattle.st_hop.specs.Tickets.{ticket_at, without}
 use Rattle.st_hop.specs.Lawful.{IsNumbered}
-use Rattle.st_hop.proofs.Numbers.{numbered_push, numbered_without, spent, found_number, pushed_is_among}
-use Rattle.st_sender.specs.Sending.{Sending, Outgoing, Load, Flight, new_outgoing, outgoing_at, with_outgoing, changed_at, Flown, Data, Whole}
+use Rattle.st_hop.proofs.Numbers.{spent, found_number, pushed_is_among}
+use Rattle.st_sender.specs.Sending.{Sending, Load, Flight}
 use Rattle.st_sender.specs.Flights.{flight_at, without_flight, flown}
-use Rattle.st_sender.specs.Answering.{after_acked, after_all_acked, landed, after_fulfilled, after_failed, Failure, Plain, after_told, after_all_told, after_whole_acked}
-use Rattle.st_receiver.specs.Streams.{with_receive_max, may_name}
 use Rattle.st_end.specs.State.{EndState}
-use Rattle.st_end.specs.declared.error.EndError.{EndError}
-use Rattle.st_end.specs.Calls.{Answer, own_number, with_stream, opening_as}
-use Rattle.st_end.specs.declared.error.EndError.TheVariants.{NoStream, ConnectionFailed, Closed}
 use Rattle.st_end.specs.declared.flight.Open as flights
-use Rattle.st_end.specs.Sending.{Goes, prepare_for, with_condition}
-use Rattle.st_end.specs.Answers.{raised, fits, failure_of, answered_by, after_outcome, pays, pays_by}
-use Rattle.st_end.specs.Receiving.{prepare_in, opened_too}
+use Rattle.st_end.specs.Sending.{Goes, prepare_for}
+use Rattle.st_end.specs.Answers.{after_outcome, pays}
+use Rattle.st_end.specs.Receiving.{prepare_in}
 use Rattle.st_world.specs.Sides.{Side, Client, Server, Both, at}
-use Rattle.st_world.specs.State.{World, Party, HopEntry, EndEntry, with_entry, with_hop_entry, end_at, with_end, Node, Put, Given, no_lanes, lane_at, nth, with_node, Place, AtEnd, AtHop, next_link, prev_link, first_link, account_from, account_to}
+use Rattle.st_world.specs.State.{World, Party, HopEntry, with_entry, with_hop_entry, end_at, with_end, Node, Put, Given, no_lanes, lane_at, nth, with_node, Place, AtEnd, AtHop, next_link, prev_link, first_link, account_from, account_to}
 use Rattle.st_world.specs.Ends.{put_by, given_by, took, taken_if, flight_of}
 use Rattle.st_world.specs.Hops.{reject_entry, put_on, settled_entry}
 use Rattle.st_world.specs.Steps.{noted}
 use Rattle.st_world.specs.Runs.{Chain, Table, opening, new_node}
 use Rattle.st_world.proofs.Spellings.{spelled_at}
-use Rattle.st_world.proofs.FlightLemmas.{IsSequenced, sequenced_push, sequenced_without, landed_none, flew, found_sequence, flies_push, pushed_flight, was_open, opens_push}
-use Rattle.st_world.proofs.Moves.{Turns, opens, raises, Replied, rejected, risen, accepted, Came, by_answer, by_fault, Settles, Move, stays, turns, accepts, tells, reads, goes, replies, refuses, forwards, lands, settles, after_reading}
+use Rattle.st_world.proofs.FlightLemmas.{IsSequenced, landed_none, found_sequence, pushed_flight}
+use Rattle.st_world.proofs.Moves.{Came, by_answer, by_fault, Settles, Move, stays, turns, accepts, tells, reads, goes, replies, refuses, forwards, lands, settles}
 use Rattle.st_world.proofs.Lanes as lanes
 use Rattle.st_world.proofs.Lanes.{far_of, near_of}
 use Rattle.st_sender.specs.Flights as sent
 use Rattle.st_frames.proofs.WrittenLaws.{keeps_frames}
-use Rattle.st_world.proofs.EndSteps.{opened_keeps, marked_keeps}
-use Rattle.st_receiver.specs.Limits.{reply_frames}
-
--- what answers and told limits leave as it is
-pub record Flies (s t : Sending) : Type 0 where
-  pub flights : t.flights ≡ s.flights
-  pub last : t.last ≡ s.last
-  pub paid : t.paid ≡ s.paid
-
-pub same_flies : (s : Sending) → Flies s s
-same_flies s = record { flights = refl; last = refl; paid = refl }
-
-with_flies : (r s : Sending) (k : ℕ) (x : Outgoing) → Flies r s → Flies r (with_outgoing s k x)
-with_flies r s k x h = record { flights = h.flights; last = h.last; paid = h.paid }
-
-changed_flies : (r s : Sending) (k : ℕ) (f : Outgoing → Outgoing) (x : Option Outgoing) → Flies r s → Flies r (changed_at s k f x)
-changed_flies r s k f None h = h
-changed_flies r s k f (Some x) h = with_flies r s k (f x) h
-
-flies_cond : (r : Sending) (b : Bool) (s t : Sending) → Flies r s → Flies r t → Flies r (cond b s t)
-flies_cond r true s t f g = f
-flies_cond r false s t f g = g
-
-whole_flies : (r s : Sending) (f : Known) → Flies r s → Flies r (after_whole_acked s f)
-whole_flies r s (StreamData k o xs) h = h
-whole_flies r s (StreamMoney k n) h = changed_flies r s k _ (outgoing_at s k) h
-whole_flies r s (StreamClose k code message) h = changed_flies r s k _ (outgoing_at s k) h
-whole_flies r s (StreamDataBlocked k n) h = changed_flies r s k _ (outgoing_at s k) h
-whole_flies r s (StreamMoneyBlocked k n t) h = changed_flies r s k _ (outgoing_at s k) h
-whole_flies r s (ConnectionDataBlocked n) h = record { flights = h.flights; last = h.last; paid = h.paid }
-whole_flies r s (ConnectionMaxData n) h = record { flights = h.flights; last = h.last; paid = h.paid }
-whole_flies r s (StreamMaxData k n) h = record { flights = h.flights; last = h.last; paid = h.paid }
-whole_flies r s (StreamMaxMoney k n t) h = record { flights = h.flights; last = h.last; paid = h.paid }
-whole_flies r s (ConnectionClose code message) h = h
-whole_flies r s (ConnectionNewAddress address) h = h
-
-acked_flies : (r s : Sending) (f : Flown) → Flies r s → Flies r (after_acked s f)
-acked_flies r s (Data k o n) h = changed_flies r s k _ (outgoing_at s k) h
-acked_flies r s (Whole f) h = whole_flies r s f h
-
-all_acked_flies : (r : Sending) (fs : List Flown) (s : Sending) → Flies r s → Flies r (after_all_acked s fs)
-all_acked_flies r [] s h = h
-all_acked_flies r (f ∷ fs) s h = all_acked_flies r fs (after_acked s f) (acked_flies r s f h)
-
-told_flies : (r s : Sending) (f : Known) → Flies r s → Flies r (after_told s f)
-told_flies r s (StreamData k o xs) h = h
-told_flies r s (StreamMoney k n) h = h
-told_flies r s (StreamClose k code message) h = h
-told_flies r s (StreamDataBlocked k n) h = h
-told_flies r s (StreamMoneyBlocked k n t) h = h
-told_flies r s (ConnectionDataBlocked n) h = h
-told_flies r s (ConnectionMaxData n) h = record { flights = h.flights; last = h.last; paid = h.paid }
-told_flies r s (StreamMaxData k n) h = changed_flies r s k _ (outgoing_at s k) h
-told_flies r s (StreamMaxMoney k n t) h = changed_flies r s k _ (outgoing_at s k) h
-told_flies r s (ConnectionClose code message) h = h
-told_flies r s (ConnectionNewAddress address) h = h
-
-all_told_flies : (r : Sending) (fs : List Known) (s : Sending) → Flies r s → Flies r (after_all_told s fs)
-all_told_flies r [] s h = h
-all_told_flies r (f ∷ fs) s h = all_told_flies r fs (after_told s f) (told_flies r s f h)
-
-raised_flies : (r s : Sending) (n : ℕ) (q : Result Packet KeyError) → Flies r s → Flies r (raised s n q)
-raised_flies r s n (Err e) h = h
-raised_flies r s n (Ok q) h = flies_cond r (nat_eq q.sequence n) (after_all_told s (frames_of q)) s (all_told_flies r (frames_of q) s h) h
-
-pub replied_flies : (e f : EndState) (bytes answer : List ℕ) (x : EndEntry) → Replied e bytes answer x f → Flies e.sending f.sending
-replied_flies e f bytes answer x (rejected r y i j) = same_flies e.sending
-replied_flies e f bytes answer x (risen r y q i j) = all_told_flies e.sending (frames_of q) e.sending (same_flies e.sending)
-replied_flies e f bytes answer x (accepted r q v i o j z) =
-    let told' = all_told_flies e.sending (frames_of q) e.sending (same_flies e.sending) in
-    let opened' = opened_keeps (λ s. Flies e.sending s) (λ s k none h. with_flies e.sending s k new_outgoing h) v (after_all_told e.sending (frames_of q)) told' in
-    marked_keeps (λ s. Flies e.sending s) (λ s m h. record { flights = h.flights; last = h.last; paid = h.paid }) (reply_frames v (frames_of q)) (frames_of q) (opened_too v (after_all_told e.sending (frames_of q))) opened'
-
-turned_flies : {A : Type 0} (e : EndState) (b : Bool) (x y : A × EndState) → Flies e.sending x.1.sending → Flies e.sending y.1.sending → Flies e.sending (cond b x y).1.sending
-turned_flies e true x y f g = f
-turned_flies e false x y f g = g
-
-opening_flies : (e : EndState) (o : Option ℕ) → Flies e.sending (opening_as e o).1.sending
-opening_flies e None = same_flies e.sending
-opening_flies e (Some k) = turned_flies {A = Result ℕ EndError} e e.sending.failed (Err ConnectionFailed, e) (cond e.receiving.closed (Err Closed, e) (Ok k, with_stream e k)) (same_flies e.sending) (turned_flies {A = Result ℕ EndError} e e.receiving.closed (Err Closed, e) (Ok k, with_stream e k) (same_flies e.sending) (with_flies e.sending e.sending k new_outgoing (same_flies e.sending)))
-
-pub turns_flies : (e f : EndState) → Turns e f → Flies e.sending f.sending
-turns_flies e f opens = opening_flies e (own_number e)
-turns_flies e f (raises k n) = turned_flies {A = Answer} e (may_name e.receiving k) (Ok tt, record e { receiving = with_receive_max e.receiving k n }) (Err NoStream, e) (same_flies e.sending) (same_flies e.sending)
-
--- a flight that is settled
-pub record Lands (s : Sending) (p : Flight) (b : Bool) (t : Sending) : Type 0 where
-  pub flights : t.flights ≡ without_flight s.flights p.sequence
-  pub last : t.last ≡ s.last
-  pub paid : t.paid ≡ s.paid + cond b p.amount 0
-
-lands_cond : (s : Sending) (p : Flight) (b : Bool) (t u : Sending) → Lands s p true t → Lands s p false u → Lands s p b (cond b t u)
-lands_cond s p true t u f g = f
-lands_cond s p false t u f g = g
-
-fulfilled_lands : (s : Sending) (p : Flight) → Lands s p true (after_fulfilled s p)
-fulfilled_lands s p = let h = all_acked_flies (landed s p.sequence) p.frames (landed s p.sequence) (same_flies _) in record { flights = h.flights; last = h.last; paid = refl }
-
-failed_lands : (s : Sending) (p : Flight) (why : Failure) → Lands s p false (after_failed s p why)
-failed_lands s p why = record { flights = refl; last = refl; paid = omega arith }
-
-flies_lands : (s : Sending) (p : Flight) (b : Bool) (t u : Sending) → Lands s p b t → Flies t u → Lands s p b u
-flies_lands s p b t u h f = record { flights = f.flights ∙ h.flights; last = f.last ∙ h.last; paid = f.paid ∙ h.paid }
-
-raised_lands : (s : Sending) (p : Flight) (b : Bool) (t : Sending) (n : ℕ) (q : Result Packet KeyError) → Lands s p b t → Lands s p b (raised t n q)
-raised_lands s p b t n q h = flies_lands s p b t (raised t n q) h (raised_flies t t n q (same_flies t))
-
-answer_lands : (e : EndState) (f : flights.Open) (p : Flight) (a : Result AnswerPacket IlpError) → Lands e.sending p (pays_by f a) (answered_by e f p a)
-answer_lands e f p (Err fault) = failed_lands e.sending p Plain
-answer_lands e f p (Ok (Fulfilled fulfillment payload)) =
-    lands_cond e.sending p (fits f fulfillment) (raised (after_fulfilled e.sending p) p.sequence (opened e.keys 13 payload)) (after_failed e.sending p Plain)
-    (raised_lands e.sending p true (after_fulfilled e.sending p) p.sequence (opened e.keys 13 payload) (fulfilled_lands e.sending p)) (failed_lands e.sending p Plain)
-answer_lands e f p (Ok (Rejected code by message payload)) =
-    raised_lands e.sending p false (after_failed e.sending p (failure_of code payload)) p.sequence (opened e.keys 14 payload) (failed_lands e.sending p (failure_of code payload))
-
-pub outcome_lands : (e : EndState) (f : flights.Open) (p : Flight) (o : Option (List ℕ)) → Lands e.sending p (pays f o) (after_outcome e f p o).sending
-outcome_lands e f p None = failed_lands e.sending p Plain
-outcome_lands e f p (Some bytes) = answer_lands e f p (answer_at bytes)
-
-pub replied_secret : (e f : EndState) (bytes answer : List ℕ) (x : EndEntry) → Replied e bytes answer x f → f.keys ≡ e.keys
-replied_secret e f bytes answer x (rejected r y i j) = refl
-replied_secret e f bytes answer x (risen r y q i j) = refl
-replied_secret e f bytes answer x (accepted r q v i o j z) = refl
-
-secret_cond : {A : Type 0} (e : EndState) (b : Bool) (x y : A × EndState) → x.1.keys ≡ e.keys → y.1.keys ≡ e.keys → (cond b x y).1.keys ≡ e.keys
-secret_cond e true x y f g = f
-secret_cond e false x y f g = g
-
-opening_secret : (e : EndState) (o : Option ℕ) → (opening_as e o).1.keys ≡ e.keys
-opening_secret e None = refl
-opening_secret e (Some k) = secret_cond {A = Result ℕ EndError} e e.sending.failed (Err ConnectionFailed, e) (cond e.receiving.closed (Err Closed, e) (Ok k, with_stream e k)) refl (secret_cond {A = Result ℕ EndError} e e.receiving.closed (Err Closed, e) (Ok k, with_stream e k) refl refl)
-
-pub turns_secret : (e f : EndState) → Turns e f → f.keys ≡ e.keys
-turns_secret e f opens = opening_secret e (own_number e)
-turns_secret e f (raises k n) = secret_cond {A = Answer} e (may_name e.receiving k) (Ok tt, record e { receiving = with_receive_max e.receiving k n }) (Err NoStream, e) refl refl
-
--- an end's and a hop's names are used once: what was no name is not one again
-pub record EndLater (e f : EndState) : Type 0 where
-  pub keys : f.keys ≡ e.keys
-  pub last : e.sending.last ≤ f.sending.last
-  pub flights : IsSequenced 0 e.sending.flights e.sending.last → (n : ℕ) (q : Flight) → n ≤ e.sending.last → flight_at f.sending.flights n ≡ Some q → flight_at e.sending.flights n ≡ Some q
-  pub rising : IsSequenced 0 e.sending.flights e.sending.last → IsSequenced 0 f.sending.flights f.sending.last
-
-pub record HopLater (h g : Hop) : Type 0 where
-  pub next : h.next ≤ g.next
-  pub tickets : IsNumbered 0 h.tickets h.next → (k : ℕ) (t : Open) → k < h.next → ticket_at g.tickets k ≡ Some t → ticket_at h.tickets k ≡ Some t
-  pub rising : IsNumbered 0 h.tickets h.next → IsNumbered 0 g.tickets g.next
-
-pub record Later (w v : World) : Type 0 where
-  pub count : length v.nodes ≡ length w.nodes
-  pub ends : (a : Side) → EndLater (end_at w a) (end_at v a)
-  pub nodes : (i : ℕ) (n : Node) → slice_get v.nodes i ≡ Some n → (o : Node) × (slice_get w.nodes i ≡ Some o) × HopLater o.state n.state
-  pub puts : (link : ℕ) (way : Side) (k : ℕ) (p : Put) → nth (lane_at w link way).puts k ≡ Some p → nth (lane_at v link way).puts k ≡ Some p
-
-flies_later : (e f : EndState) → f.keys ≡ e.keys → Flies e.sending f.sending → EndLater e f
-flies_later e f s h = record {
-  keys = s;
-  last = let l : f.sending.last ≡ e.sending.last = h.last in omega arith;
-  flights = λ rise n q l g. ap (λ m. flight_at m n) (sym h.flights) ∙ g;
-  rising = λ rise. let P : List Flight → Type 0 = λ m. IsSequenced 0 m f.sending.last in let Q : ℕ → Type 0 = λ n. IsSequenced 0 e.sending.flights n in subst P (sym h.flights) (subst Q (sym h.last) rise);
-}
-
-same_later : (e : EndState) → EndLater e e
-same_later e = flies_later e e refl (same_flies e.sending)
-
-lands_later : (e f : EndState) (p : Flight) (b : Bool) → f.keys ≡ e.keys → Lands e.sending p b f.sending → EndLater e f
-lands_later e f p b s h = record {
-  keys = s;
-  last = let l : f.sending.last ≡ e.sending.last = h.last in omega arith;
-  flights = λ rise n q l g. flew e.sending.flights p.sequence n 0 e.sending.last q rise (ap (λ m. flight_at m n) (sym h.flights) ∙ g);
-  rising = λ rise. let P : List Flight → Type 0 = λ m. IsSequenced 0 m f.sending.last in let Q : ℕ → Type 0 = λ n. IsSequenced 0 (without_flight e.sending.flights p.sequence) n in
-      subst P (sym h.flights) (subst Q (sym h.last) (sequenced_without e.sending.flights p.sequence 0 e.sending.last rise));
-}
-
--- the sequence of a load that goes
-pub goes_sequence : (e f : EndState) (iv : List ℕ) (now : ℤ) (flight : flights.Open) (bytes : List ℕ) (g : Goes e iv now flight bytes f) → g.load.sequence ≡ e.sending.last + 1
-goes_sequence e f iv now flight bytes g = ap (λ (p : Load). p.sequence) g.sends.load
-
-goes_later : (e f : EndState) (iv : List ℕ) (now : ℤ) (flight : flights.Open) (bytes : List ℕ) → Goes e iv now flight bytes f → EndLater e f
-goes_later e f iv now flight bytes g =
-    let P : EndState → Type 0 = λ y. EndLater e y in
-    let Q : Sending → Type 0 = λ y. EndLater e (with_condition e flight y) in
-    let p = g.load in
-    let s : p.sequence ≡ e.sending.last + 1 = goes_sequence e f iv now flight bytes g in
-    subst P (sym g.after_is) (subst Q (sym g.sends.after) (record {
-      keys = refl;
-      last = omega arith;
-      flights = λ rise n q l f. elim (flies_push e.sending.flights (sent.flight_of p) n q f) [ inl old ↦ old | inr i ↦ absurd (let j : p.sequence ≡ n = i.0 in omega arith) ];
-      rising = λ rise. sequenced_push e.sending.flights (sent.flight_of p) 0 e.sending.last rise s;
-    }))
-
-hop_same : (h : Hop) → HopLater h h
-hop_same h = record { next = omega arith; tickets = λ rise k t l g. g; rising = λ rise. rise }
-
-nodes_same : (ns : List Node) (i : ℕ) (n : Node) → slice_get ns i ≡ Some n → (o : Node) × (slice_get ns i ≡ Some o) × HopLater o.state n.state
-nodes_same ns i n e = (n, e, hop_same n.state)
-
-set_got : {A : Type 0} (xs : List A) (i : ℕ) (x : A) (j : ℕ) (y : A) → slice_get (set xs i x) j ≡ Some y → ((i ≡ j) × (x ≡ y)) ⊎ (slice_get xs j ≡ Some y)
-set_got [] i x j y e = inr e
-set_got (z ∷ xs) zero x zero y e = inl (refl, cc)
-set_got (z ∷ xs) zero x (suc j) y e = inr e
-set_got (z ∷ xs) (suc i) x zero y e = inr e
-set_got (z ∷ xs) (suc i) x (suc j) y e = elim (set_got xs i x j y e) [ inl h ↦ inl (ap suc h.0, h.1) | inr h ↦ inr h ]
-
-nodes_set : (ns : List Node) (i : ℕ) (o n : Node) → slice_get ns i ≡ Some o → HopLater o.state n.state → (j : ℕ) (m : Node) → slice_get (set ns i n) j ≡ Some m → (q : Node) × (slice_get ns j ≡ Some q) × HopLater q.state m.state
-nodes_set ns i o n is h j m e =
-    elim (set_got ns i n j m e) [
-      | inl same ↦ let P : Node → Type 0 = λ y. HopLater o.state y.state in (o, rw (← same.0) is, subst P same.1 h)
-      | inr old ↦ nodes_same ns j m old
-    ]
-
-released_hop : (h : Hop) (t : Open) → HopLater h (released h t)
-released_hop h t = record { next = omega arith; tickets = λ rise j u l g. was_open h.tickets t.number j 0 h.next u rise g; rising = λ rise. numbered_without h.tickets t.number 0 h.next rise }
-
-booked_hop : (h : Hop) (t : Open) → HopLater h (booked h t)
-booked_hop h t = record { next = omega arith; tickets = λ rise j u l g. was_open h.tickets t.number j 0 h.next u rise g; rising = λ rise. numbered_without h.tickets t.number 0 h.next rise }
-
-settled_hop : (h : Hop) (t : Open) (o : Option (List ℕ)) (answer : List ℕ) (g : Hop) → Settles h t o answer g → HopLater h g
-settled_hop h t o answer g s =
-    let P : Hop → Type 0 = λ y. HopLater h y in
-    elim s [ inl a ↦ subst P (sym a.1) (released_hop h t) | inr b ↦ subst P (sym b.1) (booked_hop h t) ]
-
-ticket_hop : (h : Hop) (t : Open) → t.number ≡ h.next → HopLater h (holding h t)
-ticket_hop h t is = record {
-  next = omega arith;
-  tickets = λ rise k u l g. elim (opens_push h.tickets t k u g) [ inl old ↦ old | inr i ↦ absurd (let j : t.number ≡ k = i.0 in omega arith) ];
-  rising = λ rise. numbered_push h.tickets t 0 h.next rise is;
-}
-
-end_later : (w : World) (a : Side) (e : EndState) → EndLater (end_at w a) e → (s : Side) → EndLater (end_at w s) (end_at (with_end w a e) s)
-end_later w Client e h Client = h
-end_later w Client e h Server = same_later (end_at w Server)
-end_later w Server e h Client = same_later (end_at w Client)
-end_later w Server e h Server = h
-
--- what a change of lanes leaves as it is
-pub record Aside (w v : World) : Type 0 where
-  pub ends : v.ends ≡ w.ends
-  pub nodes : v.nodes ≡ w.nodes
-
-pub taken_aside : (b : Bool) (w : World) (link : ℕ) (way : Side) (j : ℕ) → Aside w (taken_if b w link way j)
-taken_aside false w link way j = record { ends = refl; nodes = refl }
-taken_aside true w link way zero = record { ends = refl; nodes = refl }
-taken_aside true w link way (suc j) = record { ends = refl; nodes = refl }
-
-entry_later : (w : World) (a : Side) (e : EndState) (x : EndEntry) → EndLater (end_at w a) e → (s : Side) → EndLater (end_at w s) (end_at (with_entry (with_end w a e) a x) s)
-entry_later w Client e x h Client = h
-entry_later w Client e x h Server = same_later (end_at w Server)
-entry_later w Server e x h Client = same_later (end_at w Client)
-entry_later w Server e x h Server = h
-
-same_nth : (xs ys : List Put) (k : ℕ) (p : Put) → ys ≡ xs → nth xs k ≡ Some p → nth ys k ≡ Some p
-same_nth xs ys k p e h = rw e h
-
-pub later : (w v : World) → Move w v → Later w v
-later w v stays = record { count = refl; ends = λ a. same_later (end_at w a); nodes = nodes_same w.nodes; puts = λ l y k p h. h }
-later w v (turns a e t) = record { count = refl; ends = end_later w a e (flies_later (end_at w a) e (turns_secret (end_at w a) e t) (turns_flies (end_at w a) e t)); nodes = nodes_same w.nodes; puts = λ l y k p h. h }
-later w v (accepts a k x y l is live c) = record {
-  count = refl;
-  ends = end_later w a (record (end_at w a) { sending = with_outgoing (end_at w a).sending k y }) (flies_later (end_at w a) _ refl (with_flies (end_at w a).sending (end_at w a).sending k y (same_flies _)));
-  nodes = nodes_same w.nodes;
-  puts = λ l y k p h. h;
-}
-later w v (tells a k x g is t) = record { count = refl; ends = λ a. same_later (end_at w a); nodes = nodes_same w.nodes; puts = λ l y k p h. h }
-later w v (reads a k n x run is live r) = record {
-  count = refl;
-  ends = end_later w a (after_reading (end_at w a) k x (length (take n run))) (flies_later (end_at w a) _ refl (same_flies _));
-  nodes = nodes_same w.nodes;
-  puts = λ l y k p h. h;
-}
-later w v (goes a iv now flight bytes e l g) = record {
-  count = refl;
-  ends = end_later w a e (goes_later (end_at w a) e iv now flight bytes g);
-  nodes = nodes_same w.nodes;
-  puts = λ l y k q h. lanes.puts_put (with_end w a e) (first_link w a) a (put_by flight bytes) l y k q h;
-}
-later w v (replies link way which p a answer e x is place r) = record {
-  count = refl;
-  ends = entry_later w a e x (flies_later (end_at w a) e (replied_secret (end_at w a) e p.bytes answer x r) (replied_flies (end_at w a) e p.bytes answer x r));
-  nodes = nodes_same w.nodes;
-  puts = λ l y k q h. same_nth (lane_at w l y).puts _ k q (lanes.puts_given (with_entry (with_end w a e) a x) link way _ l y) h;
-}
-later w v (refuses link way which p i n reply is place here r) = record {
-  count = length-set w.nodes i _;
-  ends = λ a. same_later (end_at w a);
-  nodes = nodes_set w.nodes i n _ here (hop_same n.state);
-  puts = λ l y k q h. same_nth (lane_at w l y).puts _ k q (lanes.puts_given (with_hop_entry w i n n.state (reject_entry (account_from way) p.bytes)) link way _ l y) h;
-}
-later w v (forwards link way which p i n t bytes is place here num a b c d f sp) = record {
-  count = length-set w.nodes i _;
-  ends = λ a. same_later (end_at w a);
-  nodes = nodes_set w.nodes i n _ here (ticket_hop n.state t num);
-  puts = λ l y k q h. lanes.puts_put (with_node w i (record { state = holding n.state t; bag = n.bag })) (next_link link way) way (put_on t bytes which) l y k q h;
-}
-later w v (lands link way j p o a load came place is) =
-    let x = with_end w a (after_outcome (end_at w a) (flight_of p) load o) in
-    let b = pays (flight_of p) o in
-    let s = taken_aside b x link way j in
-    record {
-      count = ap (λ (ns : List Node). length ns) s.nodes;
-      ends = λ y. let P : Both Party → Type 0 = λ z. EndLater (end_at w y) (at z y).state in
-          subst P (sym s.ends) (end_later w a _ (lands_later (end_at w a) _ load b refl (outcome_lands (end_at w a) (flight_of p) load o)) y);
-      nodes = λ i n e. nodes_same w.nodes i n (let P : List Node → Type 0 = λ z. slice_get z i ≡ Some n in subst P s.nodes e);
-      puts = λ l y k q h. same_nth (lane_at w l y).puts _ k q (lanes.puts_taken b x link way j l y) h;
-    }
-later w v (settles link way j p o i n t answer g came place here is s') =
-    let x = with_hop_entry w i n g (settled_entry t (is_fulfill_text answer)) in
-    let b = is_fulfill_text answer in
-    let s = taken_aside b x link way j in
-    record {
-      count = ap (λ (ns : List Node). length ns) s.nodes ∙ length-set w.nodes i _;
-      ends = λ y. let P : Both Party → Type 0 = λ z. EndLater (end_at w y) (at z y).state in subst P (sym s.ends) (same_later (end_at w y));
-      nodes = λ k m e. nodes_set w.nodes i n _ here (settled_hop n.state t o answer g s') k m (let P : List Node → Type 0 = λ z. slice_get z k ≡ Some m in subst P s.nodes e);
-      puts = λ l y k q h. same_nth (lane_at w l y).puts _ k q (lanes.puts_given (taken_if b x link way j) (prev_link link way) way _ l y ∙ lanes.puts_taken b x link way j l y) h;
-    }
+use Rattle.st_world.proofs.Flies.{outcome_lands}
+use Rattle.st_world.proofs.Later.{Later, goes_sequence, later, nodes_same, same_later, taken_aside}
 
 -- a Prepare that an end put, and one that a hop put for another
 abbrev pub packet_of_load : Load → Packet
