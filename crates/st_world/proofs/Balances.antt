@@ -19,6 +19,7 @@ use Rattle.st_world.specs.Holds.{IsBalanced, claim_of, due_of}
 use Rattle.st_world.proofs.Moves.{Settles, Move, stays, turns, accepts, tells, reads, goes, replies, refuses, forwards, lands, settles}
 use Rattle.st_world.proofs.Later.{taken_aside}
 use Rattle.st_world.proofs.Names.{NamesFine}
+use Rattle.st_world.proofs.Maps.{set_got}
 
 abbrev pub claims_of : Hop → ℕ → ℕ
 claims_of h a = get_or h.claims a 0
@@ -37,17 +38,10 @@ pub record NodeFine (n : Node) : Type 0 where
 abbrev pub NodesFine : List Node → Type 0
 NodesFine ns = (i : ℕ) (n : Node) → slice_get ns i ≡ Some n → NodeFine n
 
-set_got : {A : Type 0} (xs : List A) (i : ℕ) (x : A) (j : ℕ) (y : A) → slice_get (set xs i x) j ≡ Some y → (x ≡ y) ⊎ (slice_get xs j ≡ Some y)
-set_got [] i x j y e = inr e
-set_got (z ∷ xs) zero x zero y e = inl (cc)
-set_got (z ∷ xs) zero x (suc j) y e = inr e
-set_got (z ∷ xs) (suc i) x zero y e = inr e
-set_got (z ∷ xs) (suc i) x (suc j) y e = set_got xs i x j y e
-
 nodes_set : (ns : List Node) (i : ℕ) (n : Node) → NodesFine ns → NodeFine n → NodesFine (set ns i n)
 nodes_set ns i n fine here j m e =
     elim (set_got ns i n j m e) [
-      | inl same ↦ let P : Node → Type 0 = λ y. NodeFine y in subst P same here
+      | inl same ↦ let P : Node → Type 0 = λ y. NodeFine y in subst P same.1 here
       | inr old ↦ fine j m old
     ]
 

@@ -22,6 +22,7 @@ use Rattle.st_sender.specs.Refusals as sender
 use Rattle.st_reassembly.proofs.Runs.{is_run}
 use Rattle.st_world.proofs.DataReceived.{fresh_at}
 use Rattle.st_world.proofs.Moves.{Accepts, Move, Tells, aborted, accepts, after_reading, closed_clean, ended, gave_up, move_at, nothing, offered, reads, stays, tells, wrote}
+use Rattle.st_world.proofs.Truths.{or_false, if_none}
 
 -- calls
 wrapped_none : (o : Option OutboxError) → wrapped_too o ≡ None → o ≡ None
@@ -35,14 +36,6 @@ same_end w Server = refl
 refused_move : (w : World) (a : Side) → Move w (with_end w a (end_at w a))
 refused_move w a = move_at w w (with_end w a (end_at w a)) (same_end w a) stays
 
-not_refused : {A : Type 0} (b : Bool) (n : A) (o : Option A) → cond b (Some n) o ≡ None → (b ≡ false) × (o ≡ None)
-not_refused true n o e = absurd (cc)
-not_refused false n o e = (refl, e)
-
-neither : (a b : Bool) → (a || b) ≡ false → (a ≡ false) × (b ≡ false)
-neither true b e = absurd (cc)
-neither false b e = (refl, e)
-
 call_move : (w : World) (a : Side) (k : ℕ) (x y : Outgoing) (l : Ledger) (o : Option EndError) → outgoing_at (end_at w a).sending k ≡ Some x → (o ≡ None → (is_some x.abort ≡ false) × Accepts x (ledger_at w a k) y l)
     → let r = done (end_at w a) o (with_outgoing (end_at w a).sending k y) in Move w (accepted_at r.0 (with_end w a r.1) a k l)
 call_move w a k x y l (Some n) is h = refused_move w a
@@ -50,11 +43,11 @@ call_move w a k x y l None is h = accepts a k x y l is (h refl).0 (h refl).1
 
 -- a call that is not refused: the sending side's own rules let it pass
 passes : (e : EndState) (x : Outgoing) (o : Option OutboxError) → refusal_at e (Some x) o ≡ None → o ≡ None
-passes e x o r = wrapped_none o (not_refused e.receiving.closed whys.Closed (wrapped_too o) (not_refused e.sending.failed whys.ConnectionFailed (cond e.receiving.closed (Some whys.Closed) (wrapped_too o)) r).1).1
+passes e x o r = wrapped_none o (if_none e.receiving.closed whys.Closed (wrapped_too o) (if_none e.sending.failed whys.ConnectionFailed (cond e.receiving.closed (Some whys.Closed) (wrapped_too o)) r).1).1
 
--- it was neither closed nor aborted
+-- it was or_false closed nor aborted
 live : (x : Outgoing) (o : Option OutboxError) → cond (is_closed x) (Some outbox.Closed) o ≡ None → (is_some x.abort ≡ false) × (x.clean ≡ false)
-live x o r = neither _ _ (not_refused _ _ _ r).0
+live x o r = or_false _ _ (if_none _ _ _ r).0
 
 pub write_move : (w : World) (a : Side) (k : ℕ) (xs : List ℕ) (y : Option Outgoing) → outgoing_at (end_at w a).sending k ≡ y
     → let r = done (end_at w a) (refusal_at (end_at w a) y (sender.refusal_at y is_closed (full (all_accepted (end_at w a).sending.streams) (length xs)))) (changed_at (end_at w a).sending k (after_write xs) y) in Move w (accepted_at r.0 (with_end w a r.1) a k (written xs (ledger_at w a k)))
@@ -78,7 +71,7 @@ abort_move w a k code None ne is = refused_move w a
 abort_move w a k code (Some x) ne is =
     let own = sender.refusal_at (Some x) is_aborted no_more in
     call_move w a k x (after_stream_abort code x) (given_up (ledger_at w a k)) (refusal_at (end_at w a) (Some x) own) is
-    (λ e. ((not_refused _ _ _ (passes (end_at w a) x own e)).0, gave_up code ne))
+    (λ e. ((if_none _ _ _ (passes (end_at w a) x own e)).0, gave_up code ne))
 
 pub offer_move : (w : World) (a : Side) (k n : ℕ) (y : Option Outgoing) → outgoing_at (end_at w a).sending k ≡ y
     → let r = done (end_at w a) (refusal_at (end_at w a) y (sender.refusal_at y is_closed (too_much (all_offered (end_at w a).sending.streams) n))) (changed_at (end_at w a).sending k (after_offer n) y) in Move w (accepted_at r.0 (with_end w a r.1) a k (ledger_at w a k))

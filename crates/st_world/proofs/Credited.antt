@@ -16,6 +16,7 @@ use Rattle.st_receiver.specs.Data.{with_data, after_frame, after_frames, frames_
 use Rattle.st_receiver.specs.Money.{rounded, with_rest, parts, with_credit, with_credits, is_over_max, any_over_max, money_fault, after_money}
 use Rattle.st_receiver.specs.Closes.{with_close, after_close, after_closes, with_abort, after_connection_close, after_connection_closes}
 use Rattle.st_receiver.specs.Judged.{fault_of, effect}
+use Rattle.st_world.proofs.Truths.{or_false, if_none, or_none}
 
 -- ---- sums
 
@@ -98,10 +99,6 @@ unfolding shares
 shares_length fs = length-map (range_with_len 0 65) (λ k. money_in k fs) ∙ length-range_with_len 0 65
 
 -- ---- crediting
-
-or_false : (a b : Bool) → (a || b) ≡ false → (a ≡ false) × (b ≡ false)
-or_false true b e = absurd (cc)
-or_false false b e = (refl, e)
 
 one_credit : (x : Option Incoming) (p : ℕ) → is_over_max x p ≡ false → credited_of (with_credit x p) ≡ credited_of x + p
 one_credit None p e = let z : p ≡ 0 = grind (arith, nat_tests) in omega arith
@@ -206,14 +203,6 @@ ends_keep (f ∷ fs) r = keeps_join r (after_connection_close r f) (after_connec
 
 -- ---- a packet that breaks no rule
 
-if_none : {A : Type 0} (b : Bool) (x : A) (o : Option A) → cond b (Some x) o ≡ None → (b ≡ false) × (o ≡ None)
-if_none true x o e = absurd (cc)
-if_none false x o e = (refl, e)
-
-none_or : {A : Type 0} (a b : Option A) → option_or a b ≡ None → (a ≡ None) × (b ≡ None)
-none_or None b e = (refl, e)
-none_or (Some x) b e = absurd (cc)
-
 pub record Faultless (r : Receiving) (p : Packet) (amount : ℕ) : Type 0 where
   pub first : fset.contains r.fulfilled p.sequence ≡ false
   pub frames : frames_fault r (frames_of p) ≡ None
@@ -224,7 +213,7 @@ faultless r p amount e =
     let a = if_none r.closed _ _ e in
     let b = if_none (fset.contains r.fulfilled p.sequence) _ _ a.1 in
     let c = if_none (nat_lt amount p.amount) _ _ b.1 in
-    let d = none_or (frames_fault r (frames_of p)) (money_fault (after_frames r (frames_of p)) amount (frames_of p)) c.1 in
+    let d = or_none (frames_fault r (frames_of p)) (money_fault (after_frames r (frames_of p)) amount (frames_of p)) c.1 in
     record { first = b.0; frames = d.0; money = d.1 }
 
 and_parts : (a b : Bool) → (a && b) ≡ false → a ≡ true → b ≡ false

@@ -326,13 +326,6 @@ pub data_noted : (keys : DerivedKeys) (w : World) → DataFine keys w → DataFi
 data_noted keys w h = record { own_keys = h.own_keys; ways = λ side. record { send = (h.ways side).send; recv = (h.ways side).recv; lanes = (h.ways side).lanes } }
 
 -- where nothing has happened
-no_puts : (n link : ℕ) (side : Side) → (at (get_or (replicate n no_lanes) link no_lanes) side).puts ≡ []
-no_puts zero link Client = refl
-no_puts zero link Server = refl
-no_puts (suc n) zero Client = refl
-no_puts (suc n) zero Server = refl
-no_puts (suc n) (suc link) side = no_puts n link side
-
 no_ledger : (k : ℕ) → ledger_or (fmap.get {R = nat_cmp} fmap.empty k) ≡ new_ledger
 no_ledger k = ap ledger_or (fmap.get-empty nat_cmp k)
 
@@ -360,7 +353,7 @@ new_recv : (parity : ℕ) (k : ℕ) → (incoming_at (new_receiving parity) k).h
 new_recv parity k = ap (λ o. (incoming_or (fresh_at (new_receiving parity) k) o).held) (no_slot 65 k)
 
 new_lanes : (keys : DerivedKeys) (w : ℕ → List ℕ) (n link : ℕ) (side : Side) → PutsFine keys w (at (get_or (replicate n no_lanes) link no_lanes) side).puts
-new_lanes keys w n link side i p e q o = absurd (let none : slice_get (at (get_or (replicate n no_lanes) link no_lanes) side).puts i ≡ None = ap (λ l. slice_get l i) (no_puts n link side) in cc)
+new_lanes keys w n link side i p e q o = absurd (let none : slice_get (at (get_or (replicate n no_lanes) link no_lanes) side).puts i ≡ None = ap (λ l. slice_get l i) (lanes.no_lane n link side).0 in cc)
 
 pub opening-fine : (c : Chain) → DataFine (keys_of c.secret) (opening c)
 opening-fine c = record {

@@ -26,9 +26,7 @@ use Rattle.st_world.proofs.Credits.{PartiesFine, credit_move, opening_parties, p
 use Rattle.st_world.proofs.Agreement.{AllLinks, all_move, all_noted, opening_links, agree}
 use Rattle.st_world.proofs.WholeStates.{WholeFine, StaysTold, ledger_in}
 use Rattle.st_world.proofs.WholeRuns.{whole_move, opening_whole, told_side}
-
-found_in : {A : Type 0} (xs ys : List A) (j : ℕ) (p : A) → ys ≡ xs → slice_get ys j ≡ Some p → slice_get xs j ≡ Some p
-found_in xs ys j p e h = rw e at h
+use Rattle.st_world.proofs.Maps.{found_in}
 
 goes_spelled : (e f : EndState) (iv : List ℕ) (now : ℤ) (flight : flights.Open) (bytes : List ℕ) → Goes e iv now flight bytes f → IsSpelled bytes
 goes_spelled e f iv now flight bytes g = (prepare_for e now g.load.amount g.payload, g.lawful, g.bytes_are)
@@ -62,15 +60,8 @@ spelled_move w v (settles link way j p o i n t answer g came place here is st) h
     let u = with_hop_entry w i n g (settled_entry t (is_fulfill_text answer)) in
     λ l y k q e'. h l y k q (found_in (lane_at w l y).puts _ k q (lanes.puts_given (taken_if (is_fulfill_text answer) u link way j) (prev_link link way) way (given_by p.cause answer) l y ∙ lanes.puts_taken (is_fulfill_text answer) u link way j l y) e')
 
-no_put : (n link : ℕ) (a : Side) → (at (get_or (replicate n no_lanes) link no_lanes) a).puts ≡ []
-no_put zero link Client = refl
-no_put zero link Server = refl
-no_put (suc n) zero Client = refl
-no_put (suc n) zero Server = refl
-no_put (suc n) (suc link) a = no_put n link a
-
 opening_spelled : (c : Chain) → AllSpelled (opening c)
-opening_spelled c link way j p e = absurd (let none : slice_get (at (get_or (replicate (length c.hops + 1) no_lanes) link no_lanes) way).puts j ≡ None = ap (λ l. slice_get l j) (no_put (length c.hops + 1) link way) in cc)
+opening_spelled c link way j p e = absurd (let none : slice_get (at (get_or (replicate (length c.hops + 1) no_lanes) link no_lanes) way).puts j ≡ None = ap (λ l. slice_get l j) (lanes.no_lane (length c.hops + 1) link way).0 in cc)
 
 -- what each move keeps, and the note of a refusal, every run keeps
 pub run_keeps : (P : World → Type 0) → ((w v : World) → Move w v → P w → P v) → ((w : World) → P w → P (noted w)) → ((w : World) → P w → AllSpelled w) → (events : List Event) (w after : World) → Run w events after → P w → P after

@@ -1,5 +1,5 @@
 -- Places, and which lane a change touches.
-use Rattle.std.proofs.Common.{◌≡◌, ℕ, zero, suc, ◌+◌, ◌-◌, ◌<◌, Bool, true, false, cond, List, [], ◌∷◌, ◌++◌, length, set, get_or, slice_get, refl, sym, ap, subst, ◌∙◌, arith, Some, ◌⊎◌, inl, inr, nat_eq}
+use Rattle.std.proofs.Common.{◌≡◌, ℕ, zero, suc, ◌+◌, ◌-◌, ◌<◌, Bool, true, false, cond, List, [], ◌∷◌, ◌++◌, length, set, get_or, slice_get, refl, sym, ap, subst, ◌∙◌, arith, Some, ◌⊎◌, inl, inr, nat_eq, replicate}
 use Rattle.std.proofs.lemmas.Bool.{cases_eq}
 use Rattle.st_world.specs.Sides.{Side, Client, Server, other, Both, at, put}
 use Rattle.st_world.specs.State.{World, Put, Given, Lane, no_lanes, lane_at, with_lane, with_put, with_given, nth, Place, AtEnd, AtHop, far, near, next_link, prev_link}
@@ -249,3 +249,11 @@ taken_found true w link way (suc i) l y j q e =
       | inl h ↦ elim (set_found (lane_at w link way).given i (given_by 0 []) j q (subst P h.2 e)) [ inl old ↦ inl (rw (h.0, h.1) old) | inr new ↦ inr (refl, h.0, h.1, ap suc new.0, new.1, rw (h.0, h.1) new.2, new.3) ]
       | inr h ↦ inl (subst P h e)
     ]
+
+-- where nothing has happened
+pub no_lane : (n link : ℕ) (a : Side) → ((at (get_or (replicate n no_lanes) link no_lanes) a).puts ≡ []) × ((at (get_or (replicate n no_lanes) link no_lanes) a).given ≡ [])
+no_lane zero link Client = (refl, refl)
+no_lane zero link Server = (refl, refl)
+no_lane (suc n) zero Client = (refl, refl)
+no_lane (suc n) zero Server = (refl, refl)
+no_lane (suc n) (suc link) a = no_lane n link a

@@ -22,6 +22,7 @@ use Rattle.st_world.proofs.Lanes as lanes
 use Rattle.st_world.proofs.Lanes.{far_of, near_of}
 use Rattle.st_sender.specs.Flights as sent
 use Rattle.st_world.proofs.Flies.{Flies, Lands, outcome_lands, replied_flies, replied_secret, same_flies, turns_flies, turns_secret, with_flies}
+use Rattle.st_world.proofs.Maps.{set_got}
 
 -- an end's and a hop's names are used once: what was no name is not one again
 pub record EndLater (e f : EndState) : Type 0 where
@@ -83,13 +84,6 @@ hop_same h = record { next = omega arith; tickets = λ rise k t l g. g; rising =
 
 pub nodes_same : (ns : List Node) (i : ℕ) (n : Node) → slice_get ns i ≡ Some n → (o : Node) × (slice_get ns i ≡ Some o) × HopLater o.state n.state
 nodes_same ns i n e = (n, e, hop_same n.state)
-
-set_got : {A : Type 0} (xs : List A) (i : ℕ) (x : A) (j : ℕ) (y : A) → slice_get (set xs i x) j ≡ Some y → ((i ≡ j) × (x ≡ y)) ⊎ (slice_get xs j ≡ Some y)
-set_got [] i x j y e = inr e
-set_got (z ∷ xs) zero x zero y e = inl (refl, cc)
-set_got (z ∷ xs) zero x (suc j) y e = inr e
-set_got (z ∷ xs) (suc i) x zero y e = inr e
-set_got (z ∷ xs) (suc i) x (suc j) y e = elim (set_got xs i x j y e) [ inl h ↦ inl (ap suc h.0, h.1) | inr h ↦ inr h ]
 
 nodes_set : (ns : List Node) (i : ℕ) (o n : Node) → slice_get ns i ≡ Some o → HopLater o.state n.state → (j : ℕ) (m : Node) → slice_get (set ns i n) j ≡ Some m → (q : Node) × (slice_get ns j ≡ Some q) × HopLater q.state m.state
 nodes_set ns i o n is h j m e =

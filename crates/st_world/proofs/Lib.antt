@@ -1,3 +1,4 @@
+pub mod Truths
 pub mod Maps
 pub mod DataReceived
 pub mod PastEnds

@@ -1,5 +1,5 @@
 -- Maps whose keys are numbers, and lists by their places.
-use Rattle.std.proofs.Common.{◌≡◌, ◌≢◌, ℕ, zero, suc, ◌+◌, Bool, List, [], ◌∷◌, ◌++◌, length, take, slice_get, refl, sym, ap, ◌∙◌, arith, Option, None, Some, ◌⊎◌, inl, inr, append_assoc}
+use Rattle.std.proofs.Common.{◌≡◌, ◌≢◌, ℕ, zero, suc, ◌+◌, Bool, List, [], ◌∷◌, ◌++◌, length, take, slice_get, refl, sym, ap, ◌∙◌, arith, Option, None, Some, ◌⊎◌, inl, inr, append_assoc, set}
 use Rattle.std.specs.Ordering.{nat_cmp}
 use Rattle.std.specs.FinMap as fmap
 use Rattle.std.proofs.lemmas.Grind.{common_steps}
@@ -65,3 +65,18 @@ got_take (suc n) (x ∷ xs) (suc i) b e = got_take n xs i b e
 
 pub within_take : (w : List ℕ) (o n : ℕ) (xs : List ℕ) → Within w o xs → Within w o (take n xs)
 within_take w o n xs h i b e = h i b (got_take n xs i b e)
+
+-- in a list that is another, and in an empty one
+pub found_in : {A : Type 0} (xs ys : List A) (j : ℕ) (p : A) → ys ≡ xs → slice_get ys j ≡ Some p → slice_get xs j ≡ Some p
+found_in xs ys j p e h = rw e at h
+
+pub none_in : {A : Type 0} (xs : List A) (j : ℕ) (p : A) → xs ≡ [] → slice_get xs j ≡ Some p → ⊥
+none_in xs j p e h = let none : slice_get xs j ≡ None = ap (λ ys. slice_get ys j) e in cc
+
+-- what is found where a place was set is what was put there, or was there
+pub set_got : {A : Type 0} (xs : List A) (i : ℕ) (x : A) (j : ℕ) (y : A) → slice_get (set xs i x) j ≡ Some y → ((i ≡ j) × (x ≡ y)) ⊎ (slice_get xs j ≡ Some y)
+set_got [] i x j y e = inr e
+set_got (z ∷ xs) zero x zero y e = inl (refl, cc)
+set_got (z ∷ xs) zero x (suc j) y e = inr e
+set_got (z ∷ xs) (suc i) x zero y e = inr e
+set_got (z ∷ xs) (suc i) x (suc j) y e = elim (set_got xs i x j y e) [ inl h ↦ inl (ap suc h.0, h.1) | inr h ↦ inr h ]

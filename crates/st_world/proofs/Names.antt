@@ -36,6 +36,7 @@ use Rattle.st_sender.specs.Flights as sent
 use Rattle.st_frames.proofs.WrittenLaws.{keeps_frames}
 use Rattle.st_world.proofs.Flies.{outcome_lands}
 use Rattle.st_world.proofs.Later.{Later, goes_sequence, later, nodes_same, same_later, taken_aside}
+use Rattle.st_world.proofs.Maps.{found_in, none_in}
 
 -- a Prepare that an end put, and one that a hop put for another
 abbrev pub packet_of_load : Load → Packet
@@ -125,9 +126,6 @@ names_step m keys w v l h puts given = record {
   named = λ link way j p e. elim (puts link way j p e) [ inl old ↦ named_later m keys w v link way p (near_of m link way) l h (h.named link way j p old) | inr new ↦ new ];
   given = λ link way j g e. elim (given link way j g e) [ inl old ↦ given_later m keys w v link way g l h (h.given link way j g old) | inr new ↦ new ];
 }
-
-found_in : {A : Type 0} (xs ys : List A) (j : ℕ) (p : A) → ys ≡ xs → slice_get ys j ≡ Some p → slice_get xs j ≡ Some p
-found_in xs ys j p e h = rw e at h
 
 first_near : (m : ℕ) (w : World) (a : Side) → length w.nodes ≡ m → near_of m (first_link w a) a ≡ AtEnd a
 first_near m w Client e = refl
@@ -344,16 +342,6 @@ names_move m keys w v (settles link way j p o i n t reply g came place here is s
     ])
 
 -- where nothing has happened
-no_lane : (n link : ℕ) (a : Side) → ((at (get_or (replicate n no_lanes) link no_lanes) a).puts ≡ []) × ((at (get_or (replicate n no_lanes) link no_lanes) a).given ≡ [])
-no_lane zero link Client = (refl, refl)
-no_lane zero link Server = (refl, refl)
-no_lane (suc n) zero Client = (refl, refl)
-no_lane (suc n) zero Server = (refl, refl)
-no_lane (suc n) (suc link) a = no_lane n link a
-
-none_in : {A : Type 0} (xs : List A) (j : ℕ) (p : A) → xs ≡ [] → slice_get xs j ≡ Some p → ⊥
-none_in xs j p e h = let none : slice_get xs j ≡ None = ap (λ ys. slice_get ys j) e in cc
-
 new_flights : (c : Chain) (a : Side) → IsSequenced 0 (end_at (opening c) a).sending.flights (end_at (opening c) a).sending.last
 new_flights c Client = omega arith
 new_flights c Server = omega arith
@@ -376,8 +364,8 @@ opening_names c = record {
   own_keys = new_own_keys c;
   flights = new_flights c;
   tickets = new_tickets c.hops;
-  named = λ link way j p e. absurd (none_in _ j p (no_lane (length c.hops + 1) link way).0 e);
-  given = λ link way j g e. absurd (none_in _ j g (no_lane (length c.hops + 1) link way).1 e);
+  named = λ link way j p e. absurd (none_in _ j p (lanes.no_lane (length c.hops + 1) link way).0 e);
+  given = λ link way j g e. absurd (none_in _ j g (lanes.no_lane (length c.hops + 1) link way).1 e);
 }
 
 pub noted_names : (m : ℕ) (keys : DerivedKeys) (w : World) → NamesFine m keys w → NamesFine m keys (noted w)

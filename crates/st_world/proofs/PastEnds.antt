@@ -13,6 +13,7 @@ use Rattle.st_receiver.specs.Streams.{Incoming}
 use Rattle.st_receiver.specs.Data.{with_data}
 use Rattle.st_world.proofs.Maps.{got_insert, got_retain, get_here, get_apart}
 use Rattle.st_world.proofs.DataReceived.{insert_keeps}
+use Rattle.st_world.proofs.Truths.{or_false}
 
 -- the least offset past every byte held or read
 pub record IsPast (s : Held) (end : ℕ) : Type 0 where
@@ -86,10 +87,6 @@ some_of None f = absurd (f refl)
 
 not_none : (o : Option ℕ) (b : ℕ) → o ≡ Some b → o ≢ None
 not_none o b e f = let z : ◌≡◌ {A = Option ℕ} (Some b) None = sym e ∙ f in cc
-
-or_false : (a b : Bool) → (a || b) ≡ false → (a ≡ false) × (b ≡ false)
-or_false true b e = absurd (cc)
-or_false false b e = (refl, e)
 
 before_none : (end : Option ℕ) (q : ℕ) → is_some end ≡ false → is_before q end ≡ true
 before_none None q e = refl

@@ -19,6 +19,7 @@ use Rattle.st_world.proofs.WholeSent.{out_accepts, in_accepts, follows}
 use Rattle.st_world.proofs.PastEnds.{past_read}
 use Rattle.st_reassembly.specs.Run.{IsRun}
 use Rattle.st_world.proofs.WholeStates.{ForthOf, GoodAt, Passed, StatesOf, StaysTold, ToldWhole, forth_join, ledger_in, passed_end, passed_ledger, with_of}
+use Rattle.st_world.proofs.Truths.{or_true, or_right}
 
 -- a ledger after a read
 out_got : (g : Got) (l : Ledger) (n : ℕ) (o : Option Outgoing) → OutWhole l n o → OutWhole (got g l) n o
@@ -62,14 +63,6 @@ nothing_more r t w p e =
     let c : length ((r ++ t) ++ p.0) ≡ length w = ap (λ l. length l) p.1 in
     let d : length r ≡ length w = ap (λ l. length l) e in
     prefix_whole (r ++ t) w p (omega arith)
-
-or_right : (b : Bool) → (b || true) ≡ true
-or_right true = refl
-or_right false = refl
-
-or_either : (a b : Bool) → (a || b) ≡ true → (a ≡ true) ⊎ (b ≡ true)
-or_either true b e = inl refl
-or_either false b e = inr e
 
 told_got : (l : Ledger) (x : Incoming) (g : Got) → Tells x g → StreamFine l.written l.read x.held → InWhole l x → ToldWhole l x → ToldWhole (got g l) x
 told_got l x g nothing f h d = d
@@ -176,7 +169,7 @@ reads_ledger keys w u s k t h d live =
       aborted = aborted_got (Bytes t) l;
       stays = λ e. (
         e,
-        elim (or_either l.told_end l.told_abort e) [
+        elim (or_true l.told_end l.told_abort e) [
           | inl y ↦ let o = old.told_end y in nothing_more l.read t l.written prefix o.1 ∙ sym o.1
           | inr y ↦ absurd (let o = old.told_abort y in cc)
         ],

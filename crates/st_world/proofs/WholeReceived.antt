@@ -22,6 +22,7 @@ use Rattle.st_world.proofs.Maps.{Within}
 use Rattle.st_world.proofs.DataReceived.{incoming_here, incoming_cases, insert_keeps, money_keeps, FrameFine, FramesFine}
 use Rattle.st_world.proofs.Credited.{frames_keep}
 use Rattle.st_world.proofs.PastEnds.{IsPast, past_data, past_is}
+use Rattle.st_world.proofs.Truths.{or_false, or_true, or_right, or_none}
 
 -- one outgoing stream: its ledger, and the highest byte end that the receiver has
 pub record OutSome (l : Ledger) (n : ℕ) (y : Outgoing) : Type 0 where
@@ -213,14 +214,6 @@ within_each w o xs h i l = let g = get_below xs i l in slice_get_within w (o + i
 within_end : (w : List ℕ) (o : ℕ) (xs : List ℕ) → Within w o xs → 0 < length xs → o + length xs ≤ length w
 within_end w o xs h l = let a : o + (length xs - 1) < length w = within_each w o xs h (length xs - 1) (omega arith) in omega arith
 
-or_true : (a b : Bool) → (a || b) ≡ true → (a ≡ true) ⊎ (b ≡ true)
-or_true true b e = inl refl
-or_true false b e = inr e
-
-or_false : (a b : Bool) → (a || b) ≡ false → (a ≡ false) × (b ≡ false)
-or_false true b e = absurd (cc)
-or_false false b e = (refl, e)
-
 over_cases : (e a : Option ℕ) → (is_some e || is_some a) ≡ true → ((n : ℕ) × (e ≡ Some n)) ⊎ (is_some a ≡ true)
 over_cases (Some n) a h = inl (n, refl)
 over_cases None a h = inr h
@@ -273,10 +266,6 @@ pub record Good (l : ℕ → Ledger) (r : Receiving) (fs : List Known) (t : Rece
   pub rise : Rise r t
   pub taken : FramesTaken t fs
 
-none_or : {A : Type 0} (a b : Option A) → option_or a b ≡ None → (a ≡ None) × (b ≡ None)
-none_or None b e = (refl, e)
-none_or (Some x) b e = absurd (cc)
-
 named_if : (b : Bool) (x : Reason) → cond b None (Some x) ≡ None → b ≡ true
 named_if true x e = refl
 named_if false x e = absurd (cc)
@@ -306,7 +295,7 @@ open_good l r k f t h =
 
 frame_good : (l : ℕ → Ledger) (r : Receiving) (f : Known) → length r.streams ≡ 65 → frame_fault r f ≡ None → RecvWhole l r → FrameFine (λ k. (l k).written) f → Good l r (f ∷ []) (after_frame r f)
 frame_good l r (StreamData k o xs) wide none h w =
-    let small : k < 65 = named_small r k (none_or (stream_fault r k) (data_fault r k o xs) none).0 in
+    let small : k < 65 = named_small r k (or_none (stream_fault r k) (data_fault r k o xs) none).0 in
     data_good l r k o xs (rw wide small) h w
 frame_good l r (StreamMoney k n) wide none h w = open_good l r k (StreamMoney k n) tt h
 frame_good l r (StreamClose k code message) wide none h w = open_good l r k (StreamClose k code message) tt h
@@ -323,7 +312,7 @@ frames_good : (l : ℕ → Ledger) (fs : List Known) (r : Receiving) → length 
 unfolding frames_fault after_frames
 frames_good l [] r wide none h w = record { recv = h; rise = rise_same r; taken = tt }
 frames_good l (f ∷ fs) r wide none h w =
-    let parts = none_or (frame_fault r f) (frames_fault (after_frame r f) fs) none in
+    let parts = or_none (frame_fault r f) (frames_fault (after_frame r f) fs) none in
     let g = frame_good l r f wide parts.0 h w.0 in
     let next = frames_good l fs (after_frame r f) ((frames_keep (f ∷ []) r).width ∙ wide) parts.1 g.recv w.1 in
     record {
@@ -343,10 +332,6 @@ money_alike : (r : Receiving) (amount : ℕ) (fs : List Known) → Alike r (afte
 money_alike r amount fs k = (money_keeps held_in (λ x n. refl) r amount fs k, money_keeps highest_in (λ x n. refl) r amount fs k)
 
 -- closes
-or_some : (b : Bool) → (b || true) ≡ true
-or_some true = refl
-or_some false = refl
-
 finish_in : (b : Bool) (l : Ledger) (x : Incoming) → is_over x.held ≡ b → l.clean ≡ true → length l.written ≤ x.highest → InWhole l x → InWhole l (record x { held = cond b x.held (record x.held { end = Some (past_all x.held) }) })
 finish_in true l x e c s h = record { ends = h.ends; drops = h.drops; within = h.within; past = h.past }
 finish_in false l x e c s h =
@@ -357,7 +342,7 @@ finish_in false l x e c s h =
 
 abort_in : (b : Bool) (l : Ledger) (x : Incoming) (code : ℕ) → l.aborted ≡ true → InWhole l x → InWhole l (record x { held = cond b x.held (record x.held { bytes = fmap.empty; aborted = Some code }) })
 abort_in true l x code c h = record { ends = h.ends; drops = h.drops; within = h.within; past = h.past }
-abort_in false l x code c h = record { ends = h.ends; drops = λ e. c; within = h.within; past = λ o. absurd (let z : is_over (record x.held { bytes = fmap.empty; aborted = Some code }) ≡ true = or_some (is_some x.held.end) in cc) }
+abort_in false l x code c h = record { ends = h.ends; drops = λ e. c; within = h.within; past = λ o. absurd (let z : is_over (record x.held { bytes = fmap.empty; aborted = Some code }) ≡ true = or_right (is_some x.held.end) in cc) }
 
 finish_rise : (b : Bool) (x : Incoming) → RisesAt x (record x { held = cond b x.held (record x.held { end = Some (past_all x.held) }) })
 finish_rise true x = (omega arith, λ e. e)

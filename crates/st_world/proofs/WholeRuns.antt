@@ -37,6 +37,7 @@ use Rattle.st_world.proofs.WholeSent.{out_outcome, frames_due, turns_good, repli
 use Rattle.st_world.proofs.PastEnds.{past_nothing, IsPast}
 use Rattle.st_world.proofs.WholeStates.{GivenWhole, GoodAt, Ledgers, Passed, PutWhole, StateWhole, StatesOf, TakenWhole, ToldWhole, WholeFine, ledger_in, passed_end, passed_same}
 use Rattle.st_world.proofs.WholeReads.{accepts_passed, reads_passed, tells_side}
+use Rattle.st_world.proofs.Maps.{found_in, none_in}
 
 -- Prepares and answers stay as they should be
 put_forth : (keys : DerivedKeys) (w v : World) (a : Side) (p : Put) → Passed w v → PutWhole keys w a p → PutWhole keys v a p
@@ -64,9 +65,6 @@ whole_step m keys w v l n t h puts given = record {
   puts = λ link a j p e. put_forth keys w v a p t (elim (puts link a j p e) [ inl old ↦ h.puts link a j p old | inr new ↦ new ]);
   given = λ link a j g e. elim (given link a j g e) [ inl old ↦ given_forth m keys w v link a j g l n t h old | inr new ↦ new ];
 }
-
-found_in : {A : Type 0} (xs ys : List A) (j : ℕ) (p : A) → ys ≡ xs → slice_get ys j ≡ Some p → slice_get xs j ≡ Some p
-found_in xs ys j p e h = rw e at h
 
 nth_put : (keys : DerivedKeys) (w : World) (link : ℕ) (way : Side) (k : ℕ) (p : Put) → WholeFine keys w → nth (lane_at w link way).puts k ≡ Some p → PutWhole keys w way p
 nth_put keys w link way zero p h e = absurd (cc)
@@ -285,21 +283,11 @@ new_state config parity =
       told = λ k. (both k).1;
     }
 
-no_lane : (n link : ℕ) (a : Side) → ((at (get_or (replicate n no_lanes) link no_lanes) a).puts ≡ []) × ((at (get_or (replicate n no_lanes) link no_lanes) a).given ≡ [])
-no_lane zero link Client = (refl, refl)
-no_lane zero link Server = (refl, refl)
-no_lane (suc n) zero Client = (refl, refl)
-no_lane (suc n) zero Server = (refl, refl)
-no_lane (suc n) (suc link) a = no_lane n link a
-
-none_in : {A : Type 0} (xs : List A) (j : ℕ) (p : A) → xs ≡ [] → slice_get xs j ≡ Some p → ⊥
-none_in xs j p e h = let none : slice_get xs j ≡ None = ap (λ ys. slice_get ys j) e in cc
-
 pub opening_whole : (c : Chain) → WholeFine (keys_of c.secret) (opening c)
 opening_whole c = record {
   states = by_side (λ a. StateWhole (ledger_in (opening c).ledgers a) (end_at (opening c) a).sending (end_at (opening c) (other a)).receiving) Client (new_state c.config 0) (new_state c.config 1);
-  puts = λ link a j p e. absurd (none_in _ j p (no_lane (length c.hops + 1) link a).0 e);
-  given = λ link a j g e. absurd (none_in _ j g (no_lane (length c.hops + 1) link a).1 e);
+  puts = λ link a j p e. absurd (none_in _ j p (lanes.no_lane (length c.hops + 1) link a).0 e);
+  given = λ link a j g e. absurd (none_in _ j g (lanes.no_lane (length c.hops + 1) link a).1 e);
 }
 
 pub told_side : (w : World) (a : Side) (k : ℕ) → StatesOf w.ends w.ledgers → (ledger_at w a k).told_end ≡ true → ((ledger_at w a k).clean ≡ true) × ((ledger_at w a k).read ≡ (ledger_at w a k).written)
