@@ -30,7 +30,7 @@ use Rattle.st_world.specs.Sides.{Side}
 use Rattle.st_world.specs.State.{World, Node, Put, Given, lane_at, with_put, with_given, end_at, nth, with_node, with_hop_entry, Place, AtEnd, AtHop, far, near, next_link, prev_link, account_from}
 use Rattle.st_world.specs.Events.{Told}
 use Rattle.st_world.specs.Ends.{end_entry, given_by, taken_if, flight_of, BackAtEnd}
-use Rattle.st_world.specs.Hops.{put_on, Comes, ArrivesAtHop, settled_entry, BackAtTicket, BackAtHop}
+use Rattle.st_world.specs.Hops.{put_on, Comes, ArrivesAtHop, settled_entry, BackAtTicket, BackAtHop, reject_entry}
 use Rattle.st_world.specs.Steps.{ArrivesAt, Arrives, BackAt, Back, AnswerBack}
 use Rattle.st_world.proofs.Spellings.{IsSpelled, spelled_at, spelled_reads, goes_on, reject_fails, fulfill_is, opened_long}
 use Rattle.st_world.proofs.Moves.{Came, Move, Replied, Settles, accepted, by_answer, by_fault, forwards, lands, move_at, refuses, rejected, replies, risen, settles, stays}
@@ -96,14 +96,10 @@ unfolding reject_text
 reject_text_fails own refusal = reject_fails (code_of refusal) own [] (payload_of refusal)
 
 ArrivalIs : Hop → Side → List ℕ → Arrival → Hop → Type 0
-ArrivalIs h way bytes (Answers answer) after = is_fulfill_text answer ≡ false
+ArrivalIs h way bytes (Answers answer) after = (is_fulfill_text answer ≡ false) × (after ≡ h)
 ArrivalIs h way bytes (Forwards t outgoing next) after =
     (t.number ≡ h.next) × (t.incoming ≡ account_from way) × (t.outgoing ≡ outgoing) × (t.amount_in ≡ (prepare_in bytes).amount) × (t.amount_out ≡ (prepare_in next).amount)
     × ((prepare_in next).payload ≡ (prepare_in bytes).payload) × IsSpelled next × (after ≡ holding h t)
-
-answers_is : (h : Hop) (way : Side) (bytes : List ℕ) (code by message payload : List ℕ) (after : Hop) → ArrivalIs h way bytes (Answers (answer_text (Rejected code by message payload))) after
-unfolding ArrivalIs
-answers_is h way bytes code by message payload after = reject_fails code by message payload
 
 -- a route that is told, or a refusal
 sent_cond : (h : Hop) (way : Side) (bytes : List ℕ) (p : PreparePacket) (b : Bool) (x y : Result ℕ _) → ArrivalIs h way bytes (sent_on h (account_from way) p x).0 (sent_on h (account_from way) p x).1 → (b ≡ false → ArrivalIs h way bytes (sent_on h (account_from way) p y).0 (sent_on h (account_from way) p y).1) → ArrivalIs h way bytes (sent_on h (account_from way) p (cond b x y)).0 (sent_on h (account_from way) p (cond b x y)).1
@@ -112,7 +108,7 @@ sent_cond h way bytes p false x y f g = g refl
 
 sent_refused : (h : Hop) (way : Side) (bytes : List ℕ) (p : PreparePacket) (refusal : _) → ArrivalIs h way bytes (sent_on h (account_from way) p (Err refusal)).0 (sent_on h (account_from way) p (Err refusal)).1
 unfolding ArrivalIs
-sent_refused h way bytes p refusal = reject_text_fails h.own refusal
+sent_refused h way bytes p refusal = (reject_text_fails h.own refusal, refl)
 
 sent_forward : (h : Hop) (way : Side) (bytes : List ℕ) (p : PreparePacket) (now : ℤ) (outgoing : ℕ) → IsPrepare p → prepare_in bytes ≡ p → pos 0 ≤ℤ now → int_le p.expiry (now +ℤ hop_time) ≡ false → ArrivalIs h way bytes (sent_on h (account_from way) p (Ok outgoing)).0 (sent_on h (account_from way) p (Ok outgoing)).1
 unfolding ArrivalIs
@@ -135,7 +131,7 @@ judged_sent h way bytes p now is same from =
 arrival_at : (h : Hop) (way : Side) (bytes : List ℕ) (now : ℤ) (r : Result PreparePacket IlpError) → prepare_at bytes ≡ r → IsSpelled bytes → pos 0 ≤ℤ now
     → let x = at_packet h (account_from way) r now in ArrivalIs h way bytes x.0 x.1
 unfolding ArrivalIs
-arrival_at h way bytes now (Err e) is spelled from = reject_text_fails h.own _
+arrival_at h way bytes now (Err e) is spelled from = (reject_text_fails h.own _, refl)
 arrival_at h way bytes now (Ok p) is spelled from = let x = spelled_reads bytes p spelled is in judged_sent h way bytes p now x.0 x.1 from
 
 arrival_is : (h : Hop) (way : Side) (bytes : List ℕ) (now : ℤ) → IsSpelled bytes → pos 0 ≤ℤ now → let x = arrived h (account_from way) bytes now in ArrivalIs h way bytes x.0 x.1
@@ -144,7 +140,9 @@ arrival_is h way bytes now spelled from = arrival_at h way bytes now (prepare_at
 comes_move : (w : World) (link : ℕ) (way : Side) (which : ℕ) (p : Put) (i : ℕ) (n : Node) (x : Arrival) (h : Hop) (t : Told) (after : World) → nth (lane_at w link way).puts which ≡ Some p → far w link way ≡ AtHop i → slice_get w.nodes i ≡ Some n
     → ArrivalIs n.state way p.bytes x h → Comes w link way which p i n x h t after → Move w after
 unfolding ArrivalIs
-comes_move w link way which p i n (Answers answer) h t after is place here x c = move_at w _ after c.2 (refuses link way which p i n answer is place here x)
+comes_move w link way which p i n (Answers answer) h t after is place here x c =
+    let P : Hop → Type 0 = λ y. Move w (with_given (with_hop_entry w i n y (reject_entry (account_from way) p.bytes)) link way (given_by which answer)) in
+    move_at w _ after c.1 (subst P (sym x.1) (refuses link way which p i n answer is place here x.0))
 comes_move w link way which p i n (Forwards ticket outgoing bytes) h t after is place here x c =
     let P : Hop → Type 0 = λ y. Move w (with_put (with_node w i (record { state = y; bag = n.bag })) (next_link link way) way (put_on ticket bytes which)) in
     move_at w _ after c.2 (subst P (sym x.7) (forwards link way which p i n ticket bytes is place here x.0 x.1 (x.2 ∙ c.0) x.3 x.4 x.5 x.6))

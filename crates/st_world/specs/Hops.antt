@@ -5,7 +5,7 @@ use Rattle.std.specs.declared.option.Option.TheVariants.{None, Some}
 use Rattle.st_hop.specs.declared.ticket.Open.{Open}
 use Rattle.st_hop.specs.Hop.{Hop}
 use Rattle.st_hop.specs.Tickets.{ticket_at}
-use Rattle.st_hop.specs.Arriving.{Arrival, Answers, Forwards, arrived}
+use Rattle.st_hop.specs.Arriving.{Arrival, Answers, Forwards, onward, arrived}
 use Rattle.st_hop.specs.Settling.{settled, is_booked}
 use Rattle.st_end.specs.Receiving.{prepare_in}
 use Rattle.st_world.specs.Sides.{Side}
@@ -15,20 +15,20 @@ use Rattle.st_world.specs.Ends.{given_by, taken_if}
 
 -- ---- a Prepare comes to a hop: it answers, or the Prepare goes on
 
--- of a Prepare that went nowhere: at rates of 1 to 1 its amounts are equal
+-- of a Prepare that went nowhere: with the amount that would have gone on
 abbrev pub reject_entry : (account : ℕ) → (bytes : List ℕ) → HopEntry
-reject_entry account bytes = record { incoming = account; outgoing = None; amount_in = (prepare_in bytes).amount; amount_out = (prepare_in bytes).amount; fulfilled = false }
+reject_entry account bytes = record { incoming = account; outgoing = None; amount_in = (prepare_in bytes).amount; amount_out = (onward (prepare_in bytes)).amount; fulfilled = false }
 
-abbrev pub answered_at_hop : World → (link : ℕ) → (way : Side) → (which : ℕ) → (bytes : List ℕ) → (i : ℕ) → Node → (answer : List ℕ) → World
-answered_at_hop w link way which bytes i n answer = with_given (with_hop_entry w i n n.state (reject_entry (account_from way) bytes)) link way (given_by which answer)
+abbrev pub answered_at_hop : World → (link : ℕ) → (way : Side) → (which : ℕ) → (bytes : List ℕ) → (i : ℕ) → Node → Hop → (answer : List ℕ) → World
+answered_at_hop w link way which bytes i n h answer = with_given (with_hop_entry w i n h (reject_entry (account_from way) bytes)) link way (given_by which answer)
 
 abbrev pub put_on : Open → (bytes : List ℕ) → (which : ℕ) → Put
 put_on t bytes which = record { bytes = bytes; name = t.number; condition = t.condition; cause = which }
 
--- of two accounts the one to which it goes on is not the one that it came from
+-- a hop of a chain has two accounts: what goes on goes to the one that it did not come from
 abbrev pub Comes : World → (link : ℕ) → (way : Side) → (which : ℕ) → Put → (i : ℕ) → Node → Arrival → Hop → Told → World → Type 0
 Comes w link way which p i n (Answers bytes) h told after =
-    (told ≡ Replied bytes) × (h ≡ n.state) × (after ≡ answered_at_hop w link way which p.bytes i n bytes)
+    (told ≡ Replied bytes) × (after ≡ answered_at_hop w link way which p.bytes i n h bytes)
 Comes w link way which p i n (Forwards t outgoing bytes) h told after =
     (outgoing ≡ account_to way) × (told ≡ Went bytes)
     × (after ≡ with_put (with_node w i (record { state = h; bag = n.bag })) (next_link link way) way (put_on t bytes which))

@@ -69,7 +69,7 @@ RefusesAt w link way which now p (AtEnd side) after =
     (e : EndState) × (sequence : Option ℕ) × MayHaveRisen (end_at w side) v e × ((sequence ≡ None) ⊎ (sequence ≡ sequence_of v))
     × (after ≡ answered_at_end w link way which side e (refused_entry p.bytes sequence) t00)
 RefusesAt w link way which now p (AtHop i) after =
-    (n : Node) × (slice_get w.nodes i ≡ Some n) × (after ≡ answered_at_hop w link way which p.bytes i n (hop.t00_text n.state.own))
+    (n : Node) × (slice_get w.nodes i ≡ Some n) × (after ≡ answered_at_hop w link way which p.bytes i n n.state (hop.t00_text n.state.own))
 
 abbrev pub RefusesArrival : World → (link : ℕ) → (way : Side) → (which : ℕ) → (now : ℤ) → Option Put → World → Type 0
 RefusesArrival w link way which now None after = ⊥

@@ -1,8 +1,12 @@
 //! What every run keeps, over the definitions alone. These functions do nothing: the contract is the law.
 
-ghost use Rattle.std.specs.Prelude.{List, ℕ};
+ghost use Rattle.std.specs.Prelude.{◌≡◌, ℕ, ℤ, List, length};
+ghost use Rattle.st_hop.specs.declared.ticket.Open as tickets;
+ghost use Rattle.st_hop.specs.Hop.{Hop};
+ghost use Rattle.st_hop.specs.Lawful.{IsLawful};
+ghost use Rattle.st_hop.specs.Arriving.{Forwards, arrived};
 ghost use Rattle.st_world.specs.Sides.{Side};
-ghost use Rattle.st_world.specs.State.{World, ledger_at};
+ghost use Rattle.st_world.specs.State.{World, ledger_at, account_from, account_to};
 ghost use Rattle.st_world.specs.Events.{Event};
 ghost use Rattle.st_world.specs.Runs.{Chain, Run, opening};
 ghost use Rattle.st_world.specs.Holds.{Holds, StaysRead};
@@ -16,4 +20,10 @@ ghost use Rattle.st_world.specs.Holds.{Holds, StaysRead};
 pub fn every_run_holds()
     ensures holds { (c : Chain) (events : List Event) (w : World) → Run (opening c) events w → Holds w }
     ensures stays { (c : Chain) (events more : List Event) (w v : World) → Run (opening c) events w → Run w more v → (side : Side) (k : ℕ) → StaysRead (ledger_at w side k) (ledger_at v side k) }
+{}
+
+/// A Prepare that comes to a lawful hop with an account towards each end goes on, where it does, to the account towards the
+/// other end: a chain leaves none behind.
+pub fn prepares_go_across()
+    ensures { (h : Hop) (way : Side) (bytes : List ℕ) (now : ℤ) → IsLawful h → length h.accounts ≡ 2 → (t : tickets.Open) (outgoing : ℕ) (text : List ℕ) → (arrived h (account_from way) bytes now).0 ≡ Forwards t outgoing text → outgoing ≡ account_to way }
 {}
