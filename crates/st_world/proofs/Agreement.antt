@@ -318,7 +318,7 @@ links_move m keys w v (refuses link way which p i n reply is place here r) z par
       ],
       untaken mid link way which reply l y,
     )) h
-links_move m keys w v (forwards link way which p i n t bytes is place here num a b c d f sp) z parties hops h =
+links_move m keys w v (forwards link way which p i n t bytes is place here num a b c d f sp now came) z parties hops h =
     let new : Put = put_on t bytes which in
     let node : Node = record { state = holding n.state t; bag = n.bag } in
     let mid = with_node w i node in

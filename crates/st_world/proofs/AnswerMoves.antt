@@ -137,15 +137,15 @@ arrival_at h way bytes now (Ok p) is spelled from = let x = spelled_reads bytes 
 arrival_is : (h : Hop) (way : Side) (bytes : List ℕ) (now : ℤ) → IsSpelled bytes → pos 0 ≤ℤ now → let x = arrived h (account_from way) bytes now in ArrivalIs h way bytes x.0 x.1
 arrival_is h way bytes now spelled from = arrival_at h way bytes now (prepare_at bytes) refl spelled from
 
-comes_move : (w : World) (link : ℕ) (way : Side) (which : ℕ) (p : Put) (i : ℕ) (n : Node) (x : Arrival) (h : Hop) (t : Told) (after : World) → nth (lane_at w link way).puts which ≡ Some p → far w link way ≡ AtHop i → slice_get w.nodes i ≡ Some n
+comes_move : (w : World) (link : ℕ) (way : Side) (which : ℕ) (p : Put) (i : ℕ) (n : Node) (x : Arrival) (h : Hop) (t : Told) (after : World) (now : ℤ) → (arrived n.state (account_from way) p.bytes now).1 ≡ h → nth (lane_at w link way).puts which ≡ Some p → far w link way ≡ AtHop i → slice_get w.nodes i ≡ Some n
     → ArrivalIs n.state way p.bytes x h → Comes w link way which p i n x h t after → Move w after
 unfolding ArrivalIs
-comes_move w link way which p i n (Answers answer) h t after is place here x c =
+comes_move w link way which p i n (Answers answer) h t after now came is place here x c =
     let P : Hop → Type 0 = λ y. Move w (with_given (with_hop_entry w i n y (reject_entry (account_from way) p.bytes)) link way (given_by which answer)) in
     move_at w _ after c.1 (subst P (sym x.1) (refuses link way which p i n answer is place here x.0))
-comes_move w link way which p i n (Forwards ticket outgoing bytes) h t after is place here x c =
+comes_move w link way which p i n (Forwards ticket outgoing bytes) h t after now came is place here x c =
     let P : Hop → Type 0 = λ y. Move w (with_put (with_node w i (record { state = y; bag = n.bag })) (next_link link way) way (put_on ticket bytes which)) in
-    move_at w _ after c.2 (subst P (sym x.7) (forwards link way which p i n ticket bytes is place here x.0 x.1 (x.2 ∙ c.0) x.3 x.4 x.5 x.6))
+    move_at w _ after c.2 (subst P (sym x.7) (forwards link way which p i n ticket bytes is place here x.0 x.1 (x.2 ∙ c.0) x.3 x.4 x.5 x.6 now (came ∙ x.7)))
 
 -- all that was put is spelled
 abbrev pub AllSpelled : World → Type 0
@@ -160,7 +160,7 @@ hop_move : (w : World) (link : ℕ) (way : Side) (which : ℕ) (p : Put) (now : 
 hop_move w link way which p now i None t after all from is place here h = move_at w w after h.1 stays
 hop_move w link way which p now i (Some n) t after all from is place here h =
     let x = arrived n.state (account_from way) p.bytes now in
-    comes_move w link way which p i n x.0 x.1 t after is place here (arrival_is n.state way p.bytes now (nth_spelled w link way which p all is) from) h
+    comes_move w link way which p i n x.0 x.1 t after now refl is place here (arrival_is n.state way p.bytes now (nth_spelled w link way which p all is) from) h
 
 arrives_at : (w : World) (link : ℕ) (way : Side) (which : ℕ) (now : ℤ) (p : Put) (place : Place) (t : Told) (after : World) → AllSpelled w → pos 0 ≤ℤ now → nth (lane_at w link way).puts which ≡ Some p → far w link way ≡ place
     → ArrivesAt w link way which now p place t after → Move w after

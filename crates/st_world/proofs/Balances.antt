@@ -128,7 +128,7 @@ nodes_move m keys w v (reads a k n x run is live r) z h = h
 nodes_move m keys w v (goes a iv now flight bytes e l g) n h = h
 nodes_move m keys w v (replies link way which p a reply e x is place r) n h = h
 nodes_move m keys w v (refuses link way which p i n reply is place here r) z h = nodes_set w.nodes i _ h (rejected_node n (account_from way) p.bytes (h i n here))
-nodes_move m keys w v (forwards link way which p i n t bytes is place here num a b c d f sp) z h =
+nodes_move m keys w v (forwards link way which p i n t bytes is place here num a b c d f sp now came) z h =
     let x = h i n here in
     nodes_set w.nodes i _ h (record {
       claims = x.claims;

@@ -314,7 +314,7 @@ data_move keys w v (replies link way which p a answer e x is place r) h =
     with_given-fine keys (with_entry (with_end w a e) a x) link way _
     (entry_fine keys (with_end w a e) a x (with_end-fine keys w a e h (replied_fine keys (written_of w a) (written_of w (other a)) (read_of w (other a)) (end_at w a) e p.bytes answer x r (came_frames keys w link way which p a h is place) (end_fine keys w a h))))
 data_move keys w v (refuses link way which p i n answer is place here r) h = with_given-fine keys (with_hop_entry w i n n.state _) link way _ (node_fine keys w i _ h)
-data_move keys w v (forwards link way which p i n t bytes is place here num a b c d f sp) h =
+data_move keys w v (forwards link way which p i n t bytes is place here num a b c d f sp now came) h =
     with_put-fine keys (with_node w i _) (next_link link way) way _ (λ q o. nth_put keys w link way which p h is q (ap (opened keys 12) (sym f) ∙ o)) (node_fine keys w i _ h)
 data_move keys w v (lands link way j p o a load came place is) h =
     taken_fine keys (with_end w a (after_outcome (end_at w a) (flight_of p) load o)) (pays (flight_of p) o) link way j

@@ -1,5 +1,5 @@
 -- What every run keeps, from the passes.
-use Rattle.std.proofs.Common.{◌≡◌, ℕ, zero, suc, ◌+◌, List, [], ◌∷◌, length, replicate, slice_get, get_or, refl, sym, ap, subst, ◌∙◌, ℤ, None, Some, ◌⊎◌, inl, inr}
+use Rattle.std.proofs.Common.{◌≡◌, ℕ, zero, suc, ◌+◌, List, [], ◌∷◌, length, replicate, slice_get, get_or, refl, sym, ap, subst, ◌∙◌, ℤ, None, Some, ◌⊎◌, inl, inr, Bool, true}
 use Rattle.st_end.specs.declared.flight.Open as flights
 use Rattle.st_end.specs.Sending.{Goes, prepare_for}
 use Rattle.st_end.specs.Answers.{after_outcome, pays}
@@ -13,7 +13,7 @@ use Rattle.st_world.specs.Hops.{reject_entry, put_on, settled_entry}
 use Rattle.st_hop.specs.Hop.{holding}
 use Rattle.st_keys.specs.Keys.{DerivedKeys, keys_of}
 use Rattle.st_world.specs.Steps.{noted}
-use Rattle.st_world.specs.Runs.{Run, Chain, opening}
+use Rattle.st_world.specs.Runs.{Run, Chain, opening, is_chain}
 use Rattle.st_world.specs.Holds.{ReadsPrefix, EndsWhole, StaysRead, IsCredited, IsBalanced, LinksAgree}
 use Rattle.st_world.proofs.Spellings.{IsSpelled}
 use Rattle.st_world.proofs.Moves.{Move, stays, turns, accepts, tells, reads, goes, replies, refuses, forwards, lands, settles}
@@ -27,6 +27,7 @@ use Rattle.st_world.proofs.Agreement.{AllLinks, all_move, all_noted, opening_lin
 use Rattle.st_world.proofs.WholeStates.{WholeFine, StaysTold, ledger_in}
 use Rattle.st_world.proofs.WholeRuns.{whole_move, opening_whole, told_side}
 use Rattle.st_world.proofs.Maps.{found_in}
+use Rattle.st_world.proofs.LawfulHops.{HopsFine, hops_move, opening_hops}
 
 goes_spelled : (e f : EndState) (iv : List ℕ) (now : ℤ) (flight : flights.Open) (bytes : List ℕ) → Goes e iv now flight bytes f → IsSpelled bytes
 goes_spelled e f iv now flight bytes g = (prepare_for e now g.load.amount g.payload, g.lawful, g.bytes_are)
@@ -51,7 +52,7 @@ spelled_move w v (replies link way which p a answer e x is place r) h =
     λ l y j q e'. h l y j q (found_in (lane_at w l y).puts _ j q (lanes.puts_given (with_entry (with_end w a e) a x) link way (given_by which answer) l y) e')
 spelled_move w v (refuses link way which p i n answer is place here r) h =
     λ l y j q e'. h l y j q (found_in (lane_at w l y).puts _ j q (lanes.puts_given (with_hop_entry w i n n.state (reject_entry (account_from way) p.bytes)) link way (given_by which answer) l y) e')
-spelled_move w v (forwards link way which p i n t bytes is place here num a b c d f sp) h =
+spelled_move w v (forwards link way which p i n t bytes is place here num a b c d f sp now came) h =
     put_spelled w (next_link link way) way (put_on t bytes which) sp v
     (λ l y j q e'. elim (lanes.put_found (with_node w i (record { state = holding n.state t; bag = n.bag })) (next_link link way) way (put_on t bytes which) l y j q e') [ inl old ↦ inl old | inr z ↦ inr z.2 ]) h
 spelled_move w v (lands link way j p o a load came place is) h =
@@ -133,3 +134,8 @@ hops_balanced c events w run i n e = ((reached c events w run).links.hops i n e)
 
 pub links_agree : (c : Chain) (events : List Event) (w : World) → Run (opening c) events w → LinksAgree w
 links_agree c events w run = let h = reached c events w run in agree (length c.hops) (keys_of c.secret) w h.links.names h.links.links
+
+-- hops of a lawful chain
+pub hops_lawful : (c : Chain) (events : List Event) (w : World) → is_chain c ≡ true → Run (opening c) events w → HopsFine w.nodes
+hops_lawful c events w lawful run =
+    (run_keeps (λ v. AllSpelled v × HopsFine v.nodes) (λ u v m h. (spelled_move u v m h.0, hops_move u v m h.1)) (λ v h. h) (λ v h. h.0) events (opening c) w run (opening_spelled c, opening_hops c lawful)).1

@@ -169,7 +169,7 @@ later w v (refuses link way which p i n reply is place here r) = record {
   nodes = nodes_set w.nodes i n _ here (hop_same n.state);
   puts = λ l y k q h. same_nth (lane_at w l y).puts _ k q (lanes.puts_given (with_hop_entry w i n n.state (reject_entry (account_from way) p.bytes)) link way _ l y) h;
 }
-later w v (forwards link way which p i n t bytes is place here num a b c d f sp) = record {
+later w v (forwards link way which p i n t bytes is place here num a b c d f sp now came) = record {
   count = length-set w.nodes i _;
   ends = λ a. same_later (end_at w a);
   nodes = nodes_set w.nodes i n _ here (ticket_hop n.state t num);

@@ -27,4 +27,5 @@ pub mod WholeSent
 pub mod WholeStates
 pub mod WholeReads
 pub mod WholeRuns
+pub mod LawfulHops
 pub mod EveryRun

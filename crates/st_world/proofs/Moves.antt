@@ -27,6 +27,7 @@ use Rattle.st_world.specs.Ends.{put_by, given_by, taken_if, flight_of}
 use Rattle.st_world.specs.Hops.{reject_entry, put_on, settled_entry}
 use Rattle.st_world.proofs.Spellings.{IsSpelled}
 use Rattle.st_reassembly.specs.Held.{after_read}
+use Rattle.st_hop.specs.Arriving.{arrived}
 
 -- a call on an outgoing stream that was accepted: the stream, its ledger, and what is left of both
 pub data Accepts (x : Outgoing) (l : Ledger) : Outgoing → Ledger → Type 0 where
@@ -87,7 +88,7 @@ pub data Move (w : World) : World → Type 0 where
       → is_fulfill_text answer ≡ false → Move w (with_given (with_hop_entry w i n n.state (reject_entry (account_from way) p.bytes)) link way (given_by which answer))
   forwards : (link : ℕ) (way : Side) (which : ℕ) (p : Put) (i : ℕ) (n : Node) (t : Open) (bytes : List ℕ) → nth (lane_at w link way).puts which ≡ Some p → far w link way ≡ AtHop i → slice_get w.nodes i ≡ Some n
       → t.number ≡ n.state.next → t.incoming ≡ account_from way → t.outgoing ≡ account_to way → t.amount_in ≡ (prepare_in p.bytes).amount → t.amount_out ≡ (prepare_in bytes).amount
-      → (prepare_in bytes).payload ≡ (prepare_in p.bytes).payload → IsSpelled bytes
+      → (prepare_in bytes).payload ≡ (prepare_in p.bytes).payload → IsSpelled bytes → (now : ℤ) → (arrived n.state (account_from way) p.bytes now).1 ≡ holding n.state t
       → Move w (with_put (with_node w i (record { state = holding n.state t; bag = n.bag })) (next_link link way) way (put_on t bytes which))
   lands : (link : ℕ) (way : Side) (j : ℕ) (p : Put) (o : Option (List ℕ)) (a : Side) (load : Flight) → Came w link way j p o → near w link way ≡ AtEnd a → flight_at (end_at w a).sending.flights p.name ≡ Some load
       → Move w (taken_if (pays (flight_of p) o) (with_end w a (after_outcome (end_at w a) (flight_of p) load o)) link way j)

@@ -269,13 +269,13 @@ names_move m keys w v (refuses link way which p i n reply is place here r) h =
       | inl old ↦ inl old
       | inr z ↦ inr (new_given m w v link way which p reply l y q (later w v (refuses link way which p i n reply is place here r)) is z.0 z.1 z.2)
     ])
-names_move m keys w v (forwards link way which p i n t bytes is place here num a b c d f sp) h =
+names_move m keys w v (forwards link way which p i n t bytes is place here num a b c d f sp now came) h =
     let new : Put = put_on t bytes which in
     let state = holding n.state t in
     let mid = with_node w i (record { state = state; bag = n.bag }) in
     let far_is : far_of m link way ≡ AtHop i = sym (lanes.far_is w m link way h.count) ∙ place in
     let small : i < m = let s : i < length w.nodes = slice_get_within w.nodes i n here in let z : length w.nodes ≡ m = h.count in omega arith in
-    let l' = later w v (forwards link way which p i n t bytes is place here num a b c d f sp) in
+    let l' = later w v (forwards link way which p i n t bytes is place here num a b c d f sp now came) in
     names_step m keys w v l' h
     (λ l y j q e. elim (lanes.put_found mid (next_link link way) way new l y j q e) [
       | inl old ↦ inl old

@@ -184,12 +184,12 @@ whole_move m keys w v (refuses link way which p i o reply is place there r) part
           (λ l y j q e. elim (lanes.given_found u link way (given_by which reply) l y j q e) [ inl old ↦ inl old | inr z ↦ inr (let P : Given → Type 0 = λ k. GivenWhole keys v link way k in rw (z.0, z.1) (subst P z.2 here)) ]),
       t,
     )
-whole_move m keys w v (forwards link way which p i o t bytes is place there num a b c e f sp) parties n d dv h =
+whole_move m keys w v (forwards link way which p i o t bytes is place there num a b c e f sp now came) parties n d dv h =
     let new : Put = put_on t bytes which in
     let u = with_node w i (record { state = holding o.state t; bag = o.bag }) in
     let s = passed_same w v refl refl h.states in
     let here : PutWhole keys w way new = λ q k. nth_put keys w link way which p h is q (ap (opened keys 12) (sym f) ∙ k) in (
-      whole_step m keys w v (later w v (forwards link way which p i o t bytes is place there num a b c e f sp)) n s h
+      whole_step m keys w v (later w v (forwards link way which p i o t bytes is place there num a b c e f sp now came)) n s h
           (λ l y j q e. elim (lanes.put_found u (next_link link way) way new l y j q e) [ inl old ↦ inl old | inr z ↦ inr (let P : Put → Type 0 = λ k. PutWhole keys w way k in rw z.1 (subst P z.2 here)) ])
           (λ l y j x e. inl (found_in (lane_at w l y).given _ j x (lanes.given_put u (next_link link way) way new l y) e)),
       s,

@@ -10,11 +10,11 @@ use Rattle.st_world.specs.State.{World, EndEntry, HopEntry, Node, Party, Put, Gi
 use Rattle.st_ilp.specs.Reading.{is_fulfill_text}
 use Rattle.st_world.specs.Ledgers.{Ledger}
 
--- (a) what was read of a stream is a prefix of what was written
+-- what was read of a stream is a prefix of what was written
 abbrev pub ReadsPrefix : World → Type 0
 ReadsPrefix w = (side : Side) (k : ℕ) → IsPrefixOf (ledger_at w side k).read (ledger_at w side k).written
 
--- (b) where End was told, a clean close was accepted and all was read
+-- where End was told, a clean close was accepted and all was read
 abbrev pub EndsWhole : World → Type 0
 EndsWhole w = (side : Side) (k : ℕ) → (ledger_at w side k).told_end ≡ true → ((ledger_at w side k).clean ≡ true) × ((ledger_at w side k).read ≡ (ledger_at w side k).written)
 
@@ -22,7 +22,7 @@ EndsWhole w = (side : Side) (k : ℕ) → (ledger_at w side k).told_end ≡ true
 abbrev pub StaysRead : Ledger → Ledger → Type 0
 StaysRead old new = (old.told_end || old.told_abort) ≡ true → new.read ≡ old.read
 
--- (c) an end's credit is the sum of what it fulfilled, no sequence twice, and its streams' credits add up to it
+-- an end's credit is the sum of what it fulfilled, no sequence twice, and its streams' credits add up to it
 abbrev pub fulfilled_amount : EndEntry → ℕ
 fulfilled_amount x = if x.fulfilled then x.amount else 0
 
@@ -46,7 +46,7 @@ pub record IsCredited (p : Party) : Type 0 where
   pub once : (n : ℕ) → count_of n p.bag ≤ 1
   pub streams : all_credited p.state.receiving ≡ p.state.receiving.credit
 
--- (d) a hop's claims and dues are the sums over the Prepares that were fulfilled
+-- a hop's claims and dues are the sums over the Prepares that were fulfilled
 abbrev pub claim_of : ℕ → HopEntry → ℕ
 claim_of a x = if x.fulfilled && nat_eq x.incoming a then x.amount_in else 0
 

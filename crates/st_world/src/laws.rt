@@ -1,14 +1,14 @@
 //! What every run keeps, over the definitions alone. These functions do nothing: the contract is the law.
 
-ghost use Rattle.std.specs.Prelude.{◌≡◌, ℕ, ℤ, List, length};
+ghost use Rattle.std.specs.Prelude.{◌≡◌, ℕ, ℤ, true, List, Some, length, slice_get};
 ghost use Rattle.st_hop.specs.declared.ticket.Open as tickets;
 ghost use Rattle.st_hop.specs.Hop.{Hop};
 ghost use Rattle.st_hop.specs.Lawful.{IsLawful};
 ghost use Rattle.st_hop.specs.Arriving.{Forwards, arrived};
 ghost use Rattle.st_world.specs.Sides.{Side};
-ghost use Rattle.st_world.specs.State.{World, ledger_at, account_from, account_to};
+ghost use Rattle.st_world.specs.State.{World, Node, ledger_at, account_from, account_to};
 ghost use Rattle.st_world.specs.Events.{Event};
-ghost use Rattle.st_world.specs.Runs.{Chain, Run, opening};
+ghost use Rattle.st_world.specs.Runs.{Chain, is_chain, Run, opening};
 ghost use Rattle.st_world.specs.Holds.{Holds, StaysRead};
 
 /// After any list of calls, arrivals, answers and faults over any chain of hops, with Prepares and answers lost, repeated
@@ -20,6 +20,12 @@ ghost use Rattle.st_world.specs.Holds.{Holds, StaysRead};
 pub fn every_run_holds()
     ensures holds { (c : Chain) (events : List Event) (w : World) → Run (opening c) events w → Holds w }
     ensures stays { (c : Chain) (events more : List Event) (w v : World) → Run (opening c) events w → Run w more v → (side : Side) (k : ℕ) → StaysRead (ledger_at w side k) (ledger_at v side k) }
+{}
+
+/// From the opening of a lawful chain each hop stays lawful in every run, with its two accounts: each account is within its
+/// limit, and all sums are below 2^63.
+pub fn hops_stay_lawful()
+    ensures { (c : Chain) (events : List Event) (w : World) → is_chain c ≡ true → Run (opening c) events w → (i : ℕ) (n : Node) → slice_get w.nodes i ≡ Some n → IsLawful n.state × (length n.state.accounts ≡ 2) }
 {}
 
 /// A Prepare that comes to a lawful hop with an account towards each end goes on, where it does, to the account towards the
