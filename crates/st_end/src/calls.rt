@@ -87,6 +87,7 @@ impl<A: Allocator + Copy> EndState<A> {
     }
 
     /// The first of this end's own numbers whose stream is not open.
+    #[tactic(auto, using(crate::proofs::Numbers::from_first, crate::proofs::Numbers::next_number, crate::proofs::Numbers::no_number))]
     fn own_number(&self) -> Option<u8>
         ensures number { result ≡ calls.own_number self.now }
         ensures free { IfSome result (λ k. (k < 65) × (outgoing_at self.now.sending k ≡ None)) }
