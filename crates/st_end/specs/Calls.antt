@@ -37,6 +37,10 @@ refusal e k of_sender = refusal_at e (outgoing_at e.sending k) of_sender
 abbrev pub Answer : Type 0
 Answer = Result (Unit {0}) EndError
 
+abbrev pub answer : Option EndError → Answer
+answer None = Ok tt
+answer (Some why) = Err why
+
 abbrev pub done : EndState → Option EndError → Sending → Answer × EndState
 done e (Some why) s = (Err why, e)
 done e None s = (Ok tt, record e { sending = s })

@@ -47,6 +47,20 @@ fn all_delivered<A: Allocator + Copy>(slots: &Vec<Option<Incoming<A>>, A>) -> u1
 }
 
 impl<A: Allocator + Copy> Intake<A> {
+    /// Of this end's own stream numbers: 1 for a client, 0 for a server.
+    pub fn parity(&self) -> u8
+        ensures { result ≡ self.now.state.parity }
+    {
+        self.parity
+    }
+
+    /// Whether the peer closed the connection. No memory.
+    pub fn is_closed(&self) -> bool
+        ensures { result ≡ self.now.state.closed }
+    {
+        self.closed
+    }
+
     /// How many bytes were read on all streams. No memory.
     pub fn delivered(&self) -> u128
         ensures { result ≡ all_delivered self.now.state }
