@@ -1,18 +1,18 @@
 -- What every run keeps, from the passes.
-use Rattle.std.proofs.Common.{◌≡◌, ℕ, zero, suc, ◌+◌, List, [], ◌∷◌, length, replicate, slice_get, get_or, refl, sym, ap, subst, ◌∙◌, ℤ, None, Some, ◌⊎◌, inl, inr, Bool, true}
+use Rattle.std.proofs.Common.{◌≡◌, ℕ, zero, suc, ◌+◌, List, [], ◌∷◌, length, replicate, slice_get, get_or, refl, sym, ap, subst, ◌∙◌, ℤ, None, Some, ◌⊎◌, inl, inr, Bool, true, false}
 use Rattle.st_end.specs.declared.flight.Open as flights
 use Rattle.st_end.specs.Sending.{Goes, prepare_for}
 use Rattle.st_end.specs.Answers.{after_outcome, pays}
 use Rattle.st_end.specs.State.{EndState}
 use Rattle.st_world.specs.Sides.{Side, Client, Server, at}
 use Rattle.st_world.specs.State.{World, ledger_at, Node, Put, no_lanes, lane_at, with_end, with_entry, end_at, with_node, with_hop_entry, first_link, next_link, prev_link, account_from}
-use Rattle.st_world.specs.Events.{Event}
+use Rattle.st_world.specs.Events.{Event, Told, IsEvent}
 use Rattle.st_world.specs.Ends.{put_by, given_by, taken_if, flight_of}
 use Rattle.st_ilp.specs.Reading.{is_fulfill_text}
 use Rattle.st_world.specs.Hops.{reject_entry, put_on, settled_entry}
 use Rattle.st_hop.specs.Hop.{holding}
 use Rattle.st_keys.specs.Keys.{DerivedKeys, keys_of}
-use Rattle.st_world.specs.Steps.{noted}
+use Rattle.st_world.specs.Steps.{noted, Step}
 use Rattle.st_world.specs.Runs.{Run, Chain, opening, is_chain}
 use Rattle.st_world.specs.Holds.{ReadsPrefix, EndsWhole, StaysRead, IsCredited, IsBalanced, LinksAgree}
 use Rattle.st_world.proofs.Spellings.{IsSpelled}
@@ -139,3 +139,26 @@ links_agree c events w run = let h = reached c events w run in agree (length c.h
 pub hops_lawful : (c : Chain) (events : List Event) (w : World) → is_chain c ≡ true → Run (opening c) events w → HopsFine w.nodes
 hops_lawful c events w lawful run =
     (run_keeps (λ v. AllSpelled v × HopsFine v.nodes) (λ u v m h. (spelled_move u v m h.0, hops_move u v m h.1)) (λ v h. h) (λ v h. h.0) events (opening c) w run (opening_spelled c, opening_hops c lawful)).1
+
+-- ---- want of memory is noted where it was met, and nowhere else
+
+taken_refused : (b : Bool) (w : World) (link : ℕ) (way : Side) (j : ℕ) → (taken_if b w link way j).refused ≡ w.refused
+taken_refused false w link way j = refl
+taken_refused true w link way zero = refl
+taken_refused true w link way (suc j) = refl
+
+refused_move : (w v : World) → Move w v → v.refused ≡ w.refused
+refused_move w v stays = refl
+refused_move w v (turns a e t) = refl
+refused_move w v (accepts a k x y l is live c) = refl
+refused_move w v (tells a k x g is t) = refl
+refused_move w v (reads a k n x run is live r) = refl
+refused_move w v (goes a iv now flight bytes e l g) = refl
+refused_move w v (replies link way which p a answer e x is place r) = refl
+refused_move w v (refuses link way which p i n answer is place here r) = refl
+refused_move w v (forwards link way which p i n t bytes is place here num a b c d f sp now came) = refl
+refused_move w v (lands link way j p o a load came place is) = taken_refused (pays (flight_of p) o) (with_end w a (after_outcome (end_at w a) (flight_of p) load o)) link way j
+refused_move w v (settles link way j p o i n t answer g came place here is st) = taken_refused (is_fulfill_text answer) (with_hop_entry w i n g (settled_entry t (is_fulfill_text answer))) link way j
+
+pub step_refused : (c : Chain) (events : List Event) (w : World) → Run (opening c) events w → (event : Event) (told : Told) (v : World) → IsEvent event → Step w event told v → v.refused ≡ w.refused
+step_refused c events w run event told v ok s = refused_move w v (step_move w event told v (reached c events w run).spelled ok s)

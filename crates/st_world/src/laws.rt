@@ -7,7 +7,8 @@ ghost use Rattle.st_hop.specs.Lawful.{IsLawful};
 ghost use Rattle.st_hop.specs.Arriving.{Forwards, arrived};
 ghost use Rattle.st_world.specs.Sides.{Side};
 ghost use Rattle.st_world.specs.State.{World, Node, ledger_at, account_from, account_to};
-ghost use Rattle.st_world.specs.Events.{Event};
+ghost use Rattle.st_world.specs.Events.{Event, Told, IsEvent};
+ghost use Rattle.st_world.specs.Steps.{Step, noted};
 ghost use Rattle.st_world.specs.Runs.{Chain, is_chain, Run, opening};
 ghost use Rattle.st_world.specs.Holds.{Holds, StaysRead};
 
@@ -20,6 +21,12 @@ ghost use Rattle.st_world.specs.Holds.{Holds, StaysRead};
 pub fn every_run_holds()
     ensures holds { (c : Chain) (events : List Event) (w : World) → Run (opening c) events w → Holds w }
     ensures stays { (c : Chain) (events more : List Event) (w v : World) → Run (opening c) events w → Run w more v → (side : Side) (k : ℕ) → StaysRead (ledger_at w side k) (ledger_at v side k) }
+{}
+
+/// An event that is met changes nothing in whether a core call found no memory: that is noted where one did, and only there.
+pub fn want_of_memory_is_noted()
+    ensures met { (c : Chain) (events : List Event) (w : World) → Run (opening c) events w → (event : Event) (told : Told) (v : World) → IsEvent event → Step w event told v → v.refused ≡ w.refused }
+    ensures refused { (w : World) → (noted w).refused ≡ true }
 {}
 
 /// From the opening of a lawful chain each hop stays lawful in every run, with its two accounts: each account is within its
