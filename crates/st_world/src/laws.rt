@@ -1,13 +1,13 @@
 //! What every run keeps, over the definitions alone. These functions do nothing: the contract is the law.
 
-ghost use Rattle.std.specs.Prelude.{◌≡◌, ℕ, ℤ, true, List, Some, length, slice_get};
+ghost use Rattle.std.specs.Prelude.{◌≡◌, ℕ, ℤ, true, false, List, [], ◌∷◌, Some, length, slice_get};
 ghost use Rattle.st_hop.specs.declared.ticket.Open as tickets;
 ghost use Rattle.st_hop.specs.Hop.{Hop};
 ghost use Rattle.st_hop.specs.Lawful.{IsLawful};
 ghost use Rattle.st_hop.specs.Arriving.{Forwards, arrived};
-ghost use Rattle.st_world.specs.Sides.{Side};
+ghost use Rattle.st_world.specs.Sides.{Side, Client};
 ghost use Rattle.st_world.specs.State.{World, Node, ledger_at, account_from, account_to};
-ghost use Rattle.st_world.specs.Events.{Event, Told, IsEvent};
+ghost use Rattle.st_world.specs.Events.{Event, OpenStream, Close, Told, IsEvent};
 ghost use Rattle.st_world.specs.Steps.{Step, noted};
 ghost use Rattle.st_world.specs.Runs.{Chain, is_chain, Run, opening};
 ghost use Rattle.st_world.specs.Holds.{Holds, StaysRead};
@@ -39,4 +39,9 @@ pub fn hops_stay_lawful()
 /// other end: a chain leaves none behind.
 pub fn prepares_go_across()
     ensures { (h : Hop) (way : Side) (bytes : List ℕ) (now : ℤ) → IsLawful h → length h.accounts ≡ 2 → (t : tickets.Open) (outgoing : ℕ) (text : List ℕ) → (arrived h (account_from way) bytes now).0 ≡ Forwards t outgoing text → outgoing ≡ account_to way }
+{}
+
+/// There are runs: over any chain a client opens its stream 1 and closes it.
+pub fn streams_open_and_close()
+    ensures { (c : Chain) → (w : World) × Run (opening c) (OpenStream Client ∷ Close Client 1 ∷ []) w × ((ledger_at w Client 1).clean ≡ true) × (w.refused ≡ false) }
 {}
