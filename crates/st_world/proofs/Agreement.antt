@@ -78,19 +78,25 @@ node_here [] i o x e = absurd (cc)
 node_here (y ∷ ys) zero o x e = refl
 node_here (y ∷ ys) (suc i) o x e = node_here ys i o x e
 
+-- a count of a hop, where a hop was put back: it is as it was where the new hop has the same
+count_kept : (count : Option Node → ℕ) (ns : List Node) (i : ℕ) (n x : Node) → slice_get ns i ≡ Some n → (k : ℕ) → (k ≡ i → count (Some x) ≡ count (Some n)) → count (slice_get (set ns i x) k) ≡ count (slice_get ns k)
+count_kept count ns i n x e k same =
+    elim (cases_eq k i) [
+      | inl s ↦
+          let here : slice_get (set ns i x) k ≡ Some x = rw s (node_here ns i n x e) in
+          let old : slice_get ns k ≡ Some n = rw s e in
+          ap count here ∙ same s ∙ sym (ap count old)
+      | inr ne ↦ ap count (node_there ns i x k ne)
+    ]
+
 steady_node : (w : World) (i : ℕ) (n x : Node) → slice_get w.nodes i ≡ Some n → x.state.claims ≡ n.state.claims → x.state.dues ≡ n.state.dues → Steady w (with_node w i x)
 steady_node w i n x e same alike = record {
   credit = λ a. refl;
   paid = λ a. refl;
-  nodes = λ k a. elim (cases_eq k i) [
-    | inl s ↦
-        let here : slice_get (set w.nodes i x) k ≡ Some x = rw s (node_here w.nodes i n x e) in
-        let old : slice_get w.nodes k ≡ Some n = rw s e in (
-          ap (node_claims a) here ∙ ap (λ l. get_or l a 0) same ∙ sym (ap (node_claims a) old),
-          ap (node_dues a) here ∙ ap (λ l. get_or l a 0) alike ∙ sym (ap (node_dues a) old),
-        )
-    | inr ne ↦ (ap (node_claims a) (node_there w.nodes i x k ne), ap (node_dues a) (node_there w.nodes i x k ne))
-  ];
+  nodes = λ k a. (
+    count_kept (node_claims a) w.nodes i n x e k (λ s. ap (λ l. get_or l a 0) same),
+    count_kept (node_dues a) w.nodes i n x e k (λ s. ap (λ l. get_or l a 0) alike),
+  );
 }
 
 -- a move that books nothing
@@ -233,31 +239,13 @@ apart_claims : (w : World) (i : ℕ) (n x : Node) (way : Side) → slice_get w.n
     → (y : Side) (place : Place) → (place ≡ AtHop i → y ≡ way → ⊥) → claims_at (with_node w i x) y place ≡ claims_at w y place
 apart_claims w i n x way e same y (AtEnd a) d = refl
 apart_claims w i n x way e same y (AtHop k) d =
-    elim (cases_eq k i) [
-      | inl s ↦ elim (side_cases y way) [
-        | inl u ↦ absurd (d (ap AtHop s) u)
-        | inr u ↦
-            let here : slice_get (set w.nodes i x) k ≡ Some x = rw s (node_here w.nodes i n x e) in
-            let old : slice_get w.nodes k ≡ Some n = rw s e in
-            ap (node_claims (account_from y)) here ∙ same y u ∙ sym (ap (node_claims (account_from y)) old)
-      ]
-      | inr ne ↦ ap (node_claims (account_from y)) (node_there w.nodes i x k ne)
-    ]
+    count_kept (node_claims (account_from y)) w.nodes i n x e k (λ s. elim (side_cases y way) [ inl u ↦ absurd (d (ap AtHop s) u) | inr u ↦ same y u ])
 
 apart_dues : (w : World) (i : ℕ) (n x : Node) (way : Side) → slice_get w.nodes i ≡ Some n → ((y : Side) → (y ≡ way → ⊥) → dues_of x.state (account_to y) ≡ dues_of n.state (account_to y))
     → (y : Side) (place : Place) → (place ≡ AtHop i → y ≡ way → ⊥) → dues_at (with_node w i x) y place ≡ dues_at w y place
 apart_dues w i n x way e same y (AtEnd a) d = refl
 apart_dues w i n x way e same y (AtHop k) d =
-    elim (cases_eq k i) [
-      | inl s ↦ elim (side_cases y way) [
-        | inl u ↦ absurd (d (ap AtHop s) u)
-        | inr u ↦
-            let here : slice_get (set w.nodes i x) k ≡ Some x = rw s (node_here w.nodes i n x e) in
-            let old : slice_get w.nodes k ≡ Some n = rw s e in
-            ap (node_dues (account_to y)) here ∙ same y u ∙ sym (ap (node_dues (account_to y)) old)
-      ]
-      | inr ne ↦ ap (node_dues (account_to y)) (node_there w.nodes i x k ne)
-    ]
+    count_kept (node_dues (account_to y)) w.nodes i n x e k (λ s. elim (side_cases y way) [ inl u ↦ absurd (d (ap AtHop s) u) | inr u ↦ same y u ])
 
 -- the moves
 pub links_move : (m : ℕ) (keys : DerivedKeys) (w v : World) → Move w v → NamesFine m keys w → PartiesFine w.ends → NodesFine w.nodes → LinksFine m w → LinksFine m v

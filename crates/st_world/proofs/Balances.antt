@@ -1,5 +1,5 @@
 -- The hops' pass: claims and dues are the sums of the Prepares that were fulfilled.
-use Rattle.std.proofs.Common.{◌≡◌, ℕ, zero, suc, ◌+◌, ◌<◌, Bool, true, false, ◌&&◌, cond, List, [], ◌∷◌, ◌++◌, map, replicate, length, set, get_or, slice_get, refl, sym, ap, subst, ◌∙◌, arith, Option, Some, ◌⊎◌, inl, inr, nat_eq, length-set}
+use Rattle.std.proofs.Common.{◌≡◌, ℕ, zero, suc, ◌+◌, ◌<◌, Bool, true, false, ◌&&◌, cond, List, [], ◌∷◌, ◌++◌, map, replicate, length, set, get_or, slice_get, refl, sym, ap, subst, ◌∙◌, arith, Option, Some, inl, inr, nat_eq, length-set}
 use Rattle.std.specs.List.{sum_by, AllByRecursion}
 use Rattle.std.proofs.lemmas.List.Sums.{sum_by_push}
 use Rattle.st_hop.specs.declared.ticket.Open.{Open}

@@ -4,7 +4,7 @@ use Rattle.st_end.specs.declared.flight.Open as flights
 use Rattle.st_end.specs.Sending.{Goes, prepare_for}
 use Rattle.st_end.specs.Answers.{after_outcome, pays}
 use Rattle.st_end.specs.State.{EndState}
-use Rattle.st_world.specs.Sides.{Side, Client, Server, at}
+use Rattle.st_world.specs.Sides.{Side, at}
 use Rattle.st_world.specs.State.{World, ledger_at, Node, Put, no_lanes, lane_at, with_end, with_entry, end_at, with_node, with_hop_entry, first_link, next_link, prev_link, account_from}
 use Rattle.st_world.specs.Events.{Event, Told, IsEvent}
 use Rattle.st_world.specs.Ends.{put_by, given_by, taken_if, flight_of}

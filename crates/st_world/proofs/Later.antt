@@ -1,5 +1,5 @@
 -- An end's and a hop's names are used once: what was no name, or was spent, is no open one later.
-use Rattle.std.proofs.Common.{◌≡◌, ℕ, zero, suc, ◌+◌, ◌<◌, ◌≤◌, Bool, true, false, List, [], ◌∷◌, length, set, slice_get, refl, sym, ap, subst, ◌∙◌, arith, ℤ, Option, Some, ◌⊎◌, inl, inr, length-set, take}
+use Rattle.std.proofs.Common.{◌≡◌, ℕ, zero, suc, ◌+◌, ◌<◌, ◌≤◌, Bool, true, false, List, length, set, slice_get, refl, sym, ap, subst, ◌∙◌, arith, ℤ, Option, Some, inl, inr, length-set, take}
 use Rattle.st_ilp.specs.Reading.{is_fulfill_text}
 use Rattle.st_hop.specs.declared.ticket.Open.{Open}
 use Rattle.st_hop.specs.Hop.{Hop, holding, booked, released}

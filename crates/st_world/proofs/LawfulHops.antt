@@ -1,13 +1,12 @@
 -- The hops of a lawful chain stay lawful, with their two accounts.
-use Rattle.std.proofs.Common.{◌≡◌, ℕ, zero, suc, ◌<◌, Bool, true, false, List, [], ◌∷◌, ◌++◌, map, length, set, slice_get, refl, sym, ap, subst, ◌∙◌, arith, Option, None, Some, ◌⊎◌, inl, inr, ℤ}
+use Rattle.std.proofs.Common.{◌≡◌, ℕ, zero, suc, ◌<◌, Bool, true, false, List, [], ◌∷◌, map, length, set, slice_get, refl, sym, ap, subst, ◌∙◌, arith, Option, Some, inl, inr}
 use Rattle.std.specs.List.{list_all}
 use Rattle.std.specs.Prelude.{◌&&◌, nat_le}
 use Rattle.st_ilp.specs.Reading.{prepare_at, is_fulfill_text}
 use Rattle.st_hop.specs.declared.ticket.Open.{Open}
-use Rattle.st_hop.specs.Hop.{Hop, holding, released, booked}
+use Rattle.st_hop.specs.Hop.{Hop}
 use Rattle.st_hop.specs.Tickets.{ticket_at, IsAmong}
 use Rattle.st_hop.specs.Lawful.{IsLawful}
-use Rattle.st_hop.specs.Arriving.{arrived}
 use Rattle.st_hop.proofs.Numbers.{found_number}
 use Rattle.st_hop.proofs.Kept.{released_lawful, booked_lawful}
 use Rattle.st_hop.proofs.Arrivals.{at_packet_lawful}

@@ -1,5 +1,5 @@
 -- The names' pass: who put a Prepare, under which name, and for which Prepare.
-use Rattle.std.proofs.Common.{◌≡◌, ℕ, zero, suc, ◌+◌, ◌<◌, ◌≤◌, Ok, Bool, true, false, cond, List, [], ◌∷◌, ◌++◌, map, replicate, length, set, get_or, slice_get, refl, sym, ap, subst, ◌∙◌, arith, ℤ, Option, None, Some, ◌⊎◌, inl, inr, nat_eq}
+use Rattle.std.proofs.Common.{◌≡◌, ℕ, zero, suc, ◌+◌, ◌<◌, ◌≤◌, Ok, Bool, true, false, cond, List, [], ◌∷◌, ◌++◌, map, length, set, slice_get, refl, sym, ap, subst, ◌∙◌, arith, ℤ, Option, None, Some, ◌⊎◌, inl, inr, nat_eq}
 use Rattle.std.proofs.lemmas.List.{length-map}
 use Rattle.std.proofs.lemmas.Option.{slice_get_within}
 use Rattle.st_ilp.specs.Packets.{PreparePacket}
@@ -21,8 +21,8 @@ use Rattle.st_end.specs.declared.flight.Open as flights
 use Rattle.st_end.specs.Sending.{Goes, prepare_for}
 use Rattle.st_end.specs.Answers.{after_outcome, pays}
 use Rattle.st_end.specs.Receiving.{prepare_in}
-use Rattle.st_world.specs.Sides.{Side, Client, Server, Both, at}
-use Rattle.st_world.specs.State.{World, Party, HopEntry, with_entry, with_hop_entry, end_at, with_end, Node, Put, Given, no_lanes, lane_at, nth, with_node, Place, AtEnd, AtHop, next_link, prev_link, first_link, account_from, account_to}
+use Rattle.st_world.specs.Sides.{Side, Client, Server, Both}
+use Rattle.st_world.specs.State.{World, Party, HopEntry, with_entry, with_hop_entry, end_at, with_end, Node, Put, Given, lane_at, nth, with_node, Place, AtEnd, AtHop, next_link, prev_link, first_link, account_from, account_to}
 use Rattle.st_world.specs.Ends.{put_by, given_by, took, taken_if, flight_of}
 use Rattle.st_world.specs.Hops.{reject_entry, put_on, settled_entry}
 use Rattle.st_world.specs.Steps.{noted}

@@ -1,5 +1,5 @@
 -- Closes: reads and calls on a stream.
-use Rattle.std.proofs.Common.{◌≡◌, ℕ, Bool, true, false, ◌||◌, List, [], ◌∷◌, ◌++◌, length, refl, sym, ap, subst, ◌∙◌, arith, Option, None, Some, ◌⊎◌, inl, inr, is_some, append-nil, length-append, ◌≤◌}
+use Rattle.std.proofs.Common.{◌≡◌, ℕ, true, false, ◌||◌, List, [], ◌∷◌, ◌++◌, length, refl, sym, ap, subst, ◌∙◌, arith, Option, None, Some, inl, inr, is_some, append-nil, length-append, ◌≤◌}
 use Rattle.st_keys.specs.Keys.{DerivedKeys}
 use Rattle.st_tables.specs.Slots.{slot}
 use Rattle.st_reassembly.specs.Held.{after_read}

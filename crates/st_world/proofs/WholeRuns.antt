@@ -1,5 +1,5 @@
 -- Closes over whole runs: where End was told, a clean close was accepted and all was read, and nothing is read after.
-use Rattle.std.proofs.Common.{◌≡◌, ℕ, zero, suc, ◌+◌, Result, Ok, Bool, true, false, List, [], ◌∷◌, ◌++◌, replicate, length, take, get_or, slice_get, refl, sym, ap, subst, ◌∙◌, arith, ℤ, Option, None, Some, ◌⊎◌, inl, inr, is_some, ◌≤◌}
+use Rattle.std.proofs.Common.{◌≡◌, ℕ, zero, suc, ◌+◌, Result, Ok, Bool, true, false, List, [], ◌∷◌, ◌++◌, length, take, slice_get, refl, sym, ap, subst, ◌∙◌, arith, ℤ, Option, None, Some, ◌⊎◌, inl, inr, is_some, ◌≤◌}
 use Rattle.std.specs.Ordering.{nat_cmp}
 use Rattle.std.specs.FinMap as fmap
 use Rattle.st_frames.specs.Frames.{Known, Packet, frames_of}
@@ -16,7 +16,7 @@ use Rattle.st_end.specs.Sending.{Goes, with_condition}
 use Rattle.st_end.specs.Answers.{after_outcome, pays}
 use Rattle.st_end.specs.Receiving.{prepare_in}
 use Rattle.st_world.specs.Sides.{Side, Client, Server, other, Both, at, put}
-use Rattle.st_world.specs.State.{World, Party, ledger_at, EndEntry, end_at, with_end, with_entry, with_hop_entry, with_node, Put, Given, no_lanes, lane_at, nth, Place, AtEnd, AtHop, next_link, prev_link, first_link, account_from}
+use Rattle.st_world.specs.State.{World, Party, ledger_at, EndEntry, end_at, with_end, with_entry, with_hop_entry, with_node, Put, Given, lane_at, nth, Place, AtEnd, AtHop, next_link, prev_link, first_link, account_from}
 use Rattle.st_world.specs.Ledgers.{Ledger, new_ledger, ledger_or}
 use Rattle.st_world.specs.Ends.{put_by, given_by, taken_if, flight_of}
 use Rattle.st_ilp.specs.Reading.{is_fulfill_text}

@@ -8,4 +8,7 @@
 
 mod laws;
 
-pub use laws::{every_run_holds, hops_stay_lawful, prepares_go_across, streams_open_and_close, want_of_memory_is_noted};
+pub use laws::{
+    every_run_holds, hops_stay_lawful, prepares_go_across, streams_open_and_close,
+    want_of_memory_is_noted,
+};

@@ -1,6 +1,5 @@
 -- By what the two calls give.
 use Rattle.std.proofs.Common.{◌≡◌, ℕ, true, false, refl, sym, ap, subst, Option, Some, inl}
-use Rattle.st_end.specs.State.{EndState}
 use Rattle.st_end.specs.Calls.{own_number, opening_as, close}
 use Rattle.st_world.specs.Sides.{Client}
 use Rattle.st_world.specs.Ledgers.{cleanly_closed}
