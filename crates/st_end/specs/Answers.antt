@@ -10,7 +10,7 @@ use Rattle.st_ilp.specs.Spelling.{fulfill_kind, reject_kind}
 use Rattle.st_ilp.specs.Reading.{answer_at}
 use Rattle.st_ilp.specs.declared.error.IlpError.{IlpError}
 use Rattle.st_frames.specs.Frames.{Packet, frames_of}
-use Rattle.st_keys.specs.Keys.{condition}
+use Rattle.st_keys.specs.Keys.{DerivedKeys, condition}
 use Rattle.st_keys.specs.Sealed.{opened}
 use Rattle.st_keys.specs.declared.error.KeyError.{KeyError}
 use Rattle.st_sender.specs.Sending as sender
@@ -47,16 +47,16 @@ abbrev pub failure_of : (code payload : List ℕ) → Failure
 failure_of code payload = if bytes_eq code f08 then TooLarge (amounts_in payload) else answering.failure_of code
 
 -- an answer that can't be read, and a Fulfill that does not fit, count as a code of letter T
-abbrev pub answered_by : EndState → Open → sender.Flight → Result AnswerPacket IlpError → Sending
-answered_by e flight p (Ok (Fulfilled fulfillment payload)) =
-    if fits flight fulfillment then raised (after_fulfilled e.sending p) p.sequence (opened e.keys fulfill_kind payload)
-    else after_failed e.sending p Plain
-answered_by e flight p (Ok (Rejected code by message payload)) =
-    raised (after_failed e.sending p (failure_of code payload)) p.sequence (opened e.keys reject_kind payload)
-answered_by e flight p (Err fault) = after_failed e.sending p Plain
+abbrev pub answered_by : DerivedKeys → Sending → Open → sender.Flight → Result AnswerPacket IlpError → Sending
+answered_by keys s flight p (Ok (Fulfilled fulfillment payload)) =
+    if fits flight fulfillment then raised (after_fulfilled s p) flight.sequence (opened keys fulfill_kind payload)
+    else after_failed s p Plain
+answered_by keys s flight p (Ok (Rejected code by message payload)) =
+    raised (after_failed s p (failure_of code payload)) flight.sequence (opened keys reject_kind payload)
+answered_by keys s flight p (Err fault) = after_failed s p Plain
 
 abbrev pub outcome_left : EndState → Open → sender.Flight → (outcome : Option (List ℕ)) → Sending
-outcome_left e flight p (Some bytes) = answered_by e flight p (answer_at bytes)
+outcome_left e flight p (Some bytes) = answered_by e.keys e.sending flight p (answer_at bytes)
 outcome_left e flight p None = after_failed e.sending p Plain
 
 -- the end after the bytes that came back to a flight that carries p, or after a fault where none did

@@ -8,3 +8,4 @@ pub mod Reading
 pub mod Totals
 pub mod Lawful
 pub mod Seen
+pub mod Inside

@@ -1,6 +1,8 @@
 //! An end of a STREAM connection (RFC 0029), from bytes to bytes.
 #![tactic(auto)]
 
+mod answer;
+mod back;
 mod calls;
 mod conditions;
 mod end;

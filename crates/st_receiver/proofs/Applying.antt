@@ -1,5 +1,5 @@
 -- How a packet takes effect, stream by stream and frame by frame.
-use Rattle.std.proofs.Common.{◌≡◌, ◌≢◌, ℕ, zero, suc, ◌%◌, ◌<◌, Bool, true, false, cond, not, nat_eq, nat_le, ◌&&◌, ◌||◌, List, [], ◌∷◌, length, map, set, get_or, Option, Some, None, refl, sym, ap, ◌∙◌, subst, arith, ◌⊎◌, inl, inr}
+use Rattle.std.proofs.Common.{◌≡◌, ◌≢◌, ℕ, zero, suc, ◌%◌, ◌<◌, Bool, true, false, not, nat_eq, nat_le, ◌&&◌, ◌||◌, List, [], ◌∷◌, length, map, set, get_or, Option, Some, None, refl, sym, ap, ◌∙◌, subst, arith, ◌⊎◌, inl, inr}
 use Rattle.std.specs.Prelude.{is_some, slice_index}
 use Rattle.std.specs.List.{list_any}
 use Rattle.std.specs.Ordering.{nat_cmp}
@@ -8,17 +8,14 @@ use Rattle.std.proofs.lemmas.List.{get_or-set_same, get_or-set_other, get_or_rea
 use Rattle.std.proofs.lemmas.Bool.{cases_eq}
 use Rattle.st_tables.specs.Slots.{Slots, slot}
 use Rattle.st_tables.proofs.SlotLemmas.{slot_within}
-use Rattle.std.specs.Option.{option_or}
 use Rattle.std.proofs.lemmas.Bool.Decides.{nat_tests}
-use Rattle.st_receiver.specs.declared.reason.Reason.{Reason}
-use Rattle.st_receiver.specs.declared.reason.Reason.TheVariants.{StreamId}
 use Rattle.st_frames.specs.Frames.{Known, frame_of, ConnectionClose, ConnectionNewAddress, ConnectionMaxData, ConnectionDataBlocked, StreamClose, StreamMoney, StreamMaxMoney, StreamMoneyBlocked, StreamData, StreamMaxData, StreamDataBlocked}
 use Rattle.st_reassembly.specs.Held.{Held}
 use Rattle.st_receiver.specs.Streams.{Incoming, Receiving, fresh_incoming, incoming_or, incoming_at, with_incoming, is_open, may_name}
 use Rattle.st_receiver.specs.Data.{data_fault, frame_fault, after_frame, frames_fault, after_frames}
 use Rattle.st_receiver.specs.Closes.{after_close, after_closes, after_connection_close, after_connection_closes}
 use Rattle.st_receiver.specs.Standing.{Standing, is_ready, opens, AllReady, StaysReady, Keeps}
-use Rattle.st_receiver.proofs.Tracking.{frames_none}
+use Rattle.st_receiver.proofs.Tracking.{frames_none, may_of, may_alone}
 
 set-twice : (ps : Slots Incoming) (k : ℕ) (a b : Option Incoming) → set (set ps k a) k b ≡ set ps k b
 set-twice [] k a b = refl
@@ -68,7 +65,7 @@ some_within : {X : Type 0} (xs : Slots X) (k : ℕ) (o : Option X) → slot xs k
 some_within xs k (Some x) e is = slot_within xs k x e
 some_within xs k None e is = absurd cc
 
-either : (a b : Bool) → (a || b) ≡ true → (a ≡ true) ⊎ (b ≡ true)
+pub either : (a b : Bool) → (a || b) ≡ true → (a ≡ true) ⊎ (b ≡ true)
 either true b e = inl refl
 either false b e = inr e
 
@@ -162,14 +159,6 @@ opens_rest fs rest x k e h = ap (λ zs. list_any (opens k) (map frame_of zs)) e 
 same_number : (stream k : ℕ) (b : Bool) → nat_eq stream k ≡ true → (nat_le 1 stream && nat_le stream 64 && b) ≡ true → k < 65
 same_number stream k true e h = grind (arith, nat_tests)
 same_number stream k false e h = grind (arith, nat_tests)
-
-may_of : (a : Bool) (o : Option Reason) → option_or (cond a None (Some StreamId)) o ≡ None → a ≡ true
-may_of true o e = refl
-may_of false o e = absurd cc
-
-may_alone : (a : Bool) → cond a None (Some StreamId) ≡ None → a ≡ true
-may_alone true e = refl
-may_alone false e = absurd cc
 
 frame_below : (r : Receiving) (f : Known) (k : ℕ) → frame_fault r f ≡ None → opens k f ≡ true → k < 65
 frame_below r (StreamData stream o xs) k e h = same_number stream k (is_open r stream || not (nat_eq (stream % 2) r.parity)) h (may_of (may_name r stream) (data_fault r stream o xs) e)

@@ -1,5 +1,5 @@
 -- What the money of a packet is refused for, and what it leaves.
-use Rattle.std.proofs.Common.{◌≡◌, ℕ, zero, suc, ◌+◌, ◌^◌, ◌<◌, ◌≤◌, Bool, true, false, cond, ◌&&◌, ◌||◌, List, [], ◌∷◌, length, get_or, Option, Some, None, refl, sym, ap, ◌∙◌, subst, arith, nat_eq, nat_lt, nat_le, inl, inr}
+use Rattle.std.proofs.Common.{◌≡◌, ℕ, zero, suc, ◌+◌, ◌^◌, ◌<◌, ◌≤◌, Bool, true, false, cond, ◌&&◌, ◌||◌, List, [], ◌∷◌, length, map, get_or, Option, Some, None, refl, sym, ap, ◌∙◌, subst, arith, nat_eq, nat_lt, nat_le, inl, inr}
 use Rattle.std.specs.Prelude.{is_some, sum, slice_index}
 use Rattle.std.specs.Ordering.{nat_cmp}
 use Rattle.std.specs.FinSet.{FinSet, contains}
@@ -15,13 +15,14 @@ use Rattle.st_frames.specs.Told.{money_of, money_in, shares}
 use Rattle.st_reassembly.specs.Held.{Held}
 use Rattle.st_receiver.specs.declared.reason.Reason.{Reason}
 use Rattle.st_receiver.specs.declared.reason.Reason.TheVariants.{NoShares, OverReceiveMax, Repeated, AmountTooSmall, ConnectionClosed}
-use Rattle.st_receiver.specs.Streams.{Incoming, Receiving, fresh_incoming, incoming_or, incoming_at, with_incoming, is_open}
+use Rattle.st_receiver.specs.Streams.{Incoming, Receiving, fresh_incoming, incoming_or, incoming_at, with_incoming, is_open, credited_of}
 use Rattle.st_receiver.specs.Data.{with_data, after_frame, after_frames, frames_fault}
-use Rattle.st_receiver.specs.Money.{parts, with_credits, is_over_max, any_over_max, money_fault, after_money}
+use Rattle.st_receiver.specs.Money.{parts, with_credit, with_credits, is_over_max, any_over_max, money_fault, after_money}
 use Rattle.st_receiver.specs.Standing.{Standing, is_ready, Keeps}
 use Rattle.st_receiver.specs.Inside.{over_at, IsOverAt}
 use Rattle.st_receiver.proofs.Applying.{shown, standing}
-use Rattle.st_receiver.proofs.Mixing.{none_over, some_over}
+use Rattle.st_receiver.proofs.Tracking.{get_or-map}
+use Rattle.st_receiver.proofs.Mixing.{none_over, some_over, fits_at, credit_at}
 use Rattle.st_receiver.proofs.Splits.{share_at, length_shares, length-parts, part_none, money-cons, money-nil}
 
 -- ---- the tests
@@ -114,7 +115,7 @@ frame_money r (StreamMoneyBlocked k n m) j = money_itself (incoming_at r j)
 frame_money r (StreamMaxData k n) j = money_itself (incoming_at r j)
 frame_money r (StreamDataBlocked k n) j = money_itself (incoming_at r j)
 
-frames_money : (r : Receiving) (fs : List Known) (j : ℕ) → SameMoney (incoming_at r j) (incoming_at (after_frames r fs) j)
+pub frames_money : (r : Receiving) (fs : List Known) (j : ℕ) → SameMoney (incoming_at r j) (incoming_at (after_frames r fs) j)
 unfolding after_frames
 frames_money r [] j = money_itself (incoming_at r j)
 frames_money r (f ∷ fs) j = money_join (incoming_at r j) (incoming_at (after_frame r f) j) (incoming_at (after_frames (after_frame r f) fs) j) (frame_money r f j) (frames_money (after_frame r f) fs j)
@@ -225,6 +226,45 @@ over_same r fs amount false len h =
     let both : length (parts amount (shares fs)) ≡ length (after_frames r fs).streams = length-parts amount (shares fs) ∙ length_shares fs ∙ sym (frames_length r fs ∙ len) in
     none_over (after_frames r fs).streams (parts amount (shares fs)) both (λ k l.
     let m : k < 65 = subst (λ n. k < n) (frames_length r fs ∙ len) l in over_one r fs amount k len m ∙ h k m)
+
+-- where no part is past in all, none is by itself
+pub fits_over : (r : Receiving) (fs : List Known) (amount : ℕ) → length r.streams ≡ 65 → any_over_max (after_frames r fs).streams (parts amount (shares fs)) ≡ false → IsOverAt r (parts amount (shares fs)) false
+fits_over r fs amount len e k l =
+    let within : k < length (after_frames r fs).streams = subst (λ n. k < n) (sym (frames_length r fs ∙ len)) l in
+    let there : k < length (parts amount (shares fs)) = subst (λ n. k < n) (sym (length-parts amount (shares fs) ∙ length_shares fs)) l in
+    sym (over_one r fs amount k len l) ∙ fits_at (after_frames r fs).streams (parts amount (shares fs)) k e within there
+
+-- ---- what a stream is credited in all
+
+credited_or : (m : ℕ) (o : Option Incoming) → credited_of o ≡ (incoming_or (fresh_incoming m) o).credited
+credited_or m None = refl
+credited_or m (Some x) = refl
+
+credit_part : (m p : ℕ) (o : Option Incoming) → (is_some o ≡ false → p ≡ 0) → (incoming_or (fresh_incoming m) (with_credit o p)).credited ≡ (incoming_or (fresh_incoming m) o).credited + p
+credit_part m p (Some x) h = refl
+credit_part m p None h = let z = h refl in omega (arith, z)
+
+pays_not : (n : ℕ) → n ≡ 0 → nat_lt 0 n ≡ false
+pays_not n e = grind (arith, nat_tests)
+
+pub unpaid_credit : (r : Receiving) (amount : ℕ) (fs : List Known) (k : ℕ) (xs : List ℕ) → amount ≡ 0 → xs ≡ map credited_of r.streams → get_or xs k 0 ≡ (incoming_at (after_money (after_frames r fs) amount fs) k).credited
+unpaid_credit r amount fs k xs z e =
+    let t = after_frames r fs in
+    let m = slice_index t.kept k in
+    ap (λ ns. get_or ns k 0) e ∙ get_or-map credited_of r.streams k refl ∙ credited_or (slice_index r.kept k) (slot r.streams k) ∙ sym (frames_money r fs k).credited
+    ∙ ap (λ b. (incoming_or (fresh_incoming m) (slot (cond b (with_credits t.streams (parts amount (shares fs))) t.streams) k)).credited) (sym (pays_not amount z))
+
+pub paid_credit : (r : Receiving) (amount : ℕ) (fs : List Known) (k : ℕ) (xs : List ℕ) → length r.streams ≡ 65 → 0 < amount → k < 65 → get_or xs k 0 ≡ (incoming_at r k).credited + get_or (parts amount (shares fs)) k 0
+    → get_or xs k 0 ≡ (incoming_at (after_money (after_frames r fs) amount fs) k).credited
+paid_credit r amount fs k xs len pos l e =
+    let t = after_frames r fs in
+    let m = slice_index t.kept k in
+    let ps = parts amount (shares fs) in
+    let there : k < length ps = subst (λ n. k < n) (sym (length-parts amount (shares fs) ∙ length_shares fs)) l in
+    e ∙ ap (λ n. n + get_or ps k 0) (sym (frames_money r fs k).credited)
+    ∙ sym (credit_part m (get_or ps k 0) (slot t.streams k) (closed_part r fs amount k len l))
+    ∙ ap (λ o. (incoming_or (fresh_incoming m) o).credited) (sym (credit_at t.streams ps k there))
+    ∙ ap (λ b. (incoming_or (fresh_incoming m) (slot (cond b (with_credits t.streams ps) t.streams) k)).credited) (sym (pays_true amount pos))
 
 frame_credit : (r : Receiving) (f : Known) → (after_frame r f).credit ≡ r.credit
 frame_credit r (StreamData k o xs) = refl

@@ -7,3 +7,5 @@ pub mod Mixing
 pub mod Crediting
 pub mod Answering
 pub mod Rows
+pub mod Leaving
+pub mod Tallying

@@ -19,7 +19,7 @@ use Rattle.st_reassembly.proofs.Pointwise.{joins_after}
 use Rattle.st_receiver.proofs.Pieces.{err_same}
 use Rattle.st_receiver.specs.Inside.{held_or, held_at, raised, ends_with, piece_fault, told_fault, ends_after, SameSpan, Tracks}
 
-get_or-map : (f : Option Incoming → ℕ) (ss : Slots Incoming) (k : ℕ) → f None ≡ 0 → get_or (map f ss) k 0 ≡ f (get_or ss k None)
+pub get_or-map : (f : Option Incoming → ℕ) (ss : Slots Incoming) (k : ℕ) → f None ≡ 0 → get_or (map f ss) k 0 ≡ f (get_or ss k None)
 get_or-map f [] k e = sym e
 get_or-map f (s ∷ ss) zero e = refl
 get_or-map f (s ∷ ss) (suc k) e = get_or-map f ss k e
@@ -41,11 +41,11 @@ pub held_is : (m : ℕ) (o : Option Incoming) → (incoming_or (fresh_incoming m
 held_is m None = refl
 held_is m (Some x) = refl
 
-highest_is : (m : ℕ) (o : Option Incoming) → (incoming_or (fresh_incoming m) o).highest ≡ received_of o
+pub highest_is : (m : ℕ) (o : Option Incoming) → (incoming_or (fresh_incoming m) o).highest ≡ received_of o
 highest_is m None = refl
 highest_is m (Some x) = refl
 
-read_is : (m : ℕ) (o : Option Incoming) → read_of (Some (incoming_or (fresh_incoming m) o)) ≡ read_of o
+pub read_is : (m : ℕ) (o : Option Incoming) → read_of (Some (incoming_or (fresh_incoming m) o)) ≡ read_of o
 read_is m None = refl
 read_is m (Some x) = refl
 
@@ -60,7 +60,7 @@ span_join s t u a b = record { read = b.read ∙ a.read; end = b.end ∙ a.end; 
 span_same : (s t u : Held) → t ≡ u → SameSpan s t → SameSpan s u
 span_same s t u e h = subst (SameSpan s) e h
 
-span_over : (s t : Held) → SameSpan s t → is_over t ≡ is_over s
+pub span_over : (s t : Held) → SameSpan s t → is_over t ≡ is_over s
 span_over s t e = λ i. is_some (e.end i) || is_some (e.aborted i)
 
 span_err : (s t : Held) (o : ℕ) (xs : List ℕ) → SameSpan s t → is_err (inserted o xs t) ≡ is_err (inserted o xs s)
@@ -104,6 +104,15 @@ below : (k : ℕ) (o : Bool) → (nat_le 1 k && nat_le k 64 && o) ≡ true → k
 below k true e = grind (arith, nat_tests)
 below k false e = grind (arith, nat_tests)
 
+-- what may be named stays as a stream that may be named is written
+pub names_with : (r : Receiving) (k : ℕ) (y : Incoming) → length r.streams ≡ 65 → may_name r k ≡ true → (j : ℕ) → may_name (with_incoming r k y) j ≡ may_name r j
+names_with r k y len may j = elim (cases_eq j k) [
+  | inl e ↦ subst (λ i. may_name (with_incoming r k y) i ≡ may_name r i) (sym e)
+      (ap (λ o. nat_le 1 k && nat_le k 64 && (is_some o || not (nat_eq (k % 2) r.parity))) (get_or-set_same r.streams k (Some y) None (subst (λ n. k < n) (sym len) (below k _ may)))
+      ∙ named (nat_le 1 k && nat_le k 64) (is_open r k || not (nat_eq (k % 2) r.parity)) (not (nat_eq (k % 2) r.parity)) may)
+  | inr n ↦ ap (λ o. nat_le 1 j && nat_le j 64 && (is_some o || not (nat_eq (j % 2) r.parity))) (get_or-set_other r.streams k j (Some y) None n)
+]
+
 pub tracks-with : (r cur : Receiving) (ends : List ℕ) (k : ℕ) (y : Incoming) (h : ℕ) → may_name r k ≡ true → Tracks r cur ends
     → SameSpan (held_at cur k) y.held → y.highest ≡ h → read_of (Some y) ≡ read_of (slot cur.streams k) → Tracks r (with_incoming cur k y) (set ends k h)
 tracks-with r cur ends k y h may t span high read =
@@ -113,12 +122,7 @@ tracks-with r cur ends k y h may t span high read =
       highest = ap (λ es. set es k h) t.highest ∙ ap (set (map received_of ss) k) (sym high) ∙ sym (map-set received_of ss k (Some y));
       reads = map-set read_of ss k (Some y) ∙ ap (set (map read_of ss) k) (read ∙ sym (get_or-map read_of ss k refl)) ∙ set-get_or (map read_of ss) k 0 ∙ t.reads;
       spans = at_set ss k y (λ j z. SameSpan (held_at r j) z) in_cur (span_join (held_at r k) (held_at cur k) y.held (t.spans k) span) t.spans;
-      names = λ j. elim (cases_eq j k) [
-        | inl e ↦ subst (λ i. may_name (with_incoming cur k y) i ≡ may_name r i) (sym e)
-            (ap (λ o. nat_le 1 k && nat_le k 64 && (is_some o || not (nat_eq (k % 2) cur.parity))) (get_or-set_same ss k (Some y) None in_cur)
-            ∙ named (nat_le 1 k && nat_le k 64) (is_open r k || not (nat_eq (k % 2) r.parity)) (not (nat_eq (k % 2) cur.parity)) may)
-        | inr n ↦ ap (λ o. nat_le 1 j && nat_le j 64 && (is_some o || not (nat_eq (j % 2) cur.parity))) (get_or-set_other ss k j (Some y) None n) ∙ t.names j
-      ];
+      names = λ j. names_with cur k y t.len (t.names k ∙ may) j ∙ t.names j;
       len = length-set ss k (Some y) ∙ t.len;
     }
 
@@ -151,11 +155,11 @@ tracks-open r cur ends k may t =
     (highest_is m (slot cur.streams k) ∙ sym (end_at r cur ends k t))
     (read_is m (slot cur.streams k)))
 
-may_of : (a : Bool) (o : Option Reason) → option_or (cond a None (Some StreamId)) o ≡ None → a ≡ true
+pub may_of : (a : Bool) (o : Option Reason) → option_or (cond a None (Some StreamId)) o ≡ None → a ≡ true
 may_of true o e = refl
 may_of false o e = absurd cc
 
-may_alone : (a : Bool) → cond a None (Some StreamId) ≡ None → a ≡ true
+pub may_alone : (a : Bool) → cond a None (Some StreamId) ≡ None → a ≡ true
 may_alone true e = refl
 may_alone false e = absurd cc
 

@@ -1,5 +1,5 @@
 -- What a decision says, and what a read gave, in the definitions' terms.
-use Rattle.std.specs.Prelude.{◌≡◌, ℕ, ◌⊎◌, None, Some}
+use Rattle.std.specs.Prelude.{◌≡◌, ℕ, ◌⊎◌, Option, None, Some}
 use Rattle.st_frames.specs.Frames.{Packet}
 use Rattle.st_receiver.specs.declared.reason.Reason.TheVariants.{NoMemory}
 use Rattle.st_receiver.specs.declared.intake.Decision.{Decision}
@@ -9,7 +9,8 @@ use Rattle.st_receiver.specs.declared.got.Got.{Got}
 use Rattle.st_receiver.specs.declared.got.Got.TheVariants.{Bytes, Nothing, End, Aborted}
 use Rattle.st_receiver.specs.Reading as reading
 use Rattle.st_receiver.specs.Reasons.{code_of}
-use Rattle.st_receiver.specs.Judged.{fault_of}
+use Rattle.st_receiver.specs.Streams.{Receiving}
+use Rattle.st_receiver.specs.Judged.{fault_of, effect}
 use Rattle.st_receiver.specs.Standing.{Standing, HasRoom}
 
 -- a plan by which the packet may take effect: it breaks no rule, and there is room
@@ -22,6 +23,11 @@ abbrev pub IsDecision : Standing → Packet → (amount : ℕ) → Decision → 
 IsDecision s p amount (Fulfill plan) = (plan.amount ≡ amount) × IsPlanFor s p plan
 IsDecision s p amount (Reject code reason) =
     (code ≡ code_of reason) × ((fault_of s.state p amount ≡ Some reason) ⊎ ((reason ≡ NoMemory) × (fault_of s.state p amount ≡ None)))
+
+-- what stands once the answer to a packet was chosen: what the packet leaves, where a plan lets it take effect
+abbrev pub state_by : Receiving → Packet → Option Plan → Receiving
+state_by r p None = r
+state_by r p (Some plan) = effect r p plan.amount
 
 abbrev pub got_seen : {X : Type 0} → Got X → reading.Got
 got_seen (Bytes bytes) = reading.Bytes bytes.items

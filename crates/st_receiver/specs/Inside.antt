@@ -4,13 +4,17 @@ use Rattle.std.specs.declared.option.Option.{Option}
 use Rattle.std.specs.declared.option.Option.TheVariants.{None, Some}
 use Rattle.std.specs.Option.{option_or}
 use Rattle.st_tables.specs.Slots.{slot}
-use Rattle.st_frames.specs.Frames.{Known, StreamClose, StreamMoney, StreamData}
+use Rattle.std.specs.Prelude.{slice_index_or, MatchResult, Result}
+use Rattle.std.specs.List.{flat_map, range_with_len}
+use Rattle.st_frames.specs.Frames.{Known, ConnectionClose, ConnectionMaxData, StreamClose, StreamMoney, StreamData}
 use Rattle.st_reassembly.specs.Held.{Held, nothing_held, is_over}
 use Rattle.st_reassembly.specs.Inserting.{inserted}
 use Rattle.st_receiver.specs.declared.reason.Reason.{Reason}
 use Rattle.st_receiver.specs.declared.reason.Reason.TheVariants.{FlowControl}
+use Rattle.st_receiver.specs.declared.closing.Tally.{Tally}
 use Rattle.st_receiver.specs.Streams.{Incoming, Receiving, incoming_at, may_name, received_of, read_of}
-use Rattle.st_receiver.specs.Data.{stream_fault}
+use Rattle.st_receiver.specs.Data.{stream_fault, frames_fault, after_frames}
+use Rattle.st_receiver.specs.Limits.{told_by}
 
 -- what a stream holds, or a new one
 abbrev pub held_or : Option Incoming → Held
@@ -94,3 +98,53 @@ unfoldable pub mix : {A : Type 0} → ℕ → List A → List A → List A
 mix zero gs os = os
 mix (suc k) (g ∷ gs) (o ∷ os) = g ∷ mix k gs os
 mix (suc k) gs os = os
+
+-- ---- what a reply tells
+
+-- the highest byte ends once frames came, or why they are not taken
+abbrev pub IsEnds : Receiving → List Known → Result (List ℕ) Reason → Type 0
+IsEnds r fs result = MatchResult result (λ ends. (frames_fault r fs ≡ None) × (ends ≡ map received_of (after_frames r fs).streams)) (λ fault. frames_fault r fs ≡ Some fault)
+
+-- whether a clean close or an abort came
+abbrev pub over_of : Option Incoming → Bool
+over_of o = is_over (held_or o)
+
+-- these count for the connection's limit
+pub record Counts (r : Receiving) (t : Tally) : Type 0 where
+  pub ends : t.ends ≡ map received_of r.streams
+  pub reads : t.reads ≡ map read_of r.streams
+  pub over : t.over ≡ map over_of r.streams
+  pub len : length r.streams ≡ 65
+
+-- the first close stands, and with another code than 1 all counts as read
+abbrev pub closed_at : Tally → (stream code : ℕ) → Tally
+closed_at t k code = record t {
+  reads = (if slice_index_or t.over k false || nat_eq code 1 then t.reads else slice_set t.reads k (slice_index t.ends k));
+  over = slice_set t.over k true;
+}
+
+abbrev pub closes_connection : Known → Bool
+closes_connection (ConnectionClose code message) = true
+closes_connection f = false
+
+-- what counts as read once what has not ended is aborted
+abbrev pub aborted_read : Option Incoming → ℕ
+aborted_read None = 0
+aborted_read (Some x) = if is_over x.held then read_of (Some x) else x.highest
+
+abbrev pub is_number : ℕ → Option ℕ → Bool
+is_number k None = false
+is_number k (Some n) = nat_eq n k
+
+-- another total in place of what was credited
+abbrev pub with_total : ℕ → Incoming → Incoming
+with_total total x = record x { credited = total }
+
+abbrev pub limits_with : Receiving → (stream total : ℕ) → List Known
+limits_with r k total = if may_name r k then told_by k (with_total total (incoming_at r k)) else []
+
+abbrev pub told_at : Receiving → List Bool → List ℕ → ℕ → List Known
+told_at r named totals k = if slice_index_or named k false then limits_with r k (slice_index totals k) else []
+
+unfoldable pub told_frames : Receiving → (limit : ℕ) → List Bool → List ℕ → List Known
+told_frames r limit named totals = ConnectionMaxData limit ∷ flat_map (told_at r named totals) (range_with_len 1 64)

@@ -14,7 +14,7 @@ use crate::reason::Reason;
 use std::alloc::Allocator;
 
 /// What a stream was credited.
-fn credited_of<A: Allocator + Copy>(slot: &Option<Incoming<A>>) -> u64
+pub(crate) fn credited_of<A: Allocator + Copy>(slot: &Option<Incoming<A>>) -> u64
     ensures { result ≡ credited_of slot.now }
 {
     match slot {

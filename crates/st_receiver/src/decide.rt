@@ -22,9 +22,10 @@ use std::alloc::Allocator;
 /// How far past what was read the bytes of all streams may reach.
 pub const CONNECTION_WINDOW: u64 = 1_048_576;
 
-/// The sum of the highest byte ends.
+/// The sum of what there is for each stream.
 pub(crate) fn sum_of(ends: &[u64; 65]) -> u128
-    ensures { result ≡ sum ends.now }
+    ensures total { result ≡ sum ends.now }
+    ensures fits { result < 65 * 2 ^ 64 }
 {
     let mut total = 0;
     for end in ends.iter() {
@@ -53,17 +54,16 @@ fn read_of<A: Allocator + Copy>(slot: &Option<Incoming<A>>) -> u64
     }
 }
 
-/// What counts as read on all streams.
-fn all_read<A: Allocator + Copy>(slots: &Vec<Option<Incoming<A>>, A>) -> u128
+/// What counts as read, by number.
+pub(crate) fn reads_of<A: Allocator + Copy>(slots: &Vec<Option<Incoming<A>>, A>) -> [u64; 65]
     requires { length slots.now.items ≡ 65 }
-    ensures total { result ≡ sum (map read_of slots.now.items) }
-    ensures fits { result < 65 * 2 ^ 64 }
+    ensures { result ≡ map read_of slots.now.items }
 {
-    let mut total = 0;
-    for slot in slots.iter() {
-        total += u128::from(read_of(slot));
+    let mut reads = [0; 65];
+    for k in 0..65 {
+        reads[k] = read_of(&slots[k]);
     }
-    total
+    reads
 }
 
 /// The highest byte ends, by number.
@@ -89,8 +89,15 @@ pub(crate) fn capped(limit: u128) -> u64
     }
 }
 
+/// The limit of the connection as it is told, by what counts as read on each stream.
+pub(crate) fn limit_by(reads: &[u64; 65]) -> u64
+    ensures { result ≡ limits.capped (sum reads.now + 1048576) }
+{
+    capped(sum_of(reads) + u128::from(CONNECTION_WINDOW))
+}
+
 /// A clean close or an abort came.
-fn is_over<A: Allocator + Copy>(slot: &Option<Incoming<A>>) -> bool
+pub(crate) fn is_over<A: Allocator + Copy>(slot: &Option<Incoming<A>>) -> bool
     ensures { result ≡ is_over (inside.held_or slot.now) }
 {
     match slot {
@@ -148,7 +155,7 @@ impl<A: Allocator + Copy> Intake<A> {
     pub(crate) fn connection_limit(&self) -> u64
         ensures { result ≡ limits.connection_limit self.now.state }
     {
-        capped(all_read(&self.slots) + u128::from(CONNECTION_WINDOW))
+        limit_by(&reads_of(&self.slots))
     }
 
     /// Why a stream may not be named.
@@ -213,18 +220,28 @@ impl<A: Allocator + Copy> Intake<A> {
         }
     }
 
-    /// Why the frames of a packet are not taken: the first that breaks a rule decides.
-    pub(crate) fn frames_fault(&self, mut frames: Frames<'_>) -> Option<Reason>
-        ensures { result ≡ taken.frames_fault self.now.state (map frame_of frames.entry) }
+    /// The highest byte ends once the frames of a packet came, or why they are not taken: the first that breaks a rule
+    /// decides.
+    pub(crate) fn ends_after(&self, mut frames: Frames<'_>) -> Result<[u64; 65], Reason>
+        ensures { inside.IsEnds self.now.state (map frame_of frames.entry) result }
     {
         let mut ends = all_received(&self.slots);
         let limit = self.connection_limit();
         while let Some((_, frame)) = frames.next() {
-            let fault = self.frame_fault(&mut ends, limit, frame);
-            if fault.is_some() {
-                return fault;
+            if let Some(fault) = self.frame_fault(&mut ends, limit, frame) {
+                return Err(fault);
             }
         }
-        None
+        Ok(ends)
+    }
+
+    /// Why the frames of a packet are not taken.
+    pub(crate) fn frames_fault(&self, frames: Frames<'_>) -> Option<Reason>
+        ensures { result ≡ taken.frames_fault self.now.state (map frame_of frames.entry) }
+    {
+        match self.ends_after(frames) {
+            Ok(_) => None,
+            Err(fault) => Some(fault),
+        }
     }
 }

@@ -2,11 +2,13 @@
 //! rule that it breaks, or a `Plan` by which it may take effect. `commit` lets it take effect, and takes no memory: the
 //! data first, then the money, then the closes. `specs/Judged.antt` has both as functions of what was received so far;
 //! `specs/Data.antt`, `specs/Money.antt` and `specs/Closes.antt` have their parts, `specs/Limits.antt` the limits that are
-//! told. Memory that was taken in advance is no part of what is received (`specs/Standing.antt`).
+//! told. `reply_frames` has those that a reply tells, before `commit` and as `commit` will leave them. Memory that was taken
+//! in advance is no part of what is received (`specs/Standing.antt`).
 #![tactic(auto)]
 
 mod apply;
 mod asking;
+mod closing;
 mod commit;
 mod decide;
 mod got;
@@ -15,6 +17,7 @@ mod intake;
 mod judge;
 mod money;
 mod reason;
+mod reply;
 mod sequences;
 mod telling;
 

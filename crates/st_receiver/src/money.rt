@@ -5,11 +5,13 @@ ghost use Rattle.st_frames.specs.Frames.{frame_of};
 ghost use Rattle.st_frames.specs.Seen.{seen};
 ghost use Rattle.st_frames.specs.Told.{shares};
 ghost use Rattle.st_tables.specs.Slots.{slot};
+ghost use Rattle.st_receiver.specs.Streams.{incoming_at, credited_of};
 ghost use Rattle.st_receiver.specs.Data as taken;
 ghost use Rattle.st_receiver.specs.Money as money;
 ghost use Rattle.st_receiver.specs.Inside as inside;
 ghost use Rattle.st_receiver.specs.Standing.{Keeps};
 
+use crate::asking::credited_of;
 use crate::decide::sum_of;
 use crate::incoming::Incoming;
 use crate::intake::Intake;
@@ -102,6 +104,28 @@ fn parts_of(amount: u64, shares: &[u64; 65], all: u64) -> [u64; 65]
     parts
 }
 
+/// The parts of a packet's amount, by the streams' numbers.
+fn parts_in(frames: Frames<'_>, amount: u64) -> [u64; 65]
+    requires fits { sum (shares (map frame_of frames)) < 2 ^ 64 }
+    requires some { 0 < sum (shares (map frame_of frames)) }
+    ensures { result ≡ money.parts amount (shares (map frame_of frames.entry)) }
+{
+    let shares = shares_in(frames).unwrap();
+    parts_of(amount, &shares, sum_of(&shares) as u64)
+}
+
+/// What each stream was credited, by number.
+pub(crate) fn all_credited<A: Allocator + Copy>(slots: &Vec<Option<Incoming<A>>, A>) -> [u64; 65]
+    requires { length slots.now.items ≡ 65 }
+    ensures { result ≡ map credited_of slots.now.items }
+{
+    let mut totals = [0; 65];
+    for k in 0..65 {
+        totals[k] = credited_of(&slots[k]);
+    }
+    totals
+}
+
 /// A stream with a part of an amount.
 fn credited<A: Allocator + Copy>(slot: Option<Incoming<A>>, part: u64) -> Option<Incoming<A>>
     requires { money.is_over_max slot part ≡ false }
@@ -129,15 +153,24 @@ fn credit_all<A: Allocator + Copy>(slots: &mut Vec<Option<Incoming<A>>, A>, part
 }
 
 impl<A: Allocator + Copy> Intake<A> {
+    /// What a stream may receive in all, and what it was credited, as it is or as it would open.
+    fn money_at(&self, k: usize) -> (u64, u64)
+        requires { k < 65 }
+        ensures receive_max { result.0 ≡ (incoming_at self.now.state k).receive_max }
+        ensures credited { result.1 ≡ (incoming_at self.now.state k).credited }
+    {
+        match &self.slots[k] {
+            Some(incoming) => (incoming.receive_max(), incoming.credited()),
+            None => (self.kept[k], 0),
+        }
+    }
+
     /// Whether a part is past what its stream may receive.
     fn is_over(&self, k: usize, part: u64) -> bool
         requires { k < 65 }
         ensures { result ≡ inside.over_at self.now.state k part }
     {
-        let (receive_max, credited) = match &self.slots[k] {
-            Some(incoming) => (incoming.receive_max(), incoming.credited()),
-            None => (self.kept[k], 0),
-        };
+        let (receive_max, credited) = self.money_at(k);
         u128::from(receive_max) < u128::from(credited) + u128::from(part)
     }
 
@@ -187,9 +220,41 @@ impl<A: Allocator + Copy> Intake<A> {
         if amount == 0 {
             return;
         }
-        let shares = shares_in(frames).unwrap();
-        let parts = parts_of(amount, &shares, sum_of(&shares) as u64);
-        credit_all(&mut self.slots, &parts);
+        credit_all(&mut self.slots, &parts_in(frames, amount));
         self.credit += amount;
+    }
+
+    /// What a stream is credited in all, with a part more.
+    fn total_with(&self, k: usize, part: u64) -> u64
+        requires within { k < 65 }
+        requires fits { inside.over_at self.now.state k part ≡ false }
+        ensures { result ≡ (incoming_at self.now.state k).credited + part }
+    {
+        let (_, credited) = self.money_at(k);
+        credited + part
+    }
+
+    /// The same of each stream, by number.
+    fn totals_with(&self, parts: &[u64; 65]) -> [u64; 65]
+        requires { inside.IsOverAt self.now.state parts.now false }
+        ensures { (k : ℕ) → k < 65 → slice_index result k ≡ (incoming_at self.now.state k).credited + slice_index parts.now k }
+    {
+        let mut totals = [0; 65];
+        for k in 0..65 {
+            totals[k] = self.total_with(k, parts[k]);
+        }
+        totals
+    }
+
+    /// What each stream will be credited in all, once a packet that breaks no rule took effect.
+    pub(crate) fn totals_after(&self, frames: Frames<'_>, amount: u64) -> [u64; 65]
+        requires lawful { taken.frames_fault self.now.state (map frame_of frames) ≡ None }
+        requires pays { money.money_fault (taken.after_frames self.now.state (map frame_of frames)) amount (map frame_of frames) ≡ None }
+        ensures { (k : ℕ) → k < 65 → slice_index result k ≡ (incoming_at (money.after_money (taken.after_frames self.now.state (map frame_of frames.entry)) amount (map frame_of frames.entry)) k).credited }
+    {
+        if amount == 0 {
+            return all_credited(&self.slots);
+        }
+        self.totals_with(&parts_in(frames, amount))
     }
 }

@@ -1,13 +1,15 @@
 //! The limits that an end tells its peer (RFC 0029, section 5.3).
 
-ghost use Rattle.std.specs.Prelude.{◌≡◌, ◌<◌, ◌++◌, map, IfOk, OnOk, IsOkUnless};
+ghost use Rattle.std.specs.Prelude.{◌≡◌, ◌<◌, ◌++◌, map, cond, [], IfOk, OnOk, IsOkUnless};
 ghost use Rattle.st_frames.specs.Seen.{seen};
 ghost use Rattle.st_receiver.specs.Streams.{fresh_incoming, incoming_or, incoming_at};
-ghost use Rattle.st_receiver.specs.Limits.{told_by, limits_of, limits};
+ghost use Rattle.st_receiver.specs.Limits.{told_by, limits};
+ghost use Rattle.st_receiver.specs.Inside.{with_total, limits_with, told_frames};
 
 use crate::decide::capped;
 use crate::incoming::Incoming;
 use crate::intake::Intake;
+use crate::money::all_credited;
 use crate::reason::Reason;
 use st_frames::Frame;
 use std::alloc::Allocator;
@@ -15,23 +17,20 @@ use std::alloc::Allocator;
 /// How far past what was read the bytes of a stream may reach.
 const STREAM_WINDOW: u128 = 65_536;
 
-/// The limits of a stream, as it is or as it would open, behind those that are there.
+/// The limits of a stream, as it is or as it would open, with a total of what it was credited, behind those that are there.
 fn push_both<'f, A: Allocator + Copy>(
     frames: &mut Vec<Frame<'f>, A>,
     stream: u64,
     slot: &Option<Incoming<A>>,
     kept: u64,
+    total_received: u64,
 ) -> Result<(), Reason>
     ensures only_memory { IsOkUnless result Reason.NoMemory }
-    ensures told { OnOk result (map seen frames.new.items ≡ map seen frames.old.items ++ told_by stream (incoming_or (fresh_incoming kept) slot.now)) }
+    ensures told { OnOk result (map seen frames.new.items ≡ map seen frames.old.items ++ told_by stream (with_total total_received (incoming_or (fresh_incoming kept) slot.now))) }
 {
-    let (read, receive_max, total_received) = match slot {
-        Some(incoming) => (
-            incoming.read_count(),
-            incoming.receive_max(),
-            incoming.credited(),
-        ),
-        None => (0, kept, 0),
+    let (read, receive_max) = match slot {
+        Some(incoming) => (incoming.read_count(), incoming.receive_max()),
+        None => (0, kept),
     };
     frames.push(Frame::StreamMaxData {
         stream,
@@ -47,25 +46,56 @@ fn push_both<'f, A: Allocator + Copy>(
 
 impl<A: Allocator + Copy> Intake<A> {
     /// The limits of a stream, behind those that are there.
-    fn push_stream<'f>(&self, frames: &mut Vec<Frame<'f>, A>, stream: u64) -> Result<(), Reason>
+    fn push_stream<'f>(
+        &self,
+        frames: &mut Vec<Frame<'f>, A>,
+        stream: u64,
+        total_received: u64,
+    ) -> Result<(), Reason>
         requires { stream < 65 }
         ensures only_memory { IsOkUnless result Reason.NoMemory }
-        ensures told { OnOk result (map seen frames.new.items ≡ map seen frames.old.items ++ told_by stream (incoming_at self.now.state stream)) }
+        ensures told { OnOk result (map seen frames.new.items ≡ map seen frames.old.items ++ told_by stream (with_total total_received (incoming_at self.now.state stream))) }
     {
         let k = stream as usize;
-        push_both(frames, stream, &self.slots[k], self.kept[k])
+        push_both(frames, stream, &self.slots[k], self.kept[k], total_received)
     }
 
-    /// The same where the stream is open or the peer may open it.
-    fn push_limits<'f>(&self, frames: &mut Vec<Frame<'f>, A>, stream: u64) -> Result<(), Reason>
+    /// The same where the stream is to be told of, and is open or the peer may open it.
+    fn push_limits<'f>(
+        &self,
+        frames: &mut Vec<Frame<'f>, A>,
+        stream: u64,
+        is_named: bool,
+        total_received: u64,
+    ) -> Result<(), Reason>
         requires { stream < 65 }
         ensures only_memory { IsOkUnless result Reason.NoMemory }
-        ensures told { OnOk result (map seen frames.new.items ≡ map seen frames.old.items ++ limits_of self.now.state stream) }
+        ensures told { OnOk result (map seen frames.new.items ≡ map seen frames.old.items ++ cond is_named (limits_with self.now.state stream total_received) []) }
     {
-        if self.may_name(stream) {
-            return self.push_stream(frames, stream);
+        if is_named && self.may_name(stream) {
+            return self.push_stream(frames, stream, total_received);
         }
         Ok(())
+    }
+
+    /// A limit of the connection, and the limits of the streams that are named, each with the total of what it was
+    /// credited.
+    pub(crate) fn told<'f>(
+        &self,
+        limit: u64,
+        named: &[bool; 65],
+        totals: &[u64; 65],
+    ) -> Result<Vec<Frame<'f>, A>, Reason>
+        ensures only_memory { IsOkUnless result Reason.NoMemory }
+        ensures told { IfOk result (λ frames. map seen frames.items ≡ told_frames self.now.state limit named.now totals.now) }
+    {
+        let mut frames = Vec::new(self.alloc);
+        frames.push(Frame::ConnectionMaxData { max_offset: limit })?;
+        for k in 0..64 {
+            let stream = k + 1;
+            self.push_limits(&mut frames, stream as u64, named[stream], totals[stream])?;
+        }
+        Ok(frames)
     }
 
     /// The limits that stand: the connection's, and those of each stream that is open or that the peer may open.
@@ -73,13 +103,10 @@ impl<A: Allocator + Copy> Intake<A> {
         ensures only_memory { IsOkUnless result Reason.NoMemory }
         ensures told { IfOk result (λ frames. map seen frames.items ≡ limits self.now.state) }
     {
-        let mut frames = Vec::new(self.alloc);
-        frames.push(Frame::ConnectionMaxData {
-            max_offset: self.connection_limit(),
-        })?;
-        for k in 0..64 {
-            self.push_limits(&mut frames, k + 1)?;
-        }
-        Ok(frames)
+        self.told(
+            self.connection_limit(),
+            &[true; 65],
+            &all_credited(&self.slots),
+        )
     }
 }

@@ -6,13 +6,13 @@ use Rattle.st_receiver.proofs.money.parts_of.Goals as goal
 
 pub overflow_cast-rest : goal.overflow_cast-rest
 overflow_cast-rest c =
-    let e : c.sum_of.result ≡ sum (rounded c.args.amount c.args.all c.args.shares.now) = c.sum_of.ensures ∙ ap sum c.rounded_parts-parts.ensures in
+    let e : c.sum_of.result ≡ sum (rounded c.args.amount c.args.all c.args.shares.now) = c.sum_of.ensures.total ∙ ap sum c.rounded_parts-parts.ensures in
     let least = rounded-least c.args.amount c.args.all c.args.shares.now c.requires.some c.requires.all in
     omega (arith, e, least, c.ranges.amount.fits)
 
 pub overflow_sub-rest : goal.overflow_sub-rest
 overflow_sub-rest c =
-    let e : c.sum_of.result ≡ sum (rounded c.args.amount c.args.all c.args.shares.now) = c.sum_of.ensures ∙ ap sum c.rounded_parts-parts.ensures in
+    let e : c.sum_of.result ≡ sum (rounded c.args.amount c.args.all c.args.shares.now) = c.sum_of.ensures.total ∙ ap sum c.rounded_parts-parts.ensures in
     let least = rounded-least c.args.amount c.args.all c.args.shares.now c.requires.some c.requires.all in
     omega (arith, e, least)
 
@@ -21,7 +21,7 @@ returns-then-first-lt65 c =
     let k = c.first_with_shares-first.result in
     let ms = c.args.shares.now in
     let p = c.rounded_parts-parts.ensures in
-    let e : c.sum_of.result ≡ sum (rounded c.args.amount c.args.all ms) = c.sum_of.ensures ∙ ap sum p in
+    let e : c.sum_of.result ≡ sum (rounded c.args.amount c.args.all ms) = c.sum_of.ensures.total ∙ ap sum p in
     let l : k < length ms = omega (arith, c.told-shares, c.if-first-lt65.true) in
     (λ i. set (p i) k (get_or (p i) k 0 + (c.args.amount - e i)))
     ∙ parts_are c.args.amount c.args.all ms k c.requires.all l c.first_with_shares-first.ensures.none (c.first_with_shares-first.ensures.some c.if-first-lt65.true)
