@@ -12,7 +12,7 @@ use Rattle.st_reassembly.specs.Held.{Held, is_over}
 use Rattle.st_reassembly.specs.Inserting.{inserted}
 use Rattle.st_receiver.specs.declared.reason.Reason.{Reason}
 use Rattle.st_receiver.specs.declared.reason.Reason.TheVariants.{FlowControl, StreamId}
-use Rattle.st_receiver.specs.Streams.{Incoming, Receiving, fresh_incoming, incoming_or, incoming_at, with_incoming, opened_stream, is_open, may_name, received_of, read_of}
+use Rattle.st_receiver.specs.Streams.{Incoming, Receiving, fresh_incoming, incoming_or, incoming_at, with_incoming, opened_stream, is_open, may_name, received_of, read_of, delivered_of}
 use Rattle.st_receiver.specs.Data.{with_data, after_data, stream_fault, data_fault, frame_fault, after_frame, frames_fault}
 use Rattle.st_receiver.specs.Limits.{connection_limit, capped}
 use Rattle.st_reassembly.proofs.Pointwise.{joins_after}
@@ -30,6 +30,10 @@ next_sum xs i x l e = grind (arith, common_steps)
 pub read_more : (ss : Slots Incoming) (i : ℕ) (o : Option Incoming) (r : ℕ) → i < length ss → o ≡ get_or ss i o → r ≡ read_of o → sum (take (i + 1) (map read_of ss)) ≡ sum (take i (map read_of ss)) + r
 read_more ss i o r l e f =
     next_sum (map read_of ss) i r (subst (λ n. i < n) (sym (length-map ss read_of)) l) (f ∙ ap read_of (get_or_read ss i o l e None) ∙ sym (get_or-map read_of ss i refl))
+
+pub delivered_more : (ss : Slots Incoming) (i : ℕ) (o : Option Incoming) (r : ℕ) → i < length ss → o ≡ get_or ss i o → r ≡ delivered_of o → sum (take (i + 1) (map delivered_of ss)) ≡ sum (take i (map delivered_of ss)) + r
+delivered_more ss i o r l e f =
+    next_sum (map delivered_of ss) i r (subst (λ n. i < n) (sym (length-map ss delivered_of)) l) (f ∙ ap delivered_of (get_or_read ss i o l e None) ∙ sym (get_or-map delivered_of ss i refl))
 
 -- ---- what a stream holds
 

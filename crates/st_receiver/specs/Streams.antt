@@ -67,6 +67,14 @@ all_received r = sum (map received_of r.streams)
 abbrev pub all_read : Receiving → ℕ
 all_read r = sum (map read_of r.streams)
 
+-- what was read, and no more
+abbrev pub delivered_of : Option Incoming → ℕ
+delivered_of None = 0
+delivered_of (Some x) = x.held.read
+
+abbrev pub all_delivered : Receiving → ℕ
+all_delivered r = sum (map delivered_of r.streams)
+
 -- what a stream was credited
 abbrev pub credited_of : Option Incoming → ℕ
 credited_of None = 0

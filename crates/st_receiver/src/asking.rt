@@ -1,8 +1,8 @@
 //! What an end is told of what it received, and the streams that it opens itself.
 
-ghost use Rattle.std.specs.Prelude.{◌≡◌, ◌<◌, true, IfOk, OnOk, OnErr, IsOkUnless};
+ghost use Rattle.std.specs.Prelude.{◌≡◌, ◌<◌, ◌*◌, ◌^◌, true, length, map, sum, IfOk, OnOk, OnErr, IsOkUnless};
 ghost use Rattle.st_tables.specs.Slots.{slot};
-ghost use Rattle.st_receiver.specs.Streams.{opened_stream, may_name, is_open, incoming_at, with_incoming, with_max, with_kept, with_receive_max, credited_of};
+ghost use Rattle.st_receiver.specs.Streams.{opened_stream, may_name, is_open, incoming_at, with_incoming, with_max, with_kept, with_receive_max, credited_of, delivered_of, all_delivered};
 ghost use Rattle.st_receiver.specs.Reading.{got, after_got};
 ghost use Rattle.st_receiver.specs.Decided.{got_seen};
 
@@ -23,7 +23,51 @@ pub(crate) fn credited_of<A: Allocator + Copy>(slot: &Option<Incoming<A>>) -> u6
     }
 }
 
+/// How many bytes were read on a stream.
+fn delivered_of<A: Allocator + Copy>(slot: &Option<Incoming<A>>) -> u64
+    ensures { result ≡ delivered_of slot.now }
+{
+    match slot {
+        Some(incoming) => incoming.read_count(),
+        None => 0,
+    }
+}
+
+/// How many bytes were read on all streams.
+fn all_delivered<A: Allocator + Copy>(slots: &Vec<Option<Incoming<A>>, A>) -> u128
+    requires { length slots.now.items ≡ 65 }
+    ensures total { result ≡ sum (map delivered_of slots.now.items) }
+    ensures fits { result < 65 * 2 ^ 64 }
+{
+    let mut total = 0;
+    for slot in slots.iter() {
+        total += u128::from(delivered_of(slot));
+    }
+    total
+}
+
 impl<A: Allocator + Copy> Intake<A> {
+    /// Of this end's own stream numbers: 1 for a client, 0 for a server.
+    pub fn parity(&self) -> u8
+        ensures { result ≡ self.now.state.parity }
+    {
+        self.parity
+    }
+
+    /// Whether the peer closed the connection. No memory.
+    pub fn is_closed(&self) -> bool
+        ensures { result ≡ self.now.state.closed }
+    {
+        self.closed
+    }
+
+    /// How many bytes were read on all streams. No memory.
+    pub fn delivered(&self) -> u128
+        ensures { result ≡ all_delivered self.now.state }
+    {
+        all_delivered(&self.slots)
+    }
+
     /// What was credited on all streams, in units of this end's asset.
     pub fn credited(&self) -> u64
         ensures { result ≡ self.now.state.credit }

@@ -1,0 +1,197 @@
+-- What is lawful at first, and what stays so.
+use Rattle.std.proofs.Common.{◌≡◌, ◌≢◌, ℕ, Bool, true, false, cond, Option, Some, None, Result, Ok, Err, refl, ap, ◌∙◌, sym, subst, List, [], ◌∷◌, nat_eq, inl, inr, arith}
+use Rattle.std.specs.Prelude.{is_some, MatchOption}
+use Rattle.std.specs.Ordering.{nat_cmp}
+use Rattle.std.specs.FinMap as map
+use Rattle.std.proofs.lemmas.Bool.{false≢true, cases_eq}
+use Rattle.std.proofs.lemmas.Grind.{common_steps}
+use Rattle.std.proofs.lemmas.Bool.Decides.{nat_tests}
+use Rattle.st_oer.specs.Address.{is_address}
+use Rattle.st_ilp.specs.Packets.{AnswerPacket, Fulfilled, Rejected}
+use Rattle.st_ilp.specs.Spelling.{fulfill_kind, reject_kind}
+use Rattle.st_ilp.specs.Reading.{answer_at}
+use Rattle.st_ilp.specs.declared.error.IlpError.{IlpError}
+use Rattle.st_frames.specs.Frames.{Known, Packet, frames_of, ConnectionClose, ConnectionNewAddress, ConnectionMaxData, ConnectionDataBlocked, StreamClose, StreamMoney, StreamMaxMoney, StreamMoneyBlocked, StreamData, StreamMaxData, StreamDataBlocked}
+use Rattle.st_keys.specs.Keys.{DerivedKeys}
+use Rattle.st_keys.specs.Sealed.{opened}
+use Rattle.st_keys.specs.declared.error.KeyError.{KeyError}
+use Rattle.st_sender.specs.Sending.{Outgoing, Flown, Data, Whole, Flight, Sending, changed_at, changed, outgoing_at}
+use Rattle.st_sender.specs.Flights.{flight_at, without_flight}
+use Rattle.st_sender.specs.Answering.{after_acked, after_all_acked, landed, after_fulfilled, after_failed, Failure, Plain, after_told, after_all_told}
+use Rattle.st_end.specs.declared.flight.Open.{Open}
+use Rattle.st_end.specs.State.{EndState}
+use Rattle.st_end.specs.Sending.{is_kept, open_flight, is_open}
+use Rattle.st_end.specs.Answers.{fits, raised, failure_of, answered_by, outcome_left, after_outcome, ended_with, ended}
+use Rattle.st_end.specs.Lawful.{IsLawful}
+
+none_in_empty : (n : ℕ) → is_some (map.get (map.empty {X = List ℕ} {R = nat_cmp}) n) ≡ false
+none_in_empty n = ap is_some (map.get-empty nat_cmp n)
+
+pub lawful_when_new : (e : EndState) → e.conditions ≡ map.empty → is_address e.own ≡ true → is_address e.peer ≡ true → IsLawful e
+lawful_when_new e none o p = record { own = o; peer = p; kept = λ n h. absurd (false≢true (sym (ap (λ m. is_some (map.get m n)) none ∙ none_in_empty n) ∙ h)) }
+
+-- what flies is not changed by a call on a stream
+at_flights : (s : Sending) (k : ℕ) (f : Outgoing → Outgoing) (o : Option Outgoing) → (changed_at s k f o).flights ≡ s.flights
+at_flights s k f None = refl
+at_flights s k f (Some x) = refl
+
+pub flights_stay : (s : Sending) (k : ℕ) (f : Outgoing → Outgoing) → (changed s k f).flights ≡ s.flights
+flights_stay s k f = at_flights s k f _
+
+pub lawful_with : (e : EndState) (s : Sending) → s.flights ≡ e.sending.flights → IsLawful e → IsLawful (record e { sending = s })
+lawful_with e s same l = record { own = l.own; peer = l.peer; kept = λ n h. subst (λ ps. is_some (flight_at ps n) ≡ true) (sym same) (l.kept n h) }
+
+-- ---- what answers and told limits leave as it is
+
+with_same : (s : Sending) (k : ℕ) (f : Outgoing → Outgoing) (t : Sending) → s.flights ≡ t.flights → (changed s k f).flights ≡ t.flights
+with_same s k f t h = flights_stay s k f ∙ h
+
+acked_flies : (s t : Sending) (f : Flown) → s.flights ≡ t.flights → (after_acked s f).flights ≡ t.flights
+acked_flies s t (Data k o n) h = with_same s k _ t h
+acked_flies s t (Whole (StreamData k o xs)) h = h
+acked_flies s t (Whole (StreamMoney k n)) h = with_same s k _ t h
+acked_flies s t (Whole (StreamClose k code message)) h = with_same s k _ t h
+acked_flies s t (Whole (StreamDataBlocked k n)) h = with_same s k _ t h
+acked_flies s t (Whole (StreamMoneyBlocked k n m)) h = with_same s k _ t h
+acked_flies s t (Whole (ConnectionDataBlocked n)) h = h
+acked_flies s t (Whole (ConnectionMaxData n)) h = h
+acked_flies s t (Whole (StreamMaxData k n)) h = h
+acked_flies s t (Whole (StreamMaxMoney k n m)) h = h
+acked_flies s t (Whole (ConnectionClose code message)) h = h
+acked_flies s t (Whole (ConnectionNewAddress address)) h = h
+
+all_acked_flies : (t : Sending) (fs : List Flown) (s : Sending) → s.flights ≡ t.flights → (after_all_acked s fs).flights ≡ t.flights
+all_acked_flies t [] s h = h
+all_acked_flies t (f ∷ fs) s h = all_acked_flies t fs (after_acked s f) (acked_flies s t f h)
+
+told_flies : (s t : Sending) (f : Known) → s.flights ≡ t.flights → (after_told s f).flights ≡ t.flights
+told_flies s t (StreamData k o xs) h = h
+told_flies s t (StreamMoney k n) h = h
+told_flies s t (StreamClose k code message) h = h
+told_flies s t (StreamDataBlocked k n) h = h
+told_flies s t (StreamMoneyBlocked k n m) h = h
+told_flies s t (ConnectionDataBlocked n) h = h
+told_flies s t (ConnectionMaxData n) h = h
+told_flies s t (StreamMaxData k n) h = with_same s k _ t h
+told_flies s t (StreamMaxMoney k n m) h = with_same s k _ t h
+told_flies s t (ConnectionClose code message) h = h
+told_flies s t (ConnectionNewAddress address) h = h
+
+pub all_told_flies : (t : Sending) (fs : List Known) (s : Sending) → s.flights ≡ t.flights → (after_all_told s fs).flights ≡ t.flights
+all_told_flies t [] s h = h
+all_told_flies t (f ∷ fs) s h = all_told_flies t fs (after_told s f) (told_flies s t f h)
+
+told_if : (b : Bool) (s t u : Sending) → s.flights ≡ u.flights → t.flights ≡ u.flights → (cond b s t).flights ≡ u.flights
+told_if true s t u h k = h
+told_if false s t u h k = k
+
+raised_flies : (s : Sending) (n : ℕ) (r : Result Packet KeyError) → (raised s n r).flights ≡ s.flights
+raised_flies s n (Ok q) = told_if (nat_eq q.sequence n) (after_all_told s (frames_of q)) s s (all_told_flies s (frames_of q) s refl) refl
+raised_flies s n (Err e) = refl
+
+-- what lands is in flight no more, and nothing else changes place
+landed_if : (b : Bool) (s t : Sending) (ps : List Flight) → s.flights ≡ ps → t.flights ≡ ps → (cond b s t).flights ≡ ps
+landed_if true s t ps h k = h
+landed_if false s t ps h k = k
+
+answered_flies : (keys : DerivedKeys) (s : Sending) (flight : Open) (p : Flight) (a : Result AnswerPacket IlpError) → (answered_by keys s flight p a).flights ≡ without_flight s.flights p.sequence
+answered_flies keys s flight p (Ok (Fulfilled fulfillment payload)) =
+    landed_if (fits flight fulfillment) (raised (after_fulfilled s p) flight.sequence (opened keys fulfill_kind payload)) (after_failed s p Plain) _
+    (raised_flies (after_fulfilled s p) flight.sequence (opened keys fulfill_kind payload) ∙ all_acked_flies (landed s p.sequence) p.frames (landed s p.sequence) refl) refl
+answered_flies keys s flight p (Ok (Rejected code by message payload)) = raised_flies (after_failed s p (failure_of code payload)) flight.sequence (opened keys reject_kind payload)
+answered_flies keys s flight p (Err e) = refl
+
+outcome_flies : (e : EndState) (flight : Open) (p : Flight) (o : Option (List ℕ)) → (outcome_left e flight p o).flights ≡ without_flight e.sending.flights p.sequence
+outcome_flies e flight p (Some bytes) = answered_flies e.keys e.sending flight p (answer_at bytes)
+outcome_flies e flight p None = refl
+
+same_test : {A : Type 0} (m n : ℕ) (x y : A) → m ≡ n → cond (nat_eq m n) x y ≡ x
+same_test m n x y e = grind (arith, nat_tests)
+
+other_test : {A : Type 0} (m n : ℕ) (x y : A) → m ≢ n → cond (nat_eq m n) x y ≡ y
+other_test m n x y e = grind (arith, nat_tests)
+
+found_sequence : (ps : List Flight) (n : ℕ) (p : Flight) → flight_at ps n ≡ Some p → p.sequence ≡ n
+found_sequence [] n p e = absurd cc
+found_sequence (q ∷ ps) n p e = elim (cases_eq q.sequence n) [
+  | inl same ↦ (let here : ◌≡◌ {A = Option Flight} (Some q) (Some p) = sym (same_test q.sequence n (Some q) (flight_at ps n) same) ∙ e in let is : q ≡ p = cc in sym (ap (λ (x : Flight). x.sequence) is) ∙ same)
+  | inr apart ↦ found_sequence ps n p (sym (other_test q.sequence n (Some q) (flight_at ps n) apart) ∙ e)
+]
+
+others_fly : (ps : List Flight) (m n : ℕ) → n ≢ m → flight_at (without_flight ps m) n ≡ flight_at ps n
+others_fly [] m n d = refl
+others_fly (p ∷ ps) m n d = elim (cases_eq p.sequence m) [
+  | inl same ↦ ap (λ (x : List Flight). flight_at x n) (same_test p.sequence m ps (p ∷ without_flight ps m) same) ∙ sym (other_test p.sequence n (Some p) (flight_at ps n) (λ e. d (sym e ∙ same)))
+  | inr apart ↦ ap (λ (x : List Flight). flight_at x n) (other_test p.sequence m ps (p ∷ without_flight ps m) apart) ∙ ap (λ o. cond (nat_eq p.sequence n) (Some p) o) (others_fly ps m n d)
+]
+
+kept_apart : (m : map.FinMap nat_cmp (List ℕ)) (k q : ℕ) → q ≢ k → map.get (map.remove m k) q ≡ map.get m q
+kept_apart m k q d = grind (arith, common_steps, map.gets)
+
+kept_gone : (m : map.FinMap nat_cmp (List ℕ)) (k q : ℕ) → q ≡ k → map.get (map.remove m k) q ≡ None
+kept_gone m k q e = grind (arith, common_steps, map.gets)
+
+pub lawful_after : (e : EndState) (flight : Open) (p : Flight) (o : Option (List ℕ)) → flight_at e.sending.flights flight.sequence ≡ Some p → IsLawful e → IsLawful (after_outcome e flight p o)
+lawful_after e flight p o at l = record { own = l.own; peer = l.peer; kept = λ n h. elim (cases_eq n flight.sequence) [
+  | inl same ↦ absurd (false≢true (sym (ap is_some (kept_gone e.conditions flight.sequence n same)) ∙ h))
+  | inr apart ↦
+    ap (λ (ps : List Flight). is_some (flight_at ps n)) (outcome_flies e flight p o)
+    ∙ ap is_some (others_fly e.sending.flights p.sequence n (λ s. apart (s ∙ found_sequence e.sending.flights flight.sequence p at)))
+    ∙ l.kept n (sym (ap is_some (kept_apart e.conditions flight.sequence n apart)) ∙ h)
+] }
+
+-- ---- open flights
+
+kept_found : (kept : Option (List ℕ)) (condition : List ℕ) → is_kept condition kept ≡ true → is_some kept ≡ true
+kept_found None condition h = absurd (false≢true h)
+kept_found (Some c) condition h = refl
+
+some_if : (b : Bool) (o : Option Flight) → (b ≡ true → is_some o ≡ true) → b ≡ is_some (cond b o None)
+some_if true o h = sym (h refl)
+some_if false o h = refl
+
+-- a condition that is kept is that of an open flight
+pub kept_is_open : (e : EndState) (flight : Open) → IsLawful e → is_kept flight.condition (map.get e.conditions flight.sequence) ≡ is_open e flight
+kept_is_open e flight l = some_if (is_kept flight.condition (map.get e.conditions flight.sequence)) (flight_at e.sending.flights flight.sequence) (λ h. l.kept flight.sequence (kept_found (map.get e.conditions flight.sequence) flight.condition h))
+
+-- what an open flight carries
+pub record Found (e : EndState) (flight : Open) : Type 0 where
+  pub carried : Flight
+  pub at : flight_at e.sending.flights flight.sequence ≡ Some carried
+  pub is : open_flight e flight ≡ Some carried
+
+found_if : (e : EndState) (flight : Open) (b : Bool) (o : Option Flight) → flight_at e.sending.flights flight.sequence ≡ o → open_flight e flight ≡ cond b o None → is_some (cond b o None) ≡ true → Found e flight
+found_if e flight true (Some p) at is h = record { carried = p; at = at; is = is }
+found_if e flight true None at is h = absurd (false≢true h)
+found_if e flight false o at is h = absurd (false≢true h)
+
+pub open_found : (e : EndState) (flight : Open) → is_open e flight ≡ true → Found e flight
+open_found e flight h = found_if e flight (is_kept flight.condition (map.get e.conditions flight.sequence)) (flight_at e.sending.flights flight.sequence) refl refl h
+
+pub ended_is : (e : EndState) (flight : Open) (o : Option (List ℕ)) (p : Flight) → open_flight e flight ≡ Some p → ended e flight o ≡ after_outcome e flight p o
+ended_is e flight o p h = ap (λ x. ended_with e flight x o) h
+
+pub ended_lawful : (e : EndState) (flight : Open) (o : Option (List ℕ)) → is_open e flight ≡ true → IsLawful e → IsLawful (ended e flight o)
+ended_lawful e flight o h l = let f = open_found e flight h in subst IsLawful (sym (ended_is e flight o f.carried f.is)) (lawful_after e flight f.carried o f.at l)
+
+same_kept : (e f : EndState) → f.sending ≡ e.sending → f.conditions ≡ e.conditions → ((n : ℕ) → is_some (map.get e.conditions n) ≡ true → is_some (flight_at e.sending.flights n) ≡ true)
+    → (n : ℕ) → is_some (map.get f.conditions n) ≡ true → is_some (flight_at f.sending.flights n) ≡ true
+same_kept e f s c kept n h = ap (λ (x : Sending). is_some (flight_at x.flights n)) s ∙ kept n (sym (ap (λ (m : map.FinMap nat_cmp (List ℕ)). is_some (map.get m n)) c) ∙ h)
+
+lawful_left : (e after : EndState) (flight : Open) (o : Option (List ℕ)) (p : Flight) → flight_at e.sending.flights flight.sequence ≡ Some p → IsLawful e
+    → after.own ≡ e.own → after.peer ≡ e.peer → after.sending ≡ outcome_left e flight p o → after.conditions ≡ map.remove e.conditions flight.sequence → IsLawful after
+lawful_left e after flight o p at l own peer s c = record {
+  own = ap is_address own ∙ l.own;
+  peer = ap is_address peer ∙ l.peer;
+  kept = same_kept (after_outcome e flight p o) after s c (lawful_after e flight p o at l).kept;
+}
+
+pub lawful_ended : (e now after : EndState) (flight spent : Open) (o : Option (List ℕ)) → e ≡ now → spent ≡ flight → is_open now flight ≡ true → IsLawful e → after.own ≡ e.own → after.peer ≡ e.peer
+    → ((p : Flight) → flight_at e.sending.flights spent.sequence ≡ Some p → after.sending ≡ outcome_left e spent p o) → after.conditions ≡ map.remove e.conditions spent.sequence → IsLawful after
+lawful_ended e now after flight spent o same is open_here l own peer left c =
+    let f = open_found e spent (subst (λ (x : Open). is_open e x ≡ true) (sym is) (subst (λ (x : EndState). is_open x flight ≡ true) (sym same) open_here)) in
+    lawful_left e after spent o f.carried f.at l own peer (left f.carried f.at) c
+
+-- what a failure does to what is in flight
+pub failed_left : (s t : Sending) (n : ℕ) (p : Flight) (why : Failure) → flight_at s.flights n ≡ Some p → MatchOption (flight_at s.flights n) (t ≡ s) (λ q. t ≡ after_failed s q why) → t ≡ after_failed s p why
+failed_left s t n p why at h = subst (λ (o : Option Flight). MatchOption o (t ≡ s) (λ q. t ≡ after_failed s q why)) at h

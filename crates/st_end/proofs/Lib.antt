@@ -1,0 +1,4 @@
+pub mod Maps
+pub mod Lawfulness
+pub mod Numbers
+pub mod Backs

@@ -1,0 +1,27 @@
+-- Why an end refuses a call, by number. The numbers are this profile's own.
+use Rattle.std.specs.Prelude.{ℕ, Option, None}
+use Rattle.st_sender.specs.declared.error.OutboxError.{OutboxError}
+use Rattle.st_sender.specs.declared.error.OutboxError.TheVariants as outbox
+use Rattle.st_end.specs.declared.error.EndError.{EndError}
+use Rattle.st_end.specs.declared.error.EndError.TheVariants.{NoStream, ConnectionFailed, Closed, Full, AmountTooLarge, NoMemory}
+
+-- the number by which a refusal is known
+abbrev pub number : EndError → ℕ
+number NoStream = 50
+number ConnectionFailed = 58
+number Closed = 51
+number Full = 52
+number AmountTooLarge = 53
+number NoMemory = 54
+
+-- the number inside it: none has one
+abbrev pub inner : EndError → Option ℕ
+inner e = None
+
+-- a refusal of the sending side keeps its number
+abbrev pub wrapped : OutboxError → EndError
+wrapped outbox.NoStream = NoStream
+wrapped outbox.Closed = Closed
+wrapped outbox.Full = Full
+wrapped outbox.AmountTooLarge = AmountTooLarge
+wrapped outbox.NoMemory = NoMemory

@@ -1,0 +1,11 @@
+pub mod State
+pub mod Errors
+pub mod Calls
+pub mod Sending
+pub mod Answers
+pub mod Receiving
+pub mod Reading
+pub mod Totals
+pub mod Lawful
+pub mod Seen
+pub mod Inside

@@ -1,0 +1,20 @@
+-- What the code's values say, in the definitions' terms.
+use Rattle.std.specs.Prelude.{ℕ, Result, Ok, Err}
+use Rattle.st_receiver.specs.declared.got.Got.{Got}
+use Rattle.st_receiver.specs.Decided.{got_seen}
+use Rattle.st_receiver.specs.Reading as reading
+use Rattle.st_end.specs.declared.error.EndError.{EndError}
+use Rattle.st_end.specs.declared.received.Received.{Received}
+use Rattle.st_end.specs.declared.totals.Totals.{Totals}
+use Rattle.st_end.specs.Totals as totals
+use Rattle.st_end.specs.Receiving as receiving
+
+abbrev pub received_seen : {X : Type 0} → Received X → receiving.Received
+received_seen r = record { bytes = r.bytes.items; reason = r.reason; amount = r.amount; sequence = r.sequence }
+
+abbrev pub read_seen : {X : Type 0} → Result (Got X) EndError → Result reading.Got EndError
+read_seen (Ok got) = Ok (got_seen got)
+read_seen (Err why) = Err why
+
+abbrev pub totals_seen : Totals → totals.Totals
+totals_seen t = record { accepted = t.accepted; delivered = t.delivered; credited = t.credited; paid = t.paid }

@@ -1,0 +1,27 @@
+-- What an end did so far.
+use Rattle.std.specs.Prelude.{ℕ, Bool}
+use Rattle.st_sender.specs.Sending.{outgoing_at}
+use Rattle.st_sender.specs.Refusals.{all_accepted}
+use Rattle.st_sender.specs.Answering.{is_settled}
+use Rattle.st_receiver.specs.Streams.{all_delivered}
+use Rattle.st_receiver.specs.Limits.{capped}
+use Rattle.st_end.specs.State.{EndState}
+
+pub record Totals : Type 0 where
+  pub accepted : ℕ  -- bytes of its writers
+  pub delivered : ℕ  -- bytes that were read
+  pub credited : ℕ  -- the amounts of Prepares that it fulfilled
+  pub paid : ℕ  -- the amounts of Prepares whose Fulfill it took
+
+-- none is told past 2 ^ 64 - 1
+abbrev pub totals : EndState → Totals
+totals e = record {
+  accepted = capped (all_accepted e.sending.streams);
+  delivered = capped (all_delivered e.receiving);
+  credited = e.receiving.credit;
+  paid = capped e.sending.paid;
+}
+
+-- a StreamClose of this end's was fulfilled: the clean one, or an abort's
+abbrev pub settled : EndState → (stream : ℕ) → Bool
+settled e k = is_settled (outgoing_at e.sending k)

@@ -1,0 +1,102 @@
+//! What came back to a flight.
+
+ghost use Rattle.std.specs.Prelude.{◌≡◌, ◌≤◌, ◌-◌, length};
+ghost use Rattle.st_keys.specs.Sealed.{opened};
+ghost use Rattle.st_frames.specs.Frames.{frame_of};
+ghost use Rattle.std.specs.Prelude.{map};
+ghost use Rattle.st_sender.specs.Answering.{after_all_told};
+ghost use Rattle.st_end.specs.Answers as answers;
+ghost use Rattle.st_end.specs.Inside.{IsBack};
+
+use st_frames::Frames;
+use st_ilp::{Answer, answer_law, read_answer};
+use st_keys::Keys;
+use st_oer::Cut;
+use st_sender::Outbox;
+use std::alloc::Allocator;
+
+/// An answer, and from where on its bytes are its data.
+#[derive(Clone, Copy)]
+pub(crate) enum Back {
+    /// A Fulfill.
+    Fulfill { fulfillment: [u8; 32], start: usize },
+    /// A Reject.
+    Reject { code: [u8; 3], start: usize },
+    /// Neither.
+    Unreadable,
+}
+
+/// Reads an answer.
+pub(crate) fn read_back(bytes: &[u8]) -> Back
+    ensures { IsBack bytes.now result }
+{
+    answer_law();
+    match read_answer(bytes) {
+        Ok(
+            Answer::Fulfill {
+                fulfillment,
+                payload,
+            },
+        ) => Back::Fulfill {
+            fulfillment,
+            start: bytes.len().saturating_sub(payload.len()),
+        },
+        Ok(
+            Answer::Reject {
+                code,
+                by: _,
+                message: _,
+                payload,
+            },
+        ) => Back::Reject {
+            code,
+            start: bytes.len().saturating_sub(payload.len()),
+        },
+        Err(_) => Back::Unreadable,
+    }
+}
+
+/// The received and the maximum amount in the data of F08 (RFC 0027), where they are exactly two UInt64.
+pub(crate) fn amounts_in(payload: &[u8]) -> Option<(u64, u64)>
+    ensures { result ≡ answers.amounts_in payload.now }
+{
+    let mut cut = Cut::new(payload);
+    let Ok(received) = cut.get_u64() else {
+        return None;
+    };
+    let Ok(maximum) = cut.get_u64() else {
+        return None;
+    };
+    if !cut.rest().is_empty() {
+        return None;
+    }
+    Some((received, maximum))
+}
+
+/// Takes the limits that frames tell.
+pub(crate) fn raise_all<A: Allocator + Copy>(outbox: &mut Outbox<A>, mut frames: Frames<'_>)
+    ensures { outbox.new ≡ after_all_told outbox.old (map frame_of frames.entry) }
+{
+    while let Some((_, frame)) = frames.next() {
+        outbox.raise_limits(&frame);
+    }
+}
+
+/// Takes the limits that an answer's data tell, where they open as a packet of this kind with this sequence.
+pub(crate) fn raise_from<A: Allocator + Copy>(
+    outbox: &mut Outbox<A>,
+    keys: &Keys,
+    kind: u8,
+    sequence: u64,
+    payload: &mut [u8],
+)
+    requires from_prepare { 12 ≤ kind }
+    requires to_reject { kind ≤ 14 }
+    ensures { outbox.new ≡ answers.raised outbox.old sequence (opened keys.now kind payload.old) }
+{
+    if let Ok(packet) = keys.open_packet(payload, kind) {
+        if packet.sequence == sequence {
+            raise_all(outbox, packet.frames.again());
+        }
+    }
+}

@@ -1,0 +1,100 @@
+//! The state of an end.
+
+ghost use Rattle.std.specs.Prelude.{◌≡◌, ◌≢◌, ◌≤◌, true, IfOk, IsOkUnless};
+ghost use Rattle.st_oer.specs.Address.{is_address};
+ghost use Rattle.st_end.specs.State.{new_end};
+ghost use Rattle.st_end.specs.Calls as calls;
+ghost use Rattle.st_end.specs.Calls.{OrWants};
+ghost use Rattle.st_end.specs.Lawful.{IsLawful};
+ghost use Rattle.st_end.specs.Receiving.{t00_text};
+
+use crate::conditions::Conditions;
+use crate::error::EndError;
+use crate::role::Role;
+use crate::t00::ready_t00;
+use st_keys::Keys;
+use st_receiver::Intake;
+use st_sender::{EndConfig, Outbox, OutboxError};
+use std::alloc::Allocator;
+use std::marker::Model;
+
+/// An end of a connection: what it sends, what it receives, and what it knows of its peer.
+#[derive(Drop)]
+pub struct EndState<A: Allocator + Copy> {
+    pub(crate) outbox: Outbox<A>,
+    /// Of what is in flight.
+    pub(crate) conditions: Conditions<A>,
+    pub(crate) intake: Intake<A>,
+    pub(crate) keys: Keys,
+    /// Its address.
+    pub(crate) own: String<A>,
+    /// And the peer's.
+    pub(crate) peer: String<A>,
+    t00: Vec<u8, A>,
+    pub(crate) alloc: A,
+}
+
+impl<A: Allocator + Copy> Model for EndState<A> {
+    ghost use Rattle.std.specs.Prelude.{◌≡◌, string_bytes};
+    ghost use Rattle.std.specs.Coded.{codes};
+    ghost use Rattle.std.specs.FinMap as map;
+    ghost use Rattle.st_end.specs.State as state;
+    ghost use Rattle.st_end.specs.Lawful.{IsLawful};
+    ghost use Rattle.st_end.specs.Receiving.{t00_text};
+
+    ghost Value = { state.EndState };
+
+    ghost coded = { Prim.hlevel (codes, map.code) };
+
+    ghost view = { λ s. record { sending = s.outbox; conditions = s.conditions; receiving = s.intake.state; keys = s.keys; own = string_bytes s.own; peer = string_bytes s.peer } };
+
+    ghost invariant = { λ s. IsLawful (record { sending = s.outbox; conditions = s.conditions; receiving = s.intake.state; keys = s.keys; own = string_bytes s.own; peer = string_bytes s.peer }) × (s.t00.items ≡ t00_text (string_bytes s.own)) };
+}
+
+impl<A: Allocator + Copy> EndState<A> {
+    /// An end with these keys, its own address and its peer's. The caller's condition is that both are addresses.
+    pub fn new(
+        alloc: A,
+        role: Role,
+        keys: Keys,
+        own: &str,
+        peer: &str,
+        config: EndConfig,
+    ) -> Result<EndState<A>, EndError>
+        requires own { is_address own.now ≡ true }
+        requires peer { is_address peer.now ≡ true }
+        ensures only_memory { IsOkUnless result EndError.NoMemory }
+        ensures opening { IfOk result (λ e. e ≡ new_end role keys own.now peer.now config) }
+    {
+        let Ok(outbox) = Outbox::new(alloc, config) else {
+            return Err(EndError::NoMemory);
+        };
+        let Ok(intake) = Intake::new(alloc, role.parity()) else {
+            return Err(EndError::NoMemory);
+        };
+        Ok(EndState {
+            outbox,
+            conditions: Conditions::new(alloc),
+            intake,
+            keys,
+            own: String::from_str(alloc, own)?,
+            peer: String::from_str(alloc, peer)?,
+            t00: ready_t00(alloc, own)?,
+            alloc,
+        })
+    }
+
+    /// A Reject T00 that stands ready for where memory is wanting (RFC 0027). No memory.
+    pub fn t00(&self) -> &[u8]
+        ensures { result.now ≡ t00_text self.now.own }
+    {
+        self.t00.as_slice()
+    }
+
+    /// A law of every end: it does nothing.
+    pub fn is_lawful(&self)
+        ensures { IsLawful self.now }
+    {
+        let _own = &self.own;
+    }
+}

@@ -1,0 +1,85 @@
+//! Why an end refuses a call.
+
+ghost use Rattle.std.specs.Prelude.{◌≡◌};
+ghost use Rattle.st_end.specs.Errors as errors;
+ghost use Rattle.st_end.specs.declared.error.EndError.TheVariants.{NoMemory};
+
+use st_sender::OutboxError;
+use std::alloc::{AllocError, AllocFailed};
+use thiserror::Error;
+
+/// Why a call was refused. Nothing has changed then.
+#[derive(Clone, Copy, Debug, PartialEq, Eq, Error)]
+pub enum EndError {
+    /// The stream is not open, or this end has no number left for another.
+    #[error("the stream is not open")]
+    NoStream,
+    /// The connection failed: nothing goes any more.
+    #[error("the connection failed")]
+    ConnectionFailed,
+    /// The stream was closed or aborted, or the peer closed the connection.
+    #[error("the stream was closed")]
+    Closed,
+    /// More bytes of the stream would be kept than are kept unacknowledged, or 2^63 be accepted in all.
+    #[error("too many bytes are not acknowledged")]
+    Full,
+    /// All offers would come to 2^63 or more.
+    #[error("the offers come to too much")]
+    AmountTooLarge,
+    /// Memory that the call asked for was refused.
+    #[error("out of memory")]
+    NoMemory,
+}
+
+impl EndError {
+    /// The number by which the refusal is known: 50 to 54, or 58.
+    pub fn number(&self) -> u8
+        ensures { result ≡ errors.number self.now }
+    {
+        match self {
+            EndError::NoStream => 50,
+            EndError::ConnectionFailed => 58,
+            EndError::Closed => 51,
+            EndError::Full => 52,
+            EndError::AmountTooLarge => 53,
+            EndError::NoMemory => 54,
+        }
+    }
+
+    /// The number that the refusal wraps: none does.
+    pub fn inner(&self) -> Option<u64>
+        ensures { result ≡ errors.inner self.now }
+    {
+        None
+    }
+}
+
+impl From<OutboxError> for EndError {
+    ghost from_gives = { λ fault e. e ≡ errors.wrapped fault };
+
+    fn from(fault: OutboxError) -> EndError {
+        match fault {
+            OutboxError::NoStream => EndError::NoStream,
+            OutboxError::Closed => EndError::Closed,
+            OutboxError::Full => EndError::Full,
+            OutboxError::AmountTooLarge => EndError::AmountTooLarge,
+            OutboxError::NoMemory => EndError::NoMemory,
+        }
+    }
+}
+
+impl From<AllocError> for EndError {
+    ghost from_gives = { λ _ e. e ≡ NoMemory };
+
+    fn from(_error: AllocError) -> EndError {
+        EndError::NoMemory
+    }
+}
+
+impl<T: Drop> From<AllocFailed<T>> for EndError {
+    ghost from_gives = { λ _ e. e ≡ NoMemory };
+
+    fn from(_error: AllocFailed<T>) -> EndError {
+        EndError::NoMemory
+    }
+}

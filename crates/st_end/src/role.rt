@@ -1,0 +1,25 @@
+//! The two sides of a connection.
+
+ghost use Rattle.std.specs.Prelude.{◌≡◌};
+ghost use Rattle.st_end.specs.State.{parity};
+
+/// Which side of a connection an end is (RFC 0029, section 4.1): a client opens streams of odd numbers, a server of even ones.
+#[derive(Clone, Copy, Debug, PartialEq, Eq)]
+pub enum Role {
+    /// It opens streams 1, 3, .. 63.
+    Client,
+    /// It opens streams 2, 4, .. 64.
+    Server,
+}
+
+impl Role {
+    /// Of its own stream numbers: 1 where they are odd.
+    pub(crate) fn parity(self) -> u8
+        ensures { result ≡ parity self }
+    {
+        match self {
+            Role::Client => 1,
+            Role::Server => 0,
+        }
+    }
+}

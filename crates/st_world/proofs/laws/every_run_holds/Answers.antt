@@ -1,0 +1,16 @@
+-- Each part by its pass.
+use Rattle.st_world.proofs.laws.every_run_holds.Goals as goal
+use Rattle.st_world.proofs.EveryRun.{reads_prefix, ends_whole, stays_read, credits_add_up, hops_balanced, links_agree}
+
+pub returns-clause-holds : goal.returns-clause-holds
+returns-clause-holds c =
+    λ c events w run. record {
+      reads = reads_prefix c events w run;
+      ends = ends_whole c events w run;
+      credits = credits_add_up c events w run;
+      hops = hops_balanced c events w run;
+      links = links_agree c events w run;
+    }
+
+pub returns-clause-stays : goal.returns-clause-stays
+returns-clause-stays c = stays_read

@@ -1,0 +1,9 @@
+pub mod Sides
+pub mod Ledgers
+pub mod State
+pub mod Events
+pub mod Ends
+pub mod Hops
+pub mod Steps
+pub mod Runs
+pub mod Holds
