@@ -1,0 +1,4 @@
+pub mod Errors
+pub mod Desk
+pub mod Answers
+pub mod Links

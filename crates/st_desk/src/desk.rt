@@ -1,0 +1,237 @@
+//! What lies under a hop's lock.
+
+ghost use Rattle.std.specs.Prelude.{◌≡◌, ◌≢◌, ℕ, ◌+◌, ◌<◌, [], List, true, length, map, nat_lt, sum, vec_len, OnOk, OnErr, IfOk, IfErr, IsErrOf, IsOkUnless, MatchBool};
+ghost use Rattle.std.specs.List.{sum_by};
+ghost use Rattle.st_ilp.specs.Reading.{is_fulfill_text};
+ghost use Rattle.st_hop.specs.Tickets.{IsAmong};
+ghost use Rattle.st_hop.specs.Arriving.{arrived};
+ghost use Rattle.st_hop.specs.Refusals.{t00_text};
+ghost use Rattle.st_hop.specs.Settling.{settled, claim_of, due_of, is_booked};
+ghost use Rattle.st_hop.specs.Seen.{verdict_seen, outcome_seen, IsReady, GoesAcross};
+ghost use Rattle.st_hop.specs.declared.error.HopError.TheVariants as refusals;
+ghost use Rattle.st_desk.specs.Desk.{IsNew, Desk, Held, claims_in, dues_in};
+ghost use Rattle.st_desk.specs.declared.error.DeskError.TheVariants.{NoShareLeft, Stranger, MissingShare, NoMemory};
+
+use crate::error::DeskError;
+use st_hop::{HopError, HopState, Outcome, Ticket, Verdict};
+use st_ilp::Moment;
+use std::alloc::Allocator;
+use std::marker::Model;
+use std::sync::ledger::{Blank, Book, Ledger, Share};
+
+/// How many shares of a desk can be out.
+pub const SHARES: u64 = 63;
+
+/// A hop beside two ledgers: `C` of all accounts' claims, and `D` of all accounts' dues.
+#[derive(Drop)]
+pub struct HopDesk<C: Ledger, D: Ledger, A: Allocator + Copy> {
+    hop: HopState<A>,
+    claims: Book<C>,
+    dues: Book<D>,
+    // What was never given out, with what came back.
+    spare_claims: Share<C>,
+    spare_dues: Share<D>,
+    // How many shares are out: at most 63.
+    out: u64,
+    alloc: A,
+}
+
+impl<C: Ledger, D: Ledger, A: Allocator + Copy> Model for HopDesk<C, D, A> {
+    ghost use Rattle.std.specs.Prelude.{◌≡◌, ◌+◌, ◌<◌, sum};
+    ghost use Rattle.st_desk.specs.Desk.{Desk};
+
+    ghost Value = { Desk };
+
+    ghost view = { λ d. record { hop = d.hop; out = d.out; kept_claims = d.spare_claims.amount; kept_dues = d.spare_dues.amount } };
+
+    ghost invariant = { λ d. (d.claims.total ≡ sum d.hop.claims) × (d.dues.total ≡ sum d.hop.dues) × (d.spare_claims.parts + d.out ≡ 64) × (d.spare_dues.parts + d.out ≡ 64) × (d.out < 64) × (C.parts ≡ 64) × (D.parts ≡ 64) };
+}
+
+/// What one thread booked: its share of all claims, and its share of all dues.
+#[derive(Drop)]
+pub struct AccountShares<C: Ledger, D: Ledger> {
+    claims: Share<C>,
+    dues: Share<D>,
+}
+
+impl<C: Ledger, D: Ledger> Model for AccountShares<C, D> {
+    ghost use Rattle.std.specs.Prelude.{◌≡◌};
+    ghost use Rattle.st_desk.specs.Desk.{Held};
+
+    ghost Value = { Held };
+
+    ghost view = { λ s. record { claims = s.claims.amount; dues = s.dues.amount } };
+
+    ghost invariant = { λ s. (s.claims.parts ≡ 1) × (s.dues.parts ≡ 1) };
+}
+
+/// What is owed at a hop, over all its accounts.
+#[derive(Clone, Copy, Debug, PartialEq, Eq)]
+pub struct Owed {
+    /// What the accounts owe the hop.
+    pub claims: u64,
+    /// What the hop owes the accounts.
+    pub dues: u64,
+}
+
+impl<C: Ledger, D: Ledger, A: Allocator + Copy> HopDesk<C, D, A> {
+    /// A desk over a hop where nothing is owed and nothing is open, with the two blanks of 64 parts for which `C` and
+    /// `D` were picked. It takes no memory.
+    pub fn new(alloc: A, hop: HopState<A>, claims: Blank, dues: Blank) -> HopDesk<C, D, A>
+        requires fresh { IsNew hop }
+        requires claims { (claims.name ≡ C.name) × (claims.parts ≡ C.parts) × (claims.parts ≡ 64) }
+        requires dues { (dues.name ≡ D.name) × (dues.parts ≡ D.parts) × (dues.parts ≡ 64) }
+        ensures { result ≡ record { hop = hop; out = 0; kept_claims = 0; kept_dues = 0 } }
+    {
+        let (claims, spare_claims) = claims.open::<C>();
+        let (dues, spare_dues) = dues.open::<D>();
+        HopDesk {
+            hop,
+            claims,
+            dues,
+            spare_claims,
+            spare_dues,
+            out: 0,
+            alloc,
+        }
+    }
+
+    /// The hop, to be asked for an account's claims, dues and holds.
+    pub fn hop(&self) -> &HopState<A>
+        ensures { result.now ≡ self.now.hop }
+    {
+        &self.hop
+    }
+
+    /// Shares for one thread that settles, with nothing booked. It takes no memory.
+    ///
+    /// Refuses with `NoShareLeft` where 63 are out.
+    pub fn shares(&mut self) -> Result<AccountShares<C, D>, DeskError>
+        ensures given { IfOk result (λ s. (s ≡ record { claims = 0; dues = 0 }) × (self.old.out < 63) × (self.new ≡ record self.old { out = self.old.out + 1 })) }
+        ensures none_left { IfErr result (λ e. (e ≡ NoShareLeft) × (self.old.out ≡ 63) × (self.new ≡ self.old)) }
+    {
+        if self.out >= SHARES {
+            return Err(DeskError::NoShareLeft);
+        }
+        let HopDesk {
+            spare_claims,
+            spare_dues,
+            out,
+            ..
+        } = self;
+        let claims = spare_claims.split_off(1, 0);
+        let dues = spare_dues.split_off(1, 0);
+        *out += 1;
+        Ok(AccountShares { claims, dues })
+    }
+
+    /// Takes the bytes of a Prepare that came from an account, as `HopState::arrive` does. It books nothing.
+    pub fn arrive(
+        &mut self,
+        account: usize,
+        bytes: &[u8],
+        now: Moment,
+    ) -> Result<Verdict<A>, HopError>
+        ensures arrived { IfOk result (λ v. arrived self.old.hop account bytes.now now ≡ (verdict_seen v, self.new.hop)) }
+        ensures ready { IfOk result (λ v. IsReady self.new.hop v) }
+        ensures across { IfOk result (λ v. GoesAcross self.old.hop account v) }
+        ensures rest { self.new ≡ record self.old { hop = self.new.hop } }
+        ensures refused { MatchBool (nat_lt account (length self.old.hop.accounts)) (IsOkUnless result refusals.NoMemory) (IsErrOf result refusals.NoAccount) }
+        ensures unchanged { OnErr result (self.new ≡ self.old) }
+    {
+        self.hop.arrive(account, bytes, now)
+    }
+
+    /// Ends a ticket with what came back, as `HopState::settle` does: gives the bytes that answer the Prepare. What is
+    /// booked is added to the shares. It takes no memory.
+    ///
+    /// Refuses with `Stranger` a ticket that is not open here: nothing changes, and the ticket is spent.
+    pub fn settle(
+        &mut self,
+        shares: &mut AccountShares<C, D>,
+        ticket: Ticket,
+        outcome: Outcome<A>,
+        now: Moment,
+    ) -> Result<Vec<u8, A>, DeskError>
+        ensures settled { IfOk result (λ v. IsAmong self.old.hop.tickets ticket × (settled self.old.hop ticket (outcome_seen outcome) now ≡ (v.items, self.new.hop))) }
+        ensures claims { OnOk result (shares.new.claims ≡ shares.old.claims + claim_of ticket (outcome_seen outcome) now) }
+        ensures dues { OnOk result (shares.new.dues ≡ shares.old.dues + due_of ticket (outcome_seen outcome) now) }
+        ensures fulfills { IfOk result (λ v. is_fulfill_text v.items ≡ is_booked ticket (outcome_seen outcome) now) }
+        ensures rest { self.new ≡ record self.old { hop = self.new.hop } }
+        ensures stranger { IfErr result (λ e. (e ≡ Stranger) × (¬ (IsAmong self.old.hop.tickets ticket)) × (self.new ≡ self.old) × (shares.new ≡ shares.old)) }
+    {
+        if !self.hop.is_open(&ticket) {
+            ticket.abandon();
+            return Err(DeskError::Stranger);
+        }
+        let HopDesk {
+            hop,
+            claims,
+            dues,
+            ..
+        } = self;
+        let AccountShares {
+            claims: my_claims,
+            dues: my_dues,
+        } = shares;
+        let claimed = hop.all_claims();
+        let due = hop.all_dues();
+        let answer = hop.settle(ticket, outcome, now);
+        claims.add(my_claims, hop.all_claims() - claimed);
+        dues.add(my_dues, hop.all_dues() - due);
+        Ok(answer)
+    }
+
+    /// Takes all shares back and tells what is owed, which is what was booked with them.
+    ///
+    /// Refuses with `MissingShare` where one that is out is not among them, and gives them back.
+    pub fn gather(
+        &mut self,
+        shares: Vec<AccountShares<C, D>, A>,
+    ) -> Result<Owed, (DeskError, Vec<AccountShares<C, D>, A>)>
+        ensures claims { IfOk result (λ n. (n.claims ≡ sum self.old.hop.claims) × (n.claims ≡ self.old.kept_claims + sum_by claims_in shares.items)) }
+        ensures dues { IfOk result (λ n. (n.dues ≡ sum self.old.hop.dues) × (n.dues ≡ self.old.kept_dues + sum_by dues_in shares.items)) }
+        ensures all_here { IfOk result (λ n. (vec_len shares ≡ self.old.out) × (self.new ≡ record self.old { out = 0; kept_claims = n.claims; kept_dues = n.dues })) }
+        ensures missing { IfErr result (λ back. (back ≡ (MissingShare, shares)) × (vec_len shares ≢ self.old.out) × (self.new ≡ self.old)) }
+    {
+        if shares.len() as u64 != self.out {
+            return Err((DeskError::MissingShare, shares));
+        }
+        let HopDesk {
+            hop,
+            claims,
+            dues,
+            spare_claims,
+            spare_dues,
+            out,
+            ..
+        } = self;
+        for share in shares {
+            let AccountShares { claims, dues } = share;
+            spare_claims.merge(claims);
+            spare_dues.merge(dues);
+        }
+        claims.audit(spare_claims);
+        dues.audit(spare_dues);
+        *out = 0;
+        Ok(Owed {
+            claims: hop.all_claims(),
+            dues: hop.all_dues(),
+        })
+    }
+
+    /// A Reject T00 that stands ready for where memory is refused (RFC 0027). It takes no memory.
+    pub fn t00(&self) -> &[u8]
+        ensures { result.now ≡ t00_text self.now.hop.own }
+    {
+        self.hop.t00()
+    }
+
+    /// A copy of `t00`. Refuses with `NoMemory` where there was none for it.
+    pub(crate) fn copy_of_t00(&self) -> Result<Vec<u8, A>, DeskError>
+        ensures copied { IfOk result (λ v. v.items ≡ t00_text self.now.hop.own) }
+        ensures only_memory { IsOkUnless result NoMemory }
+    {
+        Ok(Vec::from_slice(self.alloc, self.t00())?)
+    }
+}
