@@ -1,0 +1,53 @@
+-- Calls counted one after the other, and turns taken from one number by two.
+use Rattle.std.proofs.Common.{◌≡◌, ℕ, ◌+◌, ◌-◌, arith, refl, ap, ◌∙◌, Option, Some, None}
+use Rattle.st_oer.specs.Tallies.{TakesTurns}
+use Rattle.st_oer.specs.declared.tally.Tally.{Tally}
+use Rattle.st_file.specs.Sinks.{calls_after}
+use Rattle.st_file.specs.Spending.{Spends, TakesAsks}
+
+pub calls_sum : (m n : ℕ) (a : Option ℕ) → calls_after m (calls_after n a) ≡ calls_after (n + m) a
+calls_sum m n None = refl
+calls_sum m n (Some k) = ap (λ x. Some x) (omega arith)
+
+pub calls_none : (a : Option ℕ) → a ≡ calls_after 0 a
+calls_none None = refl
+calls_none (Some k) = ap (λ x. Some x) (omega arith)
+
+pub asks_none : (a : Option ℕ) (n : ℕ) → TakesAsks a a n n
+asks_none a n = record {
+  fewer = omega arith;
+  calls = calls_none a ∙ ap (λ x. calls_after x a) (omega arith);
+}
+
+pub asks_one : (a b c : Option ℕ) (before now after : ℕ) → TakesAsks a b before now → c ≡ calls_after 1 b → now ≡ after + 1 → TakesAsks a c before after
+asks_one a b c before now after t h e = record {
+  fewer = omega (arith, t.fewer, e);
+  calls = h ∙ ap (λ x. calls_after 1 x) t.calls ∙ calls_sum 1 (before - now) a ∙ ap (λ x. calls_after x a) (omega (arith, t.fewer, e));
+}
+
+pub spends_none : (t : Tally) (a : Option ℕ) (n : ℕ) → Spends t t a a n n
+spends_none t a n = record {
+  device = 0;
+  asked = 0;
+  sum = omega arith;
+  device_calls = omega arith;
+  asked_calls = calls_none a;
+}
+
+pub spends_turns : (t u v : Tally) (a b : Option ℕ) (before now after : ℕ) → Spends t u a b before now → TakesTurns u v now after → Spends t v a b before after
+spends_turns t u v a b before now after s x = record {
+  device = s.device + (now - after);
+  asked = s.asked;
+  sum = omega (arith, s.sum, x.fewer);
+  device_calls = omega (arith, s.device_calls, x.calls);
+  asked_calls = s.asked_calls;
+}
+
+pub spends_asks : (t u : Tally) (a b c : Option ℕ) (before now after : ℕ) → Spends t u a b before now → TakesAsks b c now after → Spends t u a c before after
+spends_asks t u a b c before now after s x = record {
+  device = s.device;
+  asked = s.asked + (now - after);
+  sum = omega (arith, s.sum, x.fewer);
+  device_calls = s.device_calls;
+  asked_calls = x.calls ∙ ap (λ y. calls_after (now - after) y) s.asked_calls ∙ calls_sum (now - after) s.asked a;
+}

@@ -1,0 +1,4 @@
+pub mod Asks
+pub mod Items
+pub mod Sending
+pub mod Storing

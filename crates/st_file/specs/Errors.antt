@@ -1,0 +1,42 @@
+-- The numbers by which programs print refusals, and what a refusal tells.
+use Rattle.std.specs.Prelude.{ℕ, min, Option, Some, Result, Ok, Err, ⊤}
+use Rattle.st_oer.specs.Faults.{count_after, last_count}
+use Rattle.st_file.specs.declared.error.FileError.{FileError}
+use Rattle.st_file.specs.declared.error.FileError.TheVariants.{ReadFault, WriteFault, Aborted, Turns, NoMemory}
+
+-- each refusal has its own number
+abbrev pub number : FileError → ℕ
+number (ReadFault bytes) = 90
+number (WriteFault bytes) = 91
+number (Aborted code bytes) = 92
+number (Turns bytes) = 93
+number (NoMemory bytes) = 94
+
+-- the first number that a refusal carries
+abbrev pub inner : FileError → Option ℕ
+inner (ReadFault bytes) = Some bytes
+inner (WriteFault bytes) = Some bytes
+inner (Aborted code bytes) = Some code
+inner (Turns bytes) = Some bytes
+inner (NoMemory bytes) = Some bytes
+
+-- a number of bytes as it is told: at the greatest number of 64 bits it stays
+abbrev pub counted : ℕ → ℕ
+counted n = min n last_count
+
+-- a device's count of errors after a call: one more where a fault of it is told, and there alone
+abbrev pub faults_told : {T : Type 0} → Result T FileError → ℕ → ℕ
+faults_told (Ok x) count = count
+faults_told (Err (ReadFault bytes)) count = count_after 1 count
+faults_told (Err (WriteFault bytes)) count = count_after 1 count
+faults_told (Err (Aborted code bytes)) count = count
+faults_told (Err (Turns bytes)) count = count
+faults_told (Err (NoMemory bytes)) count = count
+
+-- the turns were used up
+abbrev pub IsTurns : FileError → Type 0
+IsTurns (ReadFault bytes) = ⊥
+IsTurns (WriteFault bytes) = ⊥
+IsTurns (Aborted code bytes) = ⊥
+IsTurns (Turns bytes) = ⊤
+IsTurns (NoMemory bytes) = ⊥

@@ -1,0 +1,120 @@
+//! From a reader to a sink.
+
+ghost use Rattle.std.specs.Prelude.{◌≡◌, ◌<◌, OnOk, IfOk, IfErr, IsOk};
+ghost use Rattle.st_file.specs.Errors.{IsTurns, faults_told};
+ghost use Rattle.st_file.specs.Sends.{ExplainsSend, PutsEnd, PutsPiece, ReadsPiece, SentAll};
+ghost use Rattle.st_file.specs.Spending.{SpendsTurns, TakesAsks};
+ghost use Rattle.st_oer.specs.Tallies.{TakesTurns, device_of, tally_of};
+
+use crate::error::FileError;
+use crate::sink::Sink;
+use st_oer::{Counting, ReadTurn, read_turn};
+use std::alloc::Allocator;
+use std::io::Read;
+
+/// The most bytes that are read and put at a time: those of the longest chunk that a ring takes.
+pub const PIECE: usize = 4_096;
+
+/// The next piece of a reader, empty at its end alone. Its memory is taken first, so that for want of it no byte is lost.
+fn read_piece<R: Read, A: Allocator + Copy>(
+    alloc: A,
+    reader: &mut Counting<R>,
+    sent: u64,
+    turns: &mut u64,
+) -> Result<Vec<u8, A>, FileError>
+    ensures read { ReadsPiece sent (R.remaining (device_of reader.old)) (R.remaining (device_of reader.new)) result }
+    ensures faults { (tally_of reader.new).faults ≡ faults_told result (tally_of reader.old).faults }
+    ensures turns { TakesTurns (tally_of reader.old) (tally_of reader.new) turns.old turns.new }
+    ensures fewer { IsOk result → turns.new < turns.old }
+    ensures out_of_turns { IfErr result (λ e. IsTurns e → turns.new ≡ 0) }
+{
+    let Ok(mut piece) = vec![in alloc; 0u8; PIECE] else {
+        return Err(FileError::NoMemory(sent));
+    };
+    while *turns > 0 {
+        *turns -= 1;
+        match read_turn(reader, &mut piece) {
+            ReadTurn::Bytes(n) => {
+                piece.truncate(n);
+                return Ok(piece);
+            }
+            ReadTurn::End => {
+                piece.clear();
+                return Ok(piece);
+            }
+            ReadTurn::Again => {}
+            ReadTurn::Fault => return Err(FileError::ReadFault(sent)),
+        }
+    }
+    Err(FileError::Turns(sent))
+}
+
+/// Puts a piece into a sink, again where it is refused. It answers how many bytes are sent by then.
+fn put_piece<K: Sink<Vec<u8, A>>, A: Allocator + Copy>(
+    sink: &mut K,
+    piece: Vec<u8, A>,
+    sent: u64,
+    turns: &mut u64,
+) -> Result<u64, FileError>
+    ensures put { PutsPiece sent (K.taken sink.old) (K.taken sink.new) piece.items result }
+    ensures turns { TakesAsks (K.taken sink.old).calls (K.taken sink.new).calls turns.old turns.new }
+    ensures out_of_turns { IfErr result (λ e. IsTurns e → turns.new ≡ 0) }
+{
+    let by_then = sent.saturating_add(piece.len() as u64);
+    let mut chunk = piece;
+    while *turns > 0 {
+        *turns -= 1;
+        match sink.put(chunk) {
+            Ok(()) => return Ok(by_then),
+            Err(back) => chunk = back,
+        }
+    }
+    Err(FileError::Turns(sent))
+}
+
+/// Puts the end into a sink, again where it is refused.
+fn put_end<K: Sink<Vec<u8, A>>, A: Allocator + Copy>(
+    sink: &mut K,
+    sent: u64,
+    turns: &mut u64,
+) -> Result<(), FileError>
+    ensures put { PutsEnd sent (K.taken sink.old) (K.taken sink.new) result }
+    ensures turns { TakesAsks (K.taken sink.old).calls (K.taken sink.new).calls turns.old turns.new }
+    ensures out_of_turns { IfErr result (λ e. IsTurns e → turns.new ≡ 0) }
+{
+    while *turns > 0 {
+        *turns -= 1;
+        if sink.end() {
+            return Ok(());
+        }
+    }
+    Err(FileError::Turns(sent))
+}
+
+/// Sends a reader's bytes to a sink, in pieces of at most `PIECE` bytes, and at the reader's end the end. It answers how
+/// many bytes the sink took. Each call of the reader or the sink takes one of `turns`.
+///
+/// Where a read fails or there is no memory, the sink took each byte that was read. Where the turns are used up, the last
+/// piece that was read may be lost: the refusal tells the bytes that the sink took.
+pub fn send_all<R: Read, K: Sink<Vec<u8, A>>, A: Allocator + Copy>(
+    alloc: A,
+    reader: &mut Counting<R>,
+    sink: &mut K,
+    turns: u64,
+) -> Result<u64, FileError>
+    ensures all { IfOk result (SentAll (record { before = R.remaining (device_of reader.old); after = R.remaining (device_of reader.new); old = K.taken sink.old; new = K.taken sink.new })) }
+    ensures why { IfErr result (ExplainsSend (record { before = R.remaining (device_of reader.old); after = R.remaining (device_of reader.new); old = K.taken sink.old; new = K.taken sink.new })) }
+    ensures faults { (tally_of reader.new).faults ≡ faults_told result (tally_of reader.old).faults }
+    ensures turns { SpendsTurns result (tally_of reader.old) (tally_of reader.new) (K.taken sink.old).calls (K.taken sink.new).calls turns }
+{
+    let mut left = turns;
+    let mut sent = 0;
+    loop {
+        let piece = read_piece(alloc, reader, sent, &mut left)?;
+        if piece.is_empty() {
+            put_end(sink, sent, &mut left)?;
+            return Ok(sent);
+        }
+        sent = put_piece(sink, piece, sent, &mut left)?;
+    }
+}
