@@ -1,32 +1,61 @@
--- What a frame that goes leaves.
-use Rattle.std.proofs.Common.{◌≡◌, ◌≢◌, ℕ, zero, suc, ◌+◌, ◌<◌, ◌≤◌, Bool, true, false, cond, List, [], ◌∷◌, ◌++◌, length, set, refl, sym, ap, subst, ◌∙◌, arith, Option, None, Some, ◌⊎◌, inl, inr, Result, Ok, Err, OnOk}
+-- What a load that goes leaves.
+use Rattle.std.proofs.Common.{◌≡◌, ◌≢◌, ℕ, zero, suc, ◌+◌, ◌-◌, ◌*◌, ◌<◌, ◌≤◌, Bool, true, false, cond, List, [], ◌∷◌, ◌++◌, length, map, set, refl, sym, ap, subst, ◌∙◌, arith, Option, None, Some, ◌⊎◌, inl, inr}
 use Rattle.std.specs.Prelude.{is_some, IsSome}
 use Rattle.std.specs.List.{list_any, AllByRecursion}
 use Rattle.std.specs.FinMap as fmap
 use Rattle.std.proofs.lemmas.Bool.{cases_lt, cases_eq}
 use Rattle.std.proofs.lemmas.Bool.Decides.{nat_tests}
-use Rattle.st_frames.specs.Frames.{Known, StreamClose, StreamData}
+use Rattle.std.proofs.lemmas.List.Sums.{sum_by_push}
+use Rattle.st_oer.specs.Ratios.{Ratio}
 use Rattle.st_tables.specs.Table.{is_between, put_same}
 use Rattle.st_tables.proofs.Tables.{get-put_same}
 use Rattle.st_sender.specs.declared.load.Flown as code
 use Rattle.st_sender.specs.declared.load.Flown.TheVariants as held
+use Rattle.st_sender.specs.declared.load.Payment.{Payment}
 use Rattle.st_tables.specs.Slots.{Slots, slot, with_slot}
-use Rattle.st_sender.specs.Sending.{Outgoing, Load, Data, Whole, Flown, Flight, Sending}
-use Rattle.st_sender.specs.Flights.{carries, flown}
-use Rattle.st_frames.specs.Told.{money_in}
-use Rattle.st_sender.specs.Due.{IsDue}
-use Rattle.st_sender.specs.Loads.{Fits, Sends, load_with, with_flight}
-use Rattle.st_sender.specs.Plain.{IsFilled, IsPlainIdle}
+use Rattle.st_sender.specs.Sending.{Outgoing, Data, Flown, Flight}
+use Rattle.st_sender.specs.Flights.{carries, flown, part_of}
 use Rattle.st_sender.specs.Lanes.{Lane, due_in, out_of, outs, changed_to, claimed_by, flying_by, flying_in, AreBooked}
-use Rattle.st_sender.specs.Allowed.{Bounds, bounds, lane_ends, IsNext, IsNone, AreItsBytes, IsTakeable, booked}
-use Rattle.st_sender.specs.Shown.{shown, known, flight_with}
+use Rattle.st_sender.specs.Landing.{AreTied}
+use Rattle.st_sender.specs.Paying.{paid_to, amount_to, payable, payable_at, IsPayment, AreDue, Pays, AreFunded, fulfilled_of, fulfilled_in, offered_in, flown_money, open_money, allowed_money, flown_least}
+use Rattle.st_sender.specs.Refusals.{offered_of}
+use Rattle.st_sender.specs.Allowed.{Bounds, IsPlan, IsUnit, AreItsBytes, IsTakeable, booked}
+use Rattle.st_sender.specs.Shown.{shown, kept, framed, known, shown_payment, flight_with}
 use Rattle.st_tables.proofs.SlotLemmas.{slot_here, slot_apart, slot_within}
 use Rattle.st_sender.proofs.Seen.{map_set, changed_length, out_slot}
-use Rattle.st_sender.proofs.Idle.{no_data, over_limit, idle, data_due, data_fits, data_filled, close_due, close_fits, none_least}
+use Rattle.st_sender.proofs.Money.{kept_any, part_with, total_more, paid_more}
+use Rattle.st_sender.proofs.Rates.{allowed_due}
 
-pub takeable : (lanes : Slots Lane) (flights : List Flight) (b : Bounds) (f : code.Flown) → IsNext lanes flights b f → IsTakeable lanes f
-takeable lanes flights b (held.Data k o n) r = (r.lane, r.is_open, r.ready.some, r.ready.fits, r.ready.due)
-takeable lanes flights b (held.Close k code) r = tt
+pub takeable : (lanes : Slots Lane) (flights : List Flight) (r : Ratio) (limit : ℕ) (b : Bounds) (f : Option code.Flown) (ms : List Payment) → IsPlan lanes flights r limit b f ms → IsTakeable lanes f
+takeable lanes flights r limit b (Some (held.Data k o n)) ms p = (p.1.lane, p.1.is_open, p.1.ready.some, p.1.ready.fits, p.1.ready.due)
+takeable lanes flights r limit b (Some (held.Close k code)) ms p = tt
+takeable lanes flights r limit b None ms p = tt
+
+-- the money of a plan
+pays_due : (lanes : Slots Lane) (flights : List Flight) (r : Ratio) (limit room count : ℕ) (ms : List Payment) → Pays lanes r flights limit room count ms → AreDue lanes r flights limit ms
+pays_due lanes flights r limit room count ms p = record { each = p.each; own = p.own; within = p.within }
+
+own_unit : (k : ℕ) (p : Payment) (n : ℕ) → p.amount ≤ n → p.stream ≡ k → amount_to k p ≤ n
+own_unit k p n h e = grind (arith, nat_tests)
+
+other_unit : (k : ℕ) (p : Payment) (n : ℕ) → p.stream ≢ k → amount_to k p ≤ n
+other_unit k p n e = grind (arith, nat_tests)
+
+unit_due : (lanes : Slots Lane) (flights : List Flight) (r : Ratio) (limit : ℕ) (b : Bounds) (p : Payment) → IsUnit lanes flights r limit b p → AreDue lanes r flights limit (p ∷ [])
+unit_due lanes flights r limit b p u = record {
+  each = (record { some = omega (arith, u.one); due = omega (arith, u.one, u.due) }, tt);
+  own = λ k. elim (cases_eq p.stream k) [
+    | inl same ↦ (let here : payable_at lanes r flights p.stream ≡ payable_at lanes r flights k = ap (payable_at lanes r flights) same in omega (arith, paid_more k p [], own_unit k p (payable_at lanes r flights k) (omega (arith, here, u.one, u.due)) same))
+    | inr other ↦ omega (arith, paid_more k p [], other_unit k p (payable_at lanes r flights k) other)
+  ];
+  within = omega (arith, total_more p [], u.one, u.within);
+}
+
+pub plan_due : (lanes : Slots Lane) (flights : List Flight) (r : Ratio) (limit : ℕ) (b : Bounds) (f : Option code.Flown) (ms : List Payment) → IsPlan lanes flights r limit b f ms → AreDue lanes r flights limit ms
+plan_due lanes flights r limit b (Some f) ms p = pays_due lanes flights r limit _ 65 ms p.0
+plan_due lanes flights r limit b None [] p = absurd p
+plan_due lanes flights r limit b None (m ∷ ms) (inl p) = pays_due lanes flights r limit _ 65 (m ∷ ms) p.0
+plan_due lanes flights r limit b None (m ∷ ms) (inr p) = subst (λ (xs : List Payment). AreDue lanes r flights limit (m ∷ xs)) (sym p.2) (unit_due lanes flights r limit b m p.3)
 
 -- one flight more
 abbrev pub or_else : Option ℕ → Option ℕ → Option ℕ
@@ -80,21 +109,29 @@ data_booked lanes flights k o c n l h open_here due j q = elim (cases_eq k j) [
       ∙ sym (ap (λ t. or_else (flying_by j flights q) (cond t (Some n) None)) (carried_other k j o q c d) ∙ or_none (flying_by j flights q))
 ]
 
-pushed_frames : (j : ℕ) (flights : List Flight) (n : ℕ) (fs : List Flown) (q : ℕ)
-    → flying_by j (flights ++ record { sequence = n; amount = 0; frames = fs } ∷ []) q ≡ or_else (flying_by j flights q) (cond (list_any (carries j q) fs) (Some n) None)
-pushed_frames j flights n fs q = flying_push j flights (record { sequence = n; amount = 0; frames = fs }) q
+-- payments carry no byte
+pub carried_kept : (j q : ℕ) (f : Option code.Flown) (ms : List Payment) → list_any (carries j q) (kept f ++ map shown_payment ms) ≡ list_any (carries j q) (kept f)
+carried_kept j q f ms = kept_any (carries j q) (λ p. refl) (kept f) ms
 
-pub booked_next : (lanes : Slots Lane) (flights : List Flight) (b : Bounds) (f : code.Flown) (n : ℕ) → IsNext lanes flights b f → AreBooked lanes flights
-    → AreBooked (booked lanes n f) (flights ++ record { sequence = n; amount = 0; frames = shown f ∷ [] } ∷ [])
-booked_next lanes flights b (held.Data k o c) n r h = λ j q.
-    ap (λ y. flying_in (slot (changed_to lanes k (claimed_by n o c) y) j) q) r.is_open ∙ data_booked lanes flights k o c n r.lane h r.is_open r.ready.due j q
-    ∙ sym (pushed_frames j flights n (Data k o c ∷ []) q)
-booked_next lanes flights b (held.Close k code) n r h = λ j q.
-    h j q ∙ sym (pushed_frames j flights n (Whole (StreamClose k code []) ∷ []) q ∙ or_none (flying_by j flights q))
+pushed_frames : (j : ℕ) (flights : List Flight) (n amount : ℕ) (f : Option code.Flown) (ms : List Payment) (q : ℕ)
+    → flying_by j (flights ++ flight_with n amount f ms ∷ []) q ≡ or_else (flying_by j flights q) (cond (list_any (carries j q) (kept f)) (Some n) None)
+pushed_frames j flights n amount f ms q =
+    flying_push j flights (flight_with n amount f ms) q ∙ ap (λ t. or_else (flying_by j flights q) (cond t (Some n) None)) (carried_kept j q f ms)
 
-pub booked_length : (lanes : Slots Lane) (f : code.Flown) (n : ℕ) → length (booked lanes n f) ≡ length lanes
-booked_length lanes (held.Data k o c) n = changed_length lanes k (claimed_by n o c) (slot lanes k)
-booked_length lanes (held.Close k code) n = refl
+booked_next : (lanes : Slots Lane) (flights : List Flight) (r : Ratio) (limit : ℕ) (b : Bounds) (f : Option code.Flown) (ms : List Payment) (n amount : ℕ) → IsPlan lanes flights r limit b f ms → AreBooked lanes flights
+    → AreBooked (booked lanes n f) (flights ++ flight_with n amount f ms ∷ [])
+booked_next lanes flights r limit b (Some (held.Data k o c)) ms n amount p h = λ j q.
+    ap (λ y. flying_in (slot (changed_to lanes k (claimed_by n o c) y) j) q) p.1.is_open ∙ data_booked lanes flights k o c n p.1.lane h p.1.is_open p.1.ready.due j q
+    ∙ sym (pushed_frames j flights n amount (Some (held.Data k o c)) ms q)
+booked_next lanes flights r limit b (Some (held.Close k code)) ms n amount p h = λ j q.
+    h j q ∙ sym (pushed_frames j flights n amount (Some (held.Close k code)) ms q ∙ or_none (flying_by j flights q))
+booked_next lanes flights r limit b None ms n amount p h = λ j q.
+    h j q ∙ sym (pushed_frames j flights n amount None ms q ∙ or_none (flying_by j flights q))
+
+pub booked_length : (lanes : Slots Lane) (f : Option code.Flown) (n : ℕ) → length (booked lanes n f) ≡ length lanes
+booked_length lanes (Some (held.Data k o c)) n = changed_length lanes k (claimed_by n o c) (slot lanes k)
+booked_length lanes (Some (held.Close k code)) n = refl
+booked_length lanes None n = refl
 
 pub set_same : {X : Type 0} (xs : Slots X) (k : ℕ) (x : X) → slot xs k ≡ Some x → set xs k (Some x) ≡ xs
 set_same [] k x e = refl
@@ -105,80 +142,42 @@ outs_same : (lanes : Slots Lane) (k o c n : ℕ) (y : Option Lane) → slot lane
 outs_same lanes k o c n None e = refl
 outs_same lanes k o c n (Some l) e = map_set out_of lanes k (Some (claimed_by n o c l)) ∙ set_same (outs lanes) k l.out (out_slot lanes k ∙ ap out_of e)
 
-pub outs_booked : (lanes : Slots Lane) (f : code.Flown) (n : ℕ) → outs (booked lanes n f) ≡ outs lanes
-outs_booked lanes (held.Data k o c) n = outs_same lanes k o c n (slot lanes k) refl
-outs_booked lanes (held.Close k code) n = refl
+pub outs_booked : (lanes : Slots Lane) (f : Option code.Flown) (n : ℕ) → outs (booked lanes n f) ≡ outs lanes
+outs_booked lanes (Some (held.Data k o c)) n = outs_same lanes k o c n (slot lanes k) refl
+outs_booked lanes (Some (held.Close k code)) n = refl
+outs_booked lanes None n = refl
+
+-- a stream's money does not change where what the model sees does not
+pub like_at : (lanes news : Slots Lane) → outs news ≡ outs lanes → (k : ℕ) → out_of (slot news k) ≡ out_of (slot lanes k)
+like_at lanes news e k = sym (out_slot news k) ∙ ap (λ xs. slot xs k) e ∙ out_slot lanes k
+
+-- what is due is in no flight
+due_left : (a : Option ℕ) (n offered fulfilled flown : ℕ) → n ≤ cond (is_some a) 0 (offered - fulfilled - flown) → fulfilled + flown ≤ offered → fulfilled + (flown + n) ≤ offered
+due_left None n offered fulfilled flown h g = omega arith
+due_left (Some x) n offered fulfilled flown h g = omega arith
+
+payable_left : (r : Ratio) (flights : List Flight) (k : ℕ) (o : Option Lane) (n : ℕ) → n ≤ payable r flights k o → fulfilled_in o + flown_money k flights ≤ offered_in o → fulfilled_in o + (flown_money k flights + n) ≤ offered_in o
+payable_left r flights k None n h g = omega arith
+payable_left r flights k (Some l) n h g = due_left l.out.abort n l.out.offered l.out.fulfilled (flown_money k flights) (allowed_due r l.out.told_money (flown_least r k flights) (open_money flights k l.out) n h) g
+
+funded_next : (lanes : Slots Lane) (flights : List Flight) (r : Ratio) (limit : ℕ) (f : Option code.Flown) (ms : List Payment) (n amount : ℕ) → AreDue lanes r flights limit ms → AreFunded lanes flights
+    → AreFunded (booked lanes n f) (flights ++ flight_with n amount f ms ∷ [])
+funded_next lanes flights r limit f ms n amount d h k =
+    let more = sum_by_push (part_of k) flights (flight_with n amount f ms) in
+    let part = part_with k f ms in
+    let like = like_at lanes (booked lanes n f) (outs_booked lanes f n) k in
+    let left = payable_left r flights k (slot lanes k) (paid_to k ms) (d.own k) (h k) in
+    omega (arith, more, part, left, ap fulfilled_of like, ap offered_of like)
+
+pub tied_next : (lanes : Slots Lane) (flights : List Flight) (r : Ratio) (limit : ℕ) (b : Bounds) (f : Option code.Flown) (ms : List Payment) (n amount : ℕ) → IsPlan lanes flights r limit b f ms → AreTied lanes flights
+    → AreTied (booked lanes n f) (flights ++ flight_with n amount f ms ∷ [])
+tied_next lanes flights r limit b f ms n amount p h = record {
+  booked = booked_next lanes flights r limit b f ms n amount p h.booked;
+  funded = funded_next lanes flights r limit f ms n amount (plan_due lanes flights r limit b f ms p) h.funded;
+}
 
 -- what is kept of the frame once it flies
-flown_shown : (lanes : Slots Lane) (f : code.Flown) (xs : List ℕ) (flights : List Flight) (b : Bounds) → IsNext lanes flights b f → AreItsBytes lanes f xs → flown (known xs f) ≡ shown f
-flown_shown lanes (held.Data k o c) xs flights b r bytes = ap (λ n. Data k o n) (bytes r.lane r.is_open).long
-flown_shown lanes (held.Close k code) xs flights b r bytes = refl
-
-pub ok_of : {T E : Type 0} (r : Result T E) (v : T) {P : Type 0} → r ≡ Ok v → OnOk r P → P
-ok_of (Ok x) v e p = p
-ok_of (Err x) v e p = absurd (cc)
-
-module _ (s : Sending) (lanes : Slots Lane) (room : ℕ) (is : s.streams ≡ outs lanes) (len : length lanes ≡ 65) (tied : AreBooked lanes s.flights) where
-  abbrev b : Bounds
-  b = bounds lanes s.flights s.told (s.last + 1) room
-
-  pub none_idle : (limits : List Known) → ((s.told < lane_ends lanes s.flights 0 65) ⊎ IsNone lanes s.flights b) → IsPlainIdle s limits room
-  none_idle limits found = elim (cases_lt s.told (lane_ends lanes s.flights 0 65)) [
-    | inl h ↦ over_limit s lanes room is len tied limits h
-    | inr h ↦ elim found [ inl g ↦ absurd (omega arith) | inr n ↦ idle s lanes room is len tied limits h n ]
-  ]
-
-  one_sends : (limits : List Known) (g : Known) (t : Sending) → IsDue s limits g → Fits s room (load_with s (g ∷ [])) → ((k : ℕ) → money_in k (g ∷ []) ≡ 0) → t ≡ with_flight s (load_with s (g ∷ [])) → Sends s limits room (load_with s (g ∷ [])) t
-  one_sends limits g t due fits none after = record {
-    load = refl;
-    some = λ e. cc;
-    due = (due, tt);
-    apart = (tt, tt);
-    money = λ k x e. omega (arith, none k);
-    fits = fits;
-    after = after;
-  }
-
-  abbrev state : Slots Lane → List Flight → Sending
-  state news fl = record s { streams = outs news; flights = fl; last = s.last + 1 }
-
-  module _ (alive : s.failed ≡ false) (flights : length s.flights < s.config.in_flight) (packets : s.last < s.config.packets) (under : lane_ends lanes s.flights 0 65 ≤ s.told) where
-    base : (f : code.Flown) (xs : List ℕ) → IsNext lanes s.flights b f → AreItsBytes lanes f xs → (limits : List Known) (t : Sending) → t ≡ with_flight s (load_with s (known xs f ∷ []))
-        → Sends s limits room (load_with s (known xs f ∷ [])) t × IsFilled s room (known xs f)
-    base (held.Data k o c) xs r bytes limits t after =
-        let here = bytes r.lane r.is_open in (
-          one_sends limits (StreamData k o xs) t (data_due s lanes room is len tied k o c r xs here) (data_fits s lanes room is len tied alive flights packets under k o c r xs here.long) (λ m. refl) after,
-          data_filled s lanes room is len tied under k o c r xs here.long,
-        )
-    base (held.Close k code) xs r bytes limits t after = (
-      one_sends limits (StreamClose k code []) t (close_due s lanes room is len tied k code r.0, refl) (close_fits s lanes room is len tied alive flights packets under k code r.0) (λ m. refl) after,
-      no_data s lanes room is len tied under r.1,
-    )
-
-    -- the amount of such a load is 0
-    plain_load : (f : code.Flown) (xs : List ℕ) → IsNext lanes s.flights b f → ◌≡◌ {A = Load} (load_with s (known xs f ∷ [])) (record { sequence = s.last + 1; amount = 0; least = 0; frames = known xs f ∷ [] })
-    plain_load (held.Data k o c) xs r = ap (λ (n : ℕ). record { sequence = s.last + 1; amount = 0; least = n; frames = StreamData k o xs ∷ [] }) (none_least s)
-    plain_load (held.Close k code) xs r = ap (λ (n : ℕ). record { sequence = s.last + 1; amount = 0; least = n; frames = StreamClose k code [] ∷ [] }) (none_least s)
-
-    pub goes : (f : code.Flown) (xs : List ℕ) → IsNext lanes s.flights b f → AreItsBytes lanes f xs → (fs : List Known) (kept : List Flown) → fs ≡ known xs f ∷ [] → kept ≡ shown f ∷ [] → (news : Slots Lane) → news ≡ booked lanes (s.last + 1) f
-        → (fl : List Flight) → fl ≡ s.flights ++ record { sequence = s.last + 1; amount = 0; frames = kept } ∷ [] → (limits : List Known)
-        → Sends s limits room (record { sequence = s.last + 1; amount = 0; least = 0; frames = fs }) (state news fl) × AllByRecursion (IsFilled s room) fs
-    goes f xs next bytes fs kept e k news n fl l limits =
-        let load = plain_load f xs next in
-        let flying : ◌≡◌ {A = List Flight} fl (s.flights ++ record { sequence = s.last + 1; amount = 0; frames = flown (known xs f) ∷ [] } ∷ []) =
-        l ∙ ap (λ (ks : List Flown). s.flights ++ record { sequence = s.last + 1; amount = 0; frames = ks } ∷ []) (k ∙ ap (λ (x : Flown). x ∷ []) (sym (flown_shown lanes f xs s.flights b next bytes))) in
-        let streams : outs news ≡ s.streams = ap outs n ∙ outs_booked lanes f (s.last + 1) ∙ sym is in
-        let after : ◌≡◌ {A = Sending} (state news fl) (with_flight s (record { sequence = s.last + 1; amount = 0; least = 0; frames = known xs f ∷ [] })) =
-        ap (λ (ys : Slots Outgoing). record s { streams = ys; flights = fl; last = s.last + 1 }) streams ∙ ap (λ (ps : List Flight). record s { flights = ps; last = s.last + 1 }) flying in
-        let whole_load = base f xs next bytes limits (state news fl) (after ∙ ap (λ (p : Load). with_flight s p) (sym load)) in
-        let sent = subst (λ (p : Load). Sends s limits room p (state news fl)) load whole_load.0 in (
-          subst (λ (ks : List Known). Sends s limits room (record { sequence = s.last + 1; amount = 0; least = 0; frames = ks }) (state news fl)) (sym e) sent,
-          subst (λ (ks : List Known). AllByRecursion (IsFilled s room) ks) (sym e) (whole_load.1, tt),
-        )
-
-    pub sends : (f : code.Flown) (xs : List ℕ) → IsNext lanes s.flights b f → AreItsBytes lanes f xs → (news : Slots Lane) → news ≡ booked lanes (s.last + 1) f
-        → (fl : List Flight) → fl ≡ s.flights ++ flight_with (s.last + 1) f ∷ [] → (limits : List Known) → Sends s limits room (record { sequence = s.last + 1; amount = 0; least = 0; frames = known xs f ∷ [] }) (state news fl)
-    sends f xs next bytes news n fl l limits = (goes f xs next bytes (known xs f ∷ []) (shown f ∷ []) refl refl news n fl l limits).0
-
-    pub filled : (f : code.Flown) (xs : List ℕ) → IsNext lanes s.flights b f → AreItsBytes lanes f xs → AllByRecursion (IsFilled s room) (known xs f ∷ [])
-    filled f xs next bytes = (goes f xs next bytes (known xs f ∷ []) (shown f ∷ []) refl refl (booked lanes (s.last + 1) f) refl (s.flights ++ flight_with (s.last + 1) f ∷ []) refl []).1
+pub flown_shown : (lanes : Slots Lane) (f : Option code.Flown) (xs : List ℕ) (flights : List Flight) (r : Ratio) (limit : ℕ) (b : Bounds) (ms : List Payment) → IsPlan lanes flights r limit b f ms → AreItsBytes lanes f xs → map flown (framed xs f) ≡ kept f
+flown_shown lanes (Some (held.Data k o c)) xs flights r limit b ms p bytes = ap (λ n. Data k o n ∷ []) (bytes p.1.lane p.1.is_open).long
+flown_shown lanes (Some (held.Close k code)) xs flights r limit b ms p bytes = refl
+flown_shown lanes None xs flights r limit b ms p bytes = refl

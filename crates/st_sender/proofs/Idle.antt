@@ -1,26 +1,31 @@
 -- The numbers by which a frame may go, and the limits that stand.
 use Rattle.std.proofs.Common.{◌≡◌, ◌≢◌, ℕ, zero, suc, ◌+◌, ◌/◌, ◌<◌, ◌≤◌, Bool, true, false, cond, ◌||◌, List, [], ◌∷◌, length, max, slice_get, refl, sym, ap, subst, ◌∙◌, arith, Option, None, Some, inl, inr, eqb}
 use Rattle.std.specs.Prelude.{is_some, slice_index, IsSome}
-use Rattle.std.specs.List.{list_any}
+use Rattle.std.specs.List.{list_any, sum_by}
 use Rattle.std.specs.FinMap as fmap
 use Rattle.std.proofs.lemmas.Bool.{cases_lt, cases_eq}
 use Rattle.std.proofs.lemmas.Bool.Decides.{nat_tests}
 use Rattle.st_frames.specs.Frames.{Known, ConnectionClose, ConnectionNewAddress, ConnectionMaxData, ConnectionDataBlocked, StreamClose, StreamMoney, StreamMaxMoney, StreamMoneyBlocked, StreamData, StreamMaxData, StreamDataBlocked}
 use Rattle.st_tables.specs.Slots.{Slots, slot}
 use Rattle.st_sender.specs.Sending.{Outgoing, Data, Whole, Flown, Flight, Sending, outgoing_at}
-use Rattle.st_sender.specs.Flights.{any_frame, carries, due_at, sent_end, flying_end, highest_end, all_ends, flying_least}
-use Rattle.st_sender.specs.Due.{IsDueData, IsDueClose}
+use Rattle.st_sender.specs.Flights.{any_frame, carries, due_at, sent_end, flying_end, highest_end, all_ends, flying_least, due_money}
+use Rattle.st_sender.specs.Due.{IsDueData, IsDueMoney, IsDueClose}
 use Rattle.st_sender.specs.Loads.{Fits, MoneyFits, least_of, load_with}
 use Rattle.st_sender.specs.Plain.{IsFilled, IsPlainIdle}
-use Rattle.st_oer.specs.Ratios.{Ratio, exchanged}
+use Rattle.st_oer.specs.Ratios.{Ratio, IsRatio, exchanged}
+use Rattle.st_frames.specs.Told.{money_of, money_in, shares_of}
+use Rattle.std.proofs.lemmas.List.Sums.{sum_by-cons}
+use Rattle.st_sender.specs.Paying.{payable, payable_at, allowed_money}
 use Rattle.st_frames.specs.Written.{packet_length}
 use native.Mathlib.Nat.{zero-mul, zero-div}
 use Rattle.st_sender.specs.Lanes.{Lane, due_in, out_of, outs, flying_by, flying_in, AreBooked}
-use Rattle.st_sender.specs.Allowed.{Bounds, bounds, end_in, end_at, lane_ends, IsAllowed, IsReadyAt, NoneReady, IsFinishedAt, IsNone, AreBytes}
+use Rattle.st_sender.specs.Allowed.{Bounds, bounds, end_in, end_at, lane_ends, IsAllowed, IsReadyAt, NoneReady, IsFinishedAt, NoneUnit, IsRest, AreBytes, least_for}
 use Rattle.st_tables.proofs.SlotLemmas.{slot_within}
 use Rattle.st_sender.proofs.Seen.{out_slot}
 use Rattle.st_sender.proofs.Sums.{sum_over, sum_same, sum_with}
-use Rattle.st_sender.proofs.Lengths.{data_rises, data_packet, close_packet}
+use Rattle.st_sender.proofs.Lengths.{data_rises, data_packet, close_packet, money_packet}
+use Rattle.st_sender.proofs.Money.{own_amount}
+use Rattle.st_sender.proofs.Rates.{fits_allowed, exchanged_rises}
 
 abbrev pub data_alone : ℕ → ℕ → List ℕ → List Known
 data_alone k o xs = StreamData k o xs ∷ []
@@ -59,7 +64,7 @@ none_exchanged r = ap (λ n. n / r.den) (zero-mul r.num) ∙ zero-div r.den
 pub none_least : (s : Sending) → least_of s 0 ≡ 0
 none_least s = omega (arith, none_exchanged s.config.least)
 
-free_length : (s : Sending) (n room : ℕ) (fs : List Known) → packet_length n (least_of s 0) fs ≤ room → packet_length n 0 fs ≤ room
+pub free_length : (s : Sending) (n room : ℕ) (fs : List Known) → packet_length n (least_of s 0) fs ≤ room → packet_length n 0 fs ≤ room
 free_length s n room fs h = subst (λ (l : ℕ). packet_length n l fs ≤ room) (none_least s) h
 
 length_free : (s : Sending) (n room : ℕ) (fs : List Known) → packet_length n 0 fs ≤ room → packet_length n (least_of s 0) fs ≤ room
@@ -72,7 +77,7 @@ none_more (Some t) flying more e = omega arith
 no_money : (s : Sending) (t : Option (ℕ × ℕ)) (flying : ℕ) → MoneyFits t flying (exchanged s.config.least 0)
 no_money s t flying = none_more t flying (exchanged s.config.least 0) (none_exchanged s.config.least)
 
-opened : (o : Option Lane) (x : Outgoing) → out_of o ≡ Some x → (l : Lane) × (o ≡ Some l) × (l.out ≡ x)
+pub opened : (o : Option Lane) (x : Outgoing) → out_of o ≡ Some x → (l : Lane) × (o ≡ Some l) × (l.out ≡ x)
 opened None x e = absurd (cc)
 opened (Some l) x e = (l, refl, (let f : ◌≡◌ {A = Option Outgoing} (Some l.out) (Some x) = e in cc))
 
@@ -170,7 +175,7 @@ module _ (s : Sending) (lanes : Slots Lane) (room : ℕ) (is : s.streams ≡ out
       omega (arith, grown, fits.connection)
   over_limit limits h (StreamClose k code message) p due fits =
       omega (arith, ends_whole (StreamClose k code message), fits.connection)
-  over_limit limits h (StreamMoney k n) p due fits = absurd (cc)
+  over_limit limits h (StreamMoney k n) p due fits = omega (arith, ends_whole (StreamMoney k n), fits.connection)
   over_limit limits h (StreamDataBlocked k n) p due fits = absurd (cc)
   over_limit limits h (ConnectionDataBlocked n) p due fits = absurd (cc)
   over_limit limits h (StreamMoneyBlocked k n t) p due fits = absurd (cc)
@@ -180,25 +185,43 @@ module _ (s : Sending) (lanes : Slots Lane) (room : ℕ) (is : s.streams ≡ out
   over_limit limits h (ConnectionClose code message) p due fits = absurd (cc)
   over_limit limits h (ConnectionNewAddress address) p due fits = absurd (cc)
 
-  -- neither bytes nor a close may go
-  pub idle : (limits : List Known) → lane_ends lanes s.flights 0 65 ≤ s.told → IsNone lanes s.flights b → IsPlainIdle s limits room
-  idle limits under none (StreamData k o xs) p due fits = no_data under none.0 k o xs due fits
-  idle limits under none (StreamClose k code message) p due fits =
+  -- where not even one unit may go, no due money fits
+  no_unit : IsRatio s.config.least → NoneUnit lanes s.flights s.config.least s.packet_limit b 65 → (k n : ℕ) → IsDueMoney s k n → Fits s room (load_with s (StreamMoney k n ∷ [])) → ⊥
+  no_unit ratio none k n due fits =
+      let found = lane_open k due.stream due.is_open in
+      let l = found.0 in
+      let r = s.config.least in
+      let x = due.stream in
+      let shares : sum_by shares_of (StreamMoney k n ∷ []) ≡ n = omega (arith, sum_by-cons shares_of (StreamMoney k n) []) in
+      let own : money_in k (StreamMoney k n ∷ []) ≡ n = omega (arith, sum_by-cons (money_of k) (StreamMoney k n) [], own_amount k n) in
+      let money : MoneyFits x.told_money (flying_least s k) (exchanged r n) = subst (λ m. MoneyFits x.told_money (flying_least s k) (exchanged r m)) own (fits.money k x due.is_open) in
+      let most = fits_allowed r ratio x.told_money (flying_least s k) (due_money s k x) n due.due money in
+      let here : payable_at lanes r s.flights k ≡ allowed_money r x.told_money (flying_least s k) (due_money s k x) =
+      ap (λ o. payable r s.flights k o) found.1 ∙ ap (λ (y : Outgoing). allowed_money r y.told_money (flying_least s k) (due_money s k y)) found.2 in
+      let some : 0 < payable_at lanes r s.flights k = omega (arith, here, most, due.some) in
+      let stops = none k (within k l found.1) some (omega (arith, fits.amount, shares, due.some)) in
+      let least : least_for r 1 ≤ least_of s (sum_by shares_of (StreamMoney k n ∷ [])) = omega (arith, exchanged_rises r ratio 1 (sum_by shares_of (StreamMoney k n ∷ [])) (omega (arith, shares, due.some))) in
+      omega (arith, stops, fits.room_left, money_packet (s.last + 1) (least_for r 1) (least_of s (sum_by shares_of (StreamMoney k n ∷ []))) k n least due.some)
+
+  -- neither bytes, money nor a close may go
+  pub idle : (limits : List Known) → lane_ends lanes s.flights 0 65 ≤ s.told → IsRatio s.config.least → IsRest lanes s.flights s.config.least s.packet_limit b → IsPlainIdle s limits room
+  idle limits under ratio rest (StreamMoney k n) p due fits = no_unit ratio rest.1 k n due fits
+  idle limits under ratio rest (StreamData k o xs) p due fits = no_data under rest.0.0 k o xs due fits
+  idle limits under ratio rest (StreamClose k code message) p due fits =
       let d : IsDueClose s k code = due.0 in
       let found = lane_open k d.stream d.is_open in
       let empty : message ≡ [] = due.1 in
       let f : Fits s room (load_with s (close_alone k code)) = subst (λ m. Fits s room (load_with s (StreamClose k code m ∷ []))) empty fits in
       let size = free_length s (s.last + 1) room (close_alone k code) f.room_left in
-      none.1 k found.0 (within k found.0 found.1) found.1 code (record { idle = d.idle; asked = rw found.2 d.asked; room_left = omega (arith, size, close_packet (s.last + 1) k code) })
-  idle limits under none (StreamMoney k n) p due fits = absurd (cc)
-  idle limits under none (StreamDataBlocked k n) p due fits = absurd (cc)
-  idle limits under none (ConnectionDataBlocked n) p due fits = absurd (cc)
-  idle limits under none (StreamMoneyBlocked k n t) p due fits = absurd (cc)
-  idle limits under none (ConnectionMaxData n) p due fits = absurd (cc)
-  idle limits under none (StreamMaxData k n) p due fits = absurd (cc)
-  idle limits under none (StreamMaxMoney k n t) p due fits = absurd (cc)
-  idle limits under none (ConnectionClose code message) p due fits = absurd (cc)
-  idle limits under none (ConnectionNewAddress address) p due fits = absurd (cc)
+      rest.0.1 k found.0 (within k found.0 found.1) found.1 code (record { idle = d.idle; asked = rw found.2 d.asked; room_left = omega (arith, size, close_packet (s.last + 1) k code) })
+  idle limits under ratio rest (StreamDataBlocked k n) p due fits = absurd (cc)
+  idle limits under ratio rest (ConnectionDataBlocked n) p due fits = absurd (cc)
+  idle limits under ratio rest (StreamMoneyBlocked k n t) p due fits = absurd (cc)
+  idle limits under ratio rest (ConnectionMaxData n) p due fits = absurd (cc)
+  idle limits under ratio rest (StreamMaxData k n) p due fits = absurd (cc)
+  idle limits under ratio rest (StreamMaxMoney k n t) p due fits = absurd (cc)
+  idle limits under ratio rest (ConnectionClose code message) p due fits = absurd (cc)
+  idle limits under ratio rest (ConnectionNewAddress address) p due fits = absurd (cc)
 
   -- a frame that is ready by the numbers is due, fits, and is filled
   pub data_due : (k o n : ℕ) (r : IsReadyAt lanes s.flights b k o n) (xs : List ℕ) → AreBytes r.lane o n xs → IsDueData s k o xs

@@ -1,12 +1,14 @@
 -- The flight of a sequence lands, and a new one goes.
-use Rattle.std.proofs.Common.{◌≡◌, ◌≢◌, ℕ, ◌+◌, ◌^◌, ◌<◌, ◌≤◌, Bool, true, false, cond, List, [], ◌∷◌, ◌++◌, length, refl, sym, ap, subst, ◌∙◌, arith, Option, None, Some, inl, inr, eqb, length-append}
+use Rattle.std.proofs.Common.{◌≡◌, ◌≢◌, ℕ, ◌+◌, ◌*◌, ◌^◌, ◌<◌, ◌≤◌, Bool, true, false, cond, List, [], ◌∷◌, ◌++◌, length, refl, sym, ap, subst, ◌∙◌, arith, Option, None, Some, inl, inr, eqb, length-append}
 use Rattle.std.specs.Prelude.{nat_eq}
 use Rattle.std.specs.List.{list_any}
 use Rattle.std.proofs.lemmas.Bool.{cases_eq}
 use Rattle.std.proofs.lemmas.Bool.Decides.{nat_tests}
+use Rattle.std.proofs.lemmas.List.Sums.{sum_by-cons}
 use Rattle.st_unacked.specs.Sent.{is_by}
 use Rattle.st_sender.specs.Sending.{Flight}
-use Rattle.st_sender.specs.Flights.{carries, flight_at, without_flight}
+use Rattle.st_sender.specs.Flights.{carries, flight_at, without_flight, part_of}
+use Rattle.st_sender.specs.Paying.{flown_money}
 use Rattle.st_sender.specs.Lanes.{flying_by}
 use Rattle.st_sender.specs.Landing.{AreApart, AreOrdered}
 use Rattle.st_sender.proofs.Going.{or_else, flying_push}
@@ -106,14 +108,36 @@ landed_length m (x ∷ xs) p e = elim (cases_eq x.sequence m) [
       let rest = landed_length m xs p (sym (other_test x.sequence m (Some x) (flight_at xs m) apart) ∙ e) in omega (arith, f, rest))
 ]
 
--- at most one failure more
-pub landed_ordered : (m last failures after : ℕ) (ps : List Flight) (p : Flight) → AreOrdered ps last failures → flight_at ps m ≡ Some p → after ≤ failures + 1 → AreOrdered (without_flight ps m) last after
-landed_ordered m last failures after ps p o e l = record {
+-- at most one failure more, and less than 2^64 paid
+pub landed_ordered : (m last failures after paid more : ℕ) (ps : List Flight) (p : Flight) → AreOrdered ps last failures paid → flight_at ps m ≡ Some p → after ≤ failures + 1 → more ≤ 2 ^ 64 → AreOrdered (without_flight ps m) last after (paid + more)
+landed_ordered m last failures after paid more ps p o e l w = record {
   apart = landed_apart m ps o.apart;
   past = λ n h. still_none m n ps (o.past n h);
   few = omega (arith, o.few, landed_length m ps p e, l);
+  bounded = omega (arith, o.bounded, landed_length m ps p e, w);
   small = o.small;
 }
+
+pub failed_ordered : (m last failures paid : ℕ) (ps : List Flight) (p : Flight) → AreOrdered ps last failures paid → flight_at ps m ≡ Some p → AreOrdered (without_flight ps m) last (failures + 1) paid
+failed_ordered m last failures paid ps p o e = record {
+  apart = landed_apart m ps o.apart;
+  past = λ n h. still_none m n ps (o.past n h);
+  few = omega (arith, o.few, landed_length m ps p e);
+  bounded = omega (arith, o.bounded, landed_length m ps p e);
+  small = o.small;
+}
+
+-- the money of what lands
+pub landed_money : (k m : ℕ) (ps : List Flight) (p : Flight) → flight_at ps m ≡ Some p → flown_money k ps ≡ part_of k p + flown_money k (without_flight ps m)
+landed_money k m [] p e = absurd (cc)
+landed_money k m (x ∷ xs) p e = elim (cases_eq x.sequence m) [
+  | inl same ↦ (let f : ◌≡◌ {A = Option Flight} (Some x) (Some p) = sym (same_test x.sequence m (Some x) (flight_at xs m) same) ∙ e in
+      let here : x ≡ p = cc in
+      sum_by-cons (part_of k) x xs ∙ ap (λ (y : Flight). part_of k y + flown_money k xs) here ∙ ap (λ ps. part_of k p + flown_money k ps) (sym (same_test x.sequence m xs (x ∷ without_flight xs m) same)))
+  | inr apart ↦ (let rest = landed_money k m xs p (sym (other_test x.sequence m (Some x) (flight_at xs m) apart) ∙ e) in
+      let left = ap (λ ps. flown_money k ps) (other_test x.sequence m xs (x ∷ without_flight xs m) apart) in
+      omega (arith, sum_by-cons (part_of k) x xs, rest, left, sum_by-cons (part_of k) x (without_flight xs m)))
+]
 
 -- ---- a flight that goes
 
@@ -135,13 +159,15 @@ pushed_apart (x ∷ xs) r a n f = (
   pushed_apart xs r a.2 (rest_none r.sequence x xs n) (λ k q c. none_else (list_any (carries k q) x.frames) x.sequence (flying_by k xs q) (f k q c)),
 )
 
-pub pushed_ordered : (ps : List Flight) (last failures : ℕ) (r : Flight) → AreOrdered ps last failures → r.sequence ≡ last + 1 → last + 1 < 2 ^ 32 → ((k q : ℕ) → list_any (carries k q) r.frames ≡ true → flying_by k ps q ≡ None) → AreOrdered (ps ++ r ∷ []) (last + 1) failures
-pushed_ordered ps last failures r o is small f = record {
+pub pushed_ordered : (ps : List Flight) (last failures paid : ℕ) (r : Flight) → AreOrdered ps last failures paid → r.sequence ≡ last + 1 → last + 1 < 2 ^ 32 → ((k q : ℕ) → list_any (carries k q) r.frames ≡ true → flying_by k ps q ≡ None)
+    → AreOrdered (ps ++ r ∷ []) (last + 1) failures paid
+pushed_ordered ps last failures paid r o is small f = record {
   apart = pushed_apart ps r o.apart (o.past r.sequence (omega (arith, is))) f;
   past = λ n h. at_push n ps r (λ s. absurd (omega (arith, is, s, h))) (o.past n (omega (arith, h)));
   few = omega (arith, o.few, length-append ps (r ∷ []));
+  bounded = omega (arith, o.bounded, length-append ps (r ∷ []));
   small = small;
 }
 
-pub none_ordered : (ps : List Flight) → ps ≡ [] → AreOrdered ps 0 0
-none_ordered ps e = record { apart = subst AreApart (sym e) tt; past = λ n h. ap (λ qs. flight_at qs n) e; few = omega (arith, ap length e); small = omega arith }
+pub none_ordered : (ps : List Flight) → ps ≡ [] → AreOrdered ps 0 0 0
+none_ordered ps e = record { apart = subst AreApart (sym e) tt; past = λ n h. ap (λ qs. flight_at qs n) e; few = omega (arith, ap length e); bounded = omega (arith, ap length e); small = omega arith }

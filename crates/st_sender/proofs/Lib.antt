@@ -1,10 +1,15 @@
 pub mod Seen
+pub mod Money
+pub mod Rates
+pub mod Paying
+pub mod Planned
 pub mod Totals
 pub mod Sums
 pub mod Lengths
 pub mod Readiness
 pub mod Idle
 pub mod Going
+pub mod Joined
 pub mod Landing
 pub mod Landed
 pub mod Products

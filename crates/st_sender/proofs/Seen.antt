@@ -1,10 +1,12 @@
 -- What the model sees of streams that changed.
-use Rattle.std.proofs.Common.{◌≡◌, ℕ, zero, suc, List, [], ◌∷◌, length, map, replicate, set, refl, sym, ap, subst, ◌∙◌, Option, None, Some, inl, inr, Result, Ok, Err, OnOk, OnErr}
+use Rattle.std.proofs.Common.{◌≡◌, ℕ, zero, suc, ◌+◌, ◌≤◌, arith, List, [], ◌∷◌, length, map, replicate, set, refl, sym, ap, subst, ◌∙◌, Option, None, Some, inl, inr, Result, Ok, Err, OnOk, OnErr}
 use Rattle.std.specs.Ordering.{nat_cmp}
 use Rattle.std.specs.FinMap as fmap
 use Rattle.st_tables.specs.Slots.{Slots, slot, with_slot}
 use Rattle.st_sender.specs.Sending.{Outgoing, Flight, Sending, outgoing_at, changed, changed_at, with_outgoing, new_outgoing}
 use Rattle.st_sender.specs.Lanes.{Lane, on_out, changed_to, changed_lane, out_of, outs, flying_by, flying_in, AreBooked, new_lane}
+use Rattle.st_sender.specs.Landing.{AreTied}
+use Rattle.st_sender.specs.Paying.{AreFunded, fulfilled_in, offered_in, flown_money}
 use Rattle.st_tables.proofs.SlotLemmas.{slot_cases}
 
 pub on_ok : {T E : Type 0} (r : Result T E) {P Q : Type 0} → (P → Q) → OnOk r P → OnOk r Q
@@ -53,21 +55,51 @@ booked_to lanes flights k f (Some l) e same h = λ j q. elim (slot_cases lanes k
   | inr there ↦ ap (λ y. flying_in y q) there ∙ h j q
 ]
 
-pub kept : (lanes news : Slots Lane) (flights : List Flight) (k : ℕ) (f : Lane → Lane) → ((l : Lane) → (f l).flying ≡ l.flying) → length lanes ≡ 65 → AreBooked lanes flights → news ≡ changed_lane lanes k f → (length news ≡ 65) × AreBooked news flights
-kept lanes news flights k f same len h e =
-    (ap length e ∙ changed_length lanes k f (slot lanes k) ∙ len, subst (λ (xs : Slots Lane). AreBooked xs flights) (sym e) (booked_to lanes flights k f (slot lanes k) refl same h))
+-- a change that leaves no stream with less money to pay
+slot_funded : (flights : List Flight) (j : ℕ) (o n : Option Lane) → fulfilled_in n ≤ fulfilled_in o → offered_in o ≤ offered_in n → fulfilled_in o + flown_money j flights ≤ offered_in o → fulfilled_in n + flown_money j flights ≤ offered_in n
+slot_funded flights j o n f p h = omega (arith, f, p, h)
 
-pub unchanged : (lanes news : Slots Lane) (flights : List Flight) → length lanes ≡ 65 → AreBooked lanes flights → news ≡ lanes → (length news ≡ 65) × AreBooked news flights
-unchanged lanes news flights len h e = (ap length e ∙ len, subst (λ (xs : Slots Lane). AreBooked xs flights) (sym e) h)
+funded_to : (lanes : Slots Lane) (flights : List Flight) (k : ℕ) (f : Lane → Lane) (o : Option Lane) → slot lanes k ≡ o → ((l : Lane) → ((f l).out.fulfilled ≤ l.out.fulfilled) × (l.out.offered ≤ (f l).out.offered)) → AreFunded lanes flights → AreFunded (changed_to lanes k f o) flights
+funded_to lanes flights k f None e same h = h
+funded_to lanes flights k f (Some l) e same h = λ j. elim (slot_cases lanes k (f l) j) [
+  | inl here ↦ slot_funded flights j (slot lanes j) (slot (with_slot lanes k (f l)) j)
+      (subst (λ o. fulfilled_in o ≤ fulfilled_in (slot lanes j)) (sym (ap (λ i. slot (with_slot lanes k (f l)) i) here.0 ∙ here.1)) (subst (λ o. (f l).out.fulfilled ≤ fulfilled_in o) (sym (ap (λ i. slot lanes i) here.0 ∙ e)) (same l).0))
+      (subst (λ o. offered_in (slot lanes j) ≤ offered_in o) (sym (ap (λ i. slot (with_slot lanes k (f l)) i) here.0 ∙ here.1)) (subst (λ o. offered_in o ≤ (f l).out.offered) (sym (ap (λ i. slot lanes i) here.0 ∙ e)) (same l).1))
+      (h j)
+  | inr there ↦ subst (λ o. fulfilled_in o + flown_money j flights ≤ offered_in o) (sym there) (h j)
+]
+
+pub kept : (lanes news : Slots Lane) (flights : List Flight) (k : ℕ) (f : Lane → Lane) → ((l : Lane) → (f l).flying ≡ l.flying) → ((l : Lane) → ((f l).out.fulfilled ≤ l.out.fulfilled) × (l.out.offered ≤ (f l).out.offered)) → length lanes ≡ 65 → AreTied lanes flights
+    → news ≡ changed_lane lanes k f → (length news ≡ 65) × AreTied news flights
+kept lanes news flights k f same fund len h e = (
+  ap length e ∙ changed_length lanes k f (slot lanes k) ∙ len,
+  record {
+    booked = subst (λ (xs : Slots Lane). AreBooked xs flights) (sym e) (booked_to lanes flights k f (slot lanes k) refl same h.booked);
+    funded = subst (λ (xs : Slots Lane). AreFunded xs flights) (sym e) (funded_to lanes flights k f (slot lanes k) refl fund h.funded);
+  },
+)
+
+pub unchanged : (lanes news : Slots Lane) (flights : List Flight) → length lanes ≡ 65 → AreTied lanes flights → news ≡ lanes → (length news ≡ 65) × AreTied news flights
+unchanged lanes news flights len h e = (ap length e ∙ len, subst (λ (xs : Slots Lane). AreTied xs flights) (sym e) h)
 
 -- a stream that opens
-pub opened_kept : (lanes news : Slots Lane) (flights : List Flight) (k : ℕ) → length lanes ≡ 65 → AreBooked lanes flights → slot lanes k ≡ None → news ≡ with_slot lanes k new_lane → (length news ≡ 65) × AreBooked news flights
+opened_booked : (lanes : Slots Lane) (flights : List Flight) (k : ℕ) → AreBooked lanes flights → slot lanes k ≡ None → AreBooked (with_slot lanes k new_lane) flights
+opened_booked lanes flights k h fresh = λ j q. elim (slot_cases lanes k new_lane j) [
+  | inl here ↦ ap (λ y. flying_in y q) (ap (λ i. slot (with_slot lanes k new_lane) i) here.0 ∙ here.1) ∙ fmap.get-empty nat_cmp q ∙ sym (ap (λ y. flying_in y q) fresh) ∙ h k q ∙ ap (λ i. flying_by i flights q) (sym here.0)
+  | inr there ↦ ap (λ y. flying_in y q) there ∙ h j q
+]
+
+opened_funded : (lanes : Slots Lane) (flights : List Flight) (k : ℕ) → AreFunded lanes flights → slot lanes k ≡ None → AreFunded (with_slot lanes k new_lane) flights
+opened_funded lanes flights k h fresh = λ j. elim (slot_cases lanes k new_lane j) [
+  | inl here ↦ (let none : 0 + flown_money j flights ≤ 0 = subst (λ o. fulfilled_in o + flown_money j flights ≤ offered_in o) (ap (λ i. slot lanes i) here.0 ∙ fresh) (h j) in
+      subst (λ o. fulfilled_in o + flown_money j flights ≤ offered_in o) (sym (ap (λ i. slot (with_slot lanes k new_lane) i) here.0 ∙ here.1)) none)
+  | inr there ↦ subst (λ o. fulfilled_in o + flown_money j flights ≤ offered_in o) (sym there) (h j)
+]
+
+pub opened_kept : (lanes news : Slots Lane) (flights : List Flight) (k : ℕ) → length lanes ≡ 65 → AreTied lanes flights → slot lanes k ≡ None → news ≡ with_slot lanes k new_lane → (length news ≡ 65) × AreTied news flights
 opened_kept lanes news flights k len h fresh e = (
   ap length e ∙ length_set lanes k (Some new_lane) ∙ len,
-  subst (λ (xs : Slots Lane). AreBooked xs flights) (sym e) (λ j q. elim (slot_cases lanes k new_lane j) [
-    | inl here ↦ ap (λ y. flying_in y q) (ap (λ i. slot (with_slot lanes k new_lane) i) here.0 ∙ here.1) ∙ fmap.get-empty nat_cmp q ∙ sym (ap (λ y. flying_in y q) fresh) ∙ h k q ∙ ap (λ i. flying_by i flights q) (sym here.0)
-    | inr there ↦ ap (λ y. flying_in y q) there ∙ h j q
-  ]),
+  subst (λ (xs : Slots Lane). AreTied xs flights) (sym e) (record { booked = opened_booked lanes flights k h.booked fresh; funded = opened_funded lanes flights k h.funded fresh }),
 )
 
 pub seen_opened : (v s : Sending) (lanes news : Slots Lane) (k : ℕ) → v ≡ s → v.streams ≡ outs lanes → news ≡ with_slot lanes k new_lane → ◌≡◌ {A = Sending} (record v { streams = outs news }) (with_outgoing s k new_outgoing)
@@ -85,8 +117,16 @@ empty_slot zero k = refl
 empty_slot (suc n) zero = refl
 empty_slot (suc n) (suc k) = empty_slot n k
 
-pub none_booked : (k q : ℕ) (lanes : Slots Lane) (ps : List Flight) → lanes ≡ replicate 65 None → ps ≡ [] → flying_in (slot lanes k) q ≡ flying_by k ps q
+none_booked : (k q : ℕ) (lanes : Slots Lane) (ps : List Flight) → lanes ≡ replicate 65 None → ps ≡ [] → flying_in (slot lanes k) q ≡ flying_by k ps q
 none_booked k q lanes ps e f = ap (λ y. flying_in y q) (ap (λ (xs : Slots Lane). slot xs k) e ∙ empty_slot 65 k) ∙ ap (λ (xs : List Flight). flying_by k xs q) (sym f)
+
+none_funded : (k : ℕ) (lanes : Slots Lane) (ps : List Flight) → lanes ≡ replicate 65 None → ps ≡ [] → fulfilled_in (slot lanes k) + flown_money k ps ≤ offered_in (slot lanes k)
+none_funded k lanes ps e f =
+    let place : slot lanes k ≡ None = ap (λ (xs : Slots Lane). slot xs k) e ∙ empty_slot 65 k in
+    omega (arith, ap fulfilled_in place, ap (λ (xs : List Flight). flown_money k xs) f)
+
+pub none_tied : (lanes : Slots Lane) (ps : List Flight) → lanes ≡ replicate 65 None → ps ≡ [] → AreTied lanes ps
+none_tied lanes ps e f = record { booked = λ k q. none_booked k q lanes ps e f; funded = λ k. none_funded k lanes ps e f }
 
 pub on_err : {T E : Type 0} (r : Result T E) {P Q : Type 0} → (P → Q) → OnErr r P → OnErr r Q
 on_err (Ok x) f p = tt

@@ -1,14 +1,13 @@
 -- The load that went last is taken back.
-use Rattle.std.proofs.Common.{◌≡◌, ◌≢◌, ℕ, ◌+◌, ◌-◌, ◌<◌, List, [], ◌∷◌, ◌++◌, refl, sym, ap, subst, ◌∙◌, arith, None, Some, inl, inr, eqb}
+use Rattle.std.proofs.Common.{◌≡◌, ◌≢◌, ℕ, ◌+◌, ◌-◌, ◌*◌, ◌^◌, ◌<◌, List, [], ◌∷◌, ◌++◌, refl, sym, ap, subst, ◌∙◌, arith, None, Some, inl, inr, eqb}
 use Rattle.std.proofs.lemmas.Bool.{cases_eq}
 use Rattle.st_frames.specs.Frames.{Known}
 use Rattle.st_tables.specs.Slots.{Slots}
-use Rattle.st_sender.specs.declared.load.Flown as code
-use Rattle.st_sender.specs.Sending.{Outgoing, Load, Flight, Sending}
+use Rattle.st_sender.specs.Sending.{Outgoing, Load, Flown, Flight, Sending}
 use Rattle.st_sender.specs.Flights.{flight_of, flight_at, without_flight}
 use Rattle.st_sender.specs.Loads.{Sends, with_flight}
 use Rattle.st_sender.specs.Lanes.{Lane, outs}
-use Rattle.st_sender.specs.Landing.{AreApart, AreOrdered, freed}
+use Rattle.st_sender.specs.Landing.{AreApart, AreOrdered, all_freed}
 use Rattle.st_sender.proofs.Landing.{same_test, other_test, none_else, rest_none, still_none, landed_apart, landed_length}
 use Rattle.st_sender.proofs.Landed.{outs_freed}
 
@@ -34,25 +33,26 @@ gone m (x ∷ xs) a = elim (cases_eq x.sequence m) [
   | inr apart ↦ ap (λ ps. flight_at ps m) (other_test x.sequence m xs (x ∷ without_flight xs m) apart) ∙ other_test x.sequence m (Some x) (flight_at (without_flight xs m) m) apart ∙ gone m xs a.2
 ]
 
-pub some_before : (last failures : ℕ) (ps : List Flight) (p : Flight) → AreOrdered ps last failures → flight_at ps last ≡ Some p → 0 < last
-some_before last failures ps p o e = omega (arith, o.few, landed_length last ps p e)
+pub some_before : (last failures paid : ℕ) (ps : List Flight) (p : Flight) → AreOrdered ps last failures paid → flight_at ps last ≡ Some p → 0 < last
+some_before last failures paid ps p o e = omega (arith, o.few, landed_length last ps p e)
 
 -- without its last sequence
-pub back_ordered : (last failures : ℕ) (ps : List Flight) (p : Flight) → AreOrdered ps last failures → flight_at ps last ≡ Some p → AreOrdered (without_flight ps last) (last - 1) failures
-back_ordered last failures ps p o e = record {
+pub back_ordered : (last failures paid : ℕ) (ps : List Flight) (p : Flight) → AreOrdered ps last failures paid → flight_at ps last ≡ Some p → AreOrdered (without_flight ps last) (last - 1) failures paid
+back_ordered last failures paid ps p o e = record {
   apart = landed_apart last ps o.apart;
   past = λ n h. elim (cases_eq n last) [
     | inl same ↦ ap (λ i. flight_at (without_flight ps last) i) same ∙ gone last ps o.apart
-    | inr other ↦ (let above : last < n = omega (arith, some_before last failures ps p o e, h) in still_none last n ps (o.past n above))
+    | inr other ↦ (let above : last < n = omega (arith, some_before last failures paid ps p o e, h) in still_none last n ps (o.past n above))
   ];
   few = omega (arith, o.few, landed_length last ps p e);
+  bounded = omega (arith, o.bounded, landed_length last ps p e, some_before last failures paid ps p o e);
   small = omega (arith, o.small);
 }
 
 -- what a load left is taken back
-pub taken_view : (v s before : Sending) (limits : List Known) (room : ℕ) (load : Load) (lanes news : Slots Lane) (fl : List Flight) (m : ℕ) (f : code.Flown) → v ≡ s → v.streams ≡ outs lanes → AreApart v.flights → Sends before limits room load s → m ≡ v.last
-    → news ≡ freed lanes m f → fl ≡ without_flight v.flights m → ◌≡◌ {A = Sending} (record v { streams = outs news; flights = fl; last = v.last - 1 }) before
-taken_view v s before limits room load lanes news fl m f e is a sends last n_is fl_is =
+pub taken_view : (v s before : Sending) (limits : List Known) (room : ℕ) (load : Load) (lanes news : Slots Lane) (fl : List Flight) (m n : ℕ) (fs : List Flown) → v ≡ s → v.streams ≡ outs lanes → AreApart v.flights → Sends before limits room load s → m ≡ v.last
+    → news ≡ all_freed lanes n fs → fl ≡ without_flight v.flights m → ◌≡◌ {A = Sending} (record v { streams = outs news; flights = fl; last = v.last - 1 }) before
+taken_view v s before limits room load lanes news fl m n fs e is a sends last n_is fl_is =
     let was : v ≡ with_flight before load = e ∙ sends.after in
     let flying : v.flights ≡ before.flights ++ flight_of load ∷ [] = ap (λ (t : Sending). t.flights) was in
     let at : v.last ≡ load.sequence = ap (λ (t : Sending). t.last) was in
@@ -60,7 +60,7 @@ taken_view v s before limits room load lanes news fl m f e is a sends last n_is 
     let apart = subst AreApart flying a in
     let left : fl ≡ before.flights = fl_is ∙ ap (λ i. without_flight v.flights i) (last ∙ at) ∙ ap (λ ps. without_flight ps load.sequence) flying ∙ without_last before.flights (flight_of load) (apart_last before.flights (flight_of load) apart) in
     let number : v.last - 1 ≡ before.last = omega (arith, at, next) in
-    let streams : outs news ≡ v.streams = ap outs n_is ∙ outs_freed lanes m f ∙ sym is in
+    let streams : outs news ≡ v.streams = ap outs n_is ∙ outs_freed lanes n fs ∙ sym is in
     ap (λ (xs : Slots Outgoing). record v { streams = xs; flights = fl; last = v.last - 1 }) streams
     ∙ ap (λ (ps : List Flight). record v { flights = ps; last = v.last - 1 }) left
     ∙ ap (λ (i : ℕ). record v { flights = before.flights; last = i }) number

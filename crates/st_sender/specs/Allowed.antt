@@ -1,34 +1,43 @@
 -- By which numbers a frame may go.
-use Rattle.std.specs.Prelude.{◌≡◌, ℕ, ◌+◌, ◌^◌, ◌-◌, ◌<◌, ◌≤◌, false, List, length, max, map, sum, slice_index, IsSome, ◌⊎◌}
+use Rattle.std.specs.Prelude.{◌≡◌, ℕ, ◌+◌, ◌*◌, ◌^◌, ◌-◌, ◌<◌, ◌≤◌, false, List, [], ◌∷◌, length, max, min, map, sum, slice_index, IsSome, ◌⊎◌}
 use Rattle.std.specs.declared.option.Option.{Option}
 use Rattle.std.specs.declared.option.Option.TheVariants.{None, Some}
 use Rattle.std.specs.List.{range_with_len}
 use Rattle.std.specs.FinMap.{get}
 use Rattle.st_oer.specs.Spelling.{length_bytes, var_uint}
+use Rattle.st_oer.specs.Ratios.{Ratio, exchanged}
 use Rattle.st_sender.specs.declared.load.Flown.{Flown}
 use Rattle.st_sender.specs.declared.load.Flown.TheVariants as held
+use Rattle.st_sender.specs.declared.load.Payment.{Payment}
 use Rattle.st_tables.specs.Slots.{Slots, slot}
 use Rattle.st_sender.specs.Sending.{Flight}
 use Rattle.st_sender.specs.Flights.{any_frame, closes, flying_end}
 use Rattle.st_sender.specs.Due.{IsAbort, IsCleanClose}
 use Rattle.st_sender.specs.Lanes.{Lane, due_in, changed_lane, claimed_by}
+use Rattle.st_sender.specs.Paying.{Pays, payable_at}
 
 -- how long a packet is that has one frame, of this many bytes of contents
-unfoldable pub packet_size : (sequence contents : ℕ) → ℕ
-packet_size sequence contents = 2 + length (var_uint sequence) + length (var_uint 0) + length (var_uint 1) + (1 + length (length_bytes contents) + contents)
+unfoldable pub packet_size : (sequence least contents : ℕ) → ℕ
+packet_size sequence least contents = 2 + length (var_uint sequence) + length (var_uint least) + length (var_uint 1) + (1 + length (length_bytes contents) + contents)
 
--- the contents of a data frame, and of a close
+-- the contents of a data frame, of a close, and of one unit of money
 unfoldable pub data_contents : (k o n : ℕ) → ℕ
 data_contents k o n = length (var_uint k) + length (var_uint o) + length (length_bytes n) + n
 
 unfoldable pub close_contents : (k : ℕ) → ℕ
 close_contents k = length (var_uint k) + 1 + length (length_bytes 0)
 
+unfoldable pub unit_contents : (k : ℕ) → ℕ
+unit_contents k = length (var_uint k) + length (var_uint 1)
+
 abbrev pub data_size : (sequence k o n : ℕ) → ℕ
-data_size sequence k o n = packet_size sequence (data_contents k o n)
+data_size sequence k o n = packet_size sequence 0 (data_contents k o n)
 
 abbrev pub close_size : (sequence k : ℕ) → ℕ
-close_size sequence k = packet_size sequence (close_contents k)
+close_size sequence k = packet_size sequence 0 (close_contents k)
+
+abbrev pub unit_size : (sequence least k : ℕ) → ℕ
+unit_size sequence least k = packet_size sequence least (unit_contents k)
 
 -- what is the same for all frames of a call: how far the connection's sum may still rise, the sequence, and the room
 pub record Bounds : Type 0 where
@@ -103,10 +112,43 @@ IsNone lanes flights b = NoneReady lanes flights b 65 × NoneFinished lanes flig
 abbrev pub bounds : Slots Lane → List Flight → (told sequence room : ℕ) → Bounds
 bounds lanes flights told sequence room = record { spare = told - lane_ends lanes flights 0 65; sequence = sequence; room = room }
 
+-- what is left of the room beside payments
+abbrev pub beside : Bounds → List Payment → Bounds
+beside b ms = record b { room = b.room - 34 * length ms }
+
+-- the prepare amount of an amount that is sent
+abbrev pub least_for : Ratio → (amount : ℕ) → ℕ
+least_for r amount = min (2 ^ 64 - 1) (exchanged r amount)
+
+-- one unit of money goes alone, where the room is so small
+pub record IsUnit (lanes : Slots Lane) (flights : List Flight) (r : Ratio) (limit : ℕ) (b : Bounds) (p : Payment) : Type 0 where
+  pub one : p.amount ≡ 1
+  pub due : 0 < payable_at lanes r flights p.stream
+  pub within : 0 < limit
+  pub room_left : unit_size b.sequence (least_for r 1) p.stream ≤ b.room
+
+abbrev pub NoneUnit : Slots Lane → List Flight → Ratio → (limit : ℕ) → Bounds → (count : ℕ) → Type 0
+NoneUnit lanes flights r limit b count = (k : ℕ) → k < count → 0 < payable_at lanes r flights k → 0 < limit → b.room < unit_size b.sequence (least_for r 1) k
+
+-- a packet without frames has at most 15 bytes
+abbrev pub PaysIn : Slots Lane → List Flight → Ratio → (limit : ℕ) → Bounds → List Payment → Type 0
+PaysIn lanes flights r limit b ms = Pays lanes r flights limit (b.room - 15) 65 ms
+
+-- what goes: money, and beside it data or a close, where one may go
+abbrev pub IsPlan : Slots Lane → List Flight → Ratio → (limit : ℕ) → Bounds → Option Flown → List Payment → Type 0
+IsPlan lanes flights r limit b (Some f) ms = PaysIn lanes flights r limit b ms × IsNext lanes flights (beside b ms) f
+IsPlan lanes flights r limit b None [] = ⊥
+IsPlan lanes flights r limit b None (p ∷ ms) = (PaysIn lanes flights r limit b (p ∷ ms) × IsNone lanes flights (beside b (p ∷ ms))) ⊎ (PaysIn lanes flights r limit b [] × IsNone lanes flights b × (ms ≡ []) × IsUnit lanes flights r limit b p)
+
+-- or nothing does
+abbrev pub IsRest : Slots Lane → List Flight → Ratio → (limit : ℕ) → Bounds → Type 0
+IsRest lanes flights r limit b = IsNone lanes flights b × NoneUnit lanes flights r limit b 65
+
 -- the streams once a frame is in flight
-abbrev pub booked : Slots Lane → (sequence : ℕ) → Flown → Slots Lane
-booked lanes sequence (held.Data k o n) = changed_lane lanes k (claimed_by sequence o n)
-booked lanes sequence (held.Close k code) = lanes
+abbrev pub booked : Slots Lane → (sequence : ℕ) → Option Flown → Slots Lane
+booked lanes sequence None = lanes
+booked lanes sequence (Some (held.Data k o n)) = changed_lane lanes k (claimed_by sequence o n)
+booked lanes sequence (Some (held.Close k code)) = lanes
 
 -- a stream's bytes
 pub record AreBytes (l : Lane) (o n : ℕ) (xs : List ℕ) : Type 0 where
@@ -114,11 +156,13 @@ pub record AreBytes (l : Lane) (o n : ℕ) (xs : List ℕ) : Type 0 where
   pub bytes : (i : ℕ) → i < n → get l.out.unacked (o + i) ≡ Some (slice_index xs i)
 
 -- the bytes of a frame
-abbrev pub AreItsBytes : Slots Lane → Flown → List ℕ → Type 0
-AreItsBytes lanes (held.Data k o n) xs = (l : Lane) → slot lanes k ≡ Some l → AreBytes l o n xs
-AreItsBytes lanes (held.Close k code) xs = Unit {0}
+abbrev pub AreItsBytes : Slots Lane → Option Flown → List ℕ → Type 0
+AreItsBytes lanes None xs = Unit {0}
+AreItsBytes lanes (Some (held.Data k o n)) xs = (l : Lane) → slot lanes k ≡ Some l → AreBytes l o n xs
+AreItsBytes lanes (Some (held.Close k code)) xs = Unit {0}
 
 -- what taking a frame asks of the streams
-abbrev pub IsTakeable : Slots Lane → Flown → Type 0
-IsTakeable lanes (held.Data k o n) = (l : Lane) × (slot lanes k ≡ Some l) × (0 < n) × (o + n < 2 ^ 64) × ((q : ℕ) → o ≤ q → q < o + n → IsSome (due_in l q))
-IsTakeable lanes (held.Close k code) = Unit {0}
+abbrev pub IsTakeable : Slots Lane → Option Flown → Type 0
+IsTakeable lanes None = Unit {0}
+IsTakeable lanes (Some (held.Data k o n)) = (l : Lane) × (slot lanes k ≡ Some l) × (0 < n) × (o + n < 2 ^ 64) × ((q : ℕ) → o ≤ q → q < o + n → IsSome (due_in l q))
+IsTakeable lanes (Some (held.Close k code)) = Unit {0}

@@ -11,5 +11,6 @@ pub mod Plain
 pub mod Answering
 pub mod Lanes
 pub mod Shown
+pub mod Paying
 pub mod Allowed
 pub mod Landing

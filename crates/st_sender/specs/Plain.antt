@@ -1,19 +1,29 @@
--- Data and closes: that none may go, and how much a load of them holds.
-use Rattle.std.specs.Prelude.{◌≡◌, ℕ, ◌<◌, ◌≤◌, Bool, true, false, List, [], ◌∷◌, length}
-use Rattle.st_frames.specs.Frames.{Known, StreamClose, StreamData}
+-- Bytes, money and closes: that none may go, and how much a load of them holds.
+use Rattle.std.specs.Prelude.{◌≡◌, ℕ, ◌-◌, ◌*◌, ◌<◌, ◌≤◌, Bool, true, false, List, [], ◌∷◌, length}
+use Rattle.std.specs.List.{count_by}
+use Rattle.st_frames.specs.Frames.{Known, StreamClose, StreamMoney, StreamData}
 use Rattle.st_sender.specs.Sending.{Sending}
 use Rattle.st_sender.specs.Due.{IsDue, IsDueData}
 use Rattle.st_sender.specs.Loads.{Fits, load_with}
 
--- data or a close
+-- data, money or a close
 abbrev pub is_plain : Known → Bool
 is_plain (StreamData k offset xs) = true
+is_plain (StreamMoney k amount) = true
 is_plain (StreamClose k code message) = true
 is_plain f = false
 
--- each due data frame and close is stopped by a limit that stands
+-- each due frame of these is stopped by a limit that stands
 abbrev pub IsPlainIdle : Sending → (limits : List Known) → (room : ℕ) → Type 0
 IsPlainIdle s limits room = (f : Known) → is_plain f ≡ true → IsDue s limits f → ¬ Fits s room (load_with s (f ∷ []))
+
+-- how many payments are in a load, and what of the room they leave: each makes a packet at most 34 bytes longer
+abbrev pub is_money : Known → Bool
+is_money (StreamMoney k amount) = true
+is_money f = false
+
+abbrev pub left_room : (room : ℕ) → List Known → ℕ
+left_room room fs = room - 34 * count_by is_money fs
 
 -- how much a load holds in one frame: a data frame has its stream's lowest due byte and all that may follow it, and a
 -- close goes where no data may

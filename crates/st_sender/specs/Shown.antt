@@ -1,8 +1,11 @@
 -- Frames as the code holds them.
-use Rattle.std.specs.Prelude.{ℕ, List, [], ◌∷◌}
-use Rattle.st_frames.specs.Frames.{Known, StreamClose, StreamData}
+use Rattle.std.specs.Prelude.{ℕ, List, [], ◌∷◌, ◌++◌, map}
+use Rattle.std.specs.declared.option.Option.{Option}
+use Rattle.std.specs.declared.option.Option.TheVariants.{None, Some}
+use Rattle.st_frames.specs.Frames.{Known, StreamClose, StreamMoney, StreamData}
 use Rattle.st_sender.specs.declared.load.Flown as code
 use Rattle.st_sender.specs.declared.load.Flown.TheVariants as held
+use Rattle.st_sender.specs.declared.load.Payment.{Payment}
 use Rattle.st_sender.specs.Sending.{Flown, Data, Whole, Flight}
 use Rattle.st_sender.specs.declared.failure.Failure as fault
 use Rattle.st_sender.specs.declared.failure.Failure.TheVariants as faults
@@ -18,9 +21,28 @@ abbrev pub shown : code.Flown → Flown
 shown (held.Data stream offset count) = Data stream offset count
 shown (held.Close stream by) = Whole (StreamClose stream by [])
 
--- a flight of one frame
-abbrev pub flight_with : (sequence : ℕ) → code.Flown → Flight
-flight_with sequence f = record { sequence = sequence; amount = 0; frames = shown f ∷ [] }
+-- money for a stream as a frame, and in flight
+abbrev pub paying : Payment → Known
+paying p = StreamMoney p.stream p.amount
+
+abbrev pub shown_payment : Payment → Flown
+shown_payment p = Whole (paying p)
+
+-- a load's frames: at most one of data or a close, and then money
+abbrev pub framed : List ℕ → Option code.Flown → List Known
+framed bytes None = []
+framed bytes (Some f) = known bytes f ∷ []
+
+abbrev pub load_frames : List ℕ → Option code.Flown → List Payment → List Known
+load_frames bytes f ms = framed bytes f ++ map paying ms
+
+-- and those of a flight
+abbrev pub kept : Option code.Flown → List Flown
+kept None = []
+kept (Some f) = shown f ∷ []
+
+abbrev pub flight_with : (sequence amount : ℕ) → Option code.Flown → List Payment → Flight
+flight_with sequence amount f ms = record { sequence = sequence; amount = amount; frames = kept f ++ map shown_payment ms }
 
 -- why a flight failed
 abbrev pub why : fault.Failure → Failure

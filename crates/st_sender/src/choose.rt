@@ -1,14 +1,17 @@
-//! Which frame goes next.
+//! What goes next.
 
-ghost use Rattle.std.specs.Prelude.{[], ◌∷◌, ◌++◌, OnOk, OnErr, IfOk, IsOkUnless, ◌≡◌, ◌<◌, ◌≤◌, ◌^◌, ◌⊎◌, length, MatchOption};
-ghost use Rattle.st_sender.specs.Allowed.{Bounds, NoneReady, IsReadyAt, NoneFinished, IsFinishedAt, IsNext, IsNone, lane_ends, bounds, IsTakeable, AreItsBytes, booked};
+ghost use Rattle.std.specs.Prelude.{[], ◌∷◌, ◌++◌, OnOk, OnErr, IfOk, IfSome, IsOkUnless, ◌≡◌, ◌<◌, ◌≤◌, ◌^◌, ◌-◌, length, MatchOption};
+ghost use Rattle.st_sender.specs.Allowed.{Bounds, NoneReady, IsReadyAt, NoneFinished, IsFinishedAt, IsNext, IsNone, IsPlan, IsRest, lane_ends, IsTakeable, AreItsBytes, booked};
+ghost use Rattle.st_sender.specs.Paying.{total};
 ghost use Rattle.st_sender.specs.Shown.{flight_with};
 
 use crate::error::OutboxError;
-use crate::load::{Flight, Flown};
+use crate::flying::take;
+use crate::load::{Flight, Flown, Payment};
+use crate::payments::{EMPTY_SIZE, PAYMENT_SIZE, payments, unit};
 use crate::stream::Stream;
-use crate::streams::take;
-use std::alloc::Allocator;
+use st_oer::Rate;
+use std::alloc::{AllocError, Allocator};
 
 /// Bytes of a stream.
 #[derive(Clone, Copy)]
@@ -26,7 +29,7 @@ pub struct Ending {
 }
 
 /// The sum of the streams' ends.
-fn ends<A: Allocator + Copy>(streams: &[Option<Stream<A>>], flights: &[Flight]) -> u128
+fn ends<A: Allocator + Copy>(streams: &[Option<Stream<A>>], flights: &[Flight<A>]) -> u128
     requires { length streams.now ≡ 65 }
     ensures { result ≡ lane_ends streams.now flights.now 0 65 }
 {
@@ -43,7 +46,7 @@ fn ends<A: Allocator + Copy>(streams: &[Option<Stream<A>>], flights: &[Flight]) 
 /// The bytes that go next.
 fn first_data<A: Allocator + Copy>(
     streams: &[Option<Stream<A>>],
-    flights: &[Flight],
+    flights: &[Flight<A>],
     spare: u128,
     sequence: u64,
     room: usize,
@@ -69,7 +72,7 @@ fn first_data<A: Allocator + Copy>(
 /// The close that goes next.
 fn first_finished<A: Allocator + Copy>(
     streams: &[Option<Stream<A>>],
-    flights: &[Flight],
+    flights: &[Flight<A>],
     spare: u128,
     sequence: u64,
     room: usize,
@@ -90,22 +93,34 @@ fn first_finished<A: Allocator + Copy>(
     None
 }
 
-/// The frame that goes next. None goes where the streams' ends are past the connection's limit.
-pub fn choose<A: Allocator + Copy>(
+/// How far the sum of the streams' ends may still rise, and none where it is past the connection's limit.
+pub fn spare<A: Allocator + Copy>(
     streams: &[Option<Stream<A>>],
-    flights: &[Flight],
+    flights: &[Flight<A>],
     told: u64,
-    sequence: u64,
-    room: usize,
-) -> Option<Flown>
+) -> Option<u128>
     requires { length streams.now ≡ 65 }
-    ensures { MatchOption result ((told < lane_ends streams.now flights.now 0 65) ⊎ IsNone streams.now flights.now (bounds streams.now flights.now told sequence room)) (λ f. (lane_ends streams.now flights.now 0 65 ≤ told) × IsNext streams.now flights.now (bounds streams.now flights.now told sequence room) f) }
+    ensures { MatchOption result (told < lane_ends streams.now flights.now 0 65) (λ n. (lane_ends streams.now flights.now 0 65 ≤ told) × (n ≡ told - lane_ends streams.now flights.now 0 65)) }
 {
     let total = ends(streams, flights);
     if total > u128::from(told) {
         return None;
     }
-    let spare = u128::from(told) - total;
+    Some(u128::from(told) - total)
+}
+
+/// The data or the close that goes next.
+fn choose<A: Allocator + Copy>(
+    streams: &[Option<Stream<A>>],
+    flights: &[Flight<A>],
+    spare: u128,
+    sequence: u64,
+    room: usize,
+) -> Option<Flown>
+    requires small { spare < 2 ^ 64 }
+    requires streams { length streams.now ≡ 65 }
+    ensures { MatchOption result (IsNone streams.now flights.now (record { spare = spare; sequence = sequence; room = room })) (λ f. IsNext streams.now flights.now (record { spare = spare; sequence = sequence; room = room }) f) }
+{
     if let Some(row) = first_data(streams, flights, spare, sequence, room) {
         return Some(Flown::Data {
             stream: row.stream,
@@ -122,24 +137,67 @@ pub fn choose<A: Allocator + Copy>(
     }
 }
 
-/// The frame goes: its bytes are copied, and it is in flight from now on.
+/// What goes next: money, and beside it data or a close, where one may go.
+pub fn plan<A: Allocator + Copy>(
+    streams: &[Option<Stream<A>>],
+    flights: &[Flight<A>],
+    alloc: A,
+    least: Rate,
+    limit: u64,
+    spare: u128,
+    sequence: u64,
+    room: usize,
+) -> Result<Option<(Option<Flown>, Vec<Payment, A>)>, AllocError>
+    requires small { spare < 2 ^ 64 }
+    requires streams { length streams.now ≡ 65 }
+    ensures small { IfOk result (λ r. IfSome r (λ p. total p.1.items < 2 ^ 64)) }
+    ensures plans { IfOk result (λ r. MatchOption r (IsRest streams.now flights.now least limit (record { spare = spare; sequence = sequence; room = room })) (λ p. IsPlan streams.now flights.now least limit (record { spare = spare; sequence = sequence; room = room }) p.0 p.1.items)) }
+{
+    let beyond = room.saturating_sub(EMPTY_SIZE);
+    let mut payments = payments(streams, flights, alloc, least, limit, beyond)?;
+    let count = payments.len();
+    let beside = room - count * PAYMENT_SIZE;
+    if let Some(frame) = choose(streams, flights, spare, sequence, beside) {
+        return Ok(Some((Some(frame), payments)));
+    }
+    if count > 0 {
+        return Ok(Some((None, payments)));
+    }
+    let Some(payment) = unit(streams, flights, least, limit, spare, sequence, room) else {
+        return Ok(None);
+    };
+    payments.push(payment)?;
+    Ok(Some((None, payments)))
+}
+
+/// The load goes: its bytes are copied, and it is in flight from now on.
 pub fn launch<A: Allocator + Copy>(
     streams: &mut Vec<Option<Stream<A>>, A>,
-    flights: &mut Vec<Flight, A>,
+    flights: &mut Vec<Flight<A>, A>,
     alloc: A,
     sequence: u64,
-    frame: Flown,
+    amount: u64,
+    frame: Option<Flown>,
+    payments: &[Payment],
 ) -> Result<Vec<u8, A>, OutboxError>
-    requires { IsTakeable streams.old.items frame }
+    requires takeable { IsTakeable streams.old.items frame }
+    requires whole { total payments.now ≡ amount }
     ensures only_memory { IsOkUnless result OutboxError.NoMemory }
     ensures whole { IfOk result (λ v. AreItsBytes streams.old.items frame v.items) }
     ensures books { OnOk result (streams.new.items ≡ booked streams.old.items sequence frame) }
-    ensures flies { OnOk result (flights.new.items ≡ flights.old.items ++ flight_with sequence frame ∷ []) }
+    ensures flies { OnOk result (flights.new.items ≡ flights.old.items ++ flight_with sequence amount frame payments.now ∷ []) }
     ensures streams_stay { OnErr result (streams.new.items ≡ streams.old.items) }
     ensures flights_stay { OnErr result (flights.new.items ≡ flights.old.items) }
 {
+    let payments = Vec::from_slice(alloc, payments)?;
     flights.reserve(1)?;
     let bytes = take(streams, alloc, sequence, frame)?;
-    flights.push(Flight { sequence, frame }).unwrap();
+    let flight = Flight {
+        sequence,
+        amount,
+        frame,
+        payments,
+    };
+    flights.push(flight).unwrap();
     Ok(bytes)
 }

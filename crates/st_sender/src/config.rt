@@ -1,7 +1,7 @@
 //! What is set for a connection.
 
 ghost use Rattle.std.specs.Prelude.{◌≡◌, ◌<◌, ◌≤◌, MatchOption};
-ghost use Rattle.st_oer.specs.Ratios.{ratio};
+ghost use Rattle.st_oer.specs.Ratios.{IsRatio, ratio};
 ghost use Rattle.st_sender.specs.Configs.{IsConfig, config, with_least};
 
 use st_oer::Rate;
@@ -98,8 +98,10 @@ impl EndConfig {
 
     /// How much of an amount should arrive.
     pub fn least(&self) -> Rate
-        ensures { result ≡ self.now.least }
+        ensures value { result ≡ self.now.least }
+        ensures ratio { IsRatio result }
     {
+        let _numbers = (self.least.num(), self.least.den());
         self.least
     }
 }

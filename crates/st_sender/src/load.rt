@@ -1,9 +1,10 @@
 //! What goes in one Prepare, and what is kept of it until its answer.
 
-ghost use Rattle.std.specs.Prelude.{Some, None, IfNone, MatchOption, [], ◌∷◌, map, IfOk, IsOkUnless, ◌≡◌, ◌<◌, ◌^◌};
+ghost use Rattle.std.specs.Prelude.{Some, None, IfNone, [], ◌∷◌, map, IfOk, IsOkUnless, ◌≡◌, ◌<◌, ◌^◌};
 ghost use Rattle.std.specs.List.{list_any};
-ghost use Rattle.st_sender.specs.Flights.{closes, end_of, highest_end, flying_end, any_frame, flight_at, without_flight};
-ghost use Rattle.st_sender.specs.Shown.{shown, flight_with};
+ghost use Rattle.st_sender.specs.Flights.{closes, end_of, highest_end, flying_end, any_frame, flight_at, without_flight, part_of};
+ghost use Rattle.st_sender.specs.Shown.{shown, paying, framed};
+ghost use Rattle.st_sender.specs.Paying.{amount_to, total};
 ghost use Rattle.st_frames.specs.Seen.{seen};
 
 use crate::error::OutboxError;
@@ -11,7 +12,7 @@ use st_frames::Frame;
 use std::alloc::Allocator;
 use std::marker::Model;
 
-/// A frame that goes (RFC 0029, section 5.3). Of data only where they lie is kept.
+/// A frame that goes beside money (RFC 0029, section 5.3). Of data only where they lie is kept.
 #[derive(Clone, Copy, Debug, PartialEq, Eq)]
 pub enum Flown {
     /// StreamData: bytes of a stream from an offset on.
@@ -20,26 +21,92 @@ pub enum Flown {
     Close { stream: u8, code: u8 },
 }
 
+/// StreamMoney (RFC 0029, section 5.3.7): so much of the load's amount is for a stream.
+#[derive(Clone, Copy, Debug, PartialEq, Eq)]
+pub struct Payment {
+    pub stream: u8,
+    pub amount: u64,
+}
+
+impl Payment {
+    /// What of it is for this stream.
+    fn to(self, number: u8) -> u64
+        ensures { result ≡ amount_to number self }
+    {
+        if self.stream == number {
+            self.amount
+        } else {
+            0
+        }
+    }
+}
+
+/// All money of some payments.
+pub fn total(payments: &[Payment]) -> u64
+    requires { total payments.now < 2 ^ 64 }
+    ensures { result ≡ total payments.now }
+{
+    let mut sum = 0;
+    for payment in payments {
+        sum += payment.amount;
+    }
+    sum
+}
+
 /// What goes in one Prepare: a packet's sequence and frames (RFC 0029, section 5.2).
 #[derive(Drop)]
 pub struct Load<A: Allocator + Copy> {
     pub(crate) sequence: u64,
     pub(crate) amount: u64,
     pub(crate) least: u64,
-    pub(crate) frame: Flown,
+    pub(crate) frame: Option<Flown>,
     /// The bytes of its data.
     pub(crate) bytes: Vec<u8, A>,
+    pub(crate) payments: Vec<Payment, A>,
     pub(crate) alloc: A,
 }
 
 impl<A: Allocator + Copy> Model for Load<A> {
-    ghost use Rattle.std.specs.Prelude.{[], ◌∷◌};
     ghost use Rattle.st_sender.specs.Sending as sending;
-    ghost use Rattle.st_sender.specs.Shown.{known};
+    ghost use Rattle.st_sender.specs.Shown.{load_frames};
 
     ghost Value = { sending.Load };
 
-    ghost view = { λ a. record { sequence = a.sequence; amount = a.amount; least = a.least; frames = known a.bytes.items a.frame ∷ [] } };
+    ghost view = { λ a. record { sequence = a.sequence; amount = a.amount; least = a.least; frames = load_frames a.bytes.items a.frame a.payments.items } };
+}
+
+/// A frame as it is written.
+fn spelled<'a>(frame: Flown, bytes: &'a [u8]) -> Frame<'a>
+    ensures { seen result ∷ [] ≡ framed bytes.now (Some frame) }
+{
+    match frame {
+        Flown::Data { stream, offset, .. } => Frame::StreamData {
+            stream: u64::from(stream),
+            offset,
+            bytes,
+        },
+        Flown::Close { stream, code } => Frame::StreamClose {
+            stream: u64::from(stream),
+            code,
+            message: "",
+        },
+    }
+}
+
+/// The frame beside money, where there is one.
+fn first<'a, A: Allocator + Copy>(
+    frame: Option<Flown>,
+    bytes: &'a [u8],
+    alloc: A,
+) -> Result<Vec<Frame<'a>, A>, OutboxError>
+    ensures only_memory { IsOkUnless result OutboxError.NoMemory }
+    ensures frames { IfOk result (λ v. map seen v.items ≡ framed bytes.now frame) }
+{
+    let mut frames = Vec::new(alloc);
+    if let Some(frame) = frame {
+        frames.push(spelled(frame, bytes))?;
+    }
+    Ok(frames)
 }
 
 impl<A: Allocator + Copy> Load<A> {
@@ -50,7 +117,7 @@ impl<A: Allocator + Copy> Load<A> {
         self.sequence
     }
 
-    /// The amount of the Prepare.
+    /// The amount of the Prepare: all money of the load.
     pub fn amount(&self) -> u64
         ensures { result ≡ self.now.amount }
     {
@@ -64,49 +131,42 @@ impl<A: Allocator + Copy> Load<A> {
         self.least
     }
 
-    fn frame(&self) -> Frame<'_>
-        ensures { seen result ∷ [] ≡ self.now.frames }
-    {
-        match self.frame {
-            Flown::Data { stream, offset, .. } => Frame::StreamData {
-                stream: u64::from(stream),
-                offset,
-                bytes: &self.bytes,
-            },
-            Flown::Close { stream, code } => Frame::StreamClose {
-                stream: u64::from(stream),
-                code,
-                message: "",
-            },
-        }
-    }
-
     /// The packet's frames, in order.
     pub fn frames(&self) -> Result<Vec<Frame<'_>, A>, OutboxError>
         ensures only_memory { IsOkUnless result OutboxError.NoMemory }
         ensures frames { IfOk result (λ v. map seen v.items ≡ self.now.frames) }
     {
-        let mut frames = Vec::with_capacity(self.alloc, 1)?;
-        frames.push(self.frame()).unwrap();
+        let mut frames = first(self.frame, &self.bytes, self.alloc)?;
+        for payment in &self.payments {
+            frames.push(Frame::StreamMoney {
+                stream: u64::from(payment.stream),
+                shares: payment.amount,
+            })?;
+        }
         Ok(frames)
     }
 }
 
 /// What is kept of a load in flight.
 #[derive(Drop)]
-pub struct Flight {
+pub struct Flight<A: Allocator + Copy> {
     pub(crate) sequence: u64,
-    pub(crate) frame: Flown,
+    pub(crate) amount: u64,
+    pub(crate) frame: Option<Flown>,
+    pub(crate) payments: Vec<Payment, A>,
 }
 
-impl Model for Flight {
-    ghost use Rattle.std.specs.Prelude.{[], ◌∷◌};
+impl<A: Allocator + Copy> Model for Flight<A> {
+    ghost use Rattle.std.specs.Prelude.{◌≡◌, ◌<◌, ◌^◌};
     ghost use Rattle.st_sender.specs.Sending as sending;
-    ghost use Rattle.st_sender.specs.Shown.{shown};
+    ghost use Rattle.st_sender.specs.Shown.{flight_with};
+    ghost use Rattle.st_sender.specs.Paying.{total};
 
     ghost Value = { sending.Flight };
 
-    ghost view = { λ a. record { sequence = a.sequence; amount = 0; frames = shown a.frame ∷ [] } };
+    ghost view = { λ a. flight_with a.sequence a.amount a.frame a.payments.items };
+
+    ghost invariant = { λ a. (total a.payments.items ≡ a.amount) × (a.amount < 2 ^ 64) };
 }
 
 impl Flown {
@@ -142,30 +202,47 @@ impl Flown {
     }
 }
 
-impl Flight {
+impl<A: Allocator + Copy> Flight<A> {
     fn closes(&self, number: u8, code: u8) -> bool
         ensures { result ≡ list_any (closes number code) self.now.frames }
     {
-        self.frame.closes(number, code)
+        match self.frame {
+            Some(frame) => frame.closes(number, code),
+            None => false,
+        }
     }
 
     fn end(&self, number: u8) -> u128
         ensures end { result ≡ highest_end number self.now.frames }
         ensures small { result < 2 ^ 65 }
     {
-        self.frame.end(number)
+        match self.frame {
+            Some(frame) => frame.end(number),
+            None => 0,
+        }
+    }
+
+    /// Its money for the stream.
+    pub fn part(&self, number: u8) -> u64
+        ensures { result ≡ part_of number self.now }
+    {
+        let mut part = 0;
+        for payment in &self.payments {
+            part += payment.to(number);
+        }
+        part
     }
 }
 
 /// A close of the stream with this code is in flight.
-pub fn closing(flights: &[Flight], number: u8, code: u8) -> bool
+pub fn closing<A: Allocator + Copy>(flights: &[Flight<A>], number: u8, code: u8) -> bool
     ensures { result ≡ any_frame (closes number code) flights.now }
 {
     flights.iter().any(|flight| flight.closes(number, code))
 }
 
 /// Where the stream's data in flight end.
-pub fn flights_end(flights: &[Flight], number: u8) -> u128
+pub fn flights_end<A: Allocator + Copy>(flights: &[Flight<A>], number: u8) -> u128
     ensures end { result ≡ flying_end number flights.now }
     ensures small { result < 2 ^ 65 }
 {
@@ -176,18 +253,18 @@ pub fn flights_end(flights: &[Flight], number: u8) -> u128
     top
 }
 
-/// Takes the flight of a sequence out, and gives its frame.
+/// Takes the flight of a sequence out.
 pub fn take_flight<A: Allocator + Copy>(
-    flights: &mut Vec<Flight, A>,
+    flights: &mut Vec<Flight<A>, A>,
     sequence: u64,
-) -> Option<Flown>
-    ensures found { MatchOption result (flight_at flights.old.items sequence ≡ None) (λ f. flight_at flights.old.items sequence ≡ Some (flight_with sequence f)) }
+) -> Option<Flight<A>>
+    ensures found { result ≡ flight_at flights.old.items sequence }
     ensures rest { flights.new.items ≡ without_flight flights.old.items sequence }
     ensures same { IfNone result (flights.new.items ≡ flights.old.items) }
 {
     for i in 0..flights.len() {
         if flights[i].sequence == sequence {
-            return Some(flights.remove(i).frame);
+            return Some(flights.remove(i));
         }
     }
     None

@@ -12,17 +12,19 @@ ghost use Rattle.st_sender.specs.Shown.{why};
 ghost use Rattle.st_sender.specs.Refusals.{write_refusal, close_refusal, abort_refusal, offer_refusal, Answers, AnswersOrWants};
 ghost use Rattle.st_sender.specs.Refusals as specs;
 ghost use Rattle.st_sender.specs.Loads.{Sends};
-ghost use Rattle.st_sender.specs.Plain.{IsFilled, IsPlainIdle};
+ghost use Rattle.st_sender.specs.Plain.{IsFilled, IsPlainIdle, left_room};
 
-use crate::choose::{choose, launch};
+use crate::choose::{launch, plan, spare};
 use crate::config::EndConfig;
 use crate::error::OutboxError;
 use crate::failure::{Failure, fails};
-use crate::load::{Flight, Load, take_flight};
+use crate::flying::{acknowledge, free};
+use crate::load::{Flight, Load, take_flight, total};
+use crate::payments::least_for;
 use crate::stream::Stream;
 use crate::streams::{
-    abort, accept, acknowledge, all_accepted, close, free, is_open, no_marks, no_streams, offer,
-    open, raise, raise_money, set_mark, settled,
+    abort, accept, all_accepted, close, is_open, no_marks, no_streams, offer, open, raise,
+    raise_money, set_mark, settled,
 };
 use st_frames::Frame;
 use std::alloc::Allocator;
@@ -34,7 +36,7 @@ pub struct Outbox<A: Allocator + Copy> {
     config: EndConfig,
     streams: Vec<Option<Stream<A>>, A>,
     /// In the order in which they went.
-    flights: Vec<Flight, A>,
+    flights: Vec<Flight<A>, A>,
     /// The last sequence.
     last: u64,
     /// The peer's limit on the sum of the streams' ends.
@@ -57,8 +59,8 @@ impl<A: Allocator + Copy> Model for Outbox<A> {
     ghost use Rattle.std.specs.FinMap as map;
     ghost use Rattle.std.specs.Coded.{codes};
     ghost use Rattle.st_sender.specs.Sending as sending;
-    ghost use Rattle.st_sender.specs.Lanes.{outs, AreBooked};
-    ghost use Rattle.st_sender.specs.Landing.{AreOrdered};
+    ghost use Rattle.st_sender.specs.Lanes.{outs};
+    ghost use Rattle.st_sender.specs.Landing.{AreTied, AreOrdered};
 
     ghost Value = { sending.Sending };
 
@@ -78,7 +80,7 @@ impl<A: Allocator + Copy> Model for Outbox<A> {
       paid = a.paid;
     } };
 
-    ghost invariant = { λ a. (length a.streams.items ≡ 65) × AreBooked a.streams.items a.flights.items × AreOrdered a.flights.items a.last a.failures };
+    ghost invariant = { λ a. (length a.streams.items ≡ 65) × AreTied a.streams.items a.flights.items × AreOrdered a.flights.items a.last a.failures a.paid };
 }
 
 impl<A: Allocator + Copy> Outbox<A> {
@@ -251,13 +253,13 @@ impl<A: Allocator + Copy> Outbox<A> {
         }
     }
 
-    /// The load that goes next, of data and closes: the lowest due bytes of a stream, or a close.
-    /// `None` comes only where a limit that stands, the room among them, stops each byte and close that is due. `room` is
-    /// how many bytes the packet may take. Refused is want of memory alone.
+    /// The load that goes next, of data, closes and money: the lowest due bytes of a stream, or a close, and beside it as much
+    /// money as may go. `None` comes only where a limit that stands, the room among them, stops each byte, each close and all
+    /// money that is due. `room` is how many bytes the packet may take. Refused is want of memory alone.
     pub fn next(&mut self, room: usize) -> Result<Option<Load<A>>, OutboxError>
         ensures only_memory { IsOkUnless result OutboxError.NoMemory }
         ensures sends { IfOk result (λ r. (limits : List Known) → MatchOption r (IsPlainIdle self.old limits room × (self.new ≡ self.old)) (λ load. Sends self.old limits room load self.new)) }
-        ensures filled { IfOk result (λ r. IfSome r (λ load. AllByRecursion (IsFilled self.old room) load.frames)) }
+        ensures filled { IfOk result (λ r. IfSome r (λ load. AllByRecursion (IsFilled self.old (left_room room load.frames)) load.frames)) }
         ensures unchanged { OnErr result (self.new ≡ self.old) }
     {
         if self.failed {
@@ -270,23 +272,41 @@ impl<A: Allocator + Copy> Outbox<A> {
             return Ok(None);
         }
         let sequence = self.last + 1;
-        let Some(frame) = choose(&self.streams, &self.flights, self.told, sequence, room) else {
+        let Some(spare) = spare(&self.streams, &self.flights, self.told) else {
             return Ok(None);
         };
+        let least = self.config.least();
+        let Some((frame, payments)) = plan(
+            &self.streams,
+            &self.flights,
+            self.alloc,
+            least,
+            self.packet_limit,
+            spare,
+            sequence,
+            room,
+        )?
+        else {
+            return Ok(None);
+        };
+        let amount = total(&payments);
         let bytes = launch(
             &mut self.streams,
             &mut self.flights,
             self.alloc,
             sequence,
+            amount,
             frame,
+            &payments,
         )?;
         self.last = sequence;
         Ok(Some(Load {
             sequence,
-            amount: 0,
-            least: 0,
+            amount,
+            least: least_for(least, amount),
             frame,
             bytes,
+            payments,
             alloc: self.alloc,
         }))
     }
@@ -296,22 +316,23 @@ impl<A: Allocator + Copy> Outbox<A> {
     pub fn acknowledged(&mut self, sequence: u64)
         ensures { MatchOption (flight_at self.old.flights sequence) (self.new ≡ self.old) (λ p. self.new ≡ after_fulfilled self.old p) }
     {
-        let Some(frame) = take_flight(&mut self.flights, sequence) else {
+        let Some(flight) = take_flight(&mut self.flights, sequence) else {
             return;
         };
-        acknowledge(&mut self.streams, sequence, frame);
+        acknowledge(&mut self.streams, &flight);
         self.failures = 0;
+        self.paid += u128::from(flight.amount);
     }
 
     /// The flight of this sequence failed.
     fn fail(&mut self, sequence: u64, failure: Failure)
         ensures { MatchOption (flight_at self.old.flights sequence) (self.new ≡ self.old) (λ p. self.new ≡ after_failed self.old p (why failure)) }
     {
-        let Some(frame) = take_flight(&mut self.flights, sequence) else {
+        let Some(flight) = take_flight(&mut self.flights, sequence) else {
             return;
         };
-        free(&mut self.streams, sequence, frame);
-        self.packet_limit = failure.limit_after(self.packet_limit, 0);
+        free(&mut self.streams, &flight);
+        self.packet_limit = failure.limit_after(self.packet_limit, flight.amount);
         self.failures += 1;
         self.failed = fails(self.failed, failure, self.failures);
     }
@@ -345,10 +366,10 @@ impl<A: Allocator + Copy> Outbox<A> {
         if sequence != self.last {
             return;
         }
-        let Some(frame) = take_flight(&mut self.flights, sequence) else {
+        let Some(flight) = take_flight(&mut self.flights, sequence) else {
             return;
         };
-        free(&mut self.streams, sequence, frame);
+        free(&mut self.streams, &flight);
         self.last -= 1;
     }
 }

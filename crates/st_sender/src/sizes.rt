@@ -1,17 +1,17 @@
 //! How long a packet is that has one frame.
 
 ghost use Rattle.std.specs.Prelude.{◌≡◌, ◌<◌, ◌≤◌, ◌+◌, ◌^◌, ◌⊎◌};
-ghost use Rattle.st_sender.specs.Allowed.{packet_size, data_contents, close_contents, data_size, close_size};
+ghost use Rattle.st_sender.specs.Allowed.{packet_size, data_contents, close_contents, unit_contents, data_size, close_size, unit_size};
 
 use st_oer::{length_size, var_uint_size};
 
 #[tactic(auto, unfolding(crate::specs::Allowed::packet_size))]
-fn packet_size(sequence: u64, contents: usize) -> usize
+fn packet_size(sequence: u64, least: u64, contents: usize) -> usize
     requires { contents < 2 ^ 62 }
-    ensures { result ≡ packet_size sequence contents }
+    ensures { result ≡ packet_size sequence least contents }
 {
     2 + var_uint_size(sequence)
-        + var_uint_size(0)
+        + var_uint_size(least)
         + var_uint_size(1)
         + 1
         + length_size(contents as u64)
@@ -35,18 +35,33 @@ fn close_contents(stream: u8) -> usize
     var_uint_size(u64::from(stream)) + 1 + length_size(0)
 }
 
+#[tactic(auto, unfolding(crate::specs::Allowed::unit_contents))]
+fn unit_contents(stream: u8) -> usize
+    ensures value { result ≡ unit_contents stream }
+    ensures small { result < 2 ^ 62 }
+{
+    var_uint_size(u64::from(stream)) + var_uint_size(1)
+}
+
 fn data_size(sequence: u64, stream: u8, offset: u64, count: u64) -> usize
     requires { count < 2 ^ 32 }
     ensures { result ≡ data_size sequence stream offset count }
 {
-    packet_size(sequence, data_contents(stream, offset, count))
+    packet_size(sequence, 0, data_contents(stream, offset, count))
 }
 
 /// The length of a packet that closes a stream.
 pub fn close_size(sequence: u64, stream: u8) -> usize
     ensures { result ≡ close_size sequence stream }
 {
-    packet_size(sequence, close_contents(stream))
+    packet_size(sequence, 0, close_contents(stream))
+}
+
+/// The length of a packet that has one unit of money.
+pub fn unit_size(sequence: u64, least: u64, stream: u8) -> usize
+    ensures { result ≡ unit_size sequence least stream }
+{
+    packet_size(sequence, least, unit_contents(stream))
 }
 
 /// How many bytes of a stream go into a packet, at most so many.

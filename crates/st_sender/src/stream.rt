@@ -4,15 +4,18 @@ ghost use Rattle.std.specs.Prelude.{◌≡◌, ◌≢◌, ℕ, ◌+◌, ◌-◌,
 ghost use Rattle.std.specs.declared.option.Option.TheVariants.{Some, None};
 ghost use Rattle.std.specs.FinMap.{len};
 ghost use Rattle.st_sender.specs.Accepting.{after_write, after_clean, after_stream_abort, after_offer};
-ghost use Rattle.st_sender.specs.Answering.{told_data, told_receive_max, acked_close};
+ghost use Rattle.st_sender.specs.Answering.{told_data, told_receive_max, acked_close, acked_money};
 ghost use Rattle.st_sender.specs.Landing.{acked_by, freed_by};
 ghost use Rattle.st_sender.specs.Flights.{flying_end};
 ghost use Rattle.st_sender.specs.Refusals.{is_closed};
 ghost use Rattle.st_sender.specs.Lanes.{Lane, new_lane, due_in, on_out, claimed_by};
 ghost use Rattle.st_sender.specs.Allowed.{Bounds, IsStopped, IsReady, IsFinished, AreBytes};
+ghost use Rattle.st_sender.specs.Paying.{payable};
 
 use crate::load::{Flight, closing, flights_end};
+use crate::payments::{most_for, without_least, without_money};
 use crate::sizes::{close_size, longest};
+use st_oer::Rate;
 use st_unacked::Unacked;
 use std::alloc::{AllocError, Allocator};
 use std::marker::Model;
@@ -181,7 +184,7 @@ impl<A: Allocator + Copy> Stream<A> {
     }
 
     /// Where its data in flight or acknowledged end.
-    pub fn sent_end(&self, flights: &[Flight], number: u8) -> u128
+    pub fn sent_end(&self, flights: &[Flight<A>], number: u8) -> u128
         ensures end { result ≡ max self.now.out.acked_end (flying_end number flights.now) }
         ensures small { result < 2 ^ 65 }
     {
@@ -191,7 +194,7 @@ impl<A: Allocator + Copy> Stream<A> {
     /// The lowest due bytes, as many as may go: where they begin, and how many.
     pub fn ready(
         &self,
-        flights: &[Flight],
+        flights: &[Flight<A>],
         number: u8,
         spare: u128,
         sequence: u64,
@@ -220,7 +223,7 @@ impl<A: Allocator + Copy> Stream<A> {
     /// The code of a close that is due.
     pub fn finished(
         &self,
-        flights: &[Flight],
+        flights: &[Flight<A>],
         number: u8,
         spare: u128,
         sequence: u64,
@@ -253,6 +256,24 @@ impl<A: Allocator + Copy> Stream<A> {
         }
     }
 
+    /// How much of its money may go.
+    pub fn payable(&self, flights: &[Flight<A>], number: u8, least: Rate) -> u64
+        ensures { result ≡ payable least flights.now number (Some self.now) }
+    {
+        if self.abort.is_some() {
+            return 0;
+        }
+        let due = without_money(flights, number, self.offered.saturating_sub(self.fulfilled));
+        match self.told_money {
+            None => due,
+            Some((receive_max, received)) => {
+                let left = receive_max.saturating_sub(received);
+                let left = without_least(flights, number, least, left);
+                most_for(least, left).min(u128::from(due)) as u64
+            }
+        }
+    }
+
     /// A copy of its due bytes from an offset on, which are in flight from now on.
     pub fn take(
         &mut self,
@@ -279,6 +300,14 @@ impl<A: Allocator + Copy> Stream<A> {
     {
         let _end = self.bytes.acknowledged(sequence);
         self.acked_end = self.acked_end.max(u128::from(offset) + u128::from(count));
+    }
+
+    /// Money of it was fulfilled.
+    pub fn pay(&mut self, amount: u64)
+        requires { self.old.out.fulfilled + amount ≤ self.old.out.offered }
+        ensures { self.new ≡ on_out (acked_money amount) self.old }
+    {
+        self.fulfilled += amount;
     }
 
     /// What a sequence carried failed.

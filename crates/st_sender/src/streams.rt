@@ -3,15 +3,12 @@
 ghost use Rattle.std.specs.Prelude.{true, false, ◌≡◌, ◌≢◌, ℕ, ◌+◌, ◌<◌, ◌≤◌, ◌^◌, None, Some, length, nat_le, slice_set, OnOk, OnErr, IfOk};
 ghost use Rattle.st_tables.specs.Slots.{slot, with_slot, no_slots};
 ghost use Rattle.st_sender.specs.Accepting.{after_write, after_clean, after_stream_abort, after_offer};
-ghost use Rattle.st_sender.specs.Answering.{told_data, told_receive_max, acked_close, is_settled};
-ghost use Rattle.st_sender.specs.Landing.{acked_by, freed_by, acked, freed};
+ghost use Rattle.st_sender.specs.Answering.{told_data, told_receive_max, is_settled};
 ghost use Rattle.st_sender.specs.Lanes.{changed_lane, on_out, out_of, outs, new_lane};
 ghost use Rattle.st_sender.specs.Refusals.{refusal_at, is_closed, is_aborted, no_more, full, too_much, Answers, AnswersOrWants, accepted_of, offered_of};
-ghost use Rattle.st_sender.specs.Allowed.{IsTakeable, AreItsBytes, booked};
 ghost use Rattle.st_sender.specs.Refusals as specs;
 
 use crate::error::OutboxError;
-use crate::load::Flown;
 use crate::stream::Stream;
 use std::alloc::{AllocError, Allocator};
 
@@ -261,109 +258,5 @@ pub fn set_mark<A: Allocator + Copy>(marks: &mut Vec<Option<u64>, A>, stream: u6
 {
     if stream < marks.len() as u64 {
         marks[stream as usize] = Some(value);
-    }
-}
-
-/// The bytes of a frame, which are in flight by the sequence from now on.
-pub fn take<A: Allocator + Copy>(
-    streams: &mut Vec<Option<Stream<A>>, A>,
-    alloc: A,
-    sequence: u64,
-    frame: Flown,
-) -> Result<Vec<u8, A>, AllocError>
-    requires { IsTakeable streams.old.items frame }
-    ensures whole { IfOk result (λ v. AreItsBytes streams.old.items frame v.items) }
-    ensures books { OnOk result (streams.new.items ≡ booked streams.old.items sequence frame) }
-    ensures unchanged { OnErr result (streams.new.items ≡ streams.old.items) }
-{
-    match frame {
-        Flown::Data {
-            stream,
-            offset,
-            count,
-        } => match &mut streams[stream as usize] {
-            None => Err(AllocError),
-            Some(found) => found.take(alloc, sequence, offset, count),
-        },
-        Flown::Close { .. } => Ok(Vec::new(alloc)),
-    }
-}
-
-/// Data of a stream were fulfilled.
-fn acknowledge_data<A: Allocator + Copy>(
-    streams: &mut Vec<Option<Stream<A>>, A>,
-    sequence: u64,
-    stream: u8,
-    offset: u64,
-    count: u64,
-)
-    ensures { streams.new.items ≡ changed_lane streams.old.items stream (acked_by sequence offset count) }
-{
-    if (stream as usize) < streams.len() {
-        if let Some(found) = &mut streams[stream as usize] {
-            found.acknowledged(sequence, offset, count);
-        }
-    }
-}
-
-/// A close of a stream was fulfilled.
-fn acknowledge_close<A: Allocator + Copy>(
-    streams: &mut Vec<Option<Stream<A>>, A>,
-    stream: u8,
-    code: u8,
-)
-    ensures { streams.new.items ≡ changed_lane streams.old.items stream (on_out (acked_close code)) }
-{
-    if (stream as usize) < streams.len() {
-        if let Some(found) = &mut streams[stream as usize] {
-            found.settle(code);
-        }
-    }
-}
-
-/// Data of a stream failed.
-fn free_data<A: Allocator + Copy>(
-    streams: &mut Vec<Option<Stream<A>>, A>,
-    sequence: u64,
-    stream: u8,
-)
-    ensures { streams.new.items ≡ changed_lane streams.old.items stream (freed_by sequence) }
-{
-    if (stream as usize) < streams.len() {
-        if let Some(found) = &mut streams[stream as usize] {
-            found.failed(sequence);
-        }
-    }
-}
-
-/// A frame was fulfilled.
-pub fn acknowledge<A: Allocator + Copy>(
-    streams: &mut Vec<Option<Stream<A>>, A>,
-    sequence: u64,
-    frame: Flown,
-)
-    ensures { streams.new.items ≡ acked streams.old.items sequence frame }
-{
-    match frame {
-        Flown::Data {
-            stream,
-            offset,
-            count,
-        } => acknowledge_data(streams, sequence, stream, offset, count),
-        Flown::Close { stream, code } => acknowledge_close(streams, stream, code),
-    }
-}
-
-/// A frame failed: what it carried is due again, unless it was dropped.
-pub fn free<A: Allocator + Copy>(
-    streams: &mut Vec<Option<Stream<A>>, A>,
-    sequence: u64,
-    frame: Flown,
-)
-    ensures { streams.new.items ≡ freed streams.old.items sequence frame }
-{
-    match frame {
-        Flown::Data { stream, .. } => free_data(streams, sequence, stream),
-        Flown::Close { .. } => {}
     }
 }

@@ -39,6 +39,14 @@ fn data_of<A: Allocator + Copy>(
     Ok(None)
 }
 
+/// The amount of a load.
+fn amount_of<A: Allocator + Copy>(load: &Option<Load<A>>) -> Option<u64> {
+    match load {
+        Some(load) => Some(load.amount()),
+        None => None,
+    }
+}
+
 /// The code of a load's close, and none where it has none.
 fn code_of<A: Allocator + Copy>(load: &Option<Load<A>>) -> Result<Option<u8>, OutboxError> {
     let Some(load) = load else {
@@ -185,6 +193,54 @@ fn lowers_the_packet_limit(rt: HostRuntime) -> Result<(), OutboxError> {
     );
     assert_eq!(rt; Failure::TooLarge(Some((0, 9))).limit_after(1_000, 6), 3);
     assert_eq!(rt; Failure::Final.limit_after(1_000, 6), 1_000);
+    Ok(())
+}
+
+#[test]
+fn shares_the_packet_limit_among_streams(rt: HostRuntime) -> Result<(), OutboxError> {
+    let Some(config) = EndConfig::new(4, 1_000, 100) else {
+        return Err(OutboxError::NoStream);
+    };
+    let mut outbox = Outbox::new(rt.alloc(), config)?;
+    open(&mut outbox, 1);
+    open(&mut outbox, 3);
+    open(&mut outbox, 5);
+    outbox.offer(1, 60)?;
+    outbox.offer(3, 50)?;
+    outbox.offer(5, 30)?;
+    assert_eq!(rt; amount_of(&outbox.next(ROOM)?), Some(100));
+    assert_eq!(rt; amount_of(&outbox.next(ROOM)?), Some(40));
+    assert!(rt; outbox.next(ROOM)?.is_none());
+    outbox.acknowledged(1);
+    outbox.failed(2, *b"T04");
+    assert_eq!(rt; outbox.paid(), 100);
+    assert_eq!(rt; amount_of(&outbox.next(ROOM)?), Some(40));
+    Ok(())
+}
+
+#[test]
+fn sends_no_money_past_the_receive_max(rt: HostRuntime) -> Result<(), OutboxError> {
+    let mut outbox = opened(rt.alloc(), 16)?;
+    outbox.raise_limits(&Frame::StreamMaxMoney {
+        stream: 1,
+        receive_max: 10,
+        total_received: 4,
+    });
+    outbox.offer(1, 9)?;
+    assert_eq!(rt; amount_of(&outbox.next(ROOM)?), Some(6));
+    assert!(rt; outbox.next(ROOM)?.is_none());
+    Ok(())
+}
+
+#[test]
+fn sends_less_after_f08(rt: HostRuntime) -> Result<(), OutboxError> {
+    let mut outbox = opened(rt.alloc(), 1)?;
+    outbox.offer(1, 7)?;
+    assert_eq!(rt; amount_of(&outbox.next(ROOM)?), Some(7));
+    outbox.too_large(1, Some((3, 1)));
+    assert_eq!(rt; amount_of(&outbox.next(ROOM)?), Some(2));
+    outbox.failed(2, *b"F08");
+    assert_eq!(rt; amount_of(&outbox.next(ROOM)?), Some(1));
     Ok(())
 }
 

@@ -1,4 +1,4 @@
-use Rattle.std.proofs.Common.{refl}
+use Rattle.std.proofs.Common.{arith, refl}
 use Rattle.st_sender.specs.Accepting.{after_stream_abort}
 use Rattle.st_sender.specs.Lanes.{on_out}
 use Rattle.st_sender.specs.Refusals.{refusal_at, is_aborted, no_more, Answers}
@@ -11,7 +11,7 @@ use Rattle.st_sender.proofs.outbox.Outbox.abort.Goals as goal
 pub invariant_of-self : goal.invariant_of-self
 invariant_of-self g c =
     let h = either_way c.abort.result
-    (kept c.self.inside.streams.items c.abort.new.streams.items c.self.inside.flights.items c.args.stream (on_out (after_stream_abort c.args.code)) (λ l. refl) c.self.invariant.0 c.self.invariant.1)
+    (kept c.self.inside.streams.items c.abort.new.streams.items c.self.inside.flights.items c.args.stream (on_out (after_stream_abort c.args.code)) (λ l. refl) (λ l. (omega arith, omega arith)) c.self.invariant.0 c.self.invariant.1)
     (unchanged c.self.inside.streams.items c.abort.new.streams.items c.self.inside.flights.items c.self.invariant.0 c.self.invariant.1)
     c.abort.ensures.aborts c.abort.ensures.unchanged in
     (h.0, h.1, c.self.invariant.2)

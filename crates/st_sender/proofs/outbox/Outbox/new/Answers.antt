@@ -1,7 +1,7 @@
 use Rattle.std.proofs.Common.{ap, length}
-use Rattle.st_sender.proofs.Seen.{none_booked}
+use Rattle.st_sender.proofs.Seen.{none_tied}
 use Rattle.st_sender.proofs.Landing.{none_ordered}
 use Rattle.st_sender.proofs.outbox.Outbox.new.Goals as goal
 
 pub invariant_of-result : goal.invariant_of-result
-invariant_of-result g c = (ap length c.in_ok-streams.ensures, λ k o. none_booked k o c.in_ok-streams.streams.items c.new.result.items c.in_ok-streams.ensures c.new.ensures.items, none_ordered c.new.result.items c.new.ensures.items)
+invariant_of-result g c = (ap length c.in_ok-streams.ensures, none_tied c.in_ok-streams.streams.items c.new.result.items c.in_ok-streams.ensures c.new.ensures.items, none_ordered c.new.result.items c.new.ensures.items)

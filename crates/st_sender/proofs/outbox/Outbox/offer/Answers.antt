@@ -1,4 +1,4 @@
-use Rattle.std.proofs.Common.{refl}
+use Rattle.std.proofs.Common.{arith, refl}
 use Rattle.st_sender.specs.Accepting.{after_offer}
 use Rattle.st_sender.specs.Lanes.{on_out}
 use Rattle.st_sender.specs.Refusals.{refusal_at, is_closed, too_much, Answers, all_offered}
@@ -11,7 +11,7 @@ use Rattle.st_sender.proofs.outbox.Outbox.offer.Goals as goal
 pub invariant_of-self : goal.invariant_of-self
 invariant_of-self g c =
     let h = either_way c.offer.result
-    (kept c.self.inside.streams.items c.offer.new.streams.items c.self.inside.flights.items c.args.stream (on_out (after_offer c.args.amount)) (λ l. refl) c.self.invariant.0 c.self.invariant.1)
+    (kept c.self.inside.streams.items c.offer.new.streams.items c.self.inside.flights.items c.args.stream (on_out (after_offer c.args.amount)) (λ l. refl) (λ l. (omega arith, omega arith)) c.self.invariant.0 c.self.invariant.1)
     (unchanged c.self.inside.streams.items c.offer.new.streams.items c.self.inside.flights.items c.self.invariant.0 c.self.invariant.1)
     c.offer.ensures.offers c.offer.ensures.unchanged in
     (h.0, h.1, c.self.invariant.2)

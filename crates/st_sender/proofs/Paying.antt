@@ -1,0 +1,81 @@
+-- One payment more, or none, at the next stream.
+use Rattle.std.proofs.Common.{◌≡◌, ◌≢◌, ℕ, ◌+◌, ◌-◌, ◌*◌, ◌/◌, ◌<◌, ◌≤◌, List, [], ◌∷◌, ◌++◌, length, map, min, sum, refl, sym, ap, subst, ◌∙◌, arith, Option, None, Some, inl, inr, length-append}
+use Rattle.std.specs.List.{AllByRecursion, range_with_len}
+use Rattle.std.proofs.lemmas.Bool.{cases_lt, cases_eq}
+use Rattle.std.proofs.lemmas.List.Sums.{sum_by_push}
+use Rattle.std.proofs.lemmas.List.FromFn.{map-range_with_len_more}
+use Rattle.st_oer.specs.Ratios.{Ratio}
+use Rattle.st_tables.specs.Slots.{Slots, slot}
+use Rattle.st_sender.specs.declared.load.Payment.{Payment}
+use Rattle.st_sender.specs.Sending.{Flight}
+use Rattle.st_sender.specs.Lanes.{Lane}
+use Rattle.st_sender.specs.Allowed.{Bounds, NoneUnit, least_for, unit_size}
+use Rattle.st_sender.specs.Paying.{total, paid_to, amount_to, payable_at, all_payable, IsPayment, Pays}
+use Rattle.st_sender.proofs.Money.{total_push, paid_push, own_amount, other_amount}
+
+all_push : (P : Payment → Type 0) (ms : List Payment) (p : Payment) → AllByRecursion P ms → P p → AllByRecursion P (ms ++ p ∷ [])
+all_push P [] p a h = (h, tt)
+all_push P (q ∷ ms) p a h = (a.0, all_push P ms p a.1 h)
+
+sum_push : (xs : List ℕ) (x : ℕ) → sum (xs ++ x ∷ []) ≡ sum xs + x
+sum_push xs x = sum_by_push (λ n. n) xs x
+
+payable_more : (lanes : Slots Lane) (r : Ratio) (ps : List Flight) (n : ℕ) → all_payable lanes r ps (n + 1) ≡ all_payable lanes r ps n + payable_at lanes r ps n
+payable_more lanes r ps n = ap sum (map-range_with_len_more (payable_at lanes r ps) 0 n n (omega arith)) ∙ sum_push (map (payable_at lanes r ps) (range_with_len 0 n)) (payable_at lanes r ps n)
+
+abbrev paid : ℕ → ℕ → Payment
+paid n most = record { stream = n; amount = most }
+
+pub pays_none : (lanes : Slots Lane) (r : Ratio) (ps : List Flight) (limit room : ℕ) → Pays lanes r ps limit room 0 []
+pays_none lanes r ps limit room = record {
+  each = tt;
+  own = λ k. omega arith;
+  later = λ k h. refl;
+  within = omega arith;
+  few = omega arith;
+  room_left = omega arith;
+  filled = λ h. omega arith;
+}
+
+pub pays_push : (lanes : Slots Lane) (r : Ratio) (ps : List Flight) (limit room n left most : ℕ) (ms : List Payment) → Pays lanes r ps limit room n ms → left + total ms ≡ limit
+    → most ≡ min (payable_at lanes r ps n) left → 0 < most → length ms < room / 34 → Pays lanes r ps limit room (n + 1) (ms ++ paid n most ∷ [])
+pays_push lanes r ps limit room n left most ms p e m some fits =
+    let long = length-append ms (paid n most ∷ []) in
+    let all = total_push ms (paid n most) in
+    let more = payable_more lanes r ps n in
+    record {
+      each = all_push (IsPayment lanes r ps) ms (paid n most) p.each (record { some = some; due = omega arith });
+      own = λ k. elim (cases_eq n k) [
+        | inl q ↦ rw (← q) (omega (arith, paid_push n ms (paid n most), p.later n (omega arith), own_amount n most))
+        | inr q ↦ omega (arith, paid_push k ms (paid n most), p.own k, other_amount n k most q)
+      ];
+      later = λ k h. omega (arith, paid_push k ms (paid n most), p.later k (omega arith), other_amount n k most (omega arith));
+      within = omega (arith, all);
+      few = omega (arith, long, p.few);
+      room_left = omega (arith, long, p.room_left);
+      filled = λ h. omega (arith, all, more, p.filled h);
+    }
+
+pub pays_skip : (lanes : Slots Lane) (r : Ratio) (ps : List Flight) (limit room n left most : ℕ) (ms : List Payment) → Pays lanes r ps limit room n ms → left + total ms ≡ limit → n < 65
+    → most ≡ min (payable_at lanes r ps n) left → (0 < most → room / 34 ≤ length ms) → Pays lanes r ps limit room (n + 1) ms
+pays_skip lanes r ps limit room n left most ms p e lt m stops =
+    let more = payable_more lanes r ps n in
+    record {
+      each = p.each;
+      own = p.own;
+      later = λ k h. p.later k (omega arith);
+      within = p.within;
+      few = omega (arith, p.few);
+      room_left = p.room_left;
+      filled = λ h. elim (cases_lt 0 most) [ inl s ↦ (let t = stops s in omega (arith, p.few, t)) | inr z ↦ omega (arith, more, p.filled h) ];
+    }
+
+pub none_unit_more : (lanes : Slots Lane) (ps : List Flight) (r : Ratio) (limit : ℕ) (b : Bounds) (n : ℕ) → NoneUnit lanes ps r limit b n
+    → (0 < payable_at lanes r ps n → b.room < unit_size b.sequence (least_for r 1) n) → NoneUnit lanes ps r limit b (n + 1)
+none_unit_more lanes ps r limit b n before here k h some any = elim (cases_lt k n) [
+  | inl low ↦ before k low some any
+  | inr high ↦ (let same : k ≡ n = omega arith in rw same (here (rw (sym same) some)))
+]
+
+pub pays_all : (lanes : Slots Lane) (r : Ratio) (ps : List Flight) (limit room n : ℕ) (ms : List Payment) → n ≡ 65 → Pays lanes r ps limit room n ms → Pays lanes r ps limit room 65 ms
+pays_all lanes r ps limit room n ms e p = subst (λ i. Pays lanes r ps limit room i ms) e p

@@ -1,0 +1,72 @@
+-- What goes, by what the parts of a plan found.
+use Rattle.std.proofs.Common.{◌≡◌, ◌≢◌, ℕ, ◌+◌, ◌-◌, ◌*◌, ◌^◌, ◌<◌, List, [], ◌∷◌, ◌++◌, None, Some, length, refl, sym, ap, subst, ◌∙◌, arith, Option, inl, inr}
+use Rattle.std.specs.Prelude.{IfSome, MatchOption}
+use Rattle.st_oer.specs.Ratios.{Ratio}
+use Rattle.st_tables.specs.Slots.{Slots}
+use Rattle.st_sender.specs.declared.load.Flown as code
+use Rattle.st_sender.specs.declared.load.Payment.{Payment}
+use Rattle.st_sender.specs.Sending.{Flight}
+use Rattle.st_sender.specs.Lanes.{Lane}
+use Rattle.st_sender.specs.Paying.{Pays, total}
+use Rattle.st_sender.specs.Allowed.{Bounds, IsNext, IsNone, IsUnit, NoneUnit, IsPlan, IsRest}
+use Rattle.st_sender.proofs.Money.{total_push}
+
+abbrev bound : (spare sequence room : ℕ) → Bounds
+bound spare sequence room = record { spare = spare; sequence = sequence; room = room }
+
+no_payment : (ms : List Payment) → length ms ≡ 0 → ms ≡ []
+no_payment [] e = refl
+no_payment (p ∷ ms) e = absurd (omega (arith, e))
+
+pub unit_small : (ms all : List Payment) (p : Payment) → length ms ≡ 0 → all ≡ ms ++ p ∷ [] → p.amount ≡ 1 → total all < 2 ^ 64
+unit_small ms all p none pushed one = omega (arith, ap total pushed, total_push ms p, ap total (no_payment ms none), one)
+
+-- what an option has, by what it is
+pub by_some : {X : Type 0} (o : Option X) (P : Type 0) (Q : X → Type 0) (x : X) → o ≡ Some x → MatchOption o P Q → Q x
+by_some o P Q x e m = subst (λ y. MatchOption y P Q) e m
+
+pub by_none : {X : Type 0} (o : Option X) (P : Type 0) (Q : X → Type 0) → ((x : X) → o ≢ Some x) → MatchOption o P Q → P
+by_none None P Q h m = m
+by_none (Some x) P Q h m = absurd (h x refl)
+
+pub if_some : {X : Type 0} (o : Option X) (Q : X → Type 0) (x : X) → o ≡ Some x → IfSome o Q → Q x
+if_some o Q x e m = subst (λ y. IfSome y Q) e m
+
+-- bounds that a test found
+pub below : (l v x y f : ℕ) → l ≡ v → x ≡ v → x < y → y ≡ f → l < f
+below l v x y f a b h d = omega (arith, a, b, h, d)
+
+pub small_last : (l p : ℕ) → l < p → p < 2147483648 → l + 1 < 2 ^ 32
+small_last l p h k = omega (arith, h, k)
+
+module _ (lanes : Slots Lane) (flights : List Flight) (r : Ratio) (limit spare sequence room : ℕ) where
+  pub plan_frame : (beyond rest : ℕ) (ms : List Payment) (f : code.Flown) → beyond ≡ room - 15 → rest ≡ room - 34 * length ms → Pays lanes r flights limit beyond 65 ms → IsNext lanes flights (bound spare sequence rest) f → IsPlan lanes flights r limit (bound spare sequence room) (Some f) ms
+  plan_frame beyond rest ms f e h p n = (subst (λ i. Pays lanes r flights limit i 65 ms) e p, subst (λ i. IsNext lanes flights (bound spare sequence i) f) h n)
+
+  pub plan_money : (beyond rest : ℕ) (ms : List Payment) → 0 < length ms → beyond ≡ room - 15 → rest ≡ room - 34 * length ms → Pays lanes r flights limit beyond 65 ms → IsNone lanes flights (bound spare sequence rest) → IsPlan lanes flights r limit (bound spare sequence room) None ms
+  plan_money beyond rest [] some e h p n = absurd (omega (arith, some))
+  plan_money beyond rest (m ∷ ms) some e h p n = inl (subst (λ i. Pays lanes r flights limit i 65 (m ∷ ms)) e p, subst (λ i. IsNone lanes flights (bound spare sequence i)) h n)
+
+  whole_room : (rest : ℕ) (ms : List Payment) → length ms ≡ 0 → rest ≡ room - 34 * length ms → rest ≡ room
+  whole_room rest ms none h = omega (arith, h, none)
+
+  pub plan_rest : (rest : ℕ) (ms : List Payment) → length ms ≡ 0 → rest ≡ room - 34 * length ms → IsNone lanes flights (bound spare sequence rest) → NoneUnit lanes flights r limit (bound spare sequence room) 65 → IsRest lanes flights r limit (bound spare sequence room)
+  plan_rest rest ms none h n u = (subst (λ i. IsNone lanes flights (bound spare sequence i)) (whole_room rest ms none h) n, u)
+
+  pub plan_unit : (beyond rest : ℕ) (ms all : List Payment) (p : Payment) → length ms ≡ 0 → all ≡ ms ++ p ∷ [] → beyond ≡ room - 15 → rest ≡ room - 34 * length ms → Pays lanes r flights limit beyond 65 ms → IsNone lanes flights (bound spare sequence rest)
+      → IsUnit lanes flights r limit (bound spare sequence room) p → IsPlan lanes flights r limit (bound spare sequence room) None all
+  plan_unit beyond rest ms all p none pushed e h pays n u =
+      let empty = no_payment ms none in
+      let one : all ≡ p ∷ [] = pushed ∙ ap (λ (xs : List Payment). xs ++ p ∷ []) empty in
+      subst (λ (xs : List Payment). IsPlan lanes flights r limit (bound spare sequence room) None xs) (sym one) (inr (
+        subst (λ i. Pays lanes r flights limit i 65 []) e (subst (λ (xs : List Payment). Pays lanes r flights limit beyond 65 xs) empty pays),
+        subst (λ i. IsNone lanes flights (bound spare sequence i)) (whole_room rest ms none h) n,
+        refl,
+        u,
+      ))
+
+  pub rest_is : (n : ℕ) → spare ≡ n → IsRest lanes flights r limit (bound spare sequence room) → IsRest lanes flights r limit (bound n sequence room)
+  rest_is n e p = subst (λ i. IsRest lanes flights r limit (bound i sequence room)) e p
+
+  pub plan_is : (n : ℕ) (f : Option code.Flown) (ms : List Payment) → spare ≡ n → IsPlan lanes flights r limit (bound spare sequence room) f ms → IsPlan lanes flights r limit (bound n sequence room) f ms
+  plan_is n f ms e p = subst (λ i. IsPlan lanes flights r limit (bound i sequence room) f ms) e p

@@ -1,0 +1,133 @@
+//! Money that rides along.
+
+ghost use Rattle.std.specs.Prelude.{[], ◌∷◌, ◌≡◌, ◌<◌, ◌≤◌, ◌^◌, ◌-◌, ◌*◌, length, IfOk, MatchOption};
+ghost use Rattle.st_sender.specs.Allowed.{Bounds, IsUnit, NoneUnit, least_for};
+ghost use Rattle.st_sender.specs.Paying.{Pays, flown_money, flown_least, most_for, payable};
+
+use crate::load::{Flight, Payment};
+use crate::sizes::unit_size;
+use crate::stream::Stream;
+use st_oer::Rate;
+use std::alloc::{AllocError, Allocator};
+
+/// A payment makes a packet at most so many bytes longer: its frame has at most 20 bytes, and the packet's amount and its
+/// number of frames grow by at most 7 bytes each (RFC 0029, section 5.2; RFC 0030).
+pub const PAYMENT_SIZE: usize = 34;
+/// A packet without frames has at most so many bytes.
+pub const EMPTY_SIZE: usize = 15;
+
+/// An amount without a stream's money in flight.
+pub fn without_money<A: Allocator + Copy>(flights: &[Flight<A>], number: u8, amount: u64) -> u64
+    ensures { result ≡ amount - flown_money number flights.now }
+{
+    let mut rest = amount;
+    for flight in flights {
+        rest = rest.saturating_sub(flight.part(number));
+    }
+    rest
+}
+
+/// An amount without what of a stream's money in flight should arrive at least.
+pub fn without_least<A: Allocator + Copy>(
+    flights: &[Flight<A>],
+    number: u8,
+    least: Rate,
+    amount: u64,
+) -> u64
+    ensures { result ≡ amount - flown_least least number flights.now }
+{
+    let mut rest = u128::from(amount);
+    for flight in flights {
+        rest = rest.saturating_sub(least.of(flight.part(number)));
+    }
+    rest as u64
+}
+
+/// The greatest amount of which at most this much should arrive.
+pub fn most_for(least: Rate, left: u64) -> u128
+    ensures { result ≡ most_for least left }
+{
+    (u128::from(left) * u128::from(least.den()) + u128::from(least.den() - 1))
+        / u128::from(least.num())
+}
+
+/// The prepare amount of an amount that is sent.
+pub fn least_for(least: Rate, amount: u64) -> u64
+    ensures { result ≡ least_for least amount }
+{
+    least.of(amount).min(u128::from(u64::MAX)) as u64
+}
+
+/// How much money may go on a stream.
+fn payable_at<A: Allocator + Copy>(
+    place: &Option<Stream<A>>,
+    flights: &[Flight<A>],
+    number: u8,
+    least: Rate,
+) -> u64
+    ensures { result ≡ payable least flights.now number place.now }
+{
+    match place {
+        Some(stream) => stream.payable(flights, number, least),
+        None => 0,
+    }
+}
+
+/// Money of all streams, as much as may go: in all at most the limit, and no more payments than the room surely takes.
+pub fn payments<A: Allocator + Copy>(
+    streams: &[Option<Stream<A>>],
+    flights: &[Flight<A>],
+    alloc: A,
+    least: Rate,
+    limit: u64,
+    room: usize,
+) -> Result<Vec<Payment, A>, AllocError>
+    requires { length streams.now ≡ 65 }
+    ensures { IfOk result (λ v. Pays streams.now least flights.now limit room 65 v.items) }
+{
+    let mut payments = Vec::new(alloc);
+    let mut left = limit;
+    for number in 0..65_u8 {
+        let amount = payable_at(&streams[number as usize], flights, number, least).min(left);
+        if amount == 0 || room / PAYMENT_SIZE <= payments.len() {
+            continue;
+        }
+        payments.push(Payment {
+            stream: number,
+            amount,
+        })?;
+        left -= amount;
+    }
+    Ok(payments)
+}
+
+/// One unit of money, where the room takes no more.
+pub fn unit<A: Allocator + Copy>(
+    streams: &[Option<Stream<A>>],
+    flights: &[Flight<A>],
+    least: Rate,
+    limit: u64,
+    spare: u128,
+    sequence: u64,
+    room: usize,
+) -> Option<Payment>
+    requires { length streams.now ≡ 65 }
+    ensures { MatchOption result (NoneUnit streams.now flights.now least limit (record { spare = spare; sequence = sequence; room = room }) 65) (λ p. IsUnit streams.now flights.now least limit (record { spare = spare; sequence = sequence; room = room }) p) }
+{
+    if limit == 0 {
+        return None;
+    }
+    let amount = least_for(least, 1);
+    for number in 0..65_u8 {
+        if payable_at(&streams[number as usize], flights, number, least) == 0
+            || room < unit_size(sequence, amount, number)
+        {
+            continue;
+        }
+        return Some(Payment {
+            stream: number,
+            amount: 1,
+        });
+    }
+    None
+}
