@@ -55,14 +55,14 @@ module _ {A : Type 0} where
   -- an end was delivered, or told again
   told : (a b : Read A) (x : Delivery A) (o : Over) → delivered (x ∷ []) ≡ [] → b.items ≡ a.items ++ x ∷ [] → b.over ≡ o → given_by b ≡ record { bytes = delivered a.items; over = o; calls = None }
   told a b x o none items is = given_eq (delivered b.items) (delivered a.items) b.over o
-    (ap delivered items ∙ delivered_sum a.items (x ∷ []) ∙ ap (λ l. delivered a.items ++ l) none ∙ append-nil (delivered a.items)) is
+      (ap delivered items ∙ delivered_sum a.items (x ∷ []) ∙ ap (λ l. delivered a.items ++ l) none ∙ append-nil (delivered a.items)) is
 
   again : (a b : Read A) (o : Over) → a.over ≡ o → b ≡ a → given_by b ≡ record { bytes = delivered a.items; over = o; calls = None }
   again a b o is same = rw same (given_eq (delivered a.items) (delivered a.items) a.over o refl is)
 
   pub next_given : (a b : Read A) (got : Got A) → ReadsAs a b got → Gives (given_by a) (given_by b) got
   next_given a b (Bytes v) h = given_eq (delivered b.items) (delivered a.items ++ v.items) b.over over.Open
-    (ap delivered h.1 ∙ delivered_sum a.items (delivery.Bytes v ∷ []) ∙ ap (λ l. delivered a.items ++ l) (append-nil v.items)) h.3
+      (ap delivered h.1 ∙ delivered_sum a.items (delivery.Bytes v ∷ []) ∙ ap (λ l. delivered a.items ++ l) (append-nil v.items)) h.3
   next_given a b Nothing h = given_eq (delivered b.items) (delivered a.items) b.over over.Open (ap delivered h.1) h.4
   next_given a b End (inl h) = told a b delivery.End over.Ended refl h.1 h.3
   next_given a b End (inr h) = again a b over.Ended h.0 h.1

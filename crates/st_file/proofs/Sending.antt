@@ -17,8 +17,9 @@ sending before after old new = record { before = before; after = after; old = ol
 -- what was read was taken
 pub sent_more : (before now after : Option (List ℕ)) (old mid new : Taken) (n m : ℕ) (piece : List ℕ) → Sent (sending before now old mid) n [] → Consumes now after piece → new.bytes ≡ mid.bytes ++ piece → m ≡ counted (n + length piece) → Sent (sending before after old new) m []
 sent_more before now after old mid new n m piece s read put count =
-    let first = rw append-nil at s.2 in
-    (s.0 ++ piece,
+    let first = rw append-nil at s.2 in (
+      s.0 ++ piece,
       put ∙ ap (λ l. l ++ piece) s.1 ∙ append_assoc old.bytes s.0 piece,
       rw append-nil (Consumes-trans before now after s.0 piece first read),
-      counted_more n m s.0 piece s.3 count)
+      counted_more n m s.0 piece s.3 count,
+    )

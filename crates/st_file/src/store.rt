@@ -51,7 +51,9 @@ fn write_piece<W: Write>(
 {
     match put_all(writer, bytes, turns) {
         Ok(()) => Ok(written.saturating_add(bytes.len() as u64)),
-        Err(PutError::Fault(sent)) => Err(FileError::WriteFault(written.saturating_add(sent as u64))),
+        Err(PutError::Fault(sent)) => Err(FileError::WriteFault(written.saturating_add(
+            sent as u64,
+        ))),
         Err(PutError::Turns(sent)) => Err(FileError::Turns(written.saturating_add(sent as u64))),
     }
 }

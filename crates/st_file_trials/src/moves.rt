@@ -25,7 +25,10 @@ fn a_fault_tells_what_was_moved(rt: HostRuntime) {
     let mut writer = Counting::new(FailAt::new(Wire::new(alloc, b"", 3, 0), 2));
     let told = store_all(&mut source, &mut writer, 100);
     assert!(rt; told == Err(FileError::WriteFault(3)));
-    assert_eq!(rt; writer.into_inner().into_inner().output(), b"abc".as_slice());
+    assert_eq!(rt;
+        writer.into_inner().into_inner().output(),
+        b"abc".as_slice()
+    );
     let mut reader = Counting::new(FailAt::new(Wire::new(alloc, b"abcdef", 2, 0), 2));
     let mut sink = Heap::new(alloc, 0);
     let told = send_all(alloc, &mut reader, &mut sink, 100);
@@ -62,12 +65,18 @@ fn each_write_fails_in_turn(rt: HostRuntime) {
         let mut writer = Counting::new(FailAt::new(Wire::new(alloc, b"", 3, 0), k));
         let told = store_all(&mut source, &mut writer, 100);
         assert!(rt; told == Err(FileError::WriteFault(bytes)), "at {k}");
-        assert_eq!(rt; writer.into_inner().into_inner().output().len() as u64, bytes);
+        assert_eq!(rt;
+            writer.into_inner().into_inner().output().len() as u64,
+            bytes
+        );
     }
     let mut source = Script::new(alloc, &STEPS);
     let mut writer = Counting::new(FailAt::new(Wire::new(alloc, b"", 3, 0), 5));
     assert!(rt; store_all(&mut source, &mut writer, 100) == Ok(6));
-    assert_eq!(rt; writer.into_inner().into_inner().output(), b"abcdef".as_slice());
+    assert_eq!(rt;
+        writer.into_inner().into_inner().output(),
+        b"abcdef".as_slice()
+    );
 }
 
 /// Six bytes take four reads, three puts and an end; a call that is refused or interrupted takes a turn more.
@@ -96,7 +105,17 @@ fn turns_of_a_send_are_used_up(rt: HostRuntime) {
 #[test]
 fn turns_of_a_store_are_used_up(rt: HostRuntime) {
     let alloc = rt.alloc();
-    let rows = [(0, 0), (1, 0), (2, 0), (3, 3), (4, 4), (5, 4), (6, 4), (7, 6), (8, 6)];
+    let rows = [
+        (0, 0),
+        (1, 0),
+        (2, 0),
+        (3, 3),
+        (4, 4),
+        (5, 4),
+        (6, 4),
+        (7, 6),
+        (8, 6),
+    ];
     for (turns, bytes) in rows {
         let mut source = Script::new(alloc, &STEPS);
         let mut writer = Counting::new(Wire::new(alloc, b"", 3, 0));

@@ -30,25 +30,25 @@ returns-in-Bytes-clause-read g c =
     let taken = length-take-le c.in-Bytes.n c.read_turn.new.buf c.in-Bytes.ensures.0 in
     rw items (
       kept_then (g.R.Read.remaining (device_of c.args.reader.now)) (g.R.Read.remaining (device_of c.loop-turns.reader)) (g.R.Read.remaining (device_of c.read_turn.new.reader)) (take c.in-Bytes.n c.read_turn.new.buf)
-        c.loop-turns.invariant.bytes c.in-Bytes.ensures.1,
+          c.loop-turns.invariant.bytes c.in-Bytes.ensures.1,
       omega (arith, taken, c.in-Bytes.ensures.0, long),
       λ none. absurd (omega (arith, taken, ap length none, c.in-Bytes.ensures.2 (omega (arith, long)))),
     )
 
 pub returns-in-End-clause-read : goal.returns-in-End-clause-read
 returns-in-End-clause-read g c = rw c.clear.ensures.items (
-    kept_then (g.R.Read.remaining (device_of c.args.reader.now)) (g.R.Read.remaining (device_of c.loop-turns.reader)) (g.R.Read.remaining (device_of c.read_turn.new.reader)) []
+  kept_then (g.R.Read.remaining (device_of c.args.reader.now)) (g.R.Read.remaining (device_of c.loop-turns.reader)) (g.R.Read.remaining (device_of c.read_turn.new.reader)) []
       c.loop-turns.invariant.bytes c.in-End.ensures.1,
-    omega arith,
-    λ none. c.in-End.ensures.2,
-  )
+  omega arith,
+  λ none. c.in-End.ensures.2,
+)
 
 pub loop-turns-preserved : goal.loop-turns-preserved
 loop-turns-preserved g c =
     let whole : c.loop-turns.piece.len ≡ length c.read_turn.new.buf = omega (arith, c.read_turn.auto.buf, c.deref_mut.ensures.len) in
     record {
       room = rw (written_over c.loop-turns.piece.len c.read_turn.new.buf (drop (length c.read_turn.new.buf) c.loop-turns.piece.items) whole)
-        (omega (arith, whole, c.loop-turns.piece.ok.0, c.loop-turns.invariant.room));
+          (omega (arith, whole, c.loop-turns.piece.ok.0, c.loop-turns.invariant.room));
       bytes = Keeps-trans (g.R.Read.remaining (device_of c.args.reader.now)) (g.R.Read.remaining (device_of c.loop-turns.reader)) (g.R.Read.remaining (device_of c.read_turn.new.reader)) c.loop-turns.invariant.bytes c.in-Again.ensures.0;
       faults = c.in-Again.ensures.1.faults ∙ c.loop-turns.invariant.faults;
       spent = record {

@@ -6,63 +6,63 @@ use Rattle.st_file.proofs.send.send_all.Goals as goal
 
 pub returns-in_err-piece-clause-turns : goal.returns-in_err-piece-clause-turns
 returns-in_err-piece-clause-turns g c = (
-    c.read_piece.new.turns,
-    spends_turns (tally_of c.args.reader.now) (tally_of c.loop-piece.reader) (tally_of c.read_piece.new.reader)
+  c.read_piece.new.turns,
+  spends_turns (tally_of c.args.reader.now) (tally_of c.loop-piece.reader) (tally_of c.read_piece.new.reader)
       (g.K.Sink.taken c.args.sink.now).calls (g.K.Sink.taken c.loop-piece.sink).calls c.args.turns c.loop-piece.left c.read_piece.new.turns
       c.loop-piece.invariant.spent c.in_err-piece.ensures.turns,
-    search (rules, c.in_err-piece.ensures.out_of_turns),
-  )
+  search (rules, c.in_err-piece.ensures.out_of_turns),
+)
 
 pub returns-in_err-put_end-clause-turns : goal.returns-in_err-put_end-clause-turns
 returns-in_err-put_end-clause-turns g c =
     let read = spends_turns (tally_of c.args.reader.now) (tally_of c.loop-piece.reader) (tally_of c.read_piece.new.reader)
-      (g.K.Sink.taken c.args.sink.now).calls (g.K.Sink.taken c.loop-piece.sink).calls c.args.turns c.loop-piece.left c.read_piece.new.turns
-      c.loop-piece.invariant.spent c.in_ok-piece.ensures.turns in (
-    c.put_end.new.turns,
-    spends_asks (tally_of c.args.reader.now) (tally_of c.read_piece.new.reader)
-      (g.K.Sink.taken c.args.sink.now).calls (g.K.Sink.taken c.loop-piece.sink).calls (g.K.Sink.taken c.put_end.new.sink).calls
-      c.args.turns c.read_piece.new.turns c.put_end.new.turns read c.in_err-put_end.ensures.turns,
-    search (rules, c.in_err-put_end.ensures.out_of_turns),
-  )
+    (g.K.Sink.taken c.args.sink.now).calls (g.K.Sink.taken c.loop-piece.sink).calls c.args.turns c.loop-piece.left c.read_piece.new.turns
+    c.loop-piece.invariant.spent c.in_ok-piece.ensures.turns in (
+      c.put_end.new.turns,
+      spends_asks (tally_of c.args.reader.now) (tally_of c.read_piece.new.reader)
+          (g.K.Sink.taken c.args.sink.now).calls (g.K.Sink.taken c.loop-piece.sink).calls (g.K.Sink.taken c.put_end.new.sink).calls
+          c.args.turns c.read_piece.new.turns c.put_end.new.turns read c.in_err-put_end.ensures.turns,
+      search (rules, c.in_err-put_end.ensures.out_of_turns),
+    )
 
 pub returns-then-is_empty-clause-turns : goal.returns-then-is_empty-clause-turns
 returns-then-is_empty-clause-turns g c =
     let read = spends_turns (tally_of c.args.reader.now) (tally_of c.loop-piece.reader) (tally_of c.read_piece.new.reader)
-      (g.K.Sink.taken c.args.sink.now).calls (g.K.Sink.taken c.loop-piece.sink).calls c.args.turns c.loop-piece.left c.read_piece.new.turns
-      c.loop-piece.invariant.spent c.in_ok-piece.ensures.turns in (
-    c.put_end.new.turns,
-    spends_asks (tally_of c.args.reader.now) (tally_of c.read_piece.new.reader)
-      (g.K.Sink.taken c.args.sink.now).calls (g.K.Sink.taken c.loop-piece.sink).calls (g.K.Sink.taken c.put_end.new.sink).calls
-      c.args.turns c.read_piece.new.turns c.put_end.new.turns read c.in_ok-put_end.ensures.turns,
-    search rules,
-  )
+    (g.K.Sink.taken c.args.sink.now).calls (g.K.Sink.taken c.loop-piece.sink).calls c.args.turns c.loop-piece.left c.read_piece.new.turns
+    c.loop-piece.invariant.spent c.in_ok-piece.ensures.turns in (
+      c.put_end.new.turns,
+      spends_asks (tally_of c.args.reader.now) (tally_of c.read_piece.new.reader)
+          (g.K.Sink.taken c.args.sink.now).calls (g.K.Sink.taken c.loop-piece.sink).calls (g.K.Sink.taken c.put_end.new.sink).calls
+          c.args.turns c.read_piece.new.turns c.put_end.new.turns read c.in_ok-put_end.ensures.turns,
+      search rules,
+    )
 
 pub returns-in_err-sent-clause-turns : goal.returns-in_err-sent-clause-turns
 returns-in_err-sent-clause-turns g c =
     let read = spends_turns (tally_of c.args.reader.now) (tally_of c.loop-piece.reader) (tally_of c.read_piece.new.reader)
-      (g.K.Sink.taken c.args.sink.now).calls (g.K.Sink.taken c.loop-piece.sink).calls c.args.turns c.loop-piece.left c.read_piece.new.turns
-      c.loop-piece.invariant.spent c.in_ok-piece.ensures.turns in (
-    c.put_piece.new.turns,
-    spends_asks (tally_of c.args.reader.now) (tally_of c.read_piece.new.reader)
-      (g.K.Sink.taken c.args.sink.now).calls (g.K.Sink.taken c.loop-piece.sink).calls (g.K.Sink.taken c.put_piece.new.sink).calls
-      c.args.turns c.read_piece.new.turns c.put_piece.new.turns read c.in_err-sent.ensures.turns,
-    search (rules, c.in_err-sent.ensures.out_of_turns),
-  )
+    (g.K.Sink.taken c.args.sink.now).calls (g.K.Sink.taken c.loop-piece.sink).calls c.args.turns c.loop-piece.left c.read_piece.new.turns
+    c.loop-piece.invariant.spent c.in_ok-piece.ensures.turns in (
+      c.put_piece.new.turns,
+      spends_asks (tally_of c.args.reader.now) (tally_of c.read_piece.new.reader)
+          (g.K.Sink.taken c.args.sink.now).calls (g.K.Sink.taken c.loop-piece.sink).calls (g.K.Sink.taken c.put_piece.new.sink).calls
+          c.args.turns c.read_piece.new.turns c.put_piece.new.turns read c.in_err-sent.ensures.turns,
+      search (rules, c.in_err-sent.ensures.out_of_turns),
+    )
 
 pub loop-piece-preserved : goal.loop-piece-preserved
 loop-piece-preserved g c =
     let read = spends_turns (tally_of c.args.reader.now) (tally_of c.loop-piece.reader) (tally_of c.read_piece.new.reader)
-      (g.K.Sink.taken c.args.sink.now).calls (g.K.Sink.taken c.loop-piece.sink).calls c.args.turns c.loop-piece.left c.read_piece.new.turns
-      c.loop-piece.invariant.spent c.in_ok-piece.ensures.turns in
+    (g.K.Sink.taken c.args.sink.now).calls (g.K.Sink.taken c.loop-piece.sink).calls c.args.turns c.loop-piece.left c.read_piece.new.turns
+    c.loop-piece.invariant.spent c.in_ok-piece.ensures.turns in
     record {
       sent = (
         sent_more (g.R.Read.remaining (device_of c.args.reader.now)) (g.R.Read.remaining (device_of c.loop-piece.reader)) (g.R.Read.remaining (device_of c.read_piece.new.reader))
-          (g.K.Sink.taken c.args.sink.now) (g.K.Sink.taken c.loop-piece.sink) (g.K.Sink.taken c.put_piece.new.sink) c.loop-piece.sent c.in_ok-sent.sent c.in_ok-piece.piece.items
-          c.loop-piece.invariant.sent.0 c.in_ok-piece.ensures.read.0 c.in_ok-sent.ensures.put.1 c.in_ok-sent.ensures.put.0,
+            (g.K.Sink.taken c.args.sink.now) (g.K.Sink.taken c.loop-piece.sink) (g.K.Sink.taken c.put_piece.new.sink) c.loop-piece.sent c.in_ok-sent.sent c.in_ok-piece.piece.items
+            c.loop-piece.invariant.sent.0 c.in_ok-piece.ensures.read.0 c.in_ok-sent.ensures.put.1 c.in_ok-sent.ensures.put.0,
         c.in_ok-sent.ensures.put.2 ∙ c.loop-piece.invariant.sent.1,
       );
       faults = c.in_ok-piece.ensures.faults ∙ c.loop-piece.invariant.faults;
       spent = spends_asks (tally_of c.args.reader.now) (tally_of c.read_piece.new.reader)
-        (g.K.Sink.taken c.args.sink.now).calls (g.K.Sink.taken c.loop-piece.sink).calls (g.K.Sink.taken c.put_piece.new.sink).calls
-        c.args.turns c.read_piece.new.turns c.put_piece.new.turns read c.in_ok-sent.ensures.turns;
+          (g.K.Sink.taken c.args.sink.now).calls (g.K.Sink.taken c.loop-piece.sink).calls (g.K.Sink.taken c.put_piece.new.sink).calls
+          c.args.turns c.read_piece.new.turns c.put_piece.new.turns read c.in_ok-sent.ensures.turns;
     }
