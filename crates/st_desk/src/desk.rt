@@ -1,6 +1,6 @@
 //! What lies under a hop's lock.
 
-ghost use Rattle.std.specs.Prelude.{◌≡◌, ◌≢◌, ℕ, ◌+◌, ◌<◌, [], List, true, length, map, nat_lt, sum, vec_len, OnOk, OnErr, IfOk, IfErr, IsErrOf, IsOkUnless, MatchBool};
+ghost use Rattle.std.specs.Prelude.{◌≡◌, ◌≢◌, ◌+◌, ◌<◌, length, nat_lt, sum, vec_len, OnOk, OnErr, IfOk, IfErr, IsErrOf, IsOkUnless, MatchBool};
 ghost use Rattle.std.specs.List.{sum_by};
 ghost use Rattle.st_ilp.specs.Reading.{is_fulfill_text};
 ghost use Rattle.st_hop.specs.Tickets.{IsAmong};
@@ -9,7 +9,7 @@ ghost use Rattle.st_hop.specs.Refusals.{t00_text};
 ghost use Rattle.st_hop.specs.Settling.{settled, claim_of, due_of, is_booked};
 ghost use Rattle.st_hop.specs.Seen.{verdict_seen, outcome_seen, IsReady, GoesAcross};
 ghost use Rattle.st_hop.specs.declared.error.HopError.TheVariants as refusals;
-ghost use Rattle.st_desk.specs.Desk.{IsNew, Desk, Held, claims_in, dues_in};
+ghost use Rattle.st_desk.specs.Desk.{IsNew, claims_in, dues_in};
 ghost use Rattle.st_desk.specs.declared.error.DeskError.TheVariants.{NoShareLeft, Stranger, MissingShare, NoMemory};
 
 use crate::error::DeskError;

@@ -1,0 +1,273 @@
+//! A desk with one share out, and what it answers.
+ghost use Rattle.std.specs.Prelude.{◌≡◌, IfOk};
+ghost use Rattle.st_desk.specs.Desk.{IsNew};
+
+use st_desk::{AccountShares, Clock, HopDesk, Link, LinkFault, Owed, serve};
+use st_hop::{Account, HopError, HopState, Outcome, Route, Verdict};
+use st_ilp::Moment;
+use st_oer::Counted;
+use std::alloc::{Allocator, Global};
+use std::marker::Brand;
+use std::process::Abort;
+use std::sync::ledger::{Blank, Ledger};
+use std::sync::{Mutex, Wait};
+use std::test::Fail;
+
+/// A Prepare of 5 to `example.b`, which expires at 2024-01-02 03:04:05.006; its condition is SHA-256 of 32 zero bytes.
+pub(crate) const PREPARE: &[u8; 70] = b"\x0c\x44\0\0\0\0\0\0\0\x0520240102030405006\
+\x66\x68\x7a\xad\xf8\x62\xbd\x77\x6c\x8f\xc1\x8b\x8e\x9f\x8e\x20\
+\x08\x97\x14\x85\x6e\xe2\x33\xb3\x90\x2a\x59\x1d\x0d\x5f\x29\x25\x09example.b\0";
+
+/// The same as it goes on, a second less.
+const ONWARD: &[u8; 70] = b"\x0c\x44\0\0\0\0\0\0\0\x0520240102030404006\
+\x66\x68\x7a\xad\xf8\x62\xbd\x77\x6c\x8f\xc1\x8b\x8e\x9f\x8e\x20\
+\x08\x97\x14\x85\x6e\xe2\x33\xb3\x90\x2a\x59\x1d\x0d\x5f\x29\x25\x09example.b\0";
+
+/// The Fulfill of 32 zero bytes, without data.
+pub(crate) const FULFILL: &[u8; 35] =
+    b"\x0d\x21\0\0\0\0\0\0\0\0\0\0\0\0\0\0\0\0\0\0\0\0\0\0\0\0\0\0\0\0\0\0\0\0\0";
+
+/// A Reject of the neighbour `example.b`.
+const REJECT: &[u8; 17] = b"\x0e\x0fF02\x09example.b\0\0";
+
+/// The hop's Reject where memory was refused, and where a neighbour gave no answer.
+pub(crate) const T00: &[u8; 17] = b"\x0e\x0fT00\x09example.c\0\0";
+
+pub(crate) const T01: &[u8; 17] = b"\x0e\x0fT01\x09example.c\0\0";
+
+/// The hop `example.c` with nothing owed, account 0, and account 1 behind `example.b`. Each may owe 100.
+pub(crate) fn new_hop<A: Allocator + Copy>(alloc: A) -> Result<HopState<A>, HopError>
+    ensures { IfOk result IsNew }
+{
+    let account = Account {
+        limit: 100,
+        max_packet: 1000,
+    };
+    let routes = [Route {
+        prefix: "example.b",
+        account: 1,
+    }];
+    HopState::new(alloc, "example.c", &[account, account], &routes)
+}
+
+/// One moment, long before the Prepare expires.
+#[derive(Drop)]
+pub(crate) struct Still(Moment);
+
+pub(crate) fn stopped_clock(rt: &impl Abort) -> Still {
+    Still(Moment::new(0).expect(rt, "a moment"))
+}
+
+impl Clock for Still {
+    fn now(&mut self) -> Moment {
+        self.0
+    }
+}
+
+/// A neighbour in memory: it gives its answer, where it has one, to the Prepare as it goes on.
+#[derive(Drop)]
+pub(crate) struct Neighbour<'a, A: Allocator + Copy> {
+    pub(crate) alloc: A,
+    pub(crate) answer: Option<&'a [u8]>,
+    pub(crate) asked: u64,
+}
+
+impl<A: Allocator + Copy> Counted for Neighbour<'_, A> {
+    ghost fault_count = { λ _. 0 };
+
+    fn faults(&self) -> u64 {
+        0
+    }
+}
+
+impl<A: Allocator + Copy> Link<A> for Neighbour<'_, A> {
+    fn exchange(&mut self, bytes: &[u8]) -> Result<Vec<u8, A>, LinkFault> {
+        self.asked = self.asked.saturating_add(1);
+        match self.answer {
+            Some(answer) if bytes == ONWARD.as_slice() => {
+                Vec::from_slice(self.alloc, answer).map_err(|_| LinkFault::NoMemory)
+            }
+            _ => Err(LinkFault::Peer),
+        }
+    }
+}
+
+/// What one thread is answered by a new desk with this many links, and what is owed then.
+fn one_serves<C: Ledger, D: Ledger, R: Wait + Abort>(
+    rt: &R,
+    alloc: Global,
+    hop: HopState<Global>,
+    claims: Blank,
+    dues: Blank,
+    answer: Option<&[u8]>,
+    has_links: bool,
+) -> Result<(Vec<u8>, Owed), Fail>
+    requires fresh { IsNew hop }
+    requires claims { (claims.name ≡ C.name) × (claims.parts ≡ C.parts) × (claims.parts ≡ 64) }
+    requires dues { (dues.name ≡ D.name) × (dues.parts ≡ D.parts) × (dues.parts ≡ 64) }
+{
+    let mut desk = HopDesk::<C, D, Global>::new(alloc, hop, claims, dues);
+    let mut shares = desk.shares()?;
+    let desk = Mutex::new(desk);
+    let mut links = Vec::new(alloc);
+    for _ in 0..2u8 {
+        if has_links {
+            links.push(Neighbour {
+                alloc,
+                answer,
+                asked: 0,
+            })?;
+        }
+    }
+    let mut clock = stopped_clock(rt);
+    let told = serve(
+        rt,
+        &desk,
+        &mut shares,
+        0,
+        PREPARE,
+        links.as_mut_slice(),
+        &mut clock,
+    )?;
+    let mut desk = desk.into_inner();
+    assert_eq!(rt; desk.hop().held(0), Ok(0));
+    let booked = desk.hop().claims(0);
+    assert_eq!(rt; desk.hop().dues(1), booked);
+    let owed = gathered(rt, alloc, &mut desk, shares)?;
+    assert_eq!(rt; Ok(owed.claims), booked);
+    assert_eq!(rt; desk.hop().claims(1), Ok(0));
+    Ok((told, owed))
+}
+
+/// What is owed at a desk of which one share is out.
+pub(crate) fn gathered<C: Ledger, D: Ledger, A: Allocator + Copy>(
+    rt: &impl Abort,
+    alloc: A,
+    desk: &mut HopDesk<C, D, A>,
+    shares: AccountShares<C, D>,
+) -> Result<Owed, Fail> {
+    let mut all = Vec::new(alloc);
+    all.push(shares)?;
+    match desk.gather(all) {
+        Ok(owed) => Ok(owed),
+        Err((refused, _)) => panic!(rt; "refused {}", refused.number()),
+    }
+}
+
+/// A Fulfill is booked; a Reject, a neighbour without an answer and a missing link are not.
+#[test]
+fn a_thread_serves(rt: HostRuntime) -> Result<(), Fail> {
+    let rows: [(Option<&[u8]>, bool, &[u8], u64); 4] = [
+        (Some(FULFILL), true, FULFILL, 5),
+        (Some(REJECT), true, REJECT, 0),
+        (None, true, T01, 0),
+        (Some(FULFILL), false, T01, 0),
+    ];
+    let alloc = rt.alloc();
+    for (answer, has_links, want, amount) in rows {
+        let (told, owed) = one_serves::<Brand, Brand, _>(
+            &rt,
+            alloc,
+            new_hop(alloc)?,
+            Blank::new(64),
+            Blank::new(64),
+            answer,
+            has_links,
+        )?;
+        assert!(rt; told.as_slice() == want);
+        assert_eq!(rt;
+            owed,
+            Owed {
+                claims: amount,
+                dues: amount
+            }
+        );
+    }
+    Ok(())
+}
+
+/// A ticket of another hop is refused, and nothing is booked.
+fn strange<C: Ledger, D: Ledger>(
+    rt: &impl Abort,
+    alloc: Global,
+    hop: HopState<Global>,
+    mut other: HopState<Global>,
+    claims: Blank,
+    dues: Blank,
+) -> Result<Owed, Fail>
+    requires fresh { IsNew hop }
+    requires claims { (claims.name ≡ C.name) × (claims.parts ≡ C.parts) × (claims.parts ≡ 64) }
+    requires dues { (dues.name ≡ D.name) × (dues.parts ≡ D.parts) × (dues.parts ≡ 64) }
+{
+    let mut desk = HopDesk::<C, D, Global>::new(alloc, hop, claims, dues);
+    let mut shares = desk.shares()?;
+    let outcome = Outcome::Answered(FULFILL.to_vec(alloc)?);
+    let mut clock = stopped_clock(rt);
+    match other.arrive(0, PREPARE, clock.now())? {
+        Verdict::Forward {
+            ticket,
+            account: _,
+            bytes: _,
+        } => {
+            let refused = desk.settle(&mut shares, ticket, outcome, clock.now());
+            assert_eq!(rt; refused.err().map(|e| e.number()), Some(73));
+        }
+        Verdict::Answer(_) => panic!(rt; "the Prepare was answered"),
+    }
+    gathered(rt, alloc, &mut desk, shares)
+}
+
+#[test]
+fn a_strange_ticket_is_refused(rt: HostRuntime) -> Result<(), Fail> {
+    let alloc = rt.alloc();
+    let owed = strange::<Brand, Brand>(
+        &rt,
+        alloc,
+        new_hop(alloc)?,
+        new_hop(alloc)?,
+        Blank::new(64),
+        Blank::new(64),
+    )?;
+    assert_eq!(rt; owed, Owed { claims: 0, dues: 0 });
+    Ok(())
+}
+
+/// 63 shares are given, and a desk tells what is owed where all of them came back.
+fn all_shares<C: Ledger, D: Ledger>(
+    rt: &impl Abort,
+    alloc: Global,
+    hop: HopState<Global>,
+    claims: Blank,
+    dues: Blank,
+) -> Result<(), Fail>
+    requires fresh { IsNew hop }
+    requires claims { (claims.name ≡ C.name) × (claims.parts ≡ C.parts) × (claims.parts ≡ 64) }
+    requires dues { (dues.name ≡ D.name) × (dues.parts ≡ D.parts) × (dues.parts ≡ 64) }
+{
+    let mut desk = HopDesk::<C, D, Global>::new(alloc, hop, claims, dues);
+    let last = desk.shares()?;
+    let mut shares = Vec::new(alloc);
+    for _ in 0..62u8 {
+        shares.push(desk.shares()?)?;
+    }
+    assert_eq!(rt; desk.shares().err().map(|e| e.number()), Some(68));
+    match desk.gather(shares) {
+        Ok(_) => panic!(rt; "a share was missing"),
+        Err((refused, back)) => {
+            assert_eq!(rt; refused.number(), 74);
+            assert_eq!(rt; refused.inner(), None);
+            shares = back;
+        }
+    }
+    assert_eq!(rt; shares.len(), 62);
+    shares.push(last)?;
+    assert!(rt; desk.gather(shares).is_ok());
+    assert!(rt; desk.shares().is_ok());
+    Ok(())
+}
+
+#[test]
+fn a_missing_share_is_told(rt: HostRuntime) -> Result<(), Fail> {
+    let alloc = rt.alloc();
+    all_shares::<Brand, Brand>(&rt, alloc, new_hop(alloc)?, Blank::new(64), Blank::new(64))
+}

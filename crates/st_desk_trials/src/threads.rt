@@ -1,0 +1,138 @@
+//! Two threads that serve one hop at once.
+ghost use Rattle.std.specs.Prelude.{◌≡◌};
+ghost use Rattle.st_desk.specs.Desk.{IsNew};
+
+use crate::desks::{FULFILL, PREPARE, new_hop, stopped_clock};
+use st_desk::{AccountShares, HopDesk, Link, LinkFault, Owed, serve};
+use st_hop::HopState;
+use st_oer::Counted;
+use std::alloc::Global;
+use std::marker::Brand;
+use std::process::Abort;
+use std::sync::atomic::{AtomicU64, Ordering};
+use std::sync::ledger::{Blank, Ledger};
+use std::sync::{Mutex, Wait};
+use std::test::Fail;
+use std::thread;
+use std::thread::Threads;
+use std::time::Duration;
+
+/// A neighbour that holds the first exchange until another was answered, for so many looks, and then gives a fault.
+#[derive(Drop)]
+struct Gate<'a, R: std::time::Clock> {
+    rt: &'a R,
+    alloc: Global,
+    exchanges: &'a AtomicU64,
+    answered: &'a AtomicU64,
+}
+
+const LOOKS: u32 = 10_000;
+
+impl<R: std::time::Clock> Counted for Gate<'_, R> {
+    ghost fault_count = { λ _. 0 };
+
+    fn faults(&self) -> u64 {
+        0
+    }
+}
+
+impl<R: std::time::Clock> Gate<'_, R> {
+    /// Whether another exchange was answered while this one waited.
+    fn opens(&self) -> bool {
+        for _ in 0..LOOKS {
+            if self.answered.load(Ordering::SeqCst) > 0 {
+                return true;
+            }
+            thread::sleep(self.rt, Duration::from_micros(100));
+        }
+        false
+    }
+}
+
+impl<R: std::time::Clock> Link<Global> for Gate<'_, R> {
+    fn exchange(&mut self, _bytes: &[u8]) -> Result<Vec<u8>, LinkFault> {
+        if self.exchanges.fetch_add(1, Ordering::SeqCst) == 0 && !self.opens() {
+            return Err(LinkFault::Peer);
+        }
+        self.answered.fetch_add(1, Ordering::SeqCst);
+        FULFILL.to_vec(self.alloc).map_err(|_| LinkFault::NoMemory)
+    }
+}
+
+/// Whether the Prepare was answered with the Fulfill.
+fn is_fulfilled<C: Ledger, D: Ledger, R: Wait + Abort + std::time::Clock>(
+    rt: &R,
+    alloc: Global,
+    desk: &Mutex<HopDesk<C, D, Global>>,
+    shares: &mut AccountShares<C, D>,
+    exchanges: &AtomicU64,
+    answered: &AtomicU64,
+) -> bool {
+    let gate = || Gate {
+        rt,
+        alloc,
+        exchanges,
+        answered,
+    };
+    let mut links = [gate(), gate()];
+    match serve(
+        rt,
+        desk,
+        shares,
+        0,
+        PREPARE,
+        &mut links,
+        &mut stopped_clock(rt),
+    ) {
+        Ok(answer) => answer.as_slice() == FULFILL.as_slice(),
+        Err(_) => false,
+    }
+}
+
+/// Whether each of two threads was answered with the Fulfill, and what is owed then.
+fn two_serve<
+    C: Ledger + Send + Sync,
+    D: Ledger + Send + Sync,
+    R: Threads + Wait + Abort + std::time::Clock + Sync,
+>(
+    rt: &R,
+    alloc: Global,
+    hop: HopState<Global>,
+    claims: Blank,
+    dues: Blank,
+) -> Result<(bool, bool, Option<Owed>), Fail>
+    requires fresh { IsNew hop }
+    requires claims { (claims.name ≡ C.name) × (claims.parts ≡ C.parts) × (claims.parts ≡ 64) }
+    requires dues { (dues.name ≡ D.name) × (dues.parts ≡ D.parts) × (dues.parts ≡ 64) }
+{
+    let mut desk = HopDesk::<C, D, Global>::new(alloc, hop, claims, dues);
+    let mut mine = desk.shares()?;
+    let mut theirs = desk.shares()?;
+    let desk = Mutex::new(desk);
+    let exchanges = AtomicU64::new(0);
+    let answered = AtomicU64::new(0);
+    let (first, second) = thread::join(
+        rt,
+        || is_fulfilled(rt, alloc, &desk, &mut mine, &exchanges, &answered),
+        || is_fulfilled(rt, alloc, &desk, &mut theirs, &exchanges, &answered),
+    );
+    let mut desk = desk.into_inner();
+    let mut shares = Vec::new(alloc);
+    shares.push(mine)?;
+    shares.push(theirs)?;
+    Ok((first, second, desk.gather(shares).ok()))
+}
+
+/// Each of two threads waits for the other's exchange: one alone, or an exchange made under the lock, never passes.
+#[test]
+fn both_pass_the_gate(rt: HostRuntime) -> Result<(), Fail> {
+    let alloc = rt.alloc();
+    let hop = new_hop(alloc)?;
+    let told = two_serve::<Brand, Brand, _>(&rt, alloc, hop, Blank::new(64), Blank::new(64))?;
+    let owed = Owed {
+        claims: 10,
+        dues: 10,
+    };
+    assert_eq!(rt; told, (true, true, Some(owed)));
+    Ok(())
+}
