@@ -1,5 +1,5 @@
-use crate::{Decision, Got, Intake, Reason};
 use st_frames::{Frame, FrameError, read_packet};
+use st_receiver::{Decision, Got, Intake, Reason};
 use std::alloc::Allocator;
 use std::test::Fail;
 
