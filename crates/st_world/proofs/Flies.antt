@@ -127,13 +127,13 @@ flies_lands s p b t u h f = record { flights = f.flights ∙ h.flights; last = f
 raised_lands : (s : Sending) (p : Flight) (b : Bool) (t : Sending) (n : ℕ) (q : Result Packet KeyError) → Lands s p b t → Lands s p b (raised t n q)
 raised_lands s p b t n q h = flies_lands s p b t (raised t n q) h (raised_flies t t n q (same_flies t))
 
-answer_lands : (e : EndState) (f : flights.Open) (p : Flight) (a : Result AnswerPacket IlpError) → Lands e.sending p (pays_by f a) (answered_by e f p a)
+answer_lands : (e : EndState) (f : flights.Open) (p : Flight) (a : Result AnswerPacket IlpError) → Lands e.sending p (pays_by f a) (answered_by e.keys e.sending f p a)
 answer_lands e f p (Err fault) = failed_lands e.sending p Plain
 answer_lands e f p (Ok (Fulfilled fulfillment payload)) =
-    lands_cond e.sending p (fits f fulfillment) (raised (after_fulfilled e.sending p) p.sequence (opened e.keys 13 payload)) (after_failed e.sending p Plain)
-    (raised_lands e.sending p true (after_fulfilled e.sending p) p.sequence (opened e.keys 13 payload) (fulfilled_lands e.sending p)) (failed_lands e.sending p Plain)
+    lands_cond e.sending p (fits f fulfillment) (raised (after_fulfilled e.sending p) f.sequence (opened e.keys 13 payload)) (after_failed e.sending p Plain)
+    (raised_lands e.sending p true (after_fulfilled e.sending p) f.sequence (opened e.keys 13 payload) (fulfilled_lands e.sending p)) (failed_lands e.sending p Plain)
 answer_lands e f p (Ok (Rejected code by message payload)) =
-    raised_lands e.sending p false (after_failed e.sending p (failure_of code payload)) p.sequence (opened e.keys 14 payload) (failed_lands e.sending p (failure_of code payload))
+    raised_lands e.sending p false (after_failed e.sending p (failure_of code payload)) f.sequence (opened e.keys 14 payload) (failed_lands e.sending p (failure_of code payload))
 
 pub outcome_lands : (e : EndState) (f : flights.Open) (p : Flight) (o : Option (List ℕ)) → Lands e.sending p (pays f o) (after_outcome e f p o).sending
 outcome_lands e f p None = failed_lands e.sending p Plain

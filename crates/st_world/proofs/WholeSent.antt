@@ -162,13 +162,13 @@ out_raised : (l : ℕ → Ledger) (r : Receiving) (s : Sending) (n : ℕ) (q : R
 out_raised l r s n (Err e) h = h
 out_raised l r s n (Ok q) h = out_cond l r (nat_eq q.sequence n) (after_all_told s (frames_of q)) s (out_all_told l r (frames_of q) s h) h
 
-out_answer : (l : ℕ → Ledger) (r : Receiving) (e : EndState) (f : flights.Open) (p : Flight) (a : Result AnswerPacket IlpError) → RecvWhole l r → (fulfills a ≡ true → AllFlownTaken r p.frames) → SendWhole l r e.sending → SendWhole l r (answered_by e f p a)
+out_answer : (l : ℕ → Ledger) (r : Receiving) (e : EndState) (f : flights.Open) (p : Flight) (a : Result AnswerPacket IlpError) → RecvWhole l r → (fulfills a ≡ true → AllFlownTaken r p.frames) → SendWhole l r e.sending → SendWhole l r (answered_by e.keys e.sending f p a)
 out_answer l r e f p (Err fault) inn t h = h
 out_answer l r e f p (Ok (Fulfilled fulfillment payload)) inn t h =
-    out_cond l r (fits f fulfillment) (raised (after_fulfilled e.sending p) p.sequence (opened e.keys 13 payload)) (after_failed e.sending p Plain)
-    (out_raised l r (after_fulfilled e.sending p) p.sequence (opened e.keys 13 payload) (out_all_acked l r p.frames (landed e.sending p.sequence) inn (t refl) h)) h
+    out_cond l r (fits f fulfillment) (raised (after_fulfilled e.sending p) f.sequence (opened e.keys 13 payload)) (after_failed e.sending p Plain)
+    (out_raised l r (after_fulfilled e.sending p) f.sequence (opened e.keys 13 payload) (out_all_acked l r p.frames (landed e.sending p.sequence) inn (t refl) h)) h
 out_answer l r e f p (Ok (Rejected code by message payload)) inn t h =
-    out_raised l r (after_failed e.sending p (failure_of code payload)) p.sequence (opened e.keys 14 payload) h
+    out_raised l r (after_failed e.sending p (failure_of code payload)) f.sequence (opened e.keys 14 payload) h
 
 pub out_outcome : (l : ℕ → Ledger) (r : Receiving) (e : EndState) (f : flights.Open) (p : Flight) (o : Option (List ℕ)) → RecvWhole l r → ((y : List ℕ) → o ≡ Some y → is_fulfill_text y ≡ true → AllFlownTaken r p.frames) → SendWhole l r e.sending → SendWhole l r (outcome_left e f p o)
 out_outcome l r e f p None inn t h = h
