@@ -13,14 +13,14 @@ use Rattle.st_sender.specs.Answering.{after_acked, after_all_acked, landed, afte
 use Rattle.st_receiver.specs.Streams.{with_receive_max, may_name}
 use Rattle.st_end.specs.State.{EndState}
 use Rattle.st_end.specs.declared.error.EndError.{EndError}
-use Rattle.st_end.specs.Calls.{Answer, own_number, with_stream, opening_as}
+use Rattle.st_end.specs.Calls.{Answer, own_number, with_stream, opening_as, connection_refusal}
 use Rattle.st_end.specs.declared.error.EndError.TheVariants.{NoStream, ConnectionFailed, Closed}
 use Rattle.st_end.specs.declared.flight.Open as flights
 use Rattle.st_end.specs.Answers.{raised, fits, failure_of, answered_by, after_outcome, pays, pays_by}
 use Rattle.st_end.specs.Receiving.{opened_too}
 use Rattle.st_world.specs.State.{EndEntry}
 use Rattle.st_world.proofs.Moves.{Turns, opens, raises, Replied, rejected, risen, accepted}
-use Rattle.st_world.proofs.EndSteps.{opened_keeps, marked_keeps}
+use Rattle.st_world.proofs.EndSteps.{opened_keeps, marked_keeps, opening_either}
 use Rattle.st_receiver.specs.Limits.{reply_frames}
 
 -- what answers and told limits leave as it is
@@ -99,7 +99,7 @@ turned_flies e false x y f g = g
 
 opening_flies : (e : EndState) (o : Option ℕ) → Flies e.sending (opening_as e o).1.sending
 opening_flies e None = same_flies e.sending
-opening_flies e (Some k) = turned_flies {A = Result ℕ EndError} e e.sending.failed (Err ConnectionFailed, e) (cond e.receiving.closed (Err Closed, e) (Ok k, with_stream e k)) (same_flies e.sending) (turned_flies {A = Result ℕ EndError} e e.receiving.closed (Err Closed, e) (Ok k, with_stream e k) (same_flies e.sending) (with_flies e.sending e.sending k new_outgoing (same_flies e.sending)))
+opening_flies e (Some k) = opening_either (λ f. Flies e.sending f.sending) e k (connection_refusal e) (same_flies e.sending) (with_flies e.sending e.sending k new_outgoing (same_flies e.sending))
 
 pub turns_flies : (e f : EndState) → Turns e f → Flies e.sending f.sending
 turns_flies e f opens = opening_flies e (own_number e)
@@ -150,7 +150,7 @@ secret_cond e false x y f g = g
 
 opening_secret : (e : EndState) (o : Option ℕ) → (opening_as e o).1.keys ≡ e.keys
 opening_secret e None = refl
-opening_secret e (Some k) = secret_cond {A = Result ℕ EndError} e e.sending.failed (Err ConnectionFailed, e) (cond e.receiving.closed (Err Closed, e) (Ok k, with_stream e k)) refl (secret_cond {A = Result ℕ EndError} e e.receiving.closed (Err Closed, e) (Ok k, with_stream e k) refl refl)
+opening_secret e (Some k) = opening_either (λ f. f.keys ≡ e.keys) e k (connection_refusal e) refl refl
 
 pub turns_secret : (e f : EndState) → Turns e f → f.keys ≡ e.keys
 turns_secret e f opens = opening_secret e (own_number e)

@@ -19,7 +19,7 @@ use Rattle.st_sender.specs.Answering.{acked_data, acked_close, after_whole_acked
 use Rattle.st_receiver.specs.Streams.{Receiving, Incoming, incoming_at, incoming_or, with_incoming, is_open, may_name, with_receive_max}
 use Rattle.st_end.specs.State.{EndState}
 use Rattle.st_end.specs.declared.error.EndError.{EndError}
-use Rattle.st_end.specs.Calls.{Answer, own_number, with_stream, opening_as}
+use Rattle.st_end.specs.Calls.{Answer, own_number, with_stream, opening_as, connection_refusal}
 use Rattle.st_end.specs.declared.error.EndError.TheVariants.{NoStream, ConnectionFailed, Closed}
 use Rattle.st_end.specs.declared.flight.Open as flights
 use Rattle.st_end.specs.Answers.{raised, fits, failure_of, answered_by, outcome_left}
@@ -30,7 +30,7 @@ use Rattle.st_world.proofs.Maps.{get_here, get_apart}
 use Rattle.st_tables.proofs.SlotLemmas.{slot_cases}
 use Rattle.st_keys.specs.Keys.{DerivedKeys}
 use Rattle.st_world.proofs.DataReceived.{fresh_at, FramesFine}
-use Rattle.st_world.proofs.EndSteps.{opened_keeps, marked_keeps}
+use Rattle.st_world.proofs.EndSteps.{opened_keeps, marked_keeps, opening_either}
 use Rattle.st_receiver.specs.Limits.{reply_frames}
 use Rattle.st_world.proofs.DataRuns.{own_none}
 use Rattle.st_world.proofs.Credited.{faultless}
@@ -222,9 +222,8 @@ opening_good : (own peer : ℕ → Ledger) (t : Receiving) (e : EndState) (o : O
 opening_good own peer t e None none s r = same_good own peer t e s r
 opening_good own peer t e (Some k) none s r =
     let a = alike_with e.receiving e.receiving k (incoming_at e.receiving k) refl refl (alike_same e.receiving) in
-    either_good {A = Result ℕ EndError} own peer t e.receiving e.sending.failed (Err ConnectionFailed, e) (cond e.receiving.closed (Err Closed, e) (Ok k, with_stream e k)) (same_good own peer t e s r)
-    (either_good {A = Result ℕ EndError} own peer t e.receiving e.receiving.closed (Err Closed, e) (Ok k, with_stream e k) (same_good own peer t e s r)
-    (record { send = out_new own t e.sending k (none k refl) s; recv = alike_whole peer e.receiving (with_incoming e.receiving k (incoming_at e.receiving k)) a r; rise = alike_rise e.receiving (with_incoming e.receiving k (incoming_at e.receiving k)) a }))
+    opening_either (λ f. EndGood own peer t e.receiving f) e k (connection_refusal e) (same_good own peer t e s r)
+    (record { send = out_new own t e.sending k (none k refl) s; recv = alike_whole peer e.receiving (with_incoming e.receiving k (incoming_at e.receiving k)) a r; rise = alike_rise e.receiving (with_incoming e.receiving k (incoming_at e.receiving k)) a })
 
 alike_cond : (r : Receiving) (b : Bool) (s t : Receiving) → Alike r s → Alike r t → Alike r (cond b s t)
 alike_cond r true s t f g = f
