@@ -5,6 +5,7 @@ use Rattle.std.specs.Prelude.{◌≡◌, ◌⊎◌, ℕ, ◌+◌, ◌*◌, ◌-�
 use Rattle.std.specs.List.{range_with_len}
 use Rattle.std.specs.declared.option.Option.{Option}
 use Rattle.std.specs.declared.option.Option.TheVariants.{None, Some}
+use Rattle.std.specs.Option.{option_or}
 use Rattle.st_sender.specs.declared.error.OutboxError.{OutboxError}
 use Rattle.st_sender.specs.Sending.{Outgoing, Sending, new_outgoing, outgoing_at, with_outgoing, changed}
 use Rattle.st_sender.specs.Accepting.{after_write, after_clean, after_stream_abort, after_offer}
@@ -21,13 +22,14 @@ abbrev pub wrapped_too : Option OutboxError → Option EndError
 wrapped_too None = None
 wrapped_too (Some why) = Some (wrapped why)
 
+-- the connection failed, or the peer closed it
+abbrev pub connection_refusal : EndState → Option EndError
+connection_refusal e = if e.sending.failed then Some ConnectionFailed else (if e.receiving.closed then Some Closed else None)
+
 -- the connection's own rules stand between the stream's number and the rules of the sending side
 abbrev pub refusal_at : EndState → Option Outgoing → (of_sender : Option OutboxError) → Option EndError
 refusal_at e None of_sender = Some NoStream
-refusal_at e (Some x) of_sender =
-    if e.sending.failed then Some ConnectionFailed
-    else (if e.receiving.closed then Some Closed
-    else wrapped_too of_sender)
+refusal_at e (Some x) of_sender = option_or (connection_refusal e) (wrapped_too of_sender)
 
 abbrev pub refusal : EndState → (stream : ℕ) → (of_sender : Option OutboxError) → Option EndError
 refusal e k of_sender = refusal_at e (outgoing_at e.sending k) of_sender
@@ -80,12 +82,13 @@ own_number e = first_free e.sending (own_numbers e.receiving.parity)
 abbrev pub with_stream : EndState → ℕ → EndState
 with_stream e k = record e { sending = with_outgoing e.sending k new_outgoing; receiving = opened_stream e.receiving k }
 
+abbrev pub opened_unless : EndState → (stream : ℕ) → Option EndError → Result ℕ EndError × EndState
+opened_unless e k None = (Ok k, with_stream e k)
+opened_unless e k (Some why) = (Err why, e)
+
 abbrev pub opening_as : EndState → Option ℕ → Result ℕ EndError × EndState
 opening_as e None = (Err NoStream, e)
-opening_as e (Some k) =
-    if e.sending.failed then (Err ConnectionFailed, e)
-    else (if e.receiving.closed then (Err Closed, e)
-    else (Ok k, with_stream e k))
+opening_as e (Some k) = opened_unless e k (connection_refusal e)
 
 -- the next own stream, whose number is the answer
 abbrev pub open_stream : EndState → Result ℕ EndError × EndState

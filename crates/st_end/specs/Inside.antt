@@ -1,8 +1,23 @@
 -- What the code reads off an answer before it opens its data in place.
-use Rattle.std.specs.Prelude.{◌≡◌, ◌≤◌, ℕ, List, drop, length, Ok, Err}
+use Rattle.std.specs.Prelude.{◌≡◌, ◌≤◌, ℕ, List, drop, length, None, Some, Ok, Err}
 use Rattle.st_ilp.specs.Packets.{Fulfilled, Rejected}
 use Rattle.st_ilp.specs.Reading.{answer_at}
 use Rattle.st_ilp.specs.declared.error.IlpError.{IlpError}
+use Rattle.st_ilp.specs.Packets.{PreparePacket}
+use Rattle.st_ilp.specs.Spelling.{fulfill_kind, answer_text}
+use Rattle.st_frames.specs.Frames.{Packet, frames_of}
+use Rattle.st_keys.specs.Keys.{DerivedKeys, fulfillment}
+use Rattle.st_sender.specs.Sending.{Sending}
+use Rattle.st_sender.specs.Answering.{after_all_told}
+use Rattle.st_receiver.specs.declared.reason.Reason.{Reason}
+use Rattle.st_receiver.specs.Reasons as reasons
+use Rattle.st_receiver.specs.Streams.{Receiving}
+use Rattle.st_receiver.specs.Judged.{fault_of, effect}
+use Rattle.st_receiver.specs.Limits.{reply_frames}
+use Rattle.st_end.specs.Receiving.{reply_payload, opened_too, all_marked, new_peer}
+use Rattle.st_end.specs.Seen.{text_or}
+use Rattle.st_end.specs.declared.receive.Judged.{Judged}
+use Rattle.st_end.specs.declared.receive.Judged.TheVariants as packets
 use Rattle.st_end.specs.declared.back.Back.{Back}
 use Rattle.st_end.specs.declared.back.Back.TheVariants.{Fulfill, Reject, Unreadable}
 
@@ -11,3 +26,17 @@ abbrev pub IsBack : List ℕ → Back → Type 0
 IsBack bytes (Fulfill fulfillment start) = (start ≤ length bytes) × (answer_at bytes ≡ Ok (Fulfilled fulfillment (drop start bytes)))
 IsBack bytes (Reject code start) = (start ≤ length bytes) × ((by message : List ℕ) × (answer_at bytes ≡ Ok (Rejected code by message (drop start bytes))))
 IsBack bytes Unreadable = (fault : IlpError) × (answer_at bytes ≡ Err fault)
+
+-- what the sending side has once a packet took effect that leaves r
+abbrev pub taken_by : Sending → Receiving → Packet → Sending
+taken_by s r p = all_marked (reply_frames r (frames_of p)) (opened_too r (after_all_told s (frames_of p))) (frames_of p)
+
+-- what became of a packet, and what it left of both sides
+abbrev pub IsJudged : {X : Type 0} → DerivedKeys → PreparePacket → Packet → Sending → Receiving → Sending → Receiving → Judged X → Type 0
+IsJudged keys q p s r t u (packets.Rejected reason) = ((why : Reason) × (fault_of r p q.amount ≡ Some why) × (reason ≡ reasons.number why)) × (t ≡ s) × (u ≡ r)
+IsJudged keys q p s r t u (packets.Taken bytes peer) =
+    (fault_of r p q.amount ≡ None)
+    × (u ≡ effect r p q.amount)
+    × (t ≡ taken_by s (effect r p q.amount) p)
+    × (bytes.items ≡ answer_text (Fulfilled (fulfillment keys q.payload) (reply_payload keys fulfill_kind q p (effect r p q.amount))))
+    × ((old : List ℕ) → text_or old peer ≡ new_peer old (frames_of p))

@@ -4,16 +4,16 @@ use Rattle.std.specs.Prelude.{ℕ, Bool, true, false, not, ◌&&◌, List, [], �
 use Rattle.std.specs.List.{fold, range_with_len}
 use Rattle.std.specs.declared.option.Option.{Option}
 use Rattle.std.specs.declared.option.Option.TheVariants.{None, Some}
-use Rattle.st_oer.specs.Address.{is_within}
+use Rattle.st_oer.specs.Address.{is_address, is_within}
 use Rattle.st_ilp.specs.Packets.{PreparePacket, AnswerPacket, Fulfilled, Rejected}
 use Rattle.st_ilp.specs.Spelling.{prepare_kind, fulfill_kind, reject_kind, answer_text}
 use Rattle.st_ilp.specs.Reading.{prepare_at}
 use Rattle.st_ilp.specs.Errors as ilp
 use Rattle.st_ilp.specs.declared.error.IlpError.{IlpError}
 use Rattle.st_frames.specs.Frames.{Known, Packet, frames_of, ConnectionNewAddress, ConnectionMaxData, ConnectionDataBlocked, StreamMaxMoney, StreamMoneyBlocked, StreamMaxData, StreamDataBlocked}
-use Rattle.st_keys.specs.Keys.{fulfillment, condition}
+use Rattle.st_keys.specs.Keys.{DerivedKeys, fulfillment, condition}
 use Rattle.st_keys.specs.Sealed.{opened, sealed_packet, iv_of}
-use Rattle.st_keys.specs.Errors as keys
+use Rattle.st_keys.specs.Errors as payloads
 use Rattle.st_keys.specs.declared.error.KeyError.{KeyError}
 use Rattle.st_keys.specs.declared.error.KeyError.TheVariants as unopened
 use Rattle.st_sender.specs.Sending.{Sending, new_outgoing, outgoing_at, with_outgoing}
@@ -61,7 +61,7 @@ abbrev pub is_own_condition : EndState → PreparePacket → Bool
 is_own_condition e q = bytes_eq (condition (fulfillment e.keys q.payload)) q.condition
 
 abbrev pub opened_as : EndState → PreparePacket → Result Packet KeyError → Verdict
-opened_as e q (Err fault) = Unread (code_unopened fault) (keys.number fault)
+opened_as e q (Err fault) = Unread (code_unopened fault) (payloads.number fault)
 opened_as e q (Ok p) =
     if is_own_condition e q then judged_as p (effect e.receiving p q.amount) (fault_of e.receiving p q.amount)
     else Rejects p 55
@@ -84,7 +84,7 @@ abbrev pub opened_at : Receiving → Sending → ℕ → Sending
 opened_at r s k = if is_open r k && not (is_some (outgoing_at s k)) then with_outgoing s k new_outgoing else s
 
 -- and so each stream of a connection
-abbrev pub opened_too : Receiving → Sending → Sending
+unfoldable pub opened_too : Receiving → Sending → Sending
 opened_too r s = fold (opened_at r) s (range_with_len 1 64)
 
 -- a frame tells the limit at which another says Blocked
@@ -106,11 +106,10 @@ abbrev pub all_marked : (reply : List Known) → Sending → List Known → Send
 all_marked reply s [] = s
 all_marked reply s (f ∷ fs) = all_marked reply (marked reply s f) fs
 
--- the last new address that is not empty
+-- the last new address that is one: an empty one changes nothing
 abbrev pub new_peer : List ℕ → List Known → List ℕ
 new_peer peer [] = peer
-new_peer peer (ConnectionNewAddress [] ∷ fs) = new_peer peer fs
-new_peer peer (ConnectionNewAddress (c ∷ cs) ∷ fs) = new_peer (c ∷ cs) fs
+new_peer peer (ConnectionNewAddress address ∷ fs) = new_peer (if is_address address then address else peer) fs
 new_peer peer (f ∷ fs) = new_peer peer fs
 
 -- limits take effect in every packet that opens
@@ -143,13 +142,13 @@ payload_or_none (Ok payload) = payload
 payload_or_none (Err fault) = []
 
 -- the reply repeats the request's sequence, and tells the amount that arrived (RFC 0029, section 5.2)
-unfoldable pub reply_payload : EndState → (kind : ℕ) → PreparePacket → Packet → Receiving → List ℕ
-reply_payload e kind q p r = payload_or_none (sealed_packet e.keys (reply_iv (iv_of q.payload)) kind p.sequence q.amount (reply_frames r (frames_of p)))
+unfoldable pub reply_payload : DerivedKeys → (kind : ℕ) → PreparePacket → Packet → Receiving → List ℕ
+reply_payload keys kind q p r = payload_or_none (sealed_packet keys (reply_iv (iv_of q.payload)) kind p.sequence q.amount (reply_frames r (frames_of p)))
 
 abbrev pub answer_for : EndState → PreparePacket → Verdict → AnswerPacket
 answer_for e q (Unread code reason) = Rejected code e.own [] []
-answer_for e q (Rejects p reason) = Rejected reasons.f99 e.own [] (reply_payload e reject_kind q p e.receiving)
-answer_for e q (Fulfills p r) = Fulfilled (fulfillment e.keys q.payload) (reply_payload e fulfill_kind q p r)
+answer_for e q (Rejects p reason) = Rejected reasons.f99 e.own [] (reply_payload e.keys reject_kind q p e.receiving)
+answer_for e q (Fulfills p r) = Fulfilled (fulfillment e.keys q.payload) (reply_payload e.keys fulfill_kind q p r)
 
 -- ---- the whole step
 

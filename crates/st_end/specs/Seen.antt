@@ -1,5 +1,6 @@
 -- What the code's values say, in the definitions' terms.
-use Rattle.std.specs.Prelude.{ℕ, Result, Ok, Err}
+use Rattle.std.specs.Prelude.{ℕ, List, String, string_bytes, Option, None, Some, Result, Ok, Err}
+use Rattle.std.specs.Borrow.{Bor}
 use Rattle.st_receiver.specs.declared.got.Got.{Got}
 use Rattle.st_receiver.specs.Decided.{got_seen}
 use Rattle.st_receiver.specs.Reading as reading
@@ -18,3 +19,13 @@ read_seen (Err why) = Err why
 
 abbrev pub totals_seen : Totals → totals.Totals
 totals_seen t = record { accepted = t.accepted; delivered = t.delivered; credited = t.credited; paid = t.paid }
+
+-- an address that was found, else another
+abbrev pub address_or : List ℕ → Option (Bor (List ℕ)) → List ℕ
+address_or peer None = peer
+address_or peer (Some address) = address.now
+
+-- a text that was found, else another
+abbrev pub text_or : {X : Type 0} → List ℕ → Option (String X) → List ℕ
+text_or peer None = peer
+text_or peer (Some text) = string_bytes text

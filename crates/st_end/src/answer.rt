@@ -11,14 +11,11 @@ ghost use Rattle.st_end.specs.Answers as answers;
 use crate::back::{Back, amounts_in, raise_from, read_back};
 use crate::end::EndState;
 use crate::flight::{Flight, Open};
+use crate::reply::{FULFILL, REJECT};
 use st_keys::{Keys, condition};
 use st_sender::Outbox;
 use std::alloc::Allocator;
 
-/// The kind of a Fulfill, and of the packet that it carries (RFC 0027).
-const FULFILL: u8 = 13;
-/// The kind of a Reject, and of the packet that it carries.
-const REJECT: u8 = 14;
 /// By what code a fault, an unreadable answer and a Fulfill that does not fit count.
 const TEMPORARY: [u8; 3] = *b"T00";
 

@@ -10,13 +10,10 @@ use crate::error::EndError;
 use std::alloc::Allocator;
 
 impl<A: Allocator + Copy> EndState<A> {
-    /// The refusals that come before the sending side's own.
-    fn check_stream(&self, stream: u8) -> Result<(), EndError>
-        ensures { result ≡ calls.answer (calls.refusal self.now stream None) }
+    /// The refusals that a connection makes of itself.
+    fn check_connection(&self) -> Result<(), EndError>
+        ensures { result ≡ calls.answer (calls.connection_refusal self.now) }
     {
-        if !self.outbox.has_stream(stream) {
-            return Err(EndError::NoStream);
-        }
         if self.outbox.is_failed() {
             return Err(EndError::ConnectionFailed);
         }
@@ -24,6 +21,16 @@ impl<A: Allocator + Copy> EndState<A> {
             return Err(EndError::Closed);
         }
         Ok(())
+    }
+
+    /// The refusals that come before the sending side's own.
+    fn check_stream(&self, stream: u8) -> Result<(), EndError>
+        ensures { result ≡ calls.answer (calls.refusal self.now stream None) }
+    {
+        if !self.outbox.has_stream(stream) {
+            return Err(EndError::NoStream);
+        }
+        self.check_connection()
     }
 
     /// Takes bytes that are to be sent on a stream: all of them, or none. Refused is, in this order: `NoStream`;
@@ -112,12 +119,7 @@ impl<A: Allocator + Copy> EndState<A> {
         let Some(stream) = self.own_number() else {
             return Err(EndError::NoStream);
         };
-        if self.outbox.is_failed() {
-            return Err(EndError::ConnectionFailed);
-        }
-        if self.intake.is_closed() {
-            return Err(EndError::Closed);
-        }
+        self.check_connection()?;
         if self.intake.open(u64::from(stream)).is_err() {
             return Err(EndError::NoMemory);
         }

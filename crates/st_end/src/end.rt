@@ -10,8 +10,8 @@ ghost use Rattle.st_end.specs.Receiving.{t00_text};
 
 use crate::conditions::Conditions;
 use crate::error::EndError;
+use crate::reply::ready_t00;
 use crate::role::Role;
-use crate::t00::ready_t00;
 use st_keys::Keys;
 use st_receiver::Intake;
 use st_sender::{EndConfig, Outbox, OutboxError};

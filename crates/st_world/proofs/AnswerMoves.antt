@@ -25,7 +25,7 @@ use Rattle.st_receiver.specs.Judged.{fault_of, effect}
 use Rattle.st_end.specs.State.{EndState}
 use Rattle.st_end.specs.Sending.{open_flight}
 use Rattle.st_receiver.specs.Reasons.{f99}
-use Rattle.st_end.specs.Receiving.{Verdict, Unread, Rejects, Fulfills, verdict, verdict_on, opened_as, judged_as, is_own_condition, prepare_or_none, prepare_in, fulfilled, reply_payload, received_as}
+use Rattle.st_end.specs.Receiving.{Verdict, Unread, Rejects, Fulfills, verdict, verdict_on, opened_as, judged_as, is_own_condition, prepare_or_none, prepare_in, fulfilled, reply_payload, received_as, answer_for}
 use Rattle.st_world.specs.Sides.{Side}
 use Rattle.st_world.specs.State.{World, Node, Put, Given, lane_at, with_put, with_given, end_at, nth, with_node, with_hop_entry, Place, AtEnd, AtHop, far, near, next_link, prev_link, account_from}
 use Rattle.st_world.specs.Events.{Told}
@@ -73,8 +73,8 @@ unfolding VerdictIs AnswersAs
 answers_as e bytes (Unread code reason) h = rejected _ _ (reject_fails code e.own [] []) (reject_fails code e.own [] [])
 answers_as e bytes (Rejects p reason) h = risen _ _ p (reject_fails f99 e.own [] _) (reject_fails f99 e.own [] _)
 answers_as e bytes (Fulfills p r) h =
-    let a = answer_text (Fulfilled (fulfillment e.keys (prepare_in bytes).payload) (reply_payload e 13 (prepare_in bytes) p r)) in
-    let fits' : is_fulfill_text a ≡ true = fulfill_is e 13 (prepare_in bytes) p r (opened_long e.keys 12 (prepare_in bytes).payload p h.0) in
+    let a = answer_text (answer_for e (prepare_in bytes) (Fulfills p r)) in
+    let fits' : is_fulfill_text a ≡ true = fulfill_is e (prepare_in bytes) p r (opened_long e.keys 12 (prepare_in bytes).payload p h.0) in
     let Q : Bool → Type 0 = λ b. Replied e bytes a (record { amount = (prepare_in bytes).amount; sequence = Some p.sequence; fulfilled = b }) (fulfilled e p r) in
     subst Q (sym fits') (accepted a p r fits' h.0 h.1 h.2)
 

@@ -10,7 +10,7 @@ use Rattle.st_end.specs.declared.error.EndError.{EndError}
 use Rattle.st_end.specs.declared.error.EndError.TheVariants as whys
 use Rattle.st_sender.specs.declared.error.OutboxError.{OutboxError}
 use Rattle.st_sender.specs.Refusals.{is_closed, no_more, full, too_much, all_accepted, all_offered, is_aborted}
-use Rattle.st_end.specs.Calls.{wrapped_too, refusal_at, done}
+use Rattle.st_end.specs.Calls.{wrapped_too, refusal_at, done, connection_refusal}
 use Rattle.st_receiver.specs.Reading.{Got, Bytes, Nothing, End, Aborted, is_read, got_bytes, got_by, after_got_by, after_get}
 use Rattle.st_world.specs.Sides.{Side, Client, Server, other}
 use Rattle.st_world.specs.State.{World, end_at, with_end, ledger_at, with_ledger}
@@ -22,7 +22,7 @@ use Rattle.st_sender.specs.Refusals as sender
 use Rattle.st_reassembly.proofs.Runs.{is_run}
 use Rattle.st_world.proofs.DataReceived.{fresh_at}
 use Rattle.st_world.proofs.Moves.{Accepts, Move, Tells, aborted, accepts, after_reading, closed_clean, ended, gave_up, move_at, nothing, offered, reads, stays, tells, wrote}
-use Rattle.st_world.proofs.Truths.{or_false, if_none}
+use Rattle.st_world.proofs.Truths.{or_false, if_none, or_none}
 
 -- calls
 wrapped_none : (o : Option OutboxError) → wrapped_too o ≡ None → o ≡ None
@@ -43,9 +43,9 @@ call_move w a k x y l None is h = accepts a k x y l is (h refl).0 (h refl).1
 
 -- a call that is not refused: the sending side's own rules let it pass
 passes : (e : EndState) (x : Outgoing) (o : Option OutboxError) → refusal_at e (Some x) o ≡ None → o ≡ None
-passes e x o r = wrapped_none o (if_none e.receiving.closed whys.Closed (wrapped_too o) (if_none e.sending.failed whys.ConnectionFailed (cond e.receiving.closed (Some whys.Closed) (wrapped_too o)) r).1).1
+passes e x o r = wrapped_none o (or_none (connection_refusal e) (wrapped_too o) r).1
 
--- it was or_false closed nor aborted
+-- it was neither closed nor aborted
 live : (x : Outgoing) (o : Option OutboxError) → cond (is_closed x) (Some outbox.Closed) o ≡ None → (is_some x.abort ≡ false) × (x.clean ≡ false)
 live x o r = or_false _ _ (if_none _ _ _ r).0
 

@@ -12,7 +12,7 @@ use Rattle.st_tables.specs.Slots.{slot}
 use Rattle.st_receiver.specs.Streams.{Receiving, Incoming, new_receiving, incoming_at, is_open, may_name, credited_of, with_receive_max}
 use Rattle.st_end.specs.State.{EndState}
 use Rattle.st_end.specs.declared.error.EndError.{EndError}
-use Rattle.st_end.specs.Calls.{Answer, own_number, with_stream, opening_as, set_receive_max}
+use Rattle.st_end.specs.Calls.{Answer, own_number, with_stream, opening_as, set_receive_max, connection_refusal}
 use Rattle.st_end.specs.declared.error.EndError.TheVariants.{NoStream, ConnectionFailed, Closed}
 use Rattle.st_end.specs.Answers.{after_outcome, pays}
 use Rattle.st_end.specs.Receiving.{prepare_in}
@@ -29,6 +29,7 @@ use Rattle.st_world.proofs.DataRuns.{put_keeps}
 use Rattle.st_world.proofs.Moves.{Turns, opens, raises, Replied, rejected, risen, accepted, Move, stays, turns, accepts, tells, reads, goes, replies, refuses, forwards, lands, settles, after_reading}
 use Rattle.st_world.proofs.Later.{taken_aside}
 use Rattle.st_world.proofs.Credited.{credits, credits-cons, Keeps, keeps_same, keeps_with, credit_at, Adds, effect_adds, faultless}
+use Rattle.st_world.proofs.EndSteps.{opening_either}
 
 -- ---- an end and its bag
 
@@ -105,7 +106,7 @@ turned e false x y f g = g
 
 opening_keeps : (e : EndState) (o : Option ℕ) → Keeps e.receiving (opening_as e o).1.receiving
 opening_keeps e None = keeps_same e.receiving
-opening_keeps e (Some k) = turned {A = Result ℕ EndError} e e.sending.failed (Err ConnectionFailed, e) (cond e.receiving.closed (Err Closed, e) (Ok k, with_stream e k)) (keeps_same e.receiving) (turned {A = Result ℕ EndError} e e.receiving.closed (Err Closed, e) (Ok k, with_stream e k) (keeps_same e.receiving) (keeps_with e.receiving k (incoming_at e.receiving k) refl))
+opening_keeps e (Some k) = opening_either (λ f. Keeps e.receiving f.receiving) e k (connection_refusal e) (keeps_same e.receiving) (keeps_with e.receiving k (incoming_at e.receiving k) refl)
 
 max_if : (r : Receiving) (b : Bool) (s t : Receiving) → Keeps r s → Keeps r t → Keeps r (cond b s t)
 max_if r true s t f g = f

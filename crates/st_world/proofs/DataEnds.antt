@@ -40,13 +40,13 @@ send_raised w s n (Err e) fine = fine
 send_raised w s n (Ok q) fine = sending_cond (nat_eq q.sequence n) w (after_all_told s (frames_of q)) s (send-told w (frames_of q) s fine) fine
 
 -- an answer of any kind
-answered : (w : ℕ → List ℕ) (e : EndState) (f : flights.Open) (p : Flight) (a : Result AnswerPacket IlpError) → SendFine w e.sending → SendFine w (answered_by e f p a)
+answered : (w : ℕ → List ℕ) (e : EndState) (f : flights.Open) (p : Flight) (a : Result AnswerPacket IlpError) → SendFine w e.sending → SendFine w (answered_by e.keys e.sending f p a)
 answered w e f p (Ok (Fulfilled fulfillment payload)) fine =
-    sending_cond (fits f fulfillment) w (raised (after_fulfilled e.sending p) p.sequence (opened e.keys 13 payload)) (after_failed e.sending p Plain)
-    (send_raised w (after_fulfilled e.sending p) p.sequence (opened e.keys 13 payload) (send-acked w p.frames (landed e.sending p.sequence) fine))
+    sending_cond (fits f fulfillment) w (raised (after_fulfilled e.sending p) f.sequence (opened e.keys 13 payload)) (after_failed e.sending p Plain)
+    (send_raised w (after_fulfilled e.sending p) f.sequence (opened e.keys 13 payload) (send-acked w p.frames (landed e.sending p.sequence) fine))
     fine
 answered w e f p (Ok (Rejected code by message payload)) fine =
-    send_raised w (after_failed e.sending p (failure_of code payload)) p.sequence (opened e.keys 14 payload) fine
+    send_raised w (after_failed e.sending p (failure_of code payload)) f.sequence (opened e.keys 14 payload) fine
 answered w e f p (Err fault) fine = fine
 
 pub send-outcome : (w : ℕ → List ℕ) (e : EndState) (f : flights.Open) (p : Flight) (o : Option (List ℕ)) → SendFine w e.sending → SendFine w (outcome_left e f p o)

@@ -15,7 +15,7 @@ use Rattle.st_receiver.specs.Streams.{Receiving, Incoming, new_receiving, incomi
 use Rattle.st_receiver.specs.Limits.{limits, reply_frames}
 use Rattle.st_end.specs.State.{EndState}
 use Rattle.st_end.specs.declared.error.EndError.{EndError}
-use Rattle.st_end.specs.Calls.{Answer, own_numbers, free_or, first_free, own_number, with_stream, opening_as, open_stream, set_receive_max}
+use Rattle.st_end.specs.Calls.{Answer, own_numbers, free_or, first_free, own_number, with_stream, opening_as, open_stream, set_receive_max, connection_refusal}
 use Rattle.st_end.specs.declared.error.EndError.TheVariants.{NoStream, ConnectionFailed, Closed}
 use Rattle.st_end.specs.declared.flight.Open as flights
 use Rattle.st_end.specs.Sending.{Goes, with_condition}
@@ -39,6 +39,7 @@ use Rattle.st_world.proofs.Lanes as lanes
 use Rattle.st_frames.proofs.WrittenLaws.{keeps_frames}
 use Rattle.st_world.proofs.Moves.{Accepts, wrote, closed_clean, gave_up, offered, Turns, opens, raises, Tells, nothing, ended, aborted, Replied, rejected, risen, accepted, Move, stays, turns, accepts, tells, reads, goes, replies, refuses, forwards, lands, settles, after_reading}
 use Rattle.st_world.proofs.Names.{goes_opens, packet_of_load}
+use Rattle.st_world.proofs.EndSteps.{opening_either}
 
 -- ---- calls
 
@@ -115,13 +116,12 @@ own_none e j is = first_none (own_numbers e.receiving.parity) e.sending j is
 opening_fine : (keys : DerivedKeys) (w v r : ℕ → List ℕ) (e : EndState) (o : Option ℕ) → ((k : ℕ) → o ≡ Some k → w k ≡ []) → EndFine keys w v r e → EndFine keys w v r (opening_as e o).1
 opening_fine keys w v r e None none f = f
 opening_fine keys w v r e (Some k) none f =
-    either_end {A = Result ℕ EndError} keys w v r e.sending.failed (Err ConnectionFailed, e) (cond e.receiving.closed (Err Closed, e) (Ok k, with_stream e k)) f
-    (either_end {A = Result ℕ EndError} keys w v r e.receiving.closed (Err Closed, e) (Ok k, with_stream e k) f
+    opening_either (λ g. EndFine keys w v r g) e k (connection_refusal e) f
     (record {
       send = send-with w e.sending k new_outgoing f.send (new_fine (w k) (none k refl));
       recv = recv-with v r e.receiving k (incoming_at e.receiving k) f.recv (f.recv k);
       same_keys = f.same_keys;
-    }))
+    })
 
 open_fine : (keys : DerivedKeys) (w v r : ℕ → List ℕ) (e : EndState) → EndFine keys w v r e → EndFine keys w v r (open_stream e).1
 open_fine keys w v r e f =

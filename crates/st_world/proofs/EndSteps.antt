@@ -6,6 +6,9 @@ use Rattle.st_sender.specs.Sending.{Sending, Outgoing, Marks, new_outgoing, outg
 use Rattle.st_sender.specs.Answering.{after_marked}
 use Rattle.st_receiver.specs.Streams.{Receiving, is_open}
 use Rattle.st_end.specs.Receiving.{opened_at, opened_too, tells_blocked, marked_if, marked, all_marked}
+use Rattle.st_end.specs.State.{EndState}
+use Rattle.st_end.specs.Calls.{with_stream, opened_unless}
+use Rattle.st_end.specs.declared.error.EndError.{EndError}
 
 fold_keeps : {A B : Type 0} (P : B → Type 0) (f : B → A → B) → ((b : B) (x : A) → P b → P (f b x)) → (xs : List A) (b : B) → P b → P (fold f b xs)
 fold_keeps P f step [] b h = h
@@ -20,6 +23,7 @@ module _ (P : Sending → Type 0) where
 
   -- what a new stream keeps, opening streams keeps
   pub opened_keeps : ((s : Sending) (k : ℕ) → outgoing_at s k ≡ None → P s → P (with_outgoing s k new_outgoing)) → (r : Receiving) (s : Sending) → P s → P (opened_too r s)
+  unfolding opened_too
   opened_keeps step r s h = fold_keeps P (opened_at r) (λ t k. open_if step t k (is_open r k) (outgoing_at t k) refl) (range_with_len 1 64) s h
 
   mark_keeps : ((s : Sending) (m : Marks) → P s → P (record s { marks = m })) → (s : Sending) (f : Known) → P s → P (after_marked s f)
@@ -44,3 +48,8 @@ module _ (P : Sending → Type 0) where
   marked_keeps step reply [] s h = h
   marked_keeps step reply (f ∷ fs) s h =
       marked_keeps step reply fs (marked reply s f) (fold_keeps P (λ t g. marked_if t (tells_blocked f g) g) (λ t g. mark_if step t (tells_blocked f g) g) reply s h)
+
+-- what an end keeps as it is, and with a new stream, it keeps where one may open
+pub opening_either : (P : EndState → Type 0) (e : EndState) (k : ℕ) (o : Option EndError) → P e → P (with_stream e k) → P (opened_unless e k o).1
+opening_either P e k None f g = g
+opening_either P e k (Some why) f g = f

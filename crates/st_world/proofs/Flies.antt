@@ -13,14 +13,14 @@ use Rattle.st_sender.specs.Answering.{after_acked, after_all_acked, landed, afte
 use Rattle.st_receiver.specs.Streams.{with_receive_max, may_name}
 use Rattle.st_end.specs.State.{EndState}
 use Rattle.st_end.specs.declared.error.EndError.{EndError}
-use Rattle.st_end.specs.Calls.{Answer, own_number, with_stream, opening_as}
+use Rattle.st_end.specs.Calls.{Answer, own_number, with_stream, opening_as, connection_refusal}
 use Rattle.st_end.specs.declared.error.EndError.TheVariants.{NoStream, ConnectionFailed, Closed}
 use Rattle.st_end.specs.declared.flight.Open as flights
 use Rattle.st_end.specs.Answers.{raised, fits, failure_of, answered_by, after_outcome, pays, pays_by}
 use Rattle.st_end.specs.Receiving.{opened_too}
 use Rattle.st_world.specs.State.{EndEntry}
 use Rattle.st_world.proofs.Moves.{Turns, opens, raises, Replied, rejected, risen, accepted}
-use Rattle.st_world.proofs.EndSteps.{opened_keeps, marked_keeps}
+use Rattle.st_world.proofs.EndSteps.{opened_keeps, marked_keeps, opening_either}
 use Rattle.st_receiver.specs.Limits.{reply_frames}
 
 -- what answers and told limits leave as it is
@@ -99,7 +99,7 @@ turned_flies e false x y f g = g
 
 opening_flies : (e : EndState) (o : Option ℕ) → Flies e.sending (opening_as e o).1.sending
 opening_flies e None = same_flies e.sending
-opening_flies e (Some k) = turned_flies {A = Result ℕ EndError} e e.sending.failed (Err ConnectionFailed, e) (cond e.receiving.closed (Err Closed, e) (Ok k, with_stream e k)) (same_flies e.sending) (turned_flies {A = Result ℕ EndError} e e.receiving.closed (Err Closed, e) (Ok k, with_stream e k) (same_flies e.sending) (with_flies e.sending e.sending k new_outgoing (same_flies e.sending)))
+opening_flies e (Some k) = opening_either (λ f. Flies e.sending f.sending) e k (connection_refusal e) (same_flies e.sending) (with_flies e.sending e.sending k new_outgoing (same_flies e.sending))
 
 pub turns_flies : (e f : EndState) → Turns e f → Flies e.sending f.sending
 turns_flies e f opens = opening_flies e (own_number e)
@@ -127,13 +127,13 @@ flies_lands s p b t u h f = record { flights = f.flights ∙ h.flights; last = f
 raised_lands : (s : Sending) (p : Flight) (b : Bool) (t : Sending) (n : ℕ) (q : Result Packet KeyError) → Lands s p b t → Lands s p b (raised t n q)
 raised_lands s p b t n q h = flies_lands s p b t (raised t n q) h (raised_flies t t n q (same_flies t))
 
-answer_lands : (e : EndState) (f : flights.Open) (p : Flight) (a : Result AnswerPacket IlpError) → Lands e.sending p (pays_by f a) (answered_by e f p a)
+answer_lands : (e : EndState) (f : flights.Open) (p : Flight) (a : Result AnswerPacket IlpError) → Lands e.sending p (pays_by f a) (answered_by e.keys e.sending f p a)
 answer_lands e f p (Err fault) = failed_lands e.sending p Plain
 answer_lands e f p (Ok (Fulfilled fulfillment payload)) =
-    lands_cond e.sending p (fits f fulfillment) (raised (after_fulfilled e.sending p) p.sequence (opened e.keys 13 payload)) (after_failed e.sending p Plain)
-    (raised_lands e.sending p true (after_fulfilled e.sending p) p.sequence (opened e.keys 13 payload) (fulfilled_lands e.sending p)) (failed_lands e.sending p Plain)
+    lands_cond e.sending p (fits f fulfillment) (raised (after_fulfilled e.sending p) f.sequence (opened e.keys 13 payload)) (after_failed e.sending p Plain)
+    (raised_lands e.sending p true (after_fulfilled e.sending p) f.sequence (opened e.keys 13 payload) (fulfilled_lands e.sending p)) (failed_lands e.sending p Plain)
 answer_lands e f p (Ok (Rejected code by message payload)) =
-    raised_lands e.sending p false (after_failed e.sending p (failure_of code payload)) p.sequence (opened e.keys 14 payload) (failed_lands e.sending p (failure_of code payload))
+    raised_lands e.sending p false (after_failed e.sending p (failure_of code payload)) f.sequence (opened e.keys 14 payload) (failed_lands e.sending p (failure_of code payload))
 
 pub outcome_lands : (e : EndState) (f : flights.Open) (p : Flight) (o : Option (List ℕ)) → Lands e.sending p (pays f o) (after_outcome e f p o).sending
 outcome_lands e f p None = failed_lands e.sending p Plain
@@ -150,7 +150,7 @@ secret_cond e false x y f g = g
 
 opening_secret : (e : EndState) (o : Option ℕ) → (opening_as e o).1.keys ≡ e.keys
 opening_secret e None = refl
-opening_secret e (Some k) = secret_cond {A = Result ℕ EndError} e e.sending.failed (Err ConnectionFailed, e) (cond e.receiving.closed (Err Closed, e) (Ok k, with_stream e k)) refl (secret_cond {A = Result ℕ EndError} e e.receiving.closed (Err Closed, e) (Ok k, with_stream e k) refl refl)
+opening_secret e (Some k) = opening_either (λ f. f.keys ≡ e.keys) e k (connection_refusal e) refl refl
 
 pub turns_secret : (e f : EndState) → Turns e f → f.keys ≡ e.keys
 turns_secret e f opens = opening_secret e (own_number e)

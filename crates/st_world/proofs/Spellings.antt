@@ -5,7 +5,7 @@ use Rattle.std.proofs.lemmas.Int.{ints}
 use Rattle.std.proofs.lemmas.Bool.Decides.{nat_tests}
 use Rattle.st_ilp.specs.Packets.{PreparePacket, Fulfilled, Rejected}
 use Rattle.st_ilp.specs.Reading.{prepare_at, fulfills, is_fulfill_text}
-use Rattle.st_ilp.specs.Spelling.{prepare_text, answer_text}
+use Rattle.st_ilp.specs.Spelling.{fulfill_kind, prepare_text, answer_text}
 use Rattle.st_ilp.specs.Laws.{IsPrepare, is_fulfill}
 use Rattle.st_ilp.proofs.Apart.{kinds_apart}
 use Rattle.st_ilp.proofs.DateFinding.{is_le, le_is, not_le_is, two_parts}
@@ -19,7 +19,7 @@ use Rattle.st_hop.specs.Arriving.{onward, hop_time}
 use Rattle.st_receiver.specs.Streams.{Receiving}
 use Rattle.st_receiver.specs.Limits.{reply_frames}
 use Rattle.st_end.specs.State.{EndState}
-use Rattle.st_end.specs.Receiving.{prepare_or_none, prepare_in, payload_or_none, reply_iv, reply_payload}
+use Rattle.st_end.specs.Receiving.{prepare_or_none, prepare_in, payload_or_none, reply_iv, reply_payload, Fulfills, answer_for}
 
 -- ---- Prepares
 
@@ -71,15 +71,14 @@ none_or_short : (r : Result (List ℕ) KeyError) → ((payload : List ℕ) → r
 none_or_short (Ok payload) short = short payload refl
 none_or_short (Err fault) short = omega arith
 
-reply_length : (e : EndState) (kind : ℕ) (q : PreparePacket) (p : Packet) (r : Receiving) → 12 ≤ length q.payload → length (reply_payload e kind q p r) ≤ 32767
+-- an end's Fulfill is one
+pub fulfill_is : (e : EndState) (q : PreparePacket) (p : Packet) (r : Receiving) → 12 ≤ length q.payload → is_fulfill_text (answer_text (answer_for e q (Fulfills p r))) ≡ true
 unfolding reply_payload
-reply_length e kind q p r long =
+fulfill_is e q p r long =
     let iv = reply_iv (iv_of q.payload) in
     let frames = reply_frames r (frames_of p) in
-    none_or_short (sealed_packet e.keys iv kind p.sequence q.amount frames) (λ payload s. packet_length e.keys iv payload kind p.sequence q.amount frames (iv_length q.payload long) s)
-
--- an end's Fulfill is one
-pub fulfill_is : (e : EndState) (kind : ℕ) (q : PreparePacket) (p : Packet) (r : Receiving) → 12 ≤ length q.payload → is_fulfill_text (answer_text (Fulfilled (fulfillment e.keys q.payload) (reply_payload e kind q p r))) ≡ true
-fulfill_is e kind q p r long =
-    let short : nat_le (length (reply_payload e kind q p r)) 32767 ≡ true = let h = reply_length e kind q p r long in grind (arith, nat_tests) in
-    ap fulfills (answer_reads.only (Fulfilled (fulfillment e.keys q.payload) (reply_payload e kind q p r)) (is_fulfill (fulfillment e.keys q.payload) (reply_payload e kind q p r) (fulfillment_is e.keys q.payload).count short))
+    let payload = payload_or_none (sealed_packet e.keys iv fulfill_kind p.sequence q.amount frames) in
+    let few : length payload ≤ 32767 =
+    none_or_short (sealed_packet e.keys iv fulfill_kind p.sequence q.amount frames) (λ x s. packet_length e.keys iv x fulfill_kind p.sequence q.amount frames (iv_length q.payload long) s) in
+    let short : nat_le (length payload) 32767 ≡ true = grind (arith, nat_tests) in
+    ap fulfills (answer_reads.only (Fulfilled (fulfillment e.keys q.payload) payload) (is_fulfill (fulfillment e.keys q.payload) payload (fulfillment_is e.keys q.payload).count short))

@@ -19,7 +19,7 @@ use Rattle.st_sender.specs.Answering.{acked_data, acked_close, after_whole_acked
 use Rattle.st_receiver.specs.Streams.{Receiving, Incoming, incoming_at, incoming_or, with_incoming, is_open, may_name, with_receive_max}
 use Rattle.st_end.specs.State.{EndState}
 use Rattle.st_end.specs.declared.error.EndError.{EndError}
-use Rattle.st_end.specs.Calls.{Answer, own_number, with_stream, opening_as}
+use Rattle.st_end.specs.Calls.{Answer, own_number, with_stream, opening_as, connection_refusal}
 use Rattle.st_end.specs.declared.error.EndError.TheVariants.{NoStream, ConnectionFailed, Closed}
 use Rattle.st_end.specs.declared.flight.Open as flights
 use Rattle.st_end.specs.Answers.{raised, fits, failure_of, answered_by, outcome_left}
@@ -30,7 +30,7 @@ use Rattle.st_world.proofs.Maps.{get_here, get_apart}
 use Rattle.st_tables.proofs.SlotLemmas.{slot_cases}
 use Rattle.st_keys.specs.Keys.{DerivedKeys}
 use Rattle.st_world.proofs.DataReceived.{fresh_at, FramesFine}
-use Rattle.st_world.proofs.EndSteps.{opened_keeps, marked_keeps}
+use Rattle.st_world.proofs.EndSteps.{opened_keeps, marked_keeps, opening_either}
 use Rattle.st_receiver.specs.Limits.{reply_frames}
 use Rattle.st_world.proofs.DataRuns.{own_none}
 use Rattle.st_world.proofs.Credited.{faultless}
@@ -162,13 +162,13 @@ out_raised : (l : ℕ → Ledger) (r : Receiving) (s : Sending) (n : ℕ) (q : R
 out_raised l r s n (Err e) h = h
 out_raised l r s n (Ok q) h = out_cond l r (nat_eq q.sequence n) (after_all_told s (frames_of q)) s (out_all_told l r (frames_of q) s h) h
 
-out_answer : (l : ℕ → Ledger) (r : Receiving) (e : EndState) (f : flights.Open) (p : Flight) (a : Result AnswerPacket IlpError) → RecvWhole l r → (fulfills a ≡ true → AllFlownTaken r p.frames) → SendWhole l r e.sending → SendWhole l r (answered_by e f p a)
+out_answer : (l : ℕ → Ledger) (r : Receiving) (e : EndState) (f : flights.Open) (p : Flight) (a : Result AnswerPacket IlpError) → RecvWhole l r → (fulfills a ≡ true → AllFlownTaken r p.frames) → SendWhole l r e.sending → SendWhole l r (answered_by e.keys e.sending f p a)
 out_answer l r e f p (Err fault) inn t h = h
 out_answer l r e f p (Ok (Fulfilled fulfillment payload)) inn t h =
-    out_cond l r (fits f fulfillment) (raised (after_fulfilled e.sending p) p.sequence (opened e.keys 13 payload)) (after_failed e.sending p Plain)
-    (out_raised l r (after_fulfilled e.sending p) p.sequence (opened e.keys 13 payload) (out_all_acked l r p.frames (landed e.sending p.sequence) inn (t refl) h)) h
+    out_cond l r (fits f fulfillment) (raised (after_fulfilled e.sending p) f.sequence (opened e.keys 13 payload)) (after_failed e.sending p Plain)
+    (out_raised l r (after_fulfilled e.sending p) f.sequence (opened e.keys 13 payload) (out_all_acked l r p.frames (landed e.sending p.sequence) inn (t refl) h)) h
 out_answer l r e f p (Ok (Rejected code by message payload)) inn t h =
-    out_raised l r (after_failed e.sending p (failure_of code payload)) p.sequence (opened e.keys 14 payload) h
+    out_raised l r (after_failed e.sending p (failure_of code payload)) f.sequence (opened e.keys 14 payload) h
 
 pub out_outcome : (l : ℕ → Ledger) (r : Receiving) (e : EndState) (f : flights.Open) (p : Flight) (o : Option (List ℕ)) → RecvWhole l r → ((y : List ℕ) → o ≡ Some y → is_fulfill_text y ≡ true → AllFlownTaken r p.frames) → SendWhole l r e.sending → SendWhole l r (outcome_left e f p o)
 out_outcome l r e f p None inn t h = h
@@ -222,9 +222,8 @@ opening_good : (own peer : ℕ → Ledger) (t : Receiving) (e : EndState) (o : O
 opening_good own peer t e None none s r = same_good own peer t e s r
 opening_good own peer t e (Some k) none s r =
     let a = alike_with e.receiving e.receiving k (incoming_at e.receiving k) refl refl (alike_same e.receiving) in
-    either_good {A = Result ℕ EndError} own peer t e.receiving e.sending.failed (Err ConnectionFailed, e) (cond e.receiving.closed (Err Closed, e) (Ok k, with_stream e k)) (same_good own peer t e s r)
-    (either_good {A = Result ℕ EndError} own peer t e.receiving e.receiving.closed (Err Closed, e) (Ok k, with_stream e k) (same_good own peer t e s r)
-    (record { send = out_new own t e.sending k (none k refl) s; recv = alike_whole peer e.receiving (with_incoming e.receiving k (incoming_at e.receiving k)) a r; rise = alike_rise e.receiving (with_incoming e.receiving k (incoming_at e.receiving k)) a }))
+    opening_either (λ f. EndGood own peer t e.receiving f) e k (connection_refusal e) (same_good own peer t e s r)
+    (record { send = out_new own t e.sending k (none k refl) s; recv = alike_whole peer e.receiving (with_incoming e.receiving k (incoming_at e.receiving k)) a r; rise = alike_rise e.receiving (with_incoming e.receiving k (incoming_at e.receiving k)) a })
 
 alike_cond : (r : Receiving) (b : Bool) (s t : Receiving) → Alike r s → Alike r t → Alike r (cond b s t)
 alike_cond r true s t f g = f

@@ -1,0 +1,20 @@
+use Rattle.std.proofs.Common.{◌≡◌, refl, ap, sym, ◌∙◌, map, rules}
+use Rattle.st_ilp.specs.Seen.{prepare_seen}
+use Rattle.st_frames.specs.Frames.{frames_of}
+use Rattle.st_frames.specs.Packets.{packet_of}
+use Rattle.st_frames.specs.Seen.{seen}
+use Rattle.st_sender.specs.Sending.{Sending}
+use Rattle.st_sender.specs.Answering.{after_all_told}
+use Rattle.st_end.proofs.Lawfulness.{lawful_with, all_told_flies}
+use Rattle.st_end.proofs.Taking.{rejected_is}
+use Rattle.st_end.proofs.end.EndState.reject.Goals as goal
+
+pub invariant_of-self : goal.invariant_of-self
+invariant_of-self g c =
+    let left : c.raise_all.new.outbox ≡ after_all_told c.self.inside.outbox (frames_of (packet_of c.args.packet.now)) = search rules in
+    (lawful_with _ c.raise_all.new.outbox (ap (λ (x : Sending). x.flights) left ∙ all_told_flies c.self.inside.outbox (frames_of (packet_of c.args.packet.now)) c.self.inside.outbox refl) c.self.invariant.0, c.self.invariant.1)
+
+pub returns-clause-answers : goal.returns-clause-answers
+returns-clause-answers g c =
+    rejected_is _ c.args.self.now (prepare_seen c.args.prepare.now) (packet_of c.args.packet.now) c.args.reason c.in_ok-bytes.bytes.items c.in_ok-payload.payload.items c.raise_all.new.outbox c.self.view_is
+    (search rules) (c.in_ok-payload.ensures.sealed c.self.inside.intake.state (ap (map seen) c.deref.ensures.value ∙ c.in-Ok.ensures.told)) (search rules)

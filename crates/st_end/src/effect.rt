@@ -1,0 +1,135 @@
+//! What a packet that is fulfilled changes at the sending side.
+
+ghost use Rattle.std.specs.Prelude.{◌≡◌, ◌<◌, ◌∷◌, [], ℕ, List, map};
+ghost use Rattle.st_frames.specs.Frames.{frame_of, frames_of};
+ghost use Rattle.st_frames.specs.Packets.{packet_of};
+ghost use Rattle.st_frames.specs.Seen.{seen};
+ghost use Rattle.st_sender.specs.Answering.{after_all_told};
+ghost use Rattle.st_receiver.specs.Judged.{effect};
+ghost use Rattle.st_receiver.specs.Decided.{IsPlanFor};
+ghost use Rattle.st_end.specs.Receiving as receiving;
+ghost use Rattle.st_end.specs.Seen.{address_or};
+
+use crate::back::raise_all;
+use st_frames::{Frame, Frames, StreamPacket};
+use st_oer::is_address;
+use st_receiver::{Intake, Plan};
+use st_sender::Outbox;
+use std::alloc::Allocator;
+
+/// A stream that is open for receiving opens for sending, where it was not open.
+fn open_one<A: Allocator + Copy>(outbox: &mut Outbox<A>, intake: &Intake<A>, stream: u8)
+    requires { stream < 65 }
+    ensures { outbox.new ≡ receiving.opened_at intake.now.state outbox.old stream }
+{
+    if intake.has_stream(u64::from(stream)) && !outbox.has_stream(stream) {
+        outbox.add_stream(stream);
+    }
+}
+
+/// And so each stream.
+#[tactic(auto, using(crate::proofs::Opening::from_first, crate::proofs::Opening::next_opened, crate::proofs::Opening::all_opened))]
+pub(crate) fn open_too<A: Allocator + Copy>(outbox: &mut Outbox<A>, intake: &Intake<A>)
+    ensures { outbox.new ≡ receiving.opened_too intake.now.state outbox.old }
+{
+    for i in 0..64_u8 {
+        open_one(outbox, intake, i + 1);
+    }
+}
+
+/// Whether a frame tells the limit at which another says Blocked.
+fn tells_blocked(blocked: &Frame<'_>, told: &Frame<'_>) -> bool
+    ensures { result ≡ receiving.tells_blocked (seen blocked.now) (seen told.now) }
+{
+    match *blocked {
+        Frame::ConnectionDataBlocked { .. } => match *told {
+            Frame::ConnectionMaxData { .. } => true,
+            _ => false,
+        },
+        Frame::StreamDataBlocked { stream: at, .. } => match *told {
+            Frame::StreamMaxData { stream, .. } => at == stream,
+            _ => false,
+        },
+        Frame::StreamMoneyBlocked { stream: at, .. } => match *told {
+            Frame::StreamMaxMoney { stream, .. } => at == stream,
+            _ => false,
+        },
+        _ => false,
+    }
+}
+
+/// A frame marks the limit that it tells, where another says Blocked at it.
+fn mark_if<A: Allocator + Copy>(outbox: &mut Outbox<A>, blocked: &Frame<'_>, told: &Frame<'_>)
+    ensures { outbox.new ≡ receiving.marked_if outbox.old (receiving.tells_blocked (seen blocked.now) (seen told.now)) (seen told.now) }
+{
+    if tells_blocked(blocked, told) {
+        outbox.mark(told);
+    }
+}
+
+/// A Blocked frame marks its limit at the value that the reply tells.
+fn mark<A: Allocator + Copy>(outbox: &mut Outbox<A>, reply: &[Frame<'_>], blocked: &Frame<'_>)
+    ensures { outbox.new ≡ receiving.marked (map seen reply.now) outbox.old (seen blocked.now) }
+{
+    for told in reply {
+        mark_if(outbox, blocked, told);
+    }
+}
+
+/// And so each frame of the request.
+pub(crate) fn mark_all<A: Allocator + Copy>(
+    outbox: &mut Outbox<A>,
+    reply: &[Frame<'_>],
+    mut frames: Frames<'_>,
+)
+    ensures { outbox.new ≡ receiving.all_marked (map seen reply.now) outbox.old (map frame_of frames.entry) }
+{
+    while let Some((_, frame)) = frames.next() {
+        mark(outbox, reply, &frame);
+    }
+}
+
+/// The address that a frame tells, where it is one.
+fn address_in<'f>(frame: Frame<'f>, before: Option<&'f str>) -> Option<&'f str>
+    ensures { (peer : List ℕ) → address_or peer result ≡ receiving.new_peer (address_or peer before.entry) (seen frame.entry ∷ []) }
+{
+    match frame {
+        Frame::ConnectionNewAddress { address } => {
+            if is_address(address) {
+                Some(address)
+            } else {
+                before
+            }
+        }
+        _ => before,
+    }
+}
+
+/// The last new address among frames.
+pub(crate) fn last_address<'f>(mut frames: Frames<'f>) -> Option<&'f str>
+    ensures { (peer : List ℕ) → address_or peer result ≡ receiving.new_peer peer (map frame_of frames.entry) }
+{
+    let mut last = None;
+    while let Some((_, frame)) = frames.next() {
+        last = address_in(frame, last);
+    }
+    last
+}
+
+/// Lets a packet take effect by the plan that was made for it, whose reply has these frames. No memory is taken.
+pub(crate) fn take_effect<A: Allocator + Copy>(
+    outbox: &mut Outbox<A>,
+    intake: &mut Intake<A>,
+    packet: &StreamPacket<'_>,
+    plan: Plan,
+    reply: &[Frame<'_>],
+)
+    requires plan { IsPlanFor intake.old (packet_of packet.now) plan }
+    ensures received { intake.new.state ≡ effect intake.old.state (packet_of packet.now) plan.amount }
+    ensures sends { outbox.new ≡ receiving.all_marked (map seen reply.now) (receiving.opened_too (effect intake.old.state (packet_of packet.now) plan.amount) (after_all_told outbox.old (frames_of (packet_of packet.now)))) (frames_of (packet_of packet.now)) }
+{
+    raise_all(outbox, packet.frames.again());
+    intake.commit(packet, plan);
+    open_too(outbox, intake);
+    mark_all(outbox, reply, packet.frames.again());
+}

@@ -1,0 +1,282 @@
+//! What an end does with bytes that came.
+
+ghost use Rattle.std.specs.Prelude.{◌≡◌, ◌≤◌, ℕ, List, true, length, map, string_bytes, Ok, Err, None, Some, IfOk, OnErr, IsOkUnless};
+ghost use Rattle.st_ilp.specs.Packets.{Fulfilled};
+ghost use Rattle.st_ilp.specs.Rules.{is_code};
+ghost use Rattle.st_ilp.specs.Seen.{prepare_seen};
+ghost use Rattle.st_ilp.specs.Spelling.{answer_text, prepare_kind};
+ghost use Rattle.st_frames.specs.Frames.{frames_of};
+ghost use Rattle.st_frames.specs.Packets.{packet_of};
+ghost use Rattle.st_frames.specs.Seen.{seen};
+ghost use Rattle.st_keys.specs.Keys.{fulfillment};
+ghost use Rattle.st_keys.specs.Sealed.{opened};
+ghost use Rattle.st_receiver.specs.Decided.{IsPlanFor};
+ghost use Rattle.st_receiver.specs.Judged.{effect};
+ghost use Rattle.st_receiver.specs.Limits as limits;
+ghost use Rattle.st_end.specs.Receiving as receiving;
+ghost use Rattle.st_end.specs.Receiving.{Unread, Rejects, received_as, opened_as, verdict_on, received, no_prepare, f01};
+ghost use Rattle.st_end.specs.Seen.{received_seen, text_or};
+ghost use Rattle.st_end.specs.Inside.{IsJudged};
+
+use crate::back::raise_all;
+use crate::effect::{last_address, take_effect};
+use crate::end::EndState;
+use crate::error::EndError;
+use crate::received::Received;
+use crate::reply::{
+    FULFILL, PREPARE, REJECT, code_unopened, fulfill_bytes, reject_bytes, reply_payload,
+};
+use st_frames::{Frame, StreamPacket};
+use st_ilp::{Moment, Prepare, read_prepare};
+use st_keys::{Keys, condition, payload_lengths};
+use st_oer::is_within;
+use st_receiver::{Decision, Intake, Plan, Reason};
+use st_sender::Outbox;
+use std::alloc::Allocator;
+
+/// A Fulfill, with the frames that it tells and the peer's new address, where it has one.
+#[derive(Drop)]
+struct Reply<'f, A: Allocator + Copy> {
+    bytes: Vec<u8, A>,
+    frames: Vec<Frame<'f>, A>,
+    peer: Option<String<A>>,
+}
+
+/// The Fulfill of a packet by the plan that was made for it. Nothing changes.
+fn fulfill_reply<'f, A: Allocator + Copy>(
+    alloc: A,
+    keys: &Keys,
+    intake: &Intake<A>,
+    prepare: &Prepare<'_>,
+    packet: &StreamPacket<'_>,
+    plan: &Plan,
+) -> Result<Reply<'f, A>, EndError>
+    requires long { 12 ≤ length prepare.now.payload.now }
+    requires plan { IsPlanFor intake.now (packet_of packet.now) plan.now }
+    ensures only_memory { IsOkUnless result EndError.NoMemory }
+    ensures frames { IfOk result (λ r. map seen r.frames.items ≡ limits.reply_frames (effect intake.now.state (packet_of packet.now) plan.now.amount) (frames_of (packet_of packet.now))) }
+    ensures text { IfOk result (λ r. r.bytes.items ≡ answer_text (Fulfilled (fulfillment keys.now prepare.now.payload.now) (receiving.reply_payload keys.now 13 (prepare_seen prepare.now) (packet_of packet.now) (effect intake.now.state (packet_of packet.now) plan.now.amount)))) }
+    ensures peer { IfOk result (λ r. (peer : List ℕ) → text_or peer r.peer ≡ receiving.new_peer peer (frames_of (packet_of packet.now))) }
+{
+    let Ok(frames) = intake.reply_frames(packet, Some(plan)) else {
+        return Err(EndError::NoMemory);
+    };
+    let payload = reply_payload(alloc, keys, FULFILL, prepare, packet, &frames)?;
+    let bytes = fulfill_bytes(alloc, keys.fulfillment(prepare.payload), &payload)?;
+    let peer = match last_address(packet.frames.again()) {
+        Some(address) => Some(String::from_str(alloc, address)?),
+        None => None,
+    };
+    Ok(Reply {
+        bytes,
+        frames,
+        peer,
+    })
+}
+
+/// What became of a packet.
+#[derive(Drop)]
+enum Judged<A: Allocator + Copy> {
+    /// It breaks a rule, of this number.
+    Rejected(u8),
+    /// It took effect: its Fulfill, and the peer's new address, where it has one.
+    Taken(Vec<u8, A>, Option<String<A>>),
+}
+
+/// Judges a packet, and lets it take effect where it breaks no rule. All memory is taken before anything changes.
+fn judge_packet<A: Allocator + Copy>(
+    alloc: A,
+    keys: &Keys,
+    outbox: &mut Outbox<A>,
+    intake: &mut Intake<A>,
+    prepare: &Prepare<'_>,
+    packet: &StreamPacket<'_>,
+) -> Result<Judged<A>, EndError>
+    requires { 12 ≤ length prepare.now.payload.now }
+    ensures only_memory { IsOkUnless result EndError.NoMemory }
+    ensures judged { IfOk result (λ j. IsJudged keys.now (prepare_seen prepare.now) (packet_of packet.now) outbox.old intake.old.state outbox.new intake.new.state j) }
+    ensures unchanged { OnErr result ((outbox.new ≡ outbox.old) × (intake.new.state ≡ intake.old.state)) }
+{
+    match intake.judge(packet, prepare.amount) {
+        Decision::Reject { code: _, reason } => {
+            if reason == Reason::NoMemory {
+                return Err(EndError::NoMemory);
+            }
+            Ok(Judged::Rejected(reason.number()))
+        }
+        Decision::Fulfill(plan) => {
+            let reply = fulfill_reply(alloc, keys, intake, prepare, packet, &plan)?;
+            let Reply {
+                bytes,
+                frames,
+                peer,
+            } = reply;
+            take_effect(outbox, intake, packet, plan, &frames);
+            Ok(Judged::Taken(bytes, peer))
+        }
+    }
+}
+
+/// The peer's new address, where it has one.
+fn take_peer<A: Allocator + Copy>(peer: &mut String<A>, new: Option<String<A>>)
+    ensures { string_bytes peer.new ≡ text_or (string_bytes peer.old) new }
+{
+    let Some(new) = new else {
+        return;
+    };
+    *peer = new;
+}
+
+impl<A: Allocator + Copy> EndState<A> {
+    /// The answer to a Prepare whose payload was not read.
+    fn unread(
+        &self,
+        code: [u8; 3],
+        reason: u8,
+        prepare: &Prepare<'_>,
+    ) -> Result<Received<A>, EndError>
+        requires { is_code code ≡ true }
+        ensures only_memory { IsOkUnless result EndError.NoMemory }
+        ensures answers { IfOk result (λ r. received_as self.now (prepare_seen prepare.now) (Unread code reason) ≡ (received_seen r, self.now)) }
+    {
+        Ok(Received {
+            bytes: reject_bytes(self.alloc, code, self.own.as_str(), &[])?,
+            reason,
+            amount: prepare.amount,
+            sequence: None,
+        })
+    }
+
+    /// Rejects a packet that opened: its limits alone are taken.
+    fn reject(
+        &mut self,
+        prepare: &Prepare<'_>,
+        packet: &StreamPacket<'_>,
+        reason: u8,
+    ) -> Result<Received<A>, EndError>
+        requires { 12 ≤ length prepare.now.payload.now }
+        ensures only_memory { IsOkUnless result EndError.NoMemory }
+        ensures answers { IfOk result (λ r. received_as self.old (prepare_seen prepare.now) (Rejects (packet_of packet.now) reason) ≡ (received_seen r, self.new)) }
+        ensures unchanged { OnErr result (self.new ≡ self.old) }
+    {
+        let Ok(frames) = self.intake.reply_frames(packet, None) else {
+            return Err(EndError::NoMemory);
+        };
+        let payload = reply_payload(self.alloc, &self.keys, REJECT, prepare, packet, &frames)?;
+        let bytes = reject_bytes(self.alloc, *b"F99", self.own.as_str(), &payload)?;
+        raise_all(&mut self.outbox, packet.frames.again());
+        Ok(Received {
+            bytes,
+            reason,
+            amount: prepare.amount,
+            sequence: Some(packet.sequence),
+        })
+    }
+
+    /// Fulfils or rejects a packet that opened.
+    fn receive_packet(
+        &mut self,
+        prepare: &Prepare<'_>,
+        packet: &StreamPacket<'_>,
+    ) -> Result<Received<A>, EndError>
+        requires { 12 ≤ length prepare.now.payload.now }
+        ensures only_memory { IsOkUnless result EndError.NoMemory }
+        ensures answers { IfOk result (λ r. received_as self.old (prepare_seen prepare.now) (opened_as self.old (prepare_seen prepare.now) (Ok (packet_of packet.now))) ≡ (received_seen r, self.new)) }
+        ensures unchanged { OnErr result (self.new ≡ self.old) }
+    {
+        if condition(self.keys.fulfillment(prepare.payload)) != prepare.condition {
+            return self.reject(prepare, packet, 55);
+        }
+        let judged = judge_packet(
+            self.alloc,
+            &self.keys,
+            &mut self.outbox,
+            &mut self.intake,
+            prepare,
+            packet,
+        )?;
+        match judged {
+            Judged::Rejected(reason) => self.reject(prepare, packet, reason),
+            Judged::Taken(bytes, peer) => {
+                take_peer(&mut self.peer, peer);
+                Ok(Received {
+                    bytes,
+                    reason: 0,
+                    amount: prepare.amount,
+                    sequence: Some(packet.sequence),
+                })
+            }
+        }
+    }
+
+    /// Opens a copy of a Prepare's payload, and judges its packet.
+    fn receive_payload(
+        &mut self,
+        prepare: &Prepare<'_>,
+        payload: &mut [u8],
+    ) -> Result<Received<A>, EndError>
+        requires { payload.old ≡ prepare.now.payload.now }
+        ensures only_memory { IsOkUnless result EndError.NoMemory }
+        ensures answers { IfOk result (λ r. received_as self.old (prepare_seen prepare.now) (opened_as self.old (prepare_seen prepare.now) (opened self.old.keys prepare_kind prepare.now.payload.now)) ≡ (received_seen r, self.new)) }
+        ensures unchanged { OnErr result (self.new ≡ self.old) }
+    {
+        payload_lengths();
+        match self.keys.open_packet(payload, PREPARE) {
+            Err(fault) => self.unread(code_unopened(fault), fault.number(), prepare),
+            Ok(packet) => self.receive_packet(prepare, &packet),
+        }
+    }
+
+    /// The answer to a Prepare, by the first rule that applies.
+    fn receive_prepare(
+        &mut self,
+        prepare: &Prepare<'_>,
+        now: Moment,
+    ) -> Result<Received<A>, EndError>
+        ensures only_memory { IsOkUnless result EndError.NoMemory }
+        ensures answers { IfOk result (λ r. received_as self.old (prepare_seen prepare.now) (verdict_on self.old now (Ok (prepare_seen prepare.now))) ≡ (received_seen r, self.new)) }
+        ensures unchanged { OnErr result (self.new ≡ self.old) }
+    {
+        if !is_within(self.own.as_str(), prepare.destination) {
+            return self.unread(*b"F02", 56, prepare);
+        }
+        if prepare.expiry <= now.ms() {
+            return self.unread(*b"R00", 57, prepare);
+        }
+        let mut payload = Vec::from_slice(self.alloc, prepare.payload)?;
+        self.receive_payload(prepare, &mut payload)
+    }
+
+    /// Takes the bytes that came to this end, and gives the Fulfill or Reject that answers them (RFC 0027, RFC 0029). A
+    /// Prepare that breaks no rule is fulfilled: its data are taken first, then its money, then its closes. The limits of a
+    /// packet that opens are taken in any case.
+    ///
+    /// `reason` is 0 where the Prepare was fulfilled. Else it is that of the first rule that applies: 10 to 17 for bytes that
+    /// are no Prepare, 56 for another destination, 57 for one that expired, 30 to 32 for a payload that does not open, 55 for
+    /// a condition that is not the payload's, and 60 to 66 of `Reason`. Refused is want of memory alone, and then nothing
+    /// has changed: the caller may answer `t00`.
+    #[tactic(auto, using(crate::proofs::Taking::received_read, crate::proofs::Taking::received_unread))]
+    pub fn receive(&mut self, bytes: &[u8], now: Moment) -> Result<Received<A>, EndError>
+        ensures only_memory { IsOkUnless result EndError.NoMemory }
+        ensures answers { IfOk result (λ r. received self.old bytes.now now ≡ (received_seen r, self.new)) }
+        ensures unchanged { OnErr result (self.new ≡ self.old) }
+    {
+        match read_prepare(bytes) {
+            Ok(prepare) => self.receive_prepare(&prepare, now),
+            Err(fault) => self.unreadable(fault.number()),
+        }
+    }
+
+    /// The answer to bytes that are no Prepare.
+    fn unreadable(&self, reason: u8) -> Result<Received<A>, EndError>
+        ensures only_memory { IsOkUnless result EndError.NoMemory }
+        ensures answers { IfOk result (λ r. received_as self.now no_prepare (Unread f01 reason) ≡ (received_seen r, self.now)) }
+    {
+        Ok(Received {
+            bytes: reject_bytes(self.alloc, *b"F01", self.own.as_str(), &[])?,
+            reason,
+            amount: 0,
+            sequence: None,
+        })
+    }
+}
