@@ -36,10 +36,10 @@ data_flown k o n = Data k o n ∷ []
 abbrev pub close_alone : ℕ → ℕ → List Known
 close_alone k code = StreamClose k code [] ∷ []
 
-own_end : (k o n : ℕ) → max (cond (eqb k k) (o + n) 0) 0 ≡ o + n
+pub own_end : (k o n : ℕ) → max (cond (eqb k k) (o + n) 0) 0 ≡ o + n
 own_end k o n = grind (arith, nat_tests)
 
-other_end : (k m o n : ℕ) → k ≢ m → max (cond (eqb k m) (o + n) 0) 0 ≡ 0
+pub other_end : (k m o n : ℕ) → k ≢ m → max (cond (eqb k m) (o + n) 0) 0 ≡ 0
 other_end k m o n h = grind (arith, nat_tests)
 
 other_or_own : (k m o n : ℕ) → max (cond (eqb k m) (o + n) 0) 0 ≤ o + n
@@ -106,13 +106,13 @@ module _ (s : Sending) (lanes : Slots Lane) (room : ℕ) (is : s.streams ≡ out
   lane_of : (k : ℕ) → outgoing_at s k ≡ out_of (slot lanes k)
   lane_of k = ap (λ (xs : Slots Outgoing). slot xs k) is ∙ out_slot lanes k
 
-  lane_open : (k : ℕ) (x : Outgoing) → outgoing_at s k ≡ Some x → (l : Lane) × (slot lanes k ≡ Some l) × (l.out ≡ x)
+  pub lane_open : (k : ℕ) (x : Outgoing) → outgoing_at s k ≡ Some x → (l : Lane) × (slot lanes k ≡ Some l) × (l.out ≡ x)
   lane_open k x e = opened (slot lanes k) x (sym (lane_of k) ∙ e)
 
-  seen_open : (k : ℕ) (l : Lane) → slot lanes k ≡ Some l → outgoing_at s k ≡ Some l.out
+  pub seen_open : (k : ℕ) (l : Lane) → slot lanes k ≡ Some l → outgoing_at s k ≡ Some l.out
   seen_open k l e = lane_of k ∙ ap out_of e
 
-  within : (k : ℕ) (l : Lane) → slot lanes k ≡ Some l → k < 65
+  pub within : (k : ℕ) (l : Lane) → slot lanes k ≡ Some l → k < 65
   within k l e = omega (arith, slot_within lanes k l e, len)
 
   -- what is due in the model is due in the lane
@@ -133,7 +133,7 @@ module _ (s : Sending) (lanes : Slots Lane) (room : ℕ) (is : s.streams ≡ out
   unfolding all_ends lane_ends
   ends_same = sum_same (λ k. max (sent_end s k (outgoing_at s k)) 0) (end_at lanes s.flights) 0 65 (λ k h. omega (arith, sent_at k))
 
-  ends_with : (k o n : ℕ) → k < 65 → all_ends s (data_flown k o n) + end_at lanes s.flights k ≡ lane_ends lanes s.flights 0 65 + max (end_at lanes s.flights k) (o + n)
+  pub ends_with : (k o n : ℕ) → k < 65 → all_ends s (data_flown k o n) + end_at lanes s.flights k ≡ lane_ends lanes s.flights 0 65 + max (end_at lanes s.flights k) (o + n)
   unfolding all_ends lane_ends
   ends_with k o n h =
       sum_with (end_at lanes s.flights) (λ j. max (sent_end s j (outgoing_at s j)) (highest_end j (data_flown k o n))) k 0 65 (omega arith) (omega arith)
@@ -144,7 +144,7 @@ module _ (s : Sending) (lanes : Slots Lane) (room : ℕ) (is : s.streams ≡ out
   unfolding all_ends lane_ends
   ends_whole g = sum_same (λ j. max (sent_end s j (outgoing_at s j)) 0) (end_at lanes s.flights) 0 65 (λ j h. omega (arith, sent_at j))
 
-  end_here : (k : ℕ) (l : Lane) → slot lanes k ≡ Some l → end_at lanes s.flights k ≡ max l.out.acked_end (flying_end k s.flights)
+  pub end_here : (k : ℕ) (l : Lane) → slot lanes k ≡ Some l → end_at lanes s.flights k ≡ max l.out.acked_end (flying_end k s.flights)
   end_here k l e = ap (λ y. end_in s.flights k y) e
 
   -- what fits is allowed by the numbers, and so is a part of it

@@ -45,7 +45,7 @@ load_apart xs None ms = pays_apart ms
 load_apart xs (Some (held.Data k o n)) ms = (all_pays (λ g. same_due (StreamData k o xs) g ≡ false) (λ q. refl) ms, pays_apart ms)
 load_apart xs (Some (held.Close k c)) ms = (all_pays (λ g. same_due (StreamClose k c []) g ≡ false) (λ q. refl) ms, pays_apart ms)
 
-flown_load : (xs : List ℕ) (f : Option code.Flown) (ms : List Payment) → map flown (load_frames xs f ms) ≡ map flown (framed xs f) ++ map shown_payment ms
+pub flown_load : (xs : List ℕ) (f : Option code.Flown) (ms : List Payment) → map flown (load_frames xs f ms) ≡ map flown (framed xs f) ++ map shown_payment ms
 flown_load xs f ms = map-append flown (framed xs f) (map paying ms) ∙ ap (λ fs. map flown (framed xs f) ++ fs) (each ms)
   where
     each : (ms : List Payment) → map flown (map paying ms) ≡ map shown_payment ms

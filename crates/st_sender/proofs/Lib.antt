@@ -10,6 +10,7 @@ pub mod Readiness
 pub mod Idle
 pub mod Going
 pub mod Joined
+pub mod Full
 pub mod Landing
 pub mod Landed
 pub mod Products

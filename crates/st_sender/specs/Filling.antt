@@ -44,6 +44,10 @@ is_work (StreamMoney k n) = true
 is_work (StreamClose k code message) = true
 is_work f = false
 
+-- a room that is wide enough: 65 payments, and a data frame of 16,000 bytes beside them
+abbrev pub full_room : ℕ
+full_room = 18432
+
 -- the load is filled
 pub record Fills (s : Sending) (limits : List Known) (room : ℕ) (p : Load) : Type 0 where
   pub bytes : (k o : ℕ) → CanFly s k o → (l offset : ℕ) × (xs : List ℕ) × Contains p.frames (StreamData l offset xs) × IsFull s l offset xs

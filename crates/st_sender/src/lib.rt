@@ -22,7 +22,7 @@ pub use config::{EndConfig, MAX_IN_FLIGHT, MAX_PACKET_LIMIT, MAX_PACKETS};
 pub use error::OutboxError;
 pub use failure::MAX_FAILURES;
 pub use load::Load;
-pub use outbox::Outbox;
+pub use outbox::{FULL_ROOM, Outbox};
 pub use stream::MAX_UNACKED;
 
 #[cfg(test)]

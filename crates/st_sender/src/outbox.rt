@@ -1,6 +1,6 @@
 //! What an end sends.
 
-ghost use Rattle.std.specs.Prelude.{true, false, ◌≡◌, ◌≢◌, ℕ, ◌<◌, List, length, slice_set, None, Some, OnOk, OnErr, IfOk, IfSome, IsOkUnless, MatchOption};
+ghost use Rattle.std.specs.Prelude.{true, false, ◌≡◌, ◌≢◌, ℕ, ◌<◌, ◌≤◌, List, length, slice_set, None, Some, OnOk, OnErr, IfOk, IfSome, IsOkUnless, MatchOption};
 ghost use Rattle.std.specs.List.{AllByRecursion};
 ghost use Rattle.st_frames.specs.Frames.{Known};
 ghost use Rattle.st_frames.specs.Seen.{seen};
@@ -12,6 +12,8 @@ ghost use Rattle.st_sender.specs.Shown.{why};
 ghost use Rattle.st_sender.specs.Refusals.{write_refusal, close_refusal, abort_refusal, offer_refusal, Answers, AnswersOrWants};
 ghost use Rattle.st_sender.specs.Refusals as specs;
 ghost use Rattle.st_sender.specs.Loads.{Sends};
+ghost use Rattle.st_sender.specs.Filling.{full_room, Fills};
+ghost use Rattle.st_oer.specs.Ratios.{ratio};
 ghost use Rattle.st_sender.specs.Plain.{IsFilled, IsPlainIdle, left_room};
 
 use crate::choose::{launch, plan, spare};
@@ -29,6 +31,10 @@ use crate::streams::{
 use st_frames::Frame;
 use std::alloc::Allocator;
 use std::marker::Model;
+
+/// The room in which a load is filled: money up to the packet limit, where all that is sent should arrive, and 16,000 bytes,
+/// or all in a row that may go.
+pub const FULL_ROOM: usize = 18_432;
 
 /// What an end sends: its streams, what is in flight, and the limits that stand.
 #[derive(Drop)]
@@ -255,11 +261,13 @@ impl<A: Allocator + Copy> Outbox<A> {
 
     /// The load that goes next, of data, closes and money: the lowest due bytes of a stream, or a close, and beside it as much
     /// money as may go. `None` comes only where a limit that stands, the room among them, stops each byte, each close and all
-    /// money that is due. `room` is how many bytes the packet may take. Refused is want of memory alone.
+    /// money that is due. `room` is how many bytes the packet may take; in one of `FULL_ROOM` a load is filled. Refused is
+    /// want of memory alone.
     pub fn next(&mut self, room: usize) -> Result<Option<Load<A>>, OutboxError>
         ensures only_memory { IsOkUnless result OutboxError.NoMemory }
         ensures sends { IfOk result (λ r. (limits : List Known) → MatchOption r (IsPlainIdle self.old limits room × (self.new ≡ self.old)) (λ load. Sends self.old limits room load self.new)) }
         ensures filled { IfOk result (λ r. IfSome r (λ load. AllByRecursion (IsFilled self.old (left_room room load.frames)) load.frames)) }
+        ensures full { IfOk result (λ r. IfSome r (λ load. full_room ≤ room → self.old.config.least ≡ ratio 1 1 → (limits : List Known) → Fills self.old limits room load)) }
         ensures unchanged { OnErr result (self.new ≡ self.old) }
     {
         if self.failed {

@@ -1,7 +1,7 @@
 use Rattle.std.proofs.Common.{◌≡◌, ◌++◌, ◌∷◌, [], length, ◌+◌, ◌<◌, ◌^◌, sym, ap, refl, subst, ◌∙◌, arith, List}
 use Rattle.st_tables.specs.Slots.{Slots}
 use Rattle.st_sender.specs.declared.load.Payment.{Payment}
-use Rattle.st_sender.specs.Sending.{Flight}
+use Rattle.st_sender.specs.Sending.{Flight, Sending}
 use Rattle.st_sender.specs.Lanes.{Lane}
 use Rattle.st_sender.specs.Allowed.{IsPlan, IsRest}
 use Rattle.st_sender.specs.Landing.{AreTied, AreOrdered}
@@ -13,6 +13,7 @@ use Rattle.st_sender.proofs.Landed.{next_fresh}
 use Rattle.st_sender.proofs.Going.{takeable, booked_length, tied_next}
 use Rattle.st_sender.proofs.Idle.{over_limit, idle}
 use Rattle.st_sender.proofs.Joined.{sends, filled}
+use Rattle.st_sender.proofs.Full.{fills}
 use Rattle.st_sender.proofs.Planned.{by_some, by_none, if_some, below, small_last, rest_is, plan_is}
 use Rattle.st_sender.proofs.outbox.Outbox.next.Goals as goal
 
@@ -115,6 +116,24 @@ returns-clause-filled g c =
     let few = below _ _ _ _ _ (ap length (sym c.deref-2.ensures.value) ∙ c.deref-2.ensures.len) c.len.ensures c.if-len-in_flight.false c.in_flight.ensures in
     let more = below _ _ _ _ _ refl refl c.if-self-packets.false c.packets.ensures.value in
     rw (← c.self.view_is) (filled _ lanes refl ratio c.args.room c.self.invariant.0 c.self.invariant.1.booked c.if-self.false few more spare.0 c.in_ok-bytes.bytes.items frame ms whole c.in_ok-bytes.ensures.whole)
+
+pub returns-clause-full : goal.returns-clause-full
+returns-clause-full g c = λ wide one limits.
+    let lanes = c.self.inside.streams.items in
+    let flights = c.self.inside.flights.items in
+    let frame = c.in-Some-2.frame in
+    let ms = c.in-Some-2.payments.items in
+    let n = c.self.inside.last + 1 in
+    let spare = rw (c.deref.ensures.value, c.deref-2.ensures.value) at c.in-Some.ensures in
+    let plan = by_some c.in_ok-frame.field-0
+    (IsRest c.deref-3.result.now c.deref-4.result.now c.least-least.result c.self.inside.packet_limit (record { spare = c.in-Some.spare; sequence = c.self.inside.last + 1; room = c.args.room }))
+    (λ p. IsPlan c.deref-3.result.now c.deref-4.result.now c.least-least.result c.self.inside.packet_limit (record { spare = c.in-Some.spare; sequence = c.self.inside.last + 1; room = c.args.room }) p.0 p.1.items)
+    (c.in-Some-2.frame, c.in-Some-2.payments) c.in-Some-2.is c.in_ok-frame.ensures.plans in
+    let found = rw (c.deref-3.ensures.value, c.deref-4.ensures.value, c.least-least.ensures.value) at plan in
+    let whole = plan_is lanes flights _ c.self.inside.packet_limit c.in-Some.spare n c.args.room _ frame ms spare.1 found in
+    let amount = c.total-amount.ensures ∙ ap total c.deref-5.ensures.value in
+    rw (← c.self.view_is)
+    (fills _ lanes refl c.self.invariant.0 c.self.invariant.1.booked spare.0 c.args.room wide (ap (λ (s : Sending). s.config.least) c.self.view_is ∙ one) c.in_ok-bytes.bytes.items frame ms c.total-amount.result c.least_for.result whole c.in_ok-bytes.ensures.whole amount limits)
 
 pub invariant_of-self : goal.invariant_of-self
 invariant_of-self g c =
