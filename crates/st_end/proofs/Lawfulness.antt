@@ -132,13 +132,17 @@ kept_gone : (m : map.FinMap nat_cmp (List ℕ)) (k q : ℕ) → q ≡ k → map.
 kept_gone m k q e = grind (arith, common_steps, map.gets)
 
 pub lawful_after : (e : EndState) (flight : Open) (p : Flight) (o : Option (List ℕ)) → flight_at e.sending.flights flight.sequence ≡ Some p → IsLawful e → IsLawful (after_outcome e flight p o)
-lawful_after e flight p o at l = record { own = l.own; peer = l.peer; kept = λ n h. elim (cases_eq n flight.sequence) [
-  | inl same ↦ absurd (false≢true (sym (ap is_some (kept_gone e.conditions flight.sequence n same)) ∙ h))
-  | inr apart ↦
-    ap (λ (ps : List Flight). is_some (flight_at ps n)) (outcome_flies e flight p o)
-    ∙ ap is_some (others_fly e.sending.flights p.sequence n (λ s. apart (s ∙ found_sequence e.sending.flights flight.sequence p at)))
-    ∙ l.kept n (sym (ap is_some (kept_apart e.conditions flight.sequence n apart)) ∙ h)
-] }
+lawful_after e flight p o at l = record {
+  own = l.own;
+  peer = l.peer;
+  kept = λ n h. elim (cases_eq n flight.sequence) [
+    | inl same ↦ absurd (false≢true (sym (ap is_some (kept_gone e.conditions flight.sequence n same)) ∙ h))
+    | inr apart ↦
+        ap (λ (ps : List Flight). is_some (flight_at ps n)) (outcome_flies e flight p o)
+        ∙ ap is_some (others_fly e.sending.flights p.sequence n (λ s. apart (s ∙ found_sequence e.sending.flights flight.sequence p at)))
+        ∙ l.kept n (sym (ap is_some (kept_apart e.conditions flight.sequence n apart)) ∙ h)
+  ];
+}
 
 -- ---- open flights
 

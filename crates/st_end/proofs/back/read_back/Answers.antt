@@ -6,13 +6,20 @@ use Rattle.st_end.proofs.back.read_back.Goals as goal
 
 pub returns-in-Ok-Fulfill : goal.returns-in-Ok-Fulfill
 returns-in-Ok-Fulfill c =
-    let read : answer_at c.args.bytes.now ≡ Ok (Fulfilled c.in-Ok-Fulfill.fulfillment c.in-Ok-Fulfill.payload.now) = search rules in
-    (omega (arith, c.saturating_sub.ensures), subst (λ n. answer_at c.args.bytes.now ≡ Ok (Fulfilled c.in-Ok-Fulfill.fulfillment (drop n c.args.bytes.now))) (sym c.saturating_sub.ensures)
-    (fulfill_data c.args.bytes.now c.in-Ok-Fulfill.fulfillment c.in-Ok-Fulfill.payload.now c.answer_law.ensures (λ i. omega (arith, c.type_inv.bytes i)) read))
+    let read : answer_at c.args.bytes.now ≡ Ok (Fulfilled c.in-Ok-Fulfill.fulfillment c.in-Ok-Fulfill.payload.now) = search rules in (
+      omega (arith, c.saturating_sub.ensures),
+      subst (λ n. answer_at c.args.bytes.now ≡ Ok (Fulfilled c.in-Ok-Fulfill.fulfillment (drop n c.args.bytes.now))) (sym c.saturating_sub.ensures)
+          (fulfill_data c.args.bytes.now c.in-Ok-Fulfill.fulfillment c.in-Ok-Fulfill.payload.now c.answer_law.ensures (λ i. omega (arith, c.type_inv.bytes i)) read),
+    )
 
 pub returns-in-Ok-Reject : goal.returns-in-Ok-Reject
 returns-in-Ok-Reject c =
-    let read : answer_at c.args.bytes.now ≡ Ok (Rejected c.in-Ok-Reject.code c.in-Ok-Reject.field-0-1.now c.in-Ok-Reject.field-0-2.now c.in-Ok-Reject.payload.now) = search rules in
-    (omega (arith, c.saturating_sub-in-Ok-Reject.ensures), (c.in-Ok-Reject.field-0-1.now, c.in-Ok-Reject.field-0-2.now,
-    subst (λ n. answer_at c.args.bytes.now ≡ Ok (Rejected c.in-Ok-Reject.code c.in-Ok-Reject.field-0-1.now c.in-Ok-Reject.field-0-2.now (drop n c.args.bytes.now))) (sym c.saturating_sub-in-Ok-Reject.ensures)
-    (reject_data c.args.bytes.now c.in-Ok-Reject.code c.in-Ok-Reject.field-0-1.now c.in-Ok-Reject.field-0-2.now c.in-Ok-Reject.payload.now c.answer_law.ensures (λ i. omega (arith, c.type_inv.bytes i)) read)))
+    let read : answer_at c.args.bytes.now ≡ Ok (Rejected c.in-Ok-Reject.code c.in-Ok-Reject.field-0-1.now c.in-Ok-Reject.field-0-2.now c.in-Ok-Reject.payload.now) = search rules in (
+      omega (arith, c.saturating_sub-in-Ok-Reject.ensures),
+      (
+        c.in-Ok-Reject.field-0-1.now,
+        c.in-Ok-Reject.field-0-2.now,
+        subst (λ n. answer_at c.args.bytes.now ≡ Ok (Rejected c.in-Ok-Reject.code c.in-Ok-Reject.field-0-1.now c.in-Ok-Reject.field-0-2.now (drop n c.args.bytes.now))) (sym c.saturating_sub-in-Ok-Reject.ensures)
+            (reject_data c.args.bytes.now c.in-Ok-Reject.code c.in-Ok-Reject.field-0-1.now c.in-Ok-Reject.field-0-2.now c.in-Ok-Reject.payload.now c.answer_law.ensures (λ i. omega (arith, c.type_inv.bytes i)) read),
+      ),
+    )
