@@ -24,6 +24,3 @@ pub use failure::MAX_FAILURES;
 pub use load::Load;
 pub use outbox::{FULL_ROOM, Outbox};
 pub use stream::MAX_UNACKED;
-
-#[cfg(test)]
-mod tests;

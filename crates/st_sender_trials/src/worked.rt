@@ -1,7 +1,6 @@
-use crate::failure::Failure;
-use crate::{EndConfig, Load, MAX_PACKET_LIMIT, Outbox, OutboxError};
 use st_frames::Frame;
 use st_oer::Rate;
+use st_sender::{EndConfig, Load, MAX_PACKET_LIMIT, Outbox, OutboxError};
 use std::alloc::Allocator;
 
 /// The room of the longest packet.
@@ -179,21 +178,38 @@ fn fails_at_a_final_code(rt: HostRuntime) -> Result<(), OutboxError> {
     Ok(())
 }
 
+/// The amount that goes once F08 answered a Prepare of so much, with a received and a maximum amount where it told them.
+fn amount_after<A: Allocator + Copy>(
+    alloc: A,
+    sent: u64,
+    told: Option<(u64, u64)>,
+) -> Result<u64, OutboxError> {
+    let Some(config) = EndConfig::new(4, 1_000, sent) else {
+        return Err(OutboxError::NoStream);
+    };
+    let mut outbox = Outbox::new(alloc, config)?;
+    open(&mut outbox, 1);
+    outbox.offer(1, 1_000_000)?;
+    let first = outbox.next(ROOM)?.map(|load| load.amount());
+    if first != Some(sent) {
+        return Err(OutboxError::AmountTooLarge);
+    }
+    outbox.too_large(1, told);
+    Ok(outbox.next(ROOM)?.map(|load| load.amount()).unwrap_or(0))
+}
+
 #[test]
-fn lowers_the_packet_limit(rt: HostRuntime) -> Result<(), OutboxError> {
-    assert_eq!(rt;
-        Failure::TooLarge(Some((3, 1))).limit_after(MAX_PACKET_LIMIT, 7),
-        2
-    );
-    assert_eq!(rt; Failure::TooLarge(None).limit_after(MAX_PACKET_LIMIT, 5), 2);
-    assert_eq!(rt; Failure::TooLarge(None).limit_after(2, 1), 1);
-    assert_eq!(rt;
-        Failure::TooLarge(Some((150, 100))).limit_after(1_000, 150),
-        100
-    );
-    assert_eq!(rt; Failure::TooLarge(Some((0, 9))).limit_after(1_000, 6), 3);
-    assert_eq!(rt; Failure::Final.limit_after(1_000, 6), 1_000);
-    Ok(())
+fn lowers_the_packet_limit(rt: HostRuntime) {
+    let rows = [
+        (7, Some((3, 1)), 2),
+        (5, None, 2),
+        (1, None, 1),
+        (150, Some((150, 100)), 100),
+        (6, Some((0, 9)), 3),
+    ];
+    for (sent, told, want) in rows {
+        assert_eq!(rt; amount_after(rt.alloc(), sent, told), Ok(want), "of {sent}");
+    }
 }
 
 #[test]
