@@ -1,0 +1,5 @@
+//! Tests of an end: worked packets, from bytes to bytes.
+#![tactic(auto)]
+
+#[cfg(test)]
+mod worked;
