@@ -97,10 +97,14 @@ kept_apart : (m : map.FinMap nat_cmp (List ℕ)) (k q : ℕ) (c : List ℕ) → 
 kept_apart m k q c d = grind (arith, common_steps, map.gets)
 
 gone_lawful : (e : EndState) (p : Load) (c : List ℕ) → IsLawful e → IsLawful (record e { sending = with_flight e.sending p; conditions = map.insert e.conditions p.sequence c })
-gone_lawful e p c l = record { own = l.own; peer = l.peer; kept = λ n h. elim (cases_eq n p.sequence) [
-  | inl same ↦ last_flies e.sending.flights (flight_of p) n (sym same)
-  | inr apart ↦ still_flies e.sending.flights (flight_of p) n (l.kept n (sym (ap is_some (kept_apart e.conditions p.sequence n c apart)) ∙ h))
-] }
+gone_lawful e p c l = record {
+  own = l.own;
+  peer = l.peer;
+  kept = λ n h. elim (cases_eq n p.sequence) [
+    | inl same ↦ last_flies e.sending.flights (flight_of p) n (sym same)
+    | inr apart ↦ still_flies e.sending.flights (flight_of p) n (l.kept n (sym (ap is_some (kept_apart e.conditions p.sequence n c apart)) ∙ h))
+  ];
+}
 
 -- a load that flies, with its condition kept
 pub sent_lawful : (e : EndState) (t : Sending) (m : map.FinMap nat_cmp (List ℕ)) (own : List Known) (p : Load) (iv bytes : List ℕ) (now : ℤ) (flight : Open)

@@ -40,14 +40,7 @@ fn seal_load<A: Allocator + Copy>(
     let Ok(frames) = load.frames() else {
         return Err(EndError::NoMemory);
     };
-    match keys.seal_packet(
-        alloc,
-        iv,
-        PREPARE,
-        load.sequence(),
-        load.least(),
-        &frames,
-    ) {
+    match keys.seal_packet(alloc, iv, PREPARE, load.sequence(), load.least(), &frames) {
         Ok(payload) => Ok(payload),
         Err(KeyError::NoMemory) => Err(EndError::NoMemory),
         Err(_) => unreachable!(),
