@@ -1,8 +1,8 @@
 -- The data of an answer are the last of its bytes.
-use Rattle.std.proofs.Common.{◌≡◌, ℕ, ◌+◌, ◌-◌, ◌≤◌, List, [], ◌∷◌, ◌++◌, length, drop, refl, sym, ap, subst, ◌∙◌, arith, append_assoc, length-append, Ok}
+use Rattle.std.proofs.Common.{◌≡◌, ℕ, ◌-◌, List, [], ◌∷◌, ◌++◌, length, drop, refl, sym, ap, subst, ◌∙◌, arith, append_assoc, length-append, Ok}
 use Rattle.st_oer.specs.Laws.{IsBytes}
 use Rattle.st_oer.specs.Spelling.{length_bytes, octets}
-use Rattle.st_ilp.specs.Packets.{AnswerPacket, Fulfilled, Rejected}
+use Rattle.st_ilp.specs.Packets.{Fulfilled, Rejected}
 use Rattle.st_ilp.specs.Reading.{answer_at}
 use Rattle.st_ilp.specs.Spelling.{answer_kind, answer_contents, answer_text}
 use Rattle.st_ilp.specs.Laws.{AnswerReads}

@@ -1,7 +1,6 @@
 -- What a packet that opened is answered, from what became of it.
-use Rattle.std.proofs.Common.{◌≡◌, ℕ, Bool, true, false, cond, Option, Some, None, Result, Ok, Err, refl, ap, ◌∙◌, sym, subst, List, [], ◌∷◌, inl, inr}
+use Rattle.std.proofs.Common.{◌≡◌, ℕ, true, false, cond, Option, Some, None, Ok, ap, ◌∙◌, sym, subst, List, inl, inr}
 use Rattle.std.specs.Prelude.{is_some, ◌⊎◌}
-use Rattle.st_oer.specs.Address.{is_address}
 use Rattle.st_ilp.specs.Packets.{PreparePacket, Fulfilled}
 use Rattle.st_ilp.specs.Spelling.{fulfill_kind, answer_text}
 use Rattle.st_frames.specs.Frames.{Packet, frames_of}

@@ -15,7 +15,7 @@ use Rattle.st_frames.specs.Frames.{Known, Packet, frames_of, ConnectionClose, Co
 use Rattle.st_keys.specs.Keys.{DerivedKeys}
 use Rattle.st_keys.specs.Sealed.{opened}
 use Rattle.st_keys.specs.declared.error.KeyError.{KeyError}
-use Rattle.st_sender.specs.Sending.{Outgoing, Flown, Data, Whole, Flight, Sending, changed_at, changed, outgoing_at}
+use Rattle.st_sender.specs.Sending.{Outgoing, Flown, Data, Whole, Flight, Sending, changed_at, changed}
 use Rattle.st_sender.specs.Flights.{flight_at, without_flight}
 use Rattle.st_sender.specs.Answering.{after_acked, after_all_acked, landed, after_fulfilled, after_failed, Failure, Plain, after_told, after_all_told}
 use Rattle.st_end.specs.declared.flight.Open.{Open}

@@ -6,3 +6,4 @@ pub mod Opening
 pub mod Replies
 pub mod Taking
 pub mod Judging
+pub mod Going

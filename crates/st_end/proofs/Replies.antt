@@ -1,5 +1,5 @@
 -- The IV of a reply.
-use Rattle.std.proofs.Common.{◌≡◌, ℕ, ◌<◌, ◌≤◌, List, [], ◌∷◌, length, refl, arith, set}
+use Rattle.std.proofs.Common.{◌≡◌, ℕ, ◌<◌, List, [], ◌∷◌, length, refl, arith, set}
 use Rattle.std.specs.Prelude.{bit_xor, slice_index}
 use Rattle.st_end.specs.Receiving.{reply_iv}
 

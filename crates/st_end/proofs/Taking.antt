@@ -1,8 +1,7 @@
 -- What bytes that came leave lawful.
-use Rattle.std.proofs.Common.{◌≡◌, ℕ, ◌+◌, ◌≤◌, Bool, true, false, cond, ◌&&◌, not, Option, Some, None, Result, Ok, Err, refl, ap, ◌∙◌, sym, subst, List, [], ◌∷◌, length, nat_eq, arith, ℤ}
+use Rattle.std.proofs.Common.{◌≡◌, ℕ, ◌+◌, ◌≤◌, Bool, true, false, cond, ◌&&◌, not, Some, Result, Ok, Err, refl, ap, ◌∙◌, sym, subst, List, [], ◌∷◌, length, arith, ℤ}
 use Rattle.std.specs.Prelude.{is_some}
 use Rattle.std.specs.List.{fold, range_with_len}
-use Rattle.std.specs.FinMap as map
 use Rattle.st_oer.specs.Address.{is_address}
 use Rattle.st_ilp.specs.Packets.{PreparePacket, Rejected}
 use Rattle.st_ilp.specs.Spelling.{reject_kind, answer_text}

@@ -10,7 +10,7 @@ use Rattle.st_sender.specs.declared.error.OutboxError.{OutboxError}
 use Rattle.st_sender.specs.Sending.{Outgoing, Sending, new_outgoing, outgoing_at, with_outgoing, changed}
 use Rattle.st_sender.specs.Accepting.{after_write, after_clean, after_stream_abort, after_offer}
 use Rattle.st_sender.specs.Refusals.{write_refusal, close_refusal, abort_refusal, offer_refusal}
-use Rattle.st_receiver.specs.Streams.{Receiving, opened_stream, may_name, with_receive_max}
+use Rattle.st_receiver.specs.Streams.{opened_stream, may_name, with_receive_max}
 use Rattle.st_end.specs.declared.error.EndError.{EndError}
 use Rattle.st_end.specs.declared.error.EndError.TheVariants.{NoStream, ConnectionFailed, Closed, NoMemory}
 use Rattle.st_end.specs.Errors.{wrapped}

@@ -1,13 +1,17 @@
--- What the code reads off an answer before it opens its data in place.
-use Rattle.std.specs.Prelude.{◌≡◌, ◌≤◌, ℕ, List, drop, length, None, Some, Ok, Err}
+-- What the code reads off an answer before it opens its data in place, what became of a packet, and a load in its Prepare.
+use Rattle.std.specs.Prelude.{◌≡◌, ◌≤◌, ℕ, ℤ, ◌+ℤ◌, List, false, drop, length, None, Some, Ok, Err}
+use Rattle.std.specs.List.{AllByRecursion}
 use Rattle.st_ilp.specs.Packets.{Fulfilled, Rejected}
 use Rattle.st_ilp.specs.Reading.{answer_at}
 use Rattle.st_ilp.specs.declared.error.IlpError.{IlpError}
 use Rattle.st_ilp.specs.Packets.{PreparePacket}
-use Rattle.st_ilp.specs.Spelling.{fulfill_kind, answer_text}
-use Rattle.st_frames.specs.Frames.{Packet, frames_of}
-use Rattle.st_keys.specs.Keys.{DerivedKeys, fulfillment}
-use Rattle.st_sender.specs.Sending.{Sending}
+use Rattle.st_ilp.specs.Spelling.{prepare_kind, fulfill_kind, prepare_text, answer_text}
+use Rattle.st_ilp.specs.Laws.{IsPrepare}
+use Rattle.st_frames.specs.Frames.{Packet, frames_of, max_packet}
+use Rattle.st_frames.specs.Written.{is_unwritable, packet_length}
+use Rattle.st_keys.specs.Keys.{DerivedKeys, fulfillment, condition}
+use Rattle.st_keys.specs.Sealed.{sealed_packet}
+use Rattle.st_sender.specs.Sending.{Load, Sending}
 use Rattle.st_sender.specs.Answering.{after_all_told}
 use Rattle.st_receiver.specs.declared.reason.Reason.{Reason}
 use Rattle.st_receiver.specs.Reasons as reasons
@@ -16,6 +20,8 @@ use Rattle.st_receiver.specs.Judged.{fault_of, effect}
 use Rattle.st_receiver.specs.Limits.{reply_frames}
 use Rattle.st_end.specs.Receiving.{reply_payload, opened_too, all_marked, new_peer}
 use Rattle.st_end.specs.Seen.{text_or}
+use Rattle.st_end.specs.Sending.{answer_time, Spells}
+use Rattle.st_end.specs.declared.flight.Open.{Open}
 use Rattle.st_end.specs.declared.receive.Judged.{Judged}
 use Rattle.st_end.specs.declared.receive.Judged.TheVariants as packets
 use Rattle.st_end.specs.declared.back.Back.{Back}
@@ -40,3 +46,27 @@ IsJudged keys q p s r t u (packets.Taken bytes peer) =
     × (t ≡ taken_by s (effect r p q.amount) p)
     × (bytes.items ≡ answer_text (Fulfilled (fulfillment keys q.payload) (reply_payload keys fulfill_kind q p (effect r p q.amount))))
     × ((old : List ℕ) → text_or old peer ≡ new_peer old (frames_of p))
+
+-- a load whose packet can be written
+pub record IsSpellable (p : Load) : Type 0 where
+  pub writable : AllByRecursion (λ f. is_unwritable f ≡ false) p.frames
+  pub short : packet_length p.sequence p.least p.frames ≤ max_packet
+
+-- a Prepare with this payload, to this peer
+abbrev pub prepare_to : DerivedKeys → (peer : List ℕ) → (now : ℤ) → (amount : ℕ) → (payload : List ℕ) → PreparePacket
+prepare_to keys peer now amount payload = record {
+  amount = amount;
+  expiry = now +ℤ answer_time;
+  condition = condition (fulfillment keys payload);
+  destination = peer;
+  payload = payload;
+}
+
+-- the flight of a load that these keys seal, and the bytes of its Prepare
+pub record IsSpelled (keys : DerivedKeys) (peer iv : List ℕ) (now : ℤ) (p : Load) (flight : Open) (bytes : List ℕ) : Type 0 where
+  pub payload : List ℕ
+  pub spells : Spells p
+  pub sealed : sealed_packet keys iv prepare_kind p.sequence p.least p.frames ≡ Ok payload
+  pub lawful : IsPrepare (prepare_to keys peer now p.amount payload)
+  pub flight_is : flight ≡ record { sequence = p.sequence; condition = condition (fulfillment keys payload) }
+  pub bytes_are : bytes ≡ prepare_text (prepare_to keys peer now p.amount payload)

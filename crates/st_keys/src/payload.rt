@@ -87,6 +87,7 @@ impl Keys {
         requires from_prepare { 12 ≤ kind }
         requires to_reject { kind ≤ 14 }
         ensures exact { Writes KeyError.NoMemory (λ payload. payload.items) result (sealed_packet self.now iv kind sequence amount (map seen frames.now)) }
+        ensures fits { OnOk result (AllFit (map seen frames.now)) }
         ensures opens { IfOk result (λ payload. opened self.now kind payload.items ≡ Ok (packet_with kind sequence amount (map seen frames.now))) }
     {
         let mut payload = with_overhead(alloc, kind, sequence, amount, frames)?;

@@ -1,4 +1,4 @@
-use Rattle.std.proofs.Common.{refl, Some, None}
+use Rattle.std.proofs.Common.{refl, Some}
 use Rattle.st_end.proofs.Lawfulness.{lawful_ended}
 use Rattle.st_end.proofs.end.EndState.answer.Goals as goal
 

@@ -1,4 +1,4 @@
-use Rattle.std.proofs.Common.{refl, Some, None}
+use Rattle.std.proofs.Common.{refl, None}
 use Rattle.st_sender.specs.Answering.{Plain}
 use Rattle.st_end.proofs.Lawfulness.{lawful_ended, failed_left}
 use Rattle.st_end.proofs.end.EndState.fault.Goals as goal

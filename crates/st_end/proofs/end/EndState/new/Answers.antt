@@ -1,4 +1,4 @@
-use Rattle.std.proofs.Common.{ap, sym, subst, ◌∙◌}
+use Rattle.std.proofs.Common.{ap, sym, ◌∙◌}
 use Rattle.st_oer.specs.Address.{is_address}
 use Rattle.st_end.proofs.Lawfulness.{lawful_when_new}
 use Rattle.st_end.specs.Receiving.{t00_text}

@@ -1,4 +1,4 @@
-use Rattle.std.proofs.Common.{◌≡◌, refl, ap, sym, ◌∙◌, map, rules}
+use Rattle.std.proofs.Common.{◌≡◌, refl, ap, ◌∙◌, map, rules}
 use Rattle.st_ilp.specs.Seen.{prepare_seen}
 use Rattle.st_frames.specs.Frames.{frames_of}
 use Rattle.st_frames.specs.Packets.{packet_of}
