@@ -37,6 +37,51 @@ fn server(alloc: Global) -> Result<EndState<Global>, Fail> {
     )?)
 }
 
+fn client(alloc: Global) -> Result<EndState<Global>, Fail> {
+    let Some(config) = EndConfig::new(16, 100, 1_000) else {
+        return Err(Fail::from(EndError::NoStream));
+    };
+    Ok(EndState::new(
+        alloc,
+        Role::Client,
+        Keys::of(SECRET),
+        "test.a",
+        "test.b",
+        config,
+    )?)
+}
+
+/// The client's next Prepare goes to the server and its answer comes back. Whether there was one.
+fn pass(
+    client: &mut EndState<Global>,
+    server: &mut EndState<Global>,
+    number: u8,
+) -> Result<bool, Fail> {
+    let Some(now) = Moment::new(0) else {
+        return Err(Fail::from(EndError::NoStream));
+    };
+    let mut iv = [0; 12];
+    iv[11] = number;
+    let Some((flight, bytes)) = client.send(iv, now)? else {
+        return Ok(false);
+    };
+    let answer = server.receive(&bytes, now);
+    if !client.is_open(&flight) {
+        flight.abandon();
+        return Err(Fail::from(EndError::NoStream));
+    }
+    match answer {
+        Ok(mut received) => {
+            let _taken = client.answer(flight, &mut received.bytes);
+            Ok(true)
+        }
+        Err(error) => {
+            client.fault(flight);
+            Err(Fail::from(error))
+        }
+    }
+}
+
 /// The bytes of a Prepare of 0 with this packet, and this condition or the packet's own.
 fn prepare(
     alloc: Global,
@@ -130,5 +175,55 @@ fn rate_probe_is_answered_and_delivers_nothing(rt: HostRuntime) -> Result<(), Fa
     assert_eq!(rt; plain[OVERHEAD + 1], 0x0e);
     assert_eq!(rt; plain[OVERHEAD + 2..], HI_REPLY[2..]);
     assert!(rt; !end.has_stream(1));
+    Ok(())
+}
+
+/// The first Prepare is rejected, since no receive max was told yet; its reply tells one, and the second goes by it.
+#[test]
+fn money_goes_up_to_the_receive_max(rt: HostRuntime) -> Result<(), Fail> {
+    let alloc = rt.alloc();
+    let mut client = client(alloc)?;
+    let mut server = server(alloc)?;
+    assert_eq!(rt; client.open_stream(), Ok(1));
+    client.write(1, b"hi")?;
+    client.offer(1, 30)?;
+    server.set_receive_max(1, 10)?;
+    let mut passed = 0;
+    for number in 0..9u8 {
+        if !pass(&mut client, &mut server, number)? {
+            break;
+        }
+        passed += 1;
+    }
+    assert_eq!(rt; passed, 2);
+    assert_eq!(rt; client.totals().paid, 10);
+    assert_eq!(rt; server.totals().credited, 10);
+    let Got::Bytes(hi) = server.read(1, 10)? else {
+        panic!(rt; "nothing was read")
+    };
+    assert_eq!(rt; hi.as_slice(), b"hi".as_slice());
+    Ok(())
+}
+
+#[test]
+fn a_stream_is_read_to_its_end(rt: HostRuntime) -> Result<(), Fail> {
+    let alloc = rt.alloc();
+    let mut client = client(alloc)?;
+    let mut server = server(alloc)?;
+    assert_eq!(rt; client.open_stream(), Ok(1));
+    client.write(1, b"hi")?;
+    client.close(1)?;
+    assert!(rt; pass(&mut client, &mut server, 0)?);
+    assert!(rt; !client.settled(1));
+    assert!(rt; pass(&mut client, &mut server, 1)?);
+    assert!(rt; client.settled(1));
+    assert!(rt; !pass(&mut client, &mut server, 2)?);
+    let Got::Bytes(hi) = server.read(1, 10)? else {
+        panic!(rt; "nothing was read")
+    };
+    assert_eq!(rt; hi.as_slice(), b"hi".as_slice());
+    let Got::End = server.read(1, 10)? else {
+        panic!(rt; "the end was not told")
+    };
     Ok(())
 }
