@@ -12,7 +12,7 @@ use Rattle.std.proofs.lemmas.List.{get_or_append_left, get_or-append_right, get_
 use Rattle.st_unacked.specs.declared.run.Run.{Run}
 use Rattle.st_unacked.specs.declared.run.Status.{Status}
 use Rattle.st_tables.specs.Table.{is_between, table}
-use Rattle.st_unacked.specs.Sent.{Sent, nothing_sent, due_at, is_by, after_accept, after_claim, after_acknowledged, after_failed, after_drop, IsLowestDue}
+use Rattle.st_unacked.specs.Sent.{Sent, nothing_sent, due_at, is_by, after_accept, after_claim, after_acknowledged, after_failed, after_drop, IsLowestDue, IsPastDue}
 use Rattle.st_unacked.specs.Runs.{status_at, flight_of, is_kept, is_due, byte_at, flight_at, shown_by, IsTiled, flown, claimed, acknowledged_run, failed_run, dropped_run}
 use Rattle.st_tables.proofs.Tables.{get-table, get-table_in, table_is, table-inside, get-put_bytes, get-put_same, get-kept}
 
@@ -238,6 +238,17 @@ module _ (runs : List Run) (bytes : List ℕ) (first : ℕ) where
     due = λ q a b. some_due t q (omega arith) (due q a b);
     none_below = λ q b. none_due q (λ a. below q a b);
     ends = none_due to (λ _. ends);
+  }
+
+  is_here : (b d : Bool) (x : ℕ) → IsSome (cond (b && d) (Some x) None) → (b ≡ true) × (d ≡ true)
+  is_here true true x h = (refl, refl)
+  is_here true false x h = absurd cc
+  is_here false d x h = absurd cc
+
+  pub past_view : IsTiled runs first (length bytes) → (end : ℕ) → ((q : ℕ) → first ≤ q → is_due (status_at runs q) ≡ true → q < end) → (0 < end → (first < end) × (is_due (status_at runs (end - 1)) ≡ true)) → IsPastDue (shown_by runs bytes first) end
+  past_view t end past last = record {
+    past = λ q h. (let w = is_here (here q) (is_due (status_at runs q)) (slice_index bytes (q - first)) (subst IsSome (due_here q) h) in past q (from_here q w.0) w.1);
+    last = λ some. (let w = last some in some_due t (end - 1) (omega (arith, w.0)) w.1);
   }
 
   -- an unacknowledged byte

@@ -1,5 +1,5 @@
 -- The bytes of one outgoing stream: which are accepted and not acknowledged yet, and which of them are in flight.
-use Rattle.std.specs.Prelude.{◌≡◌, ℕ, ◌+◌, ◌<◌, ◌≤◌, IsSome, Bool, true, false, not, nat_eq, List, length, Option, Some, None, is_some, if◌then◌else◌}
+use Rattle.std.specs.Prelude.{◌≡◌, ℕ, ◌+◌, ◌-◌, ◌<◌, ◌≤◌, IsSome, Bool, true, false, not, nat_eq, List, length, Option, Some, None, is_some, if◌then◌else◌}
 use Rattle.std.specs.Ordering.{nat_cmp}
 use Rattle.std.specs.FinMap.{FinMap, empty, get, retain_keys}
 use Rattle.st_tables.specs.Table.{put_bytes, put_same}
@@ -66,3 +66,8 @@ pub record IsLowestDue (s : Sent) (from to : ℕ) : Type 0 where
   pub due : (q : ℕ) → from ≤ q → q < to → IsSome (due_at s q)
   pub none_below : (q : ℕ) → q < from → due_at s q ≡ None
   pub ends : due_at s to ≡ None
+
+-- end is past the highest due byte: 0 where none is due
+pub record IsPastDue (s : Sent) (end : ℕ) : Type 0 where
+  pub past : (q : ℕ) → IsSome (due_at s q) → q < end
+  pub last : 0 < end → IsSome (due_at s (end - 1))

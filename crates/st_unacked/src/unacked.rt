@@ -2,11 +2,11 @@
 ghost use Rattle.std.specs.Prelude.{◌≡◌, ◌≢◌, true, false, ℕ, ◌+◌, ◌-◌, ◌^◌, ◌<◌, ◌≤◌, IfOk, OnErr, OnOk, MatchOption, IsSome, None, Some, drop, length, slice_index};
 ghost use Rattle.std.specs.FinMap.{get, empty, len};
 ghost use Rattle.std.specs.List.{slice_range};
-ghost use Rattle.st_unacked.specs.Sent.{nothing_sent, due_at, after_accept, after_claim, after_acknowledged, after_failed, after_drop, carried, IsFlightEnd, IsLowestDue};
+ghost use Rattle.st_unacked.specs.Sent.{nothing_sent, due_at, after_accept, after_claim, after_acknowledged, after_failed, after_drop, carried, IsFlightEnd, IsLowestDue, IsPastDue};
 
 use crate::run::{
     DUE, Run, acknowledge, append, claim, drop_all, due_end, fail, first_due, first_kept,
-    flight_end, gone_front, kept_count,
+    flight_end, gone_front, kept_count, past_due,
 };
 use std::alloc::{AllocError, Allocator};
 use std::marker::Model;
@@ -109,6 +109,13 @@ impl<A: Allocator + Copy> Unacked<A> {
             return None;
         };
         Some((from, due_end(&self.runs, from)))
+    }
+
+    /// The offset past the highest due byte: 0 where none is due.
+    pub fn past_due(&self) -> u64
+        ensures { IsPastDue self.now result }
+    {
+        past_due(&self.runs, self.first)
     }
 
     /// Whether each accepted byte is acknowledged or dropped.
