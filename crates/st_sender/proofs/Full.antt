@@ -13,14 +13,19 @@ use Rattle.st_frames.specs.Frames.{Known, StreamData}
 use Rattle.st_sender.specs.declared.load.Flown as code
 use Rattle.st_sender.specs.declared.load.Flown.TheVariants as held
 use Rattle.st_sender.specs.declared.load.Payment.{Payment}
+use Rattle.st_sender.specs.declared.notice.Notice.{Notice}
 use Rattle.st_sender.specs.Sending.{Outgoing, Load, Data, Flown, Flight, Sending, outgoing_at}
 use Rattle.st_sender.specs.Flights.{carries, flown, due_at, highest_end, flying_money, due_money, part_of}
 use Rattle.st_sender.specs.Filling.{CanFly, IsFull, money_room, free_money, all_free_money, is_work, Fills}
 use Rattle.st_sender.specs.Loads.{load_with, least_of}
 use Rattle.st_sender.specs.Lanes.{Lane, due_in, out_of, outs, AreBooked}
 use Rattle.st_sender.specs.Paying.{total, most_for, payable, payable_at, all_payable, allowed_money, flown_money, flown_least}
-use Rattle.st_sender.specs.Allowed.{Bounds, bounds, lane_ends, IsAllowed, IsReadyAt, NoneReady, IsPlan, AreItsBytes, AreBytes, least_for}
+use Rattle.st_sender.specs.declared.bounds.Bounds.{Bounds}
+use Rattle.st_sender.specs.Allowed.{bounds, lane_ends, IsAllowed, IsReadyAt, NoneReady, IsPlan, IsRest, AreItsBytes, AreBytes, least_for}
 use Rattle.st_sender.specs.Shown.{kept, framed, shown_payment, load_frames}
+use Rattle.st_sender.specs.Noticed.{IsOfNotice}
+use Rattle.st_sender.specs.Plain.{IsIdleOf}
+use Rattle.st_sender.proofs.Said.{said_flown}
 use Rattle.st_sender.proofs.Seen.{out_slot}
 use Rattle.st_sender.proofs.Sums.{sum_same}
 use Rattle.st_sender.proofs.Lengths.{data_short}
@@ -114,11 +119,20 @@ gap_all xs f ms j q inner h =
     let kinds = flown_load xs f ms in
     ap (list_any (carries j q)) kinds ∙ kept_any (carries j q) (λ p. refl) (map flown (framed xs f)) ms ∙ inner (omega (arith, h, ap (highest_end j) kinds, no_end j (map flown (framed xs f)) ms))
 
-works : (xs : List ℕ) (f : Option code.Flown) (ms : List Payment) → (f ≡ None → ms ≢ []) → list_any is_work (load_frames xs f ms) ≡ true
-works xs (Some (held.Data k o c)) ms h = refl
-works xs (Some (held.Close k c)) ms h = refl
-works xs None [] h = absurd (h refl refl)
-works xs None (m ∷ ms) h = refl
+-- what goes is work, unless it is a notice
+abbrev Works : Option code.Flown → List Payment → Type 0
+Works (Some (held.Data k o c)) ms = Unit {0}
+Works (Some (held.Close k c)) ms = Unit {0}
+Works (Some (held.Notice n)) ms = ⊥
+Works None [] = ⊥
+Works None (m ∷ ms) = Unit {0}
+
+works : (xs : List ℕ) (f : Option code.Flown) (ms : List Payment) → Works f ms → list_any is_work (load_frames xs f ms) ≡ true
+works xs (Some (held.Data k o c)) ms w = refl
+works xs (Some (held.Close k c)) ms w = refl
+works xs (Some (held.Notice n)) ms w = absurd w
+works xs None [] w = absurd w
+works xs None (m ∷ ms) w = refl
 
 module _ (s : Sending) (lanes : Slots Lane) (is : s.streams ≡ outs lanes) (len : length lanes ≡ 65) (tied : AreBooked lanes s.flights) (under : lane_ends lanes s.flights 0 65 ≤ s.told) (room : ℕ) (wide : 18432 ≤ room) (one : s.config.least ≡ ratio 1 1) where
   abbrev Goes : Option code.Flown → List Payment → Type 0
@@ -134,6 +148,7 @@ module _ (s : Sending) (lanes : Slots Lane) (is : s.streams ≡ outs lanes) (len
   covers xs (Some (held.Data k o c)) ms p bytes j q can =
       (k, o, xs, (0, omega arith, refl), full_data s lanes is len tied under (room - 34 * length ms) (rest_wide (length ms) p.0.few) k o c p.1 xs (bytes p.1.lane p.1.is_open))
   covers xs (Some (held.Close k c)) ms p bytes j q can = absurd (no_fly s lanes is len tied under (room - 34 * length ms) (rest_wide (length ms) p.0.few) p.1.1 j q can)
+  covers xs (Some (held.Notice n)) ms p bytes j q can = absurd p.1
   covers xs None [] p bytes j q can = absurd p
   covers xs None (m ∷ ms) (inl p) bytes j q can = absurd (no_fly s lanes is len tied under (room - 34 * length (m ∷ ms)) (rest_wide (length (m ∷ ms)) p.0.few) p.1.0 j q can)
   covers xs None (m ∷ ms) (inr p) bytes j q can = absurd (no_fly s lanes is len tied under room (omega (arith, wide)) p.1.0 j q can)
@@ -145,6 +160,7 @@ module _ (s : Sending) (lanes : Slots Lane) (is : s.streams ≡ outs lanes) (len
   gapless xs (Some (held.Data k o c)) ms p j q byte x at due h =
       gap_all xs (Some (held.Data k o c)) ms j q (gap_data s lanes is len tied under (room - 34 * length ms) (rest_wide (length ms) p.0.few) k o c p.1 (length xs) j q byte x at due) h
   gapless xs (Some (held.Close k c)) ms p j q byte x at due h = gap_all xs (Some (held.Close k c)) ms j q (λ l. absurd (omega (arith, l))) h
+  gapless xs (Some (held.Notice n)) ms p j q byte x at due h = absurd p.1
   gapless xs None ms p j q byte x at due h = gap_all xs None ms j q (λ l. absurd (omega (arith, l))) h
 
   paid_all : (ms : List Payment) → total ms ≡ min s.packet_limit (all_payable lanes s.config.least s.flights 65) → min s.packet_limit (all_free_money s) ≡ total ms
@@ -156,10 +172,12 @@ module _ (s : Sending) (lanes : Slots Lane) (is : s.streams ≡ outs lanes) (len
   pays None (m ∷ ms) (inl p) = omega (arith, paid_all (m ∷ ms) (p.0.filled (omega (arith, wide))))
   pays None (m ∷ ms) (inr p) = omega (arith, paid_all [] (p.0.filled (omega (arith, wide))))
 
-  some_goes : (f : Option code.Flown) (ms : List Payment) → Goes f ms → f ≡ None → ms ≢ []
-  some_goes (Some f) ms p e = absurd (cc)
-  some_goes None [] p e = absurd p
-  some_goes None (m ∷ ms) p e = λ i. cc
+  goes_work : (f : Option code.Flown) (ms : List Payment) → Goes f ms → Works f ms
+  goes_work (Some (held.Data k o c)) ms p = tt
+  goes_work (Some (held.Close k c)) ms p = tt
+  goes_work (Some (held.Notice n)) ms p = p.1
+  goes_work None [] p = p
+  goes_work None (m ∷ ms) p = tt
 
   pub fills : (xs : List ℕ) (f : Option code.Flown) (ms : List Payment) (amount least : ℕ) → Goes f ms → AreItsBytes lanes f xs → amount ≡ total ms → (limits : List Known)
       → Fills s limits room (record { sequence = s.last + 1; amount = amount; least = least; frames = load_frames xs f ms })
@@ -167,5 +185,14 @@ module _ (s : Sending) (lanes : Slots Lane) (is : s.streams ≡ outs lanes) (len
     bytes = covers xs f ms p bytes;
     gapless = gapless xs f ms p;
     money = omega (arith, pays f ms p, e);
-    worded = λ none g w due. (let some = works xs f ms (some_goes f ms p) in absurd (cc));
+    worded = λ none g w due. (let some = works xs f ms (goes_work f ms p) in absurd (cc));
+  }
+
+  -- and so is one of a notice, where no work may go
+  pub fills_said : IsRest lanes s.flights s.config.least s.packet_limit (bounds lanes s.flights s.told (s.last + 1) room) → (limits : List Known) → IsIdleOf true s limits room → (p : Load) → IsOfNotice p → Fills s limits room p
+  fills_said rest limits idle p of = record {
+    bytes = λ k o can. absurd (no_fly s lanes is len tied under room (omega (arith, wide)) rest.0.0 k o can);
+    gapless = λ k q byte x at due h. (let none = ap (λ (fs : List Known). highest_end k (map flown fs)) of.1 ∙ ap (λ (g : Flown). highest_end k (g ∷ [])) (said_flown of.0) in absurd (omega (arith, h, none)));
+    money = omega (arith, paid_all [] (rest.2.filled (omega (arith, wide))));
+    worded = λ none g w due. idle g w due;
   }

@@ -19,7 +19,8 @@ use Rattle.st_sender.specs.Lanes.{Lane, due_in, out_of, outs, changed_to, claime
 use Rattle.st_sender.specs.Landing.{AreTied}
 use Rattle.st_sender.specs.Paying.{paid_to, amount_to, payable, payable_at, IsPayment, AreDue, Pays, AreFunded, fulfilled_of, fulfilled_in, offered_in, flown_money, open_money, allowed_money, flown_least}
 use Rattle.st_sender.specs.Refusals.{offered_of}
-use Rattle.st_sender.specs.Allowed.{Bounds, IsPlan, IsUnit, AreItsBytes, IsTakeable, booked}
+use Rattle.st_sender.specs.declared.bounds.Bounds.{Bounds}
+use Rattle.st_sender.specs.Allowed.{IsPlan, IsUnit, AreItsBytes, IsTakeable, booked}
 use Rattle.st_sender.specs.Shown.{shown, kept, framed, known, shown_payment, flight_with}
 use Rattle.st_tables.proofs.SlotLemmas.{slot_here, slot_apart, slot_within}
 use Rattle.st_sender.proofs.Seen.{map_set, changed_length, out_slot}
@@ -29,6 +30,7 @@ use Rattle.st_sender.proofs.Rates.{allowed_due}
 pub takeable : (lanes : Slots Lane) (flights : List Flight) (r : Ratio) (limit : ℕ) (b : Bounds) (f : Option code.Flown) (ms : List Payment) → IsPlan lanes flights r limit b f ms → IsTakeable lanes f
 takeable lanes flights r limit b (Some (held.Data k o n)) ms p = (p.1.lane, p.1.is_open, p.1.ready.some, p.1.ready.fits, p.1.ready.due)
 takeable lanes flights r limit b (Some (held.Close k code)) ms p = tt
+takeable lanes flights r limit b (Some (held.Notice n)) ms p = tt
 takeable lanes flights r limit b None ms p = tt
 
 -- the money of a plan
@@ -62,7 +64,7 @@ abbrev pub or_else : Option ℕ → Option ℕ → Option ℕ
 or_else None y = y
 or_else (Some x) y = Some x
 
-or_none : (x : Option ℕ) → or_else x None ≡ x
+pub or_none : (x : Option ℕ) → or_else x None ≡ x
 or_none None = refl
 or_none (Some x) = refl
 
@@ -113,7 +115,7 @@ data_booked lanes flights k o c n l h open_here due j q = elim (cases_eq k j) [
 pub carried_kept : (j q : ℕ) (f : Option code.Flown) (ms : List Payment) → list_any (carries j q) (kept f ++ map shown_payment ms) ≡ list_any (carries j q) (kept f)
 carried_kept j q f ms = kept_any (carries j q) (λ p. refl) (kept f) ms
 
-pushed_frames : (j : ℕ) (flights : List Flight) (n amount : ℕ) (f : Option code.Flown) (ms : List Payment) (q : ℕ)
+pub pushed_frames : (j : ℕ) (flights : List Flight) (n amount : ℕ) (f : Option code.Flown) (ms : List Payment) (q : ℕ)
     → flying_by j (flights ++ flight_with n amount f ms ∷ []) q ≡ or_else (flying_by j flights q) (cond (list_any (carries j q) (kept f)) (Some n) None)
 pushed_frames j flights n amount f ms q =
     flying_push j flights (flight_with n amount f ms) q ∙ ap (λ t. or_else (flying_by j flights q) (cond t (Some n) None)) (carried_kept j q f ms)
@@ -125,12 +127,14 @@ booked_next lanes flights r limit b (Some (held.Data k o c)) ms n amount p h = �
     ∙ sym (pushed_frames j flights n amount (Some (held.Data k o c)) ms q)
 booked_next lanes flights r limit b (Some (held.Close k code)) ms n amount p h = λ j q.
     h j q ∙ sym (pushed_frames j flights n amount (Some (held.Close k code)) ms q ∙ or_none (flying_by j flights q))
+booked_next lanes flights r limit b (Some (held.Notice said)) ms n amount p h = absurd p.1
 booked_next lanes flights r limit b None ms n amount p h = λ j q.
     h j q ∙ sym (pushed_frames j flights n amount None ms q ∙ or_none (flying_by j flights q))
 
 pub booked_length : (lanes : Slots Lane) (f : Option code.Flown) (n : ℕ) → length (booked lanes n f) ≡ length lanes
 booked_length lanes (Some (held.Data k o c)) n = changed_length lanes k (claimed_by n o c) (slot lanes k)
 booked_length lanes (Some (held.Close k code)) n = refl
+booked_length lanes (Some (held.Notice said)) n = refl
 booked_length lanes None n = refl
 
 pub set_same : {X : Type 0} (xs : Slots X) (k : ℕ) (x : X) → slot xs k ≡ Some x → set xs k (Some x) ≡ xs
@@ -145,6 +149,7 @@ outs_same lanes k o c n (Some l) e = map_set out_of lanes k (Some (claimed_by n 
 pub outs_booked : (lanes : Slots Lane) (f : Option code.Flown) (n : ℕ) → outs (booked lanes n f) ≡ outs lanes
 outs_booked lanes (Some (held.Data k o c)) n = outs_same lanes k o c n (slot lanes k) refl
 outs_booked lanes (Some (held.Close k code)) n = refl
+outs_booked lanes (Some (held.Notice said)) n = refl
 outs_booked lanes None n = refl
 
 -- a stream's money does not change where what the model sees does not
@@ -160,7 +165,7 @@ payable_left : (r : Ratio) (flights : List Flight) (k : ℕ) (o : Option Lane) (
 payable_left r flights k None n h g = omega arith
 payable_left r flights k (Some l) n h g = due_left l.out.abort n l.out.offered l.out.fulfilled (flown_money k flights) (allowed_due r l.out.told_money (flown_least r k flights) (open_money flights k l.out) n h) g
 
-funded_next : (lanes : Slots Lane) (flights : List Flight) (r : Ratio) (limit : ℕ) (f : Option code.Flown) (ms : List Payment) (n amount : ℕ) → AreDue lanes r flights limit ms → AreFunded lanes flights
+pub funded_next : (lanes : Slots Lane) (flights : List Flight) (r : Ratio) (limit : ℕ) (f : Option code.Flown) (ms : List Payment) (n amount : ℕ) → AreDue lanes r flights limit ms → AreFunded lanes flights
     → AreFunded (booked lanes n f) (flights ++ flight_with n amount f ms ∷ [])
 funded_next lanes flights r limit f ms n amount d h k =
     let more = sum_by_push (part_of k) flights (flight_with n amount f ms) in
@@ -180,4 +185,5 @@ tied_next lanes flights r limit b f ms n amount p h = record {
 pub flown_shown : (lanes : Slots Lane) (f : Option code.Flown) (xs : List ℕ) (flights : List Flight) (r : Ratio) (limit : ℕ) (b : Bounds) (ms : List Payment) → IsPlan lanes flights r limit b f ms → AreItsBytes lanes f xs → map flown (framed xs f) ≡ kept f
 flown_shown lanes (Some (held.Data k o c)) xs flights r limit b ms p bytes = ap (λ n. Data k o n ∷ []) (bytes p.1.lane p.1.is_open).long
 flown_shown lanes (Some (held.Close k code)) xs flights r limit b ms p bytes = refl
+flown_shown lanes (Some (held.Notice n)) xs flights r limit b ms p bytes = absurd p.1
 flown_shown lanes None xs flights r limit b ms p bytes = refl

@@ -11,7 +11,7 @@ use Rattle.st_sender.specs.Sending.{Outgoing, Data, Whole, Flown, Flight, Sendin
 use Rattle.st_sender.specs.Flights.{any_frame, carries, due_at, sent_end, flying_end, highest_end, all_ends, flying_least, due_money}
 use Rattle.st_sender.specs.Due.{IsDueData, IsDueMoney, IsDueClose}
 use Rattle.st_sender.specs.Loads.{Fits, MoneyFits, least_of, load_with}
-use Rattle.st_sender.specs.Plain.{IsFilled, IsPlainIdle}
+use Rattle.st_sender.specs.Plain.{IsFilled, IsIdleOf}
 use Rattle.st_oer.specs.Ratios.{Ratio, IsRatio, exchanged}
 use Rattle.st_frames.specs.Told.{money_of, money_in, shares_of}
 use Rattle.std.proofs.lemmas.List.Sums.{sum_by-cons}
@@ -19,7 +19,8 @@ use Rattle.st_sender.specs.Paying.{payable, payable_at, allowed_money}
 use Rattle.st_frames.specs.Written.{packet_length}
 use native.Mathlib.Nat.{zero-mul, zero-div}
 use Rattle.st_sender.specs.Lanes.{Lane, due_in, out_of, outs, flying_by, flying_in, AreBooked}
-use Rattle.st_sender.specs.Allowed.{Bounds, bounds, end_in, end_at, lane_ends, IsAllowed, IsReadyAt, NoneReady, IsFinishedAt, NoneUnit, IsRest, AreBytes, least_for}
+use Rattle.st_sender.specs.declared.bounds.Bounds.{Bounds}
+use Rattle.st_sender.specs.Allowed.{bounds, end_in, end_at, lane_ends, IsAllowed, IsReadyAt, NoneReady, IsFinishedAt, NoneUnit, IsRest, AreBytes, least_for}
 use Rattle.st_tables.proofs.SlotLemmas.{slot_within}
 use Rattle.st_sender.proofs.Seen.{out_slot}
 use Rattle.st_sender.proofs.Sums.{sum_over, sum_same, sum_with}
@@ -67,10 +68,10 @@ none_least s = omega (arith, none_exchanged s.config.least)
 pub free_length : (s : Sending) (n room : ℕ) (fs : List Known) → packet_length n (least_of s 0) fs ≤ room → packet_length n 0 fs ≤ room
 free_length s n room fs h = subst (λ (l : ℕ). packet_length n l fs ≤ room) (none_least s) h
 
-length_free : (s : Sending) (n room : ℕ) (fs : List Known) → packet_length n 0 fs ≤ room → packet_length n (least_of s 0) fs ≤ room
+pub length_free : (s : Sending) (n room : ℕ) (fs : List Known) → packet_length n 0 fs ≤ room → packet_length n (least_of s 0) fs ≤ room
 length_free s n room fs h = subst (λ (l : ℕ). packet_length n l fs ≤ room) (sym (none_least s)) h
 
-none_more : (t : Option (ℕ × ℕ)) (flying more : ℕ) → more ≡ 0 → MoneyFits t flying more
+pub none_more : (t : Option (ℕ × ℕ)) (flying more : ℕ) → more ≡ 0 → MoneyFits t flying more
 none_more None flying more e = tt
 none_more (Some t) flying more e = omega arith
 
@@ -168,23 +169,6 @@ module _ (s : Sending) (lanes : Slots Lane) (room : ℕ) (is : s.streams ≡ out
       let at : o + 0 ≡ o = omega arith in
       none k l (within k l found.1) found.1 o first.0 (rw at at (due_lane k o xs due l found.1 0 first.0 first.1)) (allowed_by k o xs l found.1 under fits 1 (omega (arith, due.some)))
 
-  pub over_limit : (limits : List Known) → s.told < lane_ends lanes s.flights 0 65 → IsPlainIdle s limits room
-  over_limit limits h (StreamData k o xs) p due fits =
-      let found = lane_open k due.stream due.is_open in
-      let grown = ends_with k o (length xs) (within k found.0 found.1) in
-      omega (arith, grown, fits.connection)
-  over_limit limits h (StreamClose k code message) p due fits =
-      omega (arith, ends_whole (StreamClose k code message), fits.connection)
-  over_limit limits h (StreamMoney k n) p due fits = omega (arith, ends_whole (StreamMoney k n), fits.connection)
-  over_limit limits h (StreamDataBlocked k n) p due fits = absurd (cc)
-  over_limit limits h (ConnectionDataBlocked n) p due fits = absurd (cc)
-  over_limit limits h (StreamMoneyBlocked k n t) p due fits = absurd (cc)
-  over_limit limits h (ConnectionMaxData n) p due fits = absurd (cc)
-  over_limit limits h (StreamMaxData k n) p due fits = absurd (cc)
-  over_limit limits h (StreamMaxMoney k n t) p due fits = absurd (cc)
-  over_limit limits h (ConnectionClose code message) p due fits = absurd (cc)
-  over_limit limits h (ConnectionNewAddress address) p due fits = absurd (cc)
-
   -- where not even one unit may go, no due money fits
   no_unit : IsRatio s.config.least → NoneUnit lanes s.flights s.config.least s.packet_limit b 65 → (k n : ℕ) → IsDueMoney s k n → Fits s room (load_with s (StreamMoney k n ∷ [])) → ⊥
   no_unit ratio none k n due fits =
@@ -204,7 +188,7 @@ module _ (s : Sending) (lanes : Slots Lane) (room : ℕ) (is : s.streams ≡ out
       omega (arith, stops, fits.room_left, money_packet (s.last + 1) (least_for r 1) (least_of s (sum_by shares_of (StreamMoney k n ∷ []))) k n least due.some)
 
   -- neither bytes, money nor a close may go
-  pub idle : (limits : List Known) → lane_ends lanes s.flights 0 65 ≤ s.told → IsRatio s.config.least → IsRest lanes s.flights s.config.least s.packet_limit b → IsPlainIdle s limits room
+  pub idle : (limits : List Known) → lane_ends lanes s.flights 0 65 ≤ s.told → IsRatio s.config.least → IsRest lanes s.flights s.config.least s.packet_limit b → IsIdleOf true s limits room
   idle limits under ratio rest (StreamMoney k n) p due fits = no_unit ratio rest.1 k n due fits
   idle limits under ratio rest (StreamData k o xs) p due fits = no_data under rest.0.0 k o xs due fits
   idle limits under ratio rest (StreamClose k code message) p due fits =

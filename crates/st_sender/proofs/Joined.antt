@@ -9,6 +9,8 @@ use Rattle.st_frames.specs.Written.{packet_length}
 use Rattle.st_sender.specs.declared.load.Flown as code
 use Rattle.st_sender.specs.declared.load.Flown.TheVariants as held
 use Rattle.st_sender.specs.declared.load.Payment.{Payment}
+use Rattle.st_sender.specs.declared.notice.Notice.{Notice}
+use Rattle.st_sender.specs.declared.notice.Notice.TheVariants as said
 use Rattle.st_tables.specs.Slots.{Slots, slot}
 use Rattle.st_sender.specs.Sending.{Outgoing, Load, Flown, Flight, Sending, outgoing_at}
 use Rattle.st_sender.specs.Flights.{flown, flight_of, highest_end, sent_end, all_ends, flying_least, due_money}
@@ -17,8 +19,9 @@ use Rattle.st_sender.specs.Loads.{Fits, MoneyFits, Sends, AllApart, same_due, lo
 use Rattle.st_sender.specs.Plain.{IsFilled, left_room}
 use Rattle.st_sender.specs.Lanes.{Lane, out_of, outs, AreBooked}
 use Rattle.st_sender.specs.Paying.{total, paid_to, payable, payable_at, allowed_money, flown_least, open_money, IsPayment, AreDue}
-use Rattle.st_sender.specs.Allowed.{Bounds, bounds, lane_ends, IsPlan, AreItsBytes, booked, least_for, unit_size}
-use Rattle.st_sender.specs.Shown.{shown, known, kept, framed, paying, shown_payment, load_frames, flight_with}
+use Rattle.st_sender.specs.declared.bounds.Bounds.{Bounds}
+use Rattle.st_sender.specs.Allowed.{bounds, lane_ends, IsPlan, AreItsBytes, booked, least_for, unit_size}
+use Rattle.st_sender.specs.Shown.{telling, shown, known, kept, framed, paying, shown_payment, load_frames, flight_with}
 use Rattle.st_sender.proofs.Seen.{out_slot}
 use Rattle.st_sender.proofs.Sums.{sum_same}
 use Rattle.st_sender.proofs.Lengths.{pays_length, empty_packet, unit_packet, data_packet, close_packet}
@@ -40,10 +43,20 @@ pays_apart : (ms : List Payment) → AllApart (map paying ms)
 pays_apart [] = tt
 pays_apart (p ∷ ms) = (all_pays (λ g. same_due (paying p) g ≡ false) (λ q. refl) ms, pays_apart ms)
 
+-- a notice and a payment are apart
+no_same : (n : Notice) (p : Payment) → same_due (telling n) (paying p) ≡ false
+no_same (said.ConnectionDataBlocked l) p = refl
+no_same (said.StreamDataBlocked k l) p = refl
+no_same (said.StreamMoneyBlocked k l t) p = refl
+no_same (said.ConnectionMaxData l) p = refl
+no_same (said.StreamMaxData k l) p = refl
+no_same (said.StreamMaxMoney k l t) p = refl
+
 load_apart : (xs : List ℕ) (f : Option code.Flown) (ms : List Payment) → AllApart (load_frames xs f ms)
 load_apart xs None ms = pays_apart ms
 load_apart xs (Some (held.Data k o n)) ms = (all_pays (λ g. same_due (StreamData k o xs) g ≡ false) (λ q. refl) ms, pays_apart ms)
 load_apart xs (Some (held.Close k c)) ms = (all_pays (λ g. same_due (StreamClose k c []) g ≡ false) (λ q. refl) ms, pays_apart ms)
+load_apart xs (Some (held.Notice n)) ms = (all_pays (λ g. same_due (telling n) g ≡ false) (no_same n) ms, pays_apart ms)
 
 pub flown_load : (xs : List ℕ) (f : Option code.Flown) (ms : List Payment) → map flown (load_frames xs f ms) ≡ map flown (framed xs f) ++ map shown_payment ms
 flown_load xs f ms = map-append flown (framed xs f) (map paying ms) ∙ ap (λ fs. map flown (framed xs f) ++ fs) (each ms)
@@ -153,6 +166,7 @@ module _ (s : Sending) (lanes : Slots Lane) (is : s.streams ≡ outs lanes) (rat
         let size = free_length s (s.last + 1) rest (StreamClose k c [] ∷ []) fits.room_left in
         load_sends limits room xs (Some (held.Close k c)) ms t ((close_due s lanes rest is len tied k c p.1.0, refl), tt) due (λ e. absurd (cc))
         (joins room xs (Some (held.Close k c)) ms alive flights packets due fits.streams fits.connection (size_with room xs (Some (held.Close k c)) ms (omega (arith, size, p.0.room_left)))) after
+    base xs (Some (held.Notice n)) ms p bytes limits t after = absurd p.1
     base xs None [] p bytes limits t after = absurd p
     base xs None (m ∷ ms) (inl p) bytes limits t after =
         let due = plan_due lanes s.flights s.config.least s.packet_limit b None (m ∷ ms) (inl p) in
@@ -181,6 +195,7 @@ module _ (s : Sending) (lanes : Slots Lane) (is : s.streams ≡ outs lanes) (rat
     fills : (xs : List ℕ) (f : Option code.Flown) (ms : List Payment) → Goes f ms → AreItsBytes lanes f xs → AllByRecursion (IsFilled s (room - 34 * length ms)) (load_frames xs f ms)
     fills xs (Some (held.Data k o c)) ms p bytes = (data_filled s lanes (room - 34 * length ms) is len tied under k o c p.1 xs (bytes p.1.lane p.1.is_open).long, all_pays (IsFilled s (room - 34 * length ms)) (λ q. tt) ms)
     fills xs (Some (held.Close k c)) ms p bytes = (no_data s lanes (room - 34 * length ms) is len tied under p.1.1, all_pays (IsFilled s (room - 34 * length ms)) (λ q. tt) ms)
+    fills xs (Some (held.Notice n)) ms p bytes = absurd p.1
     fills xs None ms p bytes = all_pays (IsFilled s (room - 34 * length ms)) (λ q. tt) ms
 
     pub filled : (xs : List ℕ) (f : Option code.Flown) (ms : List Payment) → Goes f ms → AreItsBytes lanes f xs → AllByRecursion (IsFilled s (left_room room (load_frames xs f ms))) (load_frames xs f ms)

@@ -17,18 +17,23 @@ use Rattle.st_tables.proofs.SlotLemmas.{slot_here, slot_apart, slot_within, slot
 use Rattle.st_sender.specs.declared.load.Flown as code
 use Rattle.st_sender.specs.declared.load.Flown.TheVariants as held
 use Rattle.st_sender.specs.declared.load.Payment.{Payment}
-use Rattle.st_sender.specs.Sending.{Outgoing, Flown, Data, Whole, Flight, Sending, changed}
+use Rattle.st_sender.specs.declared.notice.Notice.{Notice}
+use Rattle.st_sender.specs.declared.notice.Notice.TheVariants as said
+use Rattle.st_sender.specs.Sending.{Outgoing, Flown, Data, Whole, Flight, Marks, Sending, changed}
 use Rattle.st_sender.specs.Flights.{carries, flight_at, without_flight, money_flown, part_of}
-use Rattle.st_sender.specs.Answering.{acked_data, acked_money, acked_close, after_acked, after_all_acked, landed, after_fulfilled, after_failed, Failure, limit_after, is_final}
+use Rattle.st_sender.specs.Answering.{acked_data, acked_money, acked_close, acked_blocked, acked_money_blocked, higher, after_acked, after_all_acked, landed, after_fulfilled, after_failed, Failure, limit_after, is_final}
 use Rattle.st_sender.specs.Lanes.{Lane, on_out, changed_to, changed_lane, out_of, outs, flying_by, flying_in, AreBooked}
-use Rattle.st_sender.specs.Landing.{AreApart, AreTied, without_by, freed_by, acked_by, acked, all_acked, freed, all_freed, IsFlight, IsCovered}
+use Rattle.st_sender.specs.Landing.{AreApart, AreTied, without_by, freed_by, acked_by, whole_acked, acked, all_acked, freed, all_freed, IsFlight, IsCovered}
 use Rattle.st_sender.specs.Paying.{paid_to, AreFunded, fulfilled_of, fulfilled_in, offered_in}
+use Rattle.st_sender.specs.Noticed.{marks_acked, marks_flown, all_marks_flown, highest_acked, highest_flown, all_highest_flown}
 use Rattle.st_sender.specs.Refusals.{offered_of}
-use Rattle.st_sender.specs.Shown.{shown, kept, shown_payment, flight_with}
-use Rattle.st_sender.specs.Allowed.{Bounds, IsPlan}
+use Rattle.st_sender.specs.Shown.{shown, kept, shown_payment, flight_with, telling}
+use Rattle.st_sender.specs.declared.bounds.Bounds.{Bounds}
+use Rattle.st_sender.specs.Allowed.{IsPlan}
 use Rattle.st_sender.proofs.Seen.{map_set, changed_length, seen_changed, booked_to}
 use Rattle.st_sender.proofs.Landing.{by_flight, landed_by, landed_money, same_test, other_test}
-use Rattle.st_sender.proofs.Money.{own_amount, part_with, paid_more}
+use Rattle.st_sender.proofs.Money.{own_amount, no_part, part_with, paid_more}
+use Rattle.st_sender.proofs.Said.{pays_marks, pays_highest}
 use Rattle.st_sender.proofs.Going.{carried_own, carried_other, carried_kept, set_same, between_from, not_flying, like_at}
 
 not_cond : (b : Bool) (r : Option ℕ) → cond (not b) r None ≡ cond b None r
@@ -71,6 +76,15 @@ pays_booked lanes ps m (p ∷ ms) h = pays_booked (changed_lane lanes p.stream (
 frames_carry : (j q : ℕ) (p : Flight) (f : Option code.Flown) (ms : List Payment) → p.frames ≡ kept f ++ map shown_payment ms → list_any (carries j q) p.frames ≡ list_any (carries j q) (kept f)
 frames_carry j q p f ms e = ap (λ fs. list_any (carries j q) fs) e ∙ carried_kept j q f ms
 
+-- a notice changes no byte
+said_booked : (lanes : Slots Lane) (ps : List Flight) (n : Notice) → AreBooked lanes ps → AreBooked (whole_acked lanes (telling n)) ps
+said_booked lanes ps (said.StreamDataBlocked k l) h = booked_to lanes ps k (on_out (acked_blocked l)) (slot lanes k) refl (λ x. refl) h
+said_booked lanes ps (said.StreamMoneyBlocked k l t) h = booked_to lanes ps k (on_out (acked_money_blocked l)) (slot lanes k) refl (λ x. refl) h
+said_booked lanes ps (said.ConnectionDataBlocked l) h = h
+said_booked lanes ps (said.ConnectionMaxData l) h = h
+said_booked lanes ps (said.StreamMaxData k l) h = h
+said_booked lanes ps (said.StreamMaxMoney k l t) h = h
+
 acked_kept : (lanes : Slots Lane) (ps : List Flight) (m : ℕ) (p : Flight) (f : Option code.Flown) (ms : List Payment) → p.frames ≡ kept f ++ map shown_payment ms → AreBooked lanes ps → AreApart ps → flight_at ps m ≡ Some p
     → AreBooked (all_acked lanes m (kept f ++ map shown_payment ms)) (without_flight ps m)
 acked_kept lanes ps m p (Some (held.Data k o n)) ms e h a at =
@@ -79,6 +93,8 @@ acked_kept lanes ps m p (Some (held.Data k o n)) ms e h a at =
 acked_kept lanes ps m p (Some (held.Close k by)) ms e h a at =
     pays_booked (changed_lane lanes k (on_out (acked_close by))) (without_flight ps m) m ms
     (landed_same (changed_lane lanes k (on_out (acked_close by))) ps m p (booked_to lanes ps k (on_out (acked_close by)) (slot lanes k) refl (λ l. refl) h) a at (λ j q. frames_carry j q p (Some (held.Close k by)) ms e))
+acked_kept lanes ps m p (Some (held.Notice n)) ms e h a at =
+    pays_booked (whole_acked lanes (telling n)) (without_flight ps m) m ms (landed_same (whole_acked lanes (telling n)) ps m p (said_booked lanes ps n h) a at (λ j q. frames_carry j q p (Some (held.Notice n)) ms e))
 acked_kept lanes ps m p None ms e h a at = pays_booked lanes (without_flight ps m) m ms (landed_same lanes ps m p h a at (λ j q. frames_carry j q p None ms e))
 
 pays_freed : (lanes : Slots Lane) (m : ℕ) (ms : List Payment) → all_freed lanes m (map shown_payment ms) ≡ lanes
@@ -92,6 +108,7 @@ freed_kept lanes ps m p (Some (held.Data k o n)) ms e h a at =
     (landed_booked lanes ps k m (freed_by m) p (slot lanes k) refl (λ l. refl) h a at (λ j q d. frames_carry j q p (Some (held.Data k o n)) ms e ∙ carried_other k j o q n (λ i. d (sym i))))
 freed_kept lanes ps m p (Some (held.Close k by)) ms e h a at =
     subst (λ (xs : Slots Lane). AreBooked xs (without_flight ps m)) (sym (pays_freed lanes m ms)) (landed_same lanes ps m p h a at (λ j q. frames_carry j q p (Some (held.Close k by)) ms e))
+freed_kept lanes ps m p (Some (held.Notice n)) ms e h a at = subst (λ (xs : Slots Lane). AreBooked xs (without_flight ps m)) (sym (pays_freed lanes m ms)) (landed_same lanes ps m p h a at (λ j q. frames_carry j q p (Some (held.Notice n)) ms e))
 freed_kept lanes ps m p None ms e h a at = subst (λ (xs : Slots Lane). AreBooked xs (without_flight ps m)) (sym (pays_freed lanes m ms)) (landed_same lanes ps m p h a at (λ j q. frames_carry j q p None ms e))
 
 -- a flight by its sequence
@@ -162,9 +179,9 @@ frame_raises lanes m (Data j o n) k = raises_none lanes j (acked_by m o n) k (λ
 frame_raises lanes m (Whole (StreamMoney j a)) k = (raised_at lanes j (on_out (acked_money a)) a k (slot lanes j) refl (λ l. omega arith), offer_at lanes j (on_out (acked_money a)) k (slot lanes j) refl (λ l. refl))
 frame_raises lanes m (Whole (StreamClose j by message)) k = raises_close lanes j by k
 frame_raises lanes m (Whole (StreamData j o xs)) k = stays lanes k
-frame_raises lanes m (Whole (StreamDataBlocked j n)) k = stays lanes k
+frame_raises lanes m (Whole (StreamDataBlocked j n)) k = raises_none lanes j (on_out (acked_blocked n)) k (λ l. refl) (λ l. refl)
 frame_raises lanes m (Whole (ConnectionDataBlocked n)) k = stays lanes k
-frame_raises lanes m (Whole (StreamMoneyBlocked j n t)) k = stays lanes k
+frame_raises lanes m (Whole (StreamMoneyBlocked j n t)) k = raises_none lanes j (on_out (acked_money_blocked n)) k (λ l. refl) (λ l. refl)
 frame_raises lanes m (Whole (ConnectionMaxData n)) k = stays lanes k
 frame_raises lanes m (Whole (StreamMaxData j n)) k = stays lanes k
 frame_raises lanes m (Whole (StreamMaxMoney j n t)) k = stays lanes k
@@ -195,9 +212,9 @@ acked_length lanes m (f ∷ fs) = acked_length (acked lanes m f) m fs ∙ frame_
     frame_length lanes m (Whole (StreamMoney k a)) = changed_length lanes k (on_out (acked_money a)) (slot lanes k)
     frame_length lanes m (Whole (StreamClose k by message)) = changed_length lanes k (on_out (acked_close by)) (slot lanes k)
     frame_length lanes m (Whole (StreamData j o xs)) = refl
-    frame_length lanes m (Whole (StreamDataBlocked j n)) = refl
+    frame_length lanes m (Whole (StreamDataBlocked j n)) = changed_length lanes j (on_out (acked_blocked n)) (slot lanes j)
     frame_length lanes m (Whole (ConnectionDataBlocked n)) = refl
-    frame_length lanes m (Whole (StreamMoneyBlocked j n t)) = refl
+    frame_length lanes m (Whole (StreamMoneyBlocked j n t)) = changed_length lanes j (on_out (acked_money_blocked n)) (slot lanes j)
     frame_length lanes m (Whole (ConnectionMaxData n)) = refl
     frame_length lanes m (Whole (StreamMaxData j n)) = refl
     frame_length lanes m (Whole (StreamMaxMoney j n t)) = refl
@@ -251,34 +268,58 @@ pays_view t lanes m (p ∷ ms) e =
     let seen = seen_changed t t lanes news p.stream (acked_money p.amount) refl e refl in
     ap (λ (u : Sending). record u { streams = outs (all_acked news m (map shown_payment ms)) }) seen ∙ pays_view (changed t p.stream (acked_money p.amount)) news m ms (sym (ap (λ (u : Sending). u.streams) seen))
 
--- and what goes beside it
+-- what a notice leaves
+said_view : (t : Sending) (lanes : Slots Lane) (n : Notice) → t.streams ≡ outs lanes
+    → ◌≡◌ {A = Sending} (record t { streams = outs (whole_acked lanes (telling n)); marks = marks_acked t.marks (telling n); blocked = highest_acked t.blocked (telling n) }) (after_acked t (Whole (telling n)))
+said_view t lanes (said.StreamDataBlocked k l) e = seen_changed t t lanes (changed_lane lanes k (on_out (acked_blocked l))) k (acked_blocked l) refl e refl
+said_view t lanes (said.StreamMoneyBlocked k l a) e = seen_changed t t lanes (changed_lane lanes k (on_out (acked_money_blocked l))) k (acked_money_blocked l) refl e refl
+said_view t lanes (said.ConnectionDataBlocked l) e = ap (λ (xs : Slots Outgoing). record t { streams = xs; blocked = higher t.blocked l }) (sym e)
+said_view t lanes (said.ConnectionMaxData l) e = ap (λ (xs : Slots Outgoing). record t { streams = xs; marks = marks_acked t.marks (telling (said.ConnectionMaxData l)) }) (sym e)
+said_view t lanes (said.StreamMaxData k l) e = ap (λ (xs : Slots Outgoing). record t { streams = xs; marks = marks_acked t.marks (telling (said.StreamMaxData k l)) }) (sym e)
+said_view t lanes (said.StreamMaxMoney k l a) e = ap (λ (xs : Slots Outgoing). record t { streams = xs; marks = marks_acked t.marks (telling (said.StreamMaxMoney k l a)) }) (sym e)
+
+-- and what goes beside money
 first_view : (t : Sending) (lanes : Slots Lane) (m : ℕ) (f : code.Flown) → t.streams ≡ outs lanes → ((k o n : ℕ) (l : Lane) → f ≡ held.Data k o n → slot lanes k ≡ Some l → (q : ℕ) → is_by m (fmap.get l.flying q) ≡ is_between o (o + n) q)
-    → ◌≡◌ {A = Sending} (record t { streams = outs (acked lanes m (shown f)) }) (after_acked t (shown f))
+    → ◌≡◌ {A = Sending} (record t { streams = outs (acked lanes m (shown f)); marks = marks_flown t.marks (shown f); blocked = highest_flown t.blocked (shown f) }) (after_acked t (shown f))
 first_view t lanes m (held.Data k o n) e by =
     ap (λ (xs : Slots Outgoing). record t { streams = xs }) (outs_like lanes k (acked_by m o n) (on_out (acked_data o n)) (slot lanes k) (λ l here. acked_out m o n l (by k o n l refl here)))
     ∙ seen_changed t t lanes (changed_lane lanes k (on_out (acked_data o n))) k (acked_data o n) refl e refl
 first_view t lanes m (held.Close k c) e by = seen_changed t t lanes (changed_lane lanes k (on_out (acked_close c))) k (acked_close c) refl e refl
+first_view t lanes m (held.Notice n) e by = said_view t lanes n e
 
 acks_view : (t : Sending) (lanes : Slots Lane) (m : ℕ) (f : Option code.Flown) (ms : List Payment) → t.streams ≡ outs lanes
     → ((k o n : ℕ) (l : Lane) → f ≡ Some (held.Data k o n) → slot lanes k ≡ Some l → (q : ℕ) → is_by m (fmap.get l.flying q) ≡ is_between o (o + n) q)
-    → ◌≡◌ {A = Sending} (record t { streams = outs (all_acked lanes m (kept f ++ map shown_payment ms)) }) (after_all_acked t (kept f ++ map shown_payment ms))
-acks_view t lanes m None ms e by = pays_view t lanes m ms e
+    → ◌≡◌ {A = Sending} (record t { streams = outs (all_acked lanes m (kept f ++ map shown_payment ms)); marks = all_marks_flown t.marks (kept f ++ map shown_payment ms); blocked = all_highest_flown t.blocked (kept f ++ map shown_payment ms) })
+    (after_all_acked t (kept f ++ map shown_payment ms))
+acks_view t lanes m None ms e by =
+    ap (λ (x : Marks). record t { streams = outs (all_acked lanes m (map shown_payment ms)); marks = x; blocked = all_highest_flown t.blocked (map shown_payment ms) }) (pays_marks t.marks ms)
+    ∙ ap (λ (x : Option ℕ). record t { streams = outs (all_acked lanes m (map shown_payment ms)); blocked = x }) (pays_highest t.blocked ms) ∙ pays_view t lanes m ms e
 acks_view t lanes m (Some x) ms e by =
     let news = acked lanes m (shown x) in
     let seen = first_view t lanes m x e (λ k o n l i. by k o n l (ap (λ (y : code.Flown). Some y) i)) in
-    ap (λ (u : Sending). record u { streams = outs (all_acked news m (map shown_payment ms)) }) seen ∙ pays_view (after_acked t (shown x)) news m ms (sym (ap (λ (u : Sending). u.streams) seen))
+    let marks = marks_flown t.marks (shown x) in
+    let highest = highest_flown t.blocked (shown x) in
+    ap (λ (y : Marks). record t { streams = outs (all_acked news m (map shown_payment ms)); marks = y; blocked = all_highest_flown highest (map shown_payment ms) }) (pays_marks marks ms)
+    ∙ ap (λ (y : Option ℕ). record t { streams = outs (all_acked news m (map shown_payment ms)); marks = marks; blocked = y }) (pays_highest highest ms)
+    ∙ ap (λ (u : Sending). record u { streams = outs (all_acked news m (map shown_payment ms)) }) seen ∙ pays_view (after_acked t (shown x)) news m ms (sym (ap (λ (u : Sending). u.streams) seen))
 
 -- a Fulfill as the model sees it
-pub fulfilled_view : (v s : Sending) (lanes news : Slots Lane) (fl : List Flight) (m paid : ℕ) (p : Flight) → IsFlight p → v ≡ s → v.streams ≡ outs lanes → AreBooked lanes v.flights → AreApart v.flights → flight_at v.flights m ≡ Some p
-    → news ≡ all_acked lanes p.sequence p.frames → fl ≡ without_flight v.flights m → paid ≡ v.paid + p.amount → ◌≡◌ {A = Sending} (record v { streams = outs news; flights = fl; failures = 0; paid = paid }) (after_fulfilled s p)
-fulfilled_view v s lanes news fl m paid p f e is h a at n_is fl_is p_is =
+pub fulfilled_view : (v s : Sending) (lanes news : Slots Lane) (fl : List Flight) (marks : Marks) (highest : Option ℕ) (m paid : ℕ) (p : Flight) → IsFlight p → v ≡ s → v.streams ≡ outs lanes → AreBooked lanes v.flights → AreApart v.flights → flight_at v.flights m ≡ Some p
+    → news ≡ all_acked lanes p.sequence p.frames → fl ≡ without_flight v.flights m → marks ≡ all_marks_flown v.marks p.frames → highest ≡ all_highest_flown v.blocked p.frames → paid ≡ v.paid + p.amount
+    → ◌≡◌ {A = Sending} (record v { streams = outs news; flights = fl; marks = marks; blocked = highest; failures = 0; paid = paid }) (after_fulfilled s p)
+fulfilled_view v s lanes news fl marks highest m paid p f e is h a at n_is fl_is m_is h_is p_is =
     let frames = form_frames p f in
     let name = named m v.flights p at in
-    let streams : news ≡ all_acked lanes m (kept f.frame ++ map shown_payment f.payments) = n_is ∙ ap (λ i. all_acked lanes i p.frames) name ∙ ap (λ (fs : List Flown). all_acked lanes m fs) frames in
+    let all = kept f.frame ++ map shown_payment f.payments in
+    let streams : news ≡ all_acked lanes m all = n_is ∙ ap (λ i. all_acked lanes i p.frames) name ∙ ap (λ (fs : List Flown). all_acked lanes m fs) frames in
+    let ended : marks ≡ all_marks_flown v.marks all = m_is ∙ ap (λ (fs : List Flown). all_marks_flown v.marks fs) frames in
+    let told : highest ≡ all_highest_flown v.blocked all = h_is ∙ ap (λ (fs : List Flown). all_highest_flown v.blocked fs) frames in
     let seen = acks_view (landed v m) lanes m f.frame f.payments is (λ k o n l i here q. by_frame lanes v.flights m k o n l p f.payments (frames ∙ ap (λ (y : Option code.Flown). kept y ++ map shown_payment f.payments) i) h a at here q) in
-    ap (λ (ps : List Flight). record v { streams = outs news; flights = ps; failures = 0; paid = paid }) fl_is
-    ∙ ap (λ (xs : Slots Lane). record v { streams = outs xs; flights = without_flight v.flights m; failures = 0; paid = paid }) streams
-    ∙ ap (λ (i : ℕ). record v { streams = outs (all_acked lanes m (kept f.frame ++ map shown_payment f.payments)); flights = without_flight v.flights m; failures = 0; paid = i }) p_is
+    ap (λ (ps : List Flight). record v { streams = outs news; flights = ps; marks = marks; blocked = highest; failures = 0; paid = paid }) fl_is
+    ∙ ap (λ (xs : Slots Lane). record v { streams = outs xs; flights = without_flight v.flights m; marks = marks; blocked = highest; failures = 0; paid = paid }) streams
+    ∙ ap (λ (x : Marks). record v { streams = outs (all_acked lanes m all); flights = without_flight v.flights m; marks = x; blocked = highest; failures = 0; paid = paid }) ended
+    ∙ ap (λ (x : Option ℕ). record v { streams = outs (all_acked lanes m all); flights = without_flight v.flights m; marks = all_marks_flown v.marks all; blocked = x; failures = 0; paid = paid }) told
+    ∙ ap (λ (i : ℕ). record v { streams = outs (all_acked lanes m all); flights = without_flight v.flights m; marks = all_marks_flown v.marks all; blocked = all_highest_flown v.blocked all; failures = 0; paid = i }) p_is
     ∙ ap (λ (t : Sending). record t { failures = 0; paid = v.paid + p.amount }) seen
     ∙ ap (λ (fs : List Flown). record (after_all_acked (landed v m) fs) { failures = 0; paid = v.paid + p.amount }) (sym frames)
     ∙ ap (λ (i : ℕ). record (after_all_acked (landed v i) p.frames) { failures = 0; paid = v.paid + p.amount }) (sym name)
@@ -295,6 +336,7 @@ next_fresh lanes flights r limit b (Some (held.Data k o c)) ms p h j q t = elim 
   | inr d ↦ (let z = carried_kept j q (Some (held.Data k o c)) ms ∙ carried_other k j o q c d in absurd (cc))
 ]
 next_fresh lanes flights r limit b (Some (held.Close k by)) ms p h j q t = (let z = carried_kept j q (Some (held.Close k by)) ms in absurd (cc))
+next_fresh lanes flights r limit b (Some (held.Notice n)) ms p h j q t = absurd p.1
 next_fresh lanes flights r limit b None ms p h j q t = (let z = carried_kept j q None ms in absurd (cc))
 
 -- by whether a flight was found
@@ -318,6 +360,7 @@ none_kept : (k : ℕ) (f : Option code.Flown) → sum_by (money_flown k) (kept f
 none_kept k None = refl
 none_kept k (Some (held.Data s o n)) = refl
 none_kept k (Some (held.Close s by)) = refl
+none_kept k (Some (held.Notice n)) = omega (arith, sum_by-cons (money_flown k) (shown (held.Notice n)) [], no_part k n)
 
 pub first_covered : (lanes news : Slots Lane) (n s a : ℕ) (f : Option code.Flown) (ms : List Payment) (p : Flight) → IsCovered lanes p → flight_with s a f ms ≡ p → news ≡ all_acked lanes n (kept f) → (k : ℕ) → fulfilled_in (slot news k) + paid_to k ms ≤ offered_in (slot news k)
 first_covered lanes news n s a f ms p h view e k =

@@ -9,8 +9,10 @@ pub mod Lengths
 pub mod Readiness
 pub mod Idle
 pub mod Going
+pub mod Said
 pub mod Joined
 pub mod Full
+pub mod Next
 pub mod Landing
 pub mod Landed
 pub mod Products

@@ -10,11 +10,13 @@ use Rattle.st_frames.specs.Told.{money_of, money_in, shares_of}
 use Rattle.st_sender.specs.declared.load.Flown as code
 use Rattle.st_sender.specs.declared.load.Flown.TheVariants as held
 use Rattle.st_sender.specs.declared.load.Payment.{Payment}
+use Rattle.st_sender.specs.declared.notice.Notice.{Notice}
+use Rattle.st_sender.specs.declared.notice.Notice.TheVariants as said
 use Rattle.st_sender.specs.Sending.{Flown, Flight}
-use Rattle.st_sender.specs.Flights.{flown, carries, closes, end_of, highest_end, money_flown, part_of}
+use Rattle.st_sender.specs.Flights.{flown, carries, closes, end_of, highest_end, money_flown, part_of, tells}
 use Rattle.st_sender.specs.Paying.{total, amount_to, paid_to}
 use Rattle.st_sender.specs.Plain.{is_money}
-use Rattle.st_sender.specs.Shown.{shown, known, kept, framed, paying, shown_payment, load_frames}
+use Rattle.st_sender.specs.Shown.{shown, known, kept, framed, paying, shown_payment, load_frames, telling}
 
 -- what no payment does, only the frames beside payments do
 none_pays : (t : Flown → Bool) → ((p : Payment) → t (shown_payment p) ≡ false) → (ms : List Payment) → list_any t (map shown_payment ms) ≡ false
@@ -40,6 +42,21 @@ closes_with k c f x ms e = ap (λ (o : Option code.Flown). list_any (closes k c)
 pub closes_none : (k c : ℕ) (f : Option code.Flown) (ms : List Payment) → f ≡ None → list_any (closes k c) (kept f ++ map shown_payment ms) ≡ false
 closes_none k c f ms e = ap (λ (o : Option code.Flown). list_any (closes k c) (kept o ++ map shown_payment ms)) e ∙ kept_any (closes k c) (λ p. refl) [] ms
 
+-- a payment tells no limit
+no_tell : (n : Notice) (p : Payment) → tells (telling n) (shown_payment p) ≡ false
+no_tell (said.ConnectionDataBlocked l) p = refl
+no_tell (said.StreamDataBlocked j l) p = refl
+no_tell (said.StreamMoneyBlocked j l t) p = refl
+no_tell (said.ConnectionMaxData l) p = refl
+no_tell (said.StreamMaxData j l) p = refl
+no_tell (said.StreamMaxMoney j l t) p = refl
+
+pub tells_with : (n : Notice) (f : Option code.Flown) (x : code.Flown) (ms : List Payment) → f ≡ Some x → list_any (tells (telling n)) (kept f ++ map shown_payment ms) ≡ tells (telling n) (shown x)
+tells_with n f x ms e = ap (λ (o : Option code.Flown). list_any (tells (telling n)) (kept o ++ map shown_payment ms)) e ∙ kept_any (tells (telling n)) (no_tell n) (shown x ∷ []) ms ∙ or_false (tells (telling n) (shown x))
+
+pub tells_none : (n : Notice) (f : Option code.Flown) (ms : List Payment) → f ≡ None → list_any (tells (telling n)) (kept f ++ map shown_payment ms) ≡ false
+tells_none n f ms e = ap (λ (o : Option code.Flown). list_any (tells (telling n)) (kept o ++ map shown_payment ms)) e ∙ kept_any (tells (telling n)) (no_tell n) [] ms
+
 pub end_with : (k : ℕ) (f : Option code.Flown) (x : code.Flown) (ms : List Payment) → f ≡ Some x → highest_end k (kept f ++ map shown_payment ms) ≡ end_of k (shown x)
 end_with k f x ms e = ap (λ (o : Option code.Flown). highest_end k (kept o ++ map shown_payment ms)) e ∙ no_end k (shown x ∷ []) ms ∙ max_zero (end_of k (shown x))
   where
@@ -54,10 +71,19 @@ pays_part : (k : ℕ) (ms : List Payment) → sum_by (money_flown k) (map shown_
 pays_part k [] = refl
 pays_part k (p ∷ ms) = omega (arith, sum_by-cons (money_flown k) (shown_payment p) (map shown_payment ms), sum_by-cons (amount_to k) p ms, pays_part k ms)
 
+pub no_part : (k : ℕ) (n : Notice) → money_of k (telling n) ≡ 0
+no_part k (said.ConnectionDataBlocked l) = refl
+no_part k (said.StreamDataBlocked j l) = refl
+no_part k (said.StreamMoneyBlocked j l t) = refl
+no_part k (said.ConnectionMaxData l) = refl
+no_part k (said.StreamMaxData j l) = refl
+no_part k (said.StreamMaxMoney j l t) = refl
+
 pub part_with : (k : ℕ) (f : Option code.Flown) (ms : List Payment) → sum_by (money_flown k) (kept f ++ map shown_payment ms) ≡ paid_to k ms
 part_with k None ms = pays_part k ms
 part_with k (Some (held.Data s o n)) ms = omega (arith, sum_by-cons (money_flown k) (shown (held.Data s o n)) (map shown_payment ms), pays_part k ms)
 part_with k (Some (held.Close s c)) ms = omega (arith, sum_by-cons (money_flown k) (shown (held.Close s c)) (map shown_payment ms), pays_part k ms)
+part_with k (Some (held.Notice n)) ms = omega (arith, sum_by-cons (money_flown k) (shown (held.Notice n)) (map shown_payment ms), pays_part k ms, no_part k n)
 
 some_of : (k : ℕ) (p : Payment) → amount_to k p ≤ p.amount
 some_of k p = grind (arith, nat_tests)
@@ -92,10 +118,19 @@ pays_shares : (ms : List Payment) → sum_by shares_of (map paying ms) ≡ total
 pays_shares [] = refl
 pays_shares (p ∷ ms) = omega (arith, sum_by-cons shares_of (paying p) (map paying ms), total_more p ms, pays_shares ms)
 
+pub no_shares : (n : Notice) → shares_of (telling n) ≡ 0
+no_shares (said.ConnectionDataBlocked l) = refl
+no_shares (said.StreamDataBlocked j l) = refl
+no_shares (said.StreamMoneyBlocked j l t) = refl
+no_shares (said.ConnectionMaxData l) = refl
+no_shares (said.StreamMaxData j l) = refl
+no_shares (said.StreamMaxMoney j l t) = refl
+
 pub shares_with : (xs : List ℕ) (f : Option code.Flown) (ms : List Payment) → sum_by shares_of (load_frames xs f ms) ≡ total ms
 shares_with xs None ms = pays_shares ms
 shares_with xs (Some (held.Data s o n)) ms = omega (arith, sum_by-cons shares_of (known xs (held.Data s o n)) (map paying ms), pays_shares ms)
 shares_with xs (Some (held.Close s c)) ms = omega (arith, sum_by-cons shares_of (known xs (held.Close s c)) (map paying ms), pays_shares ms)
+shares_with xs (Some (held.Notice n)) ms = omega (arith, sum_by-cons shares_of (telling n) (map paying ms), pays_shares ms, no_shares n)
 
 pays_in : (k : ℕ) (ms : List Payment) → money_in k (map paying ms) ≡ paid_to k ms
 pays_in k [] = refl
@@ -105,6 +140,7 @@ pub money_with : (k : ℕ) (xs : List ℕ) (f : Option code.Flown) (ms : List Pa
 money_with k xs None ms = pays_in k ms
 money_with k xs (Some (held.Data s o n)) ms = omega (arith, sum_by-cons (money_of k) (known xs (held.Data s o n)) (map paying ms), pays_in k ms)
 money_with k xs (Some (held.Close s c)) ms = omega (arith, sum_by-cons (money_of k) (known xs (held.Close s c)) (map paying ms), pays_in k ms)
+money_with k xs (Some (held.Notice n)) ms = omega (arith, sum_by-cons (money_of k) (telling n) (map paying ms), pays_in k ms, no_part k n)
 
 -- how many payments
 abbrev one_if : Known → ℕ
@@ -114,10 +150,19 @@ pays_count : (ms : List Payment) → count_by is_money (map paying ms) ≡ lengt
 pays_count [] = refl
 pays_count (p ∷ ms) = omega (arith, sum_by-cons one_if (paying p) (map paying ms), pays_count ms)
 
+no_count : (n : Notice) → one_if (telling n) ≡ 0
+no_count (said.ConnectionDataBlocked l) = refl
+no_count (said.StreamDataBlocked j l) = refl
+no_count (said.StreamMoneyBlocked j l t) = refl
+no_count (said.ConnectionMaxData l) = refl
+no_count (said.StreamMaxData j l) = refl
+no_count (said.StreamMaxMoney j l t) = refl
+
 pub count_with : (xs : List ℕ) (f : Option code.Flown) (ms : List Payment) → count_by is_money (load_frames xs f ms) ≡ length ms
 count_with xs None ms = pays_count ms
 count_with xs (Some (held.Data s o n)) ms = omega (arith, sum_by-cons one_if (known xs (held.Data s o n)) (map paying ms), pays_count ms)
 count_with xs (Some (held.Close s c)) ms = omega (arith, sum_by-cons one_if (known xs (held.Close s c)) (map paying ms), pays_count ms)
+count_with xs (Some (held.Notice n)) ms = omega (arith, sum_by-cons one_if (telling n) (map paying ms), pays_count ms, no_count n)
 
 -- what is kept of payments
 pays_flown : (ms : List Payment) → map flown (map paying ms) ≡ map shown_payment ms

@@ -9,7 +9,8 @@ use Rattle.st_tables.specs.Slots.{Slots, slot}
 use Rattle.st_sender.specs.declared.load.Payment.{Payment}
 use Rattle.st_sender.specs.Sending.{Flight}
 use Rattle.st_sender.specs.Lanes.{Lane}
-use Rattle.st_sender.specs.Allowed.{Bounds, NoneUnit, least_for, unit_size}
+use Rattle.st_sender.specs.declared.bounds.Bounds.{Bounds}
+use Rattle.st_sender.specs.Allowed.{NoneUnit, least_for, unit_size}
 use Rattle.st_sender.specs.Paying.{total, paid_to, amount_to, payable_at, all_payable, IsPayment, Pays}
 use Rattle.st_sender.proofs.Money.{total_push, paid_push, own_amount, other_amount}
 

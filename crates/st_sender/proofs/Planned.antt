@@ -1,6 +1,6 @@
 -- What goes, by what the parts of a plan found.
-use Rattle.std.proofs.Common.{◌≡◌, ◌≢◌, ℕ, ◌+◌, ◌-◌, ◌*◌, ◌^◌, ◌<◌, List, [], ◌∷◌, ◌++◌, None, Some, length, refl, sym, ap, subst, ◌∙◌, arith, Option, inl, inr}
-use Rattle.std.specs.Prelude.{IfSome, MatchOption}
+use Rattle.std.proofs.Common.{◌≡◌, ◌≢◌, ℕ, Result, Ok, Err, ◌+◌, ◌-◌, ◌*◌, ◌^◌, ◌<◌, List, [], ◌∷◌, ◌++◌, None, Some, length, refl, sym, ap, subst, ◌∙◌, arith, Option, inl, inr}
+use Rattle.std.specs.Prelude.{IfOk, IfSome, MatchOption}
 use Rattle.st_oer.specs.Ratios.{Ratio}
 use Rattle.st_tables.specs.Slots.{Slots}
 use Rattle.st_sender.specs.declared.load.Flown as code
@@ -8,7 +8,8 @@ use Rattle.st_sender.specs.declared.load.Payment.{Payment}
 use Rattle.st_sender.specs.Sending.{Flight}
 use Rattle.st_sender.specs.Lanes.{Lane}
 use Rattle.st_sender.specs.Paying.{Pays, total}
-use Rattle.st_sender.specs.Allowed.{Bounds, IsNext, IsNone, IsUnit, NoneUnit, IsPlan, IsRest}
+use Rattle.st_sender.specs.declared.bounds.Bounds.{Bounds}
+use Rattle.st_sender.specs.Allowed.{IsNext, IsNone, IsUnit, NoneUnit, IsPlan, IsRest}
 use Rattle.st_sender.proofs.Money.{total_push}
 
 abbrev bound : (spare sequence room : ℕ) → Bounds
@@ -50,8 +51,12 @@ module _ (lanes : Slots Lane) (flights : List Flight) (r : Ratio) (limit spare s
   whole_room : (rest : ℕ) (ms : List Payment) → length ms ≡ 0 → rest ≡ room - 34 * length ms → rest ≡ room
   whole_room rest ms none h = omega (arith, h, none)
 
-  pub plan_rest : (rest : ℕ) (ms : List Payment) → length ms ≡ 0 → rest ≡ room - 34 * length ms → IsNone lanes flights (bound spare sequence rest) → NoneUnit lanes flights r limit (bound spare sequence room) 65 → IsRest lanes flights r limit (bound spare sequence room)
-  plan_rest rest ms none h n u = (subst (λ i. IsNone lanes flights (bound spare sequence i)) (whole_room rest ms none h) n, u)
+  no_pays : (beyond : ℕ) (ms : List Payment) → length ms ≡ 0 → beyond ≡ room - 15 → Pays lanes r flights limit beyond 65 ms → Pays lanes r flights limit (room - 15) 65 []
+  no_pays beyond ms none e pays = subst (λ i. Pays lanes r flights limit i 65 []) e (subst (λ (xs : List Payment). Pays lanes r flights limit beyond 65 xs) (no_payment ms none) pays)
+
+  pub plan_rest : (beyond rest : ℕ) (ms : List Payment) → length ms ≡ 0 → beyond ≡ room - 15 → rest ≡ room - 34 * length ms → Pays lanes r flights limit beyond 65 ms → IsNone lanes flights (bound spare sequence rest) → NoneUnit lanes flights r limit (bound spare sequence room) 65
+      → IsRest lanes flights r limit (bound spare sequence room)
+  plan_rest beyond rest ms none e h pays n u = (subst (λ i. IsNone lanes flights (bound spare sequence i)) (whole_room rest ms none h) n, u, no_pays beyond ms none e pays)
 
   pub plan_unit : (beyond rest : ℕ) (ms all : List Payment) (p : Payment) → length ms ≡ 0 → all ≡ ms ++ p ∷ [] → beyond ≡ room - 15 → rest ≡ room - 34 * length ms → Pays lanes r flights limit beyond 65 ms → IsNone lanes flights (bound spare sequence rest)
       → IsUnit lanes flights r limit (bound spare sequence room) p → IsPlan lanes flights r limit (bound spare sequence room) None all
@@ -59,14 +64,25 @@ module _ (lanes : Slots Lane) (flights : List Flight) (r : Ratio) (limit spare s
       let empty = no_payment ms none in
       let one : all ≡ p ∷ [] = pushed ∙ ap (λ (xs : List Payment). xs ++ p ∷ []) empty in
       subst (λ (xs : List Payment). IsPlan lanes flights r limit (bound spare sequence room) None xs) (sym one) (inr (
-        subst (λ i. Pays lanes r flights limit i 65 []) e (subst (λ (xs : List Payment). Pays lanes r flights limit beyond 65 xs) empty pays),
+        no_pays beyond ms none e pays,
         subst (λ i. IsNone lanes flights (bound spare sequence i)) (whole_room rest ms none h) n,
         refl,
         u,
       ))
 
-  pub rest_is : (n : ℕ) → spare ≡ n → IsRest lanes flights r limit (bound spare sequence room) → IsRest lanes flights r limit (bound n sequence room)
-  rest_is n e p = subst (λ i. IsRest lanes flights r limit (bound i sequence room)) e p
+-- by what bounds are
+pub bounds_are : (b : Bounds) (spare sequence room : ℕ) → b.spare ≡ spare → b.sequence ≡ sequence → b.room ≡ room → ◌≡◌ {A = Bounds} b (bound spare sequence room)
+bounds_are b spare sequence room e f h = λ i. record { spare = e i; sequence = f i; room = h i }
 
-  pub plan_is : (n : ℕ) (f : Option code.Flown) (ms : List Payment) → spare ≡ n → IsPlan lanes flights r limit (bound spare sequence room) f ms → IsPlan lanes flights r limit (bound n sequence room) f ms
-  plan_is n f ms e p = subst (λ i. IsPlan lanes flights r limit (bound i sequence room) f ms) e p
+-- results, by what they have
+pub if_ok : {T E : Type 0} (r : Result T E) (P Q : T → Type 0) → ((x : T) → P x → Q x) → IfOk r P → IfOk r Q
+if_ok (Ok x) P Q f p = f x p
+if_ok (Err e) P Q f p = tt
+
+pub either_is : {X : Type 0} (o : Option X) (A B : Type 0) (P Q : X → Type 0) → (A → B) → ((x : X) → P x → Q x) → MatchOption o A P → MatchOption o B Q
+either_is None A B P Q f g m = f m
+either_is (Some x) A B P Q f g m = g x m
+
+pub some_is : {X : Type 0} (o : Option X) (A : Type 0) (P Q : X → Type 0) → ((x : X) → P x → Q x) → MatchOption o A P → IfSome o Q
+some_is None A P Q g m = tt
+some_is (Some x) A P Q g m = g x m

@@ -5,7 +5,8 @@ use Rattle.st_tables.specs.Slots.{Slots, slot}
 use Rattle.st_sender.specs.Sending.{Flight}
 use Rattle.st_sender.specs.Flights.{any_frame, closes}
 use Rattle.st_sender.specs.Lanes.{Lane, due_in}
-use Rattle.st_sender.specs.Allowed.{Bounds, IsAllowed, IsStopped, IsFinished, NoneReady, NoneFinished, IsNone, IsFinishedAt, bounds, lane_ends}
+use Rattle.st_sender.specs.declared.bounds.Bounds.{Bounds}
+use Rattle.st_sender.specs.Allowed.{IsAllowed, IsStopped, IsFinished, NoneReady, NoneFinished, IsNone, IsFinishedAt, bounds, lane_ends}
 use Rattle.st_sender.proofs.Lengths.{data_rises}
 
 -- where the lowest due byte may not go, none may

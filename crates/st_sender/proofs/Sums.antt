@@ -21,6 +21,10 @@ pub sum_same : (g h : ℕ → ℕ) (first n : ℕ) → ((k : ℕ) → first ≤ 
 sum_same g h first zero e = refl
 sum_same g h first (suc n) e = let here = e first (omega arith) in let rest = sum_same g h (first + 1) n (λ k l. e k (omega arith)) in omega (arith, here, rest, sum_more g first n, sum_more h first n)
 
+pub sum_rises : (g h : ℕ → ℕ) (first n : ℕ) → ((k : ℕ) → first ≤ k → g k ≤ h k) → sum_over g first n ≤ sum_over h first n
+sum_rises g h first zero l = omega arith
+sum_rises g h first (suc n) l = let here = l first (omega arith) in let rest = sum_rises g h (first + 1) n (λ k m. l k (omega arith)) in omega (arith, here, rest, sum_more g first n, sum_more h first n)
+
 -- one summand changed
 pub sum_with : (g h : ℕ → ℕ) (k first n : ℕ) → first ≤ k → k < first + n → ((j : ℕ) → j ≢ k → h j ≡ g j) → sum_over h first n + g k ≡ sum_over g first n + h k
 sum_with g h k first zero l m e = absurd (omega arith)

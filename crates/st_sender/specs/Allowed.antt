@@ -6,15 +6,17 @@ use Rattle.std.specs.List.{range_with_len}
 use Rattle.std.specs.FinMap.{get}
 use Rattle.st_oer.specs.Spelling.{length_bytes, var_uint}
 use Rattle.st_oer.specs.Ratios.{Ratio, exchanged}
+use Rattle.st_sender.specs.declared.bounds.Bounds.{Bounds}
 use Rattle.st_sender.specs.declared.load.Flown.{Flown}
 use Rattle.st_sender.specs.declared.load.Flown.TheVariants as held
 use Rattle.st_sender.specs.declared.load.Payment.{Payment}
 use Rattle.st_tables.specs.Slots.{Slots, slot}
-use Rattle.st_sender.specs.Sending.{Flight}
+use Rattle.st_sender.specs.Sending.{Flight, Load}
 use Rattle.st_sender.specs.Flights.{any_frame, closes, flying_end}
 use Rattle.st_sender.specs.Due.{IsAbort, IsCleanClose}
 use Rattle.st_sender.specs.Lanes.{Lane, due_in, changed_lane, claimed_by}
-use Rattle.st_sender.specs.Paying.{Pays, payable_at}
+use Rattle.st_sender.specs.Paying.{Pays, payable_at, total}
+use Rattle.st_sender.specs.Shown.{load_frames}
 
 -- how long a packet is that has one frame, of this many bytes of contents
 unfoldable pub packet_size : (sequence least contents : ℕ) → ℕ
@@ -38,12 +40,6 @@ close_size sequence k = packet_size sequence 0 (close_contents k)
 
 abbrev pub unit_size : (sequence least k : ℕ) → ℕ
 unit_size sequence least k = packet_size sequence least (unit_contents k)
-
--- what is the same for all frames of a call: how far the connection's sum may still rise, the sequence, and the room
-pub record Bounds : Type 0 where
-  pub spare : ℕ
-  pub sequence : ℕ
-  pub room : ℕ
 
 -- where a stream's data end that are acknowledged or in flight, and the sum of these ends
 abbrev pub end_in : List Flight → ℕ → Option Lane → ℕ
@@ -103,6 +99,7 @@ pub record IsFinishedAt (lanes : Slots Lane) (flights : List Flight) (b : Bounds
 abbrev pub IsNext : Slots Lane → List Flight → Bounds → Flown → Type 0
 IsNext lanes flights b (held.Data k o n) = IsReadyAt lanes flights b k o n
 IsNext lanes flights b (held.Close k code) = IsFinishedAt lanes flights b k code × NoneReady lanes flights b 65
+IsNext lanes flights b (held.Notice n) = ⊥
 
 -- or none
 abbrev pub IsNone : Slots Lane → List Flight → Bounds → Type 0
@@ -142,13 +139,14 @@ IsPlan lanes flights r limit b None (p ∷ ms) = (PaysIn lanes flights r limit b
 
 -- or nothing does
 abbrev pub IsRest : Slots Lane → List Flight → Ratio → (limit : ℕ) → Bounds → Type 0
-IsRest lanes flights r limit b = IsNone lanes flights b × NoneUnit lanes flights r limit b 65
+IsRest lanes flights r limit b = IsNone lanes flights b × NoneUnit lanes flights r limit b 65 × PaysIn lanes flights r limit b []
 
 -- the streams once a frame is in flight
 abbrev pub booked : Slots Lane → (sequence : ℕ) → Option Flown → Slots Lane
 booked lanes sequence None = lanes
 booked lanes sequence (Some (held.Data k o n)) = changed_lane lanes k (claimed_by sequence o n)
 booked lanes sequence (Some (held.Close k code)) = lanes
+booked lanes sequence (Some (held.Notice n)) = lanes
 
 -- a stream's bytes
 pub record AreBytes (l : Lane) (o n : ℕ) (xs : List ℕ) : Type 0 where
@@ -160,9 +158,17 @@ abbrev pub AreItsBytes : Slots Lane → Option Flown → List ℕ → Type 0
 AreItsBytes lanes None xs = Unit {0}
 AreItsBytes lanes (Some (held.Data k o n)) xs = (l : Lane) → slot lanes k ≡ Some l → AreBytes l o n xs
 AreItsBytes lanes (Some (held.Close k code)) xs = Unit {0}
+AreItsBytes lanes (Some (held.Notice n)) xs = Unit {0}
 
 -- what taking a frame asks of the streams
 abbrev pub IsTakeable : Slots Lane → Option Flown → Type 0
 IsTakeable lanes None = Unit {0}
 IsTakeable lanes (Some (held.Data k o n)) = (l : Lane) × (slot lanes k ≡ Some l) × (0 < n) × (o + n < 2 ^ 64) × ((q : ℕ) → o ≤ q → q < o + n → IsSome (due_in l q))
 IsTakeable lanes (Some (held.Close k code)) = Unit {0}
+IsTakeable lanes (Some (held.Notice n)) = Unit {0}
+
+-- a load of a frame, with its bytes, and of money
+pub record IsLoadOf (lanes : Slots Lane) (r : Ratio) (sequence : ℕ) (f : Option Flown) (ms : List Payment) (p : Load) : Type 0 where
+  pub bytes : List ℕ
+  pub are : AreItsBytes lanes f bytes
+  pub is : p ≡ record { sequence = sequence; amount = total ms; least = least_for r (total ms); frames = load_frames bytes f ms }

@@ -13,4 +13,5 @@ pub mod Lanes
 pub mod Shown
 pub mod Paying
 pub mod Allowed
+pub mod Noticed
 pub mod Landing

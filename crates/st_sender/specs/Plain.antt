@@ -1,21 +1,15 @@
--- Bytes, money and closes: that none may go, and how much a load of them holds.
+-- That none of one kind of frames may go, and how much a load of bytes, money and closes holds.
 use Rattle.std.specs.Prelude.{◌≡◌, ℕ, ◌-◌, ◌*◌, ◌<◌, ◌≤◌, Bool, true, false, List, [], ◌∷◌, length}
 use Rattle.std.specs.List.{count_by}
 use Rattle.st_frames.specs.Frames.{Known, StreamClose, StreamMoney, StreamData}
 use Rattle.st_sender.specs.Sending.{Sending}
 use Rattle.st_sender.specs.Due.{IsDue, IsDueData}
+use Rattle.st_sender.specs.Filling.{is_work}
 use Rattle.st_sender.specs.Loads.{Fits, load_with}
 
--- data, money or a close
-abbrev pub is_plain : Known → Bool
-is_plain (StreamData k offset xs) = true
-is_plain (StreamMoney k amount) = true
-is_plain (StreamClose k code message) = true
-is_plain f = false
-
--- each due frame of these is stopped by a limit that stands
-abbrev pub IsPlainIdle : Sending → (limits : List Known) → (room : ℕ) → Type 0
-IsPlainIdle s limits room = (f : Known) → is_plain f ≡ true → IsDue s limits f → ¬ Fits s room (load_with s (f ∷ []))
+-- each due frame of one kind is stopped by a limit that stands: bytes, money and closes are work, the others tell of limits
+abbrev pub IsIdleOf : (work : Bool) → Sending → (limits : List Known) → (room : ℕ) → Type 0
+IsIdleOf work s limits room = (f : Known) → is_work f ≡ work → IsDue s limits f → ¬ Fits s room (load_with s (f ∷ []))
 
 -- how many payments are in a load, and what of the room they leave: each makes a packet at most 34 bytes longer
 abbrev pub is_money : Known → Bool

@@ -2,24 +2,37 @@
 use Rattle.std.specs.Prelude.{ℕ, List, [], ◌∷◌, ◌++◌, map}
 use Rattle.std.specs.declared.option.Option.{Option}
 use Rattle.std.specs.declared.option.Option.TheVariants.{None, Some}
-use Rattle.st_frames.specs.Frames.{Known, StreamClose, StreamMoney, StreamData}
+use Rattle.st_frames.specs.Frames.{Known, ConnectionMaxData, ConnectionDataBlocked, StreamClose, StreamMoney, StreamMaxMoney, StreamMoneyBlocked, StreamData, StreamMaxData, StreamDataBlocked}
 use Rattle.st_sender.specs.declared.load.Flown as code
 use Rattle.st_sender.specs.declared.load.Flown.TheVariants as held
 use Rattle.st_sender.specs.declared.load.Payment.{Payment}
+use Rattle.st_sender.specs.declared.notice.Notice.{Notice}
+use Rattle.st_sender.specs.declared.notice.Notice.TheVariants as said
 use Rattle.st_sender.specs.Sending.{Flown, Data, Whole, Flight}
 use Rattle.st_sender.specs.declared.failure.Failure as fault
 use Rattle.st_sender.specs.declared.failure.Failure.TheVariants as faults
 use Rattle.st_sender.specs.Answering.{Failure, Plain, Final, TooLarge}
 
+-- a notice as a frame
+abbrev pub telling : Notice → Known
+telling (said.ConnectionDataBlocked limit) = ConnectionDataBlocked limit
+telling (said.StreamDataBlocked k limit) = StreamDataBlocked k limit
+telling (said.StreamMoneyBlocked k limit total) = StreamMoneyBlocked k limit total
+telling (said.ConnectionMaxData value) = ConnectionMaxData value
+telling (said.StreamMaxData k value) = StreamMaxData k value
+telling (said.StreamMaxMoney k value total) = StreamMaxMoney k value total
+
 -- a frame with its bytes, where it has any
 abbrev pub known : List ℕ → code.Flown → Known
 known bytes (held.Data stream offset count) = StreamData stream offset bytes
 known bytes (held.Close stream by) = StreamClose stream by []
+known bytes (held.Notice n) = telling n
 
 -- a frame in flight
 abbrev pub shown : code.Flown → Flown
 shown (held.Data stream offset count) = Data stream offset count
 shown (held.Close stream by) = Whole (StreamClose stream by [])
+shown (held.Notice n) = Whole (telling n)
 
 -- money for a stream as a frame, and in flight
 abbrev pub paying : Payment → Known
@@ -28,7 +41,7 @@ paying p = StreamMoney p.stream p.amount
 abbrev pub shown_payment : Payment → Flown
 shown_payment p = Whole (paying p)
 
--- a load's frames: at most one of data or a close, and then money
+-- a load's frames: at most one of data or a close, and then money, or a notice alone
 abbrev pub framed : List ℕ → Option code.Flown → List Known
 framed bytes None = []
 framed bytes (Some f) = known bytes f ∷ []

@@ -1,14 +1,15 @@
 //! What goes next.
 
 ghost use Rattle.std.specs.Prelude.{[], ◌∷◌, ◌++◌, OnOk, OnErr, IfOk, IfSome, IsOkUnless, ◌≡◌, ◌<◌, ◌≤◌, ◌^◌, ◌-◌, length, MatchOption};
-ghost use Rattle.st_sender.specs.Allowed.{Bounds, NoneReady, IsReadyAt, NoneFinished, IsFinishedAt, IsNext, IsNone, IsPlan, IsRest, lane_ends, IsTakeable, AreItsBytes, booked};
+ghost use Rattle.st_sender.specs.Allowed.{NoneReady, IsReadyAt, NoneFinished, IsFinishedAt, IsNext, IsNone, IsPlan, IsRest, lane_ends, IsTakeable, IsLoadOf, booked};
 ghost use Rattle.st_sender.specs.Paying.{total};
 ghost use Rattle.st_sender.specs.Shown.{flight_with};
 
+use crate::bounds::Bounds;
 use crate::error::OutboxError;
 use crate::flying::take;
-use crate::load::{Flight, Flown, Payment};
-use crate::payments::{EMPTY_SIZE, PAYMENT_SIZE, payments, unit};
+use crate::load::{Flight, Flown, Load, Payment, total};
+use crate::payments::{EMPTY_SIZE, PAYMENT_SIZE, least_for, payments, unit};
 use crate::stream::Stream;
 use st_oer::Rate;
 use std::alloc::{AllocError, Allocator};
@@ -47,17 +48,15 @@ fn ends<A: Allocator + Copy>(streams: &[Option<Stream<A>>], flights: &[Flight<A>
 fn first_data<A: Allocator + Copy>(
     streams: &[Option<Stream<A>>],
     flights: &[Flight<A>],
-    spare: u128,
-    sequence: u64,
-    room: usize,
+    bounds: Bounds,
 ) -> Option<Row>
-    requires small { spare < 2 ^ 64 }
+    requires small { bounds.spare < 2 ^ 64 }
     requires streams { length streams.now ≡ 65 }
-    ensures { MatchOption result (NoneReady streams.now flights.now (record { spare = spare; sequence = sequence; room = room }) 65) (λ r. IsReadyAt streams.now flights.now (record { spare = spare; sequence = sequence; room = room }) r.stream r.offset r.count) }
+    ensures { MatchOption result (NoneReady streams.now flights.now bounds 65) (λ r. IsReadyAt streams.now flights.now bounds r.stream r.offset r.count) }
 {
     for number in 0..65_u8 {
         if let Some(stream) = &streams[number as usize] {
-            if let Some((offset, count)) = stream.ready(flights, number, spare, sequence, room) {
+            if let Some((offset, count)) = stream.ready(flights, number, bounds) {
                 return Some(Row {
                     stream: number,
                     offset,
@@ -73,16 +72,14 @@ fn first_data<A: Allocator + Copy>(
 fn first_finished<A: Allocator + Copy>(
     streams: &[Option<Stream<A>>],
     flights: &[Flight<A>],
-    spare: u128,
-    sequence: u64,
-    room: usize,
+    bounds: Bounds,
 ) -> Option<Ending>
     requires { length streams.now ≡ 65 }
-    ensures { MatchOption result (NoneFinished streams.now flights.now (record { spare = spare; sequence = sequence; room = room }) 65) (λ r. IsFinishedAt streams.now flights.now (record { spare = spare; sequence = sequence; room = room }) r.stream r.code) }
+    ensures { MatchOption result (NoneFinished streams.now flights.now bounds 65) (λ r. IsFinishedAt streams.now flights.now bounds r.stream r.code) }
 {
     for number in 0..65_u8 {
         if let Some(stream) = &streams[number as usize] {
-            if let Some(code) = stream.finished(flights, number, spare, sequence, room) {
+            if let Some(code) = stream.finished(flights, number, bounds) {
                 return Some(Ending {
                     stream: number,
                     code,
@@ -113,22 +110,20 @@ pub fn spare<A: Allocator + Copy>(
 fn choose<A: Allocator + Copy>(
     streams: &[Option<Stream<A>>],
     flights: &[Flight<A>],
-    spare: u128,
-    sequence: u64,
-    room: usize,
+    bounds: Bounds,
 ) -> Option<Flown>
-    requires small { spare < 2 ^ 64 }
+    requires small { bounds.spare < 2 ^ 64 }
     requires streams { length streams.now ≡ 65 }
-    ensures { MatchOption result (IsNone streams.now flights.now (record { spare = spare; sequence = sequence; room = room })) (λ f. IsNext streams.now flights.now (record { spare = spare; sequence = sequence; room = room }) f) }
+    ensures { MatchOption result (IsNone streams.now flights.now bounds) (λ f. IsNext streams.now flights.now bounds f) }
 {
-    if let Some(row) = first_data(streams, flights, spare, sequence, room) {
+    if let Some(row) = first_data(streams, flights, bounds) {
         return Some(Flown::Data {
             stream: row.stream,
             offset: row.offset,
             count: row.count,
         });
     }
-    match first_finished(streams, flights, spare, sequence, room) {
+    match first_finished(streams, flights, bounds) {
         Some(ending) => Some(Flown::Close {
             stream: ending.stream,
             code: ending.code,
@@ -144,26 +139,28 @@ pub fn plan<A: Allocator + Copy>(
     alloc: A,
     least: Rate,
     limit: u64,
-    spare: u128,
-    sequence: u64,
-    room: usize,
+    bounds: Bounds,
 ) -> Result<Option<(Option<Flown>, Vec<Payment, A>)>, AllocError>
-    requires small { spare < 2 ^ 64 }
+    requires small { bounds.spare < 2 ^ 64 }
     requires streams { length streams.now ≡ 65 }
     ensures small { IfOk result (λ r. IfSome r (λ p. total p.1.items < 2 ^ 64)) }
-    ensures plans { IfOk result (λ r. MatchOption r (IsRest streams.now flights.now least limit (record { spare = spare; sequence = sequence; room = room })) (λ p. IsPlan streams.now flights.now least limit (record { spare = spare; sequence = sequence; room = room }) p.0 p.1.items)) }
+    ensures plans { IfOk result (λ r. MatchOption r (IsRest streams.now flights.now least limit bounds) (λ p. IsPlan streams.now flights.now least limit bounds p.0 p.1.items)) }
 {
-    let beyond = room.saturating_sub(EMPTY_SIZE);
+    let beyond = bounds.room.saturating_sub(EMPTY_SIZE);
     let mut payments = payments(streams, flights, alloc, least, limit, beyond)?;
     let count = payments.len();
-    let beside = room - count * PAYMENT_SIZE;
-    if let Some(frame) = choose(streams, flights, spare, sequence, beside) {
+    let beside = Bounds {
+        spare: bounds.spare,
+        sequence: bounds.sequence,
+        room: bounds.room - count * PAYMENT_SIZE,
+    };
+    if let Some(frame) = choose(streams, flights, beside) {
         return Ok(Some((Some(frame), payments)));
     }
     if count > 0 {
         return Ok(Some((None, payments)));
     }
-    let Some(payment) = unit(streams, flights, least, limit, spare, sequence, room) else {
+    let Some(payment) = unit(streams, flights, least, limit, bounds) else {
         return Ok(None);
     };
     payments.push(payment)?;
@@ -175,29 +172,38 @@ pub fn launch<A: Allocator + Copy>(
     streams: &mut Vec<Option<Stream<A>>, A>,
     flights: &mut Vec<Flight<A>, A>,
     alloc: A,
+    least: Rate,
     sequence: u64,
-    amount: u64,
     frame: Option<Flown>,
-    payments: &[Payment],
-) -> Result<Vec<u8, A>, OutboxError>
+    payments: Vec<Payment, A>,
+) -> Result<Load<A>, OutboxError>
     requires takeable { IsTakeable streams.old.items frame }
-    requires whole { total payments.now ≡ amount }
+    requires small { total payments.items < 2 ^ 64 }
     ensures only_memory { IsOkUnless result OutboxError.NoMemory }
-    ensures whole { IfOk result (λ v. AreItsBytes streams.old.items frame v.items) }
+    ensures whole { IfOk result (λ p. IsLoadOf streams.old.items least sequence frame payments.items p) }
     ensures books { OnOk result (streams.new.items ≡ booked streams.old.items sequence frame) }
-    ensures flies { OnOk result (flights.new.items ≡ flights.old.items ++ flight_with sequence amount frame payments.now ∷ []) }
+    ensures flies { OnOk result (flights.new.items ≡ flights.old.items ++ flight_with sequence (total payments.items) frame payments.items ∷ []) }
     ensures streams_stay { OnErr result (streams.new.items ≡ streams.old.items) }
     ensures flights_stay { OnErr result (flights.new.items ≡ flights.old.items) }
 {
-    let payments = Vec::from_slice(alloc, payments)?;
+    let amount = total(&payments);
+    let kept = Vec::from_slice(alloc, &payments)?;
     flights.reserve(1)?;
     let bytes = take(streams, alloc, sequence, frame)?;
     let flight = Flight {
         sequence,
         amount,
         frame,
-        payments,
+        payments: kept,
     };
     flights.push(flight).unwrap();
-    Ok(bytes)
+    Ok(Load {
+        sequence,
+        amount,
+        least: least_for(least, amount),
+        frame,
+        bytes,
+        payments,
+        alloc,
+    })
 }

@@ -2,15 +2,18 @@
 
 ghost use Rattle.std.specs.Prelude.{[], ◌∷◌, ◌≡◌, ◌+◌, ◌≤◌, OnOk, OnErr, IfOk};
 ghost use Rattle.st_tables.specs.Slots.{slot};
-ghost use Rattle.st_sender.specs.Answering.{acked_close, acked_money};
+ghost use Rattle.st_sender.specs.Answering.{acked_close, acked_money, acked_blocked, acked_money_blocked};
 ghost use Rattle.st_sender.specs.Allowed.{IsTakeable, AreItsBytes, booked};
-ghost use Rattle.st_sender.specs.Landing.{acked_by, freed_by, acked, all_acked, freed, all_freed, IsFlight, IsCovered};
+ghost use Rattle.st_sender.specs.Landing.{acked_by, freed_by, whole_acked, acked, all_acked, freed, all_freed, IsFlight, IsCovered};
 ghost use Rattle.st_sender.specs.Lanes.{changed_lane, on_out};
+ghost use Rattle.st_sender.specs.Noticed.{highest_acked, all_marks_flown, all_highest_flown};
 ghost use Rattle.st_sender.specs.Paying.{fulfilled_in, offered_in};
-ghost use Rattle.st_sender.specs.Shown.{shown, kept};
+ghost use Rattle.st_sender.specs.Shown.{shown, kept, telling};
 
 use crate::load::{Flight, Flown, Payment};
-use crate::stream::Stream;
+use crate::marks::Marks;
+use crate::notice::Notice;
+use crate::stream::{Stream, higher};
 use std::alloc::{AllocError, Allocator};
 
 /// The bytes of a frame, which are in flight by the sequence from now on.
@@ -36,7 +39,7 @@ pub fn take<A: Allocator + Copy>(
             None => Err(AllocError),
             Some(found) => found.take(alloc, sequence, offset, count),
         },
-        Some(Flown::Close { .. }) => Ok(Vec::new(alloc)),
+        Some(Flown::Close { .. } | Flown::Notice(_)) => Ok(Vec::new(alloc)),
         None => Ok(Vec::new(alloc)),
     }
 }
@@ -88,6 +91,53 @@ fn free_data<A: Allocator + Copy>(
     }
 }
 
+/// A Blocked at a stream's limit was fulfilled.
+fn acknowledge_blocked<A: Allocator + Copy>(
+    streams: &mut Vec<Option<Stream<A>>, A>,
+    stream: u64,
+    max_offset: u64,
+)
+    ensures { streams.new.items ≡ changed_lane streams.old.items stream (on_out (acked_blocked max_offset)) }
+{
+    if stream < streams.len() as u64 {
+        if let Some(found) = &mut streams[stream as usize] {
+            found.told_blocked(max_offset);
+        }
+    }
+}
+
+/// And one at its receive max.
+fn acknowledge_money_blocked<A: Allocator + Copy>(
+    streams: &mut Vec<Option<Stream<A>>, A>,
+    stream: u64,
+    receive_max: u64,
+)
+    ensures { streams.new.items ≡ changed_lane streams.old.items stream (on_out (acked_money_blocked receive_max)) }
+{
+    if stream < streams.len() as u64 {
+        if let Some(found) = &mut streams[stream as usize] {
+            found.told_money_blocked(receive_max);
+        }
+    }
+}
+
+/// A notice was fulfilled: of what it says, the streams keep their own Blocked.
+fn acknowledge_notice<A: Allocator + Copy>(streams: &mut Vec<Option<Stream<A>>, A>, notice: Notice)
+    ensures { streams.new.items ≡ whole_acked streams.old.items (telling notice) }
+{
+    match notice {
+        Notice::StreamDataBlocked { stream, max_offset } => {
+            acknowledge_blocked(streams, stream, max_offset);
+        }
+        Notice::StreamMoneyBlocked {
+            stream,
+            receive_max,
+            ..
+        } => acknowledge_money_blocked(streams, stream, receive_max),
+        _ => {}
+    }
+}
+
 /// Money of a stream was fulfilled.
 fn acknowledge_money<A: Allocator + Copy>(streams: &mut Vec<Option<Stream<A>>, A>, payment: Payment)
     requires { fulfilled_in (slot streams.old.items payment.stream) + payment.amount ≤ offered_in (slot streams.old.items payment.stream) }
@@ -115,6 +165,7 @@ fn acknowledge_frame<A: Allocator + Copy>(
             count,
         } => acknowledge_data(streams, sequence, stream, offset, count),
         Flown::Close { stream, code } => acknowledge_close(streams, stream, code),
+        Flown::Notice(notice) => acknowledge_notice(streams, notice),
     }
 }
 
@@ -143,6 +194,33 @@ pub fn acknowledge<A: Allocator + Copy>(streams: &mut Vec<Option<Stream<A>>, A>,
     }
 }
 
+/// The highest limit on the sum of the ends at which a Blocked was fulfilled, once a notice was.
+fn highest_after(highest: Option<u64>, notice: Notice) -> Option<u64>
+    ensures { result ≡ highest_acked highest (telling notice) }
+{
+    match notice {
+        Notice::ConnectionDataBlocked { max_offset } => higher(highest, max_offset),
+        _ => highest,
+    }
+}
+
+/// What a flight said of limits was fulfilled: marks end, and the highest limit on the sum of the ends at which a Blocked
+/// was fulfilled is kept.
+pub fn acknowledge_limits<A: Allocator + Copy>(
+    marks: &mut Marks<A>,
+    highest: &mut Option<u64>,
+    flight: &Flight<A>,
+)
+    ensures marks { marks.new ≡ all_marks_flown marks.old flight.now.frames }
+    ensures highest { highest.new ≡ all_highest_flown highest.old flight.now.frames }
+{
+    let Some(notice) = flight.notice() else {
+        return;
+    };
+    marks.acknowledged(notice);
+    *highest = highest_after(*highest, notice);
+}
+
 /// The frame beside money failed: what it carried is due again, unless it was dropped.
 fn free_frame<A: Allocator + Copy>(
     streams: &mut Vec<Option<Stream<A>>, A>,
@@ -153,7 +231,7 @@ fn free_frame<A: Allocator + Copy>(
 {
     match frame {
         Flown::Data { stream, .. } => free_data(streams, sequence, stream),
-        Flown::Close { .. } => {}
+        Flown::Close { .. } | Flown::Notice(_) => {}
     }
 }
 

@@ -2,12 +2,14 @@
 
 ghost use Rattle.std.specs.Prelude.{Some, None, IfNone, [], ◌∷◌, map, IfOk, IsOkUnless, ◌≡◌, ◌<◌, ◌^◌};
 ghost use Rattle.std.specs.List.{list_any};
-ghost use Rattle.st_sender.specs.Flights.{closes, end_of, highest_end, flying_end, any_frame, flight_at, without_flight, part_of};
-ghost use Rattle.st_sender.specs.Shown.{shown, paying, framed};
+ghost use Rattle.st_sender.specs.Flights.{closes, tells, end_of, highest_end, flying_end, any_frame, flight_at, without_flight, part_of};
+ghost use Rattle.st_sender.specs.Shown.{shown, paying, framed, telling};
+ghost use Rattle.st_sender.specs.Landing.{IsNoticeOf};
 ghost use Rattle.st_sender.specs.Paying.{amount_to, total};
 ghost use Rattle.st_frames.specs.Seen.{seen};
 
 use crate::error::OutboxError;
+use crate::notice::Notice;
 use st_frames::Frame;
 use std::alloc::Allocator;
 use std::marker::Model;
@@ -19,6 +21,8 @@ pub enum Flown {
     Data { stream: u8, offset: u64, count: u64 },
     /// StreamClose, with an empty message.
     Close { stream: u8, code: u8 },
+    /// A frame that goes alone.
+    Notice(Notice),
 }
 
 /// StreamMoney (RFC 0029, section 5.3.7): so much of the load's amount is for a stream.
@@ -90,6 +94,7 @@ fn spelled<'a>(frame: Flown, bytes: &'a [u8]) -> Frame<'a>
             code,
             message: "",
         },
+        Flown::Notice(notice) => notice.spelled(),
     }
 }
 
@@ -176,7 +181,27 @@ impl Flown {
     {
         match self {
             Flown::Close { stream, code: by } => stream == number && by == code,
-            Flown::Data { .. } => false,
+            Flown::Data { .. } | Flown::Notice(_) => false,
+        }
+    }
+
+    /// It tells the same limit as a notice.
+    fn tells(self, notice: Notice) -> bool
+        ensures { result ≡ tells (telling notice) (shown self) }
+    {
+        match self {
+            Flown::Notice(own) => notice.tells_same(own),
+            Flown::Data { .. } | Flown::Close { .. } => false,
+        }
+    }
+
+    /// The notice that it is.
+    fn notice(self) -> Option<Notice>
+        ensures { IsNoticeOf (shown self ∷ []) result }
+    {
+        match self {
+            Flown::Notice(notice) => Some(notice),
+            Flown::Data { .. } | Flown::Close { .. } => None,
         }
     }
 
@@ -197,7 +222,7 @@ impl Flown {
                     0
                 }
             }
-            Flown::Close { .. } => 0,
+            Flown::Close { .. } | Flown::Notice(_) => 0,
         }
     }
 }
@@ -209,6 +234,25 @@ impl<A: Allocator + Copy> Flight<A> {
         match self.frame {
             Some(frame) => frame.closes(number, code),
             None => false,
+        }
+    }
+
+    fn tells(&self, notice: Notice) -> bool
+        ensures { result ≡ list_any (tells (telling notice)) self.now.frames }
+    {
+        match self.frame {
+            Some(frame) => frame.tells(notice),
+            None => false,
+        }
+    }
+
+    /// The notice that it carries.
+    pub fn notice(&self) -> Option<Notice>
+        ensures { IsNoticeOf self.now.frames result }
+    {
+        match self.frame {
+            Some(frame) => frame.notice(),
+            None => None,
         }
     }
 
@@ -239,6 +283,13 @@ pub fn closing<A: Allocator + Copy>(flights: &[Flight<A>], number: u8, code: u8)
     ensures { result ≡ any_frame (closes number code) flights.now }
 {
     flights.iter().any(|flight| flight.closes(number, code))
+}
+
+/// A flight tells the same limit as a notice.
+pub fn told<A: Allocator + Copy>(flights: &[Flight<A>], notice: Notice) -> bool
+    ensures { result ≡ any_frame (tells (telling notice)) flights.now }
+{
+    flights.iter().any(|flight| flight.tells(notice))
 }
 
 /// Where the stream's data in flight end.

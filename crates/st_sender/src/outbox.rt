@@ -1,6 +1,6 @@
 //! What an end sends.
 
-ghost use Rattle.std.specs.Prelude.{true, false, ◌≡◌, ◌≢◌, ℕ, ◌<◌, ◌≤◌, List, length, slice_set, None, Some, OnOk, OnErr, IfOk, IfSome, IsOkUnless, MatchOption};
+ghost use Rattle.std.specs.Prelude.{true, false, ◌≡◌, ◌≢◌, ℕ, ◌<◌, ◌≤◌, List, length, map, None, Some, OnOk, OnErr, IfOk, IfSome, IsOkUnless, MatchOption};
 ghost use Rattle.std.specs.List.{AllByRecursion};
 ghost use Rattle.st_frames.specs.Frames.{Known};
 ghost use Rattle.st_frames.specs.Seen.{seen};
@@ -11,22 +11,29 @@ ghost use Rattle.st_sender.specs.Flights.{flight_at};
 ghost use Rattle.st_sender.specs.Shown.{why};
 ghost use Rattle.st_sender.specs.Refusals.{write_refusal, close_refusal, abort_refusal, offer_refusal, Answers, AnswersOrWants};
 ghost use Rattle.st_sender.specs.Refusals as specs;
-ghost use Rattle.st_sender.specs.Loads.{Sends};
+ghost use Rattle.st_sender.specs.Loads.{Fits, IsIdle, Sends};
 ghost use Rattle.st_sender.specs.Filling.{full_room, Fills};
 ghost use Rattle.st_oer.specs.Ratios.{ratio};
-ghost use Rattle.st_sender.specs.Plain.{IsFilled, IsPlainIdle, left_room};
+ghost use Rattle.st_sender.specs.Plain.{IsFilled, IsIdleOf, left_room};
+ghost use Rattle.st_sender.specs.Due.{IsDue};
+ghost use Rattle.st_sender.specs.Noticed.{IsShort, IsUnbarred, IsOfNotice, NoneSaid};
+ghost use Rattle.st_sender.specs.Shown.{telling};
+ghost use Rattle.st_sender.specs.Sending as kept;
 
+use crate::blocked::{connection_blocked, first_blocked};
+use crate::bounds::Bounds;
 use crate::choose::{launch, plan, spare};
 use crate::config::EndConfig;
 use crate::error::OutboxError;
 use crate::failure::{Failure, fails};
-use crate::flying::{acknowledge, free};
-use crate::load::{Flight, Load, take_flight, total};
-use crate::payments::least_for;
+use crate::flying::{acknowledge, acknowledge_limits, free};
+use crate::load::{Flight, Flown, Load, take_flight};
+use crate::marks::Marks;
+use crate::notice::Notice;
 use crate::stream::Stream;
 use crate::streams::{
-    abort, accept, all_accepted, close, is_open, no_marks, no_streams, offer, open, raise,
-    raise_money, set_mark, settled,
+    abort, accept, all_accepted, close, is_open, no_streams, offer, open, raise, raise_money,
+    settled,
 };
 use st_frames::Frame;
 use std::alloc::Allocator;
@@ -49,9 +56,7 @@ pub struct Outbox<A: Allocator + Copy> {
     told: u64,
     /// The highest such limit for which a Blocked was fulfilled.
     blocked: Option<u64>,
-    connection_mark: Option<u64>,
-    offset_marks: Vec<Option<u64>, A>,
-    money_marks: Vec<Option<u64>, A>,
+    marks: Marks<A>,
     packet_limit: u64,
     /// In a row.
     failures: u64,
@@ -79,7 +84,7 @@ impl<A: Allocator + Copy> Model for Outbox<A> {
       last = a.last;
       told = a.told;
       blocked = a.blocked;
-      marks = record { connection = a.connection_mark; offsets = a.offset_marks.items; money = a.money_marks.items };
+      marks = a.marks;
       packet_limit = a.packet_limit;
       failures = a.failures;
       failed = a.failed;
@@ -96,8 +101,7 @@ impl<A: Allocator + Copy> Outbox<A> {
         ensures opening { IfOk result (λ o. o ≡ new_sending config) }
     {
         let streams = no_streams(alloc)?;
-        let offset_marks = no_marks(alloc)?;
-        let money_marks = no_marks(alloc)?;
+        let marks = Marks::new(alloc)?;
         Ok(Outbox {
             config,
             streams,
@@ -105,9 +109,7 @@ impl<A: Allocator + Copy> Outbox<A> {
             last: 0,
             told: 65_536,
             blocked: None,
-            connection_mark: None,
-            offset_marks,
-            money_marks,
+            marks,
             packet_limit: config.packet_limit(),
             failures: 0,
             failed: false,
@@ -230,57 +232,113 @@ impl<A: Allocator + Copy> Outbox<A> {
         }
     }
 
-    fn mark_offset(&mut self, stream: u64, max_offset: u64)
-        ensures { self.new ≡ record self.old { marks = record self.old.marks { offsets = slice_set self.old.marks.offsets stream (Some max_offset) } } }
-    {
-        set_mark(&mut self.offset_marks, stream, max_offset);
-    }
-
-    fn mark_money(&mut self, stream: u64, receive_max: u64)
-        ensures { self.new ≡ record self.old { marks = record self.old.marks { money = slice_set self.old.marks.money stream (Some receive_max) } } }
-    {
-        set_mark(&mut self.money_marks, stream, receive_max);
-    }
-
     /// The peer said Blocked at a limit of this end, which this frame tells as it stands: once the limit is above that, it
     /// is due. Other frames are ignored. No memory.
     pub fn mark(&mut self, frame: &Frame<'_>)
         ensures { self.new ≡ after_marked self.old (seen frame.now) }
     {
-        match *frame {
-            Frame::ConnectionMaxData { max_offset } => self.connection_mark = Some(max_offset),
-            Frame::StreamMaxData { stream, max_offset } => self.mark_offset(stream, max_offset),
-            Frame::StreamMaxMoney {
-                stream,
-                receive_max,
-                ..
-            } => self.mark_money(stream, receive_max),
-            _ => {}
+        self.marks.mark(frame);
+    }
+
+    /// The bounds of what goes next. None stands where nothing may go: the connection failed, as many loads are in flight as
+    /// may be, as many went, or the sum of the streams' ends is past the peer's limit.
+    fn bounds(&self, room: usize) -> Option<Bounds>
+        ensures { MatchOption result ((at : ℕ) (p : kept.Load) → ¬ Fits self.now at p) (λ b. IsUnbarred self.now b × (b.room ≡ room)) }
+    {
+        if self.failed {
+            return None;
+        }
+        if self.flights.len() >= self.config.in_flight() {
+            return None;
+        }
+        if self.last >= self.config.packets() {
+            return None;
+        }
+        match spare(&self.streams, &self.flights, self.told) {
+            Some(spare) => Some(Bounds {
+                spare,
+                sequence: self.last + 1,
+                room,
+            }),
+            None => None,
         }
     }
 
-    /// The load that goes next, of data, closes and money: the lowest due bytes of a stream, or a close, and beside it as much
-    /// money as may go. `None` comes only where a limit that stands, the room among them, stops each byte, each close and all
-    /// money that is due. `room` is how many bytes the packet may take; in one of `FULL_ROOM` a load is filled. Refused is
-    /// want of memory alone.
-    pub fn next(&mut self, room: usize) -> Result<Option<Load<A>>, OutboxError>
+    /// The Blocked that goes where nothing is in flight and nothing else may go.
+    fn next_blocked(&self, bounds: Bounds) -> Option<Notice>
+        requires { IsUnbarred self.now bounds }
+        ensures { (limits : List Known) → MatchOption result (NoneSaid self.now limits bounds) (λ n. IsDue self.now limits (telling n) × IsShort bounds (telling n)) }
+    {
+        if !self.flights.is_empty() {
+            return None;
+        }
+        let least = self.config.least();
+        match first_blocked(&self.streams, &self.flights, least, bounds) {
+            Some(notice) => Some(notice),
+            None => connection_blocked(
+                &self.streams,
+                &self.flights,
+                self.told,
+                self.blocked,
+                bounds,
+            ),
+        }
+    }
+
+    /// The notice that goes where nothing else may: a Blocked, or else one of these limits of this end's.
+    fn notice(&self, limits: &[Frame<'_>], bounds: Bounds) -> Option<Notice>
+        requires { IsUnbarred self.now bounds }
+        ensures { MatchOption result (IsIdleOf false self.now (map seen limits.now) bounds.room) (λ n. IsDue self.now (map seen limits.now) (telling n) × IsShort bounds (telling n)) }
+    {
+        match self.next_blocked(bounds) {
+            Some(notice) => Some(notice),
+            None => self.marks.first_awaited(&self.flights, limits, bounds),
+        }
+    }
+
+    /// The load of the notice that goes where nothing else may.
+    fn notify(
+        &mut self,
+        limits: &[Frame<'_>],
+        bounds: Bounds,
+    ) -> Result<Option<Load<A>>, OutboxError>
+        requires { IsUnbarred self.old bounds }
         ensures only_memory { IsOkUnless result OutboxError.NoMemory }
-        ensures sends { IfOk result (λ r. (limits : List Known) → MatchOption r (IsPlainIdle self.old limits room × (self.new ≡ self.old)) (λ load. Sends self.old limits room load self.new)) }
-        ensures filled { IfOk result (λ r. IfSome r (λ load. AllByRecursion (IsFilled self.old (left_room room load.frames)) load.frames)) }
-        ensures full { IfOk result (λ r. IfSome r (λ load. full_room ≤ room → self.old.config.least ≡ ratio 1 1 → (limits : List Known) → Fills self.old limits room load)) }
+        ensures sends { IfOk result (λ r. MatchOption r (IsIdleOf false self.old (map seen limits.now) bounds.room × (self.new ≡ self.old)) (λ load. Sends self.old (map seen limits.now) bounds.room load self.new × IsOfNotice load)) }
         ensures unchanged { OnErr result (self.new ≡ self.old) }
     {
-        if self.failed {
+        let Some(notice) = self.notice(limits, bounds) else {
             return Ok(None);
-        }
-        if self.flights.len() >= self.config.in_flight() {
-            return Ok(None);
-        }
-        if self.last >= self.config.packets() {
-            return Ok(None);
-        }
-        let sequence = self.last + 1;
-        let Some(spare) = spare(&self.streams, &self.flights, self.told) else {
+        };
+        let load = launch(
+            &mut self.streams,
+            &mut self.flights,
+            self.alloc,
+            self.config.least(),
+            bounds.sequence,
+            Some(Flown::Notice(notice)),
+            Vec::new(self.alloc),
+        )?;
+        self.last = bounds.sequence;
+        Ok(Some(load))
+    }
+
+    /// The load that goes next: the lowest due bytes of a stream, or a close, and beside it as much money as may go; where none
+    /// of these may go, a Blocked, or else one of these limits of this end's that is above the peer's mark. `None` comes only
+    /// where a limit that stands, the room among them, stops each due thing. `room` is how many bytes the packet may take; in
+    /// one of `FULL_ROOM` a load is filled. Refused is want of memory alone.
+    pub fn next(
+        &mut self,
+        room: usize,
+        limits: &[Frame<'_>],
+    ) -> Result<Option<Load<A>>, OutboxError>
+        ensures only_memory { IsOkUnless result OutboxError.NoMemory }
+        ensures sends { IfOk result (λ r. MatchOption r (IsIdle self.old (map seen limits.now) room × (self.new ≡ self.old)) (λ load. Sends self.old (map seen limits.now) room load self.new)) }
+        ensures filled { IfOk result (λ r. IfSome r (λ load. AllByRecursion (IsFilled self.old (left_room room load.frames)) load.frames)) }
+        ensures full { IfOk result (λ r. IfSome r (λ load. full_room ≤ room → self.old.config.least ≡ ratio 1 1 → Fills self.old (map seen limits.now) room load)) }
+        ensures unchanged { OnErr result (self.new ≡ self.old) }
+    {
+        let Some(bounds) = self.bounds(room) else {
             return Ok(None);
         };
         let least = self.config.least();
@@ -290,33 +348,22 @@ impl<A: Allocator + Copy> Outbox<A> {
             self.alloc,
             least,
             self.packet_limit,
-            spare,
-            sequence,
-            room,
+            bounds,
         )?
         else {
-            return Ok(None);
+            return self.notify(limits, bounds);
         };
-        let amount = total(&payments);
-        let bytes = launch(
+        let load = launch(
             &mut self.streams,
             &mut self.flights,
             self.alloc,
-            sequence,
-            amount,
+            least,
+            bounds.sequence,
             frame,
-            &payments,
-        )?;
-        self.last = sequence;
-        Ok(Some(Load {
-            sequence,
-            amount,
-            least: least_for(least, amount),
-            frame,
-            bytes,
             payments,
-            alloc: self.alloc,
-        }))
+        )?;
+        self.last = bounds.sequence;
+        Ok(Some(load))
     }
 
     /// A fitting Fulfill came for the flight of this sequence: what it carried is acknowledged. Where none is in flight by
@@ -328,6 +375,7 @@ impl<A: Allocator + Copy> Outbox<A> {
             return;
         };
         acknowledge(&mut self.streams, &flight);
+        acknowledge_limits(&mut self.marks, &mut self.blocked, &flight);
         self.failures = 0;
         self.paid += u128::from(flight.amount);
     }

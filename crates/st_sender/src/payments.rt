@@ -1,9 +1,10 @@
 //! Money that rides along.
 
 ghost use Rattle.std.specs.Prelude.{[], ◌∷◌, ◌≡◌, ◌<◌, ◌≤◌, ◌^◌, ◌-◌, ◌*◌, length, IfOk, MatchOption};
-ghost use Rattle.st_sender.specs.Allowed.{Bounds, IsUnit, NoneUnit, least_for};
+ghost use Rattle.st_sender.specs.Allowed.{IsUnit, NoneUnit, least_for};
 ghost use Rattle.st_sender.specs.Paying.{Pays, flown_money, flown_least, most_for, payable};
 
+use crate::bounds::Bounds;
 use crate::load::{Flight, Payment};
 use crate::sizes::unit_size;
 use crate::stream::Stream;
@@ -107,12 +108,10 @@ pub fn unit<A: Allocator + Copy>(
     flights: &[Flight<A>],
     least: Rate,
     limit: u64,
-    spare: u128,
-    sequence: u64,
-    room: usize,
+    bounds: Bounds,
 ) -> Option<Payment>
     requires { length streams.now ≡ 65 }
-    ensures { MatchOption result (NoneUnit streams.now flights.now least limit (record { spare = spare; sequence = sequence; room = room }) 65) (λ p. IsUnit streams.now flights.now least limit (record { spare = spare; sequence = sequence; room = room }) p) }
+    ensures { MatchOption result (NoneUnit streams.now flights.now least limit bounds 65) (λ p. IsUnit streams.now flights.now least limit bounds p) }
 {
     if limit == 0 {
         return None;
@@ -120,7 +119,7 @@ pub fn unit<A: Allocator + Copy>(
     let amount = least_for(least, 1);
     for number in 0..65_u8 {
         if payable_at(&streams[number as usize], flights, number, least) == 0
-            || room < unit_size(sequence, amount, number)
+            || bounds.room < unit_size(bounds.sequence, amount, number)
         {
             continue;
         }

@@ -1,8 +1,11 @@
 //! How long a packet is that has one frame.
 
-ghost use Rattle.std.specs.Prelude.{◌≡◌, ◌<◌, ◌≤◌, ◌+◌, ◌^◌, ◌⊎◌};
+ghost use Rattle.std.specs.Prelude.{[], ◌∷◌, length, ◌≡◌, ◌<◌, ◌≤◌, ◌+◌, ◌^◌, ◌⊎◌};
+ghost use Rattle.st_frames.specs.Written.{packet_length, contents_text};
+ghost use Rattle.st_sender.specs.Shown.{telling};
 ghost use Rattle.st_sender.specs.Allowed.{packet_size, data_contents, close_contents, unit_contents, data_size, close_size, unit_size};
 
+use crate::notice::Notice;
 use st_oer::{length_size, var_uint_size};
 
 #[tactic(auto, unfolding(crate::specs::Allowed::packet_size))]
@@ -41,6 +44,40 @@ fn unit_contents(stream: u8) -> usize
     ensures small { result < 2 ^ 62 }
 {
     var_uint_size(u64::from(stream)) + var_uint_size(1)
+}
+
+/// The contents of a notice's frame.
+fn notice_contents(notice: Notice) -> usize
+    ensures value { result ≡ length (contents_text (telling notice)) }
+    ensures small { result < 2 ^ 62 }
+{
+    match notice {
+        Notice::ConnectionDataBlocked { max_offset } => var_uint_size(max_offset),
+        Notice::StreamDataBlocked { stream, max_offset } => {
+            var_uint_size(stream) + var_uint_size(max_offset)
+        }
+        Notice::StreamMoneyBlocked {
+            stream,
+            receive_max,
+            total,
+        } => var_uint_size(stream) + var_uint_size(receive_max) + var_uint_size(total),
+        Notice::ConnectionMaxData { max_offset } => var_uint_size(max_offset),
+        Notice::StreamMaxData { stream, max_offset } => {
+            var_uint_size(stream) + var_uint_size(max_offset)
+        }
+        Notice::StreamMaxMoney {
+            stream,
+            receive_max,
+            total,
+        } => var_uint_size(stream) + var_uint_size(receive_max) + var_uint_size(total),
+    }
+}
+
+/// The length of a packet that has a notice.
+pub fn notice_size(sequence: u64, notice: Notice) -> usize
+    ensures { result ≡ packet_length sequence 0 (telling notice ∷ []) }
+{
+    packet_size(sequence, 0, notice_contents(notice))
 }
 
 fn data_size(sequence: u64, stream: u8, offset: u64, count: u64) -> usize

@@ -1,20 +1,27 @@
 //! One outgoing stream.
 
-ghost use Rattle.std.specs.Prelude.{◌≡◌, ◌≢◌, ℕ, ◌+◌, ◌-◌, ◌<◌, ◌≤◌, ◌^◌, length, max, is_some, nat_lt, ◌||◌, IsSome, OnOk, OnErr, IfOk, MatchOption};
+ghost use Rattle.std.specs.Prelude.{true, false, ◌≡◌, ◌≢◌, ℕ, ◌+◌, ◌-◌, ◌<◌, ◌≤◌, ◌^◌, length, max, is_some, nat_lt, ◌||◌, IsSome, OnOk, OnErr, IfOk, MatchOption};
 ghost use Rattle.std.specs.declared.option.Option.TheVariants.{Some, None};
 ghost use Rattle.std.specs.FinMap.{len};
 ghost use Rattle.st_sender.specs.Accepting.{after_write, after_clean, after_stream_abort, after_offer};
-ghost use Rattle.st_sender.specs.Answering.{told_data, told_receive_max, acked_close, acked_money};
+ghost use Rattle.st_sender.specs.Answering.{told_data, told_receive_max, acked_close, acked_money, acked_blocked, acked_money_blocked, higher};
 ghost use Rattle.st_sender.specs.Landing.{acked_by, freed_by};
 ghost use Rattle.st_sender.specs.Flights.{flying_end};
 ghost use Rattle.st_sender.specs.Refusals.{is_closed};
 ghost use Rattle.st_sender.specs.Lanes.{Lane, new_lane, due_in, on_out, claimed_by};
-ghost use Rattle.st_sender.specs.Allowed.{Bounds, IsStopped, IsReady, IsFinished, AreBytes};
-ghost use Rattle.st_sender.specs.Paying.{payable};
+ghost use Rattle.st_sender.specs.Allowed.{IsStopped, IsReady, IsFinished, AreBytes};
+ghost use Rattle.st_sender.specs.Paying.{payable, open_money};
+ghost use Rattle.st_sender.specs.Noticed.{IsHeld, NotHeld, IsDataBlocked, IsMoneyBlocked, IsBlocked};
+ghost use Rattle.st_sender.specs.Shown.{telling};
+ghost use Rattle.st_sender.specs.declared.notice.Notice.TheVariants as said;
+ghost use Rattle.st_frames.specs.Frames.{Known};
 
+use crate::blocked::was_blocked;
+use crate::bounds::Bounds;
 use crate::load::{Flight, closing, flights_end};
+use crate::notice::Notice;
 use crate::payments::{most_for, without_least, without_money};
-use crate::sizes::{close_size, longest};
+use crate::sizes::{close_size, longest, notice_size};
 use st_oer::Rate;
 use st_unacked::Unacked;
 use std::alloc::{AllocError, Allocator};
@@ -68,6 +75,16 @@ impl<A: Allocator + Copy> Model for Stream<A> {
     } };
 
     ghost invariant = { λ a. a.acked_end < 2 ^ 65 };
+}
+
+/// The higher of the limits for which a Blocked was fulfilled.
+pub fn higher(highest: Option<u64>, limit: u64) -> Option<u64>
+    ensures { result ≡ higher highest limit }
+{
+    match highest {
+        None => Some(limit),
+        Some(highest) => Some(highest.max(limit)),
+    }
 }
 
 impl<A: Allocator + Copy> Stream<A> {
@@ -192,28 +209,21 @@ impl<A: Allocator + Copy> Stream<A> {
     }
 
     /// The lowest due bytes, as many as may go: where they begin, and how many.
-    pub fn ready(
-        &self,
-        flights: &[Flight<A>],
-        number: u8,
-        spare: u128,
-        sequence: u64,
-        room: usize,
-    ) -> Option<(u64, u64)>
-        requires { spare < 2 ^ 64 }
-        ensures { MatchOption result (IsStopped flights.now (record { spare = spare; sequence = sequence; room = room }) number self.now) (λ r. IsReady flights.now (record { spare = spare; sequence = sequence; room = room }) number self.now r.0 r.1) }
+    pub fn ready(&self, flights: &[Flight<A>], number: u8, bounds: Bounds) -> Option<(u64, u64)>
+        requires { bounds.spare < 2 ^ 64 }
+        ensures { MatchOption result (IsStopped flights.now bounds number self.now) (λ r. IsReady flights.now bounds number self.now r.0 r.1) }
     {
         let Some((from, end)) = self.bytes.lowest_due() else {
             return None;
         };
-        let allowed = u128::from(self.told).min(self.sent_end(flights, number) + spare);
+        let allowed = u128::from(self.told).min(self.sent_end(flights, number) + bounds.spare);
         if allowed <= u128::from(from) {
             return None;
         }
         let most = (allowed - u128::from(from))
             .min(u128::from(end - from))
             .min(16_000) as u64;
-        let count = longest(sequence, number, from, most, room);
+        let count = longest(bounds.sequence, number, from, most, bounds.room);
         if count == 0 {
             return None;
         }
@@ -221,17 +231,10 @@ impl<A: Allocator + Copy> Stream<A> {
     }
 
     /// The code of a close that is due.
-    pub fn finished(
-        &self,
-        flights: &[Flight<A>],
-        number: u8,
-        spare: u128,
-        sequence: u64,
-        room: usize,
-    ) -> Option<u8>
-        ensures { MatchOption result ((code : ℕ) → ¬ IsFinished flights.now (record { spare = spare; sequence = sequence; room = room }) number self.now code) (λ code. IsFinished flights.now (record { spare = spare; sequence = sequence; room = room }) number self.now code) }
+    pub fn finished(&self, flights: &[Flight<A>], number: u8, bounds: Bounds) -> Option<u8>
+        ensures { MatchOption result ((code : ℕ) → ¬ IsFinished flights.now bounds number self.now code) (λ code. IsFinished flights.now bounds number self.now code) }
     {
-        if close_size(sequence, number) > room {
+        if close_size(bounds.sequence, number) > bounds.room {
             return None;
         }
         match self.abort {
@@ -256,14 +259,21 @@ impl<A: Allocator + Copy> Stream<A> {
         }
     }
 
-    /// How much of its money may go.
-    pub fn payable(&self, flights: &[Flight<A>], number: u8, least: Rate) -> u64
-        ensures { result ≡ payable least flights.now number (Some self.now) }
+    /// Its money that is due.
+    fn open_money(&self, flights: &[Flight<A>], number: u8) -> u64
+        ensures { result ≡ open_money flights.now number self.now.out }
     {
         if self.abort.is_some() {
             return 0;
         }
-        let due = without_money(flights, number, self.offered.saturating_sub(self.fulfilled));
+        without_money(flights, number, self.offered.saturating_sub(self.fulfilled))
+    }
+
+    /// How much of its money may go.
+    pub fn payable(&self, flights: &[Flight<A>], number: u8, least: Rate) -> u64
+        ensures { result ≡ payable least flights.now number (Some self.now) }
+    {
+        let due = self.open_money(flights, number);
         match self.told_money {
             None => due,
             Some((receive_max, received)) => {
@@ -271,6 +281,76 @@ impl<A: Allocator + Copy> Stream<A> {
                 let left = without_least(flights, number, least, left);
                 most_for(least, left).min(u128::from(due)) as u64
             }
+        }
+    }
+
+    /// Whether a due byte lies beyond how far the sum of the ends may rise.
+    pub fn is_held(&self, flights: &[Flight<A>], number: u8, spare: u128) -> bool
+        requires { spare < 2 ^ 64 }
+        ensures yes { result ≡ true → IsHeld flights.now spare number self.now }
+        ensures no { result ≡ false → NotHeld flights.now spare number self.now }
+    {
+        u128::from(self.bytes.past_due()) > self.sent_end(flights, number) + spare
+    }
+
+    /// The Blocked at its limit on offsets that goes: a due byte lies beyond, and none was fulfilled for this limit.
+    fn data_blocked(&self, number: u8, bounds: Bounds) -> Option<Notice>
+        ensures { MatchOption result ((limit : ℕ) → ¬ IsDataBlocked bounds number self.now limit) (λ n. (limit : ℕ) × (n ≡ said.StreamDataBlocked number limit) × IsDataBlocked bounds number self.now limit) }
+    {
+        let notice = Notice::StreamDataBlocked {
+            stream: u64::from(number),
+            max_offset: self.told,
+        };
+        if self.bytes.past_due() <= self.told
+            || was_blocked(self.blocked, self.told)
+            || notice_size(bounds.sequence, notice) > bounds.room
+        {
+            return None;
+        }
+        Some(notice)
+    }
+
+    /// The Blocked at the peer's receive max that goes: more money is due than may arrive, and none was fulfilled for it.
+    fn money_blocked(
+        &self,
+        flights: &[Flight<A>],
+        number: u8,
+        least: Rate,
+        bounds: Bounds,
+    ) -> Option<Notice>
+        ensures { MatchOption result ((limit total : ℕ) → ¬ IsMoneyBlocked least flights.now bounds number self.now limit total) (λ n. (limit total : ℕ) × (n ≡ said.StreamMoneyBlocked number limit total) × IsMoneyBlocked least flights.now bounds number self.now limit total) }
+    {
+        let Some((receive_max, received)) = self.told_money else {
+            return None;
+        };
+        let notice = Notice::StreamMoneyBlocked {
+            stream: u64::from(number),
+            receive_max,
+            total: self.fulfilled,
+        };
+        let left = receive_max.saturating_sub(received);
+        if least.of(self.open_money(flights, number)) <= u128::from(left)
+            || was_blocked(self.blocked_money, receive_max)
+            || notice_size(bounds.sequence, notice) > bounds.room
+        {
+            return None;
+        }
+        Some(notice)
+    }
+
+    /// The Blocked of it that goes.
+    pub fn blocked(
+        &self,
+        flights: &[Flight<A>],
+        number: u8,
+        least: Rate,
+        bounds: Bounds,
+    ) -> Option<Notice>
+        ensures { MatchOption result ((f : Known) → ¬ IsBlocked flights.now least bounds number self.now f) (λ n. IsBlocked flights.now least bounds number self.now (telling n)) }
+    {
+        match self.data_blocked(number, bounds) {
+            Some(notice) => Some(notice),
+            None => self.money_blocked(flights, number, least, bounds),
         }
     }
 
@@ -315,6 +395,20 @@ impl<A: Allocator + Copy> Stream<A> {
         ensures { self.new ≡ freed_by sequence self.old }
     {
         self.bytes.failed(sequence);
+    }
+
+    /// A Blocked at this limit on offsets was fulfilled.
+    pub fn told_blocked(&mut self, max_offset: u64)
+        ensures { self.new ≡ on_out (acked_blocked max_offset) self.old }
+    {
+        self.blocked = higher(self.blocked, max_offset);
+    }
+
+    /// And one at this receive max.
+    pub fn told_money_blocked(&mut self, receive_max: u64)
+        ensures { self.new ≡ on_out (acked_money_blocked receive_max) self.old }
+    {
+        self.blocked_money = higher(self.blocked_money, receive_max);
     }
 
     /// Its StreamClose of this code was fulfilled.

@@ -2,4 +2,4 @@ use Rattle.st_sender.specs.Allowed.{NoneReady}
 use Rattle.st_sender.proofs.choose.first_data.Given as goal
 
 abbrev pub invariant-loop-number : goal.invariant-loop-number
-invariant-loop-number g l = NoneReady l.streams l.flights (record { spare = l.spare; sequence = l.sequence; room = l.room }) l.number
+invariant-loop-number g l = NoneReady l.streams l.flights l.bounds l.number

@@ -3,16 +3,16 @@ use Rattle.std.proofs.lemmas.List.{get_or_read}
 use Rattle.st_sender.specs.Paying.{payable}
 use Rattle.st_sender.proofs.Paying.{none_unit_more}
 use Rattle.st_sender.proofs.payments.unit.Goals as goal
-use Rattle.st_sender.proofs.payments.unit.Goals.{then-payable_at-eq0-via-then-payable_at-eq0, then-payable_at-eq0-via-else-payable_at-eq0+then-room-unit_size}
+use Rattle.st_sender.proofs.payments.unit.Goals.{then-payable_at-eq0-via-then-payable_at-eq0, then-payable_at-eq0-via-else-payable_at-eq0+then-bounds-unit_size}
 
 pub loop-number-preserved : goal.loop-number-preserved
 loop-number-preserved g c =
     let here = get_or_read c.args.streams.now c.loop-number.number c.index-streams-number.result (omega arith) c.index-streams-number.is None in
     let due = c.payable_at.ensures ∙ ap (λ x. payable c.args.least c.args.flights.now c.loop-number.number x) here in
-    none_unit_more c.args.streams.now c.args.flights.now c.args.least c.args.limit (record { spare = c.args.spare; sequence = c.args.sequence; room = c.args.room }) c.loop-number.number c.loop-number.invariant
+    none_unit_more c.args.streams.now c.args.flights.now c.args.least c.args.limit c.args.bounds c.loop-number.number c.loop-number.invariant
     (λ some. elim c.then-payable_at-eq0.branch [
       | then-payable_at-eq0-via-then-payable_at-eq0 w ↦ omega (arith, due, some, w.if-payable_at-eq0.true)
-      | then-payable_at-eq0-via-else-payable_at-eq0+then-room-unit_size w ↦ (let size = rw c.least_for-amount.ensures at w.unit_size.ensures in omega (arith, w.if-room-unit_size.true, size))
+      | then-payable_at-eq0-via-else-payable_at-eq0+then-bounds-unit_size w ↦ (let size = rw c.least_for-amount.ensures at w.unit_size.ensures in omega (arith, w.if-bounds-unit_size.true, size))
     ])
 
 pub returns-in-loop-number : goal.returns-in-loop-number
@@ -24,7 +24,7 @@ returns-in-loop-number g c =
       one = refl;
       due = omega (arith, due, c.if-payable_at-eq0.false);
       within = omega (arith, c.if-limit-eq0.false);
-      room_left = omega (arith, c.if-room-unit_size.false, size);
+      room_left = omega (arith, c.if-bounds-unit_size.false, size);
     }
 
 pub returns : goal.returns

@@ -2,4 +2,4 @@ use Rattle.st_sender.specs.Allowed.{NoneUnit}
 use Rattle.st_sender.proofs.payments.unit.Given as goal
 
 abbrev pub invariant-loop-number : goal.invariant-loop-number
-invariant-loop-number g l = NoneUnit l.streams l.flights l.least l.limit (record { spare = l.spare; sequence = l.sequence; room = l.room }) l.number
+invariant-loop-number g l = NoneUnit l.streams l.flights l.least l.limit l.bounds l.number

@@ -35,5 +35,5 @@ returns g c =
     let at : flight_at c.args.self.now.flights c.args.sequence ≡ Some c.in-Some.flight = ap (λ (s : Sending). flight_at s.flights c.args.sequence) (sym c.self.view_is) ∙ found in
     let amount = c.from.ensures ∙ ap (λ (p : Flight). p.amount) c.flight.view_is in
     some_lands _ _ _ c.in-Some.flight at
-    (fulfilled_view _ _ c.self.inside.streams.items c.acknowledge.new.streams.items c.take_flight.new.flights.items c.args.sequence _ c.in-Some.flight c.acknowledge.ensures.form c.self.view_is refl c.self.invariant.1.booked c.self.invariant.2.apart found
-    c.acknowledge.ensures.acks c.take_flight.ensures.rest (ap (λ n. c.self.inside.paid + n) amount))
+    (fulfilled_view _ _ c.self.inside.streams.items c.acknowledge.new.streams.items c.take_flight.new.flights.items c.acknowledge_limits.new.marks c.acknowledge_limits.new.highest c.args.sequence _ c.in-Some.flight c.acknowledge.ensures.form c.self.view_is refl c.self.invariant.1.booked c.self.invariant.2.apart found
+    c.acknowledge.ensures.acks c.take_flight.ensures.rest c.acknowledge_limits.ensures.marks c.acknowledge_limits.ensures.highest (ap (λ n. c.self.inside.paid + n) amount))

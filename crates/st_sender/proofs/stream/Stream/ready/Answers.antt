@@ -9,5 +9,5 @@ returns-then-count-eq0 g c =
     let zero : c.longest-count.result ≡ 0 = c.if-count-eq0.true in
     let long = c.longest-count.ensures.longest (omega (arith, c.in-Some.ensures.some, c.if-allowed-from.false)) in
     let most = rw zero at long in
-    subst (λ (l : Lane). IsStopped c.args.flights.now (record { spare = c.args.spare; sequence = c.args.sequence; room = c.args.room }) c.args.number l) c.self.view_is
+    subst (λ (l : Lane). IsStopped c.args.flights.now c.args.bounds c.args.number l) c.self.view_is
     (stopped_by _ _ _ _ c.in-Some.from c.in-Some.ensures.none_below (λ a. omega (arith, most, a.room_left)))

@@ -1,0 +1,19 @@
+use Rattle.std.proofs.Common.{◌∙◌, refl, sym, arith}
+use Rattle.st_sender.proofs.blocked.connection_blocked.Goals as goal
+
+pub returns-then-is_any_held : goal.returns-then-is_any_held
+returns-then-is_any_held g c = (
+  refl,
+  record {
+    first = sym c.was_blocked.ensures ∙ c.if-was_blocked.false;
+    waits = c.is_any_held.ensures.yes c.if-is_any_held.true;
+    short = omega (arith, c.notice_size.ensures, c.if-notice_size-bounds.false);
+  },
+)
+
+pub returns-else-is_any_held : goal.returns-else-is_any_held
+returns-else-is_any_held g c = λ d.
+    let w = d.waits in
+    let h = w.held in
+    let low = c.is_any_held.ensures.no c.if-is_any_held.false w.stream w.lane w.is_own w.is_open h.0 h.1 h.2 in
+    absurd (omega (arith, low, h.3))

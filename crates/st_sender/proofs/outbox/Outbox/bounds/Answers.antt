@@ -1,0 +1,18 @@
+use Rattle.std.proofs.Common.{rules, ◌≡◌, ◌<◌, ◌^◌, ◌∙◌, length, refl, sym, ap, arith}
+use Rattle.st_sender.proofs.Said.{barred_by, unbarred_by}
+use Rattle.st_sender.proofs.Planned.{below, small_last}
+use Rattle.st_sender.proofs.outbox.Outbox.bounds.Goals as goal
+
+pub returns-in-None : goal.returns-in-None
+returns-in-None g c =
+    let over = rw (c.deref.ensures.value, c.deref-2.ensures.value) at c.in-None.ensures in
+    rw (← c.self.view_is) (barred_by _ c.self.inside.streams.items refl c.self.invariant.0 c.self.invariant.1.booked over)
+
+pub returns-in-Some : goal.returns-in-Some
+returns-in-Some g c =
+    let spare = rw (c.deref.ensures.value, c.deref-2.ensures.value) at c.in-Some.ensures in
+    let few = below _ _ _ _ _ (ap length (sym c.deref-2.ensures.value) ∙ c.deref-2.ensures.len) c.len.ensures c.if-len-in_flight.false c.in_flight.ensures in
+    let more = below _ _ _ _ _ refl refl c.if-self-packets.false c.packets.ensures.value in
+    let small : c.in-Some.spare < 2 ^ 64 = search rules in
+    rw (← c.self.view_is)
+    (unbarred_by _ c.self.inside.streams.items refl c.self.invariant.0 c.self.invariant.1.booked c.in-Some.spare c.args.room c.if-self.false few more spare small (small_last _ _ c.if-self-packets.false c.packets.ensures.few), refl)

@@ -1,0 +1,164 @@
+-- By which numbers a notice goes, a frame that goes alone: a Blocked, or a limit of this end's. And what one that was
+-- fulfilled leaves of the marks.
+use Rattle.std.specs.Prelude.{◌≡◌, ℕ, ◌+◌, ◌-◌, ◌^◌, ◌<◌, ◌≤◌, Bool, true, false, List, [], ◌∷◌, length, max, nat_lt, slice_set}
+use Rattle.std.specs.List.{AllByRecursion}
+use Rattle.std.specs.declared.option.Option.{Option}
+use Rattle.std.specs.declared.option.Option.TheVariants.{None, Some}
+use Rattle.st_oer.specs.Ratios.{Ratio, exchanged}
+use Rattle.st_tables.specs.Slots.{Slots, slot}
+use Rattle.st_frames.specs.Frames.{Known, ConnectionMaxData, ConnectionDataBlocked, StreamMaxMoney, StreamMoneyBlocked, StreamMaxData, StreamDataBlocked}
+use Rattle.st_frames.specs.Written.{packet_length}
+use Rattle.st_sender.specs.declared.bounds.Bounds.{Bounds}
+use Rattle.st_sender.specs.declared.notice.Notice.{Notice}
+use Rattle.st_sender.specs.Sending.{Data, Whole, Flown, Flight, Load, Marks, Sending}
+use Rattle.st_sender.specs.Flights.{any_frame, tells, flying_end, all_ends}
+use Rattle.st_sender.specs.Answering.{mark_after, marks_after, higher}
+use Rattle.st_sender.specs.Lanes.{Lane, due_in}
+use Rattle.st_sender.specs.Due.{was_blocked, IsDue}
+use Rattle.st_sender.specs.Filling.{is_work}
+use Rattle.st_sender.specs.Paying.{open_money}
+use Rattle.st_sender.specs.Shown.{telling}
+
+-- the packet of one frame, without money, takes no more than the room
+abbrev pub IsShort : Bounds → Known → Type 0
+IsShort b f = packet_length b.sequence 0 (f ∷ []) ≤ b.room
+
+-- ---- Blocked frames
+
+-- bytes of a stream wait beyond its limit
+pub record IsDataBlocked (b : Bounds) (k : ℕ) (l : Lane) (limit : ℕ) : Type 0 where
+  pub told : limit ≡ l.out.told
+  pub first : was_blocked l.out.blocked limit ≡ false
+  pub waits : (o byte : ℕ) × (due_in l o ≡ Some byte) × (limit ≤ o)
+  pub short : IsShort b (StreamDataBlocked k limit)
+
+-- money of a stream waits beyond the peer's receive max
+pub record IsMoneyBlocked (r : Ratio) (flights : List Flight) (b : Bounds) (k : ℕ) (l : Lane) (limit total : ℕ) : Type 0 where
+  pub received : ℕ
+  pub told : l.out.told_money ≡ Some (limit, received)
+  pub total_is : total ≡ l.out.fulfilled
+  pub first : was_blocked l.out.blocked_money limit ≡ false
+  pub waits : limit - received < exchanged r (open_money flights k l.out)
+  pub short : IsShort b (StreamMoneyBlocked k limit total)
+
+-- a Blocked of a stream goes
+abbrev pub IsBlocked : List Flight → Ratio → Bounds → (k : ℕ) → Lane → Known → Type 0
+IsBlocked flights r b k l (StreamDataBlocked j limit) = (j ≡ k) × IsDataBlocked b k l limit
+IsBlocked flights r b k l (StreamMoneyBlocked j limit total) = (j ≡ k) × IsMoneyBlocked r flights b k l limit total
+IsBlocked flights r b k l f = ⊥
+
+pub record IsBlockedAt (lanes : Slots Lane) (flights : List Flight) (r : Ratio) (b : Bounds) (f : Known) : Type 0 where
+  pub stream : ℕ
+  pub lane : Lane
+  pub is_open : slot lanes stream ≡ Some lane
+  pub is_own : stream < 65
+  pub blocked : IsBlocked flights r b stream lane f
+
+abbrev pub NoneBlocked : Slots Lane → List Flight → Ratio → Bounds → (count : ℕ) → Type 0
+NoneBlocked lanes flights r b count = (k : ℕ) (l : Lane) → k < count → slot lanes k ≡ Some l → (f : Known) → ¬ IsBlocked flights r b k l f
+
+-- bytes of a stream wait beyond how far the sum of the streams' ends may rise
+abbrev pub IsHeld : List Flight → (spare k : ℕ) → Lane → Type 0
+IsHeld flights spare k l = (o byte : ℕ) × (due_in l o ≡ Some byte) × (max l.out.acked_end (flying_end k flights) + spare ≤ o)
+
+abbrev pub NotHeld : List Flight → (spare k : ℕ) → Lane → Type 0
+NotHeld flights spare k l = (o byte : ℕ) → due_in l o ≡ Some byte → o < max l.out.acked_end (flying_end k flights) + spare
+
+pub record IsHeldAt (lanes : Slots Lane) (flights : List Flight) (spare : ℕ) : Type 0 where
+  pub stream : ℕ
+  pub lane : Lane
+  pub is_open : slot lanes stream ≡ Some lane
+  pub is_own : stream < 65
+  pub held : IsHeld flights spare stream lane
+
+abbrev pub NoneHeld : Slots Lane → List Flight → (spare count : ℕ) → Type 0
+NoneHeld lanes flights spare count = (k : ℕ) (l : Lane) → k < count → slot lanes k ≡ Some l → NotHeld flights spare k l
+
+-- the connection's Blocked goes
+pub record IsConnectionBlocked (lanes : Slots Lane) (flights : List Flight) (told : ℕ) (highest : Option ℕ) (b : Bounds) : Type 0 where
+  pub first : was_blocked highest told ≡ false
+  pub waits : IsHeldAt lanes flights b.spare
+  pub short : IsShort b (ConnectionDataBlocked told)
+
+-- ---- limits of this end's
+
+abbrev pub is_limit : Known → Bool
+is_limit (ConnectionMaxData value) = true
+is_limit (StreamMaxData k value) = true
+is_limit (StreamMaxMoney k value total) = true
+is_limit f = false
+
+-- a limit is above the mark
+abbrev pub is_above : Option ℕ → (limit : ℕ) → Bool
+is_above None limit = false
+is_above (Some m) limit = nat_lt m limit
+
+abbrev pub is_marked : Marks → Known → Bool
+is_marked m (ConnectionMaxData value) = is_above m.connection value
+is_marked m (StreamMaxData k value) = is_above (slot m.offsets k) value
+is_marked m (StreamMaxMoney k value total) = is_above (slot m.money k) value
+is_marked m f = false
+
+-- the frame of a limit goes
+pub record IsAwaited (m : Marks) (flights : List Flight) (b : Bounds) (f : Known) : Type 0 where
+  pub marked : is_marked m f ≡ true
+  pub idle : any_frame (tells f) flights ≡ false
+  pub short : IsShort b f
+
+abbrev pub NoneAwaited : Marks → List Flight → Bounds → (limits : List Known) → Type 0
+NoneAwaited m flights b limits = AllByRecursion (λ f. ¬ IsAwaited m flights b f) limits
+
+-- the marks once a limit was marked at its value
+abbrev pub marked : Marks → Known → Marks
+marked m (ConnectionMaxData value) = record m { connection = Some value }
+marked m (StreamMaxData k value) = record m { offsets = slice_set m.offsets k (Some value) }
+marked m (StreamMaxMoney k value total) = record m { money = slice_set m.money k (Some value) }
+marked m f = m
+
+-- and once a frame was fulfilled
+abbrev pub marks_acked : Marks → Known → Marks
+marks_acked m (ConnectionMaxData value) = record m { connection = mark_after m.connection value }
+marks_acked m (StreamMaxData k value) = record m { offsets = marks_after m.offsets k value }
+marks_acked m (StreamMaxMoney k value total) = record m { money = marks_after m.money k value }
+marks_acked m f = m
+
+abbrev pub marks_flown : Marks → Flown → Marks
+marks_flown m (Data k o n) = m
+marks_flown m (Whole f) = marks_acked m f
+
+abbrev pub all_marks_flown : Marks → List Flown → Marks
+all_marks_flown m [] = m
+all_marks_flown m (f ∷ fs) = all_marks_flown (marks_flown m f) fs
+
+-- the connection's highest limit for which a Blocked was fulfilled, once a frame was
+abbrev pub highest_acked : Option ℕ → Known → Option ℕ
+highest_acked highest (ConnectionDataBlocked limit) = higher highest limit
+highest_acked highest f = highest
+
+abbrev pub highest_flown : Option ℕ → Flown → Option ℕ
+highest_flown highest (Data k o n) = highest
+highest_flown highest (Whole f) = highest_acked highest f
+
+abbrev pub all_highest_flown : Option ℕ → List Flown → Option ℕ
+all_highest_flown highest [] = highest
+all_highest_flown highest (f ∷ fs) = all_highest_flown (highest_flown highest f) fs
+
+-- ---- a load of one notice
+
+-- nothing bars a load from going: how much may go is said by these bounds
+pub record IsUnbarred (s : Sending) (b : Bounds) : Type 0 where
+  pub alive : s.failed ≡ false
+  pub flights : length s.flights < s.config.in_flight
+  pub packets : s.last < s.config.packets
+  pub under : all_ends s [] ≤ s.told
+  pub spare : b.spare ≡ s.told - all_ends s []
+  pub sequence : b.sequence ≡ s.last + 1
+  pub small_spare : b.spare < 2 ^ 64
+  pub small_sequence : b.sequence < 2 ^ 32
+
+abbrev pub IsOfNotice : Load → Type 0
+IsOfNotice p = (n : Notice) × (p.frames ≡ telling n ∷ []) × (p.amount ≡ 0)
+
+-- no Blocked is due that the room takes
+abbrev pub NoneSaid : Sending → (limits : List Known) → Bounds → Type 0
+NoneSaid s limits b = (f : Known) → is_work f ≡ false → is_limit f ≡ false → IsDue s limits f → ¬ IsShort b f

@@ -1,0 +1,92 @@
+//! Where this end is stopped by the peer's limits.
+
+ghost use Rattle.std.specs.Prelude.{◌≡◌, true, false, ◌<◌, ◌^◌, length, MatchOption};
+ghost use Rattle.st_frames.specs.Frames.{ConnectionDataBlocked};
+ghost use Rattle.st_sender.specs.Due as due;
+ghost use Rattle.st_sender.specs.Shown.{telling};
+ghost use Rattle.st_sender.specs.Noticed.{IsBlockedAt, NoneBlocked, IsHeldAt, NoneHeld, IsConnectionBlocked};
+
+use crate::bounds::Bounds;
+use crate::load::Flight;
+use crate::notice::Notice;
+use crate::sizes::notice_size;
+use crate::stream::Stream;
+use st_oer::Rate;
+use std::alloc::Allocator;
+
+/// A Blocked was fulfilled for this limit, or for a higher one.
+pub fn was_blocked(highest: Option<u64>, limit: u64) -> bool
+    ensures { result ≡ due.was_blocked highest limit }
+{
+    match highest {
+        None => false,
+        Some(highest) => limit <= highest,
+    }
+}
+
+/// The Blocked of the first stream that has one.
+pub fn first_blocked<A: Allocator + Copy>(
+    streams: &[Option<Stream<A>>],
+    flights: &[Flight<A>],
+    least: Rate,
+    bounds: Bounds,
+) -> Option<Notice>
+    requires { length streams.now ≡ 65 }
+    ensures { MatchOption result (NoneBlocked streams.now flights.now least bounds 65) (λ n. IsBlockedAt streams.now flights.now least bounds (telling n)) }
+{
+    for number in 0..65_u8 {
+        if let Some(stream) = &streams[number as usize] {
+            if let Some(notice) = stream.blocked(flights, number, least, bounds) {
+                return Some(notice);
+            }
+        }
+    }
+    None
+}
+
+/// Whether bytes of a stream wait beyond how far the sum of the ends may rise.
+fn is_any_held<A: Allocator + Copy>(
+    streams: &[Option<Stream<A>>],
+    flights: &[Flight<A>],
+    spare: u128,
+) -> bool
+    requires small { spare < 2 ^ 64 }
+    requires streams { length streams.now ≡ 65 }
+    ensures yes { result ≡ true → IsHeldAt streams.now flights.now spare }
+    ensures no { result ≡ false → NoneHeld streams.now flights.now spare 65 }
+{
+    for number in 0..65_u8 {
+        if let Some(stream) = &streams[number as usize] {
+            if stream.is_held(flights, number, spare) {
+                return true;
+            }
+        }
+    }
+    false
+}
+
+/// The Blocked of the connection.
+pub fn connection_blocked<A: Allocator + Copy>(
+    streams: &[Option<Stream<A>>],
+    flights: &[Flight<A>],
+    told: u64,
+    highest: Option<u64>,
+    bounds: Bounds,
+) -> Option<Notice>
+    requires small { bounds.spare < 2 ^ 64 }
+    requires streams { length streams.now ≡ 65 }
+    ensures { MatchOption result (¬ IsConnectionBlocked streams.now flights.now told highest bounds) (λ n. (telling n ≡ ConnectionDataBlocked told) × IsConnectionBlocked streams.now flights.now told highest bounds) }
+{
+    let notice = Notice::ConnectionDataBlocked { max_offset: told };
+    if was_blocked(highest, told) {
+        return None;
+    }
+    if notice_size(bounds.sequence, notice) > bounds.room {
+        return None;
+    }
+    if is_any_held(streams, flights, bounds.spare) {
+        Some(notice)
+    } else {
+        None
+    }
+}
