@@ -18,12 +18,11 @@ use Rattle.st_keys.specs.Sealed.{sealed, sealed_text, sealed_packet}
 use Rattle.st_sender.specs.Sending.{Load, Flight, Sending}
 use Rattle.st_sender.specs.Flights.{flight_of, flight_at}
 use Rattle.st_sender.specs.Due.{IsDue}
-use Rattle.st_sender.specs.Loads.{Sends, with_flight}
-use Rattle.st_sender.specs.Plain.{IsPlainIdle}
+use Rattle.st_sender.specs.Loads.{Sends, with_flight, IsIdle}
 use Rattle.st_receiver.specs.Limits.{limits}
 use Rattle.st_end.specs.declared.flight.Open.{Open}
 use Rattle.st_end.specs.State.{EndState}
-use Rattle.st_end.specs.Sending.{Goes, GoesNonePlain}
+use Rattle.st_end.specs.Sending.{Goes, GoesNone}
 use Rattle.st_end.specs.Inside.{IsSpellable, IsSpelled}
 use Rattle.st_end.specs.Lawful.{IsLawful}
 
@@ -121,16 +120,16 @@ same_lawful e t m l a b =
 
 -- what next gives, where it is a load and where it is none
 abbrev Gave : Sending → (own : List Known) → Sending → Option Load → Type 0
-Gave s own t o = MatchOption o (IsPlainIdle s own max_packet × (t ≡ s)) (λ p. Sends s own max_packet p t)
+Gave s own t o = MatchOption o (IsIdle s own max_packet × (t ≡ s)) (λ p. Sends s own max_packet p t)
 
-pub sends_this : (s t : Sending) (own : List Known) (o : Option Load) (p : Load) → o ≡ Some p → MatchOption o (IsPlainIdle s own max_packet × (t ≡ s)) (λ q. Sends s own max_packet q t) → Sends s own max_packet p t
+pub sends_this : (s t : Sending) (own : List Known) (o : Option Load) (p : Load) → o ≡ Some p → MatchOption o (IsIdle s own max_packet × (t ≡ s)) (λ q. Sends s own max_packet q t) → Sends s own max_packet p t
 sends_this s t own o p e h = subst (λ (x : Option Load). Gave s own t x) e h
 
-pub sends_none : (s t : Sending) (own : List Known) (o : Option Load) → o ≡ None → MatchOption o (IsPlainIdle s own max_packet × (t ≡ s)) (λ q. Sends s own max_packet q t) → IsPlainIdle s own max_packet × (t ≡ s)
+pub sends_none : (s t : Sending) (own : List Known) (o : Option Load) → o ≡ None → MatchOption o (IsIdle s own max_packet × (t ≡ s)) (λ q. Sends s own max_packet q t) → IsIdle s own max_packet × (t ≡ s)
 sends_none s t own o e h = subst (λ (x : Option Load). Gave s own t x) e h
 
-pub none_goes : (e before : EndState) (t : Sending) → e ≡ before → IsPlainIdle e.sending (limits e.receiving) max_packet × (t ≡ e.sending) → GoesNonePlain before × ◌≡◌ {A = EndState} (record e { sending = t }) before
-none_goes e before t same h = (subst GoesNonePlain same (inr h.0), ap (λ (x : Sending). record e { sending = x }) h.1 ∙ same)
+pub none_goes : (e before : EndState) (t : Sending) → e ≡ before → IsIdle e.sending (limits e.receiving) max_packet × (t ≡ e.sending) → GoesNone before × ◌≡◌ {A = EndState} (record e { sending = t }) before
+none_goes e before t same h = (subst GoesNone same (inr h.0), ap (λ (x : Sending). record e { sending = x }) h.1 ∙ same)
 
 -- a load that was taken back
 pub undone : (e before : EndState) (t : Sending) (m : map.FinMap nat_cmp (List ℕ)) → e ≡ before → t ≡ e.sending → m ≡ e.conditions → ◌≡◌ {A = EndState} (record e { sending = t; conditions = m }) before

@@ -14,7 +14,6 @@ use Rattle.st_sender.specs.Sending as sender
 use Rattle.st_sender.specs.Sending.{Load, Sending}
 use Rattle.st_sender.specs.Flights.{flight_at}
 use Rattle.st_sender.specs.Loads.{Sends, IsIdle}
-use Rattle.st_sender.specs.Plain.{IsPlainIdle}
 use Rattle.st_receiver.specs.Limits.{limits}
 use Rattle.st_end.specs.declared.flight.Open.{Open}
 use Rattle.st_end.specs.State.{EndState}
@@ -78,7 +77,3 @@ pub record Goes (e : EndState) (iv : List ℕ) (now : ℤ) (flight : Open) (byte
 -- none goes: the peer closed the connection, or a limit that stands stops each due thing
 abbrev pub GoesNone : EndState → Type 0
 GoesNone e = (e.receiving.closed ≡ true) ⊎ IsIdle e.sending (limits e.receiving) max_packet
-
--- the same of data, money and closes alone: an end that sends no Blocked frames and no limits of its own
-abbrev pub GoesNonePlain : EndState → Type 0
-GoesNonePlain e = (e.receiving.closed ≡ true) ⊎ IsPlainIdle e.sending (limits e.receiving) max_packet

@@ -2,9 +2,8 @@
 //! be sent, and closes; `send` gives the bytes of the next Prepare and its `Flight`, `answer` and `fault` take what came back
 //! to it; `receive` answers the bytes of a Prepare, `read` gives what came. There is no I/O and no clock here.
 //! `specs/State.antt` says what an end is, `Calls` and `Reading` what a call answers and leaves, `Receiving` what becomes of
-//! bytes that came, `Answers` what becomes of those that came back, `Sending` what a Prepare that goes is: one of data, money
-//! and closes, since Blocked frames and limits of this end's own are not sent yet. A refusal changes nothing, and says its
-//! number by `number`.
+//! bytes that came, `Answers` what becomes of those that came back, `Sending` what a Prepare that goes is. A refusal changes
+//! nothing, and says its number by `number`.
 #![tactic(auto)]
 
 mod answer;

@@ -7,7 +7,10 @@ ghost use Rattle.st_ilp.specs.Laws.{IsPrepare};
 ghost use Rattle.st_ilp.specs.Seen.{prepare_seen};
 ghost use Rattle.st_ilp.specs.Spelling.{prepare_kind, prepare_text};
 ghost use Rattle.st_keys.specs.Sealed.{sealed_packet};
-ghost use Rattle.st_end.specs.Sending.{Spells, Goes, GoesNonePlain};
+ghost use Rattle.st_frames.specs.Frames.{max_packet};
+ghost use Rattle.st_receiver.specs.Limits.{limits};
+ghost use Rattle.st_sender.specs.Loads.{IsIdle, Sends};
+ghost use Rattle.st_end.specs.Sending.{Spells, Goes, GoesNone};
 ghost use Rattle.st_end.specs.Inside.{IsSpellable, IsSpelled};
 
 use crate::conditions::Conditions;
@@ -18,11 +21,27 @@ use crate::reply::PREPARE;
 use st_frames::MAX_PACKET;
 use st_ilp::{IlpError, Moment, Prepare, write_prepare};
 use st_keys::{KeyError, Keys, condition, payload_lengths};
-use st_sender::Load;
+use st_receiver::Intake;
+use st_sender::{Load, Outbox};
 use std::alloc::Allocator;
 
 /// The milliseconds that an answer may take.
 const ANSWER_TIME: i64 = 30_000;
+
+/// The load that goes next, where these limits of this end's stand.
+fn next_load<A: Allocator + Copy>(
+    outbox: &mut Outbox<A>,
+    intake: &Intake<A>,
+) -> Result<Option<Load<A>>, EndError>
+    ensures only_memory { IsOkUnless result EndError.NoMemory }
+    ensures sends { IfOk result (λ r. MatchOption r (IsIdle outbox.old (limits intake.now.state) max_packet × (outbox.new ≡ outbox.old)) (λ load. Sends outbox.old (limits intake.now.state) max_packet load outbox.new)) }
+    ensures unchanged { OnErr result (outbox.new ≡ outbox.old) }
+{
+    let Ok(limits) = intake.limits() else {
+        return Err(EndError::NoMemory);
+    };
+    Ok(outbox.next(MAX_PACKET, &limits)?)
+}
 
 /// The payload of a load, sealed under this IV.
 #[tactic(auto, using(crate::proofs::Going::seals))]
@@ -117,23 +136,24 @@ fn launch<A: Allocator + Copy>(
 
 impl<A: Allocator + Copy> EndState<A> {
     /// What goes next at this moment: a Prepare to the peer, sealed under this IV, and the flight that an answer to it spends
-    /// (RFC 0027, RFC 0029). It expires 30 seconds later. Its packet carries data, money and closes; Blocked frames and limits
-    /// of this end's own are not sent yet. `None` comes where the peer closed the connection, or where a limit that stands
-    /// stops each byte, each close and all money that is due. No two packets of a connection may have the same IV: that is
-    /// the caller's care. Refused is want of memory alone, and then nothing has changed.
+    /// (RFC 0027, RFC 0029). It expires 30 seconds later. Its packet carries data or a close, and money beside it; where none
+    /// of these may go, it has one Blocked frame, or one limit of this end's for which the peer said Blocked and that has
+    /// risen since. `None` comes where the peer closed the connection, or where a limit that stands stops each due thing. No
+    /// two packets of a connection may have the same IV: that is the caller's care. Refused is want of memory alone, and then
+    /// nothing has changed.
     pub fn send(
         &mut self,
         iv: [u8; 12],
         now: Moment,
     ) -> Result<Option<(Flight, Vec<u8, A>)>, EndError>
         ensures only_memory { IsOkUnless result EndError.NoMemory }
-        ensures goes { IfOk result (λ sent. MatchOption sent (GoesNonePlain self.old × (self.new ≡ self.old)) (λ x. Goes self.old iv now x.0 x.1.items self.new)) }
+        ensures goes { IfOk result (λ sent. MatchOption sent (GoesNone self.old × (self.new ≡ self.old)) (λ x. Goes self.old iv now x.0 x.1.items self.new)) }
         ensures unchanged { OnErr result (self.new ≡ self.old) }
     {
         if self.intake.is_closed() {
             return Ok(None);
         }
-        let Some(load) = self.outbox.next(MAX_PACKET)? else {
+        let Some(load) = next_load(&mut self.outbox, &self.intake)? else {
             return Ok(None);
         };
         match launch(
