@@ -2,8 +2,9 @@
 //!
 //! `arrive` takes the bytes of a Prepare and gives an answer, or the bytes that go on and a `Ticket`; `settle` ends
 //! the ticket with the answer that came back, and gives the bytes that go back. In between the hop holds the amount
-//! against the account that it came from. What an account owes the hop is its claims, what the hop owes it its dues.
-//! Time, accounts and bytes are arguments: no clock, socket or thread is known here.
+//! against the account that it came from; the Prepare goes on with what that amount is exchanged for at its route's
+//! rate. What an account owes the hop is its claims, what the hop owes it its dues. Time, accounts and bytes are
+//! arguments: no clock, socket or thread is known here.
 #![tactic(auto)]
 
 mod account;
@@ -27,7 +28,7 @@ pub use laws::{
     settlements_book, tickets_settle_once,
 };
 pub use refusal::Refusal;
-pub use route::Route;
+pub use route::{NextHop, Route};
 pub use settling::{Closing, Outcome};
 pub use ticket::{Open, Ticket};
 pub use verdict::Verdict;

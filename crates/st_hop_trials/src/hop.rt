@@ -38,14 +38,8 @@ pub(crate) fn new_hop<A: Allocator + Copy>(alloc: A) -> Result<HopState<A>, HopE
         max_packet: 1000,
     };
     let routes = [
-        Route {
-            prefix: "example",
-            account: 0,
-        },
-        Route {
-            prefix: "example.b",
-            account: 1,
-        },
+        Route::one_to_one("example", 0),
+        Route::one_to_one("example.b", 1),
     ];
     HopState::new(alloc, "example.c", &[account, account], &routes)
 }

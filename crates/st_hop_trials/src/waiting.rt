@@ -35,10 +35,7 @@ fn wide_hop<A: Allocator + Copy>(alloc: A) -> Result<HopState<A>, HopError> {
         limit: 5 * WAITING,
         max_packet: 1000,
     };
-    let route = Route {
-        prefix: "example.b",
-        account: 1,
-    };
+    let route = Route::one_to_one("example.b", 1);
     HopState::new(alloc, "example.c", &[account, account], &[route])
 }
 
@@ -123,14 +120,8 @@ fn a_bad_table_is_told_without_memory(rt: HostRuntime) -> Result<(), Fail> {
         limit: 1,
         max_packet: 1,
     };
-    let route = Route {
-        prefix: "example",
-        account: 0,
-    };
-    let other = Route {
-        prefix: "example.b",
-        account: 0,
-    };
+    let route = Route::one_to_one("example", 0);
+    let other = Route::one_to_one("example.b", 0);
     let heap: Refusing<Global> = Refusing::new(rt.alloc());
     for n in 1..=crate::LAST {
         heap.refuse_from(n);
