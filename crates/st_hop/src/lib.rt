@@ -25,7 +25,7 @@ pub use error::HopError;
 pub use hop::HopState;
 pub use laws::{
     arrivals_go_across, every_run_balances, every_run_is_lawful, longest_route_law,
-    settlements_book, tickets_settle_once,
+    prepares_go_on_as_routed, settlements_book, tickets_settle_once,
 };
 pub use refusal::Refusal;
 pub use route::{NextHop, Route};
