@@ -1,6 +1,6 @@
 //! What lies under a hop's lock.
 
-ghost use Rattle.std.specs.Prelude.{◌≡◌, ◌≢◌, ◌+◌, ◌<◌, length, nat_lt, sum, vec_len, OnOk, OnErr, IfOk, IfErr, IsErrOf, IsOkUnless, MatchBool};
+ghost use Rattle.std.specs.Prelude.{◌≡◌, ◌+◌, ◌<◌, length, nat_lt, sum, vec_len, OnOk, OnErr, IfOk, IfErr, IsErrOf, IsOkUnless, MatchBool};
 ghost use Rattle.std.specs.List.{sum_by};
 ghost use Rattle.st_ilp.specs.Reading.{is_fulfill_text};
 ghost use Rattle.st_hop.specs.Tickets.{IsAmong};
@@ -192,9 +192,9 @@ impl<C: Ledger, D: Ledger, A: Allocator + Copy> HopDesk<C, D, A> {
         ensures claims { IfOk result (λ n. (n.claims ≡ sum self.old.hop.claims) × (n.claims ≡ self.old.kept_claims + sum_by claims_in shares.items)) }
         ensures dues { IfOk result (λ n. (n.dues ≡ sum self.old.hop.dues) × (n.dues ≡ self.old.kept_dues + sum_by dues_in shares.items)) }
         ensures all_here { IfOk result (λ n. (vec_len shares ≡ self.old.out) × (self.new ≡ record self.old { out = 0; kept_claims = n.claims; kept_dues = n.dues })) }
-        ensures missing { IfErr result (λ back. (back ≡ (MissingShare, shares)) × (vec_len shares ≢ self.old.out) × (self.new ≡ self.old)) }
+        ensures missing { IfErr result (λ back. (back ≡ (MissingShare, shares)) × (vec_len shares < self.old.out) × (self.new ≡ self.old)) }
     {
-        if shares.len() as u64 != self.out {
+        if (shares.len() as u64) < self.out {
             return Err((DeskError::MissingShare, shares));
         }
         let HopDesk {

@@ -43,10 +43,7 @@ pub(crate) fn new_hop<A: Allocator + Copy>(alloc: A) -> Result<HopState<A>, HopE
         limit: 100,
         max_packet: 1000,
     };
-    let routes = [Route {
-        prefix: "example.b",
-        account: 1,
-    }];
+    let routes = [Route::one_to_one("example.b", 1)];
     HopState::new(alloc, "example.c", &[account, account], &routes)
 }
 

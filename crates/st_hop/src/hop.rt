@@ -1,6 +1,7 @@
 //! The state of a hop.
 
-ghost use Rattle.std.specs.Prelude.{◌≡◌, ◌<◌, ◌≤◌, ◌≤ℤ◌, pos, ◌+◌, [], ℕ, false, length, map, sum, IfOk, OnErr, IsErrOf, IsTrue, IsOkUnless, ◌↔◌, nat_lt, slice_index, if◌then◌else◌, None, MatchBool};
+ghost use Rattle.std.specs.Prelude.{◌≡◌, ◌<◌, ◌≤◌, ◌≤ℤ◌, pos, ◌+◌, ◌^◌, [], ℕ, false, length, map, sum, IfOk, OnErr, IsErrOf, IsTrue, IsOkUnless, ◌↔◌, nat_lt, slice_index, if◌then◌else◌, None, MatchBool};
+ghost use Rattle.st_oer.specs.Ratios.{exchanged};
 ghost use Rattle.st_ilp.specs.Writing.{prepare_refusal};
 ghost use Rattle.st_ilp.specs.Seen.{prepare_seen};
 ghost use Rattle.st_hop.specs.Refusals.{reject_text, payload_of, t00_text};
@@ -18,13 +19,14 @@ use crate::account::{Account, lower, raise, zeros};
 use crate::error::HopError;
 use crate::refusal::Refusal;
 use crate::room::{Room, reject};
-use crate::route::{Route, Routes};
+use crate::route::{NextHop, Route, Routes};
 use crate::settling::{Closing, Outcome, conclude};
 use crate::table::{MAX_SUM, routes_of};
 use crate::ticket::{Open, Ticket};
 use crate::verdict::Verdict;
 use crate::waiting::{Waiting, is_waiting};
 use st_ilp::{IlpError, Moment, Prepare, answer_law, read_prepare, write_prepare};
+use st_oer::Rate;
 use std::alloc::Allocator;
 use std::collections::BTreeMap;
 use std::marker::Model;
@@ -76,13 +78,14 @@ fn is_beyond(account: &Account, claims: u64, held: u64, dues: u64, amount: u64) 
         < u128::from(claims) + u128::from(held) + u128::from(amount)
 }
 
-/// The Prepare as it goes on.
-fn onward<'b>(prepare: &Prepare<'b>) -> Prepare<'b>
-    requires { pos 1000 ≤ℤ prepare.now.expiry }
-    ensures { prepare_seen result ≡ onward (prepare_seen prepare.now) }
+/// The Prepare as it goes on at a rate.
+fn onward<'b>(prepare: &Prepare<'b>, rate: Rate) -> Prepare<'b>
+    requires time { pos 1000 ≤ℤ prepare.now.expiry }
+    requires amount { exchanged rate prepare.now.amount < 2 ^ 64 }
+    ensures { prepare_seen result ≡ onward rate (prepare_seen prepare.now) }
 {
     Prepare {
-        amount: prepare.amount,
+        amount: rate.of(prepare.amount) as u64,
         expiry: prepare.expiry - HOP_TIME,
         condition: prepare.condition,
         destination: prepare.destination,
@@ -123,7 +126,7 @@ impl<A: Allocator + Copy> HopState<A> {
         })
     }
 
-    /// What an account owes the hop: the amounts of the fulfilled Prepares that came from it. It takes no memory.
+    /// What an account owes the hop: the amounts with which the fulfilled Prepares came from it. It takes no memory.
     ///
     /// Refuses with `NoAccount` where there is no such account.
     pub fn claims(&self, account: usize) -> Result<u64, HopError>
@@ -132,7 +135,7 @@ impl<A: Allocator + Copy> HopState<A> {
         self.claims.get(account).copied().ok_or(HopError::NoAccount)
     }
 
-    /// What the hop owes an account: the amounts of the fulfilled Prepares that went to it. It takes no memory.
+    /// What the hop owes an account: the amounts with which the fulfilled Prepares went to it. It takes no memory.
     ///
     /// Refuses with `NoAccount` where there is no such account.
     pub fn dues(&self, account: usize) -> Result<u64, HopError>
@@ -178,23 +181,23 @@ impl<A: Allocator + Copy> HopState<A> {
         is_waiting(&self.waiting, ticket.read())
     }
 
-    /// Whether the amount goes past the account's limit, or a sum of the hop past 2^63 - 1.
-    fn is_over_limit(&self, account: usize, amount: u64) -> bool
+    /// Whether what is received goes past the account's limit, or with what is sent for it a sum of the hop past 2^63 - 1.
+    fn is_over_limit(&self, account: usize, received: u64, sent: u128) -> bool
         requires { account < length self.now.accounts }
-        ensures { result ≡ is_over_limit self.now account amount amount }
+        ensures { result ≡ is_over_limit self.now account received sent }
     {
         is_beyond(
             &self.accounts[account],
             self.claims[account],
             self.held[account],
             self.dues[account],
-            amount,
-        ) || u128::from(self.claimed) + u128::from(amount) > u128::from(MAX_SUM)
-            || u128::from(self.due) + u128::from(amount) > u128::from(MAX_SUM)
+            received,
+        ) || received > MAX_SUM - self.claimed
+            || sent > u128::from(MAX_SUM - self.due)
     }
 
-    /// The account to which a Prepare goes on, or the first rule that stops it.
-    fn judge(&self, account: usize, prepare: &Prepare<'_>, now: Moment) -> Result<usize, Refusal>
+    /// Where a Prepare goes on, or the first rule that stops it.
+    fn judge(&self, account: usize, prepare: &Prepare<'_>, now: Moment) -> Result<NextHop, Refusal>
         requires { account < length self.now.accounts }
         ensures { result ≡ judged self.now account (prepare_seen prepare.now) now }
     {
@@ -208,19 +211,19 @@ impl<A: Allocator + Copy> HopState<A> {
         if prepare.expiry <= now.ms() + HOP_TIME {
             return Err(Refusal::InsufficientTimeout);
         }
-        let Some(outgoing) = self.routes.account_of(prepare.destination) else {
+        let Some(next) = self.routes.find(prepare.destination) else {
             return Err(Refusal::Unreachable);
         };
-        if outgoing == account {
+        if next.account == account {
             return Err(Refusal::Unreachable);
         }
-        if self.is_over_limit(account, prepare.amount) {
+        if self.is_over_limit(account, prepare.amount, next.rate.of(prepare.amount)) {
             return Err(Refusal::InsufficientLiquidity);
         }
         if self.next == u64::MAX {
             return Err(Refusal::InternalError);
         }
-        Ok(outgoing)
+        Ok(next)
     }
 
     /// The answer with the hop's own Reject.
@@ -272,35 +275,36 @@ impl<A: Allocator + Copy> HopState<A> {
     fn forward(
         &mut self,
         incoming: usize,
-        outgoing: usize,
+        next: NextHop,
         prepare: &Prepare<'_>,
     ) -> Result<Verdict<A>, HopError>
         requires incoming { incoming < length self.old.accounts }
-        requires outgoing { outgoing < length self.old.accounts }
-        requires fits { is_over_limit self.old incoming prepare.now.amount prepare.now.amount ≡ false }
+        requires outgoing { next.account < length self.old.accounts }
+        requires fits { is_over_limit self.old incoming prepare.now.amount (exchanged next.rate prepare.now.amount) ≡ false }
         requires number { self.old.next < last_next }
         requires time { pos 1000 ≤ℤ prepare.now.expiry }
-        requires written { prepare_refusal (onward (prepare_seen prepare.now)) ≡ None }
-        ensures sent { IfOk result (λ v. sent_on self.old incoming (prepare_seen prepare.now) (Ok outgoing) ≡ (verdict_seen v, self.new)) }
+        requires written { prepare_refusal (onward next.rate (prepare_seen prepare.now)) ≡ None }
+        ensures sent { IfOk result (λ v. sent_on self.old incoming (prepare_seen prepare.now) (Ok next) ≡ (verdict_seen v, self.new)) }
         ensures only_memory { IsOkUnless result HopError.NoMemory }
         ensures unchanged { OnErr result (self.new ≡ self.old) }
     {
-        let sent = onward(prepare);
+        let sent = onward(prepare, next.rate);
         let bytes = match write_prepare(self.alloc, &sent) {
             Ok(bytes) => bytes,
             Err(IlpError::NoMemory) => return Err(HopError::NoMemory),
             Err(_) => unreachable!(),
         };
-        let ticket = self.hold(incoming, outgoing, prepare, &sent)?;
+        let ticket = self.hold(incoming, next.account, prepare, &sent)?;
         Ok(Verdict::Forward {
             ticket,
-            account: outgoing,
+            account: next.account,
             bytes,
         })
     }
 
     /// Takes the bytes of a Prepare that came from an account: gives the Prepare that goes on, with a ticket for its
-    /// answer, or the Reject that answers it (RFC 0027). The amount of one that goes on is held against the account.
+    /// answer, or the Reject that answers it (RFC 0027). The amount of one that goes on is held against the account; it
+    /// goes on with what the rate of its route gives for that amount, rounded down, which may be 0.
     ///
     /// The ticket is open afterwards, as `settle` asks. Once 2^64 - 1 tickets were given out, the answer is T00. Refuses
     /// with `NoAccount` where there is no such account, and else with `NoMemory` where memory was refused.
@@ -324,7 +328,7 @@ impl<A: Allocator + Copy> HopState<A> {
             return self.refuse(Refusal::InvalidPacket);
         };
         match self.judge(account, &prepare, now) {
-            Ok(outgoing) => self.forward(account, outgoing, &prepare),
+            Ok(next) => self.forward(account, next, &prepare),
             Err(refusal) => self.refuse(refusal),
         }
     }

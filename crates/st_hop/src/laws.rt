@@ -7,7 +7,9 @@ ghost use Rattle.st_hop.specs.declared.ticket.Open as tickets;
 ghost use Rattle.st_hop.specs.Hop.{Hop, Way, held_for, due_for};
 ghost use Rattle.st_hop.specs.Tickets.{IsAmong};
 ghost use Rattle.st_hop.specs.Arriving.{Forwards, arrived};
-ghost use Rattle.st_ilp.specs.Reading.{is_fulfill_text};
+ghost use Rattle.st_hop.specs.Exchanging.{GoesAsRouted};
+ghost use Rattle.st_ilp.specs.Packets.{PreparePacket};
+ghost use Rattle.st_ilp.specs.Reading.{prepare_at, is_fulfill_text};
 ghost use Rattle.st_hop.specs.Settling.{settled, claim_of, due_of, is_booked, KeepsRest};
 ghost use Rattle.st_hop.specs.Table.{is_table, new_hop};
 ghost use Rattle.st_hop.specs.Lawful.{IsLawful};
@@ -42,6 +44,12 @@ pub fn tickets_settle_once()
 pub fn arrivals_go_across()
     ensures across { (h : Hop) (account : ℕ) (bytes : List ℕ) (now : ℤ) → IsLawful h → (t : tickets.Open) (outgoing : ℕ) (text : List ℕ) → (arrived h account bytes now).0 ≡ Forwards t outgoing text → (outgoing < length h.accounts) × (outgoing ≢ account) }
     ensures nothing_booked { (h : Hop) (account : ℕ) (bytes : List ℕ) (now : ℤ) → ((arrived h account bytes now).1.claims ≡ h.claims) × ((arrived h account bytes now).1.dues ≡ h.dues) }
+{}
+
+/// A Prepare that goes on goes to the account of its longest route, with no more than that route's rate gives for its
+/// amount, and less than one unit below it.
+pub fn prepares_go_on_as_routed()
+    ensures { (h : Hop) (account : ℕ) (bytes : List ℕ) (p : PreparePacket) (now : ℤ) → prepare_at bytes ≡ Ok p → (t : tickets.Open) (outgoing : ℕ) (text : List ℕ) → (arrived h account bytes now).0 ≡ Forwards t outgoing text → GoesAsRouted h p t outgoing }
 {}
 
 /// Settling an open ticket raises the sum of all claims by the ticket's amount where it was fulfilled, and the sum of all

@@ -31,6 +31,16 @@ pub(crate) fn moment(rt: &impl Abort, ms: i64) -> Moment {
     Moment::new(ms).expect(rt, "a moment")
 }
 
+/// The route of `example`, to account 0.
+pub(crate) fn root() -> Route<'static> {
+    Route::one_to_one("example", 0)
+}
+
+/// A route of what lies within it, to the same account.
+pub(crate) fn behind() -> Route<'static> {
+    Route::one_to_one("example.b", 0)
+}
+
 /// A hop with nothing owed; each account may owe 100 and send 1,000 in a packet.
 pub(crate) fn new_hop<A: Allocator + Copy>(alloc: A) -> Result<HopState<A>, HopError> {
     let account = Account {
@@ -38,14 +48,8 @@ pub(crate) fn new_hop<A: Allocator + Copy>(alloc: A) -> Result<HopState<A>, HopE
         max_packet: 1000,
     };
     let routes = [
-        Route {
-            prefix: "example",
-            account: 0,
-        },
-        Route {
-            prefix: "example.b",
-            account: 1,
-        },
+        Route::one_to_one("example", 0),
+        Route::one_to_one("example.b", 1),
     ];
     HopState::new(alloc, "example.c", &[account, account], &routes)
 }

@@ -1,6 +1,6 @@
 //! A hop at which a thousand Prepares wait, and one whose table is malformed, under refused memory.
 
-use crate::hop::{EXPIRY, PREPARE, moment};
+use crate::hop::{EXPIRY, PREPARE, behind, moment, root};
 use refusing::Refusing;
 use st_hop::{Account, HopError, HopState, Outcome, Route, Ticket, Verdict};
 use std::alloc::{Allocator, Global};
@@ -35,10 +35,7 @@ fn wide_hop<A: Allocator + Copy>(alloc: A) -> Result<HopState<A>, HopError> {
         limit: 5 * WAITING,
         max_packet: 1000,
     };
-    let route = Route {
-        prefix: "example.b",
-        account: 1,
-    };
+    let route = Route::one_to_one("example.b", 1);
     HopState::new(alloc, "example.c", &[account, account], &[route])
 }
 
@@ -123,22 +120,15 @@ fn a_bad_table_is_told_without_memory(rt: HostRuntime) -> Result<(), Fail> {
         limit: 1,
         max_packet: 1,
     };
-    let route = Route {
-        prefix: "example",
-        account: 0,
-    };
-    let other = Route {
-        prefix: "example.b",
-        account: 0,
-    };
     let heap: Refusing<Global> = Refusing::new(rt.alloc());
     for n in 1..=crate::LAST {
         heap.refuse_from(n);
-        let answer = HopState::new(&heap, "example.c", &[account], &[route, other, route]);
+        let routes = [root(), behind(), root()];
+        let answer = HopState::new(&heap, "example.c", &[account], &routes);
         assert!(rt; matches!(&answer, Err(HopError::BadTable)), "at {n}");
     }
     heap.refuse_from(1);
-    let answer = HopState::new(&heap, "example.c", &[account], &[route, other]);
+    let answer = HopState::new(&heap, "example.c", &[account], &[root(), behind()]);
     assert!(rt; matches!(&answer, Err(HopError::NoMemory)));
     Ok(())
 }

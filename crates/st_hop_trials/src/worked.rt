@@ -1,9 +1,11 @@
+use crate::hop::{behind, root};
 use st_hop::{Account, HopError, HopState, Outcome, Route, Ticket, Verdict};
 use st_ilp::Moment;
 use std::alloc::{AllocError, Global};
 use std::process::Abort;
 use std::test::Fail;
 
+mod rates;
 mod tickets;
 
 /// 2024-01-02 03:04:05.006 and the moment a second before it.
@@ -22,14 +24,8 @@ const ZERO_DIGEST: [u8; 32] = [
 fn hop(alloc: Global, limit: u64, max_packet: u64) -> Result<HopState<Global>, HopError> {
     let accounts = [Account { limit, max_packet }, Account { limit, max_packet }];
     let routes = [
-        Route {
-            prefix: "example",
-            account: 0,
-        },
-        Route {
-            prefix: "example.b",
-            account: 1,
-        },
+        Route::one_to_one("example", 0),
+        Route::one_to_one("example.b", 1),
     ];
     HopState::new(alloc, "example.c", &accounts, &routes)
 }
@@ -359,30 +355,16 @@ fn is_bad(alloc: Global, own: &str, limit: u64, routes: &[Route<'_>]) -> bool {
 #[test]
 fn bad_tables(rt: HostRuntime) -> Result<(), Fail> {
     let alloc = rt.alloc();
-    let route = Route {
-        prefix: "example",
-        account: 0,
-    };
-    let longer = Route {
-        prefix: "example.b",
-        account: 0,
-    };
-    let nameless = Route {
-        prefix: "",
-        account: 0,
-    };
-    let astray = Route {
-        prefix: "example",
-        account: 1,
-    };
-    assert!(rt; !is_bad(alloc, "example.c", 1, &[route]));
-    assert!(rt; is_bad(alloc, "example..c", 1, &[route]));
+    let nameless = Route::one_to_one("", 0);
     assert!(rt; is_bad(alloc, "example.c", 1, &[nameless]));
+    let astray = Route::one_to_one("example", 1);
     assert!(rt; is_bad(alloc, "example.c", 1, &[astray]));
-    assert!(rt; is_bad(alloc, "example.c", 1, &[route, route]));
-    assert!(rt; is_bad(alloc, "example.c", 1, &[route, longer, route]));
-    assert!(rt; !is_bad(alloc, "example.c", 1, &[route, longer]));
-    assert!(rt; is_bad(alloc, "example.c", 1 << 63, &[route]));
+    assert!(rt; !is_bad(alloc, "example.c", 1, &[root()]));
+    assert!(rt; is_bad(alloc, "example..c", 1, &[root()]));
+    assert!(rt; is_bad(alloc, "example.c", 1, &[root(), root()]));
+    assert!(rt; is_bad(alloc, "example.c", 1, &[root(), behind(), root()]));
+    assert!(rt; !is_bad(alloc, "example.c", 1, &[root(), behind()]));
+    assert!(rt; is_bad(alloc, "example.c", 1 << 63, &[root()]));
     Ok(())
 }
 

@@ -1,5 +1,5 @@
 -- What an end and a hop answer or put, as moves.
-use Rattle.std.proofs.Common.{◌≡◌, ℕ, zero, suc, Result, Ok, Err, Bool, true, false, not, cond, List, [], slice_get, refl, sym, ap, subst, ◌∙◌, ℤ, Option, None, Some, inl, inr, nat_lt, nat_eq, nat_le}
+use Rattle.std.proofs.Common.{◌≡◌, ℕ, zero, suc, ◌<◌, ◌^◌, arith, Result, Ok, Err, Bool, true, false, not, cond, List, [], slice_get, refl, sym, ap, subst, ◌∙◌, ℤ, Option, None, Some, inl, inr, nat_lt, nat_eq, nat_le}
 use Rattle.std.specs.Prelude.{int_le, int_lt, ◌+ℤ◌, pos, ◌≤ℤ◌}
 use Rattle.st_oer.specs.Address.{is_within}
 use Rattle.st_ilp.specs.Packets.{PreparePacket, AnswerPacket, Fulfilled, Rejected}
@@ -12,11 +12,14 @@ use Rattle.st_keys.specs.Keys.{fulfillment}
 use Rattle.st_keys.specs.Sealed.{opened}
 use Rattle.st_keys.specs.declared.error.KeyError.{KeyError}
 use Rattle.st_hop.specs.declared.ticket.Open.{Open}
+use Rattle.st_hop.specs.declared.route.NextHop.{NextHop}
 use Rattle.st_hop.specs.Hop.{Hop, Way, account_at, is_over_limit, holding, last_next}
 use Rattle.st_hop.specs.Tickets.{ticket_at}
 use Rattle.st_hop.specs.Refusals.{reject_text, code_of, payload_of}
 use Rattle.st_hop.specs.Routing.{route_to}
+use Rattle.st_hop.specs.Ways.{next_hop}
 use Rattle.st_hop.specs.Arriving.{Arrival, Answers, Forwards, arrived, at_packet, sent_on, judged, routed, onward, hop_time}
+use Rattle.st_hop.proofs.Kept.{fits as fits_limits}
 use Rattle.st_hop.specs.Settling.{fits, closing_of, closed, settled, books, is_booked}
 use Rattle.st_sender.specs.Sending.{Flight}
 use Rattle.st_sender.specs.Flights.{flight_at}
@@ -102,7 +105,7 @@ ArrivalIs h way bytes (Forwards t outgoing next) after =
     × ((prepare_in next).payload ≡ (prepare_in bytes).payload) × IsSpelled next × (after ≡ holding h t)
 
 -- a route that is told, or a refusal
-sent_cond : (h : Hop) (way : Side) (bytes : List ℕ) (p : PreparePacket) (b : Bool) (x y : Result ℕ _) → ArrivalIs h way bytes (sent_on h (account_from way) p x).0 (sent_on h (account_from way) p x).1 → (b ≡ false → ArrivalIs h way bytes (sent_on h (account_from way) p y).0 (sent_on h (account_from way) p y).1) → ArrivalIs h way bytes (sent_on h (account_from way) p (cond b x y)).0 (sent_on h (account_from way) p (cond b x y)).1
+sent_cond : (h : Hop) (way : Side) (bytes : List ℕ) (p : PreparePacket) (b : Bool) (x y : Result NextHop _) → ArrivalIs h way bytes (sent_on h (account_from way) p x).0 (sent_on h (account_from way) p x).1 → (b ≡ false → ArrivalIs h way bytes (sent_on h (account_from way) p y).0 (sent_on h (account_from way) p y).1) → ArrivalIs h way bytes (sent_on h (account_from way) p (cond b x y)).0 (sent_on h (account_from way) p (cond b x y)).1
 sent_cond h way bytes p true x y f g = f
 sent_cond h way bytes p false x y f g = g refl
 
@@ -110,18 +113,23 @@ sent_refused : (h : Hop) (way : Side) (bytes : List ℕ) (p : PreparePacket) (re
 unfolding ArrivalIs
 sent_refused h way bytes p refusal = (reject_text_fails h.own refusal, refl)
 
-sent_forward : (h : Hop) (way : Side) (bytes : List ℕ) (p : PreparePacket) (now : ℤ) (outgoing : ℕ) → IsPrepare p → prepare_in bytes ≡ p → pos 0 ≤ℤ now → int_le p.expiry (now +ℤ hop_time) ≡ false → ArrivalIs h way bytes (sent_on h (account_from way) p (Ok outgoing)).0 (sent_on h (account_from way) p (Ok outgoing)).1
+-- an amount that fits the hop's sums fits a Prepare
+small_enough : (h : Hop) (account received sent : ℕ) → is_over_limit h account received sent ≡ false → sent < 2 ^ 64
+small_enough h account received sent e = let l = (fits_limits h account received sent e).due in omega (arith, l)
+
+sent_forward : (h : Hop) (way : Side) (bytes : List ℕ) (p : PreparePacket) (now : ℤ) (to : NextHop) → IsPrepare p → prepare_in bytes ≡ p → pos 0 ≤ℤ now → int_le p.expiry (now +ℤ hop_time) ≡ false → is_over_limit h (account_from way) p.amount (onward to.rate p).amount ≡ false
+    → ArrivalIs h way bytes (sent_on h (account_from way) p (Ok to)).0 (sent_on h (account_from way) p (Ok to)).1
 unfolding ArrivalIs
-sent_forward h way bytes p now outgoing is same from late =
-    let good = goes_on p now is from late in
-    let next = spelled_at (onward p) good in
-    (refl, refl, refl, ap (λ (q : PreparePacket). q.amount) (sym same), ap (λ (q : PreparePacket). q.amount) (sym next), ap (λ (q : PreparePacket). q.payload) next ∙ ap (λ (q : PreparePacket). q.payload) (sym same), (onward p, good, refl), refl)
+sent_forward h way bytes p now to is same from late under =
+    let good = goes_on to.rate p now is from late (small_enough h (account_from way) p.amount (onward to.rate p).amount under) in
+    let next = spelled_at (onward to.rate p) good in
+    (refl, refl, refl, ap (λ (q : PreparePacket). q.amount) (sym same), ap (λ (q : PreparePacket). q.amount) (sym next), ap (λ (q : PreparePacket). q.payload) next ∙ ap (λ (q : PreparePacket). q.payload) (sym same), (onward to.rate p, good, refl), refl)
 
 routed_is : (h : Hop) (way : Side) (bytes : List ℕ) (p : PreparePacket) (now : ℤ) (o : Option Way) → IsPrepare p → prepare_in bytes ≡ p → pos 0 ≤ℤ now → int_le p.expiry (now +ℤ hop_time) ≡ false → ArrivalIs h way bytes (sent_on h (account_from way) p (routed h (account_from way) p o)).0 (sent_on h (account_from way) p (routed h (account_from way) p o)).1
 routed_is h way bytes p now None is same from late = sent_refused h way bytes p _
 routed_is h way bytes p now (Some r) is same from late =
     sent_cond h way bytes p (nat_eq r.account (account_from way)) (Err _) _ (sent_refused h way bytes p _)
-    (λ apart. sent_cond h way bytes p (is_over_limit h (account_from way) p.amount (onward p).amount) (Err _) _ (sent_refused h way bytes p _) (λ under. sent_cond h way bytes p (nat_le last_next h.next) (Err _) (Ok r.account) (sent_refused h way bytes p _) (λ left. sent_forward h way bytes p now r.account is same from late)))
+    (λ apart. sent_cond h way bytes p (is_over_limit h (account_from way) p.amount (onward r.rate p).amount) (Err _) _ (sent_refused h way bytes p _) (λ under. sent_cond h way bytes p (nat_le last_next h.next) (Err _) (Ok (next_hop r)) (sent_refused h way bytes p _) (λ left. sent_forward h way bytes p now (next_hop r) is same from late under)))
 
 judged_sent : (h : Hop) (way : Side) (bytes : List ℕ) (p : PreparePacket) (now : ℤ) → IsPrepare p → prepare_in bytes ≡ p → pos 0 ≤ℤ now → ArrivalIs h way bytes (sent_on h (account_from way) p (judged h (account_from way) p now)).0 (sent_on h (account_from way) p (judged h (account_from way) p now)).1
 judged_sent h way bytes p now is same from =

@@ -1,8 +1,9 @@
 -- Which bytes spell a Prepare, a Fulfill or none.
-use Rattle.std.proofs.Common.{◌≡◌, ℕ, ◌≤◌, Result, Ok, Err, true, false, List, [], ◌∷◌, length, take, min, refl, ap, subst, ◌∙◌, arith, ℤ, nat_le, length-take}
+use Rattle.std.proofs.Common.{◌≡◌, ℕ, ◌<◌, ◌≤◌, ◌^◌, Result, Ok, Err, true, false, List, [], ◌∷◌, length, take, min, refl, ap, subst, ◌∙◌, arith, ℤ, nat_le, length-take}
 use Rattle.std.specs.Prelude.{int_le, pos, neg_ℤ, ◌+ℤ◌, ◌-ℤ◌, ◌≤ℤ◌}
 use Rattle.std.proofs.lemmas.Int.{ints}
 use Rattle.std.proofs.lemmas.Bool.Decides.{nat_tests}
+use Rattle.st_oer.specs.Ratios.{Ratio, exchanged}
 use Rattle.st_ilp.specs.Packets.{PreparePacket, Fulfilled, Rejected}
 use Rattle.st_ilp.specs.Reading.{prepare_at, fulfills, is_fulfill_text}
 use Rattle.st_ilp.specs.Spelling.{fulfill_kind, prepare_text, answer_text}
@@ -37,14 +38,14 @@ spelled_reads bytes q h e =
     (subst IsPrepare same h.1, ap prepare_or_none e)
 
 -- a Prepare that has time left is one after the hop took its part
-pub goes_on : (p : PreparePacket) (now : ℤ) → IsPrepare p → pos 0 ≤ℤ now → int_le p.expiry (now +ℤ hop_time) ≡ false → IsPrepare (onward p)
-goes_on p now h from late =
+pub goes_on : (rate : Ratio) (p : PreparePacket) (now : ℤ) → IsPrepare p → pos 0 ≤ℤ now → int_le p.expiry (now +ℤ hop_time) ≡ false → exchanged rate p.amount < 2 ^ 64 → IsPrepare (onward rate p)
+goes_on rate p now h from late less =
     let bounds = two_parts (int_le (neg_ℤ (pos 62_167_219_200_000)) p.expiry) (int_le p.expiry (pos 253_402_300_799_999)) h.expiry in
     let last = le_is p.expiry (pos 253_402_300_799_999) bounds.1 in
     let left = not_le_is p.expiry (now +ℤ hop_time) late in
     let low = is_le (neg_ℤ (pos 62_167_219_200_000)) (p.expiry -ℤ hop_time) (omega (arith, ints, from, left)) in
     let high = is_le (p.expiry -ℤ hop_time) (pos 253_402_300_799_999) (omega (arith, ints, last)) in
-    record { amount = h.amount; expiry = rw (low, high) refl; condition = h.condition; destination = h.destination; payload = h.payload }
+    record { amount = less; expiry = rw (low, high) refl; condition = h.condition; destination = h.destination; payload = h.payload }
 
 -- ---- answers
 

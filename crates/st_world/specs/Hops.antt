@@ -5,7 +5,7 @@ use Rattle.std.specs.declared.option.Option.TheVariants.{None, Some}
 use Rattle.st_hop.specs.declared.ticket.Open.{Open}
 use Rattle.st_hop.specs.Hop.{Hop}
 use Rattle.st_hop.specs.Tickets.{ticket_at}
-use Rattle.st_hop.specs.Arriving.{Arrival, Answers, Forwards, onward, arrived}
+use Rattle.st_hop.specs.Arriving.{Arrival, Answers, Forwards, arrived}
 use Rattle.st_hop.specs.Settling.{settled, is_booked}
 use Rattle.st_end.specs.Receiving.{prepare_in}
 use Rattle.st_world.specs.Sides.{Side}
@@ -15,9 +15,9 @@ use Rattle.st_world.specs.Ends.{given_by, taken_if}
 
 -- ---- a Prepare comes to a hop: it answers, or the Prepare goes on
 
--- of a Prepare that went nowhere: with the amount that would have gone on
+-- of a Prepare that went nowhere: its amount was not exchanged
 abbrev pub reject_entry : (account : ℕ) → (bytes : List ℕ) → HopEntry
-reject_entry account bytes = record { incoming = account; outgoing = None; amount_in = (prepare_in bytes).amount; amount_out = (onward (prepare_in bytes)).amount; fulfilled = false }
+reject_entry account bytes = record { incoming = account; outgoing = None; amount_in = (prepare_in bytes).amount; amount_out = (prepare_in bytes).amount; fulfilled = false }
 
 abbrev pub answered_at_hop : World → (link : ℕ) → (way : Side) → (which : ℕ) → (bytes : List ℕ) → (i : ℕ) → Node → Hop → (answer : List ℕ) → World
 answered_at_hop w link way which bytes i n h answer = with_given (with_hop_entry w i n h (reject_entry (account_from way) bytes)) link way (given_by which answer)
