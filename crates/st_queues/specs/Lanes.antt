@@ -1,5 +1,5 @@
 -- The rings as they lie in the hub: a lane has the hub's end, and the application's until it is handed out.
-use Rattle.std.specs.Prelude.{◌≡◌, ℕ, ◌<◌, List, [], Some, IsSome, slice_get, slice_index_or}
+use Rattle.std.specs.Prelude.{◌≡◌, ℕ, ◌<◌, false, List, [], Some, IsSome, slice_get, slice_index_or}
 use Rattle.st_queues.specs.Names.{RingId, no_ring, producer_ring, consumer_ring}
 use Rattle.st_queues.specs.WriteEnds.{taken, known}
 use Rattle.st_queues.specs.ReadEnds.{put_in, free_of}
@@ -20,10 +20,10 @@ module _ {A : Type 0} where
 
   -- the ring of number k, of which nobody used either end
   abbrev pub Fresh : ℕ → WriteLane A → Type 0
-  Fresh k x = (x.end.ring ≡ k) × (taken x.end ≡ []) × (known x.end ≡ []) × IsSome x.held × HeldWrite (write_lane_ring x) x.held
+  Fresh k x = (x.end.ring ≡ k) × (taken x.end ≡ []) × (known x.end ≡ []) × IsSome x.held × HeldWrite (write_lane_ring x) x.held × (x.over ≡ false)
 
   abbrev pub FreshRead : ℕ → ReadLane A → Type 0
-  FreshRead k x = (x.end.stream ≡ k) × (put_in x.end ≡ []) × (free_of x.end ≡ 64) × IsSome x.held × HeldRead (read_lane_ring x) x.held
+  FreshRead k x = (x.end.stream ≡ k) × (put_in x.end ≡ []) × (free_of x.end ≡ 64) × IsSome x.held × HeldRead (read_lane_ring x) x.held × (x.over ≡ false)
 
   -- each lane has the ring of its number, unused
   abbrev pub AllFresh : List (WriteLane A) → Type 0

@@ -16,6 +16,8 @@ pub struct WriteLane<A: Allocator + Copy> {
     pub end: WriteEnd<A>,
     /// The writer's, until it is handed out.
     pub held: Option<Producer<Item<A>, A>>,
+    /// Whether the hub took the writer's end.
+    pub over: bool,
 }
 
 impl<A: Allocator + Copy> WriteLane<A> {
@@ -26,7 +28,7 @@ impl<A: Allocator + Copy> WriteLane<A> {
         requires { IsOurs N.write_ring self.old }
         ensures found { IsSome result ↔ IsSome self.old.held }
         ensures fresh { IfSome result (λ w. (w.ring ≡ self.old.end.ring) × (w.items ≡ []) × (w.free ≡ 64) × (w.ended ≡ false)) }
-        ensures left { (self.new.held ≡ None) × (self.new.end ≡ self.old.end) }
+        ensures left { (self.new.held ≡ None) × (self.new.end ≡ self.old.end) × (self.new.over ≡ self.old.over) }
     {
         match self.held.take() {
             Some(producer) => Some(StreamWriter::new(alloc, producer, self.end.ring)),
@@ -42,6 +44,8 @@ pub struct ReadLane<A: Allocator + Copy> {
     pub end: ReadEnd<A>,
     /// The reader's, until it is handed out.
     pub held: Option<Consumer<Delivery<A>, A>>,
+    /// Whether the hub put an end.
+    pub over: bool,
 }
 
 impl<A: Allocator + Copy> ReadLane<A> {
@@ -53,7 +57,7 @@ impl<A: Allocator + Copy> ReadLane<A> {
         requires { IsOurRead N.read_ring self.old }
         ensures found { IsSome result ↔ IsSome self.old.held }
         ensures fresh { IfSome result (λ r. (r.stream ≡ self.old.end.stream) × (r.items ≡ []) × (r.known ≡ []) × (r.over ≡ Open)) }
-        ensures left { (self.new.held ≡ None) × (self.new.end ≡ self.old.end) }
+        ensures left { (self.new.held ≡ None) × (self.new.end ≡ self.old.end) × (self.new.over ≡ self.old.over) }
     {
         match self.held.take() {
             Some(consumer) => Some(StreamReader::new(consumer, self.end.stream)),

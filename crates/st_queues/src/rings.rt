@@ -55,6 +55,7 @@ fn write_lane<A: Allocator + Copy>(alloc: A, ring: u16) -> Result<WriteLane<A>, 
     Ok(WriteLane {
         end: WriteEnd { consumer, ring },
         held: Some(producer),
+        over: false,
     })
 }
 
@@ -65,6 +66,7 @@ fn read_lane<A: Allocator + Copy>(alloc: A, stream: u8) -> Result<ReadLane<A>, A
     Ok(ReadLane {
         end: ReadEnd { producer, stream },
         held: Some(consumer),
+        over: false,
     })
 }
 
