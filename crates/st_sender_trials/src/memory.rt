@@ -53,7 +53,7 @@ fn sum_of<A: Allocator + Copy>(load: &Load<A>) -> Result<u64, OutboxError> {
 
 /// What the next load says.
 fn next_sum<A: Allocator + Copy>(outbox: &mut Outbox<A>) -> Result<u64, OutboxError> {
-    match outbox.next(ROOM)? {
+    match outbox.next(ROOM, &[])? {
         Some(load) => sum_of(&load),
         None => Ok(0),
     }
@@ -72,7 +72,7 @@ fn called<A: Allocator + Copy>(
             outbox.accept(1, b"and some more")?;
             Ok(1)
         }
-        Call::Next => match outbox.next(ROOM)? {
+        Call::Next => match outbox.next(ROOM, &[])? {
             Some(load) => Ok(load.amount()),
             None => Ok(0),
         },
@@ -100,7 +100,7 @@ fn load_for<A: Allocator + Copy>(
     call: Call,
 ) -> Result<Option<Load<A>>, OutboxError> {
     if call == Call::Frames {
-        outbox.next(ROOM)
+        outbox.next(ROOM, &[])
     } else {
         Ok(None)
     }
@@ -163,11 +163,11 @@ fn each_call_wants_memory_or_succeeds(rt: HostRuntime) -> Result<(), OutboxError
 fn the_other_calls_ask_for_no_memory(rt: HostRuntime) -> Result<(), OutboxError> {
     let heap: Refusing<Global> = Refusing::new(rt.alloc());
     let mut outbox = ready(&heap)?;
-    assert!(rt; outbox.next(ROOM)?.is_some());
+    assert!(rt; outbox.next(ROOM, &[])?.is_some());
     outbox.accept(1, b"more")?;
-    assert!(rt; outbox.next(ROOM)?.is_some());
+    assert!(rt; outbox.next(ROOM, &[])?.is_some());
     outbox.offer(1, 5)?;
-    let third = outbox.next(ROOM)?;
+    let third = outbox.next(ROOM, &[])?;
     heap.refuse_from(1);
     outbox.acknowledged(1);
     outbox.failed(2, *b"T00");

@@ -80,9 +80,9 @@ fn refuses_after_a_close_and_after_an_abort(rt: HostRuntime) -> Result<(), Outbo
     assert_eq!(rt; outbox.accept(1, b"cd"), Err(OutboxError::Closed));
     assert_eq!(rt; outbox.abort(1, 9), Ok(()));
     assert_eq!(rt; outbox.abort(1, 9), Err(OutboxError::Closed));
-    let load = outbox.next(ROOM)?;
+    let load = outbox.next(ROOM, &[])?;
     assert_eq!(rt; code_of(&load)?, Some(9));
-    assert!(rt; outbox.next(ROOM)?.is_none());
+    assert!(rt; outbox.next(ROOM, &[])?.is_none());
     Ok(())
 }
 
@@ -104,15 +104,15 @@ fn sends_no_byte_past_the_assumed_limit(rt: HostRuntime) -> Result<(), OutboxErr
     let mut outbox = opened(alloc, 16)?;
     let bytes = vec![in alloc; 7; 20_000]?;
     outbox.accept(1, bytes.as_slice())?;
-    assert_eq!(rt; data_of(&outbox.next(ROOM)?)?, Some((0, 16_000)));
-    assert_eq!(rt; data_of(&outbox.next(ROOM)?)?, Some((16_000, 384)));
-    assert!(rt; outbox.next(ROOM)?.is_none());
+    assert_eq!(rt; data_of(&outbox.next(ROOM, &[])?)?, Some((0, 16_000)));
+    assert_eq!(rt; data_of(&outbox.next(ROOM, &[])?)?, Some((16_000, 384)));
+    assert!(rt; outbox.next(ROOM, &[])?.is_none());
     outbox.raise_limits(&Frame::StreamMaxData {
         stream: 1,
         max_offset: 16_385,
     });
-    assert_eq!(rt; data_of(&outbox.next(ROOM)?)?, Some((16_384, 1)));
-    assert!(rt; outbox.next(ROOM)?.is_none());
+    assert_eq!(rt; data_of(&outbox.next(ROOM, &[])?)?, Some((16_384, 1)));
+    assert!(rt; outbox.next(ROOM, &[])?.is_none());
     Ok(())
 }
 
@@ -120,15 +120,15 @@ fn sends_no_byte_past_the_assumed_limit(rt: HostRuntime) -> Result<(), OutboxErr
 fn sends_what_the_room_takes(rt: HostRuntime) -> Result<(), OutboxError> {
     let mut outbox = opened(rt.alloc(), 1)?;
     outbox.accept(1, b"hi")?;
-    assert!(rt; outbox.next(15)?.is_none());
-    let load = outbox.next(17)?;
+    assert!(rt; outbox.next(15, &[])?.is_none());
+    let load = outbox.next(17, &[])?;
     assert_eq!(rt; data_of(&load)?, Some((0, 2)));
     if let Some(load) = load {
         assert_eq!(rt; load.sequence(), 1);
         assert_eq!(rt; load.amount(), 0);
         assert_eq!(rt; load.least(), 0);
     }
-    assert!(rt; outbox.next(ROOM)?.is_none());
+    assert!(rt; outbox.next(ROOM, &[])?.is_none());
     outbox.mark(&Frame::ConnectionMaxData { max_offset: 7 });
     Ok(())
 }
@@ -140,17 +140,17 @@ fn sends_what_failed_again_and_closes_what_is_acknowledged(
     let mut outbox = opened(rt.alloc(), 16)?;
     outbox.accept(1, b"ab")?;
     outbox.close(1)?;
-    assert_eq!(rt; data_of(&outbox.next(ROOM)?)?, Some((0, 2)));
-    assert!(rt; outbox.next(ROOM)?.is_none());
+    assert_eq!(rt; data_of(&outbox.next(ROOM, &[])?)?, Some((0, 2)));
+    assert!(rt; outbox.next(ROOM, &[])?.is_none());
     outbox.failed(1, *b"T01");
-    let again = outbox.next(ROOM)?;
+    let again = outbox.next(ROOM, &[])?;
     assert_eq!(rt; data_of(&again)?, Some((0, 2)));
     outbox.acknowledged(1);
-    assert!(rt; outbox.next(ROOM)?.is_none());
+    assert!(rt; outbox.next(ROOM, &[])?.is_none());
     outbox.acknowledged(2);
-    assert_eq!(rt; code_of(&outbox.next(ROOM)?)?, Some(1));
+    assert_eq!(rt; code_of(&outbox.next(ROOM, &[])?)?, Some(1));
     outbox.acknowledged(3);
-    assert!(rt; outbox.next(ROOM)?.is_none());
+    assert!(rt; outbox.next(ROOM, &[])?.is_none());
     Ok(())
 }
 
@@ -159,10 +159,10 @@ fn fails_after_200_failures_in_a_row(rt: HostRuntime) -> Result<(), OutboxError>
     let mut outbox = opened(rt.alloc(), 1)?;
     outbox.accept(1, b"a")?;
     for sequence in 1..=200_u64 {
-        assert_eq!(rt; data_of(&outbox.next(ROOM)?)?, Some((0, 1)));
+        assert_eq!(rt; data_of(&outbox.next(ROOM, &[])?)?, Some((0, 1)));
         outbox.failed(sequence, *b"F99");
     }
-    assert!(rt; outbox.next(ROOM)?.is_none());
+    assert!(rt; outbox.next(ROOM, &[])?.is_none());
     Ok(())
 }
 
@@ -170,11 +170,11 @@ fn fails_after_200_failures_in_a_row(rt: HostRuntime) -> Result<(), OutboxError>
 fn fails_at_a_final_code(rt: HostRuntime) -> Result<(), OutboxError> {
     let mut outbox = opened(rt.alloc(), 1)?;
     outbox.accept(1, b"a")?;
-    assert_eq!(rt; data_of(&outbox.next(ROOM)?)?, Some((0, 1)));
+    assert_eq!(rt; data_of(&outbox.next(ROOM, &[])?)?, Some((0, 1)));
     outbox.too_large(1, Some((3, 1)));
-    assert_eq!(rt; data_of(&outbox.next(ROOM)?)?, Some((0, 1)));
+    assert_eq!(rt; data_of(&outbox.next(ROOM, &[])?)?, Some((0, 1)));
     outbox.failed(2, *b"F02");
-    assert!(rt; outbox.next(ROOM)?.is_none());
+    assert!(rt; outbox.next(ROOM, &[])?.is_none());
     Ok(())
 }
 
@@ -190,12 +190,17 @@ fn amount_after<A: Allocator + Copy>(
     let mut outbox = Outbox::new(alloc, config)?;
     open(&mut outbox, 1);
     outbox.offer(1, 1_000_000)?;
-    let first = outbox.next(ROOM)?.map(|load| load.amount());
+    let first = outbox.next(ROOM, &[])?.map(|load| load.amount());
     if first != Some(sent) {
         return Err(OutboxError::AmountTooLarge);
     }
     outbox.too_large(1, told);
-    Ok(outbox.next(ROOM)?.map(|load| load.amount()).unwrap_or(0))
+    Ok(
+        outbox
+            .next(ROOM, &[])?
+            .map(|load| load.amount())
+            .unwrap_or(0),
+    )
 }
 
 #[test]
@@ -224,13 +229,13 @@ fn shares_the_packet_limit_among_streams(rt: HostRuntime) -> Result<(), OutboxEr
     outbox.offer(1, 60)?;
     outbox.offer(3, 50)?;
     outbox.offer(5, 30)?;
-    assert_eq!(rt; amount_of(&outbox.next(ROOM)?), Some(100));
-    assert_eq!(rt; amount_of(&outbox.next(ROOM)?), Some(40));
-    assert!(rt; outbox.next(ROOM)?.is_none());
+    assert_eq!(rt; amount_of(&outbox.next(ROOM, &[])?), Some(100));
+    assert_eq!(rt; amount_of(&outbox.next(ROOM, &[])?), Some(40));
+    assert!(rt; outbox.next(ROOM, &[])?.is_none());
     outbox.acknowledged(1);
     outbox.failed(2, *b"T04");
     assert_eq!(rt; outbox.paid(), 100);
-    assert_eq!(rt; amount_of(&outbox.next(ROOM)?), Some(40));
+    assert_eq!(rt; amount_of(&outbox.next(ROOM, &[])?), Some(40));
     Ok(())
 }
 
@@ -243,8 +248,8 @@ fn sends_no_money_past_the_receive_max(rt: HostRuntime) -> Result<(), OutboxErro
         total_received: 4,
     });
     outbox.offer(1, 9)?;
-    assert_eq!(rt; amount_of(&outbox.next(ROOM)?), Some(6));
-    assert!(rt; outbox.next(ROOM)?.is_none());
+    assert_eq!(rt; amount_of(&outbox.next(ROOM, &[])?), Some(6));
+    assert!(rt; outbox.next(ROOM, &[])?.is_none());
     Ok(())
 }
 
@@ -252,11 +257,11 @@ fn sends_no_money_past_the_receive_max(rt: HostRuntime) -> Result<(), OutboxErro
 fn sends_less_after_f08(rt: HostRuntime) -> Result<(), OutboxError> {
     let mut outbox = opened(rt.alloc(), 1)?;
     outbox.offer(1, 7)?;
-    assert_eq!(rt; amount_of(&outbox.next(ROOM)?), Some(7));
+    assert_eq!(rt; amount_of(&outbox.next(ROOM, &[])?), Some(7));
     outbox.too_large(1, Some((3, 1)));
-    assert_eq!(rt; amount_of(&outbox.next(ROOM)?), Some(2));
+    assert_eq!(rt; amount_of(&outbox.next(ROOM, &[])?), Some(2));
     outbox.failed(2, *b"F08");
-    assert_eq!(rt; amount_of(&outbox.next(ROOM)?), Some(1));
+    assert_eq!(rt; amount_of(&outbox.next(ROOM, &[])?), Some(1));
     Ok(())
 }
 
@@ -264,12 +269,12 @@ fn sends_less_after_f08(rt: HostRuntime) -> Result<(), OutboxError> {
 fn takes_a_load_back(rt: HostRuntime) -> Result<(), OutboxError> {
     let mut outbox = opened(rt.alloc(), 1)?;
     outbox.accept(1, b"ab")?;
-    let first = outbox.next(ROOM)?;
-    assert!(rt; outbox.next(ROOM)?.is_none());
+    let first = outbox.next(ROOM, &[])?;
+    assert!(rt; outbox.next(ROOM, &[])?.is_none());
     if let Some(load) = first {
         outbox.take_back(load);
     }
-    let again = outbox.next(ROOM)?;
+    let again = outbox.next(ROOM, &[])?;
     assert_eq!(rt; data_of(&again)?, Some((0, 2)));
     if let Some(load) = again {
         assert_eq!(rt; load.sequence(), 1);
