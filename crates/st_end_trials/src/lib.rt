@@ -1,0 +1,20 @@
+//! Tests of an end: worked packets, from bytes to bytes; each request of each call that may want memory refused in turn; and
+//! two ends between which Prepares and answers are lost, repeated and reordered.
+#![tactic(auto)]
+
+#[cfg(test)]
+mod ends;
+#[cfg(test)]
+mod lanes;
+#[cfg(test)]
+mod lossy;
+#[cfg(test)]
+mod memory;
+#[cfg(test)]
+mod numbers;
+#[cfg(test)]
+mod sides;
+#[cfg(test)]
+mod waiting;
+#[cfg(test)]
+mod worked;

@@ -1,0 +1,305 @@
+//! An end that is made, asked and changed while each request for memory is refused in turn.
+
+use crate::ends::new_end;
+use crate::waiting::Waiting;
+use refusing::Refusing;
+use st_end::{EndError, EndState, Role, Totals};
+use st_ilp::Moment;
+use st_receiver::Got;
+use st_sender::EndConfig;
+use std::alloc::{Allocator, Global};
+use std::process::Abort;
+
+/// The calls that may want memory.
+#[derive(Clone, Copy, Debug, PartialEq, Eq)]
+enum Call {
+    New,
+    OpenStream,
+    Write,
+    Read,
+    Receive,
+    Send,
+}
+
+const CALLS: [Call; 6] = [
+    Call::New,
+    Call::OpenStream,
+    Call::Write,
+    Call::Read,
+    Call::Receive,
+    Call::Send,
+];
+
+fn moment() -> Result<Moment, EndError> {
+    Moment::new(0).ok_or(EndError::NoStream)
+}
+
+fn end<A: Allocator + Copy>(alloc: A, role: Role) -> Result<EndState<A>, EndError> {
+    let Some(config) = EndConfig::new(4, 100, 1_000) else {
+        return Err(EndError::NoStream);
+    };
+    new_end(alloc, role, config)
+}
+
+/// A client with bytes and money on its stream 1.
+fn writing<A: Allocator + Copy>(alloc: A) -> Result<EndState<A>, EndError> {
+    let mut client = end(alloc, Role::Client)?;
+    let stream = client.open_stream()?;
+    client.write(stream, b"there is more than one word of it")?;
+    client.offer(stream, 30)?;
+    Ok(client)
+}
+
+/// The next Prepare, whose flight is abandoned: none is no bytes.
+fn sent<A: Allocator + Copy>(alloc: A, end: &mut EndState<A>) -> Result<Vec<u8, A>, EndError> {
+    match end.send([9; 12], moment()?)? {
+        Some((flight, bytes)) => {
+            flight.abandon();
+            Ok(bytes)
+        }
+        None => Ok(Vec::new(alloc)),
+    }
+}
+
+/// What a client sends first.
+fn prepare(global: Global) -> Result<Vec<u8>, EndError> {
+    let mut client = writing(global)?;
+    sent(global, &mut client)
+}
+
+/// A server that may receive 100 units on stream 1.
+fn listening<A: Allocator + Copy>(alloc: A) -> Result<EndState<A>, EndError> {
+    let mut server = end(alloc, Role::Server)?;
+    server.set_receive_max(1, 100)?;
+    Ok(server)
+}
+
+/// The same, once what the client sends first arrived.
+fn reading<A: Allocator + Copy>(alloc: A, prepare: &[u8]) -> Result<EndState<A>, EndError> {
+    let mut server = listening(alloc)?;
+    let received = server.receive(prepare, moment()?)?;
+    let _bytes = received.bytes;
+    Ok(server)
+}
+
+/// An end for a call.
+fn ready<A: Allocator + Copy>(
+    alloc: A,
+    call: Call,
+    prepare: &[u8],
+) -> Result<EndState<A>, EndError> {
+    match call {
+        Call::New | Call::OpenStream => end(alloc, Role::Client),
+        Call::Write | Call::Send => writing(alloc),
+        Call::Read => reading(alloc, prepare),
+        Call::Receive => listening(alloc),
+    }
+}
+
+/// A number that differs, as good as always, where the bytes differ (FNV-1a).
+fn digest(bytes: &[u8]) -> u64 {
+    let mut digest = 0xcbf2_9ce4_8422_2325_u64;
+    for &byte in bytes {
+        digest = (digest ^ u64::from(byte)).wrapping_mul(0x0100_0000_01b3);
+    }
+    digest
+}
+
+/// A read of stream 1.
+fn read<A: Allocator + Copy>(end: &mut EndState<A>) -> Result<u64, EndError> {
+    match end.read(1, 20)? {
+        Got::Bytes(bytes) => Ok(digest(&bytes)),
+        _ => Ok(0),
+    }
+}
+
+/// The Fulfill of a Prepare.
+fn receive<A: Allocator + Copy>(end: &mut EndState<A>, prepare: &[u8]) -> Result<u64, EndError> {
+    let received = end.receive(prepare, moment()?)?;
+    if received.reason != 0 {
+        return Err(EndError::Closed);
+    }
+    Ok(digest(&received.bytes))
+}
+
+/// What a call gives, as a number.
+fn called<A: Allocator + Copy>(
+    alloc: A,
+    state: &mut EndState<A>,
+    call: Call,
+    prepare: &[u8],
+) -> Result<u64, EndError> {
+    match call {
+        Call::New => Ok(digest(end(alloc, Role::Client)?.t00())),
+        Call::OpenStream => Ok(u64::from(state.open_stream()?)),
+        Call::Write => {
+            state.write(1, b"and some more")?;
+            Ok(1)
+        }
+        Call::Read => read(state),
+        Call::Receive => receive(state, prepare),
+        Call::Send => Ok(digest(&sent(alloc, state)?)),
+    }
+}
+
+/// What an end tells, and what it sends next, as a number.
+fn left<A: Allocator + Copy>(alloc: A, end: &mut EndState<A>) -> Result<(Totals, u64), EndError> {
+    let next = digest(&sent(alloc, end)?);
+    Ok((end.totals(), next))
+}
+
+/// What a call gives and leaves.
+type Given = (u64, (Totals, u64));
+
+/// What a call gives and leaves on an end that was made for it.
+fn given<A: Allocator + Copy>(
+    alloc: A,
+    end: &mut EndState<A>,
+    call: Call,
+    prepare: &[u8],
+) -> Result<Given, EndError> {
+    let first = called(alloc, end, call, prepare)?;
+    Ok((first, left(alloc, end)?))
+}
+
+/// Whether a call on a fresh end meets the refusal of request `n`. If so it wants memory and nothing has changed, and then it
+/// gives and leaves what it should.
+fn meets(
+    rt: &impl Abort,
+    heap: &Refusing<Global>,
+    call: Call,
+    prepare: &[u8],
+    want: Given,
+    n: u64,
+) -> Result<bool, EndError> {
+    heap.refuse_none();
+    let mut end = ready(heap, call, prepare)?;
+    let before = end.totals();
+    heap.refuse_only(n);
+    let answer = called(heap, &mut end, call, prepare);
+    let met = heap.has_refused();
+    heap.refuse_none();
+    if met {
+        assert_eq!(rt; answer, Err(EndError::NoMemory), "{call:?} at {n}");
+        assert!(rt; end.totals() == before, "{call:?} at {n}");
+        assert!(rt;
+            given(heap, &mut end, call, prepare)? == want,
+            "{call:?} at {n}"
+        );
+    } else {
+        assert_eq!(rt; answer, Ok(want.0), "{call:?}");
+        assert!(rt; left(heap, &mut end)? == want.1, "{call:?}");
+    }
+    Ok(met)
+}
+
+/// Each request of a call is refused in turn, until a run meets no refusal.
+fn refuse_each(rt: &impl Abort, global: Global, call: Call) -> Result<(), EndError> {
+    let heap: Refusing<Global> = Refusing::new(global);
+    let prepare = prepare(global)?;
+    let want = given(global, &mut ready(global, call, &prepare)?, call, &prepare)?;
+    for n in 1..1000_u64 {
+        if !meets(rt, &heap, call, &prepare, want, n)? {
+            assert!(rt; 1 < n, "{call:?} asks for none");
+            return Ok(());
+        }
+    }
+    panic!(rt; "no run met no refusal");
+}
+
+#[test]
+fn each_call_wants_memory_or_succeeds(rt: HostRuntime) -> Result<(), EndError> {
+    for call in CALLS {
+        refuse_each(&rt, rt.alloc(), call)?;
+    }
+    Ok(())
+}
+
+/// The flight of the next Prepare, and its answer.
+fn flown<A: Allocator + Copy>(
+    client: &mut EndState<A>,
+    server: &mut EndState<A>,
+    iv: [u8; 12],
+) -> Result<(Waiting, Vec<u8, A>), EndError> {
+    let now = moment()?;
+    let Some((flight, bytes)) = client.send(iv, now)? else {
+        return Err(EndError::NoStream);
+    };
+    let waiting = Waiting::of(flight);
+    Ok((waiting, server.receive(&bytes, now)?.bytes))
+}
+
+/// Takes a Fulfill, or a fault where there is none.
+fn land<A: Allocator + Copy>(
+    rt: &impl Abort,
+    client: &mut EndState<A>,
+    waiting: Waiting,
+    answer: Option<&mut [u8]>,
+) {
+    let flight = waiting.spend();
+    if !client.is_open(&flight) {
+        flight.abandon();
+        panic!(rt; "the flight is not open");
+    }
+    match answer {
+        Some(bytes) => assert!(rt; client.answer(flight, bytes)),
+        None => client.fault(flight),
+    }
+}
+
+/// The calls that never want memory, but for those that take a flight.
+fn call_others<A: Allocator + Copy>(rt: &impl Abort, end: &mut EndState<A>) {
+    assert!(rt; end.has_stream(1) && !end.settled(1) && !end.is_failed());
+    assert_eq!(rt; end.offer(1, 7), Ok(()));
+    assert_eq!(rt; end.set_receive_max(1, 7), Ok(()));
+    assert_eq!(rt; end.close(1), Ok(()));
+    assert_eq!(rt; end.abort(1, 9), Ok(()));
+    assert_eq!(rt; end.totals().paid, 30);
+    assert!(rt; !end.t00().is_empty());
+}
+
+/// A client with two flights, and the answer to the first.
+#[derive(Drop)]
+struct TwoFlights<A: Allocator + Copy> {
+    client: EndState<A>,
+    first: Waiting,
+    answer: Vec<u8, A>,
+    second: Waiting,
+}
+
+fn fly_twice<A: Allocator + Copy>(alloc: A) -> Result<TwoFlights<A>, EndError> {
+    let mut client = writing(alloc)?;
+    let mut server = listening(alloc)?;
+    let (first, answer) = flown(&mut client, &mut server, [1; 12])?;
+    client.write(1, b"more")?;
+    let (second, _lost) = flown(&mut client, &mut server, [2; 12])?;
+    Ok(TwoFlights {
+        client,
+        first,
+        answer,
+        second,
+    })
+}
+
+/// The calls that never want memory: one flight is answered and the other one met a fault.
+fn land_both<A: Allocator + Copy>(rt: &impl Abort, flights: TwoFlights<A>) {
+    let TwoFlights {
+        mut client,
+        first,
+        mut answer,
+        second,
+    } = flights;
+    land(rt, &mut client, first, Some(&mut answer));
+    land(rt, &mut client, second, None);
+    call_others(rt, &mut client);
+}
+
+#[test]
+fn the_other_calls_ask_for_no_memory(rt: HostRuntime) -> Result<(), EndError> {
+    let heap: Refusing<Global> = Refusing::new(rt.alloc());
+    let flights = fly_twice(&heap)?;
+    heap.refuse_from(1);
+    land_both(&rt, flights);
+    assert_eq!(rt; heap.asked(), 0);
+    Ok(())
+}
