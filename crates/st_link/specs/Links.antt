@@ -1,0 +1,18 @@
+-- A link by HTTP.
+use Rattle.std.specs.Prelude.{ℕ, List}
+use Rattle.st_desk.specs.declared.link.LinkFault.{LinkFault}
+use Rattle.st_desk.specs.declared.link.LinkFault.TheVariants.{Device, Peer, NoMemory}
+use Rattle.st_http.specs.declared.error.HttpError.{HttpError}
+use Rattle.st_http.specs.declared.error.HttpError.TheVariants as http
+
+-- where a neighbour is reached, and the token that it knows this side by
+pub record Neighbour : Type 0 where
+  pub host : List ℕ
+  pub token : List ℕ
+
+-- a failed read or write is the device's fault; whatever else gives no answer is the neighbour's
+abbrev pub fault_of : HttpError → LinkFault
+fault_of http.ReadFault = Device
+fault_of (http.WriteFault sent) = Device
+fault_of http.NoMemory = NoMemory
+fault_of e = Peer

@@ -1,0 +1,5 @@
+//! Exchanges of a link by HTTP over loopback.
+#![tactic(auto)]
+
+#[cfg(test)]
+mod loopback;

@@ -1,0 +1,165 @@
+//! One side asks and the other answers, each in a thread.
+ghost use Rattle.std.specs.Prelude.{IsTrue};
+ghost use Rattle.st_http.specs.Texts as texts;
+
+use st_desk::{Link, LinkFault};
+use st_http::{Answerer, HttpError, is_field_text, serve_one};
+use st_link::HttpLink;
+use st_oer::{Counted, Counting};
+use std::alloc::Global;
+use std::io::Write;
+use std::net::{Net, OpenListener, TcpListener};
+use std::test::Fail;
+use std::thread;
+
+/// A Prepare and its answer: any bytes, as far as a link knows.
+const ASKED: &[u8] = b"\x0c\x02hi";
+
+const ANSWERED: &[u8] = b"\x0d\x05there";
+
+/// More calls of a stream than one exchange takes.
+const TURNS: u64 = 1_000;
+
+/// Answers the one question of account 1.
+#[derive(Drop)]
+struct Fixed {
+    alloc: Global,
+}
+
+impl Answerer for Fixed {
+    ghost gives = { λ _ _ _ _ _. Unit {0} };
+
+    fn answer(&mut self, account: usize, body: &[u8]) -> Option<Vec<u8>> {
+        if account != 1 || body != ASKED {
+            return None;
+        }
+        Vec::from_slice(self.alloc, ANSWERED).ok()
+    }
+}
+
+/// What comes back from this host for a token.
+fn ask<N: Net>(
+    net: &N,
+    alloc: Global,
+    host: &str,
+    token: &str,
+) -> Result<(Result<Vec<u8>, LinkFault>, u64), Fail> {
+    if !is_field_text(host) || !is_field_text(token) {
+        return Err(Fail::new("no host or token"));
+    }
+    let mut link = HttpLink::new(alloc, alloc, net, host, token, TURNS)?;
+    let answer = link.exchange(ASKED);
+    Ok((answer, link.faults()))
+}
+
+/// Serves the next connection.
+fn serve<L: OpenListener>(listener: &L, alloc: Global) -> bool
+where
+    L::Stream: std::io::Read + Write,
+{
+    let Ok((stream, _)) = listener.accept() else {
+        return false;
+    };
+    let mut stream = Counting::new(stream);
+    let mut answerer = Fixed { alloc };
+    serve_one(
+        alloc,
+        alloc,
+        &mut stream,
+        &["t0", "t1"],
+        &mut answerer,
+        TURNS,
+    )
+    .is_ok()
+}
+
+/// Answers the next connection with these bytes, whatever it asks, and closes it.
+fn say<L: OpenListener>(listener: &L, bytes: &[u8]) -> bool
+where
+    L::Stream: Write,
+{
+    let Ok((mut stream, _)) = listener.accept() else {
+        return false;
+    };
+    stream.write_all(bytes).is_ok()
+}
+
+/// What came back for a token from a neighbour that serves one connection, and the faults that were counted.
+fn asked_with<R: Net + thread::Threads + Sync>(
+    rt: &R,
+    alloc: Global,
+    token: &str,
+) -> Result<(Result<Vec<u8>, LinkFault>, u64), Fail>
+where
+    R::Listener: Sync,
+{
+    let listener = TcpListener::bind(rt, "127.0.0.1:0")?;
+    let host = format!(in alloc; "{}", listener.local_addr()?)?;
+    let (asked, served) = thread::join(
+        rt,
+        || ask(rt, alloc, host.as_str(), token),
+        || serve(&listener, alloc),
+    );
+    let (answer, faults) = asked?;
+    if served {
+        Ok((answer, faults))
+    } else {
+        Err(Fail::new("the neighbour did not answer"))
+    }
+}
+
+/// And from one that says these bytes and closes.
+fn asked_of<R: Net + thread::Threads + Sync>(
+    rt: &R,
+    alloc: Global,
+    said: &[u8],
+) -> Result<(Result<Vec<u8>, LinkFault>, u64), Fail>
+where
+    R::Listener: Sync,
+{
+    let listener = TcpListener::bind(rt, "127.0.0.1:0")?;
+    let host = format!(in alloc; "{}", listener.local_addr()?)?;
+    let (asked, _said) = thread::join(
+        rt,
+        || ask(rt, alloc, host.as_str(), "t1"),
+        || say(&listener, said),
+    );
+    asked
+}
+
+#[test]
+fn brings_the_answer_back(rt: HostRuntime) -> Result<(), Fail> {
+    let (answer, faults) = asked_with(&rt, rt.alloc(), "t1")?;
+    assert_eq!(rt; answer.as_deref(), Ok(ANSWERED));
+    assert_eq!(rt; faults, 0);
+    Ok(())
+}
+
+#[test]
+fn a_token_that_is_not_known_gets_no_answer(rt: HostRuntime) -> Result<(), Fail> {
+    let (answer, faults) = asked_with(&rt, rt.alloc(), "t2")?;
+    assert_eq!(rt; answer.as_deref(), Err(&LinkFault::Peer));
+    assert_eq!(rt; faults, 0);
+    Ok(())
+}
+
+#[test]
+fn a_neighbour_that_speaks_no_http_gives_no_answer(rt: HostRuntime) -> Result<(), Fail> {
+    let (answer, _faults) = asked_of(&rt, rt.alloc(), b"SSH-2.0-elsewhere\r\n\r\n")?;
+    assert!(rt; answer.is_err());
+    Ok(())
+}
+
+#[test]
+fn nobody_gives_no_answer(rt: HostRuntime) -> Result<(), Fail> {
+    let alloc = rt.alloc();
+    let listener = TcpListener::bind(&rt, "127.0.0.1:0")?;
+    let host = format!(in alloc; "{}", listener.local_addr()?)?;
+    drop(listener);
+    let (answer, faults) = ask(&rt, alloc, host.as_str(), "t1")?;
+    assert_eq!(rt; answer.as_deref(), Err(&LinkFault::Peer));
+    assert_eq!(rt; faults, 0);
+    let mut nowhere = HttpLink::nowhere(alloc, alloc, &rt);
+    assert_eq!(rt; nowhere.exchange(ASKED).as_deref(), Err(&LinkFault::Peer));
+    Ok(())
+}
