@@ -5,7 +5,7 @@ use Rattle.std.specs.declared.option.Option.TheVariants.{None, Some}
 use Rattle.st_hop.specs.declared.ticket.Open.{Open}
 use Rattle.st_hop.specs.Hop.{Hop}
 use Rattle.st_hop.specs.Tickets.{ticket_at}
-use Rattle.st_hop.specs.Arriving.{Arrival, Answers, Forwards, onward, arrived}
+use Rattle.st_hop.specs.Arriving.{Arrival, Answers, Forwards, arrived}
 use Rattle.st_hop.specs.Settling.{settled, is_booked}
 use Rattle.st_end.specs.Receiving.{prepare_in}
 use Rattle.st_world.specs.Sides.{Side}
@@ -15,9 +15,9 @@ use Rattle.st_world.specs.Ends.{given_by, taken_if}
 
 -- ---- a Prepare comes to a hop: it answers, or the Prepare goes on
 
--- of a Prepare that went nowhere: with the amount that would have gone on
+-- of a Prepare that went nowhere
 abbrev pub reject_entry : (account : ℕ) → (bytes : List ℕ) → HopEntry
-reject_entry account bytes = record { incoming = account; outgoing = None; amount_in = (prepare_in bytes).amount; amount_out = (onward (prepare_in bytes)).amount; fulfilled = false }
+reject_entry account bytes = record { incoming = account; outgoing = None; amount_in = (prepare_in bytes).amount; amount_out = (prepare_in bytes).amount; fulfilled = false }
 
 abbrev pub answered_at_hop : World → (link : ℕ) → (way : Side) → (which : ℕ) → (bytes : List ℕ) → (i : ℕ) → Node → Hop → (answer : List ℕ) → World
 answered_at_hop w link way which bytes i n h answer = with_given (with_hop_entry w i n h (reject_entry (account_from way) bytes)) link way (given_by which answer)
@@ -28,9 +28,9 @@ put_on t bytes which = record { bytes = bytes; name = t.number; condition = t.co
 -- a hop of a chain has two accounts: what goes on goes to the one that it did not come from
 abbrev pub Comes : World → (link : ℕ) → (way : Side) → (which : ℕ) → Put → (i : ℕ) → Node → Arrival → Hop → Told → World → Type 0
 Comes w link way which p i n (Answers bytes) h told after =
-    (told ≡ Replied bytes) × (after ≡ answered_at_hop w link way which p.bytes i n h bytes)
+    (told ≡ Replied) × (after ≡ answered_at_hop w link way which p.bytes i n h bytes)
 Comes w link way which p i n (Forwards t outgoing bytes) h told after =
-    (outgoing ≡ account_to way) × (told ≡ Went bytes)
+    (outgoing ≡ account_to way) × (told ≡ Went)
     × (after ≡ with_put (with_node w i (record { state = h; bag = n.bag })) (next_link link way) way (put_on t bytes which))
 
 abbrev pub ArrivesAtHop : World → (link : ℕ) → (way : Side) → (which : ℕ) → Put → (now : ℤ) → (i : ℕ) → Option Node → Told → World → Type 0
@@ -49,7 +49,7 @@ BackAtTicket w link way j p outcome now i n None told after = (told ≡ Silent) 
 BackAtTicket w link way j p outcome now i n (Some t) told after =
     let r = settled n.state t outcome now in
     let booked = is_booked t outcome now in
-    (told ≡ Replied r.0)
+    (told ≡ Replied)
     × (after ≡ with_given
     (taken_if booked (with_hop_entry w i n r.1 (settled_entry t booked)) link way j)
     (prev_link link way) way (given_by p.cause r.0))
