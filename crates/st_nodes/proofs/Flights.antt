@@ -11,7 +11,9 @@ use Rattle.std.proofs.lemmas.Option.{slice_get_within, slice_get_past, slice_get
 use Rattle.st_sender.specs.Sending as sender
 use Rattle.st_sender.specs.Flights.{flight_at}
 use Rattle.st_end.specs.declared.flight.Open.{Open}
-use Rattle.st_end.specs.State.{EndState}
+use Rattle.st_keys.specs.Keys.{DerivedKeys}
+use Rattle.st_end.specs.declared.role.Role.{Role}
+use Rattle.st_end.specs.State.{EndState, new_end}
 use Rattle.st_end.specs.Sending.{Goes, is_kept, open_flight, is_open}
 use Rattle.st_end.specs.Answers.{ended, ended_with, pays}
 use Rattle.st_world.specs.State.{Party, EndEntry, Put, Given, Lane}
@@ -205,3 +207,10 @@ spent_kept e f x w outcome kept ks rest i is xw live same here r h =
     let is' : f ≡ ended e w outcome = subst (λ (u : Open). f ≡ ended e u outcome) xw is in
     let here' : slice_get kept i ≡ Some w = subst (λ (l : List Open). slice_get l i ≡ Some w) same here in
     subst (λ (l : List Open). AreKept f.conditions l) (sym r) (ended_kept e f w outcome kept i is' live here' h)
+
+-- an end that sent nothing keeps no condition
+pub nothing_kept : (e : EndState) (role : Role) (keys : DerivedKeys) (own peer : List ℕ) (config : sender.Config) (kept : List Open) → e ≡ new_end role keys own peer config → AreKept e.conditions kept
+nothing_kept e role keys own peer config kept is n condition there =
+    let none : fmap.get {X = List ℕ} {R = nat_cmp} fmap.empty n ≡ None = fmap.get-empty nat_cmp n in
+    let some : fmap.get {X = List ℕ} {R = nat_cmp} fmap.empty n ≡ Some condition = subst (λ (s : EndState). fmap.get s.conditions n ≡ Some condition) is there in
+    absurd (let both : ◌≡◌ {A = Option (List ℕ)} None (Some condition) = sym none ∙ some in cc)

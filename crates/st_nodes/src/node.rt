@@ -1,8 +1,10 @@
 //! A hop with its open tickets and what it answered.
 
-ghost use Rattle.std.specs.Prelude.{◌≡◌, ◌≢◌, OnErr, IfOk, IfSome, IsNone, None};
+ghost use Rattle.std.specs.Prelude.{◌≡◌, [], ◌∷◌, OnErr, IfOk, IfSome, IsNone, None, MatchBool, IsOkUnless, IsErrOf, map, length, nat_lt, slice_index, if◌then◌else◌};
 ghost use Rattle.st_hop.specs.Tickets.{ticket_at, without};
 ghost use Rattle.st_hop.specs.Seen.{outcome_seen};
+ghost use Rattle.st_hop.specs.Seen.{way_seen as hop_way_seen};
+ghost use Rattle.st_hop.specs.Table.{is_table, new_hop};
 ghost use Rattle.st_nodes.specs.Seen.{way_seen, told_seen};
 ghost use Rattle.st_nodes.specs.Kept.{IsTicketPlace};
 ghost use Rattle.st_nodes.specs.Parts.{HopMet, HopBack};
@@ -11,7 +13,9 @@ use crate::entry::{HopEntry, amount_in};
 use crate::lane::{Given, Lane, Put, mark_taken};
 use crate::side::Way;
 use crate::told::Told;
-use st_hop::{HopError, HopState, Outcome, Ticket, Verdict, settlements_book};
+use st_hop::{
+    Account, HopError, HopState, Outcome, Route, Ticket, Verdict, settlements_book,
+};
 use st_ilp::Moment;
 use std::alloc::{AllocError, Allocator};
 use std::marker::Model;
@@ -100,6 +104,49 @@ impl<A: Allocator + Copy> Model for Node<A> {
     ghost view = { λ a. record { state = a.state; bag = a.bag.items } };
 
     ghost invariant = { λ a. (a.kept.items ≡ a.state.tickets) × (length a.state.accounts ≡ 2) };
+}
+
+impl<A: Allocator + Copy> Node<A> {
+    /// A hop of a chain where nothing is owed yet, with these terms towards both its neighbours. Refused is `BadTable` where
+    /// no hop can be made of the table, and else want of memory.
+    pub fn new(
+        alloc: A,
+        own: &str,
+        account: Account,
+        routes: &[Route<'_>],
+    ) -> Result<Node<A>, HopError>
+        ensures made { IfOk result (λ n. n ≡ record { state = new_hop own.now (account ∷ account ∷ []) (map hop_way_seen routes.now); bag = [] }) }
+        ensures refused { MatchBool (is_table own.now (account ∷ account ∷ []) (map hop_way_seen routes.now)) (IsOkUnless result HopError.NoMemory) (IsErrOf result HopError.BadTable) }
+    {
+        let state = HopState::new(alloc, own, &[account, account], routes)?;
+        Ok(Node {
+            state,
+            kept: Vec::new(alloc),
+            bag: Vec::new(alloc),
+            alloc,
+        })
+    }
+
+    /// What an account owes the hop. No memory.
+    pub fn claims(&self, account: usize) -> Result<u64, HopError>
+        ensures { result ≡ (if nat_lt account (length self.now.state.accounts) then Ok (slice_index self.now.state.claims account) else Err HopError.NoAccount) }
+    {
+        self.state.claims(account)
+    }
+
+    /// What the hop owes an account. No memory.
+    pub fn dues(&self, account: usize) -> Result<u64, HopError>
+        ensures { result ≡ (if nat_lt account (length self.now.state.accounts) then Ok (slice_index self.now.state.dues account) else Err HopError.NoAccount) }
+    {
+        self.state.dues(account)
+    }
+
+    /// The Prepares that it answered, in order. No memory.
+    pub fn answered(&self) -> &[HopEntry]
+        ensures { result.now ≡ self.now.bag }
+    {
+        self.bag.as_slice()
+    }
 }
 
 /// A Prepare comes to a hop: it goes on to the next lane, or is answered on the lane that it came from.

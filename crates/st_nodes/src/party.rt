@@ -1,9 +1,12 @@
 //! An end with its open flights and what it answered.
 
-ghost use Rattle.std.specs.Prelude.{◌≡◌, ◌≢◌, ◌<◌, ℕ, true, false, OnErr, IfOk, IfSome, IsNone, MatchOption, Some, None, slice_get, nat_eq, bytes_eq, ◌&&◌};
+ghost use Rattle.std.specs.Prelude.{◌≡◌, ◌≢◌, ◌<◌, ℕ, true, false, OnErr, IfOk, IfSome, IsNone, MatchOption, Some, None, slice_get, nat_eq, bytes_eq, ◌&&◌, IsOkUnless};
 ghost use Rattle.std.specs.List.{remove};
 ghost use Rattle.st_hop.specs.Seen.{outcome_seen};
+ghost use Rattle.st_oer.specs.Address.{is_address};
+ghost use Rattle.st_end.specs.State.{new_end};
 ghost use Rattle.st_end.specs.Sending.{is_open};
+ghost use Rattle.st_world.specs.Runs.{new_party};
 ghost use Rattle.st_end.specs.declared.flight.Open as open_flight;
 ghost use Rattle.st_nodes.specs.Seen.{told_seen};
 ghost use Rattle.st_nodes.specs.Kept.{AreKept};
@@ -12,9 +15,11 @@ ghost use Rattle.st_nodes.specs.Parts.{EndSends, EndMet, EndBack};
 use crate::entry::{EndEntry, amount_in, is_fulfill};
 use crate::lane::{Given, Lane, Put, mark_taken};
 use crate::told::Told;
-use st_end::{EndState, Flight, Open};
+use st_end::{EndError, EndState, Flight, Open, Role};
 use st_hop::Outcome;
 use st_ilp::Moment;
+use st_keys::Keys;
+use st_sender::EndConfig;
 use std::alloc::{AllocError, Allocator};
 use std::marker::Model;
 
@@ -141,6 +146,46 @@ impl<A: Allocator + Copy> Model for Party<A> {
     ghost view = { λ a. record { state = a.state; bag = a.bag.items } };
 
     ghost invariant = { λ a. AreKept a.state.conditions a.kept.items };
+}
+
+impl<A: Allocator + Copy> Party<A> {
+    /// An end that has done nothing yet. The caller's condition is that both names are addresses. Refused is want of memory
+    /// alone.
+    pub fn new(
+        alloc: A,
+        role: Role,
+        keys: Keys,
+        own: &str,
+        peer: &str,
+        config: EndConfig,
+    ) -> Result<Party<A>, EndError>
+        requires own { is_address own.now ≡ true }
+        requires peer { is_address peer.now ≡ true }
+        ensures opening { IfOk result (λ p. p ≡ new_party (new_end role keys own.now peer.now config)) }
+        ensures only_memory { IsOkUnless result EndError.NoMemory }
+    {
+        let state = EndState::new(alloc, role, keys, own, peer, config)?;
+        Ok(Party {
+            state,
+            kept: Vec::new(alloc),
+            bag: Vec::new(alloc),
+            alloc,
+        })
+    }
+
+    /// Whether the connection failed: nothing goes any more. No memory.
+    pub fn is_failed(&self) -> bool
+        ensures { result ≡ self.now.state.sending.failed }
+    {
+        self.state.is_failed()
+    }
+
+    /// The Prepares that it answered, in order. No memory.
+    pub fn answered(&self) -> &[EndEntry]
+        ensures { result.now ≡ self.now.bag }
+    {
+        self.bag.as_slice()
+    }
 }
 
 /// An end sends: its Prepare is put on the lane.
