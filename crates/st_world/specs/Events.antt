@@ -1,10 +1,10 @@
 -- What may happen next, and what a core call then told.
 use Rattle.std.specs.Prelude.{◌≡◌, ℕ, ℤ, List, length, Result}
+use Rattle.std.specs.declared.option.Option.{Option}
 use Rattle.st_ilp.specs.Moments.{IsMoment}
 use Rattle.st_receiver.specs.Reading.{Got}
 use Rattle.st_end.specs.declared.error.EndError.{EndError}
 use Rattle.st_end.specs.Calls.{Answer}
-use Rattle.st_end.specs.Receiving.{Received}
 use Rattle.st_world.specs.Sides.{Side}
 
 -- which: the Prepare that was put there, or the answer that was given there, counted from 1. It may come any number of
@@ -31,14 +31,14 @@ IsEvent (AnswerArrives link way which now) = IsMoment now
 IsEvent (Fault link way which now) = IsMoment now
 IsEvent event = Unit {0}
 
--- what the core call answered
+-- what the core call answered. The bytes of a Prepare and of an answer stand last in their list
 pub data Told : Type 0 where
   Silent : Told  -- a Send that gave none, and an event without a core call
   Call : (answer : Answer) → Told
   Opened : (result : Result ℕ EndError) → Told
   Gave : (got : Result Got EndError) → Told
-  Sent : (bytes : List ℕ) → Told
-  Answered : (received : Received) → Told
-  Replied : (bytes : List ℕ) → Told
-  Went : (bytes : List ℕ) → Told
+  Sent : Told
+  Answered : (reason amount : ℕ) (sequence : Option ℕ) → Told  -- an end's
+  Replied : Told  -- a hop's answer
+  Went : Told  -- a Prepare went on
   NoMemory : Told

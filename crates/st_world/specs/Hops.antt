@@ -28,9 +28,9 @@ put_on t bytes which = record { bytes = bytes; name = t.number; condition = t.co
 -- a hop of a chain has two accounts: what goes on goes to the one that it did not come from
 abbrev pub Comes : World → (link : ℕ) → (way : Side) → (which : ℕ) → Put → (i : ℕ) → Node → Arrival → Hop → Told → World → Type 0
 Comes w link way which p i n (Answers bytes) h told after =
-    (told ≡ Replied bytes) × (after ≡ answered_at_hop w link way which p.bytes i n h bytes)
+    (told ≡ Replied) × (after ≡ answered_at_hop w link way which p.bytes i n h bytes)
 Comes w link way which p i n (Forwards t outgoing bytes) h told after =
-    (outgoing ≡ account_to way) × (told ≡ Went bytes)
+    (outgoing ≡ account_to way) × (told ≡ Went)
     × (after ≡ with_put (with_node w i (record { state = h; bag = n.bag })) (next_link link way) way (put_on t bytes which))
 
 abbrev pub ArrivesAtHop : World → (link : ℕ) → (way : Side) → (which : ℕ) → Put → (now : ℤ) → (i : ℕ) → Option Node → Told → World → Type 0
@@ -49,7 +49,7 @@ BackAtTicket w link way j p outcome now i n None told after = (told ≡ Silent) 
 BackAtTicket w link way j p outcome now i n (Some t) told after =
     let r = settled n.state t outcome now in
     let booked = is_booked t outcome now in
-    (told ≡ Replied r.0)
+    (told ≡ Replied)
     × (after ≡ with_given
     (taken_if booked (with_hop_entry w i n r.1 (settled_entry t booked)) link way j)
     (prev_link link way) way (given_by p.cause r.0))

@@ -90,6 +90,8 @@ Refuses w (AnswerArrives link way j now) after = ⊥
 Refuses w (Fault link way which now) after = ⊥
 Refuses w Refused after = ⊥
 
+abbrev pub Meets : World → Event → Told → World → Type 0
+Meets w event told after = Step w event told after ⊎ ((mid : World) × (told ≡ NoMemory) × Refuses w event mid × (after ≡ noted mid))
+
 abbrev pub Happens : World → Event → Told → World → Type 0
-Happens w event told after =
-    IsEvent event × (Step w event told after ⊎ ((mid : World) × (told ≡ NoMemory) × Refuses w event mid × (after ≡ noted mid)))
+Happens w event told after = IsEvent event × Meets w event told after

@@ -1,0 +1,4 @@
+pub mod AllFrom
+pub mod Spent
+pub mod Flights
+pub mod Slots

@@ -1,0 +1,71 @@
+//! Prepares that were answered.
+
+ghost use Rattle.std.specs.Prelude.{◌≡◌};
+ghost use Rattle.st_ilp.specs.Reading.{is_fulfill_text};
+ghost use Rattle.st_end.specs.Receiving.{prepare_in};
+
+use st_ilp::{Answer, read_answer, read_prepare};
+use std::marker::Model;
+
+/// A Prepare that a hop answered.
+#[derive(Clone, Copy, Debug, PartialEq, Eq)]
+pub struct HopEntry {
+    /// The account that it came from.
+    pub incoming: usize,
+    /// The account to which it went on, if it did.
+    pub outgoing: Option<usize>,
+    /// The amount with which it came.
+    pub amount_in: u64,
+    /// The amount with which it went on.
+    pub amount_out: u64,
+    /// Whether it was fulfilled.
+    pub fulfilled: bool,
+}
+
+impl Model for HopEntry {
+    ghost use Rattle.st_world.specs.State as world;
+
+    ghost Value = { world.HopEntry };
+
+    ghost view = { λ e. record { incoming = e.incoming; outgoing = e.outgoing; amount_in = e.amount_in; amount_out = e.amount_out; fulfilled = e.fulfilled } };
+
+    ghost inverse = { λ e. record { incoming = e.incoming; outgoing = e.outgoing; amount_in = e.amount_in; amount_out = e.amount_out; fulfilled = e.fulfilled } };
+}
+
+/// A Prepare that an end answered.
+#[derive(Clone, Copy, Debug, PartialEq, Eq)]
+pub struct EndEntry {
+    /// Its amount.
+    pub amount: u64,
+    /// The sequence of its packet, where that opened.
+    pub sequence: Option<u64>,
+    /// Whether it was fulfilled.
+    pub fulfilled: bool,
+}
+
+impl Model for EndEntry {
+    ghost use Rattle.st_world.specs.State as world;
+
+    ghost Value = { world.EndEntry };
+
+    ghost view = { λ e. record { amount = e.amount; sequence = e.sequence; fulfilled = e.fulfilled } };
+
+    ghost inverse = { λ e. record { amount = e.amount; sequence = e.sequence; fulfilled = e.fulfilled } };
+}
+
+/// The amount of a Prepare's bytes: 0 where they are none.
+pub(crate) fn amount_in(bytes: &[u8]) -> u64
+    ensures { result ≡ (prepare_in bytes.now).amount }
+{
+    match read_prepare(bytes) {
+        Ok(prepare) => prepare.amount,
+        Err(_) => 0,
+    }
+}
+
+/// Whether an answer is a Fulfill.
+pub(crate) fn is_fulfill(bytes: &[u8]) -> bool
+    ensures { result ≡ is_fulfill_text bytes.now }
+{
+    matches!(read_answer(bytes), Ok(Answer::Fulfill { .. }))
+}

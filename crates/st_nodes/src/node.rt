@@ -1,0 +1,243 @@
+//! A hop with its open tickets and what it answered.
+
+ghost use Rattle.std.specs.Prelude.{◌≡◌, [], ◌∷◌, OnErr, IfOk, IfSome, IsNone, None, MatchBool, IsOkUnless, IsErrOf, map, length, nat_lt, slice_index, if◌then◌else◌};
+ghost use Rattle.st_hop.specs.Tickets.{ticket_at, without};
+ghost use Rattle.st_hop.specs.Seen.{outcome_seen};
+ghost use Rattle.st_hop.specs.Seen.{way_seen as hop_way_seen};
+ghost use Rattle.st_hop.specs.Table.{is_table, new_hop};
+ghost use Rattle.st_nodes.specs.Seen.{way_seen, told_seen};
+ghost use Rattle.st_nodes.specs.Kept.{IsTicketPlace};
+ghost use Rattle.st_nodes.specs.Parts.{HopMet, HopBack};
+
+use crate::entry::{HopEntry, amount_in};
+use crate::lane::{Given, Lane, Put, mark_taken};
+use crate::side::Way;
+use crate::told::Told;
+use st_hop::{
+    Account, HopError, HopState, Outcome, Route, Ticket, Verdict, settlements_book,
+};
+use st_ilp::Moment;
+use std::alloc::{AllocError, Allocator};
+use std::marker::Model;
+
+/// A ticket that waits for its answer. Where its owner ends it is abandoned.
+pub(crate) struct KeptTicket {
+    ticket: Ticket,
+}
+
+impl Model for KeptTicket {
+    ghost use Rattle.st_hop.specs.declared.ticket.Open as open_ticket;
+
+    ghost Value = { open_ticket.Open };
+
+    ghost view = { λ k. k.ticket };
+}
+
+impl Drop for KeptTicket {
+    fn drop(self) {
+        let KeptTicket { ticket } = self;
+        ticket.abandon();
+    }
+}
+
+impl KeptTicket {
+    fn new(ticket: Ticket) -> KeptTicket
+        ensures { result ≡ ticket }
+    {
+        KeptTicket { ticket }
+    }
+
+    fn number(&self) -> u64
+        ensures { result ≡ self.now.number }
+    {
+        self.ticket.read().number
+    }
+
+    fn spend(self) -> Ticket
+        ensures { result ≡ self }
+    {
+        let KeptTicket { ticket } = self;
+        ticket
+    }
+}
+
+/// Where the ticket of a number stands.
+fn place_of(kept: &[KeptTicket], number: u64) -> Option<usize>
+    ensures found { IfSome result (IsTicketPlace kept.now number) }
+    ensures absent { IsNone result → ticket_at kept.now number ≡ None }
+{
+    for (i, one) in kept.iter().enumerate() {
+        if one.number() == number {
+            return Some(i);
+        }
+    }
+    None
+}
+
+/// Takes out the ticket of a number.
+fn take_ticket<A: Allocator>(kept: &mut Vec<KeptTicket, A>, number: u64) -> Option<Ticket>
+    ensures found { result ≡ ticket_at kept.old.items number }
+    ensures rest { kept.new.items ≡ without kept.old.items number }
+{
+    let place = place_of(kept, number)?;
+    Some(kept.remove(place).spend())
+}
+
+/// A hop, the tickets that it gave out and that are not spent, and the Prepares that it answered.
+#[derive(Drop)]
+pub struct Node<A: Allocator + Copy> {
+    state: HopState<A>,
+    kept: Vec<KeptTicket, A>,
+    bag: Vec<HopEntry, A>,
+    alloc: A,
+}
+
+impl<A: Allocator + Copy> Model for Node<A> {
+    ghost use Rattle.std.specs.Prelude.{◌≡◌, length};
+    ghost use Rattle.st_world.specs.State as world;
+    ghost use Rattle.std.specs.Coded.{codes};
+
+    ghost Value = { world.Node };
+
+    ghost coded = { Prim.hlevel (codes) };
+
+    ghost view = { λ a. record { state = a.state; bag = a.bag.items } };
+
+    ghost invariant = { λ a. (a.kept.items ≡ a.state.tickets) × (length a.state.accounts ≡ 2) };
+}
+
+impl<A: Allocator + Copy> Node<A> {
+    /// A hop of a chain where nothing is owed yet, with these terms towards both its neighbours. Refused is `BadTable` where
+    /// no hop can be made of the table, and else want of memory.
+    pub fn new(
+        alloc: A,
+        own: &str,
+        account: Account,
+        routes: &[Route<'_>],
+    ) -> Result<Node<A>, HopError>
+        ensures made { IfOk result (λ n. n ≡ record { state = new_hop own.now (account ∷ account ∷ []) (map hop_way_seen routes.now); bag = [] }) }
+        ensures refused { MatchBool (is_table own.now (account ∷ account ∷ []) (map hop_way_seen routes.now)) (IsOkUnless result HopError.NoMemory) (IsErrOf result HopError.BadTable) }
+    {
+        let state = HopState::new(alloc, own, &[account, account], routes)?;
+        Ok(Node {
+            state,
+            kept: Vec::new(alloc),
+            bag: Vec::new(alloc),
+            alloc,
+        })
+    }
+
+    /// What an account owes the hop. No memory.
+    pub fn claims(&self, account: usize) -> Result<u64, HopError>
+        ensures { result ≡ (if nat_lt account (length self.now.state.accounts) then Ok (slice_index self.now.state.claims account) else Err HopError.NoAccount) }
+    {
+        self.state.claims(account)
+    }
+
+    /// What the hop owes an account. No memory.
+    pub fn dues(&self, account: usize) -> Result<u64, HopError>
+        ensures { result ≡ (if nat_lt account (length self.now.state.accounts) then Ok (slice_index self.now.state.dues account) else Err HopError.NoAccount) }
+    {
+        self.state.dues(account)
+    }
+
+    /// The Prepares that it answered, in order. No memory.
+    pub fn answered(&self) -> &[HopEntry]
+        ensures { result.now ≡ self.now.bag }
+    {
+        self.bag.as_slice()
+    }
+}
+
+/// A Prepare comes to a hop: it goes on to the next lane, or is answered on the lane that it came from.
+pub fn arrive_at<A: Allocator + Copy>(
+    node: &mut Node<A>,
+    next: &mut Lane<A>,
+    back: &mut Lane<A>,
+    way: Way,
+    which: usize,
+    bytes: &[u8],
+    now: Moment,
+) -> Result<Told<A>, AllocError>
+    ensures met { IfOk result (λ told. HopMet (way_seen way) which bytes.now now (told_seen told) node.old node.new next.old next.new back.old back.new) }
+    ensures same_node { OnErr result (node.new ≡ node.old) }
+    ensures same_next { OnErr result (next.new ≡ next.old) }
+    ensures same_back { OnErr result (back.new ≡ back.old) }
+{
+    node.kept.reserve(1)?;
+    node.bag.reserve(1)?;
+    next.puts.reserve(1)?;
+    back.given.reserve(1)?;
+    let t00 = Vec::from_slice(node.alloc, node.state.t00())?;
+    let amount = amount_in(bytes);
+    let entry = HopEntry {
+        incoming: way.account(),
+        outgoing: None,
+        amount_in: amount,
+        amount_out: amount,
+        fulfilled: false,
+    };
+    match node.state.arrive(way.account(), bytes, now) {
+        Ok(
+            Verdict::Forward {
+                ticket,
+                account: _,
+                bytes,
+            },
+        ) => {
+            let put = Put::of_ticket(&ticket.read(), bytes, which);
+            node.kept.push(KeptTicket::new(ticket)).unwrap();
+            next.puts.push(put).unwrap();
+            Ok(Told::Went)
+        }
+        Ok(Verdict::Answer(bytes)) => {
+            node.bag.push(entry).unwrap();
+            back.given.push(Given::new(which, bytes)).unwrap();
+            Ok(Told::Replied)
+        }
+        Err(HopError::NoMemory) => {
+            node.bag.push(entry).unwrap();
+            back.given.push(Given::new(which, t00)).unwrap();
+            Ok(Told::NoMemory)
+        }
+        Err(_) => unreachable!(),
+    }
+}
+
+/// An outcome comes back for a Prepare that a hop put on a lane: its ticket, where it is not spent, is settled, the answer
+/// is given on the lane back, and the j-th answer on the lane that it comes from is noted where it was booked.
+pub fn settle_at<A: Allocator + Copy>(
+    node: &mut Node<A>,
+    from: &mut Lane<A>,
+    back: &mut Lane<A>,
+    put: &Put<A>,
+    which: usize,
+    outcome: Outcome<A>,
+    now: Moment,
+) -> Result<Told<A>, AllocError>
+    ensures settled { IfOk result (λ told. HopBack put.now which (outcome_seen outcome) now (told_seen told) node.old node.new from.old from.new back.old back.new) }
+    ensures same_node { OnErr result (node.new ≡ node.old) }
+    ensures same_from { OnErr result (from.new ≡ from.old) }
+    ensures same_back { OnErr result (back.new ≡ back.old) }
+{
+    node.bag.reserve(1)?;
+    back.given.reserve(1)?;
+    let Some(ticket) = take_ticket(&mut node.kept, put.name) else {
+        return Ok(Told::Nothing);
+    };
+    settlements_book();
+    let open = ticket.read();
+    let booked = outcome.books(&ticket, now);
+    let bytes = node.state.settle(ticket, outcome, now);
+    let entry = HopEntry {
+        incoming: open.incoming,
+        outgoing: Some(open.outgoing),
+        amount_in: open.amount_in,
+        amount_out: open.amount_out,
+        fulfilled: booked,
+    };
+    node.bag.push(entry).unwrap();
+    mark_taken(&mut from.given, which, booked);
+    back.given.push(Given::new(put.cause, bytes)).unwrap();
+    Ok(Told::Replied)
+}
