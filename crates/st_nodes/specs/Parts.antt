@@ -16,7 +16,7 @@ use Rattle.st_end.specs.declared.error.EndError.{EndError}
 use Rattle.st_end.specs.declared.flight.Open as flights
 use Rattle.st_end.specs.State.{EndState}
 use Rattle.st_end.specs.Calls.{Answer}
-use Rattle.st_end.specs.Sending.{Goes, GoesNonePlain, is_open}
+use Rattle.st_end.specs.Sending.{Goes, GoesNone, is_open}
 use Rattle.st_end.specs.Answers.{ended, pays}
 use Rattle.st_end.specs.Receiving.{Received, received, t00_text}
 use Rattle.st_world.specs.Sides.{Side, Both, at, put}
@@ -86,7 +86,7 @@ with_taken_in b x j = record { puts = x.puts; given = taken_in b x.given j }
 
 abbrev pub EndSends : (iv : List ℕ) → (now : ℤ) → Told → (p q : Party) → (x y : Lane) → Type 0
 EndSends iv now told p q x y =
-    (GoesNonePlain p.state × (told ≡ Silent) × (q ≡ p) × (y ≡ x))
+    (GoesNone p.state × (told ≡ Silent) × (q ≡ p) × (y ≡ x))
     ⊎ (((flight : flights.Open) × (bytes : List ℕ) × (e : EndState) × Goes p.state iv now flight bytes e × (told ≡ Sent) × (q ≡ with_state p e) × (y ≡ with_put_in x (put_by flight bytes)))
     ⊎ ((told ≡ NoMemory) × (q ≡ p) × (y ≡ x)))
 

@@ -9,7 +9,7 @@ use Rattle.st_end.specs.declared.error.EndError.{EndError}
 use Rattle.st_end.specs.declared.flight.Open as flights
 use Rattle.st_end.specs.State.{EndState}
 use Rattle.st_end.specs.Calls.{Answer, abort}
-use Rattle.st_end.specs.Sending.{Goes, GoesNonePlain}
+use Rattle.st_end.specs.Sending.{Goes, GoesNone}
 use Rattle.st_end.specs.Answers.{after_outcome, pays}
 use Rattle.st_end.specs.Receiving.{Received, prepare_in, received}
 use Rattle.st_end.specs.Reading.{read}
@@ -42,14 +42,14 @@ ReadsAt w side k zero told after = (told ≡ Silent) × (after ≡ w)
 ReadsAt w side k (suc n) told after =
     let r = read (end_at w side) k (suc n) in (told ≡ Gave r.0) × (after ≡ read_at r.0 (with_end w side r.1) (other side) k)
 
--- ---- a Send gives none, or its Prepare goes on the first link. An end sends no Blocked frames and no limits of its own
+-- ---- a Send gives none, or its Prepare goes on the first link
 
 abbrev pub put_by : flights.Open → List ℕ → Put
 put_by flight bytes = record { bytes = bytes; name = flight.sequence; condition = flight.condition; cause = 0 }
 
 abbrev pub SendsAt : World → Side → (iv : List ℕ) → (now : ℤ) → Told → World → Type 0
 SendsAt w side iv now told after =
-    (GoesNonePlain (end_at w side) × (told ≡ Silent) × (after ≡ w))
+    (GoesNone (end_at w side) × (told ≡ Silent) × (after ≡ w))
     ⊎ ((flight : flights.Open) × (bytes : List ℕ) × (e : EndState) × Goes (end_at w side) iv now flight bytes e × (told ≡ Sent)
     × (after ≡ with_put (with_end w side e) (first_link w side) side (put_by flight bytes)))
 
