@@ -1,0 +1,36 @@
+#!/usr/bin/env bash
+# What it costs two ends in memory to pass 1 MiB, 64 MiB and 1 GiB in Prepares of 16,000 bytes, on one stream and on 64:
+# bytes a second of the processor's time, beside that the cipher and the hash alone over as many bytes, as parts of it, and
+# the peak of memory. Of each the best of the runs, all in one run of this script. Needs GNU time. By hand, on a quiet
+# machine: bench/end.sh [RUNS]
+set -euo pipefail
+cd "$(dirname "$0")/../crates/bench_end"
+runs=${1:-3}
+
+echo "proving and building bench_end where it is older than its sources" >&2
+rt run -- 0 1 0 0 >&2
+
+milliseconds() { # of the processor's time that the program takes with these words
+    local TIMEFORMAT='%U %S' taken least=
+    for _ in $(seq "$runs"); do
+        taken=$({ time out/bench_end "$@" >/dev/null; } 2>&1 | awk '{ printf "%.0f\n", ($1 + $2) * 1000 }')
+        if [ -z "$least" ] || [ "$taken" -lt "$least" ]; then
+            least=$taken
+        fi
+    done
+    echo "$least"
+}
+
+start=$(milliseconds 0 1 0 0) # in which 64 streams open
+printf '%12s %8s %16s %8s %8s %11s\n' bytes streams "bytes a second" cipher hash memory
+for packets in 66 4195 67109; do # the fewest that hold as many bytes
+    sealed=$(($(milliseconds 0 1 "$packets" 0) - start))
+    hashed=$(($(milliseconds 0 1 0 "$packets") - start))
+    for streams in 1 64; do
+        taken=$(($(milliseconds "$packets" "$streams" 0 0) - start))
+        memory=$(/usr/bin/time -f %M out/bench_end "$packets" "$streams" 0 0 2>&1 >/dev/null)
+        awk -v bytes=$((packets * 16000)) -v streams="$streams" -v taken="$taken" -v sealed="$sealed" -v hashed="$hashed" -v memory="$memory" 'BEGIN {
+            printf "%12d %8d %16.0f %8.2f %8.2f %8d kB\n", bytes, streams, bytes * 1000 / taken, sealed / taken, hashed / taken, memory
+        }'
+    done
+done
