@@ -1,0 +1,15 @@
+pub mod EndFolds
+pub mod SentKeeping
+pub mod ReadKeeping
+pub mod EndEvents
+pub mod Receiving
+pub mod CoreCalls
+pub mod Totals
+pub mod Lists
+pub mod Merges
+pub mod Ties
+pub mod CoreSteps
+pub mod StepTies
+pub mod Handings
+pub mod FreshRings
+pub mod Tries

@@ -1,0 +1,31 @@
+use Rattle.std.proofs.Common.{◌≡◌, ◌∙◌, ℕ, List, [], ◌∷◌, ◌++◌, ap, sym, subst, inl, Ok}
+use mathlib.Core.List.{IsPrefix}
+use Rattle.st_queues.specs.WriteEnds.{taken, known}
+use Rattle.st_queues.specs.declared.items.Item.{Item}
+use Rattle.st_queues.specs.declared.items.Item.TheVariants as item
+use Rattle.st_end.specs.Calls.{write}
+use Rattle.st_hub.specs.Flow.{has_end}
+use Rattle.st_hub.proofs.CoreCalls.{write_ok}
+use Rattle.st_hub.proofs.Tries.{chunk_end, end_end}
+use Rattle.st_hub.proofs.pumping.take_first.Goals as goal
+
+pub returns-in-Ok-clause-over : goal.returns-in-Ok-clause-over
+returns-in-Ok-clause-over g c =
+    let v = c.in-Chunk.chunk in
+    let first = subst (λ (x : Item _). IsPrefix (x ∷ []) (known c.look.new.self)) c.in-Chunk.is c.first.ensures in
+    let took = c.drop_first.ensures.took (item.Chunk v) first in
+    c.requires ∙ sym (ap has_end (took.0 ∙ ap (λ l. l ++ item.Chunk v ∷ []) c.look.ensures.same.1) ∙ chunk_end (taken c.args.lane.now.end) v)
+
+pub returns-in-Ok-clause-after : goal.returns-in-Ok-clause-after
+returns-in-Ok-clause-after g c =
+    let v = c.in-Chunk.chunk in
+    let first = subst (λ (x : Item _). IsPrefix (x ∷ []) (known c.look.new.self)) c.in-Chunk.is c.first.ensures in
+    let took = c.drop_first.ensures.took (item.Chunk v) first in
+    let wrote = write_ok _ _ c.args.stream c.deref.result.now _ c.in-Ok.ensures.answers in
+    inl (v, subst (λ (bs : List ℕ). write c.args.core.now c.args.stream bs ≡ (Ok tt, c.write.new.self)) c.deref.ensures.value wrote, took.0 ∙ ap (λ l. l ++ item.Chunk v ∷ []) c.look.ensures.same.1)
+
+pub returns-in-Ok-close_last-clause-over : goal.returns-in-Ok-close_last-clause-over
+returns-in-Ok-close_last-clause-over g c =
+    let first = subst (λ (x : Item _). IsPrefix (x ∷ []) (known c.look.new.self)) c.in-End.is c.first.ensures in
+    let took = c.drop_first-in-Ok-close_last.ensures.took item.End first in
+    sym (ap has_end took.0 ∙ end_end (taken c.look.new.self))

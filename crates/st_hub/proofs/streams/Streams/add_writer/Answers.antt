@@ -1,0 +1,53 @@
+use Rattle.std.proofs.Common.{◌≡◌, ◌+◌, ◌*◌, ◌-◌, ◌<◌, ℕ, Bool, true, false, List, map, subst, sym, ap, arith}
+use Rattle.st_hub.specs.Flow.{Flow, Inlet, inlet_at, writer_out}
+use Rattle.st_hub.specs.Handing.{AllOut, IsTooLate, IsFreshWriter, AddsWriter, RefusesWriter}
+use Rattle.st_hub.specs.Inside.{inlet_of, outlet_of, flow_of}
+use Rattle.st_hub.specs.declared.error.HubError.TheVariants.{EightWriters, WriterTooLate}
+use Rattle.st_hub.proofs.Handings.{further_sound}
+use Rattle.st_hub.proofs.streams.Streams.add_writer.Goals as goal
+
+pub returns-in_default-clause-refused : goal.returns-in_default-clause-refused
+returns-in_default-clause-refused g c =
+    let xs = map inlet_of c.self.inside.writes.items in
+    let none = subst (λ n. AllOut xs (n - 1)) c.from-place.ensures c.in_default.ensures.none in
+    (c.self.view_is, subst (λ (f : Flow _). RefusesWriter f c.args.stream EightWriters) c.self.view_is (c.if-not-is_stream.ensures, none))
+
+not_all : {A : Type 0} (xs : List (Inlet A)) (s j : ℕ) → 0 < j → j < 8 → (inlet_at xs (8 * s + j)).out ≡ false → ¬ (AllOut xs s)
+not_all xs s j above below off all = absurd (let on = all j above below in cc)
+
+pub returns-then-is_too_late-clause-refused : goal.returns-then-is_too_late-clause-refused
+returns-then-is_too_late-clause-refused g c =
+    let xs = map inlet_of c.self.inside.writes.items in
+    let f = c.in-Some.ensures.found in
+    let p = c.from-place.result - 1 in
+    let all = subst (λ n. ¬ (AllOut xs (n - 1))) c.from-place.ensures (not_all xs p c.in-Some.further f.0 f.1 f.2) in
+    let late = subst (λ n. IsTooLate xs (n - 1)) c.from-place.ensures c.if-is_too_late.ensures in
+    (c.self.view_is, subst (λ (f : Flow _). RefusesWriter f c.args.stream WriterTooLate) c.self.view_is (c.if-not-is_stream.ensures, all, late))
+
+pub invariant_of-self-2 : goal.invariant_of-self-2
+invariant_of-self-2 g c =
+    let f = c.in-Some.ensures.found in
+    further_sound _ _ _ c.self.inside.writes.items _ c.self.inside.reads.items (c.from-place.result - 1) c.in-Some.further f.0 f.1 c.further_writer.ensures.lanes c.further_writer.ensures.out c.self.invariant
+
+pub returns-clause-added : goal.returns-clause-added
+returns-clause-added g c =
+    let i = c.self.inside in
+    let f = c.in-Some.ensures.found in
+    let e = c.further_writer.ensures in
+    let a = flow_of i.core i.writes.items i.reads.items in
+    let b = flow_of i.core c.further_writer.new.writes.items i.reads.items in
+    let w = c.further_writer.result in
+    let j = c.in-Some.further in
+    let p = c.from-place.result - 1 in
+    let after : b ≡ record a { inlets = writer_out a.inlets (8 * p + j) } = λ k. record { core = i.core; inlets = e.out k; outlets = map outlet_of i.reads.items } in
+    subst (λ (x : Flow _). (j : ℕ) × AddsWriter x b c.args.stream w j) c.self.view_is (
+      j,
+      record {
+        is_open = c.if-not-is_stream.ensures;
+        further = (f.0, f.1);
+        unused = subst (λ n. (inlet_at a.inlets (8 * (n - 1) + j)).out ≡ false) c.from-place.ensures f.2;
+        in_time = subst (λ n. ¬ (IsTooLate a.inlets (n - 1))) c.from-place.ensures c.if-is_too_late.ensures;
+        fresh = subst (λ n. IsFreshWriter (8 * (n - 1) + j) w) c.from-place.ensures e.fresh;
+        after = subst (λ n. b ≡ record a { inlets = writer_out a.inlets (8 * (n - 1) + j) }) c.from-place.ensures after;
+      },
+    )

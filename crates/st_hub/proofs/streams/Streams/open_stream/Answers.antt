@@ -1,0 +1,68 @@
+use Rattle.std.proofs.Common.{◌≡◌, ◌≤◌, ◌<◌, ◌+◌, ◌-◌, ℕ, subst, sym, ap, ◌∙◌, arith, None}
+use Rattle.st_sender.specs.Sending.{outgoing_at}
+use Rattle.st_end.specs.Calls.{has_stream}
+use Rattle.st_hub.specs.Flow.{Flow}
+use Rattle.st_hub.specs.Handing.{HandsOut}
+use Rattle.st_hub.specs.Inside.{flow_of}
+use Rattle.st_hub.specs.Keeping.{Keeps}
+use Rattle.st_hub.proofs.EndEvents.{keeps_same}
+use Rattle.st_hub.proofs.CoreCalls.{opened_ok}
+use Rattle.st_hub.proofs.Handings.{opened_on, closed_held, ends_sound}
+use Rattle.st_hub.proofs.streams.Streams.open_stream.Goals as goal
+
+pub returns-in_err-stream-clause-keeps : goal.returns-in_err-stream-clause-keeps
+returns-in_err-stream-clause-keeps g c =
+    subst (λ (f : Flow _). Keeps 0 f.core c.open_stream.new.self) c.self.view_is (subst (Keeps 0 c.self.inside.core) (sym c.in_err-stream.ensures.unchanged) (keeps_same c.self.inside.core))
+
+pub overflow_sub-place : goal.overflow_sub-place
+overflow_sub-place g c =
+    let n = (opened_ok _ _ c.in_ok-stream.stream c.in_ok-stream.ensures.answers).number c.self.invariant.parity in
+    omega (arith, n.0, c.from-place.ensures)
+
+pub ends-writer-requires-clause-lanes : goal.ends-writer-requires-clause-lanes
+ends-writer-requires-clause-lanes g c =
+    let v = c.self.invariant in
+    let n = (opened_ok _ _ c.in_ok-stream.stream c.in_ok-stream.ensures.answers).number v.parity in
+    (v.lanes, v.read_lanes, omega (arith, n.0, n.1, c.from-place.ensures))
+
+pub ends-writer-requires-clause-held : goal.ends-writer-requires-clause-held
+ends-writer-requires-clause-held g c =
+    let v = c.self.invariant in
+    let o = opened_ok _ _ c.in_ok-stream.stream c.in_ok-stream.ensures.answers in
+    let n = o.number v.parity in
+    let s = c.from-place.result - 1 in
+    let is : c.in_ok-stream.stream ≡ s + 1 = omega (arith, n.0, c.from-place.ensures) in
+    closed_held (flow_of c.self.inside.core c.self.inside.writes.items c.self.inside.reads.items) s (v.paired s (omega (arith, n.0, n.1, c.from-place.ensures))) (subst (λ k. outgoing_at c.self.inside.core.sending k ≡ None) is o.none)
+
+pub invariant_of-self-2 : goal.invariant_of-self-2
+invariant_of-self-2 g c =
+    let v = c.self.invariant in
+    let o = opened_ok _ _ c.in_ok-stream.stream c.in_ok-stream.ensures.answers in
+    let n = o.number v.parity in
+    let s = c.from-place.result - 1 in
+    let is : c.in_ok-stream.stream ≡ s + 1 = omega (arith, n.0, c.from-place.ensures) in
+    let e = c.ends-writer.ensures in
+    ends_sound _ _ _ _ c.self.inside.writes.items _ c.self.inside.reads.items _ s (omega (arith, n.0, n.1, c.from-place.ensures)) o.keeps
+    (subst (λ k. has_stream c.open_stream.new.self k ≡ _) is (opened_on _ _ _ o v.width n.1)) e.lanes.0 e.lanes.1 e.out.0 e.out.1 v
+
+pub returns-clause-handed : goal.returns-clause-handed
+returns-clause-handed g c =
+    let o = opened_ok _ _ c.in_ok-stream.stream c.in_ok-stream.ensures.answers in
+    let n = o.number c.self.invariant.parity in
+    let s = c.from-place.result - 1 in
+    let e = c.ends-writer.ensures in
+    let b = flow_of c.open_stream.new.self c.ends-writer.new.writes.items c.ends-writer.new.reads.items in
+    subst (λ (a : Flow _). (s : ℕ) × HandsOut a b c.in_ok-stream.stream c.ends-writer.result.0 c.ends-writer.result.1 s) c.self.view_is (
+      s,
+      record {
+        place = omega (arith, n.0, n.1, c.from-place.ensures);
+        number_is = omega (arith, n.0, c.from-place.ensures);
+        fresh_writer = e.fresh.0;
+        fresh_reader = e.fresh.1;
+        after = λ i. record { core = c.open_stream.new.self; inlets = e.out.0 i; outlets = e.out.1 i };
+      },
+    )
+
+pub returns-clause-keeps : goal.returns-clause-keeps
+returns-clause-keeps g c =
+    subst (λ (f : Flow _). Keeps 0 f.core c.open_stream.new.self) c.self.view_is (opened_ok _ _ c.in_ok-stream.stream c.in_ok-stream.ensures.answers).keeps

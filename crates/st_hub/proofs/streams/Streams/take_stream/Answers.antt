@@ -1,0 +1,44 @@
+use Rattle.std.proofs.Common.{◌≡◌, ◌<◌, ◌+◌, ℕ, subst, sym, refl, ◌∙◌, arith, true}
+use Rattle.st_end.specs.Calls.{has_stream}
+use Rattle.st_hub.specs.Flow.{Flow}
+use Rattle.st_hub.specs.Handing.{IsLeft, TakesLeft}
+use Rattle.st_hub.specs.Inside.{flow_of}
+use Rattle.st_hub.proofs.EndEvents.{keeps_same}
+use Rattle.st_hub.proofs.Handings.{ends_sound}
+use Rattle.st_hub.proofs.streams.Streams.take_stream.Goals as goal
+
+pub ends-writer-requires-clause-held : goal.ends-writer-requires-clause-held
+ends-writer-requires-clause-held g c =
+    let f = c.in_ok-place.ensures.found in
+    rw c.from.ensures ((c.self.invariant.paired c.in_ok-place.place f.0).both ∙ f.2, f.2)
+
+pub invariant_of-self-2 : goal.invariant_of-self-2
+invariant_of-self-2 g c =
+    let v = c.self.invariant in
+    let f = c.in_ok-place.ensures.found in
+    let e = c.ends-writer.ensures in
+    ends_sound _ _ _ _ c.self.inside.writes.items _ c.self.inside.reads.items _ c.from.result (omega (arith, f.0, c.from.ensures)) (keeps_same c.self.inside.core)
+    (subst (λ n. has_stream c.self.inside.core (n + 1) ≡ true) (sym c.from.ensures) f.1) e.lanes.0 e.lanes.1 e.out.0 e.out.1 v
+
+pub returns-clause-taken : goal.returns-clause-taken
+returns-clause-taken g c =
+    let p = c.in_ok-place.place in
+    let is : c.from.result ≡ p = c.from.ensures in
+    let f = c.in_ok-place.ensures.found in
+    let e = c.ends-writer.ensures in
+    let b = flow_of c.self.inside.core c.ends-writer.new.writes.items c.ends-writer.new.reads.items in
+    subst (λ (a : Flow _). (s : ℕ) × TakesLeft a b (p + 1) c.ends-writer.result.0 c.ends-writer.result.1 s) c.self.view_is (
+      c.from.result,
+      record {
+        left = subst (λ n. IsLeft (flow_of c.self.inside.core c.self.inside.writes.items c.self.inside.reads.items) n) (sym is) (record { is_open = f.1; writer = (c.self.invariant.paired p f.0).both ∙ f.2; reader = f.2 });
+        lowest = λ t lt. c.in_ok-place.ensures.lowest t (omega (arith, is));
+        same = refl;
+        handed = record {
+          place = omega (arith, f.0, is);
+          number_is = omega (arith, is);
+          fresh_writer = e.fresh.0;
+          fresh_reader = e.fresh.1;
+          after = λ i. record { core = c.self.inside.core; inlets = e.out.0 i; outlets = e.out.1 i };
+        };
+      },
+    )

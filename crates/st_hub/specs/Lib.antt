@@ -1,0 +1,10 @@
+pub mod Errors
+pub mod Merge
+pub mod Flow
+pub mod Handing
+pub mod Steps
+pub mod Moving
+pub mod Keeping
+pub mod Hub
+pub mod Turns
+pub mod Inside

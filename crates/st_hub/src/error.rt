@@ -1,0 +1,66 @@
+//! Why a hub refused.
+
+ghost use Rattle.std.specs.Prelude.{◌≡◌};
+ghost use Rattle.st_hub.specs.Errors as errors;
+ghost use Rattle.st_hub.specs.declared.error.HubError.TheVariants.{NoMemory};
+
+use std::alloc::AllocError;
+use thiserror::Error;
+
+/// Why a call was refused.
+#[derive(Clone, Copy, Debug, PartialEq, Eq, Error)]
+pub enum HubError {
+    /// No such stream is open.
+    #[error("the stream is not open")]
+    NoStream,
+    /// As many shares are out as a hub has.
+    #[error("no share is left")]
+    NoShareLeft,
+    /// The turn is not open at this hub.
+    #[error("the turn is not open here")]
+    Stranger,
+    /// A share that is out was not given back.
+    #[error("a share is missing")]
+    MissingShare,
+    /// Memory that the call asked for was refused.
+    #[error("out of memory")]
+    NoMemory,
+    /// The stream has as many writers as there are rings for.
+    #[error("the stream has eight writers")]
+    EightWriters,
+    /// The stream was closed or aborted.
+    #[error("the stream is closed")]
+    WriterTooLate,
+}
+
+impl HubError {
+    /// The number by which the refusal is known: 50, 68, 73 to 76 or 79.
+    pub fn number(&self) -> u8
+        ensures { result ≡ errors.number self.now }
+    {
+        match self {
+            HubError::NoStream => 50,
+            HubError::NoShareLeft => 68,
+            HubError::Stranger => 73,
+            HubError::MissingShare => 74,
+            HubError::NoMemory => 75,
+            HubError::EightWriters => 76,
+            HubError::WriterTooLate => 79,
+        }
+    }
+
+    /// The number that the refusal wraps: none does.
+    pub fn inner(&self) -> Option<u64>
+        ensures { result ≡ errors.inner self.now }
+    {
+        None
+    }
+}
+
+impl From<AllocError> for HubError {
+    ghost from_gives = { λ _ e. e ≡ NoMemory };
+
+    fn from(_error: AllocError) -> HubError {
+        HubError::NoMemory
+    }
+}

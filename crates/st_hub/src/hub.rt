@@ -1,0 +1,251 @@
+//! What lies under a hub's lock.
+
+ghost use Rattle.std.specs.Prelude.{◌≡◌, ℕ, ◌++◌, List, length, OnErr, IfOk, IfErr, IfSome, IfNone, IsOkUnless, ◌<◌};
+ghost use Rattle.st_end.specs.Calls as calls;
+ghost use Rattle.st_end.specs.Calls.{OrWants};
+ghost use Rattle.st_end.specs.Receiving.{t00_text};
+ghost use Rattle.st_end.specs.Totals as totals;
+ghost use Rattle.st_queues.specs.Lanes.{ring_at};
+ghost use Rattle.st_queues.specs.Watching.{IsUpTo, nothing_seen};
+ghost use Rattle.st_queues.specs.declared.items.Item.{Item};
+ghost use Rattle.st_hub.specs.Flow.{inlet_at, outlet_at, Tied};
+ghost use Rattle.st_hub.specs.Handing.{IsTaken, number_in, HandsOut, TakesLeft, AddsWriter, RefusesWriter};
+ghost use Rattle.st_hub.specs.Steps.{Flows, Continues};
+ghost use Rattle.st_hub.specs.Hub.{IsNew, IsNewHub, shown_of, with_core};
+ghost use Rattle.st_hub.specs.declared.error.HubError.TheVariants.{NoMemory};
+
+use crate::error::HubError;
+use crate::pumping::Pumped;
+use crate::streams::Streams;
+use st_end::{EndError, EndState};
+use st_queues::{Gauge, GaugeSeat, HubName, HubSeat, Named, Rings, StreamReader, StreamWriter};
+use std::alloc::Allocator;
+use std::marker::Model;
+use std::sync::ledger::{Blank, Book, Share};
+
+/// An end beside the rings of its streams, a gauge of its totals, and the ledger of its credit. Contracts see it as the
+/// end, what was taken from each ring and put there, and the shares that are out.
+#[derive(Drop)]
+pub struct HubState<N: HubName<A>, A: Allocator + Copy> {
+    pub(crate) streams: Streams<N, A>,
+    pub(crate) gauge: Gauge<N, A>,
+    pub(crate) seat: HubSeat<N, A>,
+    pub(crate) credit: Book<N>,
+    // What was never given out, with what came back.
+    pub(crate) spare: Share<N>,
+    // How many shares are out: at most 63.
+    pub(crate) out: u64,
+}
+
+impl<N: HubName<A>, A: Allocator + Copy> Model for HubState<N, A> {
+    ghost use Rattle.std.specs.Prelude.{◌≡◌, ◌+◌, ◌<◌};
+    ghost use Rattle.std.specs.Coded.{codes};
+    ghost use Rattle.std.specs.FinMap as map;
+    ghost use Rattle.st_hub.specs.Hub.{Hub, shown_of};
+
+    ghost Value = { Hub A };
+
+    ghost coded = { Prim.hlevel (codes, map.code) };
+
+    ghost view = { λ h. record { flow = h.streams; out = h.out; kept = h.spare.amount } };
+
+    ghost invariant = { λ h. (h.seat ≡ shown_of h.streams.core) × (h.credit.total ≡ h.streams.core.receiving.credit) × (h.spare.parts + h.out ≡ 64) × (h.out < 64) × (N.parts ≡ 64) };
+}
+
+/// Publishes what the end did by now.
+pub(crate) fn publish<N: HubName<A>, A: Allocator + Copy>(
+    gauge: &Gauge<N, A>,
+    seat: &mut HubSeat<N, A>,
+    streams: &Streams<N, A>,
+)
+    requires { IsUpTo seat.old (shown_of streams.now.core) }
+    ensures { seat.new ≡ shown_of streams.now.core }
+{
+    gauge.publish(seat, streams.totals());
+}
+
+// Whether all was moved that can be.
+fn told(pumped: Pumped) -> Result<(), HubError>
+    ensures { IsOkUnless result NoMemory }
+{
+    match pumped {
+        Pumped::NoMemory => Err(HubError::NoMemory),
+        Pumped::Moved | Pumped::Nothing | Pumped::Stuck => Ok(()),
+    }
+}
+
+impl<N: HubName<A>, A: Allocator + Copy> HubState<N, A> {
+    /// A hub over a new end, with a gauge of its totals and a seat there. `N` was picked for the rings and for the blank
+    /// of 64 parts. It takes no memory.
+    pub fn new(
+        core: EndState<A>,
+        rings: Rings<A>,
+        blank: Blank,
+    ) -> (HubState<N, A>, Gauge<N, A>, GaugeSeat<N, A>)
+        requires fresh { IsNew core }
+        requires gauge { rings.gauge ≡ N.gauge }
+        requires writes { (k : ℕ) → N.write_ring k ≡ ring_at rings.writes k }
+        requires reads { (k : ℕ) → N.read_ring k ≡ ring_at rings.reads k }
+        requires name { (blank.name ≡ N.name) × (blank.parts ≡ N.parts) × (blank.parts ≡ 64) }
+        ensures hub { IsNewHub core result.0 }
+        ensures seat { result.2 ≡ nothing_seen }
+    {
+        let Named {
+            writes,
+            reads,
+            hub_gauge,
+            hub_seat,
+            gauge,
+            seat,
+            alloc,
+        } = rings.named::<N>();
+        let (credit, spare) = blank.open::<N>();
+        let hub = HubState {
+            streams: Streams::new(alloc, core, writes, reads),
+            gauge: hub_gauge,
+            seat: hub_seat,
+            credit,
+            spare,
+            out: 0,
+        };
+        (hub, gauge, seat)
+    }
+
+    /// Opens the next of this end's own streams: gives its number, a writer and its reader. Refused is what the end
+    /// refuses: `NoStream` after its last stream, `ConnectionFailed`, `Closed`, want of memory.
+    pub fn open_stream(&mut self) -> Result<(u8, StreamWriter<N, A>, StreamReader<N, A>), EndError>
+        ensures answers { OrWants self.old.flow.core (calls.open_stream self.old.flow.core) (number_in result, self.new.flow.core) }
+        ensures handed { IfOk result (λ x. (s : ℕ) × HandsOut self.old.flow self.new.flow x.0 x.1 x.2 s) }
+        ensures unchanged { OnErr result (self.new.flow ≡ self.old.flow) }
+        ensures rest { (self.new.out ≡ self.old.out) × (self.new.kept ≡ self.old.kept) }
+    {
+        let HubState {
+            streams,
+            gauge,
+            seat,
+            ..
+        } = self;
+        let opened = streams.open_stream();
+        publish(gauge, seat, streams);
+        opened
+    }
+
+    /// Gives the number, a writer and the reader of the lowest stream that the peer opened and nobody took. `None` comes
+    /// only where there is none. It takes no memory.
+    pub fn take_stream(&mut self) -> Option<(u8, StreamWriter<N, A>, StreamReader<N, A>)>
+        ensures taken { IfSome result (λ x. (s : ℕ) × TakesLeft self.old.flow self.new.flow x.0 x.1 x.2 s) }
+        ensures none { IfNone result (((s : ℕ) → s < 64 → IsTaken self.old.flow s) × (self.new.flow ≡ self.old.flow)) }
+        ensures rest { (self.new.out ≡ self.old.out) × (self.new.kept ≡ self.old.kept) }
+    {
+        self.streams.take_stream()
+    }
+
+    /// Gives a further writer of a stream, with a ring of its own. It takes no memory.
+    ///
+    /// Refuses with `NoStream` where no such stream is open, then with `EightWriters` where all its writers were given,
+    /// and then with `WriterTooLate` where each writer that was given has ended.
+    pub fn add_writer(&mut self, stream: u8) -> Result<StreamWriter<N, A>, HubError>
+        ensures added { IfOk result (λ w. (j : ℕ) × AddsWriter self.old.flow self.new.flow stream w j) }
+        ensures refused { IfErr result (λ e. (self.new.flow ≡ self.old.flow) × RefusesWriter self.old.flow stream e) }
+        ensures rest { (self.new.out ≡ self.old.out) × (self.new.kept ≡ self.old.kept) }
+    {
+        self.streams.add_writer(stream)
+    }
+
+    /// Offers so many units on a stream, as `EndState::offer` does. It takes no memory.
+    pub fn offer(&mut self, stream: u8, amount: u64) -> Result<(), EndError>
+        ensures answers { calls.offer self.old.flow.core stream amount ≡ (result, self.new.flow.core) }
+        ensures rest { self.new ≡ with_core self.old self.new.flow.core }
+    {
+        let HubState {
+            streams,
+            gauge,
+            seat,
+            ..
+        } = self;
+        let answer = streams.offer(stream, amount);
+        publish(gauge, seat, streams);
+        answer
+    }
+
+    /// Lets a stream receive up to an amount, as `EndState::set_receive_max` does. It takes no memory.
+    pub fn set_receive_max(&mut self, stream: u8, amount: u64) -> Result<(), EndError>
+        ensures answers { calls.set_receive_max self.old.flow.core stream amount ≡ (result, self.new.flow.core) }
+        ensures rest { self.new ≡ with_core self.old self.new.flow.core }
+    {
+        let HubState {
+            streams,
+            gauge,
+            seat,
+            ..
+        } = self;
+        let answer = streams.set_receive_max(stream, amount);
+        publish(gauge, seat, streams);
+        answer
+    }
+
+    /// Moves whole chunks and ends from the rings to the end where it takes them, and what can be read to the readers'
+    /// rings where there is room: a list of writes, closes and reads. A chunk or an end that is refused stays in its
+    /// ring. A stream is closed with the end of the last of its writers.
+    ///
+    /// Refuses with `NoMemory`: those moved before stand, and the next is where it was.
+    pub fn pump(&mut self) -> Result<(), HubError>
+        ensures flows { Flows self.old.flow self.new.flow }
+        ensures continues { Continues self.old.flow self.new.flow }
+        ensures only_memory { IsOkUnless result NoMemory }
+        ensures rest { (self.new.out ≡ self.old.out) × (self.new.kept ≡ self.old.kept) }
+    {
+        let HubState {
+            streams,
+            gauge,
+            seat,
+            ..
+        } = self;
+        let pumped = streams.pump();
+        publish(gauge, seat, streams);
+        told(pumped)
+    }
+
+    /// The number of items in a writer's ring: what was taken from it and then what stands in it is what it wrote. What
+    /// the end accepted on each stream is a merge of what was taken from its rings. It takes no memory.
+    pub fn meet_writer(&mut self, writer: &mut StreamWriter<N, A>) -> usize
+        ensures same { self.new ≡ self.old }
+        ensures writer { (writer.new.ring ≡ writer.old.ring) × (writer.new.items ≡ writer.old.items) × (writer.new.ended ≡ writer.old.ended) }
+        ensures whole { (rest : List (Item A)) × (length rest ≡ result) × ((inlet_at self.old.flow.inlets writer.old.ring).taken ++ rest ≡ writer.old.items) }
+        ensures merged { (s : ℕ) → s < 64 → Tied self.old.flow s }
+    {
+        self.streams.meet_writer(writer)
+    }
+
+    /// The number of items in a reader's ring: what it read and then what stands in its ring is what was delivered. It
+    /// takes no memory.
+    pub fn meet_reader(&mut self, reader: &mut StreamReader<N, A>) -> usize
+        ensures same { self.new ≡ self.old }
+        ensures reader { (reader.new.stream ≡ reader.old.stream) × (reader.new.items ≡ reader.old.items) × (reader.new.over ≡ reader.old.over) }
+        ensures count { result ≡ length reader.new.known }
+        ensures whole { reader.old.items ++ reader.new.known ≡ (outlet_at self.old.flow.outlets reader.old.stream).put }
+    {
+        self.streams.meet_reader(reader)
+    }
+
+    /// Whether this end's own close of a stream was fulfilled. It takes no memory.
+    pub fn settled(&self, stream: u8) -> bool
+        ensures { result ≡ totals.settled self.now.flow.core stream }
+    {
+        self.streams.core().settled(stream)
+    }
+
+    /// Whether the connection failed. It takes no memory.
+    pub fn is_failed(&self) -> bool
+        ensures { result ≡ self.now.flow.core.sending.failed }
+    {
+        self.streams.core().is_failed()
+    }
+
+    /// A Reject T00 that stands ready for where memory is refused (RFC 0027). It takes no memory.
+    pub fn t00(&self) -> &[u8]
+        ensures { result.now ≡ t00_text self.now.flow.core.own }
+    {
+        self.streams.core().t00()
+    }
+}

@@ -1,0 +1,263 @@
+//! What moves between the rings and the end.
+
+ghost use Rattle.std.specs.Prelude.{◌≡◌, ◌+◌, ◌*◌, ◌<◌, not, ◌&&◌, nat_eq, List, map, OnOk, OnErr, MatchBool};
+ghost use Rattle.st_queues.specs.WriteEnds.{taken, SameWriteEnd};
+ghost use Rattle.st_queues.specs.ReadEnds.{put_in, SameReadEnd};
+ghost use Rattle.st_hub.specs.Flow.{Inlet, Outlet, inlet_at, has_end, is_writing};
+ghost use Rattle.st_hub.specs.Handing.{NoOther, SomeOther};
+ghost use Rattle.st_hub.specs.Steps.{Flows};
+ghost use Rattle.st_hub.specs.Moving.{ClosesIf, AfterTake, AfterGive};
+ghost use Rattle.st_hub.specs.Inside.{inlet_of, outlet_of, flow_of, AllLanes, AllReadLanes};
+
+use st_end::{EndError, EndState};
+use st_queues::{Delivery, HubName, Item, ROOM, ReadLane, STREAMS, WRITERS, WriteLane};
+use st_receiver::Got;
+use std::alloc::Allocator;
+
+/// The most bytes of a read.
+const READ_LIMIT: usize = 4096;
+
+/// What a try to move an item came to.
+#[derive(Clone, Copy)]
+pub(crate) enum Pumped {
+    /// It was moved.
+    Moved,
+    /// A read found nothing.
+    Nothing,
+    /// There is none, there is no room for it, or the end refused it.
+    Stuck,
+    /// Memory was refused.
+    NoMemory,
+}
+
+/// Whether a writer was handed out whose end was not taken yet.
+pub(crate) fn is_busy<A: Allocator + Copy>(lane: &WriteLane<A>) -> bool
+    requires { lane.now.over ≡ has_end (taken lane.now.end) }
+    ensures { result ≡ is_writing (inlet_of lane.now) }
+{
+    lane.held.is_none() && !lane.over
+}
+
+// Closes a stream with the end of its last writer.
+fn close_last<A: Allocator + Copy>(
+    core: &mut EndState<A>,
+    stream: u8,
+    is_last: bool,
+) -> Result<(), EndError>
+    ensures closed { OnOk result (ClosesIf is_last core.old stream core.new) }
+    ensures refused { OnErr result (core.new ≡ core.old) }
+{
+    if is_last { core.close(stream) } else { Ok(()) }
+}
+
+// Moves the first item of a ring to the end, where the end takes it.
+fn take_first<A: Allocator + Copy>(
+    core: &mut EndState<A>,
+    lane: &mut WriteLane<A>,
+    stream: u8,
+    is_last: bool,
+) -> Pumped
+    requires { lane.old.over ≡ has_end (taken lane.old.end) }
+    ensures same { SameWriteEnd lane.old.end lane.new.end × (lane.new.held ≡ lane.old.held) }
+    ensures over { lane.new.over ≡ has_end (taken lane.new.end) }
+    ensures after { AfterTake stream is_last core.old (taken lane.old.end) result core.new (taken lane.new.end) }
+{
+    let WriteLane { end, held: _, over } = lane;
+    if *over || !end.look() {
+        return Pumped::Stuck;
+    }
+    match end.first() {
+        Item::Chunk(chunk) => match core.write(stream, chunk) {
+            Ok(()) => {
+                end.drop_first();
+                Pumped::Moved
+            }
+            Err(EndError::NoMemory) => Pumped::NoMemory,
+            Err(_) => Pumped::Stuck,
+        },
+        Item::End => match close_last(core, stream, is_last) {
+            Ok(()) => {
+                end.drop_first();
+                *over = true;
+                Pumped::Moved
+            }
+            Err(_) => Pumped::Stuck,
+        },
+    }
+}
+
+// Delivers what a read gives to a ring that has room.
+fn give_first<A: Allocator + Copy>(
+    core: &mut EndState<A>,
+    lane: &mut ReadLane<A>,
+    stream: u8,
+) -> Pumped
+    ensures same { SameReadEnd lane.old.end lane.new.end × (lane.new.held ≡ lane.old.held) }
+    ensures after { AfterGive stream core.old (put_in lane.old.end) result core.new (put_in lane.new.end) }
+{
+    let ReadLane { end, held: _, over } = lane;
+    if *over || end.room() == 0 {
+        return Pumped::Stuck;
+    }
+    match core.read(stream, READ_LIMIT) {
+        Ok(Got::Bytes(bytes)) => {
+            end.put(Delivery::Bytes(bytes));
+            Pumped::Moved
+        }
+        Ok(Got::Nothing) => Pumped::Nothing,
+        Ok(Got::End) => {
+            end.put(Delivery::End);
+            *over = true;
+            Pumped::Moved
+        }
+        Ok(Got::Aborted(code)) => {
+            end.put(Delivery::Aborted(code));
+            *over = true;
+            Pumped::Moved
+        }
+        Err(EndError::NoMemory) => Pumped::NoMemory,
+        Err(_) => Pumped::Stuck,
+    }
+}
+
+// Whether this is another writer of the stream, and is left.
+fn is_other_busy<N: HubName<A>, A: Allocator + Copy>(
+    writes: &Vec<WriteLane<A>, A>,
+    place: usize,
+    writer: usize,
+    other: usize,
+) -> bool
+    requires { AllLanes N.write_ring writes.now.items × (place < 64) × (other < 8) }
+    ensures { result ≡ (not (nat_eq other writer) && is_writing (inlet_at (map inlet_of writes.now.items) (8 * place + other))) }
+{
+    if other == writer {
+        return false;
+    }
+    let lane = &writes[8 * place + other];
+    is_busy(lane)
+}
+
+/// Whether no other writer of the stream at this place is left.
+pub(crate) fn is_last<N: HubName<A>, A: Allocator + Copy>(
+    writes: &Vec<WriteLane<A>, A>,
+    place: usize,
+    writer: usize,
+) -> bool
+    requires { AllLanes N.write_ring writes.now.items × (place < 64) }
+    ensures { MatchBool result (NoOther (map inlet_of writes.now.items) place writer) (SomeOther (map inlet_of writes.now.items) place writer) }
+{
+    for other in 0..usize::from(WRITERS) {
+        if is_other_busy::<N, A>(writes, place, writer, other) {
+            return false;
+        }
+    }
+    true
+}
+
+// One try to take from a ring where it lies.
+fn take_one<N: HubName<A>, A: Allocator + Copy>(
+    core: &mut EndState<A>,
+    writes: &mut Vec<WriteLane<A>, A>,
+    place: usize,
+    writer: usize,
+) -> Pumped
+    requires { AllLanes N.write_ring writes.old.items × (place < 64) × (writer < 8) }
+    ensures lanes { AllLanes N.write_ring writes.new.items }
+    ensures flows { (outlets : List (Outlet A)) → Flows (record { core = core.old; inlets = map inlet_of writes.old.items; outlets = outlets }) (record { core = core.new; inlets = map inlet_of writes.new.items; outlets = outlets }) }
+{
+    let last = is_last::<N, A>(writes, place, writer);
+    let lane = &mut writes[8 * place + writer];
+    take_first(core, lane, place as u8 + 1, last)
+}
+
+// One try to deliver to a ring where it lies.
+fn give_one<N: HubName<A>, A: Allocator + Copy>(
+    core: &mut EndState<A>,
+    reads: &mut Vec<ReadLane<A>, A>,
+    place: usize,
+) -> Pumped
+    requires { AllReadLanes N.read_ring reads.old.items × (place < 64) }
+    ensures lanes { AllReadLanes N.read_ring reads.new.items }
+    ensures flows { (inlets : List (Inlet A)) → Flows (record { core = core.old; inlets = inlets; outlets = map outlet_of reads.old.items }) (record { core = core.new; inlets = inlets; outlets = map outlet_of reads.new.items }) }
+{
+    let lane = &mut reads[place];
+    give_first(core, lane, place as u8 + 1)
+}
+
+// Takes all that the end takes of one ring.
+fn take_ring<N: HubName<A>, A: Allocator + Copy>(
+    core: &mut EndState<A>,
+    writes: &mut Vec<WriteLane<A>, A>,
+    place: usize,
+    writer: usize,
+) -> Pumped
+    requires { AllLanes N.write_ring writes.old.items × (place < 64) × (writer < 8) }
+    ensures lanes { AllLanes N.write_ring writes.new.items }
+    ensures flows { (outlets : List (Outlet A)) → Flows (record { core = core.old; inlets = map inlet_of writes.old.items; outlets = outlets }) (record { core = core.new; inlets = map inlet_of writes.new.items; outlets = outlets }) }
+{
+    for _ in 0..ROOM {
+        match take_one::<N, A>(core, writes, place, writer) {
+            Pumped::Moved => {}
+            stopped => return stopped,
+        }
+    }
+    Pumped::Moved
+}
+
+// Takes all that the end takes of one stream, ring by ring.
+fn take_stream<N: HubName<A>, A: Allocator + Copy>(
+    core: &mut EndState<A>,
+    writes: &mut Vec<WriteLane<A>, A>,
+    place: usize,
+) -> Pumped
+    requires { AllLanes N.write_ring writes.old.items × (place < 64) }
+    ensures lanes { AllLanes N.write_ring writes.new.items }
+    ensures flows { (outlets : List (Outlet A)) → Flows (record { core = core.old; inlets = map inlet_of writes.old.items; outlets = outlets }) (record { core = core.new; inlets = map inlet_of writes.new.items; outlets = outlets }) }
+{
+    for writer in 0..usize::from(WRITERS) {
+        if let Pumped::NoMemory = take_ring::<N, A>(core, writes, place, writer) {
+            return Pumped::NoMemory;
+        }
+    }
+    Pumped::Moved
+}
+
+// Delivers all that there is room for of one stream.
+fn give_stream<N: HubName<A>, A: Allocator + Copy>(
+    core: &mut EndState<A>,
+    reads: &mut Vec<ReadLane<A>, A>,
+    place: usize,
+) -> Pumped
+    requires { AllReadLanes N.read_ring reads.old.items × (place < 64) }
+    ensures lanes { AllReadLanes N.read_ring reads.new.items }
+    ensures flows { (inlets : List (Inlet A)) → Flows (record { core = core.old; inlets = inlets; outlets = map outlet_of reads.old.items }) (record { core = core.new; inlets = inlets; outlets = map outlet_of reads.new.items }) }
+{
+    for _ in 0..ROOM {
+        match give_one::<N, A>(core, reads, place) {
+            Pumped::Moved => {}
+            stopped => return stopped,
+        }
+    }
+    Pumped::Moved
+}
+
+/// Moves what can be moved. At `NoMemory` what was moved stands, and the next is where it was.
+pub(crate) fn pump<N: HubName<A>, A: Allocator + Copy>(
+    core: &mut EndState<A>,
+    writes: &mut Vec<WriteLane<A>, A>,
+    reads: &mut Vec<ReadLane<A>, A>,
+) -> Pumped
+    requires { AllLanes N.write_ring writes.old.items × AllReadLanes N.read_ring reads.old.items }
+    ensures lanes { AllLanes N.write_ring writes.new.items × AllReadLanes N.read_ring reads.new.items }
+    ensures flows { Flows (flow_of core.old writes.old.items reads.old.items) (flow_of core.new writes.new.items reads.new.items) }
+{
+    for place in 0..usize::from(STREAMS) {
+        if let Pumped::NoMemory = take_stream::<N, A>(core, writes, place) {
+            return Pumped::NoMemory;
+        }
+        if let Pumped::NoMemory = give_stream::<N, A>(core, reads, place) {
+            return Pumped::NoMemory;
+        }
+    }
+    Pumped::Moved
+}

@@ -1,0 +1,268 @@
+//! An end beside the rings of its streams.
+
+ghost use Rattle.std.specs.Prelude.{◌≡◌, ◌<◌, ℕ, true, List, ◌++◌, length, vec_len, OnErr, IfOk, IfErr, IfSome, IfNone, IsOkUnless, MatchOption};
+ghost use Rattle.st_end.specs.Calls as calls;
+ghost use Rattle.st_end.specs.Calls.{OrWants};
+ghost use Rattle.st_end.specs.Sending as sending;
+ghost use Rattle.st_end.specs.Sending.{Goes, GoesNonePlain};
+ghost use Rattle.st_end.specs.Answers.{ended};
+ghost use Rattle.st_end.specs.Receiving.{received};
+ghost use Rattle.st_end.specs.Seen.{received_seen};
+ghost use Rattle.st_hop.specs.Seen.{outcome_seen};
+ghost use Rattle.st_queues.specs.Lanes.{AllNamed, AllNamedReads};
+ghost use Rattle.st_queues.specs.declared.items.Item.{Item};
+ghost use Rattle.st_hub.specs.Flow.{inlet_at, outlet_at, Tied};
+ghost use Rattle.st_hub.specs.Handing.{IsTaken, number_in, HandsOut, TakesLeft, AddsWriter, RefusesWriter};
+ghost use Rattle.st_hub.specs.Steps.{Flows, Continues};
+ghost use Rattle.st_hub.specs.Keeping.{Keeps, Rises};
+ghost use Rattle.st_hub.specs.Hub.{IsNew, shown_of};
+ghost use Rattle.st_hub.specs.Turns.{credited_by};
+ghost use Rattle.st_hub.specs.Inside.{flow_of};
+
+use crate::adding::{first_unused, further_writer, is_stream, is_too_late};
+use crate::error::HubError;
+use crate::lanes::{ends, first_left};
+use crate::pumping::Pumped;
+use crate::{lanes, pumping};
+use st_end::{EndError, EndState, Flight, Received};
+use st_hop::Outcome;
+use st_ilp::Moment;
+use st_queues::{HubName, ReadLane, StreamReader, StreamWriter, Totals, WriteLane};
+use std::alloc::Allocator;
+use std::marker::{Model, PhantomData};
+
+/// An end beside its rings. Contracts see it as the end, what was taken from each ring and what was put there.
+#[derive(Drop)]
+pub(crate) struct Streams<N: HubName<A>, A: Allocator + Copy> {
+    core: EndState<A>,
+    // By ring number: writer j of the stream at place s is at 8 s + j.
+    writes: Vec<WriteLane<A>, A>,
+    // By place: the stream of number k is at k - 1.
+    reads: Vec<ReadLane<A>, A>,
+    alloc: A,
+    of: PhantomData<N>,
+}
+
+impl<N: HubName<A>, A: Allocator + Copy> Model for Streams<N, A> {
+    ghost use Rattle.std.specs.Coded.{codes};
+    ghost use Rattle.std.specs.FinMap as map;
+    ghost use Rattle.st_hub.specs.Flow.{Flow};
+    ghost use Rattle.st_hub.specs.Inside.{flow_of, IsSound};
+
+    ghost Value = { Flow A };
+
+    ghost coded = { Prim.hlevel (codes, map.code) };
+
+    ghost view = { λ h. flow_of h.core h.writes.items h.reads.items };
+
+    ghost invariant = { λ h. IsSound N.write_ring N.read_ring h.core h.writes.items h.reads.items };
+}
+
+impl<N: HubName<A>, A: Allocator + Copy> Streams<N, A> {
+    /// A new end beside rings that nobody used. It takes no memory.
+    pub(crate) fn new(
+        alloc: A,
+        core: EndState<A>,
+        writes: Vec<WriteLane<A>, A>,
+        reads: Vec<ReadLane<A>, A>,
+    ) -> Streams<N, A>
+        requires fresh { IsNew core }
+        requires writes { (vec_len writes ≡ 512) × AllNamed N.write_ring writes.items }
+        requires reads { (vec_len reads ≡ 64) × AllNamedReads N.read_ring reads.items }
+        ensures { result ≡ flow_of core writes.items reads.items }
+    {
+        Streams {
+            core,
+            writes,
+            reads,
+            alloc,
+            of: PhantomData,
+        }
+    }
+
+    /// What the end did so far.
+    pub(crate) fn totals(&self) -> Totals
+        ensures { result ≡ shown_of self.now.core }
+    {
+        let told = self.core.totals();
+        Totals {
+            accepted: told.accepted,
+            delivered: told.delivered,
+            credited: told.credited,
+            paid: told.paid,
+        }
+    }
+
+    /// The end.
+    pub(crate) fn core(&self) -> &EndState<A>
+        ensures { result.now ≡ self.now.core }
+    {
+        &self.core
+    }
+
+    /// The end's `offer`.
+    pub(crate) fn offer(&mut self, stream: u8, amount: u64) -> Result<(), EndError>
+        ensures answers { calls.offer self.old.core stream amount ≡ (result, self.new.core) }
+        ensures keeps { Keeps 0 self.old.core self.new.core }
+        ensures rest { self.new ≡ record self.old { core = self.new.core } }
+    {
+        self.core.offer(stream, amount)
+    }
+
+    /// The end's `set_receive_max`.
+    pub(crate) fn set_receive_max(&mut self, stream: u8, amount: u64) -> Result<(), EndError>
+        ensures answers { calls.set_receive_max self.old.core stream amount ≡ (result, self.new.core) }
+        ensures keeps { Keeps 0 self.old.core self.new.core }
+        ensures rest { self.new ≡ record self.old { core = self.new.core } }
+    {
+        self.core.set_receive_max(stream, amount)
+    }
+
+    /// The end's `send`.
+    pub(crate) fn send(
+        &mut self,
+        iv: [u8; 12],
+        now: Moment,
+    ) -> Result<Option<(Flight, Vec<u8, A>)>, EndError>
+        ensures only_memory { IsOkUnless result EndError.NoMemory }
+        ensures goes { IfOk result (λ sent. MatchOption sent (GoesNonePlain self.old.core × (self.new.core ≡ self.old.core)) (λ x. Goes self.old.core iv now x.0 x.1.items self.new.core)) }
+        ensures unchanged { OnErr result (self.new.core ≡ self.old.core) }
+        ensures keeps { Keeps 0 self.old.core self.new.core }
+        ensures rest { self.new ≡ record self.old { core = self.new.core } }
+    {
+        self.core.send(iv, now)
+    }
+
+    /// Ends a flight of the end with what came back to it.
+    pub(crate) fn settle(&mut self, flight: Flight, outcome: Outcome<A>)
+        requires { sending.is_open self.old.core flight ≡ true }
+        ensures left { self.new.core ≡ ended self.old.core flight (outcome_seen outcome) }
+        ensures keeps { Keeps 0 self.old.core self.new.core }
+        ensures rest { self.new ≡ record self.old { core = self.new.core } }
+    {
+        settle_flight(&mut self.core, flight, outcome);
+    }
+
+    /// The end's `receive`.
+    pub(crate) fn receive(&mut self, bytes: &[u8], now: Moment) -> Result<Received<A>, EndError>
+        ensures only_memory { IsOkUnless result EndError.NoMemory }
+        ensures answers { IfOk result (λ r. received self.old.core bytes.now now ≡ (received_seen r, self.new.core)) }
+        ensures keeps { IfOk result (λ r. Keeps (credited_by (received_seen r)) self.old.core self.new.core) }
+        ensures unchanged { OnErr result (self.new.core ≡ self.old.core) }
+        ensures rest { self.new ≡ record self.old { core = self.new.core } }
+    {
+        self.core.receive(bytes, now)
+    }
+
+    /// Opens a stream at the end, and hands out its first writer and its reader.
+    pub(crate) fn open_stream(
+        &mut self,
+    ) -> Result<(u8, StreamWriter<N, A>, StreamReader<N, A>), EndError>
+        ensures answers { OrWants self.old.core (calls.open_stream self.old.core) (number_in result, self.new.core) }
+        ensures handed { IfOk result (λ x. (s : ℕ) × HandsOut self.old self.new x.0 x.1 x.2 s) }
+        ensures unchanged { OnErr result (self.new ≡ self.old) }
+        ensures keeps { Keeps 0 self.old.core self.new.core }
+    {
+        let Streams {
+            core,
+            writes,
+            reads,
+            alloc,
+            ..
+        } = self;
+        let stream = core.open_stream()?;
+        let place = usize::from(stream) - 1;
+        let (writer, reader) = ends::<N, A>(*alloc, writes, reads, place);
+        Ok((stream, writer, reader))
+    }
+
+    /// Hands out the ends of the lowest stream that is open and whose ends nobody has.
+    pub(crate) fn take_stream(&mut self) -> Option<(u8, StreamWriter<N, A>, StreamReader<N, A>)>
+        ensures taken { IfSome result (λ x. (s : ℕ) × TakesLeft self.old self.new x.0 x.1 x.2 s) }
+        ensures none { IfNone result (((s : ℕ) → s < 64 → IsTaken self.old s) × (self.new ≡ self.old)) }
+    {
+        let Streams {
+            core,
+            writes,
+            reads,
+            alloc,
+            ..
+        } = self;
+        let place = first_left(core, reads)?;
+        let (writer, reader) = ends::<N, A>(*alloc, writes, reads, usize::from(place));
+        Some((place + 1, writer, reader))
+    }
+
+    /// Hands out a further writer of an open stream.
+    pub(crate) fn add_writer(&mut self, stream: u8) -> Result<StreamWriter<N, A>, HubError>
+        ensures added { IfOk result (λ w. (j : ℕ) × AddsWriter self.old self.new stream w j) }
+        ensures refused { IfErr result (λ e. (self.new ≡ self.old) × RefusesWriter self.old stream e) }
+    {
+        let Streams {
+            core,
+            writes,
+            alloc,
+            ..
+        } = self;
+        if !is_stream(core, stream) {
+            return Err(HubError::NoStream);
+        }
+        let place = usize::from(stream) - 1;
+        let Some(further) = first_unused(writes, place) else {
+            return Err(HubError::EightWriters);
+        };
+        if is_too_late::<N, A>(writes, place) {
+            return Err(HubError::WriterTooLate);
+        }
+        Ok(further_writer::<N, A>(*alloc, writes, 8 * place + further))
+    }
+
+    /// The number of items in a writer's ring, with the writer in hand.
+    pub(crate) fn meet_writer(&mut self, writer: &mut StreamWriter<N, A>) -> usize
+        ensures same { self.new ≡ self.old }
+        ensures writer { (writer.new.ring ≡ writer.old.ring) × (writer.new.items ≡ writer.old.items) × (writer.new.ended ≡ writer.old.ended) }
+        ensures whole { (rest : List (Item A)) × (length rest ≡ result) × ((inlet_at self.old.inlets writer.old.ring).taken ++ rest ≡ writer.old.items) }
+        ensures merged { (s : ℕ) → s < 64 → Tied self.old s }
+    {
+        lanes::meet_writer(&mut self.writes, writer)
+    }
+
+    /// The number of items in a reader's ring, with the reader in hand.
+    pub(crate) fn meet_reader(&mut self, reader: &mut StreamReader<N, A>) -> usize
+        ensures same { self.new ≡ self.old }
+        ensures reader { (reader.new.stream ≡ reader.old.stream) × (reader.new.items ≡ reader.old.items) × (reader.new.over ≡ reader.old.over) }
+        ensures count { result ≡ length reader.new.known }
+        ensures whole { reader.old.items ++ reader.new.known ≡ (outlet_at self.old.outlets reader.old.stream).put }
+    {
+        lanes::meet_reader(&mut self.reads, reader)
+    }
+
+    /// Moves what can be moved between the rings and the end.
+    pub(crate) fn pump(&mut self) -> Pumped
+        ensures flows { Flows self.old self.new }
+        ensures rises { Rises self.old.core self.new.core }
+        ensures money { self.new.core.receiving.credit ≡ self.old.core.receiving.credit }
+        ensures continues { Continues self.old self.new }
+    {
+        let Streams {
+            core,
+            writes,
+            reads,
+            ..
+        } = self;
+        pumping::pump::<N, A>(core, writes, reads)
+    }
+}
+
+// Ends a flight with what came back to it.
+fn settle_flight<A: Allocator + Copy>(core: &mut EndState<A>, flight: Flight, outcome: Outcome<A>)
+    requires { sending.is_open core.old flight ≡ true }
+    ensures { core.new ≡ ended core.old flight (outcome_seen outcome) }
+{
+    match outcome {
+        Outcome::Answered(mut bytes) => {
+            let _ = core.answer(flight, &mut bytes);
+        }
+        Outcome::Fault => core.fault(flight),
+    }
+}
