@@ -22,7 +22,7 @@ const RECEIVE_MAX: u64 = 1_000_000;
 /// How many bytes a lane has: mostly few, at times more than an end may send before it was told a limit.
 fn total(numbers: &mut Numbers) -> u64 {
     match numbers.below(8) {
-        0 => numbers.below(40_000),
+        0 => numbers.below(100_000),
         1 => 0,
         _ => numbers.below(2_000),
     }
