@@ -37,19 +37,21 @@ impl Answerer for Fixed {
     }
 }
 
-/// What comes back from this host for a token.
+/// What comes back from this host for a token, and the faults that were counted.
 fn ask<N: Net>(
     net: &N,
     alloc: Global,
     host: &str,
     token: &str,
-) -> Result<(Result<Vec<u8>, LinkFault>, u64), Fail> {
+) -> (Result<Vec<u8>, LinkFault>, u64) {
     if !is_field_text(host) || !is_field_text(token) {
-        return Err(Fail::new("no host or token"));
+        return (Err(LinkFault::Peer), 0);
     }
-    let mut link = HttpLink::new(alloc, alloc, net, host, token, TURNS)?;
+    let Ok(mut link) = HttpLink::new(alloc, alloc, net, host, token, TURNS) else {
+        return (Err(LinkFault::NoMemory), 0);
+    };
     let answer = link.exchange(ASKED);
-    Ok((answer, link.faults()))
+    (answer, link.faults())
 }
 
 /// Serves the next connection.
@@ -84,52 +86,17 @@ where
     stream.write_all(bytes).is_ok()
 }
 
-/// What came back for a token from a neighbour that serves one connection, and the faults that were counted.
-fn asked_with<R: Net + thread::Threads + Sync>(
-    rt: &R,
-    alloc: Global,
-    token: &str,
-) -> Result<(Result<Vec<u8>, LinkFault>, u64), Fail>
-where
-    R::Listener: Sync,
-{
-    let listener = TcpListener::bind(rt, "127.0.0.1:0")?;
-    let host = format!(in alloc; "{}", listener.local_addr()?)?;
-    let (asked, served) = thread::join(
-        rt,
-        || ask(rt, alloc, host.as_str(), token),
-        || serve(&listener, alloc),
-    );
-    let (answer, faults) = asked?;
-    if served {
-        Ok((answer, faults))
-    } else {
-        Err(Fail::new("the neighbour did not answer"))
-    }
-}
-
-/// And from one that says these bytes and closes.
-fn asked_of<R: Net + thread::Threads + Sync>(
-    rt: &R,
-    alloc: Global,
-    said: &[u8],
-) -> Result<(Result<Vec<u8>, LinkFault>, u64), Fail>
-where
-    R::Listener: Sync,
-{
-    let listener = TcpListener::bind(rt, "127.0.0.1:0")?;
-    let host = format!(in alloc; "{}", listener.local_addr()?)?;
-    let (asked, _said) = thread::join(
-        rt,
-        || ask(rt, alloc, host.as_str(), "t1"),
-        || say(&listener, said),
-    );
-    asked
-}
-
 #[test]
 fn brings_the_answer_back(rt: HostRuntime) -> Result<(), Fail> {
-    let (answer, faults) = asked_with(&rt, rt.alloc(), "t1")?;
+    let alloc = rt.alloc();
+    let listener = TcpListener::bind(&rt, "127.0.0.1:0")?;
+    let host = format!(in alloc; "{}", listener.local_addr()?)?;
+    let ((answer, faults), served) = thread::join(
+        &rt,
+        || ask(&rt, alloc, host.as_str(), "t1"),
+        || serve(&listener, alloc),
+    );
+    assert!(rt; served);
     assert_eq!(rt; answer.as_deref(), Ok(ANSWERED));
     assert_eq!(rt; faults, 0);
     Ok(())
@@ -137,7 +104,15 @@ fn brings_the_answer_back(rt: HostRuntime) -> Result<(), Fail> {
 
 #[test]
 fn a_token_that_is_not_known_gets_no_answer(rt: HostRuntime) -> Result<(), Fail> {
-    let (answer, faults) = asked_with(&rt, rt.alloc(), "t2")?;
+    let alloc = rt.alloc();
+    let listener = TcpListener::bind(&rt, "127.0.0.1:0")?;
+    let host = format!(in alloc; "{}", listener.local_addr()?)?;
+    let ((answer, faults), served) = thread::join(
+        &rt,
+        || ask(&rt, alloc, host.as_str(), "t2"),
+        || serve(&listener, alloc),
+    );
+    assert!(rt; served);
     assert_eq!(rt; answer.as_deref(), Err(&LinkFault::Peer));
     assert_eq!(rt; faults, 0);
     Ok(())
@@ -145,7 +120,14 @@ fn a_token_that_is_not_known_gets_no_answer(rt: HostRuntime) -> Result<(), Fail>
 
 #[test]
 fn a_neighbour_that_speaks_no_http_gives_no_answer(rt: HostRuntime) -> Result<(), Fail> {
-    let (answer, _faults) = asked_of(&rt, rt.alloc(), b"SSH-2.0-elsewhere\r\n\r\n")?;
+    let alloc = rt.alloc();
+    let listener = TcpListener::bind(&rt, "127.0.0.1:0")?;
+    let host = format!(in alloc; "{}", listener.local_addr()?)?;
+    let ((answer, _faults), _said) = thread::join(
+        &rt,
+        || ask(&rt, alloc, host.as_str(), "t1"),
+        || say(&listener, b"SSH-2.0-elsewhere\r\n\r\n"),
+    );
     assert!(rt; answer.is_err());
     Ok(())
 }
@@ -156,7 +138,7 @@ fn nobody_gives_no_answer(rt: HostRuntime) -> Result<(), Fail> {
     let listener = TcpListener::bind(&rt, "127.0.0.1:0")?;
     let host = format!(in alloc; "{}", listener.local_addr()?)?;
     drop(listener);
-    let (answer, faults) = ask(&rt, alloc, host.as_str(), "t1")?;
+    let (answer, faults) = ask(&rt, alloc, host.as_str(), "t1");
     assert_eq!(rt; answer.as_deref(), Err(&LinkFault::Peer));
     assert_eq!(rt; faults, 0);
     let mut nowhere = HttpLink::nowhere(alloc, alloc, &rt);
