@@ -1,0 +1,5 @@
+pub mod Lanes
+pub mod OverLinks
+pub mod Meets
+pub mod Hops
+pub mod Reached

@@ -1,0 +1,9 @@
+use Rattle.std.proofs.Common.{arith, ◌+◌, ◌<◌, length}
+use Rattle.st_world.specs.Sides.{Client, Server}
+use Rattle.st_chain.proofs.OverLinks.{meets_down}
+use Rattle.st_chain.proofs.links.meet_hop_down.Goals as goal
+
+pub returns-clause-met : goal.returns-clause-met
+returns-clause-met g c =
+    let more : 0 < length c.split_at_mut-front.result.1.now = omega (arith, c.requires, c.split_at_mut-front.ensures.back_len) in
+    meets_down c.args.links.now _ _ c.args.link _ _ _ _ Server c.split_at_mut-front.ensures.value c.split_at_mut-front.ensures.front_len more c.onto.view_is c.over.view_is _ _ _ _ _ _ _ _ c.in_ok-told.ensures.met

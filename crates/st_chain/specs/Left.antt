@@ -1,0 +1,43 @@
+-- What a run leaves: a world without its links.
+use Rattle.std.specs.Prelude.{◌≡◌, ◌⊎◌, ℕ, ℤ, Bool, true, false, List}
+use Rattle.std.specs.declared.option.Option.{Option}
+use Rattle.std.specs.Ordering.{nat_cmp}
+use Rattle.std.specs.FinMap as fmap
+use Rattle.st_world.specs.Sides.{Side, Both}
+use Rattle.st_world.specs.Ledgers.{Ledger}
+use Rattle.st_world.specs.State.{World, Party, Node, Lane, Put, Place}
+use Rattle.st_world.specs.Events.{Event, Told, NoMemory}
+use Rattle.st_world.specs.Steps.{ArrivesAt, RefusesAt, noted}
+use Rattle.st_world.specs.Runs.{Chain, Run, opening}
+use Rattle.st_world.specs.Holds.{Holds}
+
+pub record Left : Type 0 where
+  pub ends : Both Party
+  pub nodes : List Node
+  pub ledgers : Both (fmap.FinMap nat_cmp Ledger)
+  pub refused : Bool
+
+abbrev pub in_world : Left → List (Both Lane) → World
+in_world t ls = record { ends = t.ends; nodes = t.nodes; links = ls; ledgers = t.ledgers; refused = t.refused }
+
+abbrev pub left_of : World → Left
+left_of w = record { ends = w.ends; nodes = w.nodes; ledgers = w.ledgers; refused = w.refused }
+
+-- the call found no memory
+abbrev pub lacks : Told → Bool
+lacks NoMemory = true
+lacks told = false
+
+-- a Prepare that is there comes to this place
+abbrev pub MeetsAt : World → (link : ℕ) → (way : Side) → (which : ℕ) → (now : ℤ) → Put → Place → Told → World → Type 0
+MeetsAt w link way which now p place told after =
+    ArrivesAt w link way which now p place told after
+    ⊎ ((mid : World) × (told ≡ NoMemory) × RefusesAt w link way which now p place mid × (after ≡ noted mid))
+
+-- a world that some run from an opening reaches
+abbrev pub IsReached : World → Type 0
+IsReached w = (c : Chain) × (events : List Event) × Run (opening c) events w
+
+-- with the links that there were, all holds that holds of a run
+abbrev pub HoldsOf : Left → Type 0
+HoldsOf t = (ls : List (Both Lane)) × Holds (in_world t ls)

@@ -1,0 +1,5 @@
+pub mod Faults
+pub mod Seen
+pub mod Places
+pub mod Left
+pub mod Chains
