@@ -7,7 +7,7 @@ use Rattle.st_end.specs.declared.error.EndError.TheVariants as end_errors
 use Rattle.st_end.specs.declared.flight.Open as flights
 use Rattle.st_end.specs.declared.received.Received.{Received}
 use Rattle.st_end.specs.Calls.{Answer, OrWants, open_stream, write}
-use Rattle.st_end.specs.Sending.{Goes, GoesNonePlain}
+use Rattle.st_end.specs.Sending.{Goes, GoesNone}
 use Rattle.st_end.specs.Receiving as receiving
 use Rattle.st_end.specs.Seen.{received_seen}
 use Rattle.st_hub.specs.Turns.{credited_by}
@@ -24,7 +24,7 @@ receive_some e b bytes now (Ok x) h u = (credited_by (received_seen x), subst (�
 receive_some e b bytes now (Err why) h u = (0, subst (Keeps 0 e) (sym u) (keeps_same e))
 
 pub send_keeps : {X : Type 0} (e b : EndState) (iv : List ℕ) (now : ℤ) (r : Result (Option (flights.Open × Vec ℕ X)) EndError)
-    → IfOk r (λ s. MatchOption s (GoesNonePlain e × (b ≡ e)) (λ x. Goes e iv now x.0 x.1.items b)) → OnErr r (b ≡ e) → Keeps 0 e b
+    → IfOk r (λ s. MatchOption s (GoesNone e × (b ≡ e)) (λ x. Goes e iv now x.0 x.1.items b)) → OnErr r (b ≡ e) → Keeps 0 e b
 send_keeps e b iv now (Ok None) h u = subst (Keeps 0 e) (sym h.1) (keeps_same e)
 send_keeps e b iv now (Ok (Some x)) h u = goes_keeps e iv now x.0 x.1.items b h
 send_keeps e b iv now (Err why) h u = subst (Keeps 0 e) (sym u) (keeps_same e)

@@ -4,7 +4,7 @@ ghost use Rattle.std.specs.Prelude.{◌≡◌, ◌<◌, ℕ, true, List, ◌++�
 ghost use Rattle.st_end.specs.Calls as calls;
 ghost use Rattle.st_end.specs.Calls.{OrWants};
 ghost use Rattle.st_end.specs.Sending as sending;
-ghost use Rattle.st_end.specs.Sending.{Goes, GoesNonePlain};
+ghost use Rattle.st_end.specs.Sending.{Goes, GoesNone};
 ghost use Rattle.st_end.specs.Answers.{ended};
 ghost use Rattle.st_end.specs.Receiving.{received};
 ghost use Rattle.st_end.specs.Seen.{received_seen};
@@ -125,7 +125,7 @@ impl<N: HubName<A>, A: Allocator + Copy> Streams<N, A> {
         now: Moment,
     ) -> Result<Option<(Flight, Vec<u8, A>)>, EndError>
         ensures only_memory { IsOkUnless result EndError.NoMemory }
-        ensures goes { IfOk result (λ sent. MatchOption sent (GoesNonePlain self.old.core × (self.new.core ≡ self.old.core)) (λ x. Goes self.old.core iv now x.0 x.1.items self.new.core)) }
+        ensures goes { IfOk result (λ sent. MatchOption sent (GoesNone self.old.core × (self.new.core ≡ self.old.core)) (λ x. Goes self.old.core iv now x.0 x.1.items self.new.core)) }
         ensures unchanged { OnErr result (self.new.core ≡ self.old.core) }
         ensures keeps { Keeps 0 self.old.core self.new.core }
         ensures rest { self.new ≡ record self.old { core = self.new.core } }

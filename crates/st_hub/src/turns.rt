@@ -3,7 +3,7 @@
 ghost use Rattle.std.specs.Prelude.{◌≡◌, ◌≢◌, ◌+◌, ◌<◌, true, false, sum, vec_len, OnErr, IfOk, IfErr, IsOkUnless, MatchOption};
 ghost use Rattle.st_hop.specs.Seen.{outcome_seen};
 ghost use Rattle.st_end.specs.Sending as sending;
-ghost use Rattle.st_end.specs.Sending.{Goes, GoesNonePlain};
+ghost use Rattle.st_end.specs.Sending.{Goes, GoesNone};
 ghost use Rattle.st_end.specs.Answers.{ended};
 ghost use Rattle.st_end.specs.Receiving.{received};
 ghost use Rattle.st_end.specs.Seen.{received_seen};
@@ -92,7 +92,7 @@ impl<N: HubName<A>, A: Allocator + Copy> HubState<N, A> {
     /// Refuses with `NoMemory` alone, and then nothing has changed.
     pub fn take_turn(&mut self, iv: [u8; 12], now: Moment) -> Result<Option<Turn<A>>, HubError>
         ensures only_memory { IsOkUnless result NoMemory }
-        ensures goes { IfOk result (λ sent. MatchOption sent (GoesNonePlain self.old.flow.core × (self.new.flow.core ≡ self.old.flow.core)) (λ t. Goes self.old.flow.core iv now t.flight t.bytes self.new.flow.core)) }
+        ensures goes { IfOk result (λ sent. MatchOption sent (GoesNone self.old.flow.core × (self.new.flow.core ≡ self.old.flow.core)) (λ t. Goes self.old.flow.core iv now t.flight t.bytes self.new.flow.core)) }
         ensures unchanged { OnErr result (self.new.flow.core ≡ self.old.flow.core) }
         ensures rest { self.new ≡ with_core self.old self.new.flow.core }
     {
