@@ -132,7 +132,8 @@ impl<'n, N: Net, A: Allocator + Copy> HttpLink<'n, N, A> {
             return Err(LinkFault::Peer);
         };
         let patience = Some(Duration::from_secs(ANSWER_SECONDS));
-        if stream.set_read_timeout(patience).is_err() || stream.set_write_timeout(patience).is_err()
+        if stream.set_read_timeout(patience).is_err()
+            || stream.set_write_timeout(patience).is_err()
         {
             return Err(LinkFault::Peer);
         }

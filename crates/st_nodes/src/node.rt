@@ -13,9 +13,7 @@ use crate::entry::{HopEntry, amount_in};
 use crate::lane::{Given, Lane, Put, mark_taken};
 use crate::side::Way;
 use crate::told::Told;
-use st_hop::{
-    Account, HopError, HopState, Outcome, Route, Ticket, Verdict, settlements_book,
-};
+use st_hop::{Account, HopError, HopState, Outcome, Route, Ticket, Verdict, settlements_book};
 use st_ilp::Moment;
 use std::alloc::{AllocError, Allocator};
 use std::marker::Model;
