@@ -1,6 +1,7 @@
 -- The chain of a world: the two ends `test.a` and `test.b`, and between them the hops `test.h1`, `test.h2`, .., each with the
 -- same terms towards both its neighbours.
 use Rattle.std.specs.Prelude.{ℕ, ◌+◌, ◌-◌, ◌^◌, List, [], ◌∷◌, ◌++◌, replicate}
+use Rattle.st_oer.specs.Ratios.{ratio}
 use Rattle.st_hop.specs.declared.account.Account.{Account}
 use Rattle.st_hop.specs.Hop.{Way}
 use Rattle.st_sender.specs.Sending.{Config}
@@ -21,7 +22,7 @@ abbrev pub hop_name : ℕ → List ℕ
 hop_name n = test ++ 104 ∷ (48 + n) ∷ []
 
 abbrev pub both_ways : List Way
-both_ways = record { prefix = client_name; account = 0 } ∷ record { prefix = server_name; account = 1 } ∷ []
+both_ways = record { prefix = client_name; account = 0; rate = ratio 1 1 } ∷ record { prefix = server_name; account = 1; rate = ratio 1 1 } ∷ []
 
 abbrev pub table_of : ℕ → Account → Table
 table_of n a = record { own = hop_name n; client = a; server = a; routes = both_ways }
