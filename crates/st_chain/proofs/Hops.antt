@@ -22,7 +22,10 @@ use Rattle.st_chain.proofs.Meets.{Led, of_parts, left, quiet, loud}
 pub stands_at : (ns : List Node) (i : ℕ) (n : Node) → i < length ns → n ≡ get_or ns i n → slice_get ns i ≡ Some n
 stands_at ns i n l is = slice_get_read ns (length ns) i n refl l is
 
-module _ (ends : Both Party) (ns : List Node) (lg : Both Led) (r : Bool) (t : Left) (base : left ends ns lg r ≡ t) (ls : Links) (i : ℕ) (n : Node) (l : i < length ns) (is_node : n ≡ get_or ns i n) (way : Side) where
+module _ (ends : Both Party) (ns : List Node) (lg : Both Led) (r : Bool) (t : Left) (base : left ends ns lg r ≡ t) (ls : Links) (i : ℕ) (n : Node) (within : i < length t.nodes) (is_node : n ≡ get_or ns i n) (way : Side) where
+  l : i < length ns
+  l = subst (λ (s : Left). i < length s.nodes) (sym base) within
+
   abbrev w : World
   w = of_parts ends ns ls lg r
 

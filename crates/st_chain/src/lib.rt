@@ -6,9 +6,11 @@
 mod event;
 mod fault;
 mod links;
+mod trace;
 
 pub use event::Event;
 pub use fault::Fault;
 pub use links::{
     back_to_end, back_to_hop_down, back_to_hop_up, meet_end, meet_hop_down, meet_hop_up, send_on,
 };
+pub use trace::Trace;

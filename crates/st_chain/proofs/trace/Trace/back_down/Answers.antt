@@ -1,0 +1,7 @@
+use Rattle.std.proofs.Common.{◌≡◌, ◌≢◌, ◌+◌, ◌-◌, ◌<◌, arith, refl}
+use Rattle.st_world.specs.Sides.{Client, Server}
+use Rattle.st_chain.proofs.Hops.{back_hop_meets}
+use Rattle.st_chain.proofs.trace.Trace.back_down.Goals as goal
+
+pub returns-clause-met : goal.returns-clause-met
+returns-clause-met g c = back_hop_meets _ _ _ _ _ c.self.view_is _ _ _ c.requires.hop c.index_mut-node.ensures.value Server c.args.link (c.args.link + 1) _ _ c.args.put.now _ _ _ _ (λ e. omega (arith, e)) (omega arith) c.in_ok-told.ensures.back
