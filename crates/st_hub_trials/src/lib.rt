@@ -1,0 +1,16 @@
+//! Tests of hubs: what is written is read at another hub, eight writers of a stream, shares of the credit, workers in
+//! threads, and memory that is refused.
+#![tactic(auto)]
+
+#[cfg(test)]
+mod ends;
+#[cfg(test)]
+mod faults;
+#[cfg(test)]
+mod links;
+#[cfg(test)]
+mod memory;
+#[cfg(test)]
+mod threads;
+#[cfg(test)]
+mod writers;
