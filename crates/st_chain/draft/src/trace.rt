@@ -1,0 +1,484 @@
+//! What a run leaves: both ends and the hops, what was written and read, and which Prepares were answered.
+
+ghost use Rattle.std.specs.Prelude.{◌≡◌, ◌≢◌, ◌≤◌, ◌<◌, ◌+◌, ◌||◌, ℕ, List, None, length, OnErr, IfOk};
+ghost use Rattle.st_hop.specs.Seen.{outcome_seen};
+ghost use Rattle.st_world.specs.Sides as sides;
+ghost use Rattle.st_world.specs.State.{AtEnd, AtHop, nth};
+ghost use Rattle.st_nodes.specs.Parts.{lane_in};
+ghost use Rattle.st_world.specs.Events as events;
+ghost use Rattle.st_world.specs.Steps.{Meets, BackAt, Back};
+ghost use Rattle.st_nodes.specs.Seen.{side_seen, way_seen, told_seen};
+ghost use Rattle.st_chain.specs.Places.{Links};
+ghost use Rattle.st_chain.specs.Left.{in_world, lacks, MeetsAt};
+
+use crate::links::{
+    back_to_end, back_to_hop_down, back_to_hop_up, meet_end, meet_hop_down, meet_hop_up, send_on,
+};
+use st_hop::Outcome;
+use st_ilp::Moment;
+use st_nodes::{
+    Ledgers, Link, Node, Party, Put, Side, Told, Way, abort_at, close_at, copy_given, copy_put,
+    offer_at, open_at, raise_at, read_at, write_at,
+};
+use std::alloc::{AllocError, Allocator};
+use std::marker::Model;
+
+/// What a run leaves: both ends and the hops, each with the Prepares that it answered, what was written and read of each
+/// stream, and whether some call found no memory.
+#[derive(Drop)]
+pub struct Trace<A: Allocator + Copy> {
+    pub(crate) client: Party<A>,
+    pub(crate) server: Party<A>,
+    pub(crate) nodes: Vec<Node<A>, A>,
+    /// Of the streams as the client writes them.
+    pub(crate) from_client: Ledgers<A>,
+    /// And as the server does.
+    pub(crate) from_server: Ledgers<A>,
+    pub(crate) refused: bool,
+    pub(crate) alloc: A,
+}
+
+impl<A: Allocator + Copy> Model for Trace<A> {
+    ghost use Rattle.std.specs.Coded.{codes};
+    ghost use Rattle.std.specs.FinMap as map;
+    ghost use Rattle.st_chain.specs.Left.{Left};
+
+    ghost Value = { Left };
+
+    ghost coded = { Prim.hlevel (codes, map.code) };
+
+    ghost view = { λ a. record { ends = record { client = a.client; server = a.server }; nodes = a.nodes.items; ledgers = record { client = a.from_client; server = a.from_server }; refused = a.refused } };
+}
+
+/// Notes whether a call found no memory.
+fn note<A: Allocator + Copy>(told: Told<A>, refused: &mut bool) -> Told<A>
+    ensures told { told_seen result ≡ told_seen told }
+    ensures refused { refused.new ≡ (refused.old || lacks (told_seen told)) }
+{
+    if matches!(told, Told::NoMemory) {
+        *refused = true;
+    }
+    told
+}
+
+impl<A: Allocator + Copy> Trace<A> {
+    /// Whether some call found no memory. No memory.
+    pub fn refused(&self) -> bool
+        ensures { result ≡ self.now.refused }
+    {
+        self.refused
+    }
+
+    /// An end opens its next stream.
+    pub(crate) fn open(&mut self, side: Side) -> Told<A>
+        ensures met { (ls : Links) → Meets (in_world self.old ls) (events.OpenStream (side_seen side)) (told_seen result) (in_world self.new ls) }
+        ensures nodes { length self.new.nodes ≡ length self.old.nodes }
+    {
+        match side {
+            Side::Client => {
+                let told = open_at(&mut self.client);
+                note(told, &mut self.refused)
+            }
+            Side::Server => {
+                let told = open_at(&mut self.server);
+                note(told, &mut self.refused)
+            }
+        }
+    }
+
+    /// An end takes bytes to be sent.
+    pub(crate) fn write(
+        &mut self,
+        side: Side,
+        stream: u8,
+        bytes: &[u8],
+    ) -> Result<Told<A>, AllocError>
+        ensures met { IfOk result (λ told. (ls : Links) → Meets (in_world self.old ls) (events.Write (side_seen side) stream bytes.now) (told_seen told) (in_world self.new ls)) }
+        ensures unchanged { OnErr result (self.new ≡ self.old) }
+        ensures nodes { length self.new.nodes ≡ length self.old.nodes }
+    {
+        match side {
+            Side::Client => {
+                let told = write_at(&mut self.client, &mut self.from_client, stream, bytes)?;
+                Ok(note(told, &mut self.refused))
+            }
+            Side::Server => {
+                let told = write_at(&mut self.server, &mut self.from_server, stream, bytes)?;
+                Ok(note(told, &mut self.refused))
+            }
+        }
+    }
+
+    /// Bytes are read at an end.
+    pub(crate) fn read(
+        &mut self,
+        side: Side,
+        stream: u8,
+        max: usize,
+    ) -> Result<Told<A>, AllocError>
+        requires { 1 ≤ max }
+        ensures met { IfOk result (λ told. (ls : Links) → Meets (in_world self.old ls) (events.Read (side_seen side) stream max) (told_seen told) (in_world self.new ls)) }
+        ensures unchanged { OnErr result (self.new ≡ self.old) }
+        ensures nodes { length self.new.nodes ≡ length self.old.nodes }
+    {
+        match side {
+            Side::Client => {
+                let told = read_at(&mut self.client, &mut self.from_server, stream, max)?;
+                Ok(note(told, &mut self.refused))
+            }
+            Side::Server => {
+                let told = read_at(&mut self.server, &mut self.from_client, stream, max)?;
+                Ok(note(told, &mut self.refused))
+            }
+        }
+    }
+
+    /// An end closes a stream cleanly.
+    pub(crate) fn close(&mut self, side: Side, stream: u8) -> Told<A>
+        ensures met { (ls : Links) → Meets (in_world self.old ls) (events.Close (side_seen side) stream) (told_seen result) (in_world self.new ls) }
+        ensures nodes { length self.new.nodes ≡ length self.old.nodes }
+    {
+        match side {
+            Side::Client => {
+                let told = close_at(&mut self.client, &mut self.from_client, stream);
+                note(told, &mut self.refused)
+            }
+            Side::Server => {
+                let told = close_at(&mut self.server, &mut self.from_server, stream);
+                note(told, &mut self.refused)
+            }
+        }
+    }
+
+    /// An end aborts a stream.
+    pub(crate) fn abort(&mut self, side: Side, stream: u8, code: u8) -> Told<A>
+        requires { code ≢ 1 }
+        ensures met { (ls : Links) → Meets (in_world self.old ls) (events.Abort (side_seen side) stream code) (told_seen result) (in_world self.new ls) }
+        ensures nodes { length self.new.nodes ≡ length self.old.nodes }
+    {
+        match side {
+            Side::Client => {
+                let told = abort_at(&mut self.client, &mut self.from_client, stream, code);
+                note(told, &mut self.refused)
+            }
+            Side::Server => {
+                let told = abort_at(&mut self.server, &mut self.from_server, stream, code);
+                note(told, &mut self.refused)
+            }
+        }
+    }
+
+    /// An end offers money on a stream.
+    pub(crate) fn offer(&mut self, side: Side, stream: u8, amount: u64) -> Told<A>
+        ensures met { (ls : Links) → Meets (in_world self.old ls) (events.Offer (side_seen side) stream amount) (told_seen result) (in_world self.new ls) }
+        ensures nodes { length self.new.nodes ≡ length self.old.nodes }
+    {
+        match side {
+            Side::Client => {
+                let told = offer_at(&mut self.client, &mut self.from_client, stream, amount);
+                note(told, &mut self.refused)
+            }
+            Side::Server => {
+                let told = offer_at(&mut self.server, &mut self.from_server, stream, amount);
+                note(told, &mut self.refused)
+            }
+        }
+    }
+
+    /// An end lets a stream receive more.
+    pub(crate) fn raise(&mut self, side: Side, stream: u8, amount: u64) -> Told<A>
+        ensures met { (ls : Links) → Meets (in_world self.old ls) (events.ReceiveMax (side_seen side) stream amount) (told_seen result) (in_world self.new ls) }
+        ensures nodes { length self.new.nodes ≡ length self.old.nodes }
+    {
+        match side {
+            Side::Client => raise_at(&mut self.client, stream, amount),
+            Side::Server => raise_at(&mut self.server, stream, amount),
+        }
+    }
+
+    /// An end sends.
+    pub(crate) fn send(
+        &mut self,
+        links: &mut [Link<A>],
+        side: Side,
+        iv: [u8; 12],
+        now: Moment,
+    ) -> Result<Told<A>, AllocError>
+        requires { length links.old ≡ length self.old.nodes + 1 }
+        ensures met { IfOk result (λ told. Meets (in_world self.old links.old) (events.Send (side_seen side) iv now) (told_seen told) (in_world self.new links.new)) }
+        ensures same_self { OnErr result (self.new ≡ self.old) }
+        ensures same_links { OnErr result (links.new ≡ links.old) }
+        ensures nodes { length self.new.nodes ≡ length self.old.nodes }
+    {
+        match side {
+            Side::Client => {
+                let told = send_on(&mut self.client, links, 0, Way::ToServer, iv, now)?;
+                Ok(note(told, &mut self.refused))
+            }
+            Side::Server => {
+                let hops = self.nodes.len();
+                let told = send_on(&mut self.server, links, hops, Way::ToClient, iv, now)?;
+                Ok(note(told, &mut self.refused))
+            }
+        }
+    }
+
+    /// A Prepare comes to an end.
+    fn arrive_end(
+        &mut self,
+        links: &mut [Link<A>],
+        link: usize,
+        way: Way,
+        side: Side,
+        which: usize,
+        put: &Put<A>,
+        now: Moment,
+    ) -> Result<Told<A>, AllocError>
+        requires { link < length links.old }
+        ensures met { IfOk result (λ told. MeetsAt (in_world self.old links.old) link (way_seen way) which now put.now (AtEnd (side_seen side)) (told_seen told) (in_world self.new links.new)) }
+        ensures same_self { OnErr result (self.new ≡ self.old) }
+        ensures same_links { OnErr result (links.new ≡ links.old) }
+        ensures nodes { length self.new.nodes ≡ length self.old.nodes }
+    {
+        match side {
+            Side::Client => {
+                let told = meet_end(&mut self.client, links, link, way, which, put.bytes(), now)?;
+                Ok(note(told, &mut self.refused))
+            }
+            Side::Server => {
+                let told = meet_end(&mut self.server, links, link, way, which, put.bytes(), now)?;
+                Ok(note(told, &mut self.refused))
+            }
+        }
+    }
+
+    /// A Prepare for the server comes to the hop after its link.
+    fn arrive_up(
+        &mut self,
+        links: &mut [Link<A>],
+        link: usize,
+        which: usize,
+        put: &Put<A>,
+        now: Moment,
+    ) -> Result<Told<A>, AllocError>
+        requires hop { link < length self.old.nodes }
+        requires links { length links.old ≡ length self.old.nodes + 1 }
+        ensures met { IfOk result (λ told. MeetsAt (in_world self.old links.old) link sides.Client which now put.now (AtHop link) (told_seen told) (in_world self.new links.new)) }
+        ensures same_self { OnErr result (self.new ≡ self.old) }
+        ensures same_links { OnErr result (links.new ≡ links.old) }
+        ensures nodes { length self.new.nodes ≡ length self.old.nodes }
+    {
+        let node = &mut self.nodes[link];
+        let told = meet_hop_up(node, links, link, which, put.bytes(), now)?;
+        Ok(note(told, &mut self.refused))
+    }
+
+    /// A Prepare for the client comes to the hop before its link.
+    fn arrive_down(
+        &mut self,
+        links: &mut [Link<A>],
+        hop: usize,
+        which: usize,
+        put: &Put<A>,
+        now: Moment,
+    ) -> Result<Told<A>, AllocError>
+        requires hop { hop < length self.old.nodes }
+        requires links { length links.old ≡ length self.old.nodes + 1 }
+        ensures met { IfOk result (λ told. MeetsAt (in_world self.old links.old) (hop + 1) sides.Server which now put.now (AtHop hop) (told_seen told) (in_world self.new links.new)) }
+        ensures same_self { OnErr result (self.new ≡ self.old) }
+        ensures same_links { OnErr result (links.new ≡ links.old) }
+        ensures nodes { length self.new.nodes ≡ length self.old.nodes }
+    {
+        let node = &mut self.nodes[hop];
+        let told = meet_hop_down(node, links, hop, which, put.bytes(), now)?;
+        Ok(note(told, &mut self.refused))
+    }
+
+    /// A Prepare comes to the far end of its link.
+    pub(crate) fn arrive(
+        &mut self,
+        links: &mut [Link<A>],
+        link: usize,
+        way: Way,
+        which: usize,
+        now: Moment,
+    ) -> Result<Told<A>, AllocError>
+        requires { length links.old ≡ length self.old.nodes + 1 }
+        ensures met { IfOk result (λ told. Meets (in_world self.old links.old) (events.Arrive link (way_seen way) which now) (told_seen told) (in_world self.new links.new)) }
+        ensures same_self { OnErr result (self.new ≡ self.old) }
+        ensures same_links { OnErr result (links.new ≡ links.old) }
+        ensures nodes { length self.new.nodes ≡ length self.old.nodes }
+    {
+        let Some(put) = copy_put(self.alloc, links, link, way, which)? else {
+            return Ok(Told::Nothing);
+        };
+        if link >= links.len() {
+            return Ok(Told::Nothing);
+        }
+        match way {
+            Way::ToServer => {
+                if link == self.nodes.len() {
+                    return self.arrive_end(links, link, way, Side::Server, which, &put, now);
+                }
+                self.arrive_up(links, link, which, &put, now)
+            }
+            Way::ToClient => {
+                let Some(hop) = link.checked_sub(1) else {
+                    return self.arrive_end(links, link, way, Side::Client, which, &put, now);
+                };
+                self.arrive_down(links, hop, which, &put, now)
+            }
+        }
+    }
+
+    /// An outcome comes back to an end.
+    fn back_end(
+        &mut self,
+        links: &mut [Link<A>],
+        link: usize,
+        way: Way,
+        side: Side,
+        which: usize,
+        put: &Put<A>,
+        outcome: Outcome<A>,
+        now: Moment,
+    ) -> Told<A>
+        requires { link < length links.old }
+        ensures met { BackAt (in_world self.old links.old) link (way_seen way) which now put.now (outcome_seen outcome) (AtEnd (side_seen side)) (told_seen result) (in_world self.new links.new) }
+        ensures nodes { length self.new.nodes ≡ length self.old.nodes }
+    {
+        let _at = now;
+        match side {
+            Side::Client => back_to_end(&mut self.client, links, link, way, put, which, outcome),
+            Side::Server => back_to_end(&mut self.server, links, link, way, put, which, outcome),
+        }
+    }
+
+    /// An outcome of a Prepare for the server comes back to the hop before its link.
+    fn back_up(
+        &mut self,
+        links: &mut [Link<A>],
+        hop: usize,
+        which: usize,
+        put: &Put<A>,
+        outcome: Outcome<A>,
+        now: Moment,
+    ) -> Result<Told<A>, AllocError>
+        requires hop { hop < length self.old.nodes }
+        requires links { length links.old ≡ length self.old.nodes + 1 }
+        ensures met { IfOk result (λ told. BackAt (in_world self.old links.old) (hop + 1) sides.Client which now put.now (outcome_seen outcome) (AtHop hop) (told_seen told) (in_world self.new links.new)) }
+        ensures same_self { OnErr result (self.new ≡ self.old) }
+        ensures same_links { OnErr result (links.new ≡ links.old) }
+        ensures nodes { length self.new.nodes ≡ length self.old.nodes }
+    {
+        let node = &mut self.nodes[hop];
+        let told = back_to_hop_up(node, links, hop, put, which, outcome, now)?;
+        Ok(told)
+    }
+
+    /// An outcome of a Prepare for the client comes back to the hop after its link.
+    fn back_down(
+        &mut self,
+        links: &mut [Link<A>],
+        link: usize,
+        which: usize,
+        put: &Put<A>,
+        outcome: Outcome<A>,
+        now: Moment,
+    ) -> Result<Told<A>, AllocError>
+        requires hop { link < length self.old.nodes }
+        requires links { length links.old ≡ length self.old.nodes + 1 }
+        ensures met { IfOk result (λ told. BackAt (in_world self.old links.old) link sides.Server which now put.now (outcome_seen outcome) (AtHop link) (told_seen told) (in_world self.new links.new)) }
+        ensures same_self { OnErr result (self.new ≡ self.old) }
+        ensures same_links { OnErr result (links.new ≡ links.old) }
+        ensures nodes { length self.new.nodes ≡ length self.old.nodes }
+    {
+        let node = &mut self.nodes[link];
+        let told = back_to_hop_down(node, links, link, put, which, outcome, now)?;
+        Ok(told)
+    }
+
+    /// An outcome of a Prepare comes back to whoever put it.
+    fn back(
+        &mut self,
+        links: &mut [Link<A>],
+        link: usize,
+        way: Way,
+        which: usize,
+        put: usize,
+        outcome: Outcome<A>,
+        now: Moment,
+    ) -> Result<Told<A>, AllocError>
+        requires { length links.old ≡ length self.old.nodes + 1 }
+        ensures met { IfOk result (λ told. Back (in_world self.old links.old) link (way_seen way) which now (outcome_seen outcome) (nth (lane_in links.old link (way_seen way)).puts put) (told_seen told) (in_world self.new links.new)) }
+        ensures same_self { OnErr result (self.new ≡ self.old) }
+        ensures same_links { OnErr result (links.new ≡ links.old) }
+        ensures nodes { length self.new.nodes ≡ length self.old.nodes }
+    {
+        let Some(put) = copy_put(self.alloc, links, link, way, put)? else {
+            return Ok(Told::Nothing);
+        };
+        if link >= links.len() {
+            return Ok(Told::Nothing);
+        }
+        match way {
+            Way::ToServer => {
+                let Some(hop) = link.checked_sub(1) else {
+                    let side = Side::Client;
+                    return Ok(self.back_end(links, link, way, side, which, &put, outcome, now));
+                };
+                self.back_up(links, hop, which, &put, outcome, now)
+            }
+            Way::ToClient => {
+                if link == self.nodes.len() {
+                    let side = Side::Server;
+                    return Ok(self.back_end(links, link, way, side, which, &put, outcome, now));
+                }
+                self.back_down(links, link, which, &put, outcome, now)
+            }
+        }
+    }
+
+    /// An answer comes to whoever put its Prepare.
+    pub(crate) fn answer(
+        &mut self,
+        links: &mut [Link<A>],
+        link: usize,
+        way: Way,
+        which: usize,
+        now: Moment,
+    ) -> Result<Told<A>, AllocError>
+        requires { length links.old ≡ length self.old.nodes + 1 }
+        ensures met { IfOk result (λ told. Meets (in_world self.old links.old) (events.AnswerArrives link (way_seen way) which now) (told_seen told) (in_world self.new links.new)) }
+        ensures same_self { OnErr result (self.new ≡ self.old) }
+        ensures same_links { OnErr result (links.new ≡ links.old) }
+        ensures nodes { length self.new.nodes ≡ length self.old.nodes }
+    {
+        let Some(answer) = copy_given(self.alloc, links, link, way, which)? else {
+            return Ok(Told::Nothing);
+        };
+        let put = answer.which();
+        let outcome = Outcome::Answered(answer.into_bytes());
+        let told = self.back(links, link, way, which, put, outcome, now)?;
+        Ok(told)
+    }
+
+    /// Whoever put a Prepare learns that no answer comes.
+    pub(crate) fn fault(
+        &mut self,
+        links: &mut [Link<A>],
+        link: usize,
+        way: Way,
+        which: usize,
+        now: Moment,
+    ) -> Result<Told<A>, AllocError>
+        requires { length links.old ≡ length self.old.nodes + 1 }
+        ensures met { IfOk result (λ told. Meets (in_world self.old links.old) (events.Fault link (way_seen way) which now) (told_seen told) (in_world self.new links.new)) }
+        ensures same_self { OnErr result (self.new ≡ self.old) }
+        ensures same_links { OnErr result (links.new ≡ links.old) }
+        ensures nodes { length self.new.nodes ≡ length self.old.nodes }
+    {
+        let told = self.back(links, link, way, 0, which, Outcome::Fault, now)?;
+        Ok(told)
+    }
+}
