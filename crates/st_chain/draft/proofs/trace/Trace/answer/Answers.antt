@@ -1,4 +1,0 @@
-use Rattle.st_chain.proofs.trace.Trace.answer.Goals as goal
-
-pub returns-clause-met : goal.returns-clause-met
-returns-clause-met g c = ?
