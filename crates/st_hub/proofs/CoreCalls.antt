@@ -1,5 +1,5 @@
 -- What the end's calls keep, by what they answered.
-use Rattle.std.proofs.Common.{◌≡◌, ℕ, ℤ, List, Option, None, Some, Result, Ok, Err, refl, sym, ap, subst, ⊎_elim, ◌⊎◌, true}
+use Rattle.std.proofs.Common.{◌≡◌, ℕ, ℤ, List, Option, None, Some, Result, Ok, Err, sym, ap, subst, ⊎_elim, true}
 use Rattle.std.specs.Prelude.{Vec, is_ok, IfOk, OnErr, MatchOption}
 use Rattle.st_end.specs.State.{EndState}
 use Rattle.st_end.specs.declared.error.EndError.{EndError}

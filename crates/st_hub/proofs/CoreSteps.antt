@@ -1,17 +1,17 @@
 -- What a write and a read leave of an end's bytes.
-use Rattle.std.proofs.Common.{◌≡◌, ◌≢◌, ℕ, zero, suc, ◌+◌, ◌<◌, ◌≤◌, Bool, true, false, cond, List, [], ◌∷◌, ◌++◌, length, take, slice_get, refl, sym, ap, subst, ◌∙◌, arith, Option, None, Some, inl, inr, ◌⊎◌, is_some, Result, Ok, Err, length-append, length-set}
+use Rattle.std.proofs.Common.{◌≡◌, ◌≢◌, ℕ, zero, suc, ◌+◌, ◌≤◌, Bool, true, false, cond, List, [], ◌∷◌, ◌++◌, length, take, slice_get, refl, sym, ap, subst, ◌∙◌, arith, Option, None, Some, inl, inr, ◌⊎◌, is_some, Result, Ok, Err, length-append, length-set}
 use Rattle.std.specs.Ordering.{nat_cmp}
 use Rattle.std.specs.FinMap as fmap
 use Rattle.std.proofs.lemmas.Grind.{common_steps}
 use Rattle.st_tables.specs.Table.{put_bytes}
-use Rattle.st_tables.specs.Slots.{Slots, slot, with_slot}
+use Rattle.st_tables.specs.Slots.{slot, with_slot}
 use Rattle.st_tables.proofs.SlotLemmas.{slot_cases, slot_here, slot_apart, slot_within}
 use Rattle.st_reassembly.specs.Held.{Held, after_read}
-use Rattle.st_reassembly.specs.Run.{run, after_take}
+use Rattle.st_reassembly.specs.Run.{run}
 use Rattle.st_sender.specs.Sending.{Sending, Outgoing, outgoing_at, with_outgoing}
 use Rattle.st_sender.specs.Accepting.{after_write}
 use Rattle.st_sender.specs.Refusals.{accepted_of}
-use Rattle.st_receiver.specs.Streams.{Receiving, Incoming, incoming_at, incoming_or, fresh_incoming, with_incoming, is_open, delivered_of}
+use Rattle.st_receiver.specs.Streams.{Incoming, incoming_at, incoming_or, fresh_incoming, is_open, delivered_of}
 use Rattle.st_receiver.specs.Reading as reading
 use Rattle.st_receiver.specs.Reading.{Got, got, got_by, got_bytes, got_none, is_read, after_bytes, after_got_by, after_get, after_got}
 use Rattle.st_end.specs.declared.error.EndError.{EndError}
@@ -19,11 +19,10 @@ use Rattle.st_end.specs.declared.error.EndError.TheVariants as end_errors
 use Rattle.st_end.specs.State.{EndState}
 use Rattle.st_end.specs.Calls.{write}
 use Rattle.st_end.specs.Reading.{read}
-use Rattle.st_hub.specs.Flow.{unacked_of, IsSent}
+use Rattle.st_hub.specs.Flow.{IsSent}
 use Rattle.st_hub.specs.Keeping.{KeepsOut, Rises}
 use Rattle.st_hub.proofs.SentKeeping.{out_same}
 use Rattle.st_hub.proofs.EndEvents.{wrote}
-use Rattle.st_hub.proofs.Totals.{rises_same}
 
 -- ---- a write
 

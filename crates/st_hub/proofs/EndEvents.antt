@@ -1,18 +1,9 @@
 -- What the calls of an end leave of its bytes and totals.
-use Rattle.std.proofs.Common.{◌≡◌, ℕ, zero, suc, ◌+◌, ◌-◌, ◌*◌, ◌<◌, ◌≤◌, map, Bool, true, false, cond, List, [], ◌∷◌, ◌++◌, length, take, slice_get, refl, sym, ap, subst, ◌∙◌, arith, Option, None, Some, inl, inr, ◌⊎◌, ⊎_elim, nat_eq, is_some, is_ok, Result, Ok, Err, length-append}
+use Rattle.std.proofs.Common.{◌≡◌, ℕ, zero, suc, ◌+◌, ◌-◌, ◌*◌, ◌<◌, ◌≤◌, map, Bool, true, false, cond, List, [], ◌∷◌, refl, sym, ap, subst, ◌∙◌, arith, Option, None, Some, Result, Ok, Err}
 use Rattle.std.specs.List.{range_with_len}
-use Rattle.std.specs.FinMap as fmap
-use Rattle.std.specs.Ordering.{nat_cmp}
-use Rattle.std.proofs.lemmas.Grind.{common_steps}
-use Rattle.st_frames.specs.Frames.{Packet, frames_of}
-use Rattle.st_frames.specs.Frames.{max_packet}
-use Rattle.st_tables.specs.Table.{put_bytes}
-use Rattle.st_tables.specs.Slots.{Slots, slot}
-use Rattle.st_sender.specs.Sending.{Sending, Outgoing, Flight, new_outgoing, outgoing_at, with_outgoing, changed_at, changed}
+use Rattle.st_sender.specs.Sending.{Sending, Outgoing, Flight, outgoing_at, with_outgoing, changed_at, changed}
 use Rattle.st_sender.specs.Accepting.{after_write, after_clean, after_offer}
-use Rattle.st_sender.specs.Loads.{Sends}
-use Rattle.st_receiver.specs.Streams.{Receiving, incoming_at, may_name, with_receive_max}
-use Rattle.st_receiver.specs.Judged.{effect}
+use Rattle.st_receiver.specs.Streams.{incoming_at, may_name, with_receive_max}
 use Rattle.st_end.specs.declared.error.EndError.{EndError}
 use Rattle.st_end.specs.declared.error.EndError.TheVariants as end_errors
 use Rattle.st_end.specs.declared.flight.Open as flights
@@ -20,12 +11,10 @@ use Rattle.st_end.specs.State.{EndState}
 use Rattle.st_end.specs.Calls.{Answer, done, refusal_at, write, close, offer, set_receive_max, own_number, own_numbers, first_free, free_or, connection_refusal, with_stream, opened_unless, opening_as, open_stream}
 use Rattle.st_end.specs.Sending.{Goes}
 use Rattle.st_end.specs.Answers.{ended_with, ended}
-use Rattle.st_end.specs.Receiving.{Verdict, Unread, Rejects, Fulfills, after_verdict, received, verdict}
 use Rattle.st_end.specs.Sending.{open_flight}
-use Rattle.st_hub.specs.Flow.{IsSent}
-use Rattle.st_hub.specs.Keeping.{KeepsOut, KeepsSent, KeepsRead, Keeps}
-use Rattle.st_hub.proofs.SentKeeping.{sent_same, sent_join, sent_with, sent_changed, out_alike, all_told, outcome_keeps, opening_keeps, opened_too_keeps, all_marked_keeps}
-use Rattle.st_hub.proofs.ReadKeeping.{read_same, read_with, effect_read, max_read}
+use Rattle.st_hub.specs.Keeping.{KeepsSent, Keeps}
+use Rattle.st_hub.proofs.SentKeeping.{sent_same, sent_changed, out_alike, outcome_keeps, opening_keeps}
+use Rattle.st_hub.proofs.ReadKeeping.{read_same, read_with, max_read}
 
 pub keeps_same : (e : EndState) → Keeps 0 e e
 keeps_same e = record { sent = sent_same e.sending; read = read_same e.receiving }

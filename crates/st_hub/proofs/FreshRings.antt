@@ -1,14 +1,14 @@
 -- A hub over rings that nobody used.
-use Rattle.std.proofs.Common.{◌≡◌, ℕ, zero, suc, ◌+◌, ◌*◌, ◌<◌, Bool, true, false, not, List, [], ◌∷◌, map, length, replicate, Option, None, Some, slice_get, is_some, refl, sym, ap, subst, ◌∙◌, arith}
+use Rattle.std.proofs.Common.{◌≡◌, ℕ, zero, suc, ◌+◌, ◌*◌, false, not, List, [], ◌∷◌, map, length, replicate, Option, None, Some, slice_get, is_some, refl, sym, ap, subst, ◌∙◌, arith}
 use Rattle.std.specs.Prelude.{IsSome, slice_index_or, sum}
 use Rattle.std.proofs.lemmas.List.Sums.{sum_by-cons}
 use Rattle.std.specs.Ordering.{nat_cmp}
 use Rattle.std.specs.FinMap as fmap
 use Rattle.std.proofs.lemmas.List.{length-map}
-use Rattle.st_tables.specs.Slots.{slot, no_slots}
+use Rattle.st_tables.specs.Slots.{slot}
 use Rattle.st_sender.specs.Sending.{Outgoing, outgoing_at}
 use Rattle.st_sender.specs.Refusals.{all_accepted}
-use Rattle.st_receiver.specs.Streams.{Incoming, delivered_of, all_delivered}
+use Rattle.st_receiver.specs.Streams.{delivered_of, all_delivered}
 use Rattle.st_receiver.specs.Limits.{capped}
 use Rattle.st_queues.specs.Watching.{no_totals}
 use Rattle.st_queues.specs.Items.{delivered}
@@ -17,11 +17,9 @@ use Rattle.st_queues.specs.Lanes.{Fresh, FreshRead, AllNamed, AllNamedReads}
 use Rattle.st_queues.specs.declared.lanes.WriteLane.{WriteLane}
 use Rattle.st_queues.specs.declared.lanes.ReadLane.{ReadLane}
 use Rattle.st_end.specs.State.{EndState}
-use Rattle.st_hub.specs.Merge.{Took}
-use Rattle.st_hub.specs.Flow.{Flow, Inlet, Outlet, no_inlet, no_outlet, inlet_at, outlet_at, rings_of, has_end, IsSent, TiedBy, AllTied}
-use Rattle.st_hub.specs.Handing.{IsPaired, AllPaired}
+use Rattle.st_hub.specs.Flow.{Flow, Inlet, Outlet, no_inlet, no_outlet, inlet_at, outlet_at, rings_of, has_end, has_last, IsSent, TiedBy}
 use Rattle.st_hub.specs.Hub.{IsNew, shown_of}
-use Rattle.st_hub.specs.Inside.{inlet_of, outlet_of, flow_of, AllLanes, AllReadLanes, IsSound}
+use Rattle.st_hub.specs.Inside.{inlet_of, outlet_of, flow_of, IsSound}
 use Rattle.st_hub.proofs.Merges.{merge_none}
 
 no_value : {A : Type 0} (n k : ℕ) → slice_index_or {A = Option A} (replicate n None) k None ≡ None
@@ -70,7 +68,7 @@ module _ {A : Type 0} where
       let outs = all_fresh_outlets r ys rs in
       record {
         lanes = (wi, λ k x at. let n = ws k x at in record { number = n.0.0; ours = n.1; over = n.0.5 ∙ sym (ap has_end n.0.1) });
-        read_lanes = (wo, λ k x at. let n = rs k x at in record { number = n.0.0; ours = n.1 });
+        read_lanes = (wo, λ k x at. let n = rs k x at in record { number = n.0.0; ours = n.1; over = n.0.5 ∙ sym (ap has_last n.0.1) });
         tied = record {
           inlets = length-map xs inlet_of ∙ wi;
           outlets = length-map ys outlet_of ∙ wo;

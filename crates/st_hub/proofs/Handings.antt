@@ -1,5 +1,5 @@
 -- What handing out ends of rings leaves.
-use Rattle.std.proofs.Common.{◌≡◌, ◌≢◌, ℕ, ◌+◌, ◌*◌, ◌<◌, Bool, true, false, not, ◌&&◌, List, [], ◌∷◌, map, length, Option, None, Some, slice_get, is_some, refl, sym, ap, subst, ◌∙◌, arith, inl, inr, ◌⊎◌, ⊎_elim, Ok, Err, length-set}
+use Rattle.std.proofs.Common.{◌≡◌, ◌≢◌, ℕ, ◌+◌, ◌*◌, ◌<◌, Bool, true, false, not, ◌&&◌, List, [], map, length, Option, None, Some, slice_get, is_some, refl, sym, ap, subst, ◌∙◌, arith, inl, inr, length-set}
 use Rattle.std.specs.Prelude.{slice_set, IsSome, IfSome, ◌↔◌}
 use Rattle.std.proofs.lemmas.List.{map-set}
 use Rattle.std.proofs.lemmas.Bool.{cases_eq}
@@ -15,11 +15,10 @@ use Rattle.st_queues.specs.declared.lanes.WriteLane.{WriteLane}
 use Rattle.st_queues.specs.declared.lanes.ReadLane.{ReadLane}
 use Rattle.st_end.specs.State.{EndState}
 use Rattle.st_end.specs.Calls.{has_stream}
-use Rattle.st_hub.specs.Merge.{Took}
-use Rattle.st_hub.specs.Flow.{Flow, Inlet, Outlet, no_inlet, no_outlet, inlet_at, outlet_at, writer_out, reader_out, TiedBy, AllTied}
+use Rattle.st_hub.specs.Flow.{Flow, Inlet, Outlet, no_inlet, no_outlet, inlet_at, outlet_at, writer_out, reader_out, AllTied}
 use Rattle.st_hub.specs.Handing.{IsFreshWriter, IsFreshReader, IsPaired, AllPaired}
 use Rattle.st_hub.specs.Keeping.{Keeps}
-use Rattle.st_hub.specs.Inside.{inlet_of, outlet_of, flow_of, IsLane, IsReadLane, AllLanes, AllReadLanes, IsSound}
+use Rattle.st_hub.specs.Inside.{inlet_of, outlet_of, IsLane, IsReadLane, AllLanes, AllReadLanes, IsSound}
 use Rattle.st_hub.proofs.Lists.{at_map}
 use Rattle.st_hub.proofs.Ties.{tied_same}
 use Rattle.st_hub.proofs.SentKeeping.{out_same}
@@ -55,11 +54,11 @@ module _ {A : Type 0} where
       let is : y ≡ z = λ i. record { end = e i; held = h i; over = o i } in
       subst (IsLane ring k) (sym is) (record { number = l.number; ours = (l.ours.0, l.ours.1, tt); over = l.over })
 
-  pub handed_read_lane : (ring : ℕ → RingId A) (k : ℕ) (x y : ReadLane A) → IsReadLane ring k x → y.held ≡ None → y.end ≡ x.end → IsReadLane ring k y
-  handed_read_lane ring k x y l h e =
-      let z : ReadLane A = record { end = x.end; held = None; over = y.over } in
-      let is : y ≡ z = λ i. record { end = e i; held = h i; over = y.over } in
-      subst (IsReadLane ring k) (sym is) (record { number = l.number; ours = (l.ours.0, l.ours.1, tt) })
+  pub handed_read_lane : (ring : ℕ → RingId A) (k : ℕ) (x y : ReadLane A) → IsReadLane ring k x → y.held ≡ None → y.end ≡ x.end → y.over ≡ x.over → IsReadLane ring k y
+  handed_read_lane ring k x y l h e o =
+      let z : ReadLane A = record { end = x.end; held = None; over = x.over } in
+      let is : y ≡ z = λ i. record { end = e i; held = h i; over = o i } in
+      subst (IsReadLane ring k) (sym is) (record { number = l.number; ours = (l.ours.0, l.ours.1, tt); over = l.over })
 
   pub handed_out : (xs : List (WriteLane A)) (r : ℕ) (x y : WriteLane A) → slice_get xs r ≡ Some x → y.held ≡ None → y.end ≡ x.end → map inlet_of (slice_set xs r y) ≡ writer_out (map inlet_of xs) r
   handed_out xs r x y at h e =

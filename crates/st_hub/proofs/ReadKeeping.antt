@@ -1,14 +1,14 @@
 -- What an end keeps of what was read, where nothing is read.
-use Rattle.std.proofs.Common.{◌≡◌, ℕ, zero, suc, ◌+◌, Bool, true, false, cond, List, [], ◌∷◌, map, length, refl, sym, ap, subst, ◌∙◌, arith, Option, None, Some, inl, inr, nat_eq, nat_lt, length-set}
+use Rattle.std.proofs.Common.{◌≡◌, ℕ, zero, suc, ◌+◌, Bool, true, false, cond, List, [], ◌∷◌, length, refl, ap, ◌∙◌, arith, Option, None, Some, inl, inr, nat_eq, nat_lt, length-set}
 use Rattle.std.proofs.lemmas.List.{length-map}
 use Rattle.std.specs.FinMap as fmap
 use Rattle.st_frames.specs.Frames.{Known, ConnectionClose, ConnectionNewAddress, ConnectionMaxData, ConnectionDataBlocked, StreamClose, StreamMoney, StreamMaxMoney, StreamMoneyBlocked, StreamData, StreamMaxData, StreamDataBlocked, Packet, frames_of}
 use Rattle.st_frames.specs.Told.{shares}
-use Rattle.st_tables.specs.Slots.{Slots, slot, with_slot}
+use Rattle.st_tables.specs.Slots.{Slots, slot}
 use Rattle.st_tables.proofs.SlotLemmas.{slot_cases, slot_map}
-use Rattle.st_reassembly.specs.Held.{Held, is_over, is_wanted, with_byte, after_insert}
+use Rattle.st_reassembly.specs.Held.{Held, is_over, with_byte, after_insert}
 use Rattle.st_reassembly.specs.Closing.{past_all, after_finish, after_abort}
-use Rattle.st_receiver.specs.Streams.{Receiving, Incoming, incoming_at, with_incoming, opened_stream, delivered_of, is_open, with_receive_max}
+use Rattle.st_receiver.specs.Streams.{Receiving, Incoming, incoming_at, with_incoming, delivered_of, is_open, with_receive_max}
 use Rattle.st_receiver.specs.Data.{with_data, after_frame, after_frames}
 use Rattle.st_receiver.specs.Money.{parts, with_credit, with_credits, after_money}
 use Rattle.st_receiver.specs.Closes.{with_close, after_close, after_closes, with_abort, after_connection_close, after_connection_closes}

@@ -1,5 +1,5 @@
 -- What a Prepare that comes leaves of an end's bytes, and what it credits.
-use Rattle.std.proofs.Common.{◌≡◌, ℕ, ℤ, Bool, true, false, not, cond, List, refl, sym, ap, subst, ◌∙◌, arith, Option, None, Some, nat_eq, Result, Ok, Err}
+use Rattle.std.proofs.Common.{◌≡◌, ℕ, ℤ, Bool, true, false, not, cond, List, refl, sym, subst, Option, None, Some, nat_eq, Result, Ok, Err}
 use Rattle.std.specs.Prelude.{int_le}
 use Rattle.st_oer.specs.Address.{is_within}
 use Rattle.st_ilp.specs.Packets.{PreparePacket}
@@ -12,7 +12,6 @@ use Rattle.st_keys.specs.Sealed.{opened}
 use Rattle.st_keys.specs.Errors as payloads
 use Rattle.st_keys.specs.declared.error.KeyError.{KeyError}
 use Rattle.st_keys.specs.declared.error.KeyError.TheVariants as key_faults
-use Rattle.st_sender.specs.Sending.{Sending}
 use Rattle.st_sender.specs.Answering.{after_all_told}
 use Rattle.st_receiver.specs.declared.reason.Reason.{Reason}
 use Rattle.st_receiver.specs.declared.reason.Reason.TheVariants.{Repeated, AmountTooSmall, FlowControl, StreamId, NoShares, OverReceiveMax, ConnectionClosed, NoMemory}
@@ -21,10 +20,10 @@ use Rattle.st_receiver.specs.Streams.{Receiving}
 use Rattle.st_receiver.specs.Judged.{fault_of, effect}
 use Rattle.st_receiver.specs.Limits.{reply_frames}
 use Rattle.st_end.specs.State.{EndState}
-use Rattle.st_end.specs.Receiving.{Verdict, Unread, Rejects, Fulfills, f01, f02, r00, code_unopened, judged_as, is_own_condition, opened_as, verdict_on, opened_too, all_marked, told, fulfilled, after_verdict, reason_of, prepare_or_none, received_as, received}
+use Rattle.st_end.specs.Receiving.{Verdict, Unread, Rejects, Fulfills, f02, r00, judged_as, is_own_condition, opened_as, verdict_on, opened_too, told, fulfilled, after_verdict, reason_of, prepare_or_none, received}
 use Rattle.st_hub.specs.Turns.{credited_by}
-use Rattle.st_hub.specs.Keeping.{KeepsSent, KeepsRead, Keeps}
-use Rattle.st_hub.proofs.SentKeeping.{sent_same, sent_join, all_told, opened_too_keeps, all_marked_keeps}
+use Rattle.st_hub.specs.Keeping.{KeepsRead, Keeps}
+use Rattle.st_hub.proofs.SentKeeping.{all_told, opened_too_keeps, all_marked_keeps}
 use Rattle.st_hub.proofs.ReadKeeping.{read_same, effect_read}
 use Rattle.st_hub.proofs.EndEvents.{keeps_same}
 

@@ -1,5 +1,5 @@
 -- What an end keeps of the bytes that it sends, where nothing is written.
-use Rattle.std.proofs.Common.{◌≡◌, ℕ, ◌≤◌, Bool, true, false, cond, List, [], ◌∷◌, length, refl, sym, ap, subst, ◌∙◌, arith, Option, None, Some, inl, inr, nat_eq, is_some, Result, Ok, Err, length-set}
+use Rattle.std.proofs.Common.{◌≡◌, ℕ, Bool, true, false, cond, List, [], ◌∷◌, refl, sym, ap, subst, ◌∙◌, arith, Option, None, Some, inl, inr, nat_eq, Result, Ok, Err, length-set}
 use Rattle.std.specs.FinMap as fmap
 use Rattle.std.specs.Ordering.{nat_cmp}
 use Rattle.std.proofs.lemmas.Grind.{common_steps}
@@ -17,7 +17,6 @@ use Rattle.st_end.specs.State.{EndState}
 use Rattle.st_end.specs.declared.flight.Open as flights
 use Rattle.st_end.specs.Answers.{raised, fits, failure_of, answered_by, outcome_left}
 use Rattle.st_end.specs.Receiving.{opened_too, all_marked}
-use Rattle.st_hub.specs.Flow.{unacked_of}
 use Rattle.st_hub.specs.Keeping.{KeepsOut, KeepsSent}
 use Rattle.st_hub.proofs.EndFolds.{opened_keeps, marked_keeps}
 

@@ -1,5 +1,5 @@
 -- Each step of a pump keeps the tie of the end and its rings.
-use Rattle.std.proofs.Common.{◌≡◌, ◌≢◌, ℕ, zero, suc, ◌+◌, ◌*◌, ◌<◌, ◌≤◌, List, [], ◌∷◌, ◌++◌, map, length, Bool, true, false, refl, sym, ap, subst, ◌∙◌, arith, Ok, inl, inr, ◌⊎◌, ⊎_elim, append_assoc, length-append, length-set}
+use Rattle.std.proofs.Common.{◌≡◌, ◌≢◌, ℕ, zero, suc, ◌+◌, ◌*◌, ◌<◌, List, [], ◌∷◌, ◌++◌, map, length, refl, sym, ap, subst, ◌∙◌, arith, Ok, inl, inr, append_assoc, length-append, length-set}
 use Rattle.std.proofs.lemmas.Bool.{cases_eq}
 use Rattle.std.proofs.lemmas.List.{append-nil}
 use Rattle.st_tables.specs.Slots.{slot}
@@ -12,10 +12,9 @@ use Rattle.st_queues.specs.declared.items.Item.{Item}
 use Rattle.st_queues.specs.declared.items.Item.TheVariants as kind
 use Rattle.st_queues.specs.declared.items.Delivery.{Delivery}
 use Rattle.st_queues.specs.declared.items.Delivery.TheVariants as told
-use Rattle.st_end.specs.State.{EndState}
 use Rattle.st_hub.specs.Merge.{Took, item}
-use Rattle.st_hub.specs.Flow.{Flow, Inlet, Outlet, no_inlet, no_outlet, inlet_at, outlet_at, rings_of, with_item, with_delivery, IsSent, TiedBy, Tied, AllTied}
-use Rattle.st_hub.specs.Handing.{NoneWrites, SomeWrites, IsPaired, AllPaired}
+use Rattle.st_hub.specs.Flow.{Flow, Inlet, Outlet, no_inlet, no_outlet, inlet_at, outlet_at, rings_of, with_item, with_delivery, IsSent, TiedBy, AllTied}
+use Rattle.st_hub.specs.Handing.{AllPaired}
 use Rattle.st_hub.specs.Steps.{read_limit, got_of, Takes, Ends, Gives, GivesNone, StepAt, takes, ends, gives, gives_none, Steps, Flows, Continues}
 use Rattle.st_hub.specs.Keeping.{KeepsOut, Keeps, Rises}
 use Rattle.st_hub.proofs.Merges.{merge_same, merge_more, joined_more}
@@ -23,7 +22,7 @@ use Rattle.st_hub.proofs.Ties.{sent_keeps, tied_same}
 use Rattle.st_hub.proofs.SentKeeping.{out_same}
 use Rattle.st_hub.proofs.EndEvents.{keeps_same, close_keeps}
 use Rattle.st_hub.proofs.Totals.{keeps_rises, rises_same, rises_join}
-use Rattle.st_hub.proofs.CoreSteps.{Writes, write_is, ReadsBytes, bytes_of, read_is}
+use Rattle.st_hub.proofs.CoreSteps.{write_is, bytes_of, read_is}
 
 -- rings of different streams, and different rings of a stream, have different numbers
 apart_streams : (s t i j : ℕ) → i < 8 → j < 8 → t ≢ s → 8 * t + i ≢ 8 * s + j

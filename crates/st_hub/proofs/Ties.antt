@@ -1,5 +1,5 @@
 -- What keeps the tie of a hub's end and its rings, where nothing is moved.
-use Rattle.std.proofs.Common.{◌≡◌, ℕ, ◌+◌, ◌*◌, ◌<◌, List, [], ◌∷◌, ◌++◌, length, map, refl, sym, ap, subst, ◌∙◌, arith, Option, None, Some}
+use Rattle.std.proofs.Common.{◌≡◌, ℕ, ◌+◌, ◌<◌, List, length, map, refl, sym, ap, subst, ◌∙◌, arith, Option}
 use Rattle.st_tables.specs.Slots.{slot}
 use Rattle.st_sender.specs.Sending.{Outgoing, outgoing_at}
 use Rattle.st_receiver.specs.Streams.{delivered_of}
@@ -8,11 +8,11 @@ use Rattle.st_queues.specs.Names.{RingId}
 use Rattle.st_queues.specs.declared.lanes.WriteLane.{WriteLane}
 use Rattle.st_queues.specs.declared.lanes.ReadLane.{ReadLane}
 use Rattle.st_end.specs.State.{EndState}
-use Rattle.st_hub.specs.Merge.{Took, MergeOf, item}
-use Rattle.st_hub.specs.Flow.{Flow, Inlet, Outlet, inlet_at, outlet_at, rings_of, IsSent, TiedBy, Tied, AllTied}
-use Rattle.st_hub.specs.Handing.{IsPaired, AllPaired}
-use Rattle.st_hub.specs.Keeping.{KeepsOut, Keeps, Rises}
-use Rattle.st_hub.specs.Inside.{inlet_of, outlet_of, flow_of, AllLanes, AllReadLanes, IsSound}
+use Rattle.st_hub.specs.Merge.{Took, item}
+use Rattle.st_hub.specs.Flow.{Flow, Inlet, Outlet, outlet_at, rings_of, IsSent, TiedBy, AllTied}
+use Rattle.st_hub.specs.Handing.{AllPaired}
+use Rattle.st_hub.specs.Keeping.{KeepsOut, Keeps}
+use Rattle.st_hub.specs.Inside.{inlet_of, outlet_of, AllLanes, AllReadLanes, IsSound}
 use Rattle.st_hub.proofs.Merges.{merge_same}
 
 pub sent_keeps : (bytes : List ℕ) (x y : Option Outgoing) → KeepsOut x y → IsSent bytes x → IsSent bytes y

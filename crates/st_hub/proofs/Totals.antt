@@ -1,16 +1,16 @@
 -- Totals do not fall where nothing that an end counts falls.
-use Rattle.std.proofs.Common.{◌≡◌, ℕ, zero, suc, ◌+◌, ◌-◌, ◌^◌, ◌≤◌, List, [], ◌∷◌, map, length, min, refl, sym, ap, subst, ◌∙◌, arith, Option, None, Some}
+use Rattle.std.proofs.Common.{◌≡◌, ℕ, suc, ◌+◌, ◌≤◌, List, [], ◌∷◌, map, length, refl, ◌∙◌, arith}
 use Rattle.std.specs.Prelude.{sum}
 use Rattle.std.proofs.lemmas.List.Sums.{sum_by-cons}
 use Rattle.st_tables.specs.Slots.{Slots, slot}
 use Rattle.st_sender.specs.Sending.{Outgoing}
 use Rattle.st_sender.specs.Refusals.{accepted_of, all_accepted}
-use Rattle.st_receiver.specs.Streams.{Receiving, Incoming, delivered_of, all_delivered}
+use Rattle.st_receiver.specs.Streams.{Incoming, delivered_of}
 use Rattle.st_receiver.specs.Limits.{capped}
 use Rattle.st_queues.specs.Watching.{IsUpTo}
 use Rattle.st_end.specs.State.{EndState}
 use Rattle.st_hub.specs.Hub.{shown_of}
-use Rattle.st_hub.specs.Keeping.{KeepsOut, Keeps, Rises}
+use Rattle.st_hub.specs.Keeping.{Keeps, Rises}
 
 accepted_rise : (xs ys : Slots Outgoing) → length ys ≡ length xs → ((k : ℕ) → accepted_of (slot xs k) ≤ accepted_of (slot ys k)) → all_accepted xs ≤ all_accepted ys
 accepted_rise [] ys w h = omega arith

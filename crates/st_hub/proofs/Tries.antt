@@ -5,29 +5,27 @@ use Rattle.std.proofs.lemmas.List.{map-set}
 use Rattle.std.proofs.lemmas.Bool.{cases_eq}
 use Rattle.std.proofs.lemmas.Bool.Decides.{nat_tests}
 use Rattle.st_tables.proofs.SlotLemmas.{set_here, set_there}
-use Rattle.st_receiver.specs.Reading as reading
 use Rattle.st_queues.specs.Names.{RingId}
 use Rattle.st_queues.specs.WriteEnds.{taken, SameWriteEnd}
 use Rattle.st_queues.specs.ReadEnds.{put_in, SameReadEnd}
-use Rattle.st_queues.specs.Lanes.{IsOurs, IsOurRead}
 use Rattle.st_queues.specs.Held.{HeldWrite, HeldRead}
 use Rattle.st_queues.specs.declared.items.Item.{Item}
 use Rattle.st_queues.specs.declared.items.Item.TheVariants as item
 use Rattle.st_queues.specs.declared.items.Delivery.{Delivery}
+use Rattle.st_queues.specs.declared.items.Delivery.TheVariants as delivery
 use Rattle.st_queues.specs.declared.lanes.WriteLane.{WriteLane}
 use Rattle.st_queues.specs.declared.lanes.ReadLane.{ReadLane}
 use Rattle.st_end.specs.State.{EndState}
 use Rattle.st_end.specs.Calls.{write, close}
-use Rattle.st_end.specs.Reading.{read}
 use Rattle.st_hub.specs.declared.pumping.Pumped.{Pumped}
 use Rattle.st_hub.specs.declared.pumping.Pumped.TheVariants.{Moved, Nothing, Stuck, NoMemory}
-use Rattle.st_hub.specs.Flow.{Flow, Inlet, Outlet, no_inlet, no_outlet, inlet_at, outlet_at, with_item, with_delivery, has_end, is_writing}
+use Rattle.st_hub.specs.Flow.{Flow, Inlet, Outlet, no_inlet, no_outlet, inlet_at, outlet_at, with_item, with_delivery, has_end, has_last, is_writing}
 use Rattle.st_hub.specs.Handing.{NoneWrites, SomeWrites, NoOther, SomeOther}
-use Rattle.st_hub.specs.Steps.{read_limit, got_of, Takes, Ends, Gives, GivesNone, StepAt, takes, ends, gives, gives_none, Flows}
+use Rattle.st_hub.specs.Steps.{takes, ends, gives, gives_none, Flows}
 use Rattle.st_hub.specs.Moving.{ClosesIf, AfterTake, AfterGive}
 use Rattle.st_hub.specs.Inside.{inlet_of, outlet_of, IsLane, IsReadLane}
 use Rattle.st_hub.proofs.Lists.{at_map}
-use Rattle.st_hub.proofs.StepTies.{flows_none, flows_more, item_out}
+use Rattle.st_hub.proofs.StepTies.{flows_none, flows_more}
 
 -- ---- the test for another writer
 
@@ -53,6 +51,24 @@ chunk_end [] v = refl
 chunk_end (item.Chunk w ∷ xs) v = chunk_end xs v
 chunk_end (item.End ∷ xs) v = refl
 
+pub bytes_last : {A : Type 0} (xs : List (Delivery A)) (v : Vec ℕ A) → has_last (xs ++ delivery.Bytes v ∷ []) ≡ has_last xs
+bytes_last [] v = refl
+bytes_last (delivery.Bytes w ∷ xs) v = bytes_last xs v
+bytes_last (delivery.End ∷ xs) v = refl
+bytes_last (delivery.Aborted code ∷ xs) v = refl
+
+pub end_last : {A : Type 0} (xs : List (Delivery A)) → has_last (xs ++ delivery.End ∷ []) ≡ true
+end_last [] = refl
+end_last (delivery.Bytes w ∷ xs) = end_last xs
+end_last (delivery.End ∷ xs) = refl
+end_last (delivery.Aborted code ∷ xs) = refl
+
+pub abort_last : {A : Type 0} (xs : List (Delivery A)) (code : ℕ) → has_last (xs ++ delivery.Aborted code ∷ []) ≡ true
+abort_last [] code = refl
+abort_last (delivery.Bytes w ∷ xs) code = abort_last xs code
+abort_last (delivery.End ∷ xs) code = refl
+abort_last (delivery.Aborted other ∷ xs) code = refl
+
 and_off : (b : Bool) → (b && false) ≡ false
 and_off true = refl
 and_off false = refl
@@ -77,8 +93,8 @@ module _ {A : Type 0} where
         over = over;
       }
 
-  pub read_lane_kept : (ring : ℕ → RingId A) (k : ℕ) (x y : ReadLane A) → IsReadLane ring k x → SameReadEnd x.end y.end → y.held ≡ x.held → IsReadLane ring k y
-  read_lane_kept ring k x y l same held =
+  pub read_lane_kept : (ring : ℕ → RingId A) (k : ℕ) (x y : ReadLane A) → IsReadLane ring k x → SameReadEnd x.end y.end → y.held ≡ x.held → y.over ≡ has_last (put_in y.end) → IsReadLane ring k y
+  read_lane_kept ring k x y l same held over =
       let n : y.end.stream ≡ x.end.stream = same.1 in
       record {
         number = n ∙ l.number;
@@ -87,6 +103,7 @@ module _ {A : Type 0} where
           same.0 ∙ l.ours.1 ∙ ap ring (sym n),
           subst (HeldRead (ring y.end.stream)) (sym held) (subst (λ m. HeldRead (ring m) x.held) (sym n) l.ours.2),
         );
+        over = over;
       }
 
   -- ---- the lists after a try
@@ -177,7 +194,8 @@ module _ {A : Type 0} where
   gave Moved s a b xs ys x y ls at held h =
       let f = flow a xs (map outlet_of ys) in
       let g = flow b xs (map outlet_of (slice_set ys s y)) in
-      flows_more f f g s ls (flows_none f) (gives (record { delivery = h.0; reads = h.1; inlets = refl; outlets = put_more ys s x y h.0 at held h.2 }))
+      let was : outlet_at (map outlet_of ys) s ≡ outlet_of x = at_map outlet_of ys s x no_outlet at in
+      flows_more f f g s ls (flows_none f) (gives (record { delivery = h.0; goes_on = ap (λ (z : Outlet A). has_last z.put) was ∙ h.1; reads = h.2; inlets = refl; outlets = put_more ys s x y h.0 at held h.3 }))
   gave Nothing s a b xs ys x y ls at held h =
       let f = flow a xs (map outlet_of ys) in
       let g = flow b xs (map outlet_of (slice_set ys s y)) in

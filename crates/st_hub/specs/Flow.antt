@@ -13,6 +13,7 @@ use Rattle.st_queues.specs.Items.{joined, delivered}
 use Rattle.st_queues.specs.declared.items.Item.{Item}
 use Rattle.st_queues.specs.declared.items.Item.TheVariants as item_kinds
 use Rattle.st_queues.specs.declared.items.Delivery.{Delivery}
+use Rattle.st_queues.specs.declared.items.Delivery.TheVariants as delivery_kinds
 use Rattle.st_hub.specs.Merge.{Took, MergeOf, item}
 
 -- ---- rings, as the hub sees them
@@ -67,6 +68,13 @@ module _ {A : Type 0} where
   has_end [] = false
   has_end (item_kinds.Chunk v ∷ xs) = has_end xs
   has_end (item_kinds.End ∷ xs) = true
+
+  -- an end or an abort is among them: the last that a reader is told
+  abbrev pub has_last : List (Delivery A) → Bool
+  has_last [] = false
+  has_last (delivery_kinds.Bytes v ∷ xs) = has_last xs
+  has_last (delivery_kinds.End ∷ xs) = true
+  has_last (delivery_kinds.Aborted code ∷ xs) = true
 
   -- the end of a writer that was handed out was not taken yet
   abbrev pub is_writing : Inlet A → Bool

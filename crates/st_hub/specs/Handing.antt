@@ -8,7 +8,7 @@ use Rattle.st_end.specs.State.{EndState}
 use Rattle.st_end.specs.Calls.{has_stream}
 use Rattle.st_hub.specs.declared.error.HubError.{HubError}
 use Rattle.st_hub.specs.declared.error.HubError.TheVariants.{NoStream, NoShareLeft, Stranger, MissingShare, NoMemory, EightWriters, WriterTooLate}
-use Rattle.st_hub.specs.Flow.{Flow, Inlet, Outlet, inlet_at, outlet_at, writer_out, reader_out, is_writing}
+use Rattle.st_hub.specs.Flow.{Flow, Inlet, inlet_at, outlet_at, writer_out, reader_out, is_writing}
 
 module _ {A : Type 0} where
   -- a writer that nobody used, and a reader

@@ -7,7 +7,7 @@ use Rattle.st_queues.specs.Lanes.{IsOurs, IsOurRead}
 use Rattle.st_queues.specs.declared.lanes.WriteLane.{WriteLane}
 use Rattle.st_queues.specs.declared.lanes.ReadLane.{ReadLane}
 use Rattle.st_end.specs.State.{EndState}
-use Rattle.st_hub.specs.Flow.{Flow, Inlet, Outlet, has_end, AllTied}
+use Rattle.st_hub.specs.Flow.{Flow, Inlet, Outlet, has_end, has_last, AllTied}
 use Rattle.st_hub.specs.Handing.{AllPaired}
 
 module _ {A : Type 0} where
@@ -20,7 +20,7 @@ module _ {A : Type 0} where
   abbrev pub flow_of : EndState → List (WriteLane A) → List (ReadLane A) → Flow A
   flow_of core writes reads = record { core = core; inlets = map inlet_of writes; outlets = map outlet_of reads }
 
-  -- the hub's ring of the number k lies at k, and its lane knows whether its end was taken
+  -- the hub's ring of the number k lies at k, and its lane knows whether its end was taken, or its last was put there
   pub record IsLane (ring : ℕ → RingId A) (k : ℕ) (x : WriteLane A) : Type 0 where
     pub number : x.end.ring ≡ k
     pub ours : IsOurs ring x
@@ -29,6 +29,7 @@ module _ {A : Type 0} where
   pub record IsReadLane (ring : ℕ → RingId A) (k : ℕ) (x : ReadLane A) : Type 0 where
     pub number : x.end.stream ≡ k
     pub ours : IsOurRead ring x
+    pub over : x.over ≡ has_last (put_in x.end)
 
   abbrev pub AllLanes : (ℕ → RingId A) → List (WriteLane A) → Type 0
   AllLanes ring xs = (length xs ≡ 512) × ((k : ℕ) (x : WriteLane A) → slice_get xs k ≡ Some x → IsLane ring k x)

@@ -1,7 +1,7 @@
 -- What the other calls of an end leave of its bytes: nothing is written, and nothing is read.
 use Rattle.std.specs.Prelude.{◌≡◌, ℕ, ◌+◌, ◌≤◌, true, length, is_some}
 use Rattle.std.specs.declared.option.Option.{Option}
-use Rattle.std.specs.declared.option.Option.TheVariants.{None, Some}
+use Rattle.std.specs.declared.option.Option.TheVariants.{Some}
 use Rattle.std.specs.FinMap.{get}
 use Rattle.st_tables.specs.Slots.{slot}
 use Rattle.st_sender.specs.Sending.{Outgoing, Sending, outgoing_at}

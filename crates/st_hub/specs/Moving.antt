@@ -9,6 +9,7 @@ use Rattle.st_end.specs.Calls.{write, close}
 use Rattle.st_end.specs.Reading.{read}
 use Rattle.st_hub.specs.declared.pumping.Pumped.{Pumped}
 use Rattle.st_hub.specs.declared.pumping.Pumped.TheVariants.{Moved, Nothing, Stuck, NoMemory}
+use Rattle.st_hub.specs.Flow.{has_last}
 use Rattle.st_hub.specs.Steps.{read_limit, got_of}
 
 -- the stream is closed with the last writer's end
@@ -28,7 +29,7 @@ module _ {A : Type 0} where
 
   -- what a read gave, and a ring into which t was put
   abbrev pub AfterGive : (k : ℕ) → EndState → List (Delivery A) → Pumped → EndState → List (Delivery A) → Type 0
-  AfterGive k a t Moved b u = (d : Delivery A) × (read a k read_limit ≡ (Ok (got_of d), b)) × (u ≡ t ++ d ∷ [])
+  AfterGive k a t Moved b u = (d : Delivery A) × (has_last t ≡ false) × (read a k read_limit ≡ (Ok (got_of d), b)) × (u ≡ t ++ d ∷ [])
   AfterGive k a t Nothing b u = (read a k read_limit ≡ (Ok reading.Nothing, b)) × (u ≡ t)
   AfterGive k a t Stuck b u = (b ≡ a) × (u ≡ t)
   AfterGive k a t NoMemory b u = (b ≡ a) × (u ≡ t)

@@ -1,6 +1,5 @@
 -- What a hub moves between its rings and its end: a list of writes, closes and reads.
-use Rattle.std.specs.Prelude.{◌≡◌, ◌⊎◌, ℕ, zero, suc, ◌+◌, ◌*◌, ◌<◌, List, [], ◌∷◌, ◌++◌, Vec, Result, Ok, Err}
-use Rattle.st_queues.specs.declared.items.Item.{Item}
+use Rattle.std.specs.Prelude.{◌≡◌, ◌⊎◌, ℕ, zero, suc, ◌+◌, ◌*◌, ◌<◌, false, List, ◌++◌, Vec, Ok}
 use Rattle.st_queues.specs.declared.items.Item.TheVariants as item
 use Rattle.st_queues.specs.declared.items.Delivery.{Delivery}
 use Rattle.st_queues.specs.declared.items.Delivery.TheVariants as delivery
@@ -8,7 +7,7 @@ use Rattle.st_receiver.specs.Reading as reading
 use Rattle.st_end.specs.Calls.{write, close}
 use Rattle.st_end.specs.Reading.{read}
 use Rattle.st_hub.specs.Merge.{Took}
-use Rattle.st_hub.specs.Flow.{Flow, with_item, with_delivery, TiedBy}
+use Rattle.st_hub.specs.Flow.{Flow, outlet_at, has_last, with_item, with_delivery, TiedBy}
 use Rattle.st_hub.specs.Handing.{NoneWrites, SomeWrites}
 
 -- the most bytes of a read
@@ -34,9 +33,10 @@ pub record Ends {A : Type 0} (s j : ℕ) (a b : Flow A) : Type 0 where
   pub closes : (NoneWrites b.inlets s × (close a.core (s + 1) ≡ (Ok tt, b.core))) ⊎ (SomeWrites b.inlets s × (b.core ≡ a.core))
   pub outlets : b.outlets ≡ a.outlets
 
--- what a read gave is delivered to the reader, and where it gave nothing, nothing is
+-- what a read gave is delivered to the reader, after neither end nor abort; and where it gave nothing, nothing is
 pub record Gives {A : Type 0} (s : ℕ) (a b : Flow A) : Type 0 where
   pub delivery : Delivery A
+  pub goes_on : has_last (outlet_at a.outlets s).put ≡ false
   pub reads : read a.core (s + 1) read_limit ≡ (Ok (got_of delivery), b.core)
   pub inlets : b.inlets ≡ a.inlets
   pub outlets : b.outlets ≡ with_delivery a.outlets s delivery

@@ -3,7 +3,7 @@
 ghost use Rattle.std.specs.Prelude.{◌≡◌, ◌+◌, ◌*◌, ◌<◌, not, ◌&&◌, nat_eq, List, map, OnOk, OnErr, MatchBool};
 ghost use Rattle.st_queues.specs.WriteEnds.{taken, SameWriteEnd};
 ghost use Rattle.st_queues.specs.ReadEnds.{put_in, SameReadEnd};
-ghost use Rattle.st_hub.specs.Flow.{Inlet, Outlet, inlet_at, has_end, is_writing};
+ghost use Rattle.st_hub.specs.Flow.{Inlet, Outlet, inlet_at, has_end, has_last, is_writing};
 ghost use Rattle.st_hub.specs.Handing.{NoOther, SomeOther};
 ghost use Rattle.st_hub.specs.Steps.{Flows};
 ghost use Rattle.st_hub.specs.Moving.{ClosesIf, AfterTake, AfterGive};
@@ -86,13 +86,15 @@ fn take_first<A: Allocator + Copy>(
     }
 }
 
-// Delivers what a read gives to a ring that has room.
+// Delivers what a read gives to a ring that has room, and whose last was not put there yet.
 fn give_first<A: Allocator + Copy>(
     core: &mut EndState<A>,
     lane: &mut ReadLane<A>,
     stream: u8,
 ) -> Pumped
+    requires { lane.old.over ≡ has_last (put_in lane.old.end) }
     ensures same { SameReadEnd lane.old.end lane.new.end × (lane.new.held ≡ lane.old.held) }
+    ensures over { lane.new.over ≡ has_last (put_in lane.new.end) }
     ensures after { AfterGive stream core.old (put_in lane.old.end) result core.new (put_in lane.new.end) }
 {
     let ReadLane { end, held: _, over } = lane;

@@ -1,6 +1,5 @@
-use Rattle.std.proofs.Common.{◌≡◌, ◌<◌, ◌++◌, List, length, map, ◌∙◌, ap, sym, refl, arith, length-set}
-use Rattle.st_queues.specs.declared.items.Delivery.{Delivery}
-use Rattle.st_hub.specs.Flow.{Outlet, no_outlet}
+use Rattle.std.proofs.Common.{◌<◌, ◌++◌, length, ◌∙◌, ap, sym, refl, arith, length-set}
+use Rattle.st_hub.specs.Flow.{Outlet, no_outlet, has_last}
 use Rattle.st_hub.specs.Inside.{outlet_of, IsReadLane}
 use Rattle.st_hub.proofs.Lists.{each_set, found_at, at_map}
 use Rattle.st_hub.proofs.Tries.{read_lane_kept, put_same}
@@ -24,7 +23,7 @@ returns-clause-lanes g c =
     let at = found_at xs s x room c.index_mut-lane.ensures.value in
     let mine = c.requires.1 s x at in
     let same = c.meet.ensures.same in
-    ((length-set xs s _ ∙ c.requires.0, each_set (IsReadLane ring) xs s _ c.requires.1 (read_lane_kept ring s x _ mine same.0 refl)), put_same xs s x _ at refl same.1)
+    ((length-set xs s _ ∙ c.requires.0, each_set (IsReadLane ring) xs s _ c.requires.1 (read_lane_kept ring s x _ mine same.0 refl (mine.over ∙ ap has_last (sym same.1)))), put_same xs s x _ at refl same.1)
 
 pub returns-clause-whole : goal.returns-clause-whole
 returns-clause-whole g c =

@@ -1,6 +1,5 @@
-use Rattle.std.proofs.Common.{◌≡◌, ◌<◌, ◌++◌, List, length, map, ◌∙◌, ap, sym, refl, arith, length-set}
+use Rattle.std.proofs.Common.{◌<◌, ◌++◌, length, ◌∙◌, ap, sym, refl, arith, length-set}
 use Rattle.st_queues.specs.WriteEnds.{known}
-use Rattle.st_queues.specs.declared.items.Item.{Item}
 use Rattle.st_hub.specs.Flow.{Inlet, no_inlet, has_end}
 use Rattle.st_hub.specs.Inside.{inlet_of, IsLane}
 use Rattle.st_hub.proofs.Lists.{each_set, found_at, at_map}

@@ -1,4 +1,4 @@
-use Rattle.std.proofs.Common.{◌≡◌, ◌<◌, length, ◌∙◌, arith, length-set}
+use Rattle.std.proofs.Common.{◌<◌, length, ◌∙◌, arith, length-set}
 use Rattle.st_hub.specs.Inside.{IsReadLane}
 use Rattle.st_hub.proofs.Lists.{each_set, found_at}
 use Rattle.st_hub.proofs.Handings.{handed_read_lane, handed_reader, found_reader}
@@ -18,7 +18,7 @@ returns-clause-lanes g c =
     let room : r < length xs = omega (arith, c.requires.0.0, c.requires.1) in
     let mine = c.requires.0.1 r x (found_at xs r x room c.index_mut-lane.ensures.value) in
     let left = c.hand_out.ensures.left in
-    (length-set xs r _ ∙ c.requires.0.0, each_set (IsReadLane g.N.HubName.read_ring) xs r _ c.requires.0.1 (handed_read_lane g.N.HubName.read_ring r x _ mine left.0 left.1))
+    (length-set xs r _ ∙ c.requires.0.0, each_set (IsReadLane g.N.HubName.read_ring) xs r _ c.requires.0.1 (handed_read_lane g.N.HubName.read_ring r x _ mine left.0 left.1 left.2))
 
 pub returns-clause-found : goal.returns-clause-found
 returns-clause-found g c =

@@ -1,4 +1,4 @@
-use Rattle.std.proofs.Common.{◌≡◌, ◌<◌, length, ◌∙◌, arith, length-set}
+use Rattle.std.proofs.Common.{◌<◌, length, ◌∙◌, arith, length-set}
 use Rattle.st_hub.specs.Inside.{IsLane}
 use Rattle.st_hub.proofs.Lists.{each_set, found_at}
 use Rattle.st_hub.proofs.Handings.{handed_lane, handed_out, found_writer}

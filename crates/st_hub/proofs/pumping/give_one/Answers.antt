@@ -4,6 +4,13 @@ use Rattle.st_hub.proofs.Lists.{each_set, found_at}
 use Rattle.st_hub.proofs.Tries.{read_lane_kept, gave}
 use Rattle.st_hub.proofs.pumping.give_one.Goals as goal
 
+pub give_first-requires : goal.give_first-requires
+give_first-requires g c =
+    let xs = c.args.reads.now.items in
+    let s = c.args.place in
+    let room : s < length xs = omega (arith, c.requires.0.0, c.requires.1) in
+    (c.requires.0.1 s _ (found_at xs s _ room c.index_mut-lane.ensures.value)).over
+
 pub returns-clause-lanes : goal.returns-clause-lanes
 returns-clause-lanes g c =
     let xs = c.args.reads.now.items in
@@ -13,7 +20,7 @@ returns-clause-lanes g c =
     let room : s < length xs = omega (arith, c.requires.0.0, c.requires.1) in
     let mine = c.requires.0.1 s x (found_at xs s x room c.index_mut-lane.ensures.value) in
     let same = c.give_first.ensures.same in
-    (length-set xs s _ ∙ c.requires.0.0, each_set (IsReadLane ring) xs s _ c.requires.0.1 (read_lane_kept ring s x _ mine same.0 same.1))
+    (length-set xs s _ ∙ c.requires.0.0, each_set (IsReadLane ring) xs s _ c.requires.0.1 (read_lane_kept ring s x _ mine same.0 same.1 c.give_first.ensures.over))
 
 pub returns-clause-flows : goal.returns-clause-flows
 returns-clause-flows g c inlets =

@@ -1,4 +1,4 @@
-use Rattle.std.proofs.Common.{◌≡◌, ◌∙◌, ◌<◌, ◌+◌, ◌*◌, length, map, ap, sym, arith}
+use Rattle.std.proofs.Common.{◌∙◌, ◌<◌, ◌+◌, ◌*◌, length, ap, sym, arith}
 use Rattle.st_hub.specs.Flow.{no_inlet, is_writing}
 use Rattle.st_hub.specs.Inside.{inlet_of}
 use Rattle.st_hub.proofs.Lists.{found_at, at_map}

@@ -1,4 +1,4 @@
-use Rattle.std.proofs.Common.{◌≡◌, subst, sym, arith}
+use Rattle.std.proofs.Common.{subst, sym}
 use Rattle.st_queues.specs.Watching.{IsUpTo}
 use Rattle.st_hub.specs.Hub.{shown_of}
 use Rattle.st_hub.proofs.Totals.{totals_rise, keeps_rises}

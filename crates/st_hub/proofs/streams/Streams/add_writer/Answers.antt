@@ -1,4 +1,4 @@
-use Rattle.std.proofs.Common.{◌≡◌, ◌+◌, ◌*◌, ◌-◌, ◌<◌, ℕ, Bool, true, false, List, map, subst, sym, ap, arith}
+use Rattle.std.proofs.Common.{◌≡◌, ◌+◌, ◌*◌, ◌-◌, ◌<◌, ℕ, false, List, map, subst}
 use Rattle.st_hub.specs.Flow.{Flow, Inlet, inlet_at, writer_out}
 use Rattle.st_hub.specs.Handing.{AllOut, IsTooLate, IsFreshWriter, AddsWriter, RefusesWriter}
 use Rattle.st_hub.specs.Inside.{inlet_of, outlet_of, flow_of}

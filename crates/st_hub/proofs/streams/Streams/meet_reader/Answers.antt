@@ -1,6 +1,6 @@
 use Rattle.std.proofs.Common.{◌≡◌, ◌++◌, map, subst, refl, ◌∙◌}
 use Rattle.st_hub.specs.Flow.{Flow, outlet_at}
-use Rattle.st_hub.specs.Inside.{inlet_of, outlet_of}
+use Rattle.st_hub.specs.Inside.{inlet_of}
 use Rattle.st_hub.proofs.Ties.{lanes_sound}
 use Rattle.st_hub.proofs.streams.Streams.meet_reader.Goals as goal
 

@@ -1,7 +1,7 @@
 use Rattle.std.proofs.Common.{◌≡◌, ◌<◌, ◌++◌, ℕ, List, length, map, subst, refl, ◌∙◌}
 use Rattle.st_queues.specs.declared.items.Item.{Item}
 use Rattle.st_hub.specs.Flow.{Flow, inlet_at, Tied}
-use Rattle.st_hub.specs.Inside.{inlet_of, outlet_of}
+use Rattle.st_hub.specs.Inside.{outlet_of}
 use Rattle.st_hub.proofs.Ties.{lanes_sound}
 use Rattle.st_hub.proofs.streams.Streams.meet_writer.Goals as goal
 

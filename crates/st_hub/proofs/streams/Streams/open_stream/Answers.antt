@@ -1,4 +1,4 @@
-use Rattle.std.proofs.Common.{◌≡◌, ◌≤◌, ◌<◌, ◌+◌, ◌-◌, ℕ, subst, sym, ap, ◌∙◌, arith, None}
+use Rattle.std.proofs.Common.{◌≡◌, ◌+◌, ◌-◌, ℕ, subst, sym, arith, None}
 use Rattle.st_sender.specs.Sending.{outgoing_at}
 use Rattle.st_end.specs.Calls.{has_stream}
 use Rattle.st_hub.specs.Flow.{Flow}

@@ -3,7 +3,7 @@ use Rattle.st_hub.specs.Flow.{Flow}
 use Rattle.st_hub.specs.Inside.{flow_of}
 use Rattle.st_hub.specs.Steps.{Flows, Continues}
 use Rattle.st_hub.specs.Keeping.{Rises}
-use Rattle.st_hub.proofs.StepTies.{Kept, steps_kept, kept_tied, kept_paired}
+use Rattle.st_hub.proofs.StepTies.{steps_kept, kept_tied, kept_paired}
 use Rattle.st_hub.proofs.streams.Streams.pump.Goals as goal
 
 pub invariant_of-self : goal.invariant_of-self

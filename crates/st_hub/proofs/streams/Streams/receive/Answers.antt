@@ -1,4 +1,4 @@
-use Rattle.std.proofs.Common.{subst, sym}
+use Rattle.std.proofs.Common.{subst}
 use Rattle.st_hub.specs.Flow.{Flow}
 use Rattle.st_hub.specs.Keeping.{Keeps}
 use Rattle.st_hub.proofs.Ties.{core_sound}

@@ -1,4 +1,4 @@
-use Rattle.std.proofs.Common.{◌≡◌, ◌<◌, ◌+◌, ℕ, subst, sym, refl, ◌∙◌, arith, true}
+use Rattle.std.proofs.Common.{◌≡◌, ◌+◌, ℕ, subst, sym, refl, ◌∙◌, arith, true}
 use Rattle.st_end.specs.Calls.{has_stream}
 use Rattle.st_hub.specs.Flow.{Flow}
 use Rattle.st_hub.specs.Handing.{IsLeft, TakesLeft}

@@ -1,0 +1,139 @@
+//! The write rings of one stream.
+use crate::hubs::{Locked, Trial, run};
+use st_hub::HubState;
+use st_queues::{GaugeSeat, HubName, QueueError, StreamWriter};
+use std::alloc::{AllocError, Global};
+use std::process::Abort;
+use std::sync::Wait;
+use std::test::Fail;
+
+/// Whether a chunk is refused for its length.
+fn has_bad_length<N: HubName<Global>>(
+    writer: &mut StreamWriter<N, Global>,
+    chunk: Vec<u8>,
+) -> bool {
+    let length = chunk.len();
+    match writer.try_write(chunk) {
+        Err(QueueError::BadLength(back)) => back.len() == length,
+        Err(_other) => false,
+        Ok(()) => false,
+    }
+}
+
+/// Whether a full ring gives these bytes back.
+fn gives_back(told: Result<(), QueueError<Global>>, chunk: &[u8]) -> bool {
+    match told {
+        Err(QueueError::Full(back)) => back.as_slice() == chunk,
+        Err(_other) => false,
+        Ok(()) => false,
+    }
+}
+
+/// Whether a chunk is given back by a full ring, and an end is refused there.
+fn is_full<N: HubName<Global>>(
+    alloc: Global,
+    writer: &mut StreamWriter<N, Global>,
+) -> Result<bool, AllocError> {
+    let chunk = b"z".to_vec(alloc)?;
+    Ok(gives_back(writer.try_write(chunk), b"z") && gives_back(writer.try_end(), b""))
+}
+
+/// A fresh ring takes 64 chunks of one byte, and then no chunk and no end.
+fn fill<N: HubName<Global>>(
+    rt: &impl Abort,
+    alloc: Global,
+    writer: &mut StreamWriter<N, Global>,
+) -> Result<(), AllocError> {
+    assert!(rt; has_bad_length(writer, Vec::new(alloc)));
+    assert!(rt; has_bad_length(writer, Vec::from_elem(alloc, 7, 4097)?));
+    for _ in 0..64u8 {
+        assert!(rt; writer.try_write(b"a".to_vec(alloc)?).is_ok());
+    }
+    assert!(rt; is_full(alloc, writer)?);
+    Ok(())
+}
+
+/// The further writers of a stream, each of which has filled its ring.
+fn fill_further<N: HubName<Global>>(
+    rt: &impl Abort,
+    alloc: Global,
+    hub: &mut HubState<N, Global>,
+    stream: u8,
+) -> Result<Vec<StreamWriter<N, Global>>, Fail> {
+    let mut writers = Vec::new(alloc);
+    for _ in 0..7u8 {
+        let mut writer = hub.add_writer(stream)?;
+        fill(rt, alloc, &mut writer)?;
+        writers.push(writer)?;
+    }
+    Ok(writers)
+}
+
+/// Each writer's ring has so many items.
+fn meet_all<N: HubName<Global>>(
+    rt: &impl Abort,
+    hub: &mut HubState<N, Global>,
+    writers: &mut Vec<StreamWriter<N, Global>>,
+    items: usize,
+) {
+    for writer in writers {
+        assert_eq!(rt; hub.meet_writer(writer), items);
+    }
+}
+
+/// Each of a stream's eight rings is filled, and pumped.
+#[derive(Drop)]
+struct EightRings;
+
+impl<R: Wait + Abort> Trial<R> for EightRings {
+    fn run<N: HubName<Global>, M: HubName<Global>>(
+        &self,
+        rt: &R,
+        alloc: Global,
+        hubs: &Locked<N, M>,
+        seat: &mut GaugeSeat<N, Global>,
+    ) -> Result<(), Fail> {
+        let hub = &mut *hubs.near.lock(rt);
+        let (stream, mut first, _reader) = hub.open_stream()?;
+        fill(rt, alloc, &mut first)?;
+        let mut writers = fill_further(rt, alloc, hub, stream)?;
+        writers.push(first)?;
+        meet_all(rt, hub, &mut writers, 64);
+        hub.pump()?;
+        meet_all(rt, hub, &mut writers, 0);
+        assert_eq!(rt; hubs.gauge.seen(seat).accepted, 512);
+        Ok(())
+    }
+}
+
+#[test]
+fn each_of_eight_rings_takes_64_items(rt: HostRuntime) -> Result<(), Fail> {
+    run(&rt, rt.alloc(), 1_000, &EightRings)
+}
+
+/// A seat that asks to stop.
+#[derive(Drop)]
+struct AskedToStop;
+
+impl<R: Abort> Trial<R> for AskedToStop {
+    fn run<N: HubName<Global>, M: HubName<Global>>(
+        &self,
+        rt: &R,
+        _alloc: Global,
+        hubs: &Locked<N, M>,
+        seat: &mut GaugeSeat<N, Global>,
+    ) -> Result<(), Fail> {
+        let gauge = &hubs.gauge;
+        let mut other = gauge.split(seat);
+        assert!(rt; !gauge.stopped(&mut other));
+        gauge.ask_stop(seat);
+        assert!(rt; gauge.stopped(seat));
+        assert!(rt; gauge.stopped(&mut other));
+        Ok(())
+    }
+}
+
+#[test]
+fn who_asked_to_stop_knows_it(rt: HostRuntime) -> Result<(), Fail> {
+    run(&rt, rt.alloc(), 1_000, &AskedToStop)
+}
