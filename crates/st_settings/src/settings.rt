@@ -8,7 +8,7 @@ ghost use Rattle.st_settings.specs.declared.settings.SendSettings.{SendSettings}
 ghost use Rattle.st_settings.specs.declared.settings.ReceiveSettings.{ReceiveSettings};
 ghost use Rattle.st_settings.specs.declared.settings.ConnectorSettings.{ConnectorSettings};
 ghost use Rattle.st_settings.specs.Numbers.{IsHostPort};
-ghost use Rattle.st_settings.specs.Settings.{IsConnector, IsLocal, IsReceive, IsSend, IsWithin};
+ghost use Rattle.st_settings.specs.Settings.{IsConnector, IsLocal, IsReceive, IsSend, IsWithin, connector_texts, local_texts, receive_texts, send_texts};
 
 use crate::number::read_number;
 use crate::options::{ConnectorOptions, LocalOptions, ReceiveOptions, SendOptions};
@@ -33,11 +33,11 @@ pub const MAX_REQUESTS: u64 = (1 << 31) - 1;
 #[derive(Clone, Copy, Debug)]
 pub struct LocalSettings {
     /// Connectors between the two ends: 0 to 8, by default 1.
-    pub hops: u64,
+    pub hops: u8,
     /// Each Prepare of the client whose number this divides is lost: 0, the default, for none, to 1,000,000.
     pub lose: u64,
     /// Streams that the input is cut into: 1 to 32, by default 1.
-    pub streams: u64,
+    pub streams: u8,
 }
 
 /// What `send` is asked to do.
@@ -56,7 +56,7 @@ pub struct SendSettings<'a> {
     /// The money that is offered on the stream, in units: 0, the default, to 2^63 - 1.
     pub money: u64,
     /// Threads that send: 1 to 16, by default 4.
-    pub workers: u64,
+    pub workers: u8,
     /// The file that random bytes are read from, by default /dev/urandom.
     pub random: &'a str,
     /// The least that has to arrive for what is sent, rounded down: by default 1 to 1.
@@ -90,7 +90,7 @@ pub struct ConnectorSettings<'a> {
     /// Requests that are taken before it ends: 1 to 2^31 - 1.
     pub requests: u64,
     /// Threads that serve: 1 to 16, by default 4.
-    pub workers: u64,
+    pub workers: u8,
 }
 
 /// The number that a text writes, from `least` to `most`.
@@ -132,12 +132,12 @@ fn address(text: &str) -> Option<&str>
 impl LocalSettings {
     /// What these texts say, or `None` exactly where one is bad.
     pub fn read(options: &LocalOptions<'_>) -> Option<LocalSettings>
-        ensures { MatchOption result ((s : LocalSettings) → ¬ (IsLocal options.now s)) (IsLocal options.now) }
+        ensures { MatchOption result ((s : LocalSettings) → ¬ (IsLocal (local_texts options.now) s)) (IsLocal (local_texts options.now)) }
     {
         Some(LocalSettings {
-            hops: number(options.hops, 0, MAX_HOPS)?,
+            hops: number(options.hops, 0, MAX_HOPS)? as u8,
             lose: number(options.lose, 0, MAX_LOSE)?,
-            streams: number(options.streams, 1, MAX_STREAMS)?,
+            streams: number(options.streams, 1, MAX_STREAMS)? as u8,
         })
     }
 }
@@ -145,7 +145,7 @@ impl LocalSettings {
 impl<'a> SendSettings<'a> {
     /// What these texts say, or `None` exactly where one is bad.
     pub fn read(options: &SendOptions<'a>) -> Option<SendSettings<'a>>
-        ensures { MatchOption result ((s : SendSettings) → ¬ (IsSend options.now s)) (IsSend options.now) }
+        ensures { MatchOption result ((s : SendSettings) → ¬ (IsSend (send_texts options.now) s)) (IsSend (send_texts options.now)) }
     {
         Some(SendSettings {
             to: host_port(options.to)?,
@@ -154,7 +154,7 @@ impl<'a> SendSettings<'a> {
             address: address(options.address)?,
             peer: address(options.peer)?,
             money: number(options.money, 0, MAX_MONEY)?,
-            workers: number(options.workers, 1, MAX_WORKERS)?,
+            workers: number(options.workers, 1, MAX_WORKERS)? as u8,
             random: options.random,
             least: read_rate(options.least)?,
         })
@@ -164,7 +164,7 @@ impl<'a> SendSettings<'a> {
 impl<'a> ReceiveSettings<'a> {
     /// What these texts say, or `None` exactly where one is bad.
     pub fn read(options: &ReceiveOptions<'a>) -> Option<ReceiveSettings<'a>>
-        ensures { MatchOption result ((s : ReceiveSettings) → ¬ (IsReceive options.now s)) (IsReceive options.now) }
+        ensures { MatchOption result ((s : ReceiveSettings) → ¬ (IsReceive (receive_texts options.now) s)) (IsReceive (receive_texts options.now)) }
     {
         Some(ReceiveSettings {
             listen: host_port(options.listen)?,
@@ -180,13 +180,13 @@ impl<'a> ReceiveSettings<'a> {
 impl<'a> ConnectorSettings<'a> {
     /// What these texts say, or `None` exactly where one is bad.
     pub fn read(options: &ConnectorOptions<'a>) -> Option<ConnectorSettings<'a>>
-        ensures { MatchOption result ((s : ConnectorSettings) → ¬ (IsConnector options.now s)) (IsConnector options.now) }
+        ensures { MatchOption result ((s : ConnectorSettings) → ¬ (IsConnector (connector_texts options.now) s)) (IsConnector (connector_texts options.now)) }
     {
         Some(ConnectorSettings {
             listen: host_port(options.listen)?,
             own: address(options.own)?,
             requests: number(options.requests, 1, MAX_REQUESTS)?,
-            workers: number(options.workers, 1, MAX_WORKERS)?,
+            workers: number(options.workers, 1, MAX_WORKERS)? as u8,
         })
     }
 }

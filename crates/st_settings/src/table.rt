@@ -7,8 +7,8 @@ ghost use Rattle.st_settings.specs.Table.{HasBad, IsBad, Says, Takes};
 
 use crate::error::TableError;
 use crate::line::{AccountLine, account_of, route_of, words_of};
-use st_hop::Route;
-use std::alloc::Allocator;
+use st_hop::{Account, Route};
+use std::alloc::{AllocError, Allocator};
 
 /// The accounts of a connector, numbered from 0, and its routes, each in the order of the lines.
 #[derive(Drop)]
@@ -27,6 +27,26 @@ impl<'a, A: Allocator + Copy> Table<'a, A> {
             accounts: Vec::new(alloc),
             routes: Vec::new(alloc),
         }
+    }
+
+    /// What each account may owe and send, for a hop.
+    pub fn terms(&self, alloc: A) -> Result<Vec<Account, A>, AllocError>
+        ensures { IfOk result (λ terms. terms.items ≡ map (λ x. x.terms) self.now.accounts.items) }
+    {
+        self.accounts
+            .iter()
+            .map(|account| account.terms)
+            .collect(alloc)
+    }
+
+    /// The token of each account, for a server.
+    pub fn tokens(&self, alloc: A) -> Result<Vec<&'a str, A>, AllocError>
+        ensures { IfOk result (λ tokens. tokens.items ≡ map (λ x. x.token) self.now.accounts.items) }
+    {
+        self.accounts
+            .iter()
+            .map(|account| account.token)
+            .collect(alloc)
     }
 
     /// Takes what the words of a line say.
