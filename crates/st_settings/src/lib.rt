@@ -18,8 +18,8 @@ pub use line::{AccountLine, Neighbour};
 pub use number::read_number;
 pub use options::{ConnectorOptions, LocalOptions, ReceiveOptions, SendOptions};
 pub use settings::{
-    ConnectorSettings, LocalSettings, MAX_MONEY, MAX_REQUESTS, MAX_WORKERS, ReceiveSettings,
-    SendSettings,
+    ConnectorSettings, LocalSettings, MAX_HOPS, MAX_LOSE, MAX_MONEY, MAX_REQUESTS, MAX_STREAMS,
+    MAX_WORKERS, ReceiveSettings, SendSettings,
 };
 pub use table::{Table, read_table};
 pub use text::{read_rate, read_secret};
