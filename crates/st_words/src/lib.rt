@@ -6,10 +6,12 @@
 #![tactic(auto)]
 
 mod error;
+mod laws;
 mod options;
 mod program;
 mod request;
 mod texts;
 
 pub use error::WordsError;
+pub use laws::plain_words_say_their_texts;
 pub use request::{Request, read_words};

@@ -1,0 +1,12 @@
+-- Plain words: clap's rules compute at them.
+use Rattle.std.proofs.Common.{refl}
+use Rattle.clap.proofs.OnLiterals.{clap_on_literals}
+use Rattle.st_words.specs.Laws.{ReceiveSaysItsTexts, SendSaysItsTexts}
+
+pub send_plain : SendSaysItsTexts
+unfolding clap_on_literals
+send_plain to token secret address peer = (refl, (_, refl, refl))
+
+pub receive_plain : ReceiveSaysItsTexts
+unfolding clap_on_literals
+receive_plain listen token secret address peer = (refl, (_, refl, refl))
