@@ -1,7 +1,7 @@
 -- What plain words ask for, whatever the texts in them are.
 use Rattle.std.specs.Prelude.{◌≡◌, List, [], ◌∷◌, ◌++◌, codes, Some}
 use Rattle.clap.specs.Words.{Row, Text}
-use Rattle.st_words.specs.Words.{command_of, receive_texts, refusals, send_texts}
+use Rattle.st_words.specs.Words.{command_of, connector_texts, receive_texts, refusals, send_texts}
 
 -- the words of `send` with these texts
 abbrev pub send_words : Text → Text → Text → Text → Text → List Text
@@ -38,4 +38,17 @@ ReceiveSaysItsTexts = (listen token secret address peer : Text) → (refusals (r
       address = address;
       peer = peer;
       receive_max = codes "0";
+    }))
+
+-- the words of `connector` with these texts, for a thousand requests
+abbrev pub connector_words : Text → Text → List Text
+connector_words listen own = codes "ilpstream" ∷ codes "connector" ∷ (codes "--listen=" ++ listen) ∷ (codes "--own=" ++ own) ∷ codes "--requests=1000" ∷ []
+
+abbrev pub ConnectorSaysItsTexts : Type 0
+ConnectorSaysItsTexts = (listen own : Text) → (refusals (connector_words listen own) ≡ [])
+    × ((rows : List Row) × (command_of (connector_words listen own) ≡ Some (codes "connector", rows)) × (connector_texts rows ≡ record {
+      listen = listen;
+      own = own;
+      requests = codes "1000";
+      workers = codes "4";
     }))

@@ -78,12 +78,22 @@ fn send<'a>(alloc: Global) -> Result<Command<'a>, AllocError>
         alloc,
         "to",
         "HOST:PORT",
-        "The neighbour that requests go to",
+        "The neighbour that requests go to, its port up to 65535",
     );
     let token = option(alloc, "token", "TOKEN", TOKEN_HELP);
     let secret = option(alloc, "secret", "HEX", SECRET_HELP);
-    let address = option(alloc, "address", "ADDRESS", "This end's ILP address");
-    let peer = option(alloc, "peer", "ADDRESS", "The receiver's ILP address");
+    let address = option(
+        alloc,
+        "address",
+        "ADDRESS",
+        "This end's ILP address, up to 1023 characters",
+    );
+    let peer = option(
+        alloc,
+        "peer",
+        "ADDRESS",
+        "The receiver's ILP address, up to 1023 characters",
+    );
     let money = number(
         alloc,
         "money",
@@ -125,11 +135,26 @@ fn send<'a>(alloc: Global) -> Result<Command<'a>, AllocError>
 fn receive<'a>(alloc: Global) -> Result<Command<'a>, AllocError>
     ensures { IfOk result (HasShape spec.receive) }
 {
-    let listen = option(alloc, "listen", "HOST:PORT", "Where requests are taken");
+    let listen = option(
+        alloc,
+        "listen",
+        "HOST:PORT",
+        "Where requests are taken, a port up to 65535",
+    );
     let token = option(alloc, "token", "TOKEN", TOKEN_HELP);
     let secret = option(alloc, "secret", "HEX", SECRET_HELP);
-    let address = option(alloc, "address", "ADDRESS", "This end's ILP address");
-    let peer = option(alloc, "peer", "ADDRESS", "The sender's ILP address");
+    let address = option(
+        alloc,
+        "address",
+        "ADDRESS",
+        "This end's ILP address, up to 1023 characters",
+    );
+    let peer = option(
+        alloc,
+        "peer",
+        "ADDRESS",
+        "The sender's ILP address, up to 1023 characters",
+    );
     let receive_max = number(
         alloc,
         "receive-max",
@@ -154,8 +179,18 @@ fn receive<'a>(alloc: Global) -> Result<Command<'a>, AllocError>
 fn connector<'a>(alloc: Global) -> Result<Command<'a>, AllocError>
     ensures { IfOk result (HasShape spec.connector) }
 {
-    let listen = option(alloc, "listen", "HOST:PORT", "Where requests are taken");
-    let own = option(alloc, "own", "ADDRESS", "The connector's own ILP address");
+    let listen = option(
+        alloc,
+        "listen",
+        "HOST:PORT",
+        "Where requests are taken, a port up to 65535",
+    );
+    let own = option(
+        alloc,
+        "own",
+        "ADDRESS",
+        "The connector's own ILP address, up to 1023 characters",
+    );
     let requests = number(
         alloc,
         "requests",
