@@ -1,0 +1,4 @@
+pub mod Numbers
+pub mod Settings
+pub mod Table
+pub mod Errors

@@ -1,0 +1,136 @@
+-- The settings that the texts of a command's options say.
+use Rattle.std.specs.Prelude.{◌≡◌, ℕ, ◌≤◌, ◌^◌, ◌-◌, true, List, Ok}
+use Rattle.hex.specs.Hex.{decode_sized}
+use Rattle.st_oer.specs.Address.{is_address}
+use Rattle.st_http.specs.Texts.{is_field_text}
+use Rattle.st_settings.specs.declared.options.LocalOptions.{LocalOptions}
+use Rattle.st_settings.specs.declared.options.SendOptions.{SendOptions}
+use Rattle.st_settings.specs.declared.options.ReceiveOptions.{ReceiveOptions}
+use Rattle.st_settings.specs.declared.options.ConnectorOptions.{ConnectorOptions}
+use Rattle.st_settings.specs.declared.settings.LocalSettings.{LocalSettings}
+use Rattle.st_settings.specs.declared.settings.SendSettings.{SendSettings}
+use Rattle.st_settings.specs.declared.settings.ReceiveSettings.{ReceiveSettings}
+use Rattle.st_settings.specs.declared.settings.ConnectorSettings.{ConnectorSettings}
+use Rattle.st_settings.specs.Numbers.{IsNumber, IsHostPort, IsRate}
+
+-- the text writes a number within these bounds
+pub record IsWithin (least most : ℕ) (text : List ℕ) (n : ℕ) : Type 0 where
+  pub number : IsNumber most text n
+  pub enough : least ≤ n
+
+-- the text is 64 hexadecimal digits, which write these bytes
+abbrev pub IsSecret : List ℕ → List ℕ → Type 0
+IsSecret text bytes = decode_sized text 32 ≡ Ok bytes
+
+-- the greatest amount of money
+abbrev pub most_money : ℕ
+most_money = 2 ^ 63 - 1
+
+abbrev pub most_workers : ℕ
+most_workers = 16
+
+-- the texts of `local`
+pub record LocalTexts : Type 0 where
+  pub hops : List ℕ
+  pub lose : List ℕ
+  pub streams : List ℕ
+
+abbrev pub local_texts : LocalOptions → LocalTexts
+local_texts o = record {
+  hops = o.hops.now;
+  lose = o.lose.now;
+  streams = o.streams.now;
+}
+
+-- the texts of `send`
+pub record SendTexts : Type 0 where
+  pub to : List ℕ
+  pub token : List ℕ
+  pub secret : List ℕ
+  pub address : List ℕ
+  pub peer : List ℕ
+  pub money : List ℕ
+  pub workers : List ℕ
+  pub random : List ℕ
+  pub least : List ℕ
+
+abbrev pub send_texts : SendOptions → SendTexts
+send_texts o = record {
+  to = o.to.now;
+  token = o.token.now;
+  secret = o.secret.now;
+  address = o.address.now;
+  peer = o.peer.now;
+  money = o.money.now;
+  workers = o.workers.now;
+  random = o.random.now;
+  least = o.least.now;
+}
+
+-- the texts of `receive`
+pub record ReceiveTexts : Type 0 where
+  pub listen : List ℕ
+  pub token : List ℕ
+  pub secret : List ℕ
+  pub address : List ℕ
+  pub peer : List ℕ
+  pub receive_max : List ℕ
+
+abbrev pub receive_texts : ReceiveOptions → ReceiveTexts
+receive_texts o = record {
+  listen = o.listen.now;
+  token = o.token.now;
+  secret = o.secret.now;
+  address = o.address.now;
+  peer = o.peer.now;
+  receive_max = o.receive_max.now;
+}
+
+-- the texts of `connector`
+pub record ConnectorTexts : Type 0 where
+  pub listen : List ℕ
+  pub own : List ℕ
+  pub requests : List ℕ
+  pub workers : List ℕ
+
+abbrev pub connector_texts : ConnectorOptions → ConnectorTexts
+connector_texts o = record {
+  listen = o.listen.now;
+  own = o.own.now;
+  requests = o.requests.now;
+  workers = o.workers.now;
+}
+
+-- the texts ask `local` for this
+pub record IsLocal (o : LocalTexts) (s : LocalSettings) : Type 0 where
+  pub hops : IsWithin 0 8 o.hops s.hops
+  pub lose : IsWithin 0 1_000_000 o.lose s.lose
+  pub streams : IsWithin 1 32 o.streams s.streams
+
+-- the texts ask `send` for this
+pub record IsSend (o : SendTexts) (s : SendSettings) : Type 0 where
+  pub to : (s.to.now ≡ o.to) × IsHostPort o.to
+  pub token : (s.token.now ≡ o.token) × (is_field_text o.token ≡ true)
+  pub secret : IsSecret o.secret s.secret
+  pub address : (s.address.now ≡ o.address) × (is_address o.address ≡ true)
+  pub peer : (s.peer.now ≡ o.peer) × (is_address o.peer ≡ true)
+  pub money : IsWithin 0 most_money o.money s.money
+  pub workers : IsWithin 1 most_workers o.workers s.workers
+  pub random : s.random.now ≡ o.random
+  pub least : IsRate o.least s.least
+
+-- the texts ask `receive` for this
+pub record IsReceive (o : ReceiveTexts) (s : ReceiveSettings) : Type 0 where
+  pub listen : (s.listen.now ≡ o.listen) × IsHostPort o.listen
+  pub token : (s.token.now ≡ o.token) × (is_field_text o.token ≡ true)
+  pub secret : IsSecret o.secret s.secret
+  pub address : (s.address.now ≡ o.address) × (is_address o.address ≡ true)
+  pub peer : (s.peer.now ≡ o.peer) × (is_address o.peer ≡ true)
+  pub receive_max : IsWithin 0 most_money o.receive_max s.receive_max
+
+-- the texts ask `connector` for this
+pub record IsConnector (o : ConnectorTexts) (s : ConnectorSettings) : Type 0 where
+  pub listen : (s.listen.now ≡ o.listen) × IsHostPort o.listen
+  pub own : (s.own.now ≡ o.own) × (is_address o.own ≡ true)
+  pub requests : IsWithin 1 (2 ^ 31 - 1) o.requests s.requests
+  pub workers : IsWithin 1 most_workers o.workers s.workers

@@ -1,0 +1,47 @@
+//! Why there is no table.
+
+ghost use Rattle.std.specs.Prelude.{◌≡◌};
+ghost use Rattle.st_settings.specs.Errors as errors;
+ghost use Rattle.st_settings.specs.declared.error.TableError.TheVariants.{NoMemory};
+
+use std::alloc::{AllocError, AllocFailed};
+use thiserror::Error;
+
+/// Why a text is no table.
+#[derive(Clone, Copy, Debug, PartialEq, Eq, Error)]
+pub enum TableError {
+    /// A line has words, and is neither an account nor a route.
+    #[error("a line is neither an account nor a route")]
+    BadLine,
+    /// Memory that the call asked for was refused.
+    #[error("out of memory")]
+    NoMemory,
+}
+
+impl TableError {
+    /// The number by which the refusal is known: 96 or 99.
+    pub fn number(&self) -> u8
+        ensures { result ≡ errors.number self.now }
+    {
+        match self {
+            TableError::BadLine => 96,
+            TableError::NoMemory => 99,
+        }
+    }
+}
+
+impl From<AllocError> for TableError {
+    ghost from_gives = { λ _ e. e ≡ NoMemory };
+
+    fn from(_error: AllocError) -> TableError {
+        TableError::NoMemory
+    }
+}
+
+impl<T: Drop> From<AllocFailed<T>> for TableError {
+    ghost from_gives = { λ _ e. e ≡ NoMemory };
+
+    fn from(_error: AllocFailed<T>) -> TableError {
+        TableError::NoMemory
+    }
+}

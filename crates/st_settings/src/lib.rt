@@ -1,0 +1,25 @@
+//! What the words of the commands `local`, `send`, `receive` and `connector` say, and the connector's table.
+//!
+//! The texts of options go in; the settings come out, or `None` where a text is bad. What each text has to be is in specs/:
+//! numbers, HOST:PORT and rates (Numbers), the settings of each command (Settings), and the lines of a table (Table). No
+//! file, no socket and no clock is known here.
+#![tactic(auto)]
+
+mod error;
+mod line;
+mod number;
+mod options;
+mod settings;
+mod table;
+mod text;
+
+pub use error::TableError;
+pub use line::{AccountLine, Neighbour};
+pub use number::read_number;
+pub use options::{ConnectorOptions, LocalOptions, ReceiveOptions, SendOptions};
+pub use settings::{
+    ConnectorSettings, LocalSettings, MAX_HOPS, MAX_LOSE, MAX_MONEY, MAX_REQUESTS, MAX_STREAMS,
+    MAX_WORKERS, ReceiveSettings, SendSettings,
+};
+pub use table::{Table, read_table};
+pub use text::{read_rate, read_secret};

@@ -1,0 +1,96 @@
+//! A connector's table: its accounts and its routes.
+
+ghost use Rattle.std.specs.Prelude.{◌≡◌, [], IfErr, IfOk, OnOk, map};
+ghost use Rattle.std.specs.Str.Lines.{lines};
+ghost use Rattle.st_settings.specs.declared.error.TableError.TheVariants.{BadLine};
+ghost use Rattle.st_settings.specs.Table.{HasBad, IsBad, Says, Takes};
+
+use crate::error::TableError;
+use crate::line::{AccountLine, account_of, route_of, words_of};
+use st_hop::{Account, Route};
+use std::alloc::{AllocError, Allocator};
+
+/// The accounts of a connector, numbered from 0, and its routes, each in the order of the lines.
+#[derive(Drop)]
+pub struct Table<'a, A: Allocator + Copy> {
+    /// The accounts; a route names one by its place here.
+    pub accounts: Vec<AccountLine<'a>, A>,
+    /// The routes.
+    pub routes: Vec<Route<'a>, A>,
+}
+
+impl<'a, A: Allocator + Copy> Table<'a, A> {
+    fn new(alloc: A) -> Table<'a, A>
+        ensures { (result.accounts.items ≡ []) × (result.routes.items ≡ []) }
+    {
+        Table {
+            accounts: Vec::new(alloc),
+            routes: Vec::new(alloc),
+        }
+    }
+
+    /// What each account may owe and send, for a hop.
+    pub fn terms(&self, alloc: A) -> Result<Vec<Account, A>, AllocError>
+        ensures { IfOk result (λ terms. terms.items ≡ map (λ x. x.terms) self.now.accounts.items) }
+    {
+        self.accounts
+            .iter()
+            .map(|account| account.terms)
+            .collect(alloc)
+    }
+
+    /// The token of each account, for a server.
+    pub fn tokens(&self, alloc: A) -> Result<Vec<&'a str, A>, AllocError>
+        ensures { IfOk result (λ tokens. tokens.items ≡ map (λ x. x.token) self.now.accounts.items) }
+    {
+        self.accounts
+            .iter()
+            .map(|account| account.token)
+            .collect(alloc)
+    }
+
+    /// Takes what the words of a line say.
+    fn take_line(&mut self, words: &[&'a str]) -> Result<(), TableError>
+        ensures taken { OnOk result (Takes (map (λ w. w.now) words.now) self.old.accounts.items self.old.routes.items self.new.accounts.items self.new.routes.items) }
+        ensures bad { IfErr result (λ e. e ≡ BadLine → IsBad (map (λ w. w.now) words.now)) }
+    {
+        let [kind, rest @ ..] = words else {
+            return Ok(());
+        };
+        if *kind == "account" {
+            let Some(account) = account_of(rest) else {
+                return Err(TableError::BadLine);
+            };
+            self.accounts.push(account)?;
+        } else if *kind == "route" {
+            let Some(route) = route_of(rest) else {
+                return Err(TableError::BadLine);
+            };
+            if self.routes.push(route).is_err() {
+                return Err(TableError::NoMemory);
+            }
+        } else {
+            return Err(TableError::BadLine);
+        }
+        Ok(())
+    }
+}
+
+/// The table that a text says, line by line: `account LIMIT MAX TOKEN HOST:PORT TOKEN`, where `- -` in place of the last
+/// two is an account that is never sent to, and `route PREFIX ACCOUNT`, with ` NUM DEN` behind it for a rate other than 1 to
+/// 1. Words stand between spaces; lines without words are skipped.
+pub fn read_table<'a, A: Allocator + Copy>(
+    alloc: A,
+    text: &'a str,
+) -> Result<Table<'a, A>, TableError>
+    ensures said { IfOk result (λ table. Says (lines text.now) table.accounts.items table.routes.items) }
+    ensures bad { IfErr result (λ e. e ≡ BadLine → HasBad text.now) }
+{
+    let lines: Vec<&'a str, A> = text.lines().collect(alloc)?;
+    let mut table = Table::new(alloc);
+    for line in &lines {
+        let words = words_of(alloc, line)?;
+        table.take_line(&words)?;
+    }
+    Ok(table)
+}

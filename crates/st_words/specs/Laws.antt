@@ -1,0 +1,54 @@
+-- What plain words ask for, whatever the texts in them are.
+use Rattle.std.specs.Prelude.{◌≡◌, List, [], ◌∷◌, ◌++◌, codes, Some}
+use Rattle.clap.specs.Words.{Row, Text}
+use Rattle.st_words.specs.Words.{command_of, connector_texts, receive_texts, refusals, send_texts}
+
+-- the words of `send` with these texts
+abbrev pub send_words : Text → Text → Text → Text → Text → List Text
+send_words to token secret address peer =
+    codes "ilpstream" ∷ codes "send" ∷ (codes "--to=" ++ to) ∷ (codes "--token=" ++ token) ∷ (codes "--secret=" ++ secret)
+    ∷ (codes "--address=" ++ address) ∷ (codes "--peer=" ++ peer) ∷ []
+
+abbrev pub SendSaysItsTexts : Type 0
+SendSaysItsTexts = (to token secret address peer : Text) → (refusals (send_words to token secret address peer) ≡ [])
+    × ((rows : List Row) × (command_of (send_words to token secret address peer) ≡ Some (codes "send", rows)) × (send_texts rows ≡ record {
+      to = to;
+      token = token;
+      secret = secret;
+      address = address;
+      peer = peer;
+      money = codes "0";
+      workers = codes "4";
+      random = codes "/dev/urandom";
+      least = codes "1:1";
+    }))
+
+-- the words of `receive` with these texts
+abbrev pub receive_words : Text → Text → Text → Text → Text → List Text
+receive_words listen token secret address peer =
+    codes "ilpstream" ∷ codes "receive" ∷ (codes "--listen=" ++ listen) ∷ (codes "--token=" ++ token) ∷ (codes "--secret=" ++ secret)
+    ∷ (codes "--address=" ++ address) ∷ (codes "--peer=" ++ peer) ∷ []
+
+abbrev pub ReceiveSaysItsTexts : Type 0
+ReceiveSaysItsTexts = (listen token secret address peer : Text) → (refusals (receive_words listen token secret address peer) ≡ [])
+    × ((rows : List Row) × (command_of (receive_words listen token secret address peer) ≡ Some (codes "receive", rows)) × (receive_texts rows ≡ record {
+      listen = listen;
+      token = token;
+      secret = secret;
+      address = address;
+      peer = peer;
+      receive_max = codes "0";
+    }))
+
+-- the words of `connector` with these texts, for a thousand requests
+abbrev pub connector_words : Text → Text → List Text
+connector_words listen own = codes "ilpstream" ∷ codes "connector" ∷ (codes "--listen=" ++ listen) ∷ (codes "--own=" ++ own) ∷ codes "--requests=1000" ∷ []
+
+abbrev pub ConnectorSaysItsTexts : Type 0
+ConnectorSaysItsTexts = (listen own : Text) → (refusals (connector_words listen own) ≡ [])
+    × ((rows : List Row) × (command_of (connector_words listen own) ≡ Some (codes "connector", rows)) × (connector_texts rows ≡ record {
+      listen = listen;
+      own = own;
+      requests = codes "1000";
+      workers = codes "4";
+    }))

@@ -1,0 +1,89 @@
+-- The program and its commands, as clap reads words for them.
+use Rattle.std.specs.Prelude.{◌≡◌, ℕ, Bool, ◌^◌, ◌-◌, true, false, [], ◌∷◌, ◌++◌, codes, Some}
+use Rattle.clap.specs.Words.{App, Rule, Shape, Text, shape_of}
+use Rattle.clap.specs.Simple.{new_rule, new_shape}
+use Rattle.clap.specs.declared.builder.action.ArgAction.TheVariants.{Set}
+use Rattle.clap.specs.declared.builder.command.Command.{Command}
+use Rattle.clap.specs.declared.builder.command.Command.TheViews.{out-Command}
+use Rattle.clap.specs.declared.builder.value_parser.ValueParser.TheVariants.{Unsigned}
+use Rattle.st_settings.specs.Settings.{most_money, most_workers}
+
+-- `--name` with one value
+abbrev pub option_rule : Text → Rule
+option_rule name = record (new_rule name) { long = Some name; value_names = 1; action = Some Set }
+
+abbrev pub with_required : Rule → Rule
+with_required r = record r { required = true }
+
+abbrev pub with_default : Text → Rule → Rule
+with_default value r = record r { defaults = value ∷ [] }
+
+-- `--name` with a number from `least` to `most`
+abbrev pub number_rule : Text → ℕ → ℕ → Rule
+number_rule name least most = record (option_rule name) { parser = Some (Unsigned least most) }
+
+abbrev pub with_rule : Shape → Rule → Shape
+with_rule s r = record s { rules = s.rules ++ r ∷ [] }
+
+-- an option of the command is one of its subcommands too
+abbrev pub has_globals : Command → Bool
+has_globals c = (out-Command c).has_globals
+
+-- a command has this shape, and no option of its is one of its subcommands too
+abbrev pub HasShape : Shape → Command → Type 0
+HasShape s c = (shape_of c ≡ s) × (has_globals c ≡ false)
+
+abbrev pub required_rule : Text → Rule
+required_rule name = with_required (option_rule name)
+
+abbrev pub frames : Shape
+frames = new_shape (codes "frames")
+
+abbrev pub local : Shape
+local = record (new_shape (codes "local")) {
+  rules = with_default (codes "1") (number_rule (codes "hops") 0 8)
+      ∷ with_default (codes "0") (number_rule (codes "lose") 0 1_000_000)
+      ∷ with_default (codes "1") (number_rule (codes "streams") 1 32) ∷ [];
+}
+
+abbrev pub send : Shape
+send = record (new_shape (codes "send")) {
+  rules = required_rule (codes "to")
+      ∷ required_rule (codes "token")
+      ∷ required_rule (codes "secret")
+      ∷ required_rule (codes "address")
+      ∷ required_rule (codes "peer")
+      ∷ with_default (codes "0") (number_rule (codes "money") 0 most_money)
+      ∷ with_default (codes "4") (number_rule (codes "workers") 1 most_workers)
+      ∷ with_default (codes "/dev/urandom") (option_rule (codes "random"))
+      ∷ with_default (codes "1:1") (option_rule (codes "least")) ∷ [];
+}
+
+abbrev pub receive : Shape
+receive = record (new_shape (codes "receive")) {
+  rules = required_rule (codes "listen")
+      ∷ required_rule (codes "token")
+      ∷ required_rule (codes "secret")
+      ∷ required_rule (codes "address")
+      ∷ required_rule (codes "peer")
+      ∷ with_default (codes "0") (number_rule (codes "receive-max") 0 most_money) ∷ [];
+}
+
+abbrev pub connector : Shape
+connector = record (new_shape (codes "connector")) {
+  rules = required_rule (codes "listen")
+      ∷ required_rule (codes "own")
+      ∷ with_required (number_rule (codes "requests") 1 (2 ^ 31 - 1))
+      ∷ with_default (codes "4") (number_rule (codes "workers") 1 most_workers) ∷ [];
+}
+
+-- the program without a command: it has a version
+abbrev pub alone : App
+alone = record { top = record (new_shape (codes "ilpstream")) { has_version = true }; subs = [] }
+
+-- the program and its commands
+abbrev pub program : App
+program = record {
+  top = record alone.top { is_leaf = false };
+  subs = frames ∷ local ∷ send ∷ receive ∷ connector ∷ [];
+}

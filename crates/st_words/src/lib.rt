@@ -1,0 +1,17 @@
+//! The words of the command line, as clap reads them.
+//!
+//! `read_words` takes the words and gives the command with its settings, or clap's refusal, or that an option's text is bad.
+//! The program and its commands, as clap reads words for them, are in specs/Program.antt; what words ask for is in
+//! specs/Words.antt, over the values that clap gives the options and st_settings' definitions of what they say.
+#![tactic(auto)]
+
+mod error;
+mod laws;
+mod options;
+mod program;
+mod request;
+mod texts;
+
+pub use error::WordsError;
+pub use laws::plain_words_say_their_texts;
+pub use request::{Request, read_words};

@@ -1,0 +1,72 @@
+//! The kinds of option that the commands have.
+
+ghost use Rattle.std.specs.Prelude.{◌≡◌, ◌≤◌, ◌<◌, ◌^◌, ℕ, List, [], ◌∷◌, false, IfOk};
+ghost use Rattle.clap.specs.Words.{app_of, rule_of, shape_of, with_subcommand};
+ghost use Rattle.st_words.specs.Program.{has_globals, number_rule, option_rule, with_default, with_required, with_rule};
+
+use clap::{Arg, ArgAction, Command, value_parser};
+use std::alloc::{AllocError, Global};
+
+/// An option `--NAME` with one value, which help calls `value`.
+pub(crate) fn option<'a>(alloc: Global, name: &'a str, value: &'a str, help: &'a str) -> Arg<'a>
+    ensures rule { rule_of result ≡ option_rule name.now }
+    ensures own { result.global ≡ false }
+{
+    Arg::new(alloc, name)
+        .long(name)
+        .value_name(value)
+        .help(help)
+        .action(ArgAction::Set)
+}
+
+/// The option has to be there.
+pub(crate) fn required<'a>(option: Arg<'a>) -> Arg<'a>
+    ensures rule { rule_of result ≡ with_required (rule_of option.entry) }
+    ensures own { result.global ≡ option.entry.global }
+{
+    option.required(true)
+}
+
+/// The option has this value where it is left out.
+pub(crate) fn or<'a>(option: Arg<'a>, default: &'a str) -> Arg<'a>
+    ensures rule { rule_of result ≡ with_default default.now (rule_of option.entry) }
+    ensures own { result.global ≡ option.entry.global }
+{
+    option.default_value(default)
+}
+
+/// An option `--NAME` whose value is a whole number from `least` to `most`.
+pub(crate) fn number<'a>(
+    alloc: Global,
+    name: &'a str,
+    help: &'a str,
+    least: u32,
+    most: u64,
+) -> Arg<'a>
+    requires { most < 2 ^ 63 }
+    ensures rule { rule_of result ≡ number_rule name.now least most }
+    ensures own { result.global ≡ false }
+{
+    option(alloc, name, "N", help).value_parser(value_parser!(u64).range(
+        i64::from(least)..=most as i64,
+    ))
+}
+
+/// The command with one option more.
+pub(crate) fn with<'a>(command: Command<'a>, option: Arg<'a>) -> Result<Command<'a>, AllocError>
+    requires { option.global ≡ false }
+    ensures { IfOk result (λ c. (shape_of c ≡ with_rule (shape_of command.entry) (rule_of option.entry)) × (has_globals c ≡ has_globals command.entry)) }
+{
+    command.arg(option)
+}
+
+/// The program with one command more.
+pub(crate) fn with_command<'a>(
+    program: Command<'a>,
+    command: Command<'a>,
+) -> Result<Command<'a>, AllocError>
+    requires { has_globals command ≡ false }
+    ensures { IfOk result (λ c. app_of c ≡ with_subcommand (app_of program.entry) (shape_of command.entry)) }
+{
+    program.subcommand(command)
+}

@@ -1,0 +1,141 @@
+//! What the words of the command line ask for.
+
+ghost use Rattle.std.specs.Prelude.{◌≡◌, IfOk, MatchOption, map};
+ghost use Rattle.clap.specs.Words.{FailsBy, found_of, rows_of, subcommand_rows_of};
+ghost use Rattle.st_settings.specs.Settings as settings;
+ghost use Rattle.st_words.specs.Words as spec;
+ghost use Rattle.st_words.specs.declared.request.Request.{Request};
+ghost use Rattle.st_words.specs.Words.{Asks, AsksBy, IsBad, Reads, command_of, refusals, value_of};
+
+use crate::error::WordsError;
+use crate::program::program;
+use clap::{ArgMatches, Error};
+use st_settings::{
+    ConnectorOptions, ConnectorSettings, LocalOptions, LocalSettings, ReceiveOptions,
+    ReceiveSettings, SendOptions, SendSettings,
+};
+use std::alloc::Global;
+use std::convert::AsStr;
+
+/// What a run is asked to do.
+#[derive(Clone, Copy, Debug)]
+pub enum Request<'a> {
+    /// `frames`, or no command.
+    Frames,
+    /// `local`
+    Local(LocalSettings),
+    /// `send`
+    Send(SendSettings<'a>),
+    /// `receive`
+    Receive(ReceiveSettings<'a>),
+    /// `connector`
+    Connector(ConnectorSettings<'a>),
+}
+
+/// The value of an option, and no text where it has none.
+fn value<'a>(matches: &ArgMatches<'a>, name: &str) -> &'a str
+    ensures { result.now ≡ value_of name.now (rows_of (found_of matches.now)) }
+{
+    matches.get_str(name).unwrap_or("")
+}
+
+fn local<'a>(matches: &ArgMatches<'a>) -> LocalOptions<'a>
+    ensures { settings.local_texts result ≡ spec.local_texts (rows_of (found_of matches.now)) }
+{
+    LocalOptions {
+        hops: value(matches, "hops"),
+        lose: value(matches, "lose"),
+        streams: value(matches, "streams"),
+    }
+}
+
+fn send<'a>(matches: &ArgMatches<'a>) -> SendOptions<'a>
+    ensures { settings.send_texts result ≡ spec.send_texts (rows_of (found_of matches.now)) }
+{
+    SendOptions {
+        to: value(matches, "to"),
+        token: value(matches, "token"),
+        secret: value(matches, "secret"),
+        address: value(matches, "address"),
+        peer: value(matches, "peer"),
+        money: value(matches, "money"),
+        workers: value(matches, "workers"),
+        random: value(matches, "random"),
+        least: value(matches, "least"),
+    }
+}
+
+fn receive<'a>(matches: &ArgMatches<'a>) -> ReceiveOptions<'a>
+    ensures { settings.receive_texts result ≡ spec.receive_texts (rows_of (found_of matches.now)) }
+{
+    ReceiveOptions {
+        listen: value(matches, "listen"),
+        token: value(matches, "token"),
+        secret: value(matches, "secret"),
+        address: value(matches, "address"),
+        peer: value(matches, "peer"),
+        receive_max: value(matches, "receive-max"),
+    }
+}
+
+fn connector<'a>(matches: &ArgMatches<'a>) -> ConnectorOptions<'a>
+    ensures { settings.connector_texts result ≡ spec.connector_texts (rows_of (found_of matches.now)) }
+{
+    ConnectorOptions {
+        listen: value(matches, "listen"),
+        own: value(matches, "own"),
+        requests: value(matches, "requests"),
+        workers: value(matches, "workers"),
+    }
+}
+
+/// What a command is asked to do by the values of its options, or `None` where one is bad, or there is no such command.
+fn request_of<'a>(name: &str, matches: &ArgMatches<'a>) -> Option<Request<'a>>
+    ensures { MatchOption result (IsBad name.now (rows_of (found_of matches.now))) (Asks name.now (rows_of (found_of matches.now))) }
+{
+    match name {
+        "frames" => Some(Request::Frames),
+        "local" => Some(Request::Local(LocalSettings::read(&local(matches))?)),
+        "send" => {
+            let Some(settings) = SendSettings::read(&send(matches)) else {
+                return None;
+            };
+            Some(Request::Send(settings))
+        }
+        "receive" => Some(Request::Receive(ReceiveSettings::read(&receive(matches))?)),
+        "connector" => Some(Request::Connector(ConnectorSettings::read(&connector(matches))?)),
+        _ => None,
+    }
+}
+
+/// What clap makes of the words, of which the first is the program's name.
+fn parse<'a, S: AsStr>(alloc: Global, words: &'a [S]) -> Result<ArgMatches<'a>, Error>
+    ensures kinds { FailsBy (refusals (map S.text words.now)) result }
+    ensures command { IfOk result (λ m. subcommand_rows_of m ≡ command_of (map S.text words.now)) }
+{
+    program(alloc)?.try_get_matches_from(words)
+}
+
+/// What the command and its options ask for, or `None` where an option's text is bad.
+fn asked<'a>(matches: &ArgMatches<'a>) -> Option<Request<'a>>
+    ensures { MatchOption result ((r : Request) → ¬ (AsksBy (subcommand_rows_of matches.now) r)) (AsksBy (subcommand_rows_of matches.now)) }
+{
+    match matches.subcommand() {
+        None => Some(Request::Frames),
+        Some((name, inner)) => request_of(name, inner),
+    }
+}
+
+/// What the words ask for, of which the first is the program's name. Words that clap refuses, and those that ask for help
+/// or the version, are its error; an option whose text is bad is the fault 98.
+pub fn read_words<'a, S: AsStr>(alloc: Global, words: &'a [S]) -> Result<Request<'a>, WordsError>
+    ensures { Reads (map S.text words.now) result }
+{
+    match parse(alloc, words) {
+        Ok(matches) => match asked(&matches) {
+            Some(request) => Ok(request),
+            None => Err(WordsError::BadOption),
+        },
+        Err(error) => Err(WordsError::Refused(error)),
+    }
+}
