@@ -34,11 +34,6 @@ any_or [] i d x l = absurd (omega (arith, l))
 any_or (y ∷ ys) zero d x l = refl
 any_or (y ∷ ys) (suc i) d x l = any_or ys i d x (omega (arith, l))
 
-past : {A : Type 0} (xs : List A) (i : ℕ) (d : A) → length xs ≤ i → get_or xs i d ≡ d
-past [] i d l = refl
-past (x ∷ xs) zero d l = absurd (omega (arith, l))
-past (x ∷ xs) (suc i) d l = past xs i d (omega (arith, l))
-
 -- a link that stands there
 pub is_link : (ls : Links) (i : ℕ) (x : Both Lane) → i < length ls → x ≡ get_or ls i x → get_or ls i no_lanes ≡ x
 is_link ls i x l e = any_or ls i no_lanes x l ∙ sym e
@@ -136,6 +131,8 @@ no_puts : (way : Side) (which : ℕ) → nth (at no_lanes way).puts which ≡ No
 no_puts Client which = nth_nothing which
 no_puts Server which = nth_nothing which
 
--- no Prepare is on a link that is not there
-pub puts_past : (ls : Links) (link : ℕ) (way : Side) (which : ℕ) → length ls ≤ link → nth (lane_in ls link way).puts which ≡ None
-puts_past ls link way which l = ap (λ (k : Both Lane). nth (at k way).puts which) (past ls link no_lanes l) ∙ no_puts way which
+-- where a Prepare was put there is a link
+pub puts_within : (ls : Links) (link : ℕ) (way : Side) (which : ℕ) (p : Put) → nth (lane_in ls link way).puts which ≡ Some p → link < length ls
+puts_within [] link way which p e = let n = no_puts way which in absurd (cc)
+puts_within (l ∷ ls) zero way which p e = omega arith
+puts_within (l ∷ ls) (suc link) way which p e = let g : link < length ls = puts_within ls link way which p e in omega (arith, g)
