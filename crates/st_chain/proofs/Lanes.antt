@@ -1,7 +1,7 @@
 -- Lanes in the lists of the links.
-use Rattle.std.proofs.Common.{◌≡◌, ◌≢◌, ℕ, zero, suc, ◌+◌, ◌-◌, ◌<◌, ◌≤◌, Bool, true, false, List, [], ◌∷◌, ◌++◌, length, take, drop, set, get_or, slice_get, refl, sym, ap, subst, ◌∙◌, arith, Option, None, Some}
+use Rattle.std.proofs.Common.{◌≡◌, ◌≢◌, ℕ, zero, suc, ◌+◌, ◌<◌, Bool, true, false, List, [], ◌∷◌, ◌++◌, length, set, get_or, refl, sym, ap, ◌∙◌, arith, None, Some}
 use Rattle.st_world.specs.Sides.{Side, Client, Server, Both, at, put}
-use Rattle.st_world.specs.State.{World, Lane, Put, Given, no_lanes, nth}
+use Rattle.st_world.specs.State.{World, Lane, Put, no_lanes, nth}
 use Rattle.st_world.specs.Ends.{taken_if}
 use Rattle.st_nodes.specs.Parts.{lane_in, with_lane_in, with_taken_in}
 use Rattle.st_chain.specs.Places.{Links}

@@ -1,5 +1,5 @@
 -- The chain of a world and its hops' tables.
-use Rattle.std.proofs.Common.{◌≡◌, ℕ, zero, suc, ◌+◌, ◌<◌, ◌≤◌, Bool, true, false, List, [], ◌∷◌, ◌++◌, length, refl, sym, ap, subst, ◌∙◌, arith, ◌&&◌, map, replicate, nat_le, take, get_or}
+use Rattle.std.proofs.Common.{◌≡◌, ℕ, zero, suc, ◌+◌, ◌<◌, ◌≤◌, Bool, true, false, List, [], ◌∷◌, ◌++◌, length, refl, sym, ap, ◌∙◌, arith, ◌&&◌, map, replicate, nat_le, take, get_or}
 use Rattle.std.specs.FinMap as fmap
 use Rattle.std.proofs.lemmas.List.{take_more, map_push, length-take-le, length-map, length-replicate}
 use Rattle.std.proofs.lemmas.Bool.Decides.{nat_tests}

@@ -1,16 +1,16 @@
 -- Events by the place where they come, and runs.
-use Rattle.std.proofs.Common.{◌≡◌, ◌≢◌, ℕ, zero, suc, ◌+◌, ◌-◌, ◌<◌, ◌≤◌, Bool, true, false, cond, nat_eq, List, [], ◌∷◌, ◌++◌, length, take, get_or, refl, sym, ap, subst, ◌∙◌, arith, ℤ, Option, None, Some, ◌⊎◌, inl, inr, is_some, nat_lt, slice_get}
+use Rattle.std.proofs.Common.{◌≡◌, ℕ, zero, suc, ◌+◌, ◌<◌, ◌≤◌, Bool, true, false, cond, nat_eq, List, [], ◌∷◌, ◌++◌, length, take, get_or, refl, sym, ap, subst, ◌∙◌, arith, ℤ, Option, None, Some, inl, inr, is_some, nat_lt, slice_get}
 use Rattle.std.specs.Prelude.{MatchOption, IfSome}
 use Rattle.std.specs.Borrow.{Bor}
 use Rattle.std.proofs.lemmas.Option.{slice_get_past, slice_get_read}
 use Rattle.std.proofs.lemmas.List.{take_more, map_push}
 use Rattle.std.proofs.lemmas.Bool.Decides.{nat_tests}
-use Rattle.st_world.specs.Sides.{Side, Client, Server, other, Both}
-use Rattle.st_world.specs.State.{World, Node, Lane, Put, Given, Place, AtEnd, AtHop, far, near, nth, lane_at}
+use Rattle.st_world.specs.Sides.{Side, Client, Server}
+use Rattle.st_world.specs.State.{World, Node, Put, Place, AtEnd, AtHop, far, nth, lane_at}
 use Rattle.st_world.specs.Events as events
 use Rattle.st_world.specs.Events.{Told, Silent, IsEvent}
-use Rattle.st_world.specs.Steps.{Meets, Happens, Arrives, RefusesArrival, BackAt, Back, AnswerBack}
-use Rattle.st_world.specs.Runs.{Chain, Run, opening}
+use Rattle.st_world.specs.Steps.{Meets, Happens, Arrives, RefusesArrival}
+use Rattle.st_world.specs.Runs.{Run, opening}
 use Rattle.st_chain.specs.declared.event.Event.{Event}
 use Rattle.st_chain.specs.Seen.{event_seen, events_seen}
 use Rattle.st_chain.specs.Places.{Links}
@@ -40,9 +40,6 @@ down_hop w (suc link) hop e = ap AtHop (omega (arith, e))
 
 -- ---- Prepares
 
-pub arrives_nowhere : (w : World) (link : ℕ) (way : Side) (which : ℕ) (now : ℤ) → nth (lane_at w link way).puts which ≡ None → Meets w (events.Arrive link way which now) Silent w
-arrives_nowhere w link way which now e = inl (subst (λ (o : Option Put). Arrives w link way which now o Silent w) (sym e) (refl, refl))
-
 pub arrives_at : (w after : World) (link : ℕ) (way : Side) (which : ℕ) (now : ℤ) (p : Put) (told : Told) → nth (lane_at w link way).puts which ≡ Some p → MeetsAt w link way which now p (far w link way) told after → Meets w (events.Arrive link way which now) told after
 arrives_at w after link way which now p told here met = elim met [
   | inl h ↦ inl (subst (λ (o : Option Put). Arrives w link way which now o told after) (sym here) h)
@@ -59,29 +56,6 @@ meets_there w after link way which now p place told is met = subst (λ (x : Plac
 
 pub meets_below : (w after : World) (link hop : ℕ) (which : ℕ) (now : ℤ) (p : Put) (told : Told) → link ≡ hop + 1 → MeetsAt w (hop + 1) Server which now p (AtHop hop) told after → MeetsAt w link Server which now p (far w link Server) told after
 meets_below w after link hop which now p told e met = meets_there w after link Server which now p (AtHop hop) told (down_hop w link hop e) (subst (λ (l : ℕ). MeetsAt w l Server which now p (AtHop hop) told after) (sym e) met)
-
-pub back_nowhere : (w : World) (link : ℕ) (way : Side) (j : ℕ) (now : ℤ) (outcome : Option (List ℕ)) (o : Option Put) → o ≡ None → Back w link way j now outcome o Silent w
-back_nowhere w link way j now outcome o e = subst (λ (x : Option Put). Back w link way j now outcome x Silent w) (sym e) (refl, refl)
-
-pub back_at : (w after : World) (link : ℕ) (way : Side) (j : ℕ) (now : ℤ) (outcome : Option (List ℕ)) (p : Put) (o : Option Put) (told : Told) → o ≡ Some p → BackAt w link way j now p outcome (near w link way) told after → Back w link way j now outcome o told after
-back_at w after link way j now outcome p o told here met = subst (λ (x : Option Put). Back w link way j now outcome x told after) (sym here) met
-
-pub back_there : (w after : World) (link : ℕ) (way : Side) (j : ℕ) (now : ℤ) (outcome : Option (List ℕ)) (p : Put) (place : Place) (told : Told) → near w link way ≡ place → BackAt w link way j now p outcome place told after → BackAt w link way j now p outcome (near w link way) told after
-back_there w after link way j now outcome p place told is met = subst (λ (x : Place). BackAt w link way j now p outcome x told after) (sym is) met
-
-pub back_below : (w after : World) (link hop : ℕ) (j : ℕ) (now : ℤ) (outcome : Option (List ℕ)) (p : Put) (told : Told) → link ≡ hop + 1 → BackAt w (hop + 1) Client j now p outcome (AtHop hop) told after → BackAt w link Client j now p outcome (near w link Client) told after
-back_below w after link hop j now outcome p told e met = back_there w after link Client j now outcome p (AtHop hop) told (down_hop w link hop e) (subst (λ (l : ℕ). BackAt w l Client j now p outcome (AtHop hop) told after) (sym e) met)
-
-pub answer_nowhere : (w : World) (link : ℕ) (way : Side) (j : ℕ) (now : ℤ) → nth (lane_at w link way).given j ≡ None → Meets w (events.AnswerArrives link way j now) Silent w
-answer_nowhere w link way j now e = inl (subst (λ (o : Option Given). AnswerBack w link way j now o Silent w) (sym e) (refl, refl))
-
-pub answer_at : (w after : World) (link : ℕ) (way : Side) (j : ℕ) (now : ℤ) (g : Given) (outcome : Option (List ℕ)) (which : ℕ) (told : Told) → nth (lane_at w link way).given j ≡ Some g → outcome ≡ Some g.bytes → which ≡ g.which
-    → Back w link way j now outcome (nth (lane_at w link way).puts which) told after → Meets w (events.AnswerArrives link way j now) told after
-answer_at w after link way j now g outcome which told here is at_which back =
-    let back' : Back w link way j now (Some g.bytes) (nth (lane_at w link way).puts g.which) told after =
-    subst (λ (k : ℕ). Back w link way j now (Some g.bytes) (nth (lane_at w link way).puts k) told after) at_which
-    (subst (λ (o : Option (List ℕ)). Back w link way j now o (nth (lane_at w link way).puts which) told after) is back) in
-    inl (subst (λ (o : Option Given). AnswerBack w link way j now o told after) (sym here) back')
 
 -- ---- events
 

@@ -1,6 +1,6 @@
 -- The chain of a world: the two ends `test.a` and `test.b`, and between them the hops `test.h1`, `test.h2`, .., each with the
 -- same terms towards both its neighbours, and a rate at which amounts go on to the server.
-use Rattle.std.specs.Prelude.{ℕ, ◌+◌, ◌-◌, ◌^◌, List, [], ◌∷◌, ◌++◌, replicate, map}
+use Rattle.std.specs.Prelude.{ℕ, ◌+◌, ◌-◌, ◌^◌, List, [], ◌∷◌, ◌++◌, replicate}
 use Rattle.st_oer.specs.Ratios.{Ratio, ratio}
 use Rattle.st_hop.specs.declared.account.Account.{Account}
 use Rattle.st_hop.specs.Hop.{Way}

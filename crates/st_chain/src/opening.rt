@@ -2,7 +2,6 @@
 
 ghost use Rattle.std.specs.Prelude.{◌≡◌, ◌<◌, ◌≤◌, ◌+◌, true, replicate, length, map, IfOk, IsOkUnless, IsErrOf, MatchBool, nat_le, ◌&&◌};
 ghost use Rattle.std.specs.List.{list_all};
-ghost use Rattle.st_oer.specs.Ratios.{ratio};
 ghost use Rattle.st_hop.specs.Table.{is_account};
 ghost use Rattle.st_keys.specs.Keys.{keys_of};
 ghost use Rattle.st_end.specs.State.{new_end};

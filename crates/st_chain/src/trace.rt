@@ -1,6 +1,6 @@
 //! What a run leaves: both ends and the hops, what was written and read, and which Prepares were answered.
 
-ghost use Rattle.std.specs.Prelude.{◌≡◌, ◌≢◌, ◌≤◌, ◌<◌, ◌+◌, ◌||◌, ℕ, List, None, length, OnErr, IfOk};
+ghost use Rattle.std.specs.Prelude.{◌≡◌, ◌≢◌, ◌≤◌, ◌<◌, ◌+◌, ◌||◌, length, OnErr, IfOk};
 ghost use Rattle.st_hop.specs.Seen.{outcome_seen};
 ghost use Rattle.st_world.specs.Sides as sides;
 ghost use Rattle.st_world.specs.State.{AtEnd, AtHop};

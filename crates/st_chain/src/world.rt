@@ -1,6 +1,6 @@
 //! A world: what a run has left so far, with the links over which it goes on.
 
-ghost use Rattle.std.specs.Prelude.{◌≡◌, ℕ, take, OnErr, IfOk, IfErr, IsOkUnless};
+ghost use Rattle.std.specs.Prelude.{◌≡◌, ◌<◌, ℕ, length, take, OnErr, IfOk, IfErr, IsOkUnless};
 ghost use Rattle.st_world.specs.Steps.{Happens};
 ghost use Rattle.st_world.specs.Runs.{Run};
 ghost use Rattle.st_world.specs.State as state;
@@ -73,7 +73,7 @@ impl<A: Allocator + Copy> World<A> {
     /// A whole list of events: what it leaves, or what those before the one left that could not be recorded.
     pub fn play(mut self, events: &[Event<'_>]) -> Result<Trace<A>, (Fault, Trace<A>)>
         ensures run { IfOk result (λ t. (w : state.World) × Run self (events_seen events.now) w × (t ≡ left_of w)) }
-        ensures part { IfErr result (λ e. (n : ℕ) × (w : state.World) × Run self (events_seen (take n events.now)) w × (e.1 ≡ left_of w)) }
+        ensures part { IfErr result (λ e. (n : ℕ) × (n < length events.now) × (w : state.World) × Run self (events_seen (take n events.now)) w × (e.1 ≡ left_of w)) }
         ensures only_memory { IfErr result (λ e. e.0 ≡ Fault.NoMemory) }
         ensures holds { IfOk result (λ t. HoldsOf t) }
         ensures part_holds { IfErr result (λ e. HoldsOf e.1) }

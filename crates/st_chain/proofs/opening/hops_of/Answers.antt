@@ -1,8 +1,7 @@
-use Rattle.std.proofs.Common.{◌≡◌, ◌≤◌, length, take, ap, ◌∙◌, arith, map}
+use Rattle.std.proofs.Common.{◌≡◌, take, ap, ◌∙◌, arith, map}
 use Rattle.std.proofs.lemmas.List.{take_all}
-use Rattle.std.proofs.lemmas.Grind.{common_steps}
 use Rattle.st_world.specs.Runs.{new_node}
-use Rattle.st_chain.specs.Chains.{Terms, tables_from}
+use Rattle.st_chain.specs.Chains.{tables_from}
 use Rattle.st_chain.proofs.Openings.{account_at, hops_more}
 use Rattle.st_chain.proofs.opening.hops_of.Goals as goal
 

@@ -1,4 +1,4 @@
-use Rattle.std.proofs.Common.{◌≡◌, ◌∙◌, sym, ap, Some}
+use Rattle.std.proofs.Common.{◌∙◌, sym, ap}
 use Rattle.st_world.specs.Sides.{Client, Server}
 use Rattle.st_nodes.specs.Seen.{way_seen}
 use Rattle.st_chain.specs.Left.{in_world}

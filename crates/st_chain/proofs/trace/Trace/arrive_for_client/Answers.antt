@@ -1,6 +1,6 @@
-use Rattle.std.proofs.Common.{◌≡◌, ◌<◌, ◌≤◌, ◌+◌, ◌-◌, ◌∙◌, length, arith}
+use Rattle.std.proofs.Common.{◌≡◌, ◌+◌, arith}
 use Rattle.st_world.specs.Sides.{Client, Server}
-use Rattle.st_world.specs.State.{AtEnd, AtHop}
+use Rattle.st_world.specs.State.{AtEnd}
 use Rattle.st_chain.specs.Left.{in_world}
 use Rattle.st_chain.proofs.Reached.{meets_there, meets_below, down_end}
 use Rattle.st_chain.proofs.trace.Trace.arrive_for_client.Goals as goal

@@ -1,4 +1,4 @@
-use Rattle.std.proofs.Common.{◌≡◌, ◌<◌, ◌≤◌, ◌+◌, ◌∙◌, length, arith}
+use Rattle.std.proofs.Common.{◌≡◌, ◌<◌, ◌∙◌, length, arith}
 use Rattle.st_world.specs.Sides.{Client, Server}
 use Rattle.st_world.specs.State.{AtEnd, AtHop}
 use Rattle.st_chain.specs.Left.{in_world}

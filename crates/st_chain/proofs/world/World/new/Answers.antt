@@ -1,4 +1,4 @@
-use Rattle.std.proofs.Common.{◌≡◌, ◌≤◌, List, map, take, replicate, true, nat_le, subst, arith}
+use Rattle.std.proofs.Common.{◌≡◌, ◌≤◌, List, map, replicate, true, nat_le, subst, arith}
 use Rattle.std.specs.Prelude.{MatchBool, IfOk, IsOkUnless, IsErrOf}
 use Rattle.std.proofs.lemmas.List.{take-replicate}
 use Rattle.st_hop.specs.declared.account.Account.{Account}

@@ -1,4 +1,4 @@
-use Rattle.std.proofs.Common.{◌≡◌, ◌≤◌, ◌∙◌, ap, subst, length, take, List, arith}
+use Rattle.std.proofs.Common.{◌≡◌, ◌∙◌, ap, subst, take, List, arith}
 use Rattle.std.proofs.lemmas.List.{take_all}
 use Rattle.st_world.specs.Runs.{Run}
 use Rattle.st_nodes.specs.Seen.{told_seen}
@@ -13,7 +13,7 @@ loop-event-preserved g c =
     run_next c.args.events.now c.loop-event.event-index c.event-item.result (told_seen c.in_default.field-0) c.args.self c.loop-event.self c.step.new.self c.loop-event-test.true c.event-item.is c.loop-event.invariant c.in_default.ensures.happens
 
 pub returns-in-Err-clause-part : goal.returns-in-Err-clause-part
-returns-in-Err-clause-part g c = (c.loop-event.event-index, c.loop-event.self, c.loop-event.invariant, c.into_trace.ensures.trace ∙ ap left_of c.in-Err.ensures.unchanged)
+returns-in-Err-clause-part g c = (c.loop-event.event-index, c.loop-event-test.true, c.loop-event.self, c.loop-event.invariant, c.into_trace.ensures.trace ∙ ap left_of c.in-Err.ensures.unchanged)
 
 pub returns-clause-run : goal.returns-clause-run
 returns-clause-run g c =

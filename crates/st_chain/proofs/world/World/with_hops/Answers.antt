@@ -1,4 +1,4 @@
-use Rattle.std.proofs.Common.{◌≡◌, ◌<◌, ◌≤◌, ◌∙◌, ℕ, List, length, map, take, false, refl, sym, ap, subst, arith}
+use Rattle.std.proofs.Common.{◌≡◌, ◌<◌, ◌∙◌, ℕ, List, length, map, take, false, refl, sym, ap, subst, arith}
 use Rattle.std.specs.Prelude.{MatchBool, IfOk, IsOkUnless, IsErrOf}
 use Rattle.std.proofs.lemmas.List.{length-map, take_all}
 use Rattle.st_world.specs.State.{World}
