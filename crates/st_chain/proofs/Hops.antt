@@ -1,19 +1,18 @@
 -- A world after an event at a hop, by the parts that it changed.
-use Rattle.std.proofs.Common.{◌≡◌, ◌≢◌, ℕ, zero, suc, ◌+◌, ◌-◌, ◌<◌, ◌≤◌, Bool, true, false, ◌||◌, List, [], ◌∷◌, ◌++◌, length, set, get_or, slice_get, refl, sym, ap, subst, ◌∙◌, arith, ℤ, Option, None, Some, ◌⊎◌, inl, inr}
+use Rattle.std.proofs.Common.{◌≡◌, ◌≢◌, ℕ, ◌<◌, Bool, true, ◌||◌, List, length, set, get_or, slice_get, refl, sym, ap, subst, ◌∙◌, ℤ, Option, Some, inl, inr}
 use Rattle.std.proofs.lemmas.Option.{slice_get_read}
 use Rattle.st_hop.specs.declared.ticket.Open.{Open}
 use Rattle.st_hop.specs.Hop.{Hop}
 use Rattle.st_hop.specs.Refusals as hop
-use Rattle.st_hop.specs.Tickets.{ticket_at}
-use Rattle.st_hop.specs.Arriving.{Arrival, Answers, Forwards, arrived}
+use Rattle.st_hop.specs.Arriving.{Arrival}
 use Rattle.st_hop.specs.Settling.{settled, is_booked}
-use Rattle.st_world.specs.Sides.{Side, Client, Server, other, Both, at, put}
-use Rattle.st_world.specs.State.{World, Party, Node, Put, Given, Lane, AtHop, next_link, prev_link, account_from, with_given, with_hop_entry}
-use Rattle.st_world.specs.Events.{Told, Silent, Replied, Went, NoMemory}
-use Rattle.st_world.specs.Ends.{given_by, taken_if}
-use Rattle.st_world.specs.Hops.{Comes, ArrivesAtHop, answered_at_hop, reject_entry, put_on, settled_entry, BackAtTicket, BackAtHop}
-use Rattle.st_world.specs.Steps.{noted, BackAt}
-use Rattle.st_nodes.specs.Parts.{lane_in, with_lane_in, with_put_in, with_given_in, with_taken_in, with_settled, HopMet, HopBack}
+use Rattle.st_world.specs.Sides.{Side, Both}
+use Rattle.st_world.specs.State.{World, Party, Node, Put, Given, Lane, AtHop, next_link, prev_link, with_given, with_hop_entry}
+use Rattle.st_world.specs.Events.{Told, Replied, Went}
+use Rattle.st_world.specs.Ends.{given_by}
+use Rattle.st_world.specs.Hops.{Comes, ArrivesAtHop, answered_at_hop, put_on, settled_entry, BackAtTicket, BackAtHop}
+use Rattle.st_world.specs.Steps.{BackAt}
+use Rattle.st_nodes.specs.Parts.{lane_in, with_lane_in, with_put_in, with_given_in, with_taken_in}
 use Rattle.st_chain.specs.Places.{Links, HopsMet, HopsBack}
 use Rattle.st_chain.specs.Left.{Left, in_world, lacks, MeetsAt}
 use Rattle.st_chain.proofs.Lanes.{lane_same, lane_apart, other_same, set_here, taken_world}

@@ -1,7 +1,7 @@
 -- Lanes in the lists of the links.
-use Rattle.std.proofs.Common.{◌≡◌, ◌≢◌, ℕ, zero, suc, ◌+◌, ◌-◌, ◌<◌, ◌≤◌, Bool, true, false, List, [], ◌∷◌, ◌++◌, length, take, drop, set, get_or, slice_get, refl, sym, ap, subst, ◌∙◌, arith, Option, None, Some}
+use Rattle.std.proofs.Common.{◌≡◌, ◌≢◌, ℕ, zero, suc, ◌+◌, ◌<◌, Bool, true, false, List, [], ◌∷◌, ◌++◌, length, set, get_or, refl, sym, ap, ◌∙◌, arith, None, Some}
 use Rattle.st_world.specs.Sides.{Side, Client, Server, Both, at, put}
-use Rattle.st_world.specs.State.{World, Lane, Put, Given, no_lanes, nth}
+use Rattle.st_world.specs.State.{World, Lane, Put, no_lanes, nth}
 use Rattle.st_world.specs.Ends.{taken_if}
 use Rattle.st_nodes.specs.Parts.{lane_in, with_lane_in, with_taken_in}
 use Rattle.st_chain.specs.Places.{Links}
@@ -33,11 +33,6 @@ pub any_or : {A : Type 0} (xs : List A) (i : ℕ) (d x : A) → i < length xs �
 any_or [] i d x l = absurd (omega (arith, l))
 any_or (y ∷ ys) zero d x l = refl
 any_or (y ∷ ys) (suc i) d x l = any_or ys i d x (omega (arith, l))
-
-past : {A : Type 0} (xs : List A) (i : ℕ) (d : A) → length xs ≤ i → get_or xs i d ≡ d
-past [] i d l = refl
-past (x ∷ xs) zero d l = absurd (omega (arith, l))
-past (x ∷ xs) (suc i) d l = past xs i d (omega (arith, l))
 
 -- a link that stands there
 pub is_link : (ls : Links) (i : ℕ) (x : Both Lane) → i < length ls → x ≡ get_or ls i x → get_or ls i no_lanes ≡ x
@@ -136,6 +131,8 @@ no_puts : (way : Side) (which : ℕ) → nth (at no_lanes way).puts which ≡ No
 no_puts Client which = nth_nothing which
 no_puts Server which = nth_nothing which
 
--- no Prepare is on a link that is not there
-pub puts_past : (ls : Links) (link : ℕ) (way : Side) (which : ℕ) → length ls ≤ link → nth (lane_in ls link way).puts which ≡ None
-puts_past ls link way which l = ap (λ (k : Both Lane). nth (at k way).puts which) (past ls link no_lanes l) ∙ no_puts way which
+-- where a Prepare was put there is a link
+pub puts_within : (ls : Links) (link : ℕ) (way : Side) (which : ℕ) (p : Put) → nth (lane_in ls link way).puts which ≡ Some p → link < length ls
+puts_within [] link way which p e = let n = no_puts way which in absurd (cc)
+puts_within (l ∷ ls) zero way which p e = omega arith
+puts_within (l ∷ ls) (suc link) way which p e = let g : link < length ls = puts_within ls link way which p e in omega (arith, g)

@@ -3,3 +3,4 @@ pub mod OverLinks
 pub mod Meets
 pub mod Hops
 pub mod Reached
+pub mod Openings

@@ -1,5 +1,5 @@
 -- A world after an event at an end, by the parts that it changed.
-use Rattle.std.proofs.Common.{◌≡◌, ◌≢◌, ℕ, zero, suc, ◌+◌, ◌≤◌, Bool, true, false, ◌||◌, List, [], ◌∷◌, ◌++◌, length, refl, sym, ap, subst, ◌∙◌, arith, ℤ, Option, None, Some, ◌⊎◌, inl, inr, Ok, Err, Result, is_some, ◌&&◌, cond, nat_eq}
+use Rattle.std.proofs.Common.{◌≡◌, ◌≢◌, ℕ, zero, suc, ◌≤◌, Bool, true, false, ◌||◌, List, refl, sym, ap, subst, ◌∙◌, arith, ℤ, Option, None, Some, ◌⊎◌, inl, inr, Ok, Err, Result, is_some, ◌&&◌, cond, nat_eq}
 use Rattle.std.specs.Prelude.{is_ok}
 use Rattle.std.specs.Ordering.{nat_cmp}
 use Rattle.std.specs.FinMap as fmap
@@ -15,15 +15,15 @@ use Rattle.st_end.specs.Sending.{open_flight}
 use Rattle.st_end.specs.Answers.{ended_with, pays}
 use Rattle.st_end.specs.Receiving.{Verdict, Unread, Rejects, Fulfills, verdict, t00_text}
 use Rattle.st_world.specs.Sides.{Side, Client, Server, other, Both, at, put}
-use Rattle.st_world.specs.Ledgers.{Ledger, ledger_or, written, cleanly_closed, given_up, got}
-use Rattle.st_world.specs.State.{World, Party, Node, Put, Given, Lane, EndEntry, AtEnd, with_end, with_ledger, with_given, with_put, with_entry, first_link}
+use Rattle.st_world.specs.Ledgers.{Ledger, ledger_or, written, cleanly_closed, given_up}
+use Rattle.st_world.specs.State.{World, Party, Node, Put, Lane, EndEntry, AtEnd, with_end, first_link}
 use Rattle.st_world.specs.Events.{Event, OpenStream, Write, Read, Close, Abort, Offer, ReceiveMax, Send, Told, Silent, Call, Opened, Gave, Sent, Answered, NoMemory}
-use Rattle.st_world.specs.Ends.{Calls, accepted_at, AbortsAt, read_at, ReadsAt, put_by, given_by, end_entry, refused_entry, answered_at_end, flight_of, BackAtEnd}
+use Rattle.st_world.specs.Ends.{Calls, accepted_at, AbortsAt, read_at, put_by, given_by, refused_entry, answered_at_end, flight_of, BackAtEnd}
 use Rattle.st_world.specs.Steps.{Meets, noted, MayHaveRisen, BackAt}
-use Rattle.st_nodes.specs.Parts.{CallMet, OpenMet, RaiseMet, ReadMet, kept_if, read_if, with_state, lane_in, with_lane_in, with_put_in, with_given_in, with_taken_in, with_answered, EndSends, EndMet, EndBack}
+use Rattle.st_nodes.specs.Parts.{CallMet, OpenMet, RaiseMet, ReadMet, kept_if, read_if, with_state, lane_in, with_lane_in, with_put_in, with_given_in, with_taken_in, with_answered}
 use Rattle.st_chain.specs.Places.{Links, LinkSends, LinkMet, LinkBack}
 use Rattle.st_chain.specs.Left.{Left, in_world, lacks, MeetsAt}
-use Rattle.st_chain.proofs.Lanes.{put_same, at_put, lane_same, taken_world}
+use Rattle.st_chain.proofs.Lanes.{put_same, lane_same, taken_world}
 
 abbrev pub Led : Type 0
 Led = fmap.FinMap nat_cmp Ledger

@@ -1,9 +1,9 @@
 -- What one place of the list of links, or two beside each other, become.
-use Rattle.std.proofs.Common.{◌≡◌, ◌≢◌, ℕ, zero, suc, ◌+◌, ◌<◌, List, [], ◌∷◌, ◌++◌, length, set, get_or, refl, sym, ap, subst, ◌∙◌, arith, ℤ, Option}
+use Rattle.std.proofs.Common.{◌≡◌, ℕ, ◌+◌, ◌<◌, List, ◌++◌, length, set, get_or, sym, subst, ◌∙◌, arith, ℤ, Option}
 use Rattle.st_world.specs.Sides.{Side, Both, at, put}
-use Rattle.st_world.specs.State.{Party, Node, Put, Lane, no_lanes}
+use Rattle.st_world.specs.State.{Party, Node, Put, Lane}
 use Rattle.st_world.specs.Events.{Told}
-use Rattle.st_nodes.specs.Parts.{lane_in, with_lane_in, EndSends, EndMet, EndBack, HopMet, HopBack}
+use Rattle.st_nodes.specs.Parts.{lane_in, EndSends, EndMet, EndBack, HopMet, HopBack}
 use Rattle.st_chain.specs.Places.{Links, LinkSends, LinkMet, LinkBack, HopsMet, HopsBack}
 use Rattle.st_chain.proofs.Lanes.{any_or, is_link, over_lane, two_set, AreTwo, are_two, rising, falling}
 

@@ -1,16 +1,26 @@
 -- Events by the place where they come, and runs.
-use Rattle.std.proofs.Common.{◌≡◌, ◌≢◌, ℕ, zero, suc, ◌+◌, ◌-◌, ◌<◌, ◌≤◌, Bool, true, false, cond, nat_eq, List, [], ◌∷◌, ◌++◌, length, take, get_or, refl, sym, ap, subst, ◌∙◌, arith, ℤ, Option, None, Some, ◌⊎◌, inl, inr}
+use Rattle.std.proofs.Common.{◌≡◌, ℕ, zero, suc, ◌+◌, ◌<◌, ◌≤◌, Bool, true, false, cond, nat_eq, List, [], ◌∷◌, ◌++◌, length, take, get_or, refl, sym, ap, subst, ◌∙◌, arith, ℤ, Option, None, Some, inl, inr, is_some, nat_lt, slice_get}
+use Rattle.std.specs.Prelude.{MatchOption, IfSome}
+use Rattle.std.specs.Borrow.{Bor}
+use Rattle.std.proofs.lemmas.Option.{slice_get_past, slice_get_read}
 use Rattle.std.proofs.lemmas.List.{take_more, map_push}
 use Rattle.std.proofs.lemmas.Bool.Decides.{nat_tests}
-use Rattle.st_world.specs.Sides.{Side, Client, Server, other, Both}
-use Rattle.st_world.specs.State.{World, Lane, Put, Given, Place, AtEnd, AtHop, far, near, nth, lane_at}
+use Rattle.st_world.specs.Sides.{Side, Client, Server}
+use Rattle.st_world.specs.State.{World, Node, Put, Place, AtEnd, AtHop, far, nth, lane_at}
 use Rattle.st_world.specs.Events as events
-use Rattle.st_world.specs.Events.{Told, Silent}
-use Rattle.st_world.specs.Steps.{Meets, Happens, Arrives, RefusesArrival, BackAt, Back, AnswerBack}
-use Rattle.st_world.specs.Runs.{Chain, Run, opening}
+use Rattle.st_world.specs.Events.{Told, Silent, IsEvent}
+use Rattle.st_world.specs.Steps.{Meets, Happens, Arrives, RefusesArrival}
+use Rattle.st_world.specs.Runs.{Run, opening}
 use Rattle.st_chain.specs.declared.event.Event.{Event}
 use Rattle.st_chain.specs.Seen.{event_seen, events_seen}
-use Rattle.st_chain.specs.Left.{MeetsAt, IsReached}
+use Rattle.st_chain.specs.Places.{Links}
+use Rattle.st_chain.specs.Left.{Left, in_world, MeetsAt, IsReached}
+
+is_below : (i n : ℕ) → nat_lt i n ≡ true → i < n
+is_below i n e = grind (arith, nat_tests)
+
+not_below : (i n : ℕ) → nat_lt i n ≡ false → n ≤ i
+not_below i n e = grind (arith, nat_tests)
 
 -- ---- places
 
@@ -30,36 +40,27 @@ down_hop w (suc link) hop e = ap AtHop (omega (arith, e))
 
 -- ---- Prepares
 
-pub arrives_nowhere : (w : World) (link : ℕ) (way : Side) (which : ℕ) (now : ℤ) → nth (lane_at w link way).puts which ≡ None → Meets w (events.Arrive link way which now) Silent w
-arrives_nowhere w link way which now e = inl (subst (λ (o : Option Put). Arrives w link way which now o Silent w) (sym e) (refl, refl))
+pub arrives_at : (w after : World) (link : ℕ) (way : Side) (which : ℕ) (now : ℤ) (p : Put) (told : Told) → nth (lane_at w link way).puts which ≡ Some p → MeetsAt w link way which now p (far w link way) told after → Meets w (events.Arrive link way which now) told after
+arrives_at w after link way which now p told here met = elim met [
+  | inl h ↦ inl (subst (λ (o : Option Put). Arrives w link way which now o told after) (sym here) h)
+  | inr h ↦ inr (h.0, h.1, subst (λ (o : Option Put). RefusesArrival w link way which now o h.0) (sym here) h.2, h.3)
+]
 
-pub arrives_at : (w after : World) (link : ℕ) (way : Side) (which : ℕ) (now : ℤ) (p : Put) (place : Place) (told : Told) → nth (lane_at w link way).puts which ≡ Some p → far w link way ≡ place → MeetsAt w link way which now p place told after → Meets w (events.Arrive link way which now) told after
-arrives_at w after link way which now p place told here is met =
-    let M : Place → Type 0 = λ x. MeetsAt w link way which now p x told after in
-    let met' : MeetsAt w link way which now p (far w link way) told after = subst M (sym is) met in
-    elim met' [
-      | inl h ↦ inl (subst (λ (o : Option Put). Arrives w link way which now o told after) (sym here) h)
-      | inr h ↦ inr (h.0, h.1, subst (λ (o : Option Put). RefusesArrival w link way which now o h.0) (sym here) h.2, h.3)
-    ]
+-- on a way that is known
+pub arrives_on : (w after : World) (link : ℕ) (way side : Side) (which : ℕ) (now : ℤ) (p : Put) (told : Told) → way ≡ side → nth (lane_at w link way).puts which ≡ Some p → MeetsAt w link side which now p (far w link side) told after → Meets w (events.Arrive link way which now) told after
+arrives_on w after link way side which now p told is here met = arrives_at w after link way which now p told here (subst (λ (x : Side). MeetsAt w link x which now p (far w link x) told after) (sym is) met)
 
-pub back_nowhere : (w : World) (link : ℕ) (way : Side) (j : ℕ) (now : ℤ) (outcome : Option (List ℕ)) (o : Option Put) → o ≡ None → Back w link way j now outcome o Silent w
-back_nowhere w link way j now outcome o e = subst (λ (x : Option Put). Back w link way j now outcome x Silent w) (sym e) (refl, refl)
+-- at the place where it comes
+pub meets_there : (w after : World) (link : ℕ) (way : Side) (which : ℕ) (now : ℤ) (p : Put) (place : Place) (told : Told) → far w link way ≡ place → MeetsAt w link way which now p place told after → MeetsAt w link way which now p (far w link way) told after
+meets_there w after link way which now p place told is met = subst (λ (x : Place). MeetsAt w link way which now p x told after) (sym is) met
 
-pub back_at : (w after : World) (link : ℕ) (way : Side) (j : ℕ) (now : ℤ) (outcome : Option (List ℕ)) (p : Put) (o : Option Put) (place : Place) (told : Told) → o ≡ Some p → near w link way ≡ place → BackAt w link way j now p outcome place told after → Back w link way j now outcome o told after
-back_at w after link way j now outcome p o place told here is met =
-    let M : Place → Type 0 = λ x. BackAt w link way j now p outcome x told after in
-    subst (λ (x : Option Put). Back w link way j now outcome x told after) (sym here) (subst M (sym is) met)
+pub meets_below : (w after : World) (link hop : ℕ) (which : ℕ) (now : ℤ) (p : Put) (told : Told) → link ≡ hop + 1 → MeetsAt w (hop + 1) Server which now p (AtHop hop) told after → MeetsAt w link Server which now p (far w link Server) told after
+meets_below w after link hop which now p told e met = meets_there w after link Server which now p (AtHop hop) told (down_hop w link hop e) (subst (λ (l : ℕ). MeetsAt w l Server which now p (AtHop hop) told after) (sym e) met)
 
-pub answer_nowhere : (w : World) (link : ℕ) (way : Side) (j : ℕ) (now : ℤ) → nth (lane_at w link way).given j ≡ None → Meets w (events.AnswerArrives link way j now) Silent w
-answer_nowhere w link way j now e = inl (subst (λ (o : Option Given). AnswerBack w link way j now o Silent w) (sym e) (refl, refl))
+-- ---- events
 
-pub answer_at : (w after : World) (link : ℕ) (way : Side) (j : ℕ) (now : ℤ) (g : Given) (outcome : Option (List ℕ)) (which : ℕ) (told : Told) → nth (lane_at w link way).given j ≡ Some g → outcome ≡ Some g.bytes → which ≡ g.which
-    → Back w link way j now outcome (nth (lane_at w link way).puts which) told after → Meets w (events.AnswerArrives link way j now) told after
-answer_at w after link way j now g outcome which told here is at_which back =
-    let back' : Back w link way j now (Some g.bytes) (nth (lane_at w link way).puts g.which) told after =
-    subst (λ (k : ℕ). Back w link way j now (Some g.bytes) (nth (lane_at w link way).puts k) told after) at_which
-    (subst (λ (o : Option (List ℕ)). Back w link way j now o (nth (lane_at w link way).puts which) told after) is back) in
-    inl (subst (λ (o : Option Given). AnswerBack w link way j now o told after) (sym here) back')
+pub happens_as : (w : World) (event same : events.Event) (told : Told) (after : World) → event ≡ same → IsEvent same → Meets w same told after → Happens w event told after
+happens_as w event same told after is lawful met = subst (λ (x : events.Event). Happens w x told after) (sym is) (lawful, met)
 
 -- ---- runs
 
@@ -82,3 +83,20 @@ pub run_next : (es : List Event) (i : ℕ) (x : Event) (told : Told) (w mid afte
     → Happens mid (event_seen x) told after → Run w (events_seen (take (i + 1) es)) after
 run_next es i x told w mid after l is run step =
     let P : Event → Type 0 = λ y. Happens mid (event_seen y) told after in run_step es i x told w mid after l run (subst P is step)
+
+-- a step over the links that a world has, and those that it leaves
+pub step_kept : (t s : Left) (ls is ks us : Links) (event : events.Event) (told : Told) → us ≡ ks → ls ≡ is → length is ≡ length t.nodes + 1 → length ks ≡ length ls → length s.nodes ≡ length t.nodes → IsReached (in_world t is) → Happens (in_world t ls) event told (in_world s ks)
+    → (length us ≡ length s.nodes + 1) × IsReached (in_world s us)
+step_kept t s ls is ks us event told e same many kept nodes run step =
+    let count : length ks ≡ length s.nodes + 1 = omega (arith, ap length same, many, kept, nodes) in
+    let from : IsReached (in_world t ls) = subst (λ (x : Links). IsReached (in_world t x)) (sym same) run in
+    subst (λ (x : Links). (length x ≡ length s.nodes + 1) × IsReached (in_world s x)) (sym e) (count, reached_more (in_world t ls) event told (in_world s ks) from step)
+
+pub step_is : (t s : Left) (ls is ks us : Links) (old : World) (event : events.Event) (told : Told) → us ≡ ks → ls ≡ is → in_world t is ≡ old → Happens (in_world t ls) event told (in_world s ks) → Happens old event told (in_world s us)
+step_is t s ls is ks us old event told e same was step =
+    subst (λ (x : Links). Happens old event told (in_world s x)) (sym e) (subst (λ (x : World). Happens x event told (in_world s ks)) (ap (in_world t) same ∙ was) step)
+
+-- what stands at a place of a list
+pub found_at : (o : Option (Bor Node)) (ns : List Node) (i : ℕ) → is_some o ≡ nat_lt i (length ns) → IfSome o (λ n. n.now ≡ get_or ns i n.now) → MatchOption o (slice_get ns i ≡ None) (λ n. slice_get ns i ≡ Some n.now)
+found_at None ns i e is = slice_get_past ns i (not_below i (length ns) (sym e))
+found_at (Some n) ns i e is = slice_get_read ns (length ns) i n.now refl (is_below i (length ns) (sym e)) is

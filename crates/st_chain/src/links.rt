@@ -15,7 +15,7 @@ use st_nodes::{
 use std::alloc::{AllocError, Allocator};
 
 /// An end sends on a link.
-pub fn send_on<A: Allocator + Copy>(
+pub(crate) fn send_on<A: Allocator + Copy>(
     party: &mut Party<A>,
     links: &mut [Link<A>],
     link: usize,
@@ -42,7 +42,7 @@ pub fn send_on<A: Allocator + Copy>(
 }
 
 /// A Prepare of a link comes to an end.
-pub fn meet_end<A: Allocator + Copy>(
+pub(crate) fn meet_end<A: Allocator + Copy>(
     party: &mut Party<A>,
     links: &mut [Link<A>],
     link: usize,
@@ -70,7 +70,7 @@ pub fn meet_end<A: Allocator + Copy>(
 }
 
 /// An outcome comes back to the end that put a Prepare on a link. No memory.
-pub fn back_to_end<A: Allocator + Copy>(
+pub(crate) fn back_to_end<A: Allocator + Copy>(
     party: &mut Party<A>,
     links: &mut [Link<A>],
     link: usize,
@@ -90,7 +90,7 @@ pub fn back_to_end<A: Allocator + Copy>(
 }
 
 /// A Prepare for the server comes to a hop.
-pub fn meet_hop_up<A: Allocator + Copy>(
+pub(crate) fn meet_hop_up<A: Allocator + Copy>(
     node: &mut Node<A>,
     links: &mut [Link<A>],
     link: usize,
@@ -119,7 +119,7 @@ pub fn meet_hop_up<A: Allocator + Copy>(
 }
 
 /// A Prepare for the client comes to a hop, over the link after this one.
-pub fn meet_hop_down<A: Allocator + Copy>(
+pub(crate) fn meet_hop_down<A: Allocator + Copy>(
     node: &mut Node<A>,
     links: &mut [Link<A>],
     link: usize,
@@ -148,7 +148,7 @@ pub fn meet_hop_down<A: Allocator + Copy>(
 }
 
 /// An outcome comes back to the hop that put a Prepare for the server on the link after this one.
-pub fn back_to_hop_up<A: Allocator + Copy>(
+pub(crate) fn back_to_hop_up<A: Allocator + Copy>(
     node: &mut Node<A>,
     links: &mut [Link<A>],
     link: usize,
@@ -178,7 +178,7 @@ pub fn back_to_hop_up<A: Allocator + Copy>(
 }
 
 /// An outcome comes back to the hop that put a Prepare for the client on this link.
-pub fn back_to_hop_down<A: Allocator + Copy>(
+pub(crate) fn back_to_hop_down<A: Allocator + Copy>(
     node: &mut Node<A>,
     links: &mut [Link<A>],
     link: usize,

@@ -1,6 +1,6 @@
 //! What a run leaves: both ends and the hops, what was written and read, and which Prepares were answered.
 
-ghost use Rattle.std.specs.Prelude.{◌≡◌, ◌≢◌, ◌≤◌, ◌<◌, ◌+◌, ◌||◌, ℕ, List, None, length, OnErr, IfOk};
+ghost use Rattle.std.specs.Prelude.{◌≡◌, ◌≢◌, ◌≤◌, ◌<◌, ◌+◌, ◌||◌, length, OnErr, IfOk};
 ghost use Rattle.st_hop.specs.Seen.{outcome_seen};
 ghost use Rattle.st_world.specs.Sides as sides;
 ghost use Rattle.st_world.specs.State.{AtEnd, AtHop};
@@ -11,7 +11,7 @@ ghost use Rattle.st_chain.specs.Places.{Links};
 ghost use Rattle.st_chain.specs.Left.{in_world, lacks, MeetsAt};
 
 use crate::links::{
-    back_to_end, back_to_hop_down, back_to_hop_up, meet_hop_down, meet_hop_up, send_on,
+    back_to_end, back_to_hop_down, back_to_hop_up, meet_end, meet_hop_down, meet_hop_up, send_on,
 };
 use st_hop::Outcome;
 use st_ilp::Moment;
@@ -61,15 +61,8 @@ fn note<A: Allocator + Copy>(told: Told<A>, refused: &mut bool) -> Told<A>
 }
 
 impl<A: Allocator + Copy> Trace<A> {
-    /// Whether some call found no memory. No memory.
-    pub fn refused(&self) -> bool
-        ensures { result ≡ self.now.refused }
-    {
-        self.refused
-    }
-
     /// An end opens its next stream.
-    pub fn open(&mut self, side: Side) -> Told<A>
+    pub(crate) fn open(&mut self, side: Side) -> Told<A>
         ensures met { (ls : Links) → Meets (in_world self.old ls) (events.OpenStream (side_seen side)) (told_seen result) (in_world self.new ls) }
         ensures nodes { length self.new.nodes ≡ length self.old.nodes }
     {
@@ -86,7 +79,12 @@ impl<A: Allocator + Copy> Trace<A> {
     }
 
     /// An end takes bytes to be sent.
-    pub fn write(&mut self, side: Side, stream: u8, bytes: &[u8]) -> Result<Told<A>, AllocError>
+    pub(crate) fn write(
+        &mut self,
+        side: Side,
+        stream: u8,
+        bytes: &[u8],
+    ) -> Result<Told<A>, AllocError>
         ensures met { IfOk result (λ told. (ls : Links) → Meets (in_world self.old ls) (events.Write (side_seen side) stream bytes.now) (told_seen told) (in_world self.new ls)) }
         ensures unchanged { OnErr result (self.new ≡ self.old) }
         ensures nodes { length self.new.nodes ≡ length self.old.nodes }
@@ -104,7 +102,7 @@ impl<A: Allocator + Copy> Trace<A> {
     }
 
     /// Bytes are read at an end.
-    pub fn read(&mut self, side: Side, stream: u8, max: usize) -> Result<Told<A>, AllocError>
+    pub(crate) fn read(&mut self, side: Side, stream: u8, max: usize) -> Result<Told<A>, AllocError>
         requires { 1 ≤ max }
         ensures met { IfOk result (λ told. (ls : Links) → Meets (in_world self.old ls) (events.Read (side_seen side) stream max) (told_seen told) (in_world self.new ls)) }
         ensures unchanged { OnErr result (self.new ≡ self.old) }
@@ -123,7 +121,7 @@ impl<A: Allocator + Copy> Trace<A> {
     }
 
     /// An end closes a stream cleanly.
-    pub fn close(&mut self, side: Side, stream: u8) -> Told<A>
+    pub(crate) fn close(&mut self, side: Side, stream: u8) -> Told<A>
         ensures met { (ls : Links) → Meets (in_world self.old ls) (events.Close (side_seen side) stream) (told_seen result) (in_world self.new ls) }
         ensures nodes { length self.new.nodes ≡ length self.old.nodes }
     {
@@ -140,7 +138,7 @@ impl<A: Allocator + Copy> Trace<A> {
     }
 
     /// An end aborts a stream.
-    pub fn abort(&mut self, side: Side, stream: u8, code: u8) -> Told<A>
+    pub(crate) fn abort(&mut self, side: Side, stream: u8, code: u8) -> Told<A>
         requires { code ≢ 1 }
         ensures met { (ls : Links) → Meets (in_world self.old ls) (events.Abort (side_seen side) stream code) (told_seen result) (in_world self.new ls) }
         ensures nodes { length self.new.nodes ≡ length self.old.nodes }
@@ -158,7 +156,7 @@ impl<A: Allocator + Copy> Trace<A> {
     }
 
     /// An end offers money on a stream.
-    pub fn offer(&mut self, side: Side, stream: u8, amount: u64) -> Told<A>
+    pub(crate) fn offer(&mut self, side: Side, stream: u8, amount: u64) -> Told<A>
         ensures met { (ls : Links) → Meets (in_world self.old ls) (events.Offer (side_seen side) stream amount) (told_seen result) (in_world self.new ls) }
         ensures nodes { length self.new.nodes ≡ length self.old.nodes }
     {
@@ -175,7 +173,7 @@ impl<A: Allocator + Copy> Trace<A> {
     }
 
     /// An end lets a stream receive more.
-    pub fn raise(&mut self, side: Side, stream: u8, amount: u64) -> Told<A>
+    pub(crate) fn raise(&mut self, side: Side, stream: u8, amount: u64) -> Told<A>
         ensures met { (ls : Links) → Meets (in_world self.old ls) (events.ReceiveMax (side_seen side) stream amount) (told_seen result) (in_world self.new ls) }
         ensures nodes { length self.new.nodes ≡ length self.old.nodes }
     {
@@ -186,7 +184,7 @@ impl<A: Allocator + Copy> Trace<A> {
     }
 
     /// An end sends.
-    pub fn send(
+    pub(crate) fn send(
         &mut self,
         links: &mut [Link<A>],
         side: Side,
@@ -195,6 +193,7 @@ impl<A: Allocator + Copy> Trace<A> {
     ) -> Result<Told<A>, AllocError>
         requires { length links.old ≡ length self.old.nodes + 1 }
         ensures met { IfOk result (λ told. Meets (in_world self.old links.old) (events.Send (side_seen side) iv now) (told_seen told) (in_world self.new links.new)) }
+        ensures twelve { length iv ≡ 12 }
         ensures same_self { OnErr result (self.new ≡ self.old) }
         ensures same_links { OnErr result (links.new ≡ links.old) }
         ensures nodes { length self.new.nodes ≡ length self.old.nodes }
@@ -212,8 +211,48 @@ impl<A: Allocator + Copy> Trace<A> {
         }
     }
 
+    /// A Prepare for the server comes to it.
+    pub(crate) fn arrive_server(
+        &mut self,
+        links: &mut [Link<A>],
+        link: usize,
+        which: usize,
+        put: &Put<A>,
+        now: Moment,
+    ) -> Result<Told<A>, AllocError>
+        requires { link < length links.old }
+        ensures met { IfOk result (λ told. MeetsAt (in_world self.old links.old) link sides.Client which now put.now (AtEnd sides.Server) (told_seen told) (in_world self.new links.new)) }
+        ensures same_self { OnErr result (self.new ≡ self.old) }
+        ensures same_links { OnErr result (links.new ≡ links.old) }
+        ensures nodes { length self.new.nodes ≡ length self.old.nodes }
+    {
+        let server = &mut self.server;
+        let told = meet_end(server, links, link, Way::ToServer, which, put.bytes(), now)?;
+        Ok(note(told, &mut self.refused))
+    }
+
+    /// A Prepare for the client comes to it.
+    pub(crate) fn arrive_client(
+        &mut self,
+        links: &mut [Link<A>],
+        link: usize,
+        which: usize,
+        put: &Put<A>,
+        now: Moment,
+    ) -> Result<Told<A>, AllocError>
+        requires { link < length links.old }
+        ensures met { IfOk result (λ told. MeetsAt (in_world self.old links.old) link sides.Server which now put.now (AtEnd sides.Client) (told_seen told) (in_world self.new links.new)) }
+        ensures same_self { OnErr result (self.new ≡ self.old) }
+        ensures same_links { OnErr result (links.new ≡ links.old) }
+        ensures nodes { length self.new.nodes ≡ length self.old.nodes }
+    {
+        let client = &mut self.client;
+        let told = meet_end(client, links, link, Way::ToClient, which, put.bytes(), now)?;
+        Ok(note(told, &mut self.refused))
+    }
+
     /// A Prepare for the server comes to the hop after its link.
-    pub fn arrive_up(
+    pub(crate) fn arrive_up(
         &mut self,
         links: &mut [Link<A>],
         link: usize,
@@ -234,7 +273,7 @@ impl<A: Allocator + Copy> Trace<A> {
     }
 
     /// A Prepare for the client comes to the hop before its link.
-    pub fn arrive_down(
+    pub(crate) fn arrive_down(
         &mut self,
         links: &mut [Link<A>],
         hop: usize,
@@ -255,7 +294,7 @@ impl<A: Allocator + Copy> Trace<A> {
     }
 
     /// An outcome comes back to an end.
-    pub fn back_end(
+    pub(crate) fn back_end(
         &mut self,
         links: &mut [Link<A>],
         link: usize,
@@ -278,7 +317,7 @@ impl<A: Allocator + Copy> Trace<A> {
     }
 
     /// An outcome of a Prepare for the server comes back to the hop before its link.
-    pub fn back_up(
+    pub(crate) fn back_up(
         &mut self,
         links: &mut [Link<A>],
         hop: usize,
@@ -300,7 +339,7 @@ impl<A: Allocator + Copy> Trace<A> {
     }
 
     /// An outcome of a Prepare for the client comes back to the hop after its link.
-    pub fn back_down(
+    pub(crate) fn back_down(
         &mut self,
         links: &mut [Link<A>],
         link: usize,

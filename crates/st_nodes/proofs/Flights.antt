@@ -1,5 +1,5 @@
 -- The flights of an end that are not spent, beside the conditions that it keeps.
-use Rattle.std.proofs.Common.{◌≡◌, ◌≢◌, ℕ, zero, suc, ◌+◌, ◌<◌, ◌≤◌, Bool, true, false, cond, Ok, List, [], ◌∷◌, ◌++◌, length, get_or, slice_get, refl, sym, ap, subst, ◌∙◌, arith, ℤ, Option, None, Some, inl, inr, ◌⊎◌, is_some, bytes_eq, nat_eq, ◌&&◌}
+use Rattle.std.proofs.Common.{◌≡◌, ◌≢◌, ℕ, zero, suc, ◌+◌, ◌<◌, ◌≤◌, Bool, true, false, List, [], ◌∷◌, ◌++◌, length, get_or, slice_get, refl, sym, ap, subst, ◌∙◌, arith, ℤ, Option, None, Some, inl, inr, ◌⊎◌, is_some, bytes_eq, nat_eq, ◌&&◌}
 use Rattle.std.specs.List.{remove}
 use Rattle.std.specs.Ordering.{nat_cmp}
 use Rattle.std.specs.FinMap as fmap
@@ -7,20 +7,19 @@ use Rattle.std.proofs.lemmas.Grind.{common_steps}
 use Rattle.std.proofs.lemmas.Bool.{cases_eq}
 use Rattle.std.proofs.lemmas.Bool.Decides.{nat_tests}
 use Rattle.std.proofs.lemmas.Slice.Eq.{bytes_eq-Decides}
-use Rattle.std.proofs.lemmas.Option.{slice_get_within, slice_get_past, slice_get_read}
+use Rattle.std.proofs.lemmas.Option.{slice_get_within, slice_get_read}
 use Rattle.st_sender.specs.Sending as sender
-use Rattle.st_sender.specs.Flights.{flight_at}
 use Rattle.st_end.specs.declared.flight.Open.{Open}
 use Rattle.st_keys.specs.Keys.{DerivedKeys}
 use Rattle.st_end.specs.declared.role.Role.{Role}
 use Rattle.st_end.specs.State.{EndState, new_end}
-use Rattle.st_end.specs.Sending.{Goes, is_kept, open_flight, is_open}
-use Rattle.st_end.specs.Answers.{ended, ended_with, pays}
+use Rattle.st_end.specs.Sending.{Goes, open_flight, is_open}
+use Rattle.st_end.specs.Answers.{ended, ended_with}
 use Rattle.st_world.specs.State.{Party, EndEntry, Put, Given, Lane}
-use Rattle.st_world.specs.Events.{Told, Silent, Call, Sent}
-use Rattle.st_world.specs.Ends.{put_by, flight_of}
+use Rattle.st_world.specs.Events.{Sent}
+use Rattle.st_world.specs.Ends.{put_by}
 use Rattle.st_nodes.specs.Kept.{AreKept, Stands}
-use Rattle.st_nodes.specs.Parts.{EndSends, EndBack, taken_in, with_state}
+use Rattle.st_nodes.specs.Parts.{EndSends}
 
 -- ---- places
 
@@ -128,24 +127,6 @@ ended_kept e f x outcome kept i is live here h =
     let after : f.conditions ≡ fmap.remove e.conditions x.sequence = ap (λ (s : EndState). s.conditions) is ∙ is_there e x outcome (open_flight e x) live in
     subst (λ (m : fmap.FinMap nat_cmp (List ℕ)). AreKept m (remove kept i)) (sym after) (kept_less e.conditions kept i x here h)
 
-not_there : (e : EndState) (x : Open) (outcome : Option (List ℕ)) (o : Option sender.Flight) → is_some o ≡ false → ended_with e x o outcome ≡ e
-not_there e x outcome None gone = refl
-not_there e x outcome (Some p) gone = absurd (cc)
-
-kept_test : (x : Open) (o : Option (List ℕ)) → is_kept x.condition o ≡ true → o ≡ Some x.condition
-kept_test x None e = absurd (cc)
-kept_test x (Some c) e = ap Some ((bytes_eq-Decides c x.condition).0 e)
-
-closed_by : (b : Bool) (o : Option sender.Flight) → (b ≡ true → ⊥) → is_some (cond b o None) ≡ false
-closed_by true o n = absurd (n refl)
-closed_by false o n = refl
-
--- a flight that stands nowhere is not open
-pub never_kept : (e : EndState) (x : Open) (kept : List Open) → AreKept e.conditions kept → ((i : ℕ) → slice_get kept i ≡ Some x → ⊥) → is_open e x ≡ false
-never_kept e x kept h none =
-    closed_by (is_kept x.condition (fmap.get e.conditions x.sequence)) (flight_at e.sending.flights x.sequence)
-    (λ t. let at = h x.sequence x.condition (kept_test x (fmap.get e.conditions x.sequence) t) in none at.0 at.1)
-
 -- ---- what a call leaves
 
 pub sent : (e f : EndState) (bag : List EndEntry) (puts more : List Put) (given : List Given) (p : Party) (x : Lane) (iv : List ℕ) (now : ℤ) (flight : Open) (bytes : List ℕ)
@@ -157,48 +138,6 @@ sent e f bag puts more given p x iv now flight bytes pe xe goes is =
     let P : Party → Type 0 = λ p. EndSends iv now Sent p q x y in
     let Q : Lane → Type 0 = λ x. EndSends iv now Sent (record { state = e; bag = bag }) q x y in
     subst P pe (subst Q xe (inr (inl (flight, bytes, f, goes, refl, refl, ap (λ (ps : List Put). record { puts = ps; given = given }) is))))
-
-told_if : (b : Bool) → b ≡ true → Call (Ok tt) ≡ cond b (Call (Ok tt)) Silent
-told_if true e = refl
-told_if false e = absurd (cc)
-
-and_true : (b c d : Bool) → b ≡ true → c ≡ d → c ≡ (b && d)
-and_true true c d e f = f
-and_true false c d e f = absurd (cc)
-
--- an outcome that an open flight takes
-pub taken_back : (e f : EndState) (bag : List EndEntry) (puts : List Put) (given after : List Given) (z : Put) (p : Party) (x : Lane) (j : ℕ) (outcome : Option (List ℕ)) (taken : Bool)
-    → record { state = e; bag = bag } ≡ p → record { puts = puts; given = given } ≡ x → is_open e (flight_of z) ≡ true → f ≡ ended e (flight_of z) outcome → taken ≡ pays (flight_of z) outcome → after ≡ taken_in taken given j
-    → EndBack z j outcome (Call (Ok tt)) p (record { state = f; bag = bag }) x (record { puts = puts; given = after })
-taken_back e f bag puts given after z p x j outcome taken pe xe live is pays_is marked =
-    let y : Lane = record { puts = puts; given = after } in
-    let q : Party = record { state = f; bag = bag } in
-    let P : Party → Type 0 = λ p. EndBack z j outcome (Call (Ok tt)) p q x y in
-    let Q : Lane → Type 0 = λ x. EndBack z j outcome (Call (Ok tt)) (record { state = e; bag = bag }) q x y in
-    let both = and_true (is_open e (flight_of z)) taken (pays (flight_of z) outcome) live pays_is in
-    subst P pe (subst Q xe (
-      told_if (is_open e (flight_of z)) live,
-      ap (λ (s : EndState). record { state = s; bag = bag }) is,
-      ap (λ (gs : List Given). record { puts = puts; given = gs }) (marked ∙ ap (λ (b : Bool). taken_in b given j) both),
-    ))
-
-silent_if : (b : Bool) → b ≡ false → Silent ≡ cond b (Call (Ok tt)) Silent
-silent_if false e = refl
-silent_if true e = absurd (cc)
-
-and_false : (b d : Bool) → b ≡ false → false ≡ (b && d)
-and_false false d e = refl
-and_false true d e = absurd (cc)
-
--- an outcome of a flight that is spent, or another end's
-pub not_taken : (e : EndState) (bag : List EndEntry) (z : Put) (p : Party) (x : Lane) (j : ℕ) (outcome : Option (List ℕ)) → record { state = e; bag = bag } ≡ p → is_open e (flight_of z) ≡ false → EndBack z j outcome Silent p p x x
-not_taken e bag z p x j outcome pe gone =
-    let P : Party → Type 0 = λ p. EndBack z j outcome Silent p p x x in
-    subst P pe (
-      silent_if (is_open e (flight_of z)) gone,
-      ap (λ (s : EndState). record { state = s; bag = bag }) (sym (not_there e (flight_of z) outcome (open_flight e (flight_of z)) gone)),
-      ap (λ (b : Bool). record { puts = x.puts; given = taken_in b x.given j }) (and_false (is_open e (flight_of z)) (pays (flight_of z) outcome) gone),
-    )
 
 -- the same for a flight that was found and taken out
 pub spent_kept : (e f : EndState) (x w : Open) (outcome : Option (List ℕ)) (kept ks rest : List Open) (i : ℕ) → f ≡ ended e x outcome → x ≡ w → is_open e w ≡ true → ks ≡ kept → slice_get ks i ≡ Some w → rest ≡ remove kept i → AreKept e.conditions kept

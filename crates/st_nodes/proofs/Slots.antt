@@ -7,8 +7,7 @@ use Rattle.st_reassembly.specs.Held.{Held}
 use Rattle.st_reassembly.specs.Run.{run}
 use Rattle.st_sender.specs.Sending.{Sending}
 use Rattle.st_receiver.specs.Streams.{incoming_at, is_open}
-use Rattle.st_receiver.specs.Reading.{Got, Bytes, Nothing, End, Aborted, is_read, got_none, got_bytes, got_by}
-use Rattle.st_receiver.specs.Reading as receiver
+use Rattle.st_receiver.specs.Reading.{Got, Bytes, Nothing, End, Aborted, is_read, got_bytes, got_by}
 use Rattle.st_end.specs.declared.error.EndError.{EndError}
 use Rattle.st_end.specs.declared.error.EndError.TheVariants.{NoMemory}
 use Rattle.st_end.specs.State.{EndState}
@@ -21,7 +20,7 @@ use Rattle.st_world.specs.Ledgers.{Ledger, ledger_or, got}
 use Rattle.st_world.specs.State.{Party, EndEntry}
 use Rattle.st_world.specs.Events.{Told}
 use Rattle.st_nodes.specs.Kept.{all_from}
-use Rattle.st_nodes.specs.Parts.{CallMet, SlotMet, slot_if, kept_if, ReadMet, SlotRead, slot_read, read_if, with_state}
+use Rattle.st_nodes.specs.Parts.{CallMet, SlotMet, slot_if, kept_if, ReadMet, SlotRead, slot_read, read_if}
 use Rattle.st_nodes.proofs.AllFrom.{ledger_at, with_ledger, set_same}
 
 any_or : (xs : List (Option Ledger)) (k : ℕ) (d x : Option Ledger) → k < length xs → get_or xs k d ≡ get_or xs k x
@@ -108,16 +107,6 @@ offer_keeps e k amount = done_keeps e (refusal e k (offer_refusal e.sending k am
 
 pub slot_keeps : (r : Answer × EndState) (x : Ledger) (told : Told) (e f : EndState) (o u : Option Ledger) → r.1.conditions ≡ e.conditions → SlotMet r x told e f o u → f.conditions ≡ e.conditions
 slot_keeps r x told e f o u k met = elim met [ inl h ↦ ap (λ (s : EndState). s.conditions) h.1 ∙ k | inr h ↦ ap (λ (s : EndState). s.conditions) h.2 ]
-
-read_by : (b : Bool) (e f : EndState) (x y : Result Got EndError) → f.conditions ≡ e.conditions → (cond {A = Result Got EndError × EndState} b (x, f) (y, e)).1.conditions ≡ e.conditions
-read_by true e f x y k = k
-read_by false e f x y k = refl
-
-pub read_keeps : (k n : ℕ) (told : Told) (e f : EndState) (o u : Option Ledger) → SlotRead (read e k n) told e f o u → f.conditions ≡ e.conditions
-read_keeps k n told e f o u met = elim met [
-  | inl h ↦ ap (λ (s : EndState). s.conditions) h.1 ∙ read_by (is_open e.receiving k) e (record e { receiving = receiver.after_got e.receiving k n }) _ _ refl
-  | inr h ↦ ap (λ (s : EndState). s.conditions) h.2
-]
 
 -- ---- a read gives no more than was asked for
 

@@ -5,6 +5,8 @@ ghost use Rattle.std.specs.List.{remove};
 ghost use Rattle.st_hop.specs.Seen.{outcome_seen};
 ghost use Rattle.st_oer.specs.Address.{is_address};
 ghost use Rattle.st_end.specs.State.{new_end};
+ghost use Rattle.st_end.specs.Seen.{totals_seen};
+ghost use Rattle.st_end.specs.Totals as totals;
 ghost use Rattle.st_end.specs.Sending.{is_open};
 ghost use Rattle.st_world.specs.Runs.{new_party};
 ghost use Rattle.st_end.specs.declared.flight.Open as open_flight;
@@ -15,7 +17,7 @@ ghost use Rattle.st_nodes.specs.Parts.{EndSends, EndMet, EndBack};
 use crate::entry::{EndEntry, amount_in, is_fulfill};
 use crate::lane::{Given, Lane, Put, mark_taken};
 use crate::told::Told;
-use st_end::{EndError, EndState, Flight, Open, Role};
+use st_end::{EndError, EndState, Flight, Open, Role, Totals};
 use st_hop::Outcome;
 use st_ilp::Moment;
 use st_keys::Keys;
@@ -178,6 +180,13 @@ impl<A: Allocator + Copy> Party<A> {
         ensures { result ≡ self.now.state.sending.failed }
     {
         self.state.is_failed()
+    }
+
+    /// What it did so far: the bytes that it took and gave, its credit and what it paid. No memory.
+    pub fn totals(&self) -> Totals
+        ensures { totals_seen result ≡ totals.totals self.now.state }
+    {
+        self.state.totals()
     }
 
     /// The Prepares that it answered, in order. No memory.

@@ -1,5 +1,5 @@
-use Rattle.std.proofs.Common.{arith, ◌+◌, ◌<◌, length}
-use Rattle.st_world.specs.Sides.{Client, Server}
+use Rattle.std.proofs.Common.{arith, ◌<◌, length}
+use Rattle.st_world.specs.Sides.{Server}
 use Rattle.st_chain.proofs.OverLinks.{backs_down}
 use Rattle.st_chain.proofs.links.back_to_hop_down.Goals as goal
 

@@ -1,5 +1,5 @@
-use Rattle.std.proofs.Common.{arith, ◌+◌, ◌<◌, length}
-use Rattle.st_world.specs.Sides.{Client, Server}
+use Rattle.std.proofs.Common.{arith, ◌<◌, length}
+use Rattle.st_world.specs.Sides.{Client}
 use Rattle.st_chain.proofs.OverLinks.{backs_up}
 use Rattle.st_chain.proofs.links.back_to_hop_up.Goals as goal
 

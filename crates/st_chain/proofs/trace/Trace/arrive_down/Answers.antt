@@ -1,5 +1,5 @@
-use Rattle.std.proofs.Common.{◌≡◌, ◌≢◌, ◌+◌, ◌-◌, ◌<◌, arith, refl}
-use Rattle.st_world.specs.Sides.{Client, Server}
+use Rattle.std.proofs.Common.{◌+◌, arith}
+use Rattle.st_world.specs.Sides.{Server}
 use Rattle.st_chain.proofs.Hops.{hop_meets}
 use Rattle.st_chain.proofs.trace.Trace.arrive_down.Goals as goal
 

@@ -1,0 +1,54 @@
+//! What a trace tells.
+
+ghost use Rattle.std.specs.Prelude.{◌≡◌, MatchOption, Some, None, length, slice_get};
+ghost use Rattle.std.specs.FinMap as fmap;
+ghost use Rattle.st_world.specs.Sides.{at};
+ghost use Rattle.st_nodes.specs.Seen.{side_seen};
+
+use crate::trace::Trace;
+use st_nodes::{Ledger, Node, Party, Side};
+use std::alloc::Allocator;
+
+impl<A: Allocator + Copy> Trace<A> {
+    /// Whether some call found no memory. No memory.
+    pub fn refused(&self) -> bool
+        ensures { result ≡ self.now.refused }
+    {
+        self.refused
+    }
+
+    /// How many hops there are. No memory.
+    pub fn hops(&self) -> usize
+        ensures { result ≡ length self.now.nodes }
+    {
+        self.nodes.len()
+    }
+
+    /// An end, with the Prepares that it answered. No memory.
+    pub fn end(&self, side: Side) -> &Party<A>
+        ensures { result.now ≡ at self.now.ends (side_seen side) }
+    {
+        match side {
+            Side::Client => &self.client,
+            Side::Server => &self.server,
+        }
+    }
+
+    /// A hop, with the Prepares that it answered: the first, 0, is the client's neighbour. No memory.
+    pub fn hop(&self, place: usize) -> Option<&Node<A>>
+        ensures { MatchOption result (slice_get self.now.nodes place ≡ None) (λ n. slice_get self.now.nodes place ≡ Some n.now) }
+    {
+        self.nodes.get(place)
+    }
+
+    /// What was written and read of a stream as this end writes it, and what its reader was told: none where nothing was
+    /// accepted or read. No memory.
+    pub fn ledger(&self, side: Side, stream: u8) -> Option<&Ledger<A>>
+        ensures { MatchOption result (fmap.get (at self.now.ledgers (side_seen side)) stream ≡ None) (λ x. fmap.get (at self.now.ledgers (side_seen side)) stream ≡ Some x.now) }
+    {
+        match side {
+            Side::Client => self.from_client.get(stream),
+            Side::Server => self.from_server.get(stream),
+        }
+    }
+}

@@ -1,0 +1,98 @@
+//! A world: what a run has left so far, with the links over which it goes on.
+
+ghost use Rattle.std.specs.Prelude.{◌≡◌, ◌<◌, ℕ, length, take, OnErr, IfOk, IfErr, IsOkUnless};
+ghost use Rattle.st_world.specs.Steps.{Happens};
+ghost use Rattle.st_world.specs.Runs.{Run};
+ghost use Rattle.st_world.specs.State as state;
+ghost use Rattle.st_world.specs.Sides.{at};
+ghost use Rattle.st_nodes.specs.Seen.{side_seen, told_seen};
+ghost use Rattle.st_chain.specs.Seen.{event_seen, events_seen};
+ghost use Rattle.st_chain.specs.Left.{left_of, HoldsOf};
+
+use crate::event::Event;
+use crate::fault::Fault;
+use crate::trace::Trace;
+use st_nodes::{Link, Side, Told};
+use st_world::every_run_holds;
+use std::alloc::Allocator;
+use std::marker::Model;
+
+/// Two ends, the hops between them, and all that was ever put and given on the links. It is reached from the opening of a
+/// chain by events.
+#[derive(Drop)]
+pub struct World<A: Allocator + Copy> {
+    pub(crate) trace: Trace<A>,
+    pub(crate) links: Vec<Link<A>, A>,
+}
+
+impl<A: Allocator + Copy> Model for World<A> {
+    ghost use Rattle.std.specs.Prelude.{◌≡◌, ◌+◌, length};
+    ghost use Rattle.std.specs.Coded.{codes};
+    ghost use Rattle.std.specs.FinMap as map;
+    ghost use Rattle.st_world.specs.State as state;
+    ghost use Rattle.st_chain.specs.Left.{in_world, IsReached};
+
+    ghost Value = { state.World };
+
+    ghost coded = { Prim.hlevel (codes, map.code) };
+
+    ghost view = { λ a. in_world a.trace a.links.items };
+
+    ghost invariant = { λ a. (length a.links.items ≡ length a.trace.nodes + 1) × IsReached (in_world a.trace a.links.items) };
+}
+
+impl<A: Allocator + Copy> World<A> {
+    /// What the run has left so far. No memory.
+    pub fn trace(&self) -> &Trace<A>
+        ensures trace { result.now ≡ left_of self.now }
+        ensures holds { HoldsOf result.now }
+    {
+        every_run_holds();
+        &self.trace
+    }
+
+    /// Whether the connection failed at an end: nothing goes any more. No memory.
+    pub fn is_failed(&self, side: Side) -> bool
+        ensures { result ≡ (at self.now.ends (side_seen side)).state.sending.failed }
+    {
+        self.trace.end(side).is_failed()
+    }
+
+    /// One event. What it told is the answer of the core call, and want of memory where that call found none: the core is
+    /// then as it was, but that the limits of an end may have risen. Where memory for the world's own record of the event is
+    /// refused, nothing has happened.
+    pub fn step(&mut self, event: &Event<'_>) -> Result<Told<A>, Fault>
+        ensures happens { IfOk result (λ told. Happens self.old (event_seen event.now) (told_seen told) self.new) }
+        ensures only_memory { IsOkUnless result Fault.NoMemory }
+        ensures unchanged { OnErr result (self.new ≡ self.old) }
+    {
+        let told = self.trace.take_event(&mut self.links, event)?;
+        Ok(told)
+    }
+
+    /// A whole list of events: what it leaves, or what those before the one left that could not be recorded.
+    pub fn play(mut self, events: &[Event<'_>]) -> Result<Trace<A>, (Fault, Trace<A>)>
+        ensures run { IfOk result (λ t. (w : state.World) × Run self (events_seen events.now) w × (t ≡ left_of w)) }
+        ensures part { IfErr result (λ e. (n : ℕ) × (n < length events.now) × (w : state.World) × Run self (events_seen (take n events.now)) w × (e.1 ≡ left_of w)) }
+        ensures only_memory { IfErr result (λ e. e.0 ≡ Fault.NoMemory) }
+        ensures holds { IfOk result (λ t. HoldsOf t) }
+        ensures part_holds { IfErr result (λ e. HoldsOf e.1) }
+    {
+        for event in events {
+            if let Err(fault) = self.step(event) {
+                return Err((fault, self.into_trace()));
+            }
+        }
+        Ok(self.into_trace())
+    }
+
+    /// What the run has left.
+    fn into_trace(self) -> Trace<A>
+        ensures trace { result ≡ left_of self }
+        ensures holds { HoldsOf result }
+    {
+        every_run_holds();
+        let World { trace, links: _ } = self;
+        trace
+    }
+}
