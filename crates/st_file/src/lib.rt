@@ -15,4 +15,4 @@ pub use error::FileError;
 pub use send::{PIECE, send_all};
 pub use sink::{Chunk, Sink};
 pub use source::Source;
-pub use store::store_all;
+pub use store::{flush_all, store_all, write_piece};

@@ -37,8 +37,9 @@ fn next_bytes<S: Source<A>, A: Allocator + Copy>(
     Err(FileError::Turns(written))
 }
 
-/// Writes bytes whole. It answers how many are written by then.
-fn write_piece<W: Write>(
+/// Writes bytes whole, after so many others. It answers how many are written by then. Each call of the writer takes one of
+/// `turns`.
+pub fn write_piece<W: Write>(
     writer: &mut Counting<W>,
     bytes: &[u8],
     written: u64,
@@ -58,8 +59,9 @@ fn write_piece<W: Write>(
     }
 }
 
-/// Flushes a writer, again where it was interrupted.
-fn flush_all<W: Write>(
+/// Flushes a writer, again where it was interrupted, after so many bytes were written. Each call of the writer takes one of
+/// `turns`.
+pub fn flush_all<W: Write>(
     writer: &mut Counting<W>,
     written: u64,
     turns: &mut u64,

@@ -1,0 +1,17 @@
+-- What an end that is asked answers.
+use Rattle.std.specs.Prelude.{◌≡◌, ◌⊎◌, ℕ, ℤ, List, Option, Some, None}
+use Rattle.st_end.specs.State.{EndState}
+use Rattle.st_end.specs.Receiving.{Received, received, t00_text}
+
+-- a Prepare came at some moment, and this is what became of it
+abbrev pub Takes : EndState → (bytes : List ℕ) → Received → EndState → Type 0
+Takes a bytes r b = (now : ℤ) × (received a bytes now ≡ (r, b))
+
+-- the answer to bytes that came; where memory is wanting T00, or none, and the end is as it was
+abbrev pub Answers : EndState → (bytes : List ℕ) → Option (List ℕ) → EndState → Type 0
+Answers a bytes (Some answer) b = ((r : Received) × Takes a bytes r b × (answer ≡ r.bytes)) ⊎ ((answer ≡ t00_text a.own) × (b ≡ a))
+Answers a bytes None b = b ≡ a
+
+-- an answerer was asked once, or not at all
+abbrev pub AskedOnce : {T : Type 0} → (T → ℕ → List ℕ → Option (List ℕ) → T → Type 0) → T → T → Type 0
+AskedOnce gives old new = (new ≡ old) ⊎ ((account : ℕ) × (body : List ℕ) × (answer : Option (List ℕ)) × gives old account body answer new)

@@ -1,0 +1,29 @@
+-- The numbers by which a program tells why a transfer ended short.
+use Rattle.std.specs.Prelude.{ℕ, Option, None}
+use Rattle.st_desk.specs.Errors as desk
+use Rattle.st_end.specs.Errors as end
+use Rattle.st_file.specs.Errors as file
+use Rattle.st_transfer.specs.declared.error.TransferError.{TransferError}
+use Rattle.st_transfer.specs.declared.error.TransferError.TheVariants.{Failed, Accept, Turns, IvFault, NoMemory, End, Desk, File}
+
+-- each fault has its own number, and what an end, a hop or a file refuses keeps its
+abbrev pub number : TransferError → ℕ
+number Failed = 58
+number Accept = 80
+number Turns = 86
+number IvFault = 90
+number NoMemory = 99
+number (End e) = end.number e
+number (Desk e) = desk.number e
+number (File e) = file.number e
+
+-- the number inside what refused
+abbrev pub inner : TransferError → Option ℕ
+inner Failed = None
+inner Accept = None
+inner Turns = None
+inner IvFault = None
+inner NoMemory = None
+inner (End e) = end.inner e
+inner (Desk e) = desk.inner e
+inner (File e) = file.inner e

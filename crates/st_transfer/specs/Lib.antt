@@ -1,0 +1,7 @@
+pub mod Errors
+pub mod Claims
+pub mod Moments
+pub mod Answering
+pub mod Keeping
+pub mod Inlets
+pub mod Outcomes

@@ -1,0 +1,214 @@
+//! The command `connector`.
+
+ghost use Rattle.std.specs.Prelude.{◌≡◌, ◌≤◌};
+ghost use Rattle.st_desk.specs.Desk.{IsNew};
+
+use crate::claims::{Claims, claim, claim_all};
+use crate::clock::RuntimeClock;
+use crate::error::TransferError;
+use crate::neighbour::{Neighbour, links_to};
+use crate::serving::serve_next;
+use st_desk::{AccountShares, DeskError, HopDesk, Owed, serve};
+use st_hop::HopState;
+use st_http::Answerer;
+use st_link::HttpLink;
+use std::alloc::Global;
+use std::marker::Brand;
+use std::net::{Net, TcpListener, TcpStream};
+use std::sync::ledger::{Blank, Ledger};
+use std::sync::{Mutex, Wait};
+use std::thread;
+use std::thread::Threads;
+
+/// One worker of a connector: it answers requests from the desk, by links of its own.
+#[derive(Drop)]
+struct Server<'a, C: Ledger, D: Ledger, R: Net + Wait + std::time::Clock> {
+    rt: &'a R,
+    desk: &'a Mutex<HopDesk<C, D, Global>>,
+    shares: AccountShares<C, D>,
+    links: Vec<HttpLink<'a, R, Global>>,
+    clock: RuntimeClock<'a, R>,
+}
+
+impl<C: Ledger, D: Ledger, R: Net + Wait + std::time::Clock> Answerer for Server<'_, C, D, R> {
+    ghost gives = { λ _ _ _ _ _. Unit {0} };
+
+    fn answer(&mut self, account: usize, body: &[u8]) -> Option<Vec<u8>> {
+        serve(
+            self.rt,
+            self.desk,
+            &mut self.shares,
+            account,
+            body,
+            self.links.as_mut_slice(),
+            &mut self.clock,
+        )
+        .ok()
+    }
+}
+
+/// Why a worker ended, and what it booked.
+#[derive(Drop)]
+struct Ended<C: Ledger, D: Ledger> {
+    told: Result<(), TransferError>,
+    shares: AccountShares<C, D>,
+}
+
+/// Serves requests, each claimed before it is accepted, until none is left. A connection that cannot be accepted leaves
+/// none to the other workers.
+fn serve_all<C: Ledger, D: Ledger, R: Net + Wait + std::time::Clock>(
+    rt: &R,
+    alloc: Global,
+    listener: &TcpListener,
+    tokens: &[&str],
+    claims: &Mutex<Claims>,
+    requests: u64,
+    turns: u64,
+    mut server: Server<'_, C, D, R>,
+) -> Ended<C, D> {
+    let mut told = Ok(());
+    for _ in 0..requests {
+        if !claim(rt, claims) {
+            break;
+        }
+        told = serve_next(alloc, listener, tokens, &mut server, turns);
+        if told.is_err() {
+            claim_all(rt, claims);
+            break;
+        }
+    }
+    Ended {
+        told,
+        shares: server.shares,
+    }
+}
+
+/// The workers of a connector, each with shares of the desk.
+fn servers<'a, C: Ledger, D: Ledger, R: Net + Wait + std::time::Clock>(
+    rt: &'a R,
+    alloc: Global,
+    desk: &'a Mutex<HopDesk<C, D, Global>>,
+    neighbours: &[Option<Neighbour<'_>>],
+    workers: u8,
+    turns: u64,
+) -> Result<Vec<Server<'a, C, D, R>>, TransferError> {
+    let mut servers = Vec::new(alloc);
+    for _ in 0..workers {
+        let shares = shares_of(rt, desk).map_err(TransferError::Desk)?;
+        let Ok(links) = links_to(alloc, rt, neighbours, turns) else {
+            return Err(TransferError::NoMemory);
+        };
+        let server = Server {
+            rt,
+            desk,
+            shares,
+            links,
+            clock: RuntimeClock::new(rt),
+        };
+        if servers.push(server).is_err() {
+            return Err(TransferError::NoMemory);
+        }
+    }
+    Ok(servers)
+}
+
+/// Shares of a desk that is under its lock.
+fn shares_of<C: Ledger, D: Ledger>(
+    rt: &impl Wait,
+    desk: &Mutex<HopDesk<C, D, Global>>,
+) -> Result<AccountShares<C, D>, DeskError> {
+    desk.lock(rt).shares()
+}
+
+/// What the workers came to: what is owed, or the first fault.
+fn gathered<C: Ledger, D: Ledger>(
+    alloc: Global,
+    mut desk: HopDesk<C, D, Global>,
+    ends: Vec<Ended<C, D>>,
+) -> Result<Owed, TransferError> {
+    let mut all = Vec::new(alloc);
+    for end in ends {
+        let Ended { told, shares } = end;
+        told?;
+        if all.push(shares).is_err() {
+            return Err(TransferError::NoMemory);
+        }
+    }
+    match desk.gather(all) {
+        Ok(owed) => Ok(owed),
+        Err((error, _)) => Err(TransferError::Desk(error)),
+    }
+}
+
+/// A connector under the names that were picked for its ledgers.
+fn run<
+    C: Ledger + Send + Sync,
+    D: Ledger + Send + Sync,
+    R: Net<Listener = TcpListener, Stream = TcpStream> + Threads + Wait + std::time::Clock + Sync,
+>(
+    rt: &R,
+    alloc: Global,
+    listener: &TcpListener,
+    hop: HopState<Global>,
+    claims: Blank,
+    dues: Blank,
+    tokens: &[&str],
+    neighbours: &[Option<Neighbour<'_>>],
+    requests: u64,
+    workers: u8,
+    turns: u64,
+) -> Result<Owed, TransferError>
+    requires fresh { IsNew hop }
+    requires claims { (claims.name ≡ C.name) × (claims.parts ≡ C.parts) × (claims.parts ≡ 64) }
+    requires dues { (dues.name ≡ D.name) × (dues.parts ≡ D.parts) × (dues.parts ≡ 64) }
+{
+    let desk = Mutex::new(HopDesk::<C, D, Global>::new(alloc, hop, claims, dues));
+    let left = Mutex::new(Claims::new(requests));
+    let jobs = servers(rt, alloc, &desk, neighbours, workers, turns)?;
+    let ends = thread::map_vec(
+        rt,
+        jobs,
+        &|server| { serve_all(rt, alloc, listener, tokens, &left, requests, turns, server) },
+    )?;
+    gathered(alloc, desk.into_inner(), ends)
+}
+
+/// Answers so many requests that come to a listener from a hop at which nothing is owed and nothing is open. A request's
+/// token is that of its account, by its place in `tokens`, and what goes on goes to the neighbour at the outgoing
+/// account's place, if there is one.
+///
+/// So many workers serve. Each claims a request before it accepts its connection, and they end when all are claimed. A
+/// connection that fails, is cut off or uses up its `turns` ends alone, and stays claimed. It answers what all accounts
+/// owe the hop then, and what the hop owes them.
+///
+/// Refuses with `Accept` where the listener gives no connection, and then no further request is claimed; with `Desk`
+/// where there are more than 63 workers; and with `NoMemory`. It waits for its workers.
+pub fn connector_on<
+    R: Net<Listener = TcpListener, Stream = TcpStream> + Threads + Wait + std::time::Clock + Sync,
+>(
+    rt: &R,
+    alloc: Global,
+    listener: TcpListener,
+    hop: HopState<Global>,
+    tokens: &[&str],
+    neighbours: &[Option<Neighbour<'_>>],
+    requests: u64,
+    workers: u8,
+    turns: u64,
+) -> Result<Owed, TransferError>
+    requires fresh { IsNew hop }
+{
+    run::<Brand, Brand, R>(
+        rt,
+        alloc,
+        &listener,
+        hop,
+        Blank::new(64),
+        Blank::new(64),
+        tokens,
+        neighbours,
+        requests,
+        workers,
+        turns,
+    )
+}

@@ -1,0 +1,82 @@
+//! What came on stream 1, to the output.
+
+ghost use Rattle.std.specs.Prelude.{◌≡◌, ℕ, List, Option, true, OnOk, IfOk, IfErr};
+ghost use Rattle.st_oer.specs.Tallies.{device_of, tally_of};
+ghost use Rattle.st_receiver.specs.Decided.{got_seen};
+ghost use Rattle.st_end.specs.State as state;
+ghost use Rattle.st_end.specs.declared.error.EndError.TheVariants as refusals;
+ghost use Rattle.st_transfer.specs.Keeping.{Delivers, Gives, Kept, faults_told};
+
+use crate::error::TransferError;
+use st_end::{EndError, EndState};
+use st_file::{FileError, flush_all, write_piece};
+use st_oer::Counting;
+use st_receiver::Got;
+use std::alloc::Global;
+use std::io::Write;
+
+/// The stream on which files and money go.
+pub(crate) const STREAM: u8 = 1;
+
+/// The most bytes of a read.
+const PIECE: usize = 4_096;
+
+/// Whether more is to come on the stream.
+#[derive(Clone, Copy, Debug, PartialEq, Eq)]
+pub(crate) enum Delivered {
+    More,
+    /// All is written, and flushed.
+    Whole,
+}
+
+/// What stream 1 gives next: nothing yet where it is not open. Refused is want of memory alone.
+fn next_of(end: &mut EndState<Global>) -> Result<Got<Global>, EndError>
+    ensures gave { IfOk result (λ got. Gives end.old (got_seen got) end.new) }
+    ensures refused { IfErr result (λ e. (e ≡ refusals.NoMemory) × (end.new ≡ end.old)) }
+{
+    match end.read(STREAM, PIECE) {
+        Ok(got) => Ok(got),
+        Err(EndError::NoStream) => Ok(Got::Nothing),
+        Err(error) => Err(error),
+    }
+}
+
+/// Reads all that can be read on stream 1, and writes and flushes it, after so many bytes were written. Each call of the
+/// stream or the writer takes one of `turns`.
+pub(crate) fn deliver<W: Write>(
+    end: &mut EndState<Global>,
+    writer: &mut Counting<W>,
+    written: &mut u64,
+    turns: &mut u64,
+) -> Result<Delivered, TransferError>
+    ensures kept { (start : state.EndState) (before : Option (List ℕ)) → Kept start before end.old (W.contents (device_of writer.old)) written.old → Delivers start before end.new (W.contents (device_of writer.new)) written.new result }
+    ensures flushed { OnOk result ((tally_of writer.new).flushed ≡ true) }
+    ensures faults { (tally_of writer.new).faults ≡ faults_told result (tally_of writer.old).faults }
+{
+    while *turns > 0 {
+        *turns -= 1;
+        match next_of(end) {
+            Ok(Got::Bytes(bytes)) => match write_piece(writer, &bytes, *written, turns) {
+                Ok(by_then) => *written = by_then,
+                Err(error) => return Err(TransferError::File(error)),
+            },
+            Ok(Got::Nothing) => {
+                return match flush_all(writer, *written, turns) {
+                    Ok(()) => Ok(Delivered::More),
+                    Err(error) => Err(TransferError::File(error)),
+                };
+            }
+            Ok(Got::End) => {
+                return match flush_all(writer, *written, turns) {
+                    Ok(()) => Ok(Delivered::Whole),
+                    Err(error) => Err(TransferError::File(error)),
+                };
+            }
+            Ok(Got::Aborted(code)) => {
+                return Err(TransferError::File(FileError::Aborted(code, *written)));
+            }
+            Err(error) => return Err(TransferError::End(error)),
+        }
+    }
+    Err(TransferError::File(FileError::Turns(*written)))
+}

@@ -1,0 +1,29 @@
+//! An end that answers requests.
+
+use st_desk::Clock;
+use st_end::{EndState, Received};
+use st_http::Answerer;
+use std::alloc::Global;
+
+/// An end of a connection that answers the Prepares of its peer. Where memory is refused it answers T00, and where there
+/// is none for that either, nothing.
+#[derive(Drop)]
+pub(crate) struct Receiver<K: Clock> {
+    pub(crate) end: EndState<Global>,
+    pub(crate) clock: K,
+    pub(crate) alloc: Global,
+}
+
+impl<K: Clock> Answerer for Receiver<K> {
+    ghost use Rattle.st_transfer.specs.Answering.{Answers};
+
+    ghost gives = { λ old _ body answer new. Answers old.end body answer new.end };
+
+    fn answer(&mut self, _account: usize, body: &[u8]) -> Option<Vec<u8>> {
+        let now = self.clock.now();
+        match self.end.receive(body, now) {
+            Ok(Received { bytes, .. }) => Some(bytes),
+            Err(_) => Vec::from_slice(self.alloc, self.end.t00()).ok(),
+        }
+    }
+}
