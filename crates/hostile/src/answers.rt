@@ -1,0 +1,47 @@
+//! The bytes of Fulfills and Rejects (RFC 0027), lawful and hostile.
+
+use crate::prepares::{packet_bytes, put_octets};
+use crate::samples::Samples;
+use std::alloc::{AllocError, Global};
+
+/// The Fulfill of 32 zero bytes, without data.
+pub const FULFILL: &[u8] = b"\x0d\x21\
+\0\0\0\0\0\0\0\0\0\0\0\0\0\0\0\0\0\0\0\0\0\0\0\0\0\0\0\0\0\0\0\0\0";
+
+/// What hostile answers are made from.
+pub const ANSWERS: Samples<'static> = Samples {
+    lawful: &[
+        FULFILL,
+        b"\x0d\x240123456789abcdef0123456789abcdef\x03abc",
+        b"\x0e\x0fT04\x09example.c\0\0",
+        b"\x0e\x0aR00\0\x02\xc3\xa9\x02ab",
+    ],
+    fronts: &[b"", b"\x0d\x21", b"\x0e\x0fT04", b"\x0e\x0aF99\0\x02"],
+    common: b"\0\x01\x02\x09\x0d\x0e\x21\x7f\x80\x81\xff09.ab",
+    behind: 50,
+};
+
+/// The bytes of a Fulfill.
+pub fn fulfill_bytes(
+    alloc: Global,
+    fulfillment: &[u8; 32],
+    payload: &[u8],
+) -> Result<Vec<u8>, AllocError> {
+    let mut contents = Vec::from_slice(alloc, fulfillment)?;
+    put_octets(&mut contents, payload)?;
+    packet_bytes(alloc, 13, &contents)
+}
+
+/// The bytes of a Reject without a message.
+pub fn reject_bytes(
+    alloc: Global,
+    code: &[u8; 3],
+    by: &[u8],
+    payload: &[u8],
+) -> Result<Vec<u8>, AllocError> {
+    let mut contents = Vec::from_slice(alloc, code)?;
+    put_octets(&mut contents, by)?;
+    put_octets(&mut contents, b"")?;
+    put_octets(&mut contents, payload)?;
+    packet_bytes(alloc, 14, &contents)
+}

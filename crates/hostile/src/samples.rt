@@ -1,0 +1,164 @@
+//! Hostile bytes.
+
+use crate::numbers::Numbers;
+use std::alloc::{AllocError, Global};
+
+/// What hostile bytes of a format are made from.
+#[derive(Clone, Copy)]
+pub struct Samples<'a> {
+    /// Lawful messages.
+    pub lawful: &'a [&'a [u8]],
+    /// Fronts of lawful messages.
+    pub fronts: &'a [&'a [u8]],
+    /// Bytes that such messages often have.
+    pub common: &'a [u8],
+    /// Fewer random bytes than this stand behind a front.
+    pub behind: u64,
+}
+
+/// What a message is changed to at each place: its front up to there, and the whole with one of these bytes there.
+pub const EDGES: [Option<u8>; 5] = [None, Some(0x00), Some(0x7f), Some(0x80), Some(0xff)];
+
+/// The bytes up to a place, and where a byte is to stand there, that byte and the rest.
+pub fn changed_at(
+    alloc: Global,
+    bytes: &[u8],
+    at: usize,
+    byte: Option<u8>,
+) -> Result<Vec<u8>, AllocError> {
+    let (front, behind) = bytes.split_at(at.min(bytes.len()));
+    let mut out = front.to_vec(alloc)?;
+    if let (Some(byte), [_, rest @ ..]) = (byte, behind) {
+        out.push(byte)?;
+        out.extend_from_slice(rest)?;
+    }
+    Ok(out)
+}
+
+impl<'a> Samples<'a> {
+    /// Hostile bytes: one half of them a lawful message with one to three changes, one half random bytes behind a front.
+    pub fn hostile(&self, alloc: Global, numbers: &mut Numbers) -> Result<Vec<u8>, AllocError> {
+        if numbers.below(2) == 0 {
+            self.random(alloc, numbers)
+        } else {
+            let lawful = numbers.pick(self.lawful);
+            self.changed(alloc, numbers, lawful)
+        }
+    }
+
+    /// Random bytes behind a front.
+    fn random(&self, alloc: Global, numbers: &mut Numbers) -> Result<Vec<u8>, AllocError> {
+        let mut out = numbers.pick(self.fronts).to_vec(alloc)?;
+        let count = numbers.below(self.behind);
+        self.put_random(&mut out, numbers, count)?;
+        Ok(out)
+    }
+
+    fn put_random(
+        &self,
+        out: &mut Vec<u8>,
+        numbers: &mut Numbers,
+        count: u64,
+    ) -> Result<(), AllocError> {
+        for _ in 0..count {
+            out.push(numbers.byte(self.common))?;
+        }
+        Ok(())
+    }
+
+    /// These bytes with one to three changes.
+    pub fn changed(
+        &self,
+        alloc: Global,
+        numbers: &mut Numbers,
+        bytes: &[u8],
+    ) -> Result<Vec<u8>, AllocError> {
+        let mut out = self.changed_once(alloc, numbers, bytes)?;
+        for _ in 0..numbers.below(3) {
+            out = self.changed_once(alloc, numbers, &out)?;
+        }
+        Ok(out)
+    }
+
+    /// These bytes with one change, at any place, also behind the last.
+    fn changed_once(
+        &self,
+        alloc: Global,
+        numbers: &mut Numbers,
+        bytes: &[u8],
+    ) -> Result<Vec<u8>, AllocError> {
+        let at = numbers.place(bytes.len().saturating_add(1));
+        let (front, rest) = bytes.split_at(at.min(bytes.len()));
+        let mut out = front.to_vec(alloc)?;
+        if numbers.below(2) == 0 {
+            self.put_other_run(&mut out, numbers, rest)?;
+        } else {
+            self.put_other_length(&mut out, numbers, rest)?;
+        }
+        Ok(out)
+    }
+
+    /// The rest, whose first one to eight bytes are replaced, removed, doubled or overwritten.
+    fn put_other_run(
+        &self,
+        out: &mut Vec<u8>,
+        numbers: &mut Numbers,
+        rest: &[u8],
+    ) -> Result<(), AllocError> {
+        let size = numbers.place(8).saturating_add(1);
+        let (run, behind) = rest.split_at(size.min(rest.len()));
+        match numbers.below(4) {
+            0 => self.put_random(out, numbers, run.len() as u64)?,
+            1 => {}
+            2 => {
+                out.extend_from_slice(run)?;
+                out.extend_from_slice(run)?;
+            }
+            _ => {
+                let edge = numbers.pick(&[b"\x00", b"\x7f", b"\x80", b"\xff"]);
+                for _ in run {
+                    out.extend_from_slice(edge)?;
+                }
+            }
+        }
+        out.extend_from_slice(behind)
+    }
+
+    /// Nothing; the tail of another lawful message; or the rest, with its first byte (which may be a length) one more or one
+    /// less, or behind one to eight random bytes, by whose number one of the first bytes may be raised.
+    fn put_other_length(
+        &self,
+        out: &mut Vec<u8>,
+        numbers: &mut Numbers,
+        rest: &[u8],
+    ) -> Result<(), AllocError> {
+        let size = numbers.below(8).saturating_add(1);
+        match numbers.below(5) {
+            0 => Ok(()),
+            1 => {
+                let other = numbers.pick(self.lawful);
+                let (_, tail) = other.split_at(numbers.place(other.len()));
+                out.extend_from_slice(tail)
+            }
+            2 => put_shifted(out, numbers, rest),
+            choice => {
+                let at = numbers.place(out.len().min(8));
+                if let (3, Some(length)) = (choice, out.get_mut(at)) {
+                    *length = length.wrapping_add((size & 0xff) as u8);
+                }
+                self.put_random(out, numbers, size)?;
+                out.extend_from_slice(rest)
+            }
+        }
+    }
+}
+
+/// The bytes, with the first of them one more or one less.
+fn put_shifted(out: &mut Vec<u8>, numbers: &mut Numbers, bytes: &[u8]) -> Result<(), AllocError> {
+    if let [first, behind @ ..] = bytes {
+        let shift = if numbers.below(2) == 0 { 1 } else { 255 };
+        out.push(first.wrapping_add(shift))?;
+        out.extend_from_slice(behind)?;
+    }
+    Ok(())
+}

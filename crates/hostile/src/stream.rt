@@ -1,0 +1,213 @@
+//! STREAM packets (RFC 0029, section 5.2) once more, from their bytes to their fields.
+
+use crate::ilp::is_address;
+use crate::oer;
+use crate::refusal::Refusal;
+use std::alloc::{AllocError, Global};
+
+/// A known frame: its index over all frames, its type, its numbers in the order of RFC 0029, section 5.3, with 0 for those
+/// that it has not, and its text, address or data, if it has one.
+#[derive(Clone, Copy)]
+pub struct PlainFrame<'a> {
+    pub index: u64,
+    pub kind: u8,
+    pub numbers: [u64; 3],
+    pub bytes: &'a [u8],
+}
+
+impl<'a> PlainFrame<'a> {
+    /// Whether this is the same frame.
+    pub fn is(&self, other: &PlainFrame<'_>) -> bool {
+        let [a, b, c] = self.numbers;
+        let [x, y, z] = other.numbers;
+        self.index == other.index
+            && self.kind == other.kind
+            && a == x
+            && b == y
+            && c == z
+            && self.bytes == other.bytes
+    }
+}
+
+/// A packet's numbers and its known frames.
+#[derive(Drop)]
+pub struct PlainPacket<'a> {
+    pub sequence: u64,
+    pub amount: u64,
+    pub frames: Vec<PlainFrame<'a>>,
+}
+
+/// A field of a frame's contents.
+#[derive(Clone, Copy)]
+enum Field {
+    Byte,
+    Number,
+    Limit,
+    Data,
+    Text,
+    Address,
+}
+
+/// The fields of a known frame (RFC 0029, section 5.3).
+fn fields(kind: u8) -> Option<&'static [Field]> {
+    let fields: &'static [Field] = match kind {
+        0x01 => &[Field::Byte, Field::Text],
+        0x02 => &[Field::Address],
+        0x03 | 0x04 => &[Field::Limit],
+        0x10 => &[Field::Number, Field::Byte, Field::Text],
+        0x11 => &[Field::Number, Field::Number],
+        0x12 | 0x13 => &[Field::Number, Field::Limit, Field::Limit],
+        0x14 => &[Field::Number, Field::Number, Field::Data],
+        0x15 | 0x16 => &[Field::Number, Field::Limit],
+        _ => return None,
+    };
+    Some(fields)
+}
+
+/// The number of a field, or its bytes, and the rest. None where it is malformed.
+fn read_field(kind: Field, bytes: &[u8]) -> Option<(u64, &[u8], &[u8])> {
+    match kind {
+        Field::Byte => oer::uint8(bytes)
+            .ok()
+            .map(|(byte, rest)| (u64::from(byte), &bytes[..0], rest)),
+        Field::Number => oer::var_uint(bytes)
+            .ok()
+            .map(|(number, rest)| (number, &bytes[..0], rest)),
+        Field::Limit => oer::limit(bytes)
+            .ok()
+            .map(|(number, rest)| (number, &bytes[..0], rest)),
+        Field::Data | Field::Text | Field::Address => {
+            let (text, rest) = oer::octets(bytes).ok()?;
+            let is_lawful = match kind {
+                Field::Text => std::str::from_utf8(text).is_ok(),
+                Field::Address => text.is_empty() || is_address(text),
+                _ => true,
+            };
+            if is_lawful {
+                Some((0, text, rest))
+            } else {
+                None
+            }
+        }
+    }
+}
+
+/// A known frame of these contents. None where they are malformed.
+fn known<'a>(index: u64, kind: u8, fields: &[Field], contents: &'a [u8]) -> Option<PlainFrame<'a>> {
+    let mut frame = PlainFrame {
+        index,
+        kind,
+        numbers: [0; 3],
+        bytes: &contents[..0],
+    };
+    let mut rest = contents;
+    let mut place = 0usize;
+    for kind in fields {
+        let (number, bytes, behind) = read_field(*kind, rest)?;
+        rest = behind;
+        match kind {
+            Field::Byte | Field::Number | Field::Limit => {
+                if let Some(slot) = frame.numbers.get_mut(place) {
+                    *slot = number;
+                }
+                place = place.saturating_add(1);
+            }
+            Field::Data | Field::Text | Field::Address => frame.bytes = bytes,
+        }
+    }
+    Some(frame)
+}
+
+/// The type and the contents of a frame, and the rest.
+fn raw(bytes: &[u8]) -> Result<(u8, &[u8], &[u8]), u64> {
+    let (kind, rest) = oer::uint8(bytes)?;
+    let (contents, rest) = oer::octets(rest)?;
+    Ok((kind, contents, rest))
+}
+
+/// A packet's numbers: sequence, amount and count of frames.
+#[derive(Clone, Copy)]
+struct Skeleton<'a> {
+    sequence: u64,
+    amount: u64,
+    count: u64,
+    frames: &'a [u8],
+}
+
+/// The numbers of a packet, whose frames have types and lengths.
+fn read_skeleton(bytes: &[u8]) -> Result<Skeleton<'_>, u64> {
+    let (sequence, rest) = oer::var_uint(bytes)?;
+    let (amount, rest) = oer::var_uint(rest)?;
+    let (count, frames) = oer::var_uint(rest)?;
+    let mut rest = frames;
+    for _ in 0..count {
+        let (_, _, behind) = raw(rest)?;
+        rest = behind;
+    }
+    Ok(Skeleton {
+        sequence,
+        amount,
+        count,
+        frames,
+    })
+}
+
+/// The bytes behind version and kind.
+fn behind_kind(bytes: &[u8], kind: u8) -> Result<&[u8], Refusal> {
+    if bytes.len() > 32_739 {
+        return Err(Refusal::alone(24));
+    }
+    match bytes {
+        [] => Err(Refusal::around(22, 1)),
+        [version, ..] if *version != 1 => Err(Refusal::alone(20)),
+        [_] => Err(Refusal::around(22, 1)),
+        [_, other, ..] if *other != kind => Err(Refusal::alone(21)),
+        [_, _, rest @ ..] => Ok(rest),
+    }
+}
+
+/// The known frames, or the index of the first whose contents are malformed.
+fn known_frames<'a>(
+    alloc: Global,
+    skeleton: Skeleton<'a>,
+) -> Result<Result<Vec<PlainFrame<'a>>, u64>, AllocError> {
+    let mut frames = Vec::new(alloc);
+    let mut rest = skeleton.frames;
+    for index in 0..skeleton.count {
+        let Ok((kind, contents, behind)) = raw(rest) else {
+            return Ok(Err(index));
+        };
+        rest = behind;
+        if let Some(fields) = fields(kind) {
+            match known(index, kind, fields, contents) {
+                Some(frame) => frames.push(frame)?,
+                None => return Ok(Err(index)),
+            }
+        }
+    }
+    Ok(Ok(frames))
+}
+
+/// The packet that bytes spell, which a packet of this kind carried, or the first rule that they break.
+pub fn packet<'a>(
+    alloc: Global,
+    bytes: &'a [u8],
+    kind: u8,
+) -> Result<Result<PlainPacket<'a>, Refusal>, AllocError> {
+    let rest = match behind_kind(bytes, kind) {
+        Ok(rest) => rest,
+        Err(refusal) => return Ok(Err(refusal)),
+    };
+    let skeleton = match read_skeleton(rest) {
+        Ok(skeleton) => skeleton,
+        Err(fault) => return Ok(Err(Refusal::around(22, fault))),
+    };
+    match known_frames(alloc, skeleton)? {
+        Ok(frames) => Ok(Ok(PlainPacket {
+            sequence: skeleton.sequence,
+            amount: skeleton.amount,
+            frames,
+        })),
+        Err(index) => Ok(Err(Refusal::around(23, index))),
+    }
+}
