@@ -72,15 +72,18 @@ fn take_all(ring: &mut WriteEnd<Global>) -> u64 {
     came
 }
 
-/// The first ring.
-fn first_lane<N: HubName<Global>>(mut lanes: Vec<WriteLane<Global>>) -> Option<WriteLane<Global>>
+/// The ring of this number.
+fn lane_at<N: HubName<Global>>(
+    mut lanes: Vec<WriteLane<Global>>,
+    ring: usize,
+) -> Option<WriteLane<Global>>
     requires { AllNamed N.write_ring lanes.items }
-    ensures { IfSome result (λ x. Fresh 0 x × IsOurs N.write_ring x) }
+    ensures { IfSome result (λ x. Fresh ring x × IsOurs N.write_ring x) }
 {
-    if lanes.is_empty() {
+    if ring >= lanes.len() {
         return None;
     }
-    Some(lanes.swap_remove(0))
+    Some(lanes.swap_remove(ring))
 }
 
 fn pass_named<N: HubName<Global> + Send + Sync, R: Threads + Sync>(
@@ -95,7 +98,7 @@ fn pass_named<N: HubName<Global> + Send + Sync, R: Threads + Sync>(
     requires reads { (k : ℕ) → N.read_ring k ≡ ring_at rings.reads k }
 {
     let Named { writes, .. } = rings.named::<N>();
-    let mut lane = first_lane::<N>(writes)?;
+    let mut lane = lane_at::<N>(writes, 0)?;
     let mut writer = lane.hand_out::<N>(alloc)?;
     let WriteLane { mut end, .. } = lane;
     let (_, came) = thread::join(
