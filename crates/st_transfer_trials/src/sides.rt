@@ -3,7 +3,7 @@ ghost use Rattle.std.specs.Prelude.{◌≡◌, IfOk};
 ghost use Rattle.st_desk.specs.Desk as desk;
 
 use st_hop::{Account, HopError, HopState, Route};
-use st_oer::Counting;
+use st_oer::{Counting, is_address};
 use st_sender::EndConfig;
 use st_transfer::{
     Neighbour, RuntimeClock, TransferError, client_end, connector_on, receive_on, send_on,
@@ -20,6 +20,10 @@ use std::thread::Threads;
 pub(crate) const TURNS: u64 = 1_000_000;
 
 const SECRET: [u8; 32] = [7; 32];
+
+const SENDER: &str = "test.a";
+
+const RECEIVER: &str = "test.b";
 
 /// The packets of a connection, in all and in flight.
 fn config() -> Option<EndConfig> {
@@ -77,7 +81,10 @@ pub(crate) fn receive_into<W: Write, R: std::time::Clock>(
     let Some(config) = config() else {
         return Err(TransferError::NoMemory);
     };
-    match server_end(alloc, SECRET, "test.b", "test.a", config) {
+    if !is_address(SENDER) || !is_address(RECEIVER) {
+        return Err(TransferError::NoMemory);
+    }
+    match server_end(alloc, SECRET, RECEIVER, SENDER, config) {
         Ok(end) => {
             let clock = RuntimeClock::new(rt);
             receive_on(
@@ -172,7 +179,10 @@ pub(crate) fn send_by<
     let (Some(config), Some(neighbour)) = (config(), Neighbour::new(host, token)) else {
         return Err(TransferError::NoMemory);
     };
-    match client_end(alloc, SECRET, "test.a", "test.b", config) {
+    if !is_address(SENDER) || !is_address(RECEIVER) {
+        return Err(TransferError::NoMemory);
+    }
+    match client_end(alloc, SECRET, SENDER, RECEIVER, config) {
         Ok(end) => send_on(
             rt, alloc, end, neighbour, input, random, money, workers, turns,
         ),
