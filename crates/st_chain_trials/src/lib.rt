@@ -1,0 +1,14 @@
+//! Tests of a world: worked schedules read by their traces, each of their requests for memory refused in turn, and seeded
+//! schedules whose sums are kept apart.
+#![tactic(auto)]
+
+#[cfg(test)]
+mod memory;
+#[cfg(test)]
+mod numbers;
+#[cfg(test)]
+mod rows;
+#[cfg(test)]
+mod seeded;
+#[cfg(test)]
+mod sums;
