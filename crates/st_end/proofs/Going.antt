@@ -1,6 +1,6 @@
 -- A load that goes: it can be spelled, its Prepare is one, and the end after it is lawful.
 use Rattle.std.proofs.Common.{◌≡◌, ◌≢◌, ℕ, Bool, true, false, cond, Option, Some, None, Ok, refl, ap, ◌∙◌, sym, subst, List, [], ◌∷◌, ◌++◌, length, nat_eq, arith, ℤ, inl, inr}
-use Rattle.std.specs.Prelude.{is_some, MatchOption}
+use Rattle.std.specs.Prelude.{is_some, IfSome, MatchOption}
 use Rattle.std.specs.List.{AllByRecursion, position, position_or_len}
 use Rattle.std.specs.Ordering.{nat_cmp}
 use Rattle.std.specs.FinMap as map
@@ -22,7 +22,7 @@ use Rattle.st_sender.specs.Loads.{Sends, with_flight, IsIdle}
 use Rattle.st_receiver.specs.Limits.{limits}
 use Rattle.st_end.specs.declared.flight.Open.{Open}
 use Rattle.st_end.specs.State.{EndState}
-use Rattle.st_end.specs.Sending.{Goes, GoesNone}
+use Rattle.st_end.specs.Sending.{Goes, GoesNone, IsFilledUp}
 use Rattle.st_end.specs.Inside.{IsSpellable, IsSpelled}
 use Rattle.st_end.specs.Lawful.{IsLawful}
 
@@ -128,6 +128,9 @@ sends_this s t own o p e h = subst (λ (x : Option Load). Gave s own t x) e h
 pub sends_none : (s t : Sending) (own : List Known) (o : Option Load) → o ≡ None → MatchOption o (IsIdle s own max_packet × (t ≡ s)) (λ q. Sends s own max_packet q t) → IsIdle s own max_packet × (t ≡ s)
 sends_none s t own o e h = subst (λ (x : Option Load). Gave s own t x) e h
 
+pub filled_this : (s : Sending) (own : List Known) (o : Option Load) (p : Load) → o ≡ Some p → IfSome o (IsFilledUp s own) → IsFilledUp s own p
+filled_this s own o p e h = subst (λ (x : Option Load). IfSome x (IsFilledUp s own)) e h
+
 pub none_goes : (e before : EndState) (t : Sending) → e ≡ before → IsIdle e.sending (limits e.receiving) max_packet × (t ≡ e.sending) → GoesNone before × ◌≡◌ {A = EndState} (record e { sending = t }) before
 none_goes e before t same h = (subst GoesNone same (inr h.0), ap (λ (x : Sending). record e { sending = x }) h.1 ∙ same)
 
@@ -137,15 +140,16 @@ undone e before t m same a b =
     ap (λ (x : Sending). record e { sending = x; conditions = m }) a ∙ ap (λ (y : map.FinMap nat_cmp (List ℕ)). record e { conditions = y }) b ∙ same
 
 pub goes : (e before : EndState) (t : Sending) (m : map.FinMap nat_cmp (List ℕ)) (p : Load) (iv bytes : List ℕ) (now : ℤ) (flight : Open) → e ≡ before → e.receiving.closed ≡ false
-    → Sends e.sending (limits e.receiving) max_packet p t → IsSpelled e.keys e.peer iv now p flight bytes → m ≡ map.insert e.conditions flight.sequence flight.condition
+    → Sends e.sending (limits e.receiving) max_packet p t → IsFilledUp e.sending (limits e.receiving) p → IsSpelled e.keys e.peer iv now p flight bytes → m ≡ map.insert e.conditions flight.sequence flight.condition
     → Goes before iv now flight bytes (record e { sending = t; conditions = m })
-goes e before t m p iv bytes now flight same open_still s x k =
+goes e before t m p iv bytes now flight same open_still s full x k =
     subst (λ (b : EndState). Goes b iv now flight bytes (record e { sending = t; conditions = m })) same (record {
       load = p;
       payload = x.payload;
       sending = t;
       unclosed = open_still;
       sends = s;
+      filled = full;
       spells = x.spells;
       sealed = x.sealed;
       lawful = x.lawful;

@@ -2,11 +2,13 @@
 use Rattle.std.specs.Prelude.{◌≡◌, ◌⊎◌, ℕ, ◌<◌, ◌^◌, Bool, true, false, ℤ, pos, ◌+ℤ◌, List, bytes_eq, is_some, if◌then◌else◌, Ok}
 use Rattle.std.specs.declared.option.Option.{Option}
 use Rattle.std.specs.declared.option.Option.TheVariants.{None, Some}
+use Rattle.std.specs.List.{AllByRecursion}
 use Rattle.std.specs.FinMap.{get, insert}
 use Rattle.st_ilp.specs.Packets.{PreparePacket}
 use Rattle.st_ilp.specs.Spelling.{prepare_kind, prepare_text}
 use Rattle.st_ilp.specs.Laws.{IsPrepare}
-use Rattle.st_frames.specs.Frames.{max_packet}
+use Rattle.st_oer.specs.Ratios.{ratio}
+use Rattle.st_frames.specs.Frames.{Known, max_packet}
 use Rattle.st_frames.specs.Written.{AllFit}
 use Rattle.st_keys.specs.Keys.{fulfillment, condition}
 use Rattle.st_keys.specs.Sealed.{sealed_packet}
@@ -14,6 +16,8 @@ use Rattle.st_sender.specs.Sending as sender
 use Rattle.st_sender.specs.Sending.{Load, Sending}
 use Rattle.st_sender.specs.Flights.{flight_at}
 use Rattle.st_sender.specs.Loads.{Sends, IsIdle}
+use Rattle.st_sender.specs.Filling.{Fills}
+use Rattle.st_sender.specs.Plain.{IsFilled, left_room}
 use Rattle.st_receiver.specs.Limits.{limits}
 use Rattle.st_end.specs.declared.flight.Open.{Open}
 use Rattle.st_end.specs.State.{EndState}
@@ -60,6 +64,12 @@ pub record Spells (p : Load) : Type 0 where
   pub least : p.least < 2 ^ 64
   pub frames : AllFit p.frames
 
+-- how full a load is: each frame of data has what its room lets it have, and where all that is sent should arrive, the
+-- load has all that may go
+pub record IsFilledUp (s : Sending) (own : List Known) (p : Load) : Type 0 where
+  pub each : AllByRecursion (IsFilled s (left_room max_packet p.frames)) p.frames
+  pub whole : s.config.least ≡ ratio 1 1 → Fills s own max_packet p
+
 -- a flight with this IV at this moment, its bytes, and the end after it
 pub record Goes (e : EndState) (iv : List ℕ) (now : ℤ) (flight : Open) (bytes : List ℕ) (after : EndState) : Type 0 where
   pub load : Load
@@ -67,6 +77,7 @@ pub record Goes (e : EndState) (iv : List ℕ) (now : ℤ) (flight : Open) (byte
   pub sending : Sending
   pub unclosed : e.receiving.closed ≡ false
   pub sends : Sends e.sending (limits e.receiving) max_packet load sending
+  pub filled : IsFilledUp e.sending (limits e.receiving) load
   pub spells : Spells load
   pub sealed : sealed_packet e.keys iv prepare_kind load.sequence load.least load.frames ≡ Ok payload
   pub lawful : IsPrepare (prepare_for e now load.amount payload)

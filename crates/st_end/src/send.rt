@@ -1,6 +1,6 @@
 //! What an end sends.
 
-ghost use Rattle.std.specs.Prelude.{◌≡◌, true, Ok, IfOk, OnOk, OnErr, IsOkUnless, MatchOption};
+ghost use Rattle.std.specs.Prelude.{◌≡◌, true, Ok, IfOk, IfSome, OnOk, OnErr, IsOkUnless, MatchOption};
 ghost use Rattle.std.specs.FinMap as map;
 ghost use Rattle.st_oer.specs.Address.{is_address};
 ghost use Rattle.st_ilp.specs.Laws.{IsPrepare};
@@ -10,7 +10,7 @@ ghost use Rattle.st_keys.specs.Sealed.{sealed_packet};
 ghost use Rattle.st_frames.specs.Frames.{max_packet};
 ghost use Rattle.st_receiver.specs.Limits.{limits};
 ghost use Rattle.st_sender.specs.Loads.{IsIdle, Sends};
-ghost use Rattle.st_end.specs.Sending.{Spells, Goes, GoesNone};
+ghost use Rattle.st_end.specs.Sending.{Spells, Goes, GoesNone, IsFilledUp};
 ghost use Rattle.st_end.specs.Inside.{IsSpellable, IsSpelled};
 
 use crate::conditions::Conditions;
@@ -35,6 +35,7 @@ fn next_load<A: Allocator + Copy>(
 ) -> Result<Option<Load<A>>, EndError>
     ensures only_memory { IsOkUnless result EndError.NoMemory }
     ensures sends { IfOk result (λ r. MatchOption r (IsIdle outbox.old (limits intake.now.state) max_packet × (outbox.new ≡ outbox.old)) (λ load. Sends outbox.old (limits intake.now.state) max_packet load outbox.new)) }
+    ensures filled { IfOk result (λ r. IfSome r (IsFilledUp outbox.old (limits intake.now.state))) }
     ensures unchanged { OnErr result (outbox.new ≡ outbox.old) }
 {
     let Ok(limits) = intake.limits() else {

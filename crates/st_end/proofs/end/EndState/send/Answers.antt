@@ -1,7 +1,7 @@
-use Rattle.std.proofs.Common.{◌≡◌, refl, subst, List, ℕ, [], false, rules}
+use Rattle.std.proofs.Common.{◌≡◌, refl, subst, List, ℕ, false, rules}
 use Rattle.st_receiver.specs.Limits.{limits}
 use Rattle.st_end.specs.Inside.{IsSpelled}
-use Rattle.st_end.proofs.Going.{spellable, sends_this, sends_none, sent_lawful, same_lawful, none_goes, undone, goes}
+use Rattle.st_end.proofs.Going.{spellable, sends_this, filled_this, sends_none, sent_lawful, same_lawful, none_goes, undone, goes}
 use Rattle.st_end.proofs.end.EndState.send.Goals as goal
 
 pub invariant_of-self-in_default : goal.invariant_of-self-in_default
@@ -39,7 +39,8 @@ returns-in-Ok-clause-goes g c =
     let sends = sends_this c.self.inside.outbox c.next_load.new.outbox own c.in_ok-load.field-0 c.in-Some.load c.in-Some.is c.in_ok-load.ensures.sends in
     let spelled = subst (λ (peer : List ℕ). IsSpelled c.self.inside.keys peer c.args.iv c.args.now c.in-Some.load c.in-Ok.sent.0 c.in-Ok.sent.1.items) c.as_str.ensures.value c.in-Ok.ensures.spelled in
     let open_still : c.self.inside.intake.state.closed ≡ false = search rules in
-    goes _ c.args.self.now c.next_load.new.outbox c.launch.new.conditions c.in-Some.load c.args.iv c.in-Ok.sent.1.items c.args.now c.in-Ok.sent.0 c.self.view_is open_still sends spelled c.in-Ok.ensures.kept
+    let full = filled_this c.self.inside.outbox own c.in_ok-load.field-0 c.in-Some.load c.in-Some.is c.in_ok-load.ensures.filled in
+    goes _ c.args.self.now c.next_load.new.outbox c.launch.new.conditions c.in-Some.load c.args.iv c.in-Ok.sent.1.items c.args.now c.in-Ok.sent.0 c.self.view_is open_still sends full spelled c.in-Ok.ensures.kept
 
 pub returns-in-Err-clause-unchanged : goal.returns-in-Err-clause-unchanged
 returns-in-Err-clause-unchanged g c =
