@@ -8,6 +8,7 @@ use crate::clock::RuntimeClock;
 use crate::error::TransferError;
 use crate::neighbour::{Neighbour, links_to};
 use crate::serving::serve_next;
+use crate::terms::ConnectTerms;
 use st_desk::{AccountShares, DeskError, HopDesk, Owed, serve};
 use st_hop::HopState;
 use st_http::Answerer;
@@ -60,18 +61,16 @@ fn serve_all<C: Ledger, D: Ledger, R: Net + Wait + std::time::Clock>(
     rt: &R,
     alloc: Global,
     listener: &TcpListener,
-    tokens: &[&str],
     claims: &Mutex<Claims>,
-    requests: u64,
-    turns: u64,
+    terms: ConnectTerms<'_>,
     mut server: Server<'_, C, D, R>,
 ) -> Ended<C, D> {
     let mut told = Ok(());
-    for _ in 0..requests {
+    for _ in 0..terms.requests {
         if !claim(rt, claims) {
             break;
         }
-        told = serve_next(alloc, listener, tokens, &mut server, turns);
+        told = serve_next(alloc, listener, terms.tokens, &mut server, terms.turns);
         if told.is_err() {
             claim_all(rt, claims);
             break;
@@ -88,14 +87,12 @@ fn servers<'a, C: Ledger, D: Ledger, R: Net + Wait + std::time::Clock>(
     rt: &'a R,
     alloc: Global,
     desk: &'a Mutex<HopDesk<C, D, Global>>,
-    neighbours: &[Option<Neighbour<'_>>],
-    workers: u8,
-    turns: u64,
+    terms: ConnectTerms<'_>,
 ) -> Result<Vec<Server<'a, C, D, R>>, TransferError> {
     let mut servers = Vec::new(alloc);
-    for _ in 0..workers {
+    for _ in 0..terms.workers {
         let shares = shares_of(rt, desk).map_err(TransferError::Desk)?;
-        let Ok(links) = links_to(alloc, rt, neighbours, turns) else {
+        let Ok(links) = links_to(alloc, rt, terms.neighbours, terms.turns) else {
             return Err(TransferError::NoMemory);
         };
         let server = Server {
@@ -152,23 +149,19 @@ fn run<
     hop: HopState<Global>,
     claims: Blank,
     dues: Blank,
-    tokens: &[&str],
-    neighbours: &[Option<Neighbour<'_>>],
-    requests: u64,
-    workers: u8,
-    turns: u64,
+    terms: ConnectTerms<'_>,
 ) -> Result<Owed, TransferError>
     requires fresh { IsNew hop }
     requires claims { (claims.name ≡ C.name) × (claims.parts ≡ C.parts) × (claims.parts ≡ 64) }
     requires dues { (dues.name ≡ D.name) × (dues.parts ≡ D.parts) × (dues.parts ≡ 64) }
 {
     let desk = Mutex::new(HopDesk::<C, D, Global>::new(alloc, hop, claims, dues));
-    let left = Mutex::new(Claims::new(requests));
-    let jobs = servers(rt, alloc, &desk, neighbours, workers, turns)?;
+    let left = Mutex::new(Claims::new(terms.requests));
+    let jobs = servers(rt, alloc, &desk, terms)?;
     let ends = thread::map_vec(
         rt,
         jobs,
-        &|server| { serve_all(rt, alloc, listener, tokens, &left, requests, turns, server) },
+        &|server| { serve_all(rt, alloc, listener, &left, terms, server) },
     )?;
     gathered(alloc, desk.into_inner(), ends)
 }
@@ -198,6 +191,13 @@ pub fn connector_on<
 ) -> Result<Owed, TransferError>
     requires fresh { IsNew hop }
 {
+    let terms = ConnectTerms {
+        tokens,
+        neighbours,
+        requests,
+        workers,
+        turns,
+    };
     run::<Brand, Brand, R>(
         rt,
         alloc,
@@ -205,10 +205,6 @@ pub fn connector_on<
         hop,
         Blank::new(64),
         Blank::new(64),
-        tokens,
-        neighbours,
-        requests,
-        workers,
-        turns,
+        terms,
     )
 }

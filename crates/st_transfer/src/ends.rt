@@ -2,13 +2,33 @@
 
 ghost use Rattle.std.specs.Prelude.{◌≡◌, true, IfOk, IsOkUnless};
 ghost use Rattle.st_oer.specs.Address.{is_address};
+ghost use Rattle.st_keys.specs.Keys.{keys_of};
 ghost use Rattle.st_hub.specs.Hub.{IsNew};
+ghost use Rattle.st_end.specs.State as state;
 ghost use Rattle.st_end.specs.declared.error.EndError.TheVariants as refusals;
+ghost use Rattle.st_end.specs.declared.role.Role.TheVariants as roles;
 
 use st_end::{EndError, EndState, Role};
 use st_keys::Keys;
 use st_sender::EndConfig;
 use std::alloc::Global;
+
+/// An end on this side of a connection. Refused is want of memory alone.
+fn end_of(
+    alloc: Global,
+    role: Role,
+    secret: [u8; 32],
+    own: &str,
+    peer: &str,
+    config: EndConfig,
+) -> Result<EndState<Global>, EndError>
+    requires own { is_address own.now ≡ true }
+    requires peer { is_address peer.now ≡ true }
+    ensures only_memory { IsOkUnless result refusals.NoMemory }
+    ensures opening { IfOk result (λ e. e ≡ state.new_end role (keys_of secret) own.now peer.now config) }
+{
+    EndState::new(alloc, role, Keys::of(secret), own, peer, config)
+}
 
 /// The end that `send` sends from: the client. Refused is want of memory alone.
 pub fn client_end(
@@ -21,9 +41,10 @@ pub fn client_end(
     requires own { is_address own.now ≡ true }
     requires peer { is_address peer.now ≡ true }
     ensures only_memory { IsOkUnless result refusals.NoMemory }
+    ensures opening { IfOk result (λ e. e ≡ state.new_end roles.Client (keys_of secret) own.now peer.now config) }
     ensures new { IfOk result IsNew }
 {
-    EndState::new(alloc, Role::Client, Keys::of(secret), own, peer, config)
+    end_of(alloc, Role::Client, secret, own, peer, config)
 }
 
 /// The end that `receive` receives at: the server. Refused is want of memory alone.
@@ -37,7 +58,8 @@ pub fn server_end(
     requires own { is_address own.now ≡ true }
     requires peer { is_address peer.now ≡ true }
     ensures only_memory { IsOkUnless result refusals.NoMemory }
+    ensures opening { IfOk result (λ e. e ≡ state.new_end roles.Server (keys_of secret) own.now peer.now config) }
     ensures new { IfOk result IsNew }
 {
-    EndState::new(alloc, Role::Server, Keys::of(secret), own, peer, config)
+    end_of(alloc, Role::Server, secret, own, peer, config)
 }

@@ -19,6 +19,7 @@ mod receive;
 mod receiver;
 mod send;
 mod serving;
+mod terms;
 mod workers;
 
 pub use clock::RuntimeClock;

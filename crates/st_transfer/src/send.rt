@@ -13,6 +13,7 @@ use crate::error::TransferError;
 use crate::inlet::{Inlet, Until};
 use crate::ivs::ReaderIvs;
 use crate::neighbour::Neighbour;
+use crate::terms::SendTerms;
 use crate::workers::work_alone;
 use st_end::EndState;
 use st_file::{FileError, send_all};
@@ -128,15 +129,13 @@ fn work_by<
     gauge: &Gauge<N, Global>,
     seat: &Mutex<GaugeSeat<N, Global>>,
     ivs: &Mutex<I>,
-    neighbour: Neighbour<'_>,
-    count: u8,
-    turns: u64,
+    terms: SendTerms<'_>,
 ) -> Result<Vec<WorkEnd>, AllocError> {
     thread::map_indices(
         rt,
         alloc,
-        usize::from(count),
-        &|_| { work_alone(rt, alloc, hub, gauge, seat, ivs, neighbour, turns) },
+        usize::from(terms.workers),
+        &|_| { work_alone(rt, alloc, hub, gauge, seat, ivs, terms) },
     )
 }
 
@@ -171,9 +170,7 @@ fn transfer<
     seat: &mut GaugeSeat<N, Global>,
     input: I,
     random: G,
-    neighbour: Neighbour<'_>,
-    count: u8,
-    turns: u64,
+    terms: SendTerms<'_>,
 ) -> Result<u64, TransferError>
     ensures { IfOk result (λ n. IfSome (I.remaining input) (λ bytes. n ≡ counted (length bytes))) }
 {
@@ -182,10 +179,8 @@ fn transfer<
     let ivs = Mutex::new(ReaderIvs::new(random));
     let (ends, fed) = thread::join(
         rt,
-        || work_by(
-            rt, alloc, &hub, gauge, &theirs, &ivs, neighbour, count, turns,
-        ),
-        || feed(rt, alloc, input, writer, gauge, seat, turns),
+        || work_by(rt, alloc, &hub, gauge, &theirs, &ivs, terms),
+        || feed(rt, alloc, input, writer, gauge, seat, terms.turns),
     );
     match ends {
         Ok(ends) => told(&hub.into_inner(), fed, &ends),
@@ -205,12 +200,9 @@ fn run<
     end: EndState<Global>,
     rings: Rings<Global>,
     blank: Blank,
-    neighbour: Neighbour<'_>,
     input: I,
     random: G,
-    money: u64,
-    count: u8,
-    turns: u64,
+    terms: SendTerms<'_>,
 ) -> Result<u64, TransferError>
     requires fresh { IsNew end }
     requires gauge { rings.gauge ≡ N.gauge }
@@ -220,9 +212,9 @@ fn run<
     ensures { IfOk result (λ n. IfSome (I.remaining input) (λ bytes. n ≡ counted (length bytes))) }
 {
     let (mut hub, gauge, mut seat) = HubState::<N, Global>::new(end, rings, blank);
-    match open(&mut hub, money) {
+    match open(&mut hub, terms.money) {
         Ok(writer) => transfer(
-            rt, alloc, hub, writer, &gauge, &mut seat, input, random, neighbour, count, turns,
+            rt, alloc, hub, writer, &gauge, &mut seat, input, random, terms,
         ),
         Err(error) => Err(error),
     }
@@ -257,17 +249,11 @@ pub fn send_on<
     let Ok(rings) = Rings::new(alloc) else {
         return Err(TransferError::NoMemory);
     };
-    run::<Brand, I, G, R>(
-        rt,
-        alloc,
-        end,
-        rings,
-        Blank::new(64),
+    let terms = SendTerms {
         neighbour,
-        input,
-        random,
         money,
-        count,
+        workers: count,
         turns,
-    )
+    };
+    run::<Brand, I, G, R>(rt, alloc, end, rings, Blank::new(64), input, random, terms)
 }

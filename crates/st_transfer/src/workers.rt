@@ -3,7 +3,8 @@
 use crate::clock::RuntimeClock;
 use crate::delivery::STREAM;
 use crate::ivs::SharedIvs;
-use crate::neighbour::{Neighbour, link_to};
+use crate::neighbour::link_to;
+use crate::terms::SendTerms;
 use st_hub::{HubState, Ivs, WorkEnd, work};
 use st_link::HttpLink;
 use st_queues::{Gauge, GaugeSeat, HubName};
@@ -52,8 +53,8 @@ fn work_on<N: HubName<Global>, I: Ivs, R: Net + Wait + std::time::Clock>(
     WorkEnd::Turns
 }
 
-/// Works for a hub over a link of its own until stream 1 is settled, for at most so many turns, and then asks the other
-/// workers to stop.
+/// Works for a hub over a link of its own until stream 1 is settled, for at most as many turns as the terms have, and then
+/// asks the other workers to stop.
 pub(crate) fn work_alone<N: HubName<Global>, I: Ivs, R: Net + Wait + std::time::Clock>(
     rt: &R,
     alloc: Global,
@@ -61,12 +62,11 @@ pub(crate) fn work_alone<N: HubName<Global>, I: Ivs, R: Net + Wait + std::time::
     gauge: &Gauge<N, Global>,
     seat: &Mutex<GaugeSeat<N, Global>>,
     ivs: &Mutex<I>,
-    neighbour: Neighbour<'_>,
-    turns: u64,
+    terms: SendTerms<'_>,
 ) -> WorkEnd {
     let mut seat = split_seat(rt, gauge, seat);
-    let told = match link_to(alloc, rt, neighbour, turns) {
-        Ok(mut link) => work_on(rt, hub, gauge, &mut seat, ivs, &mut link, turns),
+    let told = match link_to(alloc, rt, terms.neighbour, terms.turns) {
+        Ok(mut link) => work_on(rt, hub, gauge, &mut seat, ivs, &mut link, terms.turns),
         Err(_) => WorkEnd::NoMemory,
     };
     gauge.ask_stop(&mut seat);
