@@ -1,0 +1,4 @@
+pub mod Quiet
+pub mod Left
+pub mod Rounds
+pub mod Mirrored

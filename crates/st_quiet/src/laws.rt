@@ -1,0 +1,76 @@
+//! What holds of every quiet run, over the definitions alone. These functions do nothing: the contract is the law.
+
+ghost use Rattle.std.specs.Prelude.{◌≡◌, ℕ, ◌+◌, ◌<◌, ◌≤◌, true, false, List, [], ◌∷◌, ◌^◌, length, sum, Contains};
+ghost use Rattle.std.specs.List.{AllByRecursion, list_any};
+ghost use Rattle.std.specs.FinMap.{get};
+ghost use Rattle.std.specs.declared.option.Option.TheVariants.{None, Some};
+ghost use Rattle.st_tables.specs.Slots.{slot};
+ghost use Rattle.st_frames.specs.Frames.{ConnectionMaxData, Known, StreamClose, StreamMaxData, max_packet};
+ghost use Rattle.st_frames.specs.Told.{money_in, names, shares};
+ghost use Rattle.st_reassembly.specs.Held.{Held, after_insert};
+ghost use Rattle.st_reassembly.specs.Run.{IsRun};
+ghost use Rattle.st_sender.specs.Sending.{Config, Load, Outgoing, Sending, outgoing_at};
+ghost use Rattle.st_sender.specs.Flights.{flight_of};
+ghost use Rattle.st_sender.specs.Due.{IsDue};
+ghost use Rattle.st_sender.specs.Loads.{IsIdle, Sends, load_with, with_flight};
+ghost use Rattle.st_sender.specs.Filling.{Fills};
+ghost use Rattle.st_sender.specs.Answering.{after_fulfilled};
+ghost use Rattle.st_receiver.specs.Streams.{Receiving, incoming_at, may_name};
+ghost use Rattle.st_receiver.specs.Limits.{capped, connection_limit, reply_frames};
+ghost use Rattle.st_receiver.specs.Data.{frames_fault};
+ghost use Rattle.st_receiver.specs.Money.{is_over_max, money_fault, parts};
+ghost use Rattle.st_receiver.specs.Judged.{after_all};
+ghost use Rattle.st_quiet.specs.Quiet.{IsQuiet};
+ghost use Rattle.st_quiet.specs.Left.{all_frames_left, all_money_left, bound, work_left};
+ghost use Rattle.st_quiet.specs.Rounds.{IsDone, IsOpening, IsSmall, PeerTells, Rounds, TellsEnough};
+ghost use Rattle.st_quiet.specs.Mirrored.{IsMirrored, IsOn};
+
+/// From the opening on a quiet run has fewer Sends than the bound; so there is room in it for the one that gives none.
+pub fn sends_are_bounded()
+    ensures bounded { (n : ℕ → ℕ) (config : Config) (m : ℕ) (s t : Sending) → IsOpening n config s → Rounds n m s t → m + 1 ≤ bound n s }
+    ensures sharper { (n : ℕ → ℕ) (config : Config) (m : ℕ) (s t : Sending) → IsOpening n config s → Rounds n m s t → m + work_left n t ≤ work_left n s }
+    ensures quiet { (n : ℕ → ℕ) (config : Config) (m : ℕ) (s t : Sending) → IsOpening n config s → Rounds n m s t → IsQuiet n t }
+{}
+
+/// While bytes, money or a close are left, a Send can't give none; where nothing is left, it gives none, and all is done.
+pub fn a_send_stops_at_the_end()
+    ensures goes { (n : ℕ → ℕ) (s : Sending) (limits : List Known) → IsQuiet n s → 0 < work_left n s → ¬ IsIdle s limits max_packet }
+    ensures stops { (n : ℕ → ℕ) (s : Sending) (limits : List Known) (p : Load) → IsQuiet n s → work_left n s ≡ 0 → ¬ Sends s limits max_packet p (with_flight s p) }
+    ensures closes { (n : ℕ → ℕ) (s : Sending) (limits : List Known) (k : ℕ) (x : Outgoing)
+        → IsQuiet n s → all_frames_left n s ≡ 0 → all_money_left s ≡ 0 → outgoing_at s k ≡ Some x → x.clean_settled ≡ false
+        → (let p = load_with s (StreamClose k 1 [] ∷ []) in Sends s limits max_packet p (with_flight s p) × Fills s limits max_packet p) }
+    ensures done { (n : ℕ → ℕ) (s : Sending) (k : ℕ) (x : Outgoing) → IsQuiet n s → work_left n s ≡ 0 → outgoing_at s k ≡ Some x → IsDone (n k) x }
+{}
+
+/// What a server tells that had read all that went before is enough for the next Send: its windows of 65,536 and
+/// 1,048,576 bytes leave 16,000 past the longest load, and its receive max leaves room for all money that was offered.
+pub fn a_reply_tells_enough()
+    ensures { (n : ℕ → ℕ) (s : Sending) (limits : List Known) (p : Load) (told : List Known)
+        → IsQuiet n s → Sends s limits max_packet p (with_flight s p) → Fills s limits max_packet p → IsSmall s → PeerTells s p told
+        → TellsEnough (after_fulfilled (with_flight s p) (flight_of p)) told }
+{}
+
+/// No frame of such a load breaks a rule of the server, and taking them leaves what it has read.
+pub fn a_load_breaks_no_rule()
+    ensures fine { (n : ℕ → ℕ) (s : Sending) (limits : List Known) (p : Load) (r : Receiving)
+        → IsQuiet n s → Sends s limits max_packet p (with_flight s p) → IsMirrored s r → frames_fault r p.frames ≡ None }
+    ensures reads { (s : Sending) (limits : List Known) (r : Receiving) (amount : ℕ) (fs : List Known) (k : ℕ)
+        → AllByRecursion (IsDue s limits) fs → (incoming_at (after_all r amount fs) k).held.read ≡ (incoming_at r k).held.read }
+    ensures money { (r : Receiving) (amount : ℕ) (fs : List Known)
+        → sum (shares fs) ≡ amount → r.credit + amount < 2 ^ 63 → ((k : ℕ) → is_over_max (slot r.streams k) (money_in k fs) ≡ false) → money_fault r amount fs ≡ None }
+    ensures split { (ms : List ℕ) → 0 < sum ms → parts (sum ms) ms ≡ ms }
+{}
+
+/// A reply tells the connection's limit, and the window of each stream that a frame of the request names.
+pub fn a_reply_tells_each_window()
+    ensures connection { (r : Receiving) (fs : List Known) → Contains (reply_frames r fs) (ConnectionMaxData (connection_limit r)) }
+    ensures window { (r : Receiving) (fs : List Known) (k : ℕ)
+        → 1 ≤ k → k ≤ 64 → may_name r k ≡ true → list_any (names k) fs ≡ true → Contains (reply_frames r fs) (StreamMaxData k (capped ((incoming_at r k).held.read + 65536))) }
+{}
+
+/// What came is held, and a run of what is held in a row takes it all.
+pub fn a_read_takes_all()
+    ensures held { (xs : List ℕ) (o q : ℕ) (s : Held) → IsOn s → s.read ≤ q → o ≤ q → q < o + length xs → (b : ℕ) × (get (after_insert o xs s).bytes q ≡ Some b) }
+    ensures run { (s : Held) (run : List ℕ) (end : ℕ) → IsRun s run → s.read ≤ end
+        → ((q : ℕ) → s.read ≤ q → q < end → (b : ℕ) × (get s.bytes q ≡ Some b)) → ((q : ℕ) → end ≤ q → get s.bytes q ≡ None) → s.read + length run ≡ end }
+{}
