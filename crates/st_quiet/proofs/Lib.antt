@@ -16,7 +16,8 @@ pub mod Enough
 pub mod Receiving
 pub mod Taken
 pub mod Reading
-pub mod Replies
-pub mod Effects
+pub mod Leaving
 pub mod Credited
+pub mod Fulfilling
+pub mod Replies
 pub mod Closing

@@ -153,7 +153,7 @@ no_data_due n s k o xs quiet none due =
     let a = at.0 in let b = at.1 in
     omega (arith, a, b, acked, w)
 
-clean_asked : (n : ℕ → ℕ) (s : Sending) (k c : ℕ) (x : Outgoing) → IsQuiet n s → outgoing_at s k ≡ Some x → IsAbort x c ⊎ IsCleanClose x c → (c ≡ 1) × (x.clean_settled ≡ false)
+pub clean_asked : (n : ℕ → ℕ) (s : Sending) (k c : ℕ) (x : Outgoing) → IsQuiet n s → outgoing_at s k ≡ Some x → IsAbort x c ⊎ IsCleanClose x c → (c ≡ 1) × (x.clean_settled ≡ false)
 clean_asked n s k c x quiet e (inl h) = absurd (let a = (quiet.streams k x e).alive in let b = h.asked in let clash : ◌≡◌ {A = Option ℕ} None (Some c) = sym a ∙ b in cc)
 clean_asked n s k c x quiet e (inr h) = (h.code_is, h.unsettled)
 

@@ -176,7 +176,7 @@ left_after n s k fs (Some x) e fits none =
     omega (arith, same, paid, offered, l)
 
 -- money only on streams that are open
-none_in : (s : Sending) (limits : List Known) (k : ℕ) (fs : List Known) → AllByRecursion (IsDue s limits) fs → outgoing_at s k ≡ None → money_in k fs ≡ 0
+pub none_in : (s : Sending) (limits : List Known) (k : ℕ) (fs : List Known) → AllByRecursion (IsDue s limits) fs → outgoing_at s k ≡ None → money_in k fs ≡ 0
 none_in s limits k [] due e = refl
 none_in s limits k (f ∷ fs) due e = let rest = none_in s limits k fs due.1 e in let c = sum_by-cons (money_of k) f fs in let one = none_of f due.0 in omega (arith, rest, c, one)
   where

@@ -32,10 +32,11 @@ FrameFits ends r (StreamMoney k n) = may_name r k ≡ true
 FrameFits ends r (StreamClose k code message) = may_name r k ≡ true
 FrameFits ends r f = Unit {0}
 
--- frames open streams and leave every read count
+-- frames open streams, and leave every read count and every abort
 pub record IsOpened (r t : Receiving) : Type 0 where
   pub names : (k : ℕ) → may_name r k ≡ true → may_name t k ≡ true
   pub reads : (k : ℕ) → (incoming_at t k).held.read ≡ (incoming_at r k).held.read
+  pub aborted : (k : ℕ) → (incoming_at t k).held.aborted ≡ (incoming_at r k).held.aborted
 
 -- ---- the split: where what comes is what was sent, each stream gets its shares
 
@@ -70,6 +71,17 @@ sum_slots g h (x ∷ xs) a below =
     let rest = sum_slots g h xs (a + 1) (λ i l. let p : a + 1 + i ≡ a + suc i = omega arith in rw p (below (suc i) (omega arith))) in
     omega (arith, s0, s1, first_at, rest)
 
+pub sum_slots_same : (g : Option Incoming → ℕ) (h : ℕ → ℕ) (xs : Slots Incoming) (a : ℕ) → ((i : ℕ) → g (slot xs i) ≡ h (a + i)) → sum (map g xs) ≡ sum (map h (range_with_len a (length xs)))
+sum_slots_same g h [] a same = refl
+sum_slots_same g h (x ∷ xs) a same =
+    let s0 = sum_next (g x) (map g xs) in
+    let s1 = sum_next (h a) (map h (range_with_len (a + 1) (length xs))) in
+    let first : g x ≡ h (a + 0) = same 0 in
+    let place : a + 0 ≡ a = omega arith in
+    let first_at : g x ≡ h a = rw place at first in
+    let rest = sum_slots_same g h xs (a + 1) (λ i. let p : a + 1 + i ≡ a + suc i = omega arith in rw p (same (suc i))) in
+    omega (arith, s0, s1, first_at, rest)
+
 sum_raised : (g : Option Incoming → ℕ) (xs : Slots Incoming) (k : ℕ) (y : Incoming) → g (slot xs k) ≤ g (Some y) → sum (map g xs) ≤ sum (map g (set xs k (Some y)))
 sum_raised g [] k y l = omega arith
 sum_raised g (x ∷ xs) zero y l = let s0 = sum_next (g x) (map g xs) in let s1 = sum_next (g (Some y)) (map g xs) in omega (arith, s0, s1, l)
@@ -82,7 +94,7 @@ names_if true true c d h = refl
 names_if true false c d h = h
 names_if false b c d h = h
 
-read_some : (x : Incoming) → x.held.aborted ≡ None → read_of (Some x) ≡ x.held.read
+pub read_some : (x : Incoming) → x.held.aborted ≡ None → read_of (Some x) ≡ x.held.read
 read_some x alive = rw alive refl
 
 read_slot : (fresh : Incoming) (o : Option Incoming) → (incoming_or fresh o).held.aborted ≡ None → read_of o ≤ (incoming_or fresh o).held.read
@@ -95,16 +107,21 @@ in_place r k y j = elim (slot_cases r.streams k y j) [
   | inr h ↦ inr h
 ]
 
-pub replaced_opened : (r : Receiving) (k : ℕ) (y : Incoming) → y.held.read ≡ (incoming_at r k).held.read → IsOpened r (with_incoming r k y)
-replaced_opened r k y same = record {
+-- a change of one stream leaves what it keeps of that stream at all
+pub replaced_at : {A : Type 0} (g : Incoming → A) (r : Receiving) (k : ℕ) (y : Incoming) (j : ℕ) → g y ≡ g (incoming_at r k) → g (incoming_at (with_incoming r k y) j) ≡ g (incoming_at r j)
+replaced_at g r k y j same = elim (in_place r k y j) [
+  | inl h ↦ rw (h.0) (ap g h.1 ∙ same)
+  | inr h ↦ ap (λ o. g (incoming_or (fresh_incoming (slice_index r.kept j)) o)) h
+]
+
+replaced_opened : (r : Receiving) (k : ℕ) (y : Incoming) → y.held.read ≡ (incoming_at r k).held.read → y.held.aborted ≡ (incoming_at r k).held.aborted → IsOpened r (with_incoming r k y)
+replaced_opened r k y same alike = record {
   names = λ j may. elim (in_place r k y j) [
     | inl h ↦ (let some : is_open (with_incoming r k y) j ≡ true = rw (h.0) (ap is_some h.2) in rw some (names_if (nat_le 1 j) (nat_le j 64) (is_open r j) (not (nat_eq (j % 2) r.parity)) may))
     | inr h ↦ (let as_was : is_open (with_incoming r k y) j ≡ is_open r j = ap is_some h in rw as_was may)
   ];
-  reads = λ j. elim (in_place r k y j) [
-    | inl h ↦ rw (h.0) (ap (λ (x : Incoming). x.held.read) h.1 ∙ same)
-    | inr h ↦ ap (λ o. (incoming_or (fresh_incoming (slice_index r.kept j)) o).held.read) h
-  ];
+  reads = λ j. replaced_at (λ x. x.held.read) r k y j same;
+  aborted = λ j. replaced_at (λ x. x.held.aborted) r k y j alike;
 }
 
 replaced_calm : (ends : ℕ → ℕ) (r : Receiving) (k : ℕ) (y : Incoming) → IsCalm ends r → y.highest ≤ ends k → y.held.read ≡ (incoming_at r k).held.read → y.held.aborted ≡ None → IsCalm ends (with_incoming r k y)
@@ -159,15 +176,15 @@ frame_calm ends r (StreamClose k code message) calm fits = opened_calm ends r k 
 frame_calm ends r f calm fits = calm
 
 pub opened_same : (r : Receiving) → IsOpened r r
-opened_same r = record { names = λ k may. may; reads = λ k. refl }
+opened_same r = record { names = λ k may. may; reads = λ k. refl; aborted = λ k. refl }
 
 opened_then : (r t u : Receiving) → IsOpened r t → IsOpened t u → IsOpened r u
-opened_then r t u a b = record { names = λ k may. b.names k (a.names k may); reads = λ k. b.reads k ∙ a.reads k }
+opened_then r t u a b = record { names = λ k may. b.names k (a.names k may); reads = λ k. b.reads k ∙ a.reads k; aborted = λ k. b.aborted k ∙ a.aborted k }
 
 frame_opened : (r : Receiving) (f : Known) → IsOpened r (after_frame r f)
-frame_opened r (StreamData k o xs) = replaced_opened r k (with_data o xs (incoming_at r k)) (joins_after o xs (incoming_at r k).held).read
-frame_opened r (StreamMoney k n) = replaced_opened r k (incoming_at r k) refl
-frame_opened r (StreamClose k code message) = replaced_opened r k (incoming_at r k) refl
+frame_opened r (StreamData k o xs) = let joins = joins_after o xs (incoming_at r k).held in replaced_opened r k (with_data o xs (incoming_at r k)) joins.read joins.aborted
+frame_opened r (StreamMoney k n) = replaced_opened r k (incoming_at r k) refl refl
+frame_opened r (StreamClose k code message) = replaced_opened r k (incoming_at r k) refl refl
 frame_opened r f = opened_same r
 
 fits_on : (ends : ℕ → ℕ) (r t : Receiving) (f : Known) → IsOpened r t → FrameFits ends r f → FrameFits ends t f

@@ -5,25 +5,23 @@ ghost use Rattle.std.specs.List.{AllByRecursion, list_any};
 ghost use Rattle.std.specs.FinMap.{get};
 ghost use Rattle.std.specs.declared.option.Option.TheVariants.{None, Some};
 ghost use Rattle.st_tables.specs.Slots.{slot};
-ghost use Rattle.st_frames.specs.Frames.{ConnectionMaxData, Known, StreamClose, StreamMaxData, max_packet};
+ghost use Rattle.st_frames.specs.Frames.{ConnectionMaxData, Known, Packet, StreamClose, StreamMaxData, frames_of, max_packet};
 ghost use Rattle.st_frames.specs.Told.{money_in, names, shares};
 ghost use Rattle.st_reassembly.specs.Held.{Held, after_insert};
 ghost use Rattle.st_reassembly.specs.Run.{IsRun};
 ghost use Rattle.st_sender.specs.Sending.{Config, Load, Outgoing, Sending, outgoing_at};
-ghost use Rattle.st_sender.specs.Flights.{flight_of};
 ghost use Rattle.st_sender.specs.Due.{IsDue};
 ghost use Rattle.st_sender.specs.Loads.{IsIdle, Sends, load_with, with_flight};
 ghost use Rattle.st_sender.specs.Filling.{Fills};
-ghost use Rattle.st_sender.specs.Answering.{after_fulfilled};
 ghost use Rattle.st_receiver.specs.Streams.{Receiving, incoming_at, may_name};
 ghost use Rattle.st_receiver.specs.Limits.{capped, connection_limit, reply_frames};
 ghost use Rattle.st_receiver.specs.Data.{frames_fault};
 ghost use Rattle.st_receiver.specs.Money.{is_over_max, money_fault, parts};
-ghost use Rattle.st_receiver.specs.Judged.{after_all};
+ghost use Rattle.st_receiver.specs.Judged.{after_all, effect, fault_of};
 ghost use Rattle.st_quiet.specs.Quiet.{IsQuiet};
 ghost use Rattle.st_quiet.specs.Left.{all_frames_left, all_money_left, bound, work_left};
-ghost use Rattle.st_quiet.specs.Rounds.{IsDone, IsOpening, IsSmall, PeerTells, Rounds, TellsEnough};
-ghost use Rattle.st_quiet.specs.Mirrored.{IsMirrored, IsOn};
+ghost use Rattle.st_quiet.specs.Rounds.{once_fulfilled, IsDone, IsOpening, IsSmall, PeerTells, Rounds, TellsEnough};
+ghost use Rattle.st_quiet.specs.Mirrored.{IsAbreast, IsMirrored, IsOn, IsPacketOf};
 
 /// From the opening on a quiet run has fewer Sends than the bound; so there is room in it for the one that gives none.
 pub fn sends_are_bounded()
@@ -47,7 +45,7 @@ pub fn a_send_stops_at_the_end()
 pub fn a_reply_tells_enough()
     ensures { (n : ℕ → ℕ) (s : Sending) (limits : List Known) (p : Load) (told : List Known)
         → IsQuiet n s → Sends s limits max_packet p (with_flight s p) → Fills s limits max_packet p → IsSmall s → PeerTells s p told
-        → TellsEnough (after_fulfilled (with_flight s p) (flight_of p)) told }
+        → TellsEnough (once_fulfilled s p) told }
 {}
 
 /// No frame of such a load breaks a rule of the server, and taking them leaves what it has read.
@@ -66,6 +64,21 @@ pub fn a_reply_tells_each_window()
     ensures connection { (r : Receiving) (fs : List Known) → Contains (reply_frames r fs) (ConnectionMaxData (connection_limit r)) }
     ensures window { (r : Receiving) (fs : List Known) (k : ℕ)
         → 1 ≤ k → k ≤ 64 → may_name r k ≡ true → list_any (names k) fs ≡ true → Contains (reply_frames r fs) (StreamMaxData k (capped ((incoming_at r k).held.read + 65536))) }
+{}
+
+/// A receiver that is abreast of the sender fulfills each load of a quiet run.
+pub fn a_load_is_fulfilled()
+    ensures { (n : ℕ → ℕ) (s : Sending) (limits : List Known) (p : Load) (q : Packet) (r : Receiving)
+        → IsQuiet n s → Sends s limits max_packet p (with_flight s p) → IsAbreast s r → IsPacketOf p q → fault_of r q p.amount ≡ None }
+{}
+
+/// Its reply tells what it had read and credited, and so enough for the next Send.
+pub fn a_fulfill_tells_enough()
+    ensures tells { (n : ℕ → ℕ) (s : Sending) (limits : List Known) (p : Load) (q : Packet) (r : Receiving)
+        → IsQuiet n s → Sends s limits max_packet p (with_flight s p) → IsAbreast s r → IsPacketOf p q → PeerTells s p (reply_frames (effect r q p.amount) (frames_of q)) }
+    ensures enough { (n : ℕ → ℕ) (s : Sending) (limits : List Known) (p : Load) (q : Packet) (r : Receiving)
+        → IsQuiet n s → Sends s limits max_packet p (with_flight s p) → Fills s limits max_packet p → IsSmall s → IsAbreast s r → IsPacketOf p q
+        → TellsEnough (once_fulfilled s p) (reply_frames (effect r q p.amount) (frames_of q)) }
 {}
 
 /// What came is held, and a run of what is held in a row takes it all.

@@ -1,7 +1,7 @@
 use Rattle.st_quiet.proofs.laws.a_load_breaks_no_rule.Goals as goal
 use Rattle.st_quiet.proofs.Receiving.{parts_are_shares}
 use Rattle.st_quiet.proofs.Taken.{load_taken}
-use Rattle.st_quiet.proofs.Effects.{effect_reads}
+use Rattle.st_quiet.proofs.Leaving.{effect_reads}
 use Rattle.st_quiet.proofs.Credited.{money_fine}
 
 pub returns-clause-fine : goal.returns-clause-fine
