@@ -58,7 +58,7 @@ pub shares_amount : (s : Sending) (limits : List Known) (p : Load) → length s.
 unfolding shares
 shares_amount s limits p slots sends = all_over_streams s limits p.frames slots sends.due ∙ sym (ap (λ (z : Load). z.amount) sends.load)
 
-part_within : (n : ℕ → ℕ) (s : Sending) (limits : List Known) (p : Load) (r : Receiving) (k : ℕ) (o : Option Outgoing) → IsQuiet n s → Sends s limits max_packet p (with_flight s p) → IsAbreast s r → outgoing_at s k ≡ o
+part_within : (n : ℕ → ℕ) (s : Sending) (limits : List Known) (p : Load) (r : Receiving) (k : ℕ) (o : Option Outgoing) → IsQuiet n s → Sends s limits max_packet p (with_flight s p) → IsAbreast n s r → outgoing_at s k ≡ o
     → (incoming_at r k).credited + money_in k p.frames ≤ (incoming_at r k).receive_max
 part_within n s limits p r k None quiet sends abreast e = let none = none_in s limits k p.frames sends.due e in let within = abreast.within k in omega (arith, none, within)
 part_within n s limits p r k (Some x) quiet sends abreast e =
@@ -73,7 +73,7 @@ part_within n s limits p r k (Some x) quiet sends abreast e =
 pub amount_left : (n : ℕ → ℕ) (s : Sending) (limits : List Known) (p : Load) → IsQuiet n s → Sends s limits max_packet p (with_flight s p) → p.amount ≤ all_money_left s
 amount_left n s limits p quiet sends = let m = money_after n s limits max_packet p (with_flight s p) quiet sends in omega (arith, m)
 
-pub load_money : (n : ℕ → ℕ) (s : Sending) (limits : List Known) (p : Load) (r : Receiving) → IsQuiet n s → Sends s limits max_packet p (with_flight s p) → IsAbreast s r → money_fault (after_frames r p.frames) p.amount p.frames ≡ None
+pub load_money : (n : ℕ → ℕ) (s : Sending) (limits : List Known) (p : Load) (r : Receiving) → IsQuiet n s → Sends s limits max_packet p (with_flight s p) → IsAbreast n s r → money_fault (after_frames r p.frames) p.amount p.frames ≡ None
 load_money n s limits p r quiet sends abreast =
     let fs = p.frames in
     let is = shares_amount s limits p quiet.slots sends in

@@ -34,7 +34,7 @@ least_most n s limits p quiet sends =
     at_most : (least amount all arrives : ℕ) → amount ≡ all → least ≡ min (2 ^ 64 - 1) arrives → arrives ≡ all → least ≤ amount
     at_most least amount all arrives a b c = omega (arith, a, b, c)
 
-pub load_fulfilled : (n : ℕ → ℕ) (s : Sending) (limits : List Known) (p : Load) (q : Packet) (r : Receiving) → IsQuiet n s → Sends s limits max_packet p (with_flight s p) → IsAbreast s r → IsPacketOf p q → fault_of r q p.amount ≡ None
+pub load_fulfilled : (n : ℕ → ℕ) (s : Sending) (limits : List Known) (p : Load) (q : Packet) (r : Receiving) → IsQuiet n s → Sends s limits max_packet p (with_flight s p) → IsAbreast n s r → IsPacketOf p q → fault_of r q p.amount ≡ None
 load_fulfilled n s limits p q r quiet sends abreast is =
     let next : q.sequence ≡ s.last + 1 = is.sequence ∙ ap (λ (z : Load). z.sequence) sends.load in
     let few = least_most n s limits p quiet sends in

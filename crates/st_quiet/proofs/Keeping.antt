@@ -74,7 +74,7 @@ not_carried k q (StreamData j o xs) l = elim (cases_eq j k) [
 ]
 not_carried k q f l = refl
 
-none_carried : (k q : ℕ) (fs : List Known) → highest_end k (map flown fs) ≤ q → list_any (carries k q) (map flown fs) ≡ false
+pub none_carried : (k q : ℕ) (fs : List Known) → highest_end k (map flown fs) ≤ q → list_any (carries k q) (map flown fs) ≡ false
 none_carried k q [] l = refl
 none_carried k q (f ∷ fs) l = let a = not_carried k q f (omega (arith, l)) in let b = none_carried k q fs (omega (arith, l)) in rw (a, b) refl
 

@@ -36,7 +36,7 @@ money_held r amount fs k = money_held_if (nat_lt 0 amount) (fresh_incoming (slic
 
 -- ---- closes
 
-kept_if : {A : Type 0} (g : Held → A) (b : Bool) (s t : Held) → g t ≡ g s → g (cond b s t) ≡ g s
+pub kept_if : {A : Type 0} (g : Held → A) (b : Bool) (s t : Held) → g t ≡ g s → g (cond b s t) ≡ g s
 kept_if g true s t e = refl
 kept_if g false s t e = e
 
@@ -59,21 +59,20 @@ closes_read r [] k = refl
 closes_read r (f ∷ fs) k = closes_read (after_close r f) fs k ∙ one_close_reads r f k
 
 -- a close of a quiet run is clean
-clean_alive : (x : Incoming) → (with_close 1 x).held.aborted ≡ x.held.aborted
-clean_alive x = kept_if (λ h. h.aborted) (is_over x.held) x.held _ refl
-
-one_close_alive : (n : ℕ → ℕ) (s : Sending) (limits : List Known) (r : Receiving) (f : Known) (k : ℕ) → IsQuiet n s → IsDue s limits f → (incoming_at (after_close r f) k).held.aborted ≡ (incoming_at r k).held.aborted
-one_close_alive n s limits r (StreamClose j code message) k quiet due =
+one_close_keeps : {A : Type 0} (g : Held → A) → ((h : Held) → g (after_finish h) ≡ g h) → (n : ℕ → ℕ) (s : Sending) (limits : List Known) (r : Receiving) (f : Known) (k : ℕ) → IsQuiet n s → IsDue s limits f
+    → g (incoming_at (after_close r f) k).held ≡ g (incoming_at r k).held
+one_close_keeps g keeps n s limits r (StreamClose j code message) k quiet due =
     let d = due.0 in
     let clean = (clean_asked n s j code d.stream quiet d.is_open d.asked).0 in
-    let one : (with_close code (incoming_at r j)).held.aborted ≡ (incoming_at r j).held.aborted = rw clean (clean_alive (incoming_at r j)) in
-    replaced_at (λ x. x.held.aborted) r j (with_close code (incoming_at r j)) k one
-one_close_alive n s limits r f k quiet due = refl
+    let one : g (with_close code (incoming_at r j)).held ≡ g (incoming_at r j).held = rw clean (keeps (incoming_at r j).held) in
+    replaced_at (λ x. g x.held) r j (with_close code (incoming_at r j)) k one
+one_close_keeps g keeps n s limits r f k quiet due = refl
 
-closes_alive : (n : ℕ → ℕ) (s : Sending) (limits : List Known) (r : Receiving) (fs : List Known) (k : ℕ) → IsQuiet n s → AllByRecursion (IsDue s limits) fs → (incoming_at (after_closes r fs) k).held.aborted ≡ (incoming_at r k).held.aborted
+closes_keep : {A : Type 0} (g : Held → A) → ((h : Held) → g (after_finish h) ≡ g h) → (n : ℕ → ℕ) (s : Sending) (limits : List Known) (r : Receiving) (fs : List Known) (k : ℕ) → IsQuiet n s → AllByRecursion (IsDue s limits) fs
+    → g (incoming_at (after_closes r fs) k).held ≡ g (incoming_at r k).held
 unfolding after_closes
-closes_alive n s limits r [] k quiet due = refl
-closes_alive n s limits r (f ∷ fs) k quiet due = closes_alive n s limits (after_close r f) fs k quiet due.1 ∙ one_close_alive n s limits r f k quiet due.0
+closes_keep g keeps n s limits r [] k quiet due = refl
+closes_keep g keeps n s limits r (f ∷ fs) k quiet due = closes_keep g keeps n s limits (after_close r f) fs k quiet due.1 ∙ one_close_keeps g keeps n s limits r f k quiet due.0
 
 one_close_slots : (r : Receiving) (f : Known) → length (after_close r f).streams ≡ length r.streams
 one_close_slots r (StreamClose j code message) = length-set r.streams j (Some (with_close code (incoming_at r j)))
@@ -102,14 +101,19 @@ effect_reads s limits r amount fs k due =
     ∙ ap (λ (h : Held). h.read) (money_held (after_frames r fs) amount fs k)
     ∙ (frames_opened r fs).reads k
 
+-- of what is held, money and closes change the end alone
+pub effect_held : {A : Type 0} (g : Held → A) → ((h : Held) → g (after_finish h) ≡ g h) → (n : ℕ → ℕ) (s : Sending) (limits : List Known) (r : Receiving) (amount : ℕ) (fs : List Known) (k : ℕ) → IsQuiet n s → AllByRecursion (IsDue s limits) fs
+    → g (incoming_at (after_all r amount fs) k).held ≡ g (incoming_at (after_frames r fs) k).held
+effect_held g keeps n s limits r amount fs k quiet due =
+    ap (λ t. g (incoming_at t k).held) (no_connection_closes s limits (after_closes (after_money (after_frames r fs) amount fs) fs) fs due)
+    ∙ closes_keep g keeps n s limits (after_money (after_frames r fs) amount fs) fs k quiet due
+    ∙ ap g (money_held (after_frames r fs) amount fs k)
+
 -- and every direction that goes on
 pub effect_alive : (n : ℕ → ℕ) (s : Sending) (limits : List Known) (r : Receiving) (amount : ℕ) (fs : List Known) (k : ℕ) → IsQuiet n s → AllByRecursion (IsDue s limits) fs
     → (incoming_at (after_all r amount fs) k).held.aborted ≡ (incoming_at r k).held.aborted
 effect_alive n s limits r amount fs k quiet due =
-    ap (λ t. (incoming_at t k).held.aborted) (no_connection_closes s limits (after_closes (after_money (after_frames r fs) amount fs) fs) fs due)
-    ∙ closes_alive n s limits (after_money (after_frames r fs) amount fs) fs k quiet due
-    ∙ ap (λ (h : Held). h.aborted) (money_held (after_frames r fs) amount fs k)
-    ∙ (frames_opened r fs).aborted k
+    effect_held (λ h. h.aborted) (λ h. kept_if (λ (z : Held). z.aborted) (is_over h) h _ refl) n s limits r amount fs k quiet due ∙ (frames_opened r fs).aborted k
 
 pub effect_slots : (s : Sending) (limits : List Known) (r : Receiving) (amount : ℕ) (fs : List Known) → AllByRecursion (IsDue s limits) fs → length (after_all r amount fs).streams ≡ length r.streams
 effect_slots s limits r amount fs due =

@@ -20,4 +20,5 @@ pub mod Leaving
 pub mod Credited
 pub mod Fulfilling
 pub mod Replies
+pub mod Holding
 pub mod Closing

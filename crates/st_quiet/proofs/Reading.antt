@@ -9,10 +9,10 @@ use Rattle.st_reassembly.proofs.Pointwise.{joins_after}
 use Rattle.st_reassembly.specs.Run.{IsRun}
 use Rattle.st_quiet.specs.Mirrored.{IsOn}
 
-wanted_on : (q : ℕ) (s : Held) → IsOn s → s.read ≤ q → is_wanted s q ≡ true
+pub wanted_on : (q : ℕ) (s : Held) → IsOn s → s.read ≤ q → is_wanted s q ≡ true
 wanted_on q s on unread = let a = on.aborted in let e = on.end in let b : nat_le s.read q ≡ true = grind (arith, nat_tests) in rw (a, b, e) refl
 
-has_byte : (xs : List ℕ) (i : ℕ) → i < length xs → (b : ℕ) × (slice_get xs i ≡ Some b)
+pub has_byte : (xs : List ℕ) (i : ℕ) → i < length xs → (b : ℕ) × (slice_get xs i ≡ Some b)
 has_byte [] i l = absurd (omega arith)
 has_byte (x ∷ xs) zero l = (x, refl)
 has_byte (x ∷ xs) (suc i) l = has_byte xs i (omega arith)

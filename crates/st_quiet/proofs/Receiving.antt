@@ -114,6 +114,13 @@ replaced_at g r k y j same = elim (in_place r k y j) [
   | inr h ↦ ap (λ o. g (incoming_or (fresh_incoming (slice_index r.kept j)) o)) h
 ]
 
+-- which stream it is
+pub replaced_here : (r : Receiving) (j : ℕ) (y : Incoming) (k : ℕ) → ((k ≡ j) × (incoming_at (with_incoming r j y) k ≡ y)) ⊎ (incoming_at (with_incoming r j y) k ≡ incoming_at r k)
+replaced_here r j y k = elim (in_place r j y k) [
+  | inl h ↦ inl (h.0, subst (λ i. incoming_at (with_incoming r j y) i ≡ y) (sym h.0) h.1)
+  | inr h ↦ inr (ap (incoming_or (fresh_incoming (slice_index r.kept k))) h)
+]
+
 replaced_opened : (r : Receiving) (k : ℕ) (y : Incoming) → y.held.read ≡ (incoming_at r k).held.read → y.held.aborted ≡ (incoming_at r k).held.aborted → IsOpened r (with_incoming r k y)
 replaced_opened r k y same alike = record {
   names = λ j may. elim (in_place r k y j) [

@@ -145,13 +145,13 @@ all_data_name k (f ∷ fs) l = elim (cases_lt 0 (end_of k (flown f))) [
     or_true true = refl
     or_true false = refl
 
-acked_is_sent : (s : Sending) (k : ℕ) (x : Outgoing) → s.flights ≡ [] → outgoing_at s k ≡ Some x → sent_end s k (outgoing_at s k) ≡ x.acked_end
+pub acked_is_sent : (s : Sending) (k : ℕ) (x : Outgoing) → s.flights ≡ [] → outgoing_at s k ≡ Some x → sent_end s k (outgoing_at s k) ≡ x.acked_end
 acked_is_sent s k x none e =
     let is : sent_end s k (outgoing_at s k) ≡ max x.acked_end (flying_end k s.flights) = ap (sent_end s k) e in
     let z : flying_end k s.flights ≡ 0 = ap (flying_end k) none in
     omega (arith, is, z)
 
-tells_by : (n : ℕ → ℕ) (s : Sending) (limits : List Known) (p : Load) (r t : Receiving) → IsQuiet n s → Sends s limits max_packet p (with_flight s p) → IsAbreast s r → frames_fault r p.frames ≡ None
+tells_by : (n : ℕ → ℕ) (s : Sending) (limits : List Known) (p : Load) (r t : Receiving) → IsQuiet n s → Sends s limits max_packet p (with_flight s p) → IsAbreast n s r → frames_fault r p.frames ≡ None
     → all_read t ≡ all_ends s [] → ((k : ℕ) → incoming_at t k ≡ incoming_at (after_all r p.amount p.frames) k) → ((k : ℕ) → may_name t k ≡ may_name r k) → PeerTells s p (reply_frames t p.frames)
 tells_by n s limits p r t quiet sends abreast fine all at names_are = record {
   connection = subst (λ z. Contains (reply_frames t p.frames) (ConnectionMaxData (capped (z + 1048576)))) all (connection_in_reply t p.frames);
@@ -173,7 +173,7 @@ tells_by n s limits p r t quiet sends abreast fine all at names_are = record {
     leaves : (k : ℕ) → Leaves r p.amount p.frames k
     leaves k = effect_told r p.amount p.frames k abreast.mirrored.slots fine
 
-reply_tells_load : (n : ℕ → ℕ) (s : Sending) (limits : List Known) (p : Load) (m : ℕ) (r : Receiving) → IsQuiet n s → Sends s limits max_packet p (with_flight s p) → IsAbreast s r
+reply_tells_load : (n : ℕ → ℕ) (s : Sending) (limits : List Known) (p : Load) (m : ℕ) (r : Receiving) → IsQuiet n s → Sends s limits max_packet p (with_flight s p) → IsAbreast n s r
     → PeerTells s p (reply_frames (with_sequence m (after_all r p.amount p.frames)) p.frames)
 reply_tells_load n s limits p m r quiet sends abreast =
     let fine = load_taken n s limits p r quiet sends abreast.mirrored in
@@ -184,7 +184,7 @@ reply_tells_load n s limits p m r quiet sends abreast =
     tells_by n s limits p r (with_sequence m t) quiet sends abreast fine (all_read_is s t slots alive reads) (λ k. refl) (λ k. effect_names r p.amount p.frames k abreast.mirrored.slots fine)
 
 -- a receiver that was abreast tells all of it in its reply
-pub reply_tells : (n : ℕ → ℕ) (s : Sending) (limits : List Known) (p : Load) (q : Packet) (r : Receiving) → IsQuiet n s → Sends s limits max_packet p (with_flight s p) → IsAbreast s r → IsPacketOf p q
+pub reply_tells : (n : ℕ → ℕ) (s : Sending) (limits : List Known) (p : Load) (q : Packet) (r : Receiving) → IsQuiet n s → Sends s limits max_packet p (with_flight s p) → IsAbreast n s r → IsPacketOf p q
     → PeerTells s p (reply_frames (effect r q p.amount) (frames_of q))
 reply_tells n s limits p q r quiet sends abreast is =
     subst (λ fs. PeerTells s p (reply_frames (with_sequence q.sequence (after_all r p.amount fs)) fs)) (sym is.frames) (reply_tells_load n s limits p q.sequence r quiet sends abreast)

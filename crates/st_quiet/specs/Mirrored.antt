@@ -1,6 +1,7 @@
 -- The receiver of a quiet run.
 use Rattle.std.specs.Prelude.{◌≡◌, ℕ, ◌+◌, ◌^◌, ◌<◌, ◌≤◌, true, false, length}
 use Rattle.std.specs.declared.option.Option.TheVariants.{None, Some}
+use Rattle.std.specs.FinMap.{get}
 use Rattle.std.specs.FinSet.{contains}
 use Rattle.st_tables.specs.Slots.{slot}
 use Rattle.st_frames.specs.Frames.{Packet, frames_of}
@@ -20,8 +21,8 @@ pub record IsMirrored (s : Sending) (r : Receiving) : Type 0 where
   pub windows : (k : ℕ) (x : Outgoing) → outgoing_at s k ≡ Some x → x.told ≤ capped ((incoming_at r k).held.read + 65536)
   pub connection : s.told ≤ connection_limit r
 
--- and it has read and credited all of it, lets all that was offered come, and is not closed
-pub record IsAbreast (s : Sending) (r : Receiving) : Type 0 where
+-- and it has read and credited all of it, of n k bytes of stream k, lets all that was offered come, and is not closed
+pub record IsAbreast (n : ℕ → ℕ) (s : Sending) (r : Receiving) : Type 0 where
   pub mirrored : IsMirrored s r
   pub unclosed : r.closed ≡ false
   pub later : (m : ℕ) → s.last < m → contains r.fulfilled m ≡ false
@@ -30,6 +31,8 @@ pub record IsAbreast (s : Sending) (r : Receiving) : Type 0 where
   pub most : (k : ℕ) (x : Outgoing) → outgoing_at s k ≡ Some x → x.offered ≤ (incoming_at r k).receive_max
   pub within : (k : ℕ) → (incoming_at r k).credited ≤ (incoming_at r k).receive_max
   pub credit : r.credit + all_money_left s < 2 ^ 63
+  pub emptied : (k q : ℕ) → (incoming_at r k).held.read ≤ q → get (incoming_at r k).held.bytes q ≡ None
+  pub going : (k : ℕ) (x : Outgoing) → outgoing_at s k ≡ Some x → x.acked_end < n k → (incoming_at r k).held.end ≡ None
 
 -- a packet as it comes, with this load in it
 pub record IsPacketOf (p : Load) (q : Packet) : Type 0 where

@@ -8,7 +8,7 @@ ghost use Rattle.st_tables.specs.Slots.{slot};
 ghost use Rattle.st_frames.specs.Frames.{ConnectionMaxData, Known, Packet, StreamClose, StreamMaxData, frames_of, max_packet};
 ghost use Rattle.st_frames.specs.Told.{money_in, names, shares};
 ghost use Rattle.st_reassembly.specs.Held.{Held, after_insert};
-ghost use Rattle.st_reassembly.specs.Run.{IsRun};
+ghost use Rattle.st_reassembly.specs.Run.{IsRun, run};
 ghost use Rattle.st_sender.specs.Sending.{Config, Load, Outgoing, Sending, outgoing_at};
 ghost use Rattle.st_sender.specs.Due.{IsDue};
 ghost use Rattle.st_sender.specs.Loads.{IsIdle, Sends, load_with, with_flight};
@@ -69,16 +69,23 @@ pub fn a_reply_tells_each_window()
 /// A receiver that is abreast of the sender fulfills each load of a quiet run.
 pub fn a_load_is_fulfilled()
     ensures { (n : ℕ → ℕ) (s : Sending) (limits : List Known) (p : Load) (q : Packet) (r : Receiving)
-        → IsQuiet n s → Sends s limits max_packet p (with_flight s p) → IsAbreast s r → IsPacketOf p q → fault_of r q p.amount ≡ None }
+        → IsQuiet n s → Sends s limits max_packet p (with_flight s p) → IsAbreast n s r → IsPacketOf p q → fault_of r q p.amount ≡ None }
 {}
 
 /// Its reply tells what it had read and credited, and so enough for the next Send.
 pub fn a_fulfill_tells_enough()
     ensures tells { (n : ℕ → ℕ) (s : Sending) (limits : List Known) (p : Load) (q : Packet) (r : Receiving)
-        → IsQuiet n s → Sends s limits max_packet p (with_flight s p) → IsAbreast s r → IsPacketOf p q → PeerTells s p (reply_frames (effect r q p.amount) (frames_of q)) }
+        → IsQuiet n s → Sends s limits max_packet p (with_flight s p) → IsAbreast n s r → IsPacketOf p q → PeerTells s p (reply_frames (effect r q p.amount) (frames_of q)) }
     ensures enough { (n : ℕ → ℕ) (s : Sending) (limits : List Known) (p : Load) (q : Packet) (r : Receiving)
-        → IsQuiet n s → Sends s limits max_packet p (with_flight s p) → Fills s limits max_packet p → IsSmall s → IsAbreast s r → IsPacketOf p q
+        → IsQuiet n s → Sends s limits max_packet p (with_flight s p) → Fills s limits max_packet p → IsSmall s → IsAbreast n s r → IsPacketOf p q
         → TellsEnough (once_fulfilled s p) (reply_frames (effect r q p.amount) (frames_of q)) }
+{}
+
+/// Once such a load took effect a read takes all that the sender has then acknowledged.
+pub fn a_load_is_read()
+    ensures { (n : ℕ → ℕ) (s : Sending) (limits : List Known) (p : Load) (q : Packet) (r : Receiving) (k : ℕ) (y : Outgoing)
+        → IsQuiet n s → Sends s limits max_packet p (with_flight s p) → Fills s limits max_packet p → IsAbreast n s r → IsPacketOf p q
+        → outgoing_at (once_fulfilled s p) k ≡ Some y → (let h = (incoming_at (effect r q p.amount) k).held in h.read + length (run h) ≡ y.acked_end) }
 {}
 
 /// What came is held, and a run of what is held in a row takes it all.
