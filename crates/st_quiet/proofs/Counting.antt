@@ -114,7 +114,7 @@ all_data_over s limits (f ∷ fs) slots due =
     let text = text_next f fs in
     omega (arith, plus, one, rest, text)
 
-none_ends : (s : Sending) (limits : List Known) (k : ℕ) (fs : List Known) → AllByRecursion (IsDue s limits) fs → outgoing_at s k ≡ None → highest_end k (map flown fs) ≡ 0
+pub none_ends : (s : Sending) (limits : List Known) (k : ℕ) (fs : List Known) → AllByRecursion (IsDue s limits) fs → outgoing_at s k ≡ None → highest_end k (map flown fs) ≡ 0
 none_ends s limits k [] due e = refl
 none_ends s limits k (f ∷ fs) due e = let rest = none_ends s limits k fs due.1 e in let one = none_of f due.0 in omega (arith, rest, one)
   where

@@ -58,10 +58,10 @@ pub shares_amount : (s : Sending) (limits : List Known) (p : Load) → length s.
 unfolding shares
 shares_amount s limits p slots sends = all_over_streams s limits p.frames slots sends.due ∙ sym (ap (λ (z : Load). z.amount) sends.load)
 
-part_within : (n : ℕ → ℕ) (s : Sending) (limits : List Known) (p : Load) (r : Receiving) (k : ℕ) (o : Option Outgoing) → IsQuiet n s → Sends s limits max_packet p (with_flight s p) → IsAbreast n s r → outgoing_at s k ≡ o
+pub part_within : (n : ℕ → ℕ) (s : Sending) (limits : List Known) (p : Load) (r : Receiving) (k : ℕ) (o : Option Outgoing) → IsQuiet n s → Sends s limits max_packet p (with_flight s p) → IsAbreast n s r → k < 65 → outgoing_at s k ≡ o
     → (incoming_at r k).credited + money_in k p.frames ≤ (incoming_at r k).receive_max
-part_within n s limits p r k None quiet sends abreast e = let none = none_in s limits k p.frames sends.due e in let within = abreast.within k in omega (arith, none, within)
-part_within n s limits p r k (Some x) quiet sends abreast e =
+part_within n s limits p r k None quiet sends abreast l e = let none = none_in s limits k p.frames sends.due e in let within = abreast.within k l in omega (arith, none, within)
+part_within n s limits p r k (Some x) quiet sends abreast l e =
     let w = quiet.streams k x e in
     let due = due_is_left s k x quiet.alone w.alive in
     let few = sends.money k x e in
@@ -90,4 +90,4 @@ load_money n s limits p r quiet sends abreast =
     over_if most credited part share e l = grind (arith, nat_tests)
 
     over : 0 < p.amount → (k : ℕ) → k < 65 → over_at r k (get_or (parts p.amount (shares p.frames)) k 0) ≡ false
-    over some k l = over_if (incoming_at r k).receive_max (incoming_at r k).credited _ (money_in k p.frames) (part_is_share p.amount p.frames k (shares_amount s limits p quiet.slots sends) some l) (part_within n s limits p r k (outgoing_at s k) quiet sends abreast refl)
+    over some k l = over_if (incoming_at r k).receive_max (incoming_at r k).credited _ (money_in k p.frames) (part_is_share p.amount p.frames k (shares_amount s limits p quiet.slots sends) some l) (part_within n s limits p r k (outgoing_at s k) quiet sends abreast l refl)

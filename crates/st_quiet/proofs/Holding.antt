@@ -14,7 +14,7 @@ use Rattle.st_reassembly.specs.Run.{run}
 use Rattle.st_reassembly.proofs.Pointwise.{joins_after}
 use Rattle.st_reassembly.proofs.Runs.{is_run}
 use Rattle.st_sender.specs.Sending.{Load, Outgoing, Sending, outgoing_at}
-use Rattle.st_sender.specs.Flights.{carries, flown, highest_end}
+use Rattle.st_sender.specs.Flights.{carries, flown, highest_end, sent_end}
 use Rattle.st_sender.specs.Loads.{Sends, with_flight}
 use Rattle.st_sender.specs.Filling.{Fills}
 use Rattle.st_sender.specs.Answering.{landed}
@@ -28,6 +28,7 @@ use Rattle.st_quiet.specs.Mirrored.{IsAbreast, IsOn, IsPacketOf}
 use Rattle.st_quiet.proofs.Acknowledging.{all_acked_at, all_acked_end, all_own_acked, is_other, is_same, none_stays}
 use Rattle.st_quiet.proofs.Data.{due_is}
 use Rattle.st_quiet.proofs.Keeping.{all_end_accepted, none_carried}
+use Rattle.st_quiet.proofs.Counting.{none_ends}
 use Rattle.st_quiet.proofs.Receiving.{replaced_at, replaced_here}
 use Rattle.st_quiet.proofs.Leaving.{effect_held, effect_reads, kept_if}
 use Rattle.st_quiet.proofs.Replies.{acked_is_sent}
@@ -35,7 +36,7 @@ use Rattle.st_quiet.proofs.Reading.{has_byte, run_is_all, wanted_on}
 
 -- ---- a byte that a frame carries joins what is held, and no other does
 
-abbrev bytes_at : Receiving → ℕ → ℕ → Option ℕ
+abbrev pub bytes_at : Receiving → ℕ → ℕ → Option ℕ
 bytes_at r k q = fmap.get (incoming_at r k).held.bytes q
 
 piece_is : (o q : ℕ) (xs : List ℕ) → o ≤ q → piece_at o xs q ≡ slice_get xs (q - o)
@@ -146,7 +147,7 @@ frame_lacks r (StreamMoney j m) k q e c = replaced_at (λ x. fmap.get x.held.byt
 frame_lacks r (StreamClose j code message) k q e c = replaced_at (λ x. fmap.get x.held.bytes q) r j (incoming_at r j) k refl ∙ e
 frame_lacks r f k q e c = e
 
-frame_at : {A : Type 0} (g : Held → A) → ((o : ℕ) (xs : List ℕ) (h : Held) → g (after_insert o xs h) ≡ g h) → (r : Receiving) (f : Known) (k : ℕ) → g (incoming_at (after_frame r f) k).held ≡ g (incoming_at r k).held
+pub frame_at : {A : Type 0} (g : Held → A) → ((o : ℕ) (xs : List ℕ) (h : Held) → g (after_insert o xs h) ≡ g h) → (r : Receiving) (f : Known) (k : ℕ) → g (incoming_at (after_frame r f) k).held ≡ g (incoming_at r k).held
 frame_at g keeps r (StreamData j o xs) k = replaced_at (λ x. g x.held) r j (with_data o xs (incoming_at r j)) k (keeps o xs (incoming_at r j).held)
 frame_at g keeps r (StreamMoney j m) k = replaced_at (λ x. g x.held) r j (incoming_at r j) k refl
 frame_at g keeps r (StreamClose j code message) k = replaced_at (λ x. g x.held) r j (incoming_at r j) k refl
@@ -210,7 +211,7 @@ load_row n s limits p r k x q quiet sends fills abreast e from till =
     let holds = frames_hold r p.frames k q (omega (arith, within, slots, mirrored)) on (omega (arith, read, from)) carried in
     (holds.0, effect_held (λ h. fmap.get h.bytes q) (bytes_kept q) n s limits r p.amount p.frames k quiet sends.due ∙ holds.1)
 
-load_past : (n : ℕ → ℕ) (s : Sending) (limits : List Known) (p : Load) (r : Receiving) (k q : ℕ) → IsQuiet n s → Sends s limits max_packet p (with_flight s p) → IsAbreast n s r
+pub load_past : (n : ℕ → ℕ) (s : Sending) (limits : List Known) (p : Load) (r : Receiving) (k q : ℕ) → IsQuiet n s → Sends s limits max_packet p (with_flight s p) → IsAbreast n s r
     → (incoming_at r k).held.read ≤ q → highest_end k (map flown p.frames) ≤ q → bytes_at (after_all r p.amount p.frames) k q ≡ None
 load_past n s limits p r k q quiet sends abreast unread past =
     effect_held (λ h. fmap.get h.bytes q) (bytes_kept q) n s limits r p.amount p.frames k quiet sends.due ∙ frames_lack r p.frames k q (abreast.emptied k q unread) (none_carried k q p.frames past)
@@ -225,6 +226,20 @@ load_read n s limits p r k x quiet sends fills abreast e =
     run_is_all h (run h) (max x.acked_end (highest_end k (map flown p.frames))) (is_run h) (omega (arith, read))
     (λ q from till. load_row n s limits p r k x q quiet sends fills abreast e (omega (arith, from, read)) (omega (arith, from, till, read)))
     (λ q past. load_past n s limits p r k q quiet sends abreast (omega (arith, was, past)) (omega (arith, past)))
+
+-- whether the sender has the stream or not
+pub any_read : (n : ℕ → ℕ) (s : Sending) (limits : List Known) (p : Load) (r : Receiving) (k : ℕ) (o : Option Outgoing) → IsQuiet n s → Sends s limits max_packet p (with_flight s p) → Fills s limits max_packet p → IsAbreast n s r → outgoing_at s k ≡ o
+    → (incoming_at (after_all r p.amount p.frames) k).held.read + length (run (incoming_at (after_all r p.amount p.frames) k).held) ≡ max (sent_end s k (outgoing_at s k)) (highest_end k (map flown p.frames))
+any_read n s limits p r k (Some x) quiet sends fills abreast e = let all = load_read n s limits p r k x quiet sends fills abreast e in let sent = acked_is_sent s k x quiet.alone e in omega (arith, all, sent)
+any_read n s limits p r k None quiet sends fills abreast e =
+    let h = (incoming_at (after_all r p.amount p.frames) k).held in
+    let none : sent_end s k (outgoing_at s k) ≡ 0 = ap (sent_end s k) e in
+    let ends = none_ends s limits k p.frames sends.due e in
+    let read : h.read ≡ 0 = effect_reads s limits r p.amount p.frames k sends.due ∙ abreast.read k ∙ none in
+    let was : (incoming_at r k).held.read ≡ 0 = abreast.read k ∙ none in
+    let all = run_is_all h (run h) 0 (is_run h) (omega (arith, read)) (λ q from till. absurd (omega (arith, till)))
+    (λ q past. load_past n s limits p r k q quiet sends abreast (omega (arith, was)) (omega (arith, ends))) in
+    omega (arith, all, none, ends)
 
 -- which is all that the sender then has acknowledged
 pub packet_read : (n : ℕ → ℕ) (s : Sending) (limits : List Known) (p : Load) (q : Packet) (r : Receiving) (k : ℕ) (y : Outgoing) → IsQuiet n s → Sends s limits max_packet p (with_flight s p) → Fills s limits max_packet p → IsAbreast n s r → IsPacketOf p q

@@ -31,7 +31,7 @@ money_held_if : (b : Bool) (fresh : Incoming) (xs : Slots Incoming) (ps : List �
 money_held_if true fresh xs ps k = credits_held fresh xs ps k
 money_held_if false fresh xs ps k = refl
 
-money_held : (r : Receiving) (amount : ℕ) (fs : List Known) (k : ℕ) → (incoming_at (after_money r amount fs) k).held ≡ (incoming_at r k).held
+pub money_held : (r : Receiving) (amount : ℕ) (fs : List Known) (k : ℕ) → (incoming_at (after_money r amount fs) k).held ≡ (incoming_at r k).held
 money_held r amount fs k = money_held_if (nat_lt 0 amount) (fresh_incoming (slice_index r.kept k)) r.streams (parts amount (shares fs)) k
 
 -- ---- closes
@@ -88,7 +88,7 @@ no_connection_close : (s : Sending) (limits : List Known) (r : Receiving) (f : K
 no_connection_close s limits r (ConnectionClose code message) due = absurd due
 no_connection_close s limits r f due = refl
 
-no_connection_closes : (s : Sending) (limits : List Known) (r : Receiving) (fs : List Known) → AllByRecursion (IsDue s limits) fs → after_connection_closes r fs ≡ r
+pub no_connection_closes : (s : Sending) (limits : List Known) (r : Receiving) (fs : List Known) → AllByRecursion (IsDue s limits) fs → after_connection_closes r fs ≡ r
 unfolding after_connection_closes
 no_connection_closes s limits r [] due = refl
 no_connection_closes s limits r (f ∷ fs) due = ap (λ t. after_connection_closes t fs) (no_connection_close s limits r f due.0) ∙ no_connection_closes s limits r fs due.1

@@ -21,4 +21,6 @@ pub mod Credited
 pub mod Fulfilling
 pub mod Replies
 pub mod Holding
+pub mod Staying
+pub mod Abreast
 pub mod Closing

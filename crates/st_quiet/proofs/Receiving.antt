@@ -251,3 +251,9 @@ pub frames_opened : (r : Receiving) (fs : List Known) → IsOpened r (after_fram
 unfolding after_frames
 frames_opened r [] = opened_same r
 frames_opened r (f ∷ fs) = opened_then r (after_frame r f) (after_frames (after_frame r f) fs) (frame_opened r f) (frames_opened (after_frame r f) fs)
+
+-- they keep within what was sent
+pub frames_calm : (ends : ℕ → ℕ) (r : Receiving) (fs : List Known) → IsCalm ends r → AllByRecursion (FrameFits ends r) fs → IsCalm ends (after_frames r fs)
+unfolding after_frames
+frames_calm ends r [] calm fits = calm
+frames_calm ends r (f ∷ fs) calm fits = frames_calm ends (after_frame r f) fs (frame_calm ends r f calm fits.0) (all_fit_on ends r (after_frame r f) fs (frame_opened r f) fits.1)

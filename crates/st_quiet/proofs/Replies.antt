@@ -61,7 +61,7 @@ window_in_reply r fs k low high may named =
 reads_at : (r : Receiving) (k : ℕ) → (incoming_at r k).held.aborted ≡ None → read_of (slot r.streams k) ≡ (incoming_at r k).held.read
 reads_at r k alive = sym (read_is (slice_index r.kept k) (slot r.streams k)) ∙ read_some (incoming_at r k) alive
 
-all_read_is : (s : Sending) (t : Receiving) → length t.streams ≡ 65 → ((k : ℕ) → (incoming_at t k).held.aborted ≡ None) → ((k : ℕ) → (incoming_at t k).held.read ≡ sent_end s k (outgoing_at s k)) → all_read t ≡ all_ends s []
+pub all_read_is : (s : Sending) (t : Receiving) → length t.streams ≡ 65 → ((k : ℕ) → (incoming_at t k).held.aborted ≡ None) → ((k : ℕ) → (incoming_at t k).held.read ≡ sent_end s k (outgoing_at s k)) → all_read t ≡ all_ends s []
 unfolding all_ends
 all_read_is s t slots alive reads =
     sum_slots_same read_of (λ k. max (sent_end s k (outgoing_at s k)) (highest_end k [])) t.streams 0 (λ i. at i)
@@ -70,7 +70,7 @@ all_read_is s t slots alive reads =
     at : (i : ℕ) → read_of (slot t.streams i) ≡ max (sent_end s (0 + i) (outgoing_at s (0 + i))) (highest_end (0 + i) [])
     at i = let p : 0 + i ≡ i = omega arith in let e = reads_at t i (alive i) ∙ reads i in rw p (omega (arith, e))
 
-from_flat_map : (f : ℕ → List Known) (a m : ℕ) (y : Known) → Contains (flat_map f (range_with_len a m)) y → (k : ℕ) × Contains (f k) y
+pub from_flat_map : (f : ℕ → List Known) (a m : ℕ) (y : Known) → Contains (flat_map f (range_with_len a m)) y → (k : ℕ) × Contains (f k) y
 from_flat_map f a zero y h = absurd (let l = h.1 in omega (arith, l))
 from_flat_map f a (suc m) y h =
     let P : List Known → Type 0 = λ l. Contains l y in
@@ -96,7 +96,7 @@ money_in_reply r fs k m t (suc i, l, e) =
     (subst (λ j. (incoming_at r j).receive_max ≡ m) is.0 is.1, subst (λ j. (incoming_at r j).credited ≡ t) is.0 is.2)
 
 -- a stream is credited its shares
-credited_after : (s : Sending) (limits : List Known) (p : Load) (r : Receiving) (k : ℕ) → length s.streams ≡ 65 → length r.streams ≡ 65 → Sends s limits max_packet p (with_flight s p) → k < 65
+pub credited_after : (s : Sending) (limits : List Known) (p : Load) (r : Receiving) (k : ℕ) → length s.streams ≡ 65 → length r.streams ≡ 65 → Sends s limits max_packet p (with_flight s p) → k < 65
     → (incoming_at (after_money (after_frames r p.frames) p.amount p.frames) k).credited ≡ (incoming_at r k).credited + money_in k p.frames
 credited_after s limits p r k slots len sends l =
     let fs = p.frames in

@@ -111,17 +111,17 @@ told_left n k fs x left fits =
 
 -- ---- a round, stream by stream
 
-record SameCounts (x y : Outgoing) : Type 0 where
-  acked_end : y.acked_end ≡ x.acked_end
-  offered : y.offered ≡ x.offered
-  fulfilled : y.fulfilled ≡ x.fulfilled
-  clean_settled : y.clean_settled ≡ x.clean_settled
+pub record SameCounts (x y : Outgoing) : Type 0 where
+  pub acked_end : y.acked_end ≡ x.acked_end
+  pub offered : y.offered ≡ x.offered
+  pub fulfilled : y.fulfilled ≡ x.fulfilled
+  pub clean_settled : y.clean_settled ≡ x.clean_settled
 
-abbrev Alike : Option Outgoing → Option Outgoing → Type 0
+abbrev pub Alike : Option Outgoing → Option Outgoing → Type 0
 Alike None o = o ≡ None
 Alike (Some x) o = (y : Outgoing) × (o ≡ Some y) × SameCounts x y
 
-alike : (n : ℕ → ℕ) (s t : Sending) (told : List Known) → IsWritten n (after_all_told s told) t → (k : ℕ) (o : Option Outgoing) → outgoing_at s k ≡ o → Alike o (outgoing_at t k)
+pub alike : (n : ℕ → ℕ) (s t : Sending) (told : List Known) → IsWritten n (after_all_told s told) t → (k : ℕ) (o : Option Outgoing) → outgoing_at s k ≡ o → Alike o (outgoing_at t k)
 alike n s t told writes k None e =
     let P : Option Outgoing → Type 0 = λ o. Refilled (n k) o (outgoing_at t k) in
     subst P (none_stays_told s k told e) (writes.streams k)
@@ -144,7 +144,7 @@ same_frames : (n : ℕ) (o p : Option Outgoing) → Alike o p → frames_left n 
 same_frames n None p h = ap (frames_left n) h
 same_frames n (Some x) p h = let is = ap (frames_left n) h.1 in let e = h.2.acked_end in is ∙ ap (λ a. (n - a + 15999) / 16000) e
 
-same_money : (o p : Option Outgoing) → Alike o p → money_left p ≡ money_left o
+pub same_money : (o p : Option Outgoing) → Alike o p → money_left p ≡ money_left o
 same_money None p h = ap money_left h
 same_money (Some x) p h = let is = ap money_left h.1 in let a = h.2.offered in let b = h.2.fulfilled in omega (arith, is, a, b)
 

@@ -13,10 +13,10 @@ use Rattle.st_quiet.specs.Mirrored.{IsMirrored}
 use Rattle.st_quiet.proofs.Ends.{end_here}
 use Rattle.st_quiet.proofs.Receiving.{FrameFits, IsCalm, frames_fine}
 
-abbrev ends_with : Sending → List Known → ℕ → ℕ
+abbrev pub ends_with : Sending → List Known → ℕ → ℕ
 ends_with s fs k = max (sent_end s k (outgoing_at s k)) (highest_end k (map flown fs))
 
-mirrored_calm : (s : Sending) (r : Receiving) (fs : List Known) → IsMirrored s r → all_ends s (map flown fs) ≤ s.told → IsCalm (ends_with s fs) r
+pub mirrored_calm : (s : Sending) (r : Receiving) (fs : List Known) → IsMirrored s r → all_ends s (map flown fs) ≤ s.told → IsCalm (ends_with s fs) r
 unfolding all_ends
 mirrored_calm s r fs mirror within = record {
   slots = mirror.slots;
@@ -37,7 +37,7 @@ frame_fits n s limits p r (StreamMoney j m) quiet sends mirror due low = mirror.
 frame_fits n s limits p r (StreamClose j code message) quiet sends mirror due low = let d = due.0 in mirror.named j d.stream d.is_open
 frame_fits n s limits p r f quiet sends mirror due low = tt
 
-all_fit : (n : ℕ → ℕ) (s : Sending) (limits : List Known) (p : Load) (r : Receiving) (fs : List Known) → IsQuiet n s → Sends s limits max_packet p (with_flight s p) → IsMirrored s r
+pub all_fit : (n : ℕ → ℕ) (s : Sending) (limits : List Known) (p : Load) (r : Receiving) (fs : List Known) → IsQuiet n s → Sends s limits max_packet p (with_flight s p) → IsMirrored s r
     → AllByRecursion (IsDue s limits) fs → ((k : ℕ) → highest_end k (map flown fs) ≤ highest_end k (map flown p.frames)) → AllByRecursion (FrameFits (ends_with s p.frames) r) fs
 all_fit n s limits p r [] quiet sends mirror due low = tt
 all_fit n s limits p r (f ∷ fs) quiet sends mirror due low = (

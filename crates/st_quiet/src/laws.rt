@@ -13,6 +13,7 @@ ghost use Rattle.st_sender.specs.Sending.{Config, Load, Outgoing, Sending, outgo
 ghost use Rattle.st_sender.specs.Due.{IsDue};
 ghost use Rattle.st_sender.specs.Loads.{IsIdle, Sends, load_with, with_flight};
 ghost use Rattle.st_sender.specs.Filling.{Fills};
+ghost use Rattle.st_sender.specs.Answering.{after_all_told};
 ghost use Rattle.st_receiver.specs.Streams.{Receiving, incoming_at, may_name};
 ghost use Rattle.st_receiver.specs.Limits.{capped, connection_limit, reply_frames};
 ghost use Rattle.st_receiver.specs.Data.{frames_fault};
@@ -20,8 +21,8 @@ ghost use Rattle.st_receiver.specs.Money.{is_over_max, money_fault, parts};
 ghost use Rattle.st_receiver.specs.Judged.{after_all, effect, fault_of};
 ghost use Rattle.st_quiet.specs.Quiet.{IsQuiet};
 ghost use Rattle.st_quiet.specs.Left.{all_frames_left, all_money_left, bound, work_left};
-ghost use Rattle.st_quiet.specs.Rounds.{once_fulfilled, IsDone, IsOpening, IsSmall, PeerTells, Rounds, TellsEnough};
-ghost use Rattle.st_quiet.specs.Mirrored.{IsAbreast, IsMirrored, IsOn, IsPacketOf};
+ghost use Rattle.st_quiet.specs.Rounds.{once_fulfilled, IsWritten, IsDone, IsOpening, IsSmall, PeerTells, Rounds, TellsEnough};
+ghost use Rattle.st_quiet.specs.Mirrored.{IsAbreast, IsMirrored, IsOn, IsPacketOf, IsReadOut};
 
 /// From the opening on a quiet run has fewer Sends than the bound; so there is room in it for the one that gives none.
 pub fn sends_are_bounded()
@@ -86,6 +87,13 @@ pub fn a_load_is_read()
     ensures { (n : ℕ → ℕ) (s : Sending) (limits : List Known) (p : Load) (q : Packet) (r : Receiving) (k : ℕ) (y : Outgoing)
         → IsQuiet n s → Sends s limits max_packet p (with_flight s p) → Fills s limits max_packet p → IsAbreast n s r → IsPacketOf p q
         → outgoing_at (once_fulfilled s p) k ≡ Some y → (let h = (incoming_at (effect r q p.amount) k).held in h.read + length (run h) ≡ y.acked_end) }
+{}
+
+/// A receiver whose reader takes what it can is abreast again after each round.
+pub fn a_round_keeps_abreast()
+    ensures { (n : ℕ → ℕ) (s t : Sending) (limits : List Known) (p : Load) (q : Packet) (r u : Receiving)
+        → IsQuiet n s → Sends s limits max_packet p (with_flight s p) → Fills s limits max_packet p → IsAbreast n s r → IsPacketOf p q
+        → IsReadOut (effect r q p.amount) u → IsWritten n (after_all_told (once_fulfilled s p) (reply_frames (effect r q p.amount) (frames_of q))) t → IsAbreast n t u }
 {}
 
 /// What came is held, and a run of what is held in a row takes it all.
