@@ -23,4 +23,5 @@ pub mod Replies
 pub mod Holding
 pub mod Staying
 pub mod Abreast
+pub mod Exchanging
 pub mod Closing

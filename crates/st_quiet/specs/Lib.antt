@@ -2,3 +2,4 @@ pub mod Quiet
 pub mod Left
 pub mod Rounds
 pub mod Mirrored
+pub mod Exchanges

@@ -22,6 +22,7 @@ ghost use Rattle.st_receiver.specs.Judged.{after_all, effect, fault_of};
 ghost use Rattle.st_quiet.specs.Quiet.{IsQuiet};
 ghost use Rattle.st_quiet.specs.Left.{all_frames_left, all_money_left, bound, work_left};
 ghost use Rattle.st_quiet.specs.Rounds.{once_fulfilled, IsWritten, IsDone, IsOpening, IsSmall, PeerTells, Rounds, TellsEnough};
+ghost use Rattle.st_quiet.specs.Exchanges.{Exchanges, IsModest};
 ghost use Rattle.st_quiet.specs.Mirrored.{IsAbreast, IsMirrored, IsOn, IsPacketOf, IsReadOut};
 
 /// From the opening on a quiet run has fewer Sends than the bound; so there is room in it for the one that gives none.
@@ -94,6 +95,20 @@ pub fn a_round_keeps_abreast()
     ensures { (n : ℕ → ℕ) (s t : Sending) (limits : List Known) (p : Load) (q : Packet) (r u : Receiving)
         → IsQuiet n s → Sends s limits max_packet p (with_flight s p) → Fills s limits max_packet p → IsAbreast n s r → IsPacketOf p q
         → IsReadOut (effect r q p.amount) u → IsWritten n (after_all_told (once_fulfilled s p) (reply_frames (effect r q p.amount) (frames_of q))) t → IsAbreast n t u }
+{}
+
+/// A run of both sides has no more Sends than the bound, with nothing assumed of what the receiver answers: from an opening
+/// and a receiver that is abreast of it, whatever was read out and written on. Where nothing is left, all bytes of each
+/// stream were read and all its money was credited.
+pub fn exchanges_are_bounded()
+    ensures bounded { (n : ℕ → ℕ) (config : Config) (m : ℕ) (s t : Sending) (r u : Receiving)
+        → IsModest n → IsOpening n config s → IsAbreast n s r → Exchanges n m s r t u → m + 1 ≤ bound n s }
+    ensures sharper { (n : ℕ → ℕ) (config : Config) (m : ℕ) (s t : Sending) (r u : Receiving)
+        → IsModest n → IsOpening n config s → IsAbreast n s r → Exchanges n m s r t u → m + work_left n t ≤ work_left n s }
+    ensures abreast { (n : ℕ → ℕ) (config : Config) (m : ℕ) (s t : Sending) (r u : Receiving)
+        → IsModest n → IsOpening n config s → IsAbreast n s r → Exchanges n m s r t u → IsQuiet n t × IsAbreast n t u }
+    ensures delivered { (n : ℕ → ℕ) (s : Sending) (r : Receiving) (k : ℕ) (x : Outgoing)
+        → IsQuiet n s → IsAbreast n s r → work_left n s ≡ 0 → outgoing_at s k ≡ Some x → ((incoming_at r k).held.read ≡ n k) × ((incoming_at r k).credited ≡ x.offered) }
 {}
 
 /// What came is held, and a run of what is held in a row takes it all.

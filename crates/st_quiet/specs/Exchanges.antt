@@ -1,0 +1,33 @@
+-- A quiet run of both sides: each load is fulfilled, its reply told, all of it read, and the input written on.
+use Rattle.std.specs.Prelude.{◌≡◌, ℕ, zero, suc, ◌+◌, ◌^◌, ◌<◌, List, map, sum}
+use Rattle.std.specs.List.{range_with_len}
+use Rattle.st_frames.specs.Frames.{Known, Packet, frames_of, max_packet}
+use Rattle.st_sender.specs.Sending.{Load, Sending}
+use Rattle.st_sender.specs.Loads.{Sends, with_flight}
+use Rattle.st_sender.specs.Answering.{after_all_told}
+use Rattle.st_sender.specs.Filling.{Fills}
+use Rattle.st_receiver.specs.Streams.{Receiving}
+use Rattle.st_receiver.specs.Judged.{effect}
+use Rattle.st_receiver.specs.Limits.{reply_frames}
+use Rattle.st_quiet.specs.Rounds.{IsWritten, once_fulfilled}
+use Rattle.st_quiet.specs.Mirrored.{IsPacketOf, IsReadOut}
+
+pub record Exchange (n : ℕ → ℕ) (s : Sending) (r : Receiving) (t : Sending) (u : Receiving) : Type 0 where
+  pub limits : List Known
+  pub load : Load
+  pub packet : Packet
+  pub sends : Sends s limits max_packet load (with_flight s load)
+  pub fills : Fills s limits max_packet load
+  pub carries : IsPacketOf load packet
+  pub left : s.last + 1 < s.config.packets  -- the Prepares of the connection are not used up
+  pub reads : IsReadOut (effect r packet load.amount) u
+  pub writes : IsWritten n (after_all_told (once_fulfilled s load) (reply_frames (effect r packet load.amount) (frames_of packet))) t
+
+-- so many of them
+abbrev pub Exchanges : (ℕ → ℕ) → ℕ → Sending → Receiving → Sending → Receiving → Type 0
+Exchanges n zero s r t u = (t ≡ s) × (u ≡ r)
+Exchanges n (suc m) s r t u = (mid : Sending) × (between : Receiving) × Exchange n s r mid between × Exchanges n m mid between t u
+
+-- all input together stays below the limit on accepted bytes
+abbrev pub IsModest : (ℕ → ℕ) → Type 0
+IsModest n = sum (map n (range_with_len 0 65)) < 2 ^ 63
