@@ -27,7 +27,7 @@ new_left n money = record {
   may_pay = λ told e. absurd (cc);
 }
 
-nothing_sent : (n : ℕ → ℕ) (config : Config) (s : Sending) (k : ℕ) (o : Option Outgoing) → IsOpening n config s → outgoing_at s k ≡ o → s.flights ≡ [] → max (sent_end s k o) (highest_end k []) ≡ 0
+pub nothing_sent : (n : ℕ → ℕ) (config : Config) (s : Sending) (k : ℕ) (o : Option Outgoing) → IsOpening n config s → outgoing_at s k ≡ o → s.flights ≡ [] → max (sent_end s k o) (highest_end k []) ≡ 0
 nothing_sent n config s k None opening e none = refl
 nothing_sent n config s k (Some y) opening e none =
     let is = (opening.streams k y e).1.is in

@@ -24,4 +24,5 @@ pub mod Holding
 pub mod Staying
 pub mod Abreast
 pub mod Exchanging
+pub mod Opening
 pub mod Closing

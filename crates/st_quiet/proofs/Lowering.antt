@@ -157,10 +157,10 @@ pub clean_asked : (n : ℕ → ℕ) (s : Sending) (k c : ℕ) (x : Outgoing) →
 clean_asked n s k c x quiet e (inl h) = absurd (let a = (quiet.streams k x e).alive in let b = h.asked in let clash : ◌≡◌ {A = Option ℕ} None (Some c) = sym a ∙ b in cc)
 clean_asked n s k c x quiet e (inr h) = (h.code_is, h.unsettled)
 
-pub no_slot : (k : ℕ) → slot {A = ℕ} no_slots k ≡ None
-no_slot k = none_in 65 k
+pub no_slot : {A : Type 0} (k : ℕ) → slot {A = A} no_slots k ≡ None
+no_slot {A} k = none_in 65 k
   where
-    none_in : (m k : ℕ) → slot {A = ℕ} (replicate m None) k ≡ None
+    none_in : (m k : ℕ) → slot {A = A} (replicate m None) k ≡ None
     none_in zero k = refl
     none_in (suc m) zero = refl
     none_in (suc m) (suc k) = none_in m k

@@ -1,14 +1,16 @@
 -- A quiet run of both sides: each load is fulfilled, its reply told, all of it read, and the input written on.
-use Rattle.std.specs.Prelude.{◌≡◌, ℕ, zero, suc, ◌+◌, ◌^◌, ◌<◌, List, map, sum}
+use Rattle.std.specs.Prelude.{◌≡◌, ℕ, zero, suc, ◌+◌, ◌^◌, ◌<◌, ◌≤◌, true, List, map, slice_index, sum}
 use Rattle.std.specs.List.{range_with_len}
+use Rattle.std.specs.declared.option.Option.TheVariants.{Some}
 use Rattle.st_frames.specs.Frames.{Known, Packet, frames_of, max_packet}
-use Rattle.st_sender.specs.Sending.{Load, Sending}
+use Rattle.st_sender.specs.Sending.{Load, Outgoing, Sending, outgoing_at}
 use Rattle.st_sender.specs.Loads.{Sends, with_flight}
 use Rattle.st_sender.specs.Answering.{after_all_told}
 use Rattle.st_sender.specs.Filling.{Fills}
-use Rattle.st_receiver.specs.Streams.{Receiving}
+use Rattle.st_receiver.specs.Streams.{Receiving, may_name, new_receiving}
 use Rattle.st_receiver.specs.Judged.{effect}
 use Rattle.st_receiver.specs.Limits.{reply_frames}
+use Rattle.st_quiet.specs.Left.{all_money_left}
 use Rattle.st_quiet.specs.Rounds.{IsWritten, once_fulfilled}
 use Rattle.st_quiet.specs.Mirrored.{IsPacketOf, IsReadOut}
 
@@ -31,3 +33,13 @@ Exchanges n (suc m) s r t u = (mid : Sending) × (between : Receiving) × Exchan
 -- all input together stays below the limit on accepted bytes
 abbrev pub IsModest : (ℕ → ℕ) → Type 0
 IsModest n = sum (map n (range_with_len 0 65)) < 2 ^ 63
+
+-- a receiver to which nothing came, with these receive maxes set
+abbrev pub opened_receiving : (parity : ℕ) → (kept : List ℕ) → Receiving
+opened_receiving parity kept = record (new_receiving parity) { kept = kept }
+
+-- it lets all that is offered come on streams that the sender opened
+pub record AllowsAll (s : Sending) (r : Receiving) : Type 0 where
+  pub named : (k : ℕ) (x : Outgoing) → outgoing_at s k ≡ Some x → may_name r k ≡ true
+  pub most : (k : ℕ) (x : Outgoing) → outgoing_at s k ≡ Some x → x.offered ≤ slice_index r.kept k
+  pub credit : all_money_left s < 2 ^ 63
