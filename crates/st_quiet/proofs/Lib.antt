@@ -25,4 +25,5 @@ pub mod Staying
 pub mod Abreast
 pub mod Exchanging
 pub mod Opening
+pub mod ReadingOut
 pub mod Closing

@@ -99,7 +99,7 @@ closes_highest r (f ∷ fs) k = closes_highest (after_close r f) fs k ∙ one r 
     one r (StreamClose j code message) = replaced_at (λ x. x.highest) r j (with_close code (incoming_at r j)) k refl
     one r f = refl
 
-received_is : (r : Receiving) (k : ℕ) → received_of (slot r.streams k) ≡ (incoming_at r k).highest
+pub received_is : (r : Receiving) (k : ℕ) → received_of (slot r.streams k) ≡ (incoming_at r k).highest
 received_is r k = sym (highest_is (slice_index r.kept k) (slot r.streams k))
 
 -- no stream has received past what was sent

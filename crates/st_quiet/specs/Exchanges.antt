@@ -1,5 +1,5 @@
 -- A quiet run of both sides: each load is fulfilled, its reply told, all of it read, and the input written on.
-use Rattle.std.specs.Prelude.{◌≡◌, ℕ, zero, suc, ◌+◌, ◌^◌, ◌<◌, ◌≤◌, true, List, map, slice_index, sum}
+use Rattle.std.specs.Prelude.{◌≡◌, ℕ, zero, suc, ◌+◌, ◌^◌, ◌<◌, ◌≤◌, true, List, map, slice_index, sum, if◌then◌else◌}
 use Rattle.std.specs.List.{range_with_len}
 use Rattle.std.specs.declared.option.Option.TheVariants.{Some}
 use Rattle.st_frames.specs.Frames.{Known, Packet, frames_of, max_packet}
@@ -7,7 +7,8 @@ use Rattle.st_sender.specs.Sending.{Load, Outgoing, Sending, outgoing_at}
 use Rattle.st_sender.specs.Loads.{Sends, with_flight}
 use Rattle.st_sender.specs.Answering.{after_all_told}
 use Rattle.st_sender.specs.Filling.{Fills}
-use Rattle.st_receiver.specs.Streams.{Receiving, may_name, new_receiving}
+use Rattle.st_receiver.specs.Streams.{Receiving, is_open, may_name, new_receiving}
+use Rattle.st_receiver.specs.Reading.{after_got}
 use Rattle.st_receiver.specs.Judged.{effect}
 use Rattle.st_receiver.specs.Limits.{reply_frames}
 use Rattle.st_quiet.specs.Left.{all_money_left}
@@ -43,3 +44,11 @@ pub record AllowsAll (s : Sending) (r : Receiving) : Type 0 where
   pub named : (k : ℕ) (x : Outgoing) → outgoing_at s k ≡ Some x → may_name r k ≡ true
   pub most : (k : ℕ) (x : Outgoing) → outgoing_at s k ≡ Some x → x.offered ≤ slice_index r.kept k
   pub credit : all_money_left s < 2 ^ 63
+
+-- a read of each open stream, of at most so many bytes
+abbrev pub read_open : (limit : ℕ) → Receiving → ℕ → Receiving
+read_open limit r k = if is_open r k then after_got r k limit else r
+
+unfoldable pub read_each : (limit first count : ℕ) → Receiving → Receiving
+read_each limit first zero r = r
+read_each limit first (suc m) r = read_each limit (first + 1) m (read_open limit r first)

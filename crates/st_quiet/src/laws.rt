@@ -22,7 +22,7 @@ ghost use Rattle.st_receiver.specs.Judged.{after_all, effect, fault_of};
 ghost use Rattle.st_quiet.specs.Quiet.{IsQuiet};
 ghost use Rattle.st_quiet.specs.Left.{all_frames_left, all_money_left, bound, work_left};
 ghost use Rattle.st_quiet.specs.Rounds.{once_fulfilled, IsWritten, IsDone, IsOpening, IsSmall, PeerTells, Rounds, TellsEnough};
-ghost use Rattle.st_quiet.specs.Exchanges.{AllowsAll, Exchanges, IsModest, opened_receiving};
+ghost use Rattle.st_quiet.specs.Exchanges.{AllowsAll, Exchanges, IsModest, opened_receiving, read_each};
 ghost use Rattle.st_quiet.specs.Mirrored.{IsAbreast, IsMirrored, IsOn, IsPacketOf, IsReadOut};
 
 /// From the opening on a quiet run has fewer Sends than the bound; so there is room in it for the one that gives none.
@@ -109,6 +109,12 @@ pub fn exchanges_are_bounded()
         → IsModest n → IsOpening n config s → IsAbreast n s r → Exchanges n m s r t u → IsQuiet n t × IsAbreast n t u }
     ensures delivered { (n : ℕ → ℕ) (s : Sending) (r : Receiving) (k : ℕ) (x : Outgoing)
         → IsQuiet n s → IsAbreast n s r → work_left n s ≡ 0 → outgoing_at s k ≡ Some x → ((incoming_at r k).held.read ≡ n k) × ((incoming_at r k).credited ≡ x.offered) }
+{}
+
+/// Reads of each open stream, of as many bytes as it holds in a row, take all that can be read.
+pub fn reads_take_all()
+    ensures { (limit : ℕ) (r : Receiving) → length r.streams ≡ 65 → ((k : ℕ) → (incoming_at r k).held.aborted ≡ None) → ((k : ℕ) → length (run (incoming_at r k).held) ≤ limit)
+        → IsReadOut r (read_each limit 0 65 r) }
 {}
 
 /// A receiver to which nothing came is abreast of an opening, where it lets all that is offered come.
