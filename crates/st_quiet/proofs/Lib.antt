@@ -26,4 +26,5 @@ pub mod Abreast
 pub mod Exchanging
 pub mod Opening
 pub mod ReadingOut
+pub mod Writing
 pub mod Closing

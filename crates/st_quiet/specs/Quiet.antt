@@ -21,6 +21,13 @@ pub record IsWaiting (n : ℕ) (x : Outgoing) : Type 0 where
   pub paid : x.fulfilled ≤ x.offered
   pub may_pay : (told : ℕ × ℕ) → x.told_money ≡ Some told → (x.offered ≤ told.0) × (told.1 ≤ x.fulfilled)
 
+-- what is not acknowledged of a stream is a row of bytes, up to what was accepted
+pub record IsRow (x : Outgoing) : Type 0 where
+  pub front : (q : ℕ) → q < x.acked_end → get x.unacked q ≡ None
+  pub row : (q : ℕ) → x.acked_end ≤ q → q < x.accepted → (b : ℕ) × (get x.unacked q ≡ Some b)
+  pub past : (q : ℕ) → x.accepted ≤ q → get x.unacked q ≡ None
+  pub within : x.acked_end ≤ x.accepted
+
 -- n k: the bytes of stream k
 pub record IsQuiet (n : ℕ → ℕ) (s : Sending) : Type 0 where
   pub alone : s.flights ≡ []

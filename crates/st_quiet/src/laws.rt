@@ -14,12 +14,14 @@ ghost use Rattle.st_sender.specs.Due.{IsDue};
 ghost use Rattle.st_sender.specs.Loads.{IsIdle, Sends, load_with, with_flight};
 ghost use Rattle.st_sender.specs.Filling.{Fills};
 ghost use Rattle.st_sender.specs.Answering.{after_all_told};
+ghost use Rattle.st_sender.specs.Refusals.{all_accepted, is_closed, write_refusal};
+ghost use Rattle.st_sender.specs.declared.error.OutboxError.TheVariants.{Full};
 ghost use Rattle.st_receiver.specs.Streams.{Receiving, incoming_at, may_name};
 ghost use Rattle.st_receiver.specs.Limits.{capped, connection_limit, reply_frames};
 ghost use Rattle.st_receiver.specs.Data.{frames_fault};
 ghost use Rattle.st_receiver.specs.Money.{is_over_max, money_fault, parts};
 ghost use Rattle.st_receiver.specs.Judged.{after_all, effect, fault_of};
-ghost use Rattle.st_quiet.specs.Quiet.{IsQuiet};
+ghost use Rattle.st_quiet.specs.Quiet.{IsQuiet, IsRow};
 ghost use Rattle.st_quiet.specs.Left.{all_frames_left, all_money_left, bound, work_left};
 ghost use Rattle.st_quiet.specs.Rounds.{once_fulfilled, IsWritten, IsDone, IsOpening, IsSmall, PeerTells, Rounds, TellsEnough};
 ghost use Rattle.st_quiet.specs.Exchanges.{AllowsAll, Exchanges, IsModest, opened_receiving, read_each};
@@ -115,6 +117,15 @@ pub fn exchanges_are_bounded()
 pub fn reads_take_all()
     ensures { (limit : ℕ) (r : Receiving) → length r.streams ≡ 65 → ((k : ℕ) → (incoming_at r k).held.aborted ≡ None) → ((k : ℕ) → length (run (incoming_at r k).held) ≤ limit)
         → IsReadOut r (read_each limit 0 65 r) }
+{}
+
+/// A write on a stream that is open, with what waits in a row, is taken as far as 262,144 bytes that are not acknowledged,
+/// and refused past them.
+pub fn a_write_is_taken_where_it_fits()
+    ensures fits { (s : Sending) (k count : ℕ) (x : Outgoing) → outgoing_at s k ≡ Some x → IsRow x → is_closed x ≡ false → all_accepted s.streams + count < 2 ^ 63
+        → x.accepted + count ≤ x.acked_end + 262144 → write_refusal s k count ≡ None }
+    ensures full { (s : Sending) (k count : ℕ) (x : Outgoing) → outgoing_at s k ≡ Some x → IsRow x → is_closed x ≡ false
+        → x.acked_end + 262144 < x.accepted + count → write_refusal s k count ≡ Some Full }
 {}
 
 /// A receiver to which nothing came is abreast of an opening, where it lets all that is offered come.
