@@ -1,5 +1,5 @@
 -- A receiver that was abreast of the sender is so again after a round and its reads.
-use Rattle.std.proofs.Common.{◌≡◌, ◌≢◌, ℕ, zero, suc, ◌+◌, ◌^◌, ◌<◌, ◌≤◌, Bool, true, false, ◌||◌, cond, List, [], ◌∷◌, length, map, max, refl, sym, ap, subst, ◌∙◌, arith, Option, None, Some, inl, inr, nat_eq}
+use Rattle.std.proofs.Common.{◌≡◌, ℕ, zero, suc, ◌+◌, ◌^◌, ◌<◌, ◌≤◌, Bool, true, false, cond, List, [], ◌∷◌, length, map, max, refl, sym, ap, subst, ◌∙◌, arith, Option, None, Some, inl, inr, nat_eq}
 use Rattle.std.specs.Prelude.{Contains}
 use Rattle.std.specs.FinSet as fset
 use Rattle.std.specs.Ordering.{nat_cmp, eq_by_cmp}

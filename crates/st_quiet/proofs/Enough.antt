@@ -1,4 +1,4 @@
--- What the server tells, where it had read all that went before, is enough for the next Send.
+-- What the receiver tells, where it had read all that went before, is enough for the next Send.
 use Rattle.std.proofs.Common.{◌≡◌, ℕ, ◌+◌, ◌^◌, ◌<◌, ◌≤◌, List, [], max, refl, sym, ap, ◌∙◌, arith, Option, None, Some, ◌⊎◌, inl, inr, map}
 use Rattle.std.specs.Prelude.{Contains}
 use Rattle.std.proofs.lemmas.Bool.{cases_lt}

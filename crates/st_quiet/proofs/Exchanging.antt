@@ -1,5 +1,5 @@
 -- A run of both sides is a run of rounds, so it is as short; and where it ends all was delivered.
-use Rattle.std.proofs.Common.{◌≡◌, ℕ, zero, suc, ◌+◌, ◌^◌, ◌<◌, ◌≤◌, List, [], length, map, max, sum, refl, sym, ap, subst, ◌∙◌, arith, Option, None, Some}
+use Rattle.std.proofs.Common.{◌≡◌, ℕ, zero, suc, ◌≤◌, [], map, max, sum, refl, sym, ap, subst, ◌∙◌, arith, Option, None, Some}
 use Rattle.std.specs.List.{range_with_len}
 use Rattle.st_frames.specs.Frames.{frames_of}
 use Rattle.st_sender.specs.Sending.{Outgoing, Sending, outgoing_at}

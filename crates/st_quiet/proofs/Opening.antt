@@ -1,12 +1,12 @@
 -- Where nothing came, a receiver is abreast of a sender that sent nothing.
-use Rattle.std.proofs.Common.{◌≡◌, ℕ, ◌+◌, ◌≤◌, List, [], max, refl, sym, ap, ◌∙◌, arith, None, Some, slice_index}
+use Rattle.std.proofs.Common.{◌≡◌, ℕ, List, refl, sym, ap, ◌∙◌, arith, slice_index}
 use Rattle.std.specs.FinMap as fmap
 use Rattle.std.specs.FinSet as fset
 use Rattle.std.specs.Ordering.{nat_cmp}
 use Rattle.st_tables.specs.Slots.{slot}
 use Rattle.st_sender.specs.Sending.{Config, Outgoing, Sending, outgoing_at}
-use Rattle.st_sender.specs.Flights.{highest_end, sent_end}
-use Rattle.st_receiver.specs.Streams.{Incoming, Receiving, fresh_incoming, incoming_at, incoming_or, received_of}
+use Rattle.st_sender.specs.Flights.{sent_end}
+use Rattle.st_receiver.specs.Streams.{Incoming, fresh_incoming, incoming_at, incoming_or, received_of}
 use Rattle.st_quiet.specs.Rounds.{IsOpening}
 use Rattle.st_quiet.specs.Mirrored.{IsAbreast}
 use Rattle.st_quiet.specs.Exchanges.{AllowsAll, opened_receiving}

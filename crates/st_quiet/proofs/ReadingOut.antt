@@ -1,5 +1,5 @@
 -- Reads of each open stream take all that can be read.
-use Rattle.std.proofs.Common.{◌≡◌, ◌≢◌, ℕ, zero, suc, ◌+◌, ◌<◌, ◌≤◌, Bool, true, false, not, ◌&&◌, ◌||◌, cond, List, [], ◌∷◌, length, set, take, refl, sym, ap, subst, ◌∙◌, arith, Option, None, Some, ◌⊎◌, inl, inr, nat_eq, nat_le, slice_index}
+use Rattle.std.proofs.Common.{◌≡◌, ◌≢◌, ℕ, zero, suc, ◌+◌, ◌<◌, ◌≤◌, Bool, true, false, not, ◌&&◌, ◌||◌, cond, List, [], ◌∷◌, length, take, refl, sym, ap, subst, ◌∙◌, arith, Option, None, Some, ◌⊎◌, inl, inr, nat_eq, nat_le, slice_index}
 use Rattle.std.specs.Prelude.{is_some, ◌%◌}
 use Rattle.std.specs.FinMap as fmap
 use Rattle.std.specs.Ordering.{nat_cmp}
@@ -12,7 +12,7 @@ use Rattle.st_reassembly.specs.Held.{Held, nothing_held}
 use Rattle.st_reassembly.specs.Run.{run}
 use Rattle.st_reassembly.proofs.Pointwise.{reads_after}
 use Rattle.st_reassembly.proofs.Runs.{is_run}
-use Rattle.st_receiver.specs.Streams.{Incoming, Receiving, fresh_incoming, incoming_at, incoming_or, is_open, may_name, received_of, with_incoming}
+use Rattle.st_receiver.specs.Streams.{Incoming, Receiving, fresh_incoming, incoming_at, incoming_or, is_open, with_incoming}
 use Rattle.st_receiver.specs.Reading.{after_bytes, after_get, after_got, after_got_by}
 use Rattle.st_quiet.specs.Mirrored.{IsReadOut}
 use Rattle.st_quiet.specs.Exchanges.{read_each, read_open}

@@ -1,4 +1,4 @@
--- A server takes the frames of a quiet load: none breaks a rule.
+-- A receiver takes the frames of a quiet load: none breaks a rule.
 use Rattle.std.proofs.Common.{◌≡◌, ℕ, zero, suc, ◌+◌, ◌-◌, ◌*◌, ◌/◌, ◌^◌, ◌<◌, ◌≤◌, Bool, true, false, not, ◌&&◌, ◌||◌, cond, List, [], ◌∷◌, length, map, max, sum, set, refl, sym, ap, subst, ◌∙◌, arith, Option, None, Some, ◌⊎◌, inl, inr, nat_eq, nat_lt, nat_le}
 use Rattle.std.specs.Prelude.{is_err, is_some, slice_index, ◌%◌}
 use Rattle.std.proofs.lemmas.List.{length-set}

@@ -1,4 +1,4 @@
--- A server that mirrors a quiet sender takes the frames of its load.
+-- A receiver that mirrors a quiet sender takes the frames of its load.
 use Rattle.std.proofs.Common.{◌≡◌, ℕ, ◌≤◌, List, [], ◌∷◌, max, arith, None, map}
 use Rattle.std.specs.List.{AllByRecursion}
 use Rattle.st_frames.specs.Frames.{Known, StreamClose, StreamData, StreamMoney, max_packet}

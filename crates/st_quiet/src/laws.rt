@@ -44,7 +44,7 @@ pub fn a_send_stops_at_the_end()
     ensures done { (n : ℕ → ℕ) (s : Sending) (k : ℕ) (x : Outgoing) → IsQuiet n s → work_left n s ≡ 0 → outgoing_at s k ≡ Some x → IsDone (n k) x }
 {}
 
-/// What a server tells that had read all that went before is enough for the next Send: its windows of 65,536 and
+/// What a receiver tells that had read all that went before is enough for the next Send: its windows of 65,536 and
 /// 1,048,576 bytes leave 16,000 past the longest load, and its receive max leaves room for all money that was offered.
 pub fn a_reply_tells_enough()
     ensures { (n : ℕ → ℕ) (s : Sending) (limits : List Known) (p : Load) (told : List Known)
@@ -52,7 +52,8 @@ pub fn a_reply_tells_enough()
         → TellsEnough (once_fulfilled s p) told }
 {}
 
-/// No frame of such a load breaks a rule of the server, and taking them leaves what it has read.
+/// No frame of such a load breaks a rule of a receiver that mirrors the sender, its money goes where its shares say, and taking
+/// it leaves what was read.
 pub fn a_load_breaks_no_rule()
     ensures fine { (n : ℕ → ℕ) (s : Sending) (limits : List Known) (p : Load) (r : Receiving)
         → IsQuiet n s → Sends s limits max_packet p (with_flight s p) → IsMirrored s r → frames_fault r p.frames ≡ None }
