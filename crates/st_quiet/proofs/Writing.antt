@@ -1,5 +1,5 @@
 -- How much of the input is written on.
-use Rattle.std.proofs.Common.{◌≡◌, ℕ, zero, suc, ◌+◌, ◌-◌, ◌^◌, ◌<◌, ◌≤◌, Bool, true, false, ◌||◌, cond, refl, sym, ap, ◌∙◌, arith, Option, None, Some, inl, inr, nat_le, nat_lt}
+use Rattle.std.proofs.Common.{◌≡◌, ℕ, zero, suc, ◌+◌, ◌-◌, ◌^◌, ◌<◌, ◌≤◌, Bool, true, false, ◌||◌, cond, List, length, refl, sym, ap, ◌∙◌, arith, Option, None, Some, inl, inr, nat_le, nat_lt}
 use Rattle.std.specs.Prelude.{is_some}
 use Rattle.std.specs.FinMap as fmap
 use Rattle.std.proofs.lemmas.Bool.{cases_lt}
@@ -11,8 +11,10 @@ use Rattle.st_unacked.proofs.Counts.{len-table}
 use Rattle.st_sender.specs.declared.error.OutboxError.{OutboxError}
 use Rattle.st_sender.specs.declared.error.OutboxError.TheVariants.{Closed, Full}
 use Rattle.st_sender.specs.Sending.{Outgoing, Sending, outgoing_at}
+use Rattle.st_sender.specs.Accepting.{after_clean, after_write}
 use Rattle.st_sender.specs.Refusals.{all_accepted, full, is_closed, refusal_at, write_refusal}
 use Rattle.st_quiet.specs.Quiet.{IsRow}
+use Rattle.st_quiet.specs.Rounds.{IsRefilled}
 
 all_counted : (passes : ℕ → Bool) (first n : ℕ) → ((q : ℕ) → first ≤ q → q < first + n → passes q ≡ true) → counted passes first n ≡ n
 unfolding counted
@@ -68,3 +70,25 @@ write_full s k count x e row still past = asked s k count x e still ∙ no_room 
   where
     no_room : (len all : ℕ) → 262144 < len + count → cond (nat_lt 262144 (len + count) || nat_le (2 ^ 63) (all + count)) (Some Full) None ≡ Some Full
     no_room len all a = let c : nat_lt 262144 (len + count) ≡ true = grind (arith, nat_tests) in rw c refl
+
+-- ---- what a write and a close leave
+
+pub refilled_more : (n : ℕ) (x : Outgoing) (more : List ℕ) → x.accepted + length more < n → x.acked_end + 262144 ≤ x.accepted + length more → IsRefilled n x (after_write more x)
+refilled_more n x more short far = record {
+  more = more;
+  clean = x.clean;
+  is = refl;
+  total = omega (arith, short);
+  full = inr far;
+  closed = λ e. absurd (omega (arith, e, short));
+}
+
+pub refilled_clean : (n : ℕ) (x : Outgoing) (more : List ℕ) → x.accepted + length more ≡ n → IsRefilled n x (after_clean (after_write more x))
+refilled_clean n x more all = record {
+  more = more;
+  clean = true;
+  is = refl;
+  total = omega (arith, all);
+  full = inl all;
+  closed = λ e. refl;
+}

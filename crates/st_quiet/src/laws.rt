@@ -14,6 +14,7 @@ ghost use Rattle.st_sender.specs.Due.{IsDue};
 ghost use Rattle.st_sender.specs.Loads.{IsIdle, Sends, load_with, with_flight};
 ghost use Rattle.st_sender.specs.Filling.{Fills};
 ghost use Rattle.st_sender.specs.Answering.{after_all_told};
+ghost use Rattle.st_sender.specs.Accepting.{after_clean, after_write};
 ghost use Rattle.st_sender.specs.Refusals.{all_accepted, is_closed, write_refusal};
 ghost use Rattle.st_sender.specs.declared.error.OutboxError.TheVariants.{Full};
 ghost use Rattle.st_receiver.specs.Streams.{Receiving, incoming_at, may_name};
@@ -23,7 +24,7 @@ ghost use Rattle.st_receiver.specs.Money.{is_over_max, money_fault, parts};
 ghost use Rattle.st_receiver.specs.Judged.{after_all, effect, fault_of};
 ghost use Rattle.st_quiet.specs.Quiet.{IsQuiet, IsRow};
 ghost use Rattle.st_quiet.specs.Left.{all_frames_left, all_money_left, bound, work_left};
-ghost use Rattle.st_quiet.specs.Rounds.{once_fulfilled, IsWritten, IsDone, IsOpening, IsSmall, PeerTells, Rounds, TellsEnough};
+ghost use Rattle.st_quiet.specs.Rounds.{IsRefilled, once_fulfilled, IsWritten, IsDone, IsOpening, IsSmall, PeerTells, Rounds, TellsEnough};
 ghost use Rattle.st_quiet.specs.Exchanges.{AllowsAll, Exchanges, IsModest, opened_receiving, read_each};
 ghost use Rattle.st_quiet.specs.Mirrored.{IsAbreast, IsMirrored, IsOn, IsPacketOf, IsReadOut};
 
@@ -127,6 +128,12 @@ pub fn a_write_is_taken_where_it_fits()
         → x.accepted + count ≤ x.acked_end + 262144 → write_refusal s k count ≡ None }
     ensures full { (s : Sending) (k count : ℕ) (x : Outgoing) → outgoing_at s k ≡ Some x → IsRow x → is_closed x ≡ false
         → x.acked_end + 262144 < x.accepted + count → write_refusal s k count ≡ Some Full }
+{}
+
+/// A stream whose input was written as far as it fits, and closed where that was its end, is written on.
+pub fn a_stream_is_written_on()
+    ensures more { (n : ℕ) (x : Outgoing) (more : List ℕ) → x.accepted + length more < n → x.acked_end + 262144 ≤ x.accepted + length more → IsRefilled n x (after_write more x) }
+    ensures closed { (n : ℕ) (x : Outgoing) (more : List ℕ) → x.accepted + length more ≡ n → IsRefilled n x (after_clean (after_write more x)) }
 {}
 
 /// A receiver to which nothing came is abreast of an opening, where it lets all that is offered come.
