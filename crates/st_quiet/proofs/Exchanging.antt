@@ -1,0 +1,82 @@
+-- A run of both sides is a run of rounds, so it is as short; and where it ends all was delivered.
+use Rattle.std.proofs.Common.{◌≡◌, ℕ, zero, suc, ◌≤◌, [], map, max, sum, refl, sym, ap, subst, ◌∙◌, arith, Option, None, Some}
+use Rattle.std.specs.List.{range_with_len}
+use Rattle.st_frames.specs.Frames.{frames_of}
+use Rattle.st_sender.specs.Sending.{Outgoing, Sending, outgoing_at}
+use Rattle.st_sender.specs.Flights.{all_ends, highest_end, sent_end}
+use Rattle.st_receiver.specs.Streams.{Receiving, incoming_at}
+use Rattle.st_receiver.specs.Judged.{effect}
+use Rattle.st_receiver.specs.Limits.{reply_frames}
+use Rattle.st_tables.proofs.SlotLemmas.{slot_within}
+use Rattle.st_quiet.specs.Quiet.{IsQuiet}
+use Rattle.st_quiet.specs.Left.{work_left}
+use Rattle.st_quiet.specs.Rounds.{IsSmall, Round, Rounds}
+use Rattle.st_quiet.specs.Mirrored.{IsAbreast}
+use Rattle.st_quiet.specs.Exchanges.{Exchange, Exchanges, IsModest}
+use Rattle.st_quiet.proofs.Sums.{sum_below}
+use Rattle.st_quiet.proofs.Lowering.{place_below}
+use Rattle.st_quiet.proofs.Rounds.{round_keeps}
+use Rattle.st_quiet.proofs.Bound.{all_done}
+use Rattle.st_quiet.proofs.Enough.{tells_enough}
+use Rattle.st_quiet.proofs.Replies.{acked_is_sent, reply_tells}
+use Rattle.st_quiet.proofs.Abreast.{round_abreast}
+
+-- ---- where all input is modest, so is each sender on the way
+
+end_within_input : (n : ℕ → ℕ) (s : Sending) (k : ℕ) (o : Option Outgoing) → IsQuiet n s → outgoing_at s k ≡ o → max (sent_end s k (outgoing_at s k)) (highest_end k []) ≤ n k
+end_within_input n s k None quiet e = let z : sent_end s k (outgoing_at s k) ≡ 0 = ap (sent_end s k) e in omega (arith, z)
+end_within_input n s k (Some x) quiet e =
+    let is = acked_is_sent s k x quiet.alone e in
+    let within = (quiet.streams k x e).within in
+    let total = (quiet.streams k x e).total in
+    omega (arith, is, within, total)
+
+ends_within_input : (n : ℕ → ℕ) (s : Sending) → IsQuiet n s → all_ends s [] ≤ sum (map n (range_with_len 0 65))
+unfolding all_ends
+ends_within_input n s quiet = sum_below (λ k. max (sent_end s k (outgoing_at s k)) (highest_end k [])) n (λ k. end_within_input n s k (outgoing_at s k) quiet refl) 0 65
+
+modest_small : (n : ℕ → ℕ) (s : Sending) → IsModest n → IsQuiet n s → IsSmall s
+modest_small n s modest quiet = record {
+  ends = (let l = ends_within_input n s quiet in omega (arith, l, modest));
+  each = λ k x e. (let within = slot_within s.streams k x e in
+      let slots = quiet.slots in
+      let below = place_below n k 0 65 (omega arith) (omega (arith, within, slots)) in
+      let total = (quiet.streams k x e).total in
+      omega (arith, below, total, modest));
+}
+
+-- ---- a run of both sides
+
+exchange_round : (n : ℕ → ℕ) (s : Sending) (r : Receiving) (t : Sending) (u : Receiving) → IsModest n → IsQuiet n s → IsAbreast n s r → Exchange n s r t u → Round n s t
+exchange_round n s r t u modest quiet abreast x = record {
+  limits = x.limits;
+  load = x.load;
+  told = reply_frames (effect r x.packet x.load.amount) (frames_of x.packet);
+  sends = x.sends;
+  fills = x.fills;
+  tells = tells_enough n s x.limits x.load (reply_frames (effect r x.packet x.load.amount) (frames_of x.packet)) quiet x.sends x.fills (modest_small n s modest quiet) (reply_tells n s x.limits x.load x.packet r quiet x.sends abreast x.carries);
+  left = x.left;
+  writes = x.writes;
+}
+
+pub exchanges_rounds : (n : ℕ → ℕ) (m : ℕ) (s : Sending) (r : Receiving) (t : Sending) (u : Receiving) → IsModest n → IsQuiet n s → IsAbreast n s r → Exchanges n m s r t u → Rounds n m s t × IsAbreast n t u
+exchanges_rounds n zero s r t u modest quiet abreast run = (run.0, both t u run.0 run.1)
+  where
+    both : (t : Sending) (u : Receiving) → t ≡ s → u ≡ r → IsAbreast n t u
+    both t u e f = subst (λ z. IsAbreast n z u) (sym e) (subst (λ z. IsAbreast n s z) (sym f) abreast)
+exchanges_rounds n (suc m) s r t u modest quiet abreast run =
+    let mid = run.0 in
+    let between = run.1 in
+    let x = run.2 in
+    let round = exchange_round n s r mid between modest quiet abreast x in
+    let kept = round_abreast n s mid x.limits x.load x.packet r between quiet x.sends x.fills abreast x.carries x.reads x.writes in
+    let rest = exchanges_rounds n m mid between t u modest (round_keeps n s mid quiet round) kept run.3 in
+    ((mid, round, rest.0), rest.1)
+
+-- ---- the end
+
+pub all_delivered : (n : ℕ → ℕ) (s : Sending) (r : Receiving) (k : ℕ) (x : Outgoing) → IsQuiet n s → IsAbreast n s r → work_left n s ≡ 0 → outgoing_at s k ≡ Some x
+    → ((incoming_at r k).held.read ≡ n k) × ((incoming_at r k).credited ≡ x.offered)
+all_delivered n s r k x quiet abreast done e =
+    let is = all_done n s k x quiet done e in
+    (abreast.read k ∙ acked_is_sent s k x quiet.alone e ∙ is.bytes, abreast.credited k x e ∙ is.money)

@@ -1,0 +1,5 @@
+pub mod Quiet
+pub mod Left
+pub mod Rounds
+pub mod Mirrored
+pub mod Exchanges

@@ -1,0 +1,150 @@
+//! What holds of every quiet run, over the definitions alone. These functions do nothing: the contract is the law.
+
+ghost use Rattle.std.specs.Prelude.{◌≡◌, ℕ, ◌+◌, ◌<◌, ◌≤◌, true, false, List, [], ◌∷◌, ◌^◌, length, sum, Contains};
+ghost use Rattle.std.specs.List.{AllByRecursion, list_any};
+ghost use Rattle.std.specs.FinMap.{get};
+ghost use Rattle.std.specs.declared.option.Option.TheVariants.{None, Some};
+ghost use Rattle.st_tables.specs.Slots.{slot};
+ghost use Rattle.st_frames.specs.Frames.{ConnectionMaxData, Known, Packet, StreamClose, StreamMaxData, frames_of, max_packet};
+ghost use Rattle.st_frames.specs.Told.{money_in, names, shares};
+ghost use Rattle.st_reassembly.specs.Held.{Held, after_insert};
+ghost use Rattle.st_reassembly.specs.Run.{IsRun, run};
+ghost use Rattle.st_sender.specs.Sending.{Config, Load, Outgoing, Sending, outgoing_at};
+ghost use Rattle.st_sender.specs.Due.{IsDue};
+ghost use Rattle.st_sender.specs.Loads.{IsIdle, Sends, load_with, with_flight};
+ghost use Rattle.st_sender.specs.Filling.{Fills};
+ghost use Rattle.st_sender.specs.Answering.{after_all_told};
+ghost use Rattle.st_sender.specs.Accepting.{after_clean, after_write};
+ghost use Rattle.st_sender.specs.Refusals.{all_accepted, is_closed, write_refusal};
+ghost use Rattle.st_sender.specs.declared.error.OutboxError.TheVariants.{Full};
+ghost use Rattle.st_receiver.specs.Streams.{Receiving, incoming_at, may_name};
+ghost use Rattle.st_receiver.specs.Limits.{capped, connection_limit, reply_frames};
+ghost use Rattle.st_receiver.specs.Data.{frames_fault};
+ghost use Rattle.st_receiver.specs.Money.{is_over_max, money_fault, parts};
+ghost use Rattle.st_receiver.specs.Judged.{after_all, effect, fault_of};
+ghost use Rattle.st_quiet.specs.Quiet.{IsQuiet, IsRow};
+ghost use Rattle.st_quiet.specs.Left.{all_frames_left, all_money_left, bound, work_left};
+ghost use Rattle.st_quiet.specs.Rounds.{IsRefilled, once_fulfilled, IsWritten, IsDone, IsOpening, IsSmall, PeerTells, Rounds, TellsEnough};
+ghost use Rattle.st_quiet.specs.Exchanges.{AllowsAll, Exchanges, IsModest, opened_receiving, read_each};
+ghost use Rattle.st_quiet.specs.Mirrored.{IsAbreast, IsMirrored, IsOn, IsPacketOf, IsReadOut};
+
+/// From the opening on a quiet run has fewer Sends than the bound; so there is room in it for the one that gives none.
+pub fn sends_are_bounded()
+    ensures bounded { (n : ℕ → ℕ) (config : Config) (m : ℕ) (s t : Sending) → IsOpening n config s → Rounds n m s t → m + 1 ≤ bound n s }
+    ensures sharper { (n : ℕ → ℕ) (config : Config) (m : ℕ) (s t : Sending) → IsOpening n config s → Rounds n m s t → m + work_left n t ≤ work_left n s }
+    ensures quiet { (n : ℕ → ℕ) (config : Config) (m : ℕ) (s t : Sending) → IsOpening n config s → Rounds n m s t → IsQuiet n t }
+{}
+
+/// While bytes, money or a close are left, a Send can't give none; where nothing is left, it gives none, and all is done.
+pub fn a_send_stops_at_the_end()
+    ensures goes { (n : ℕ → ℕ) (s : Sending) (limits : List Known) → IsQuiet n s → 0 < work_left n s → ¬ IsIdle s limits max_packet }
+    ensures stops { (n : ℕ → ℕ) (s : Sending) (limits : List Known) (p : Load) → IsQuiet n s → work_left n s ≡ 0 → ¬ Sends s limits max_packet p (with_flight s p) }
+    ensures closes { (n : ℕ → ℕ) (s : Sending) (limits : List Known) (k : ℕ) (x : Outgoing)
+        → IsQuiet n s → all_frames_left n s ≡ 0 → all_money_left s ≡ 0 → outgoing_at s k ≡ Some x → x.clean_settled ≡ false
+        → (let p = load_with s (StreamClose k 1 [] ∷ []) in Sends s limits max_packet p (with_flight s p) × Fills s limits max_packet p) }
+    ensures done { (n : ℕ → ℕ) (s : Sending) (k : ℕ) (x : Outgoing) → IsQuiet n s → work_left n s ≡ 0 → outgoing_at s k ≡ Some x → IsDone (n k) x }
+{}
+
+/// What a receiver tells that had read all that went before is enough for the next Send: its windows of 65,536 and
+/// 1,048,576 bytes leave 16,000 past the longest load, and its receive max leaves room for all money that was offered.
+pub fn a_reply_tells_enough()
+    ensures { (n : ℕ → ℕ) (s : Sending) (limits : List Known) (p : Load) (told : List Known)
+        → IsQuiet n s → Sends s limits max_packet p (with_flight s p) → Fills s limits max_packet p → IsSmall s → PeerTells s p told
+        → TellsEnough (once_fulfilled s p) told }
+{}
+
+/// No frame of such a load breaks a rule of a receiver that mirrors the sender, its money goes where its shares say, and taking
+/// it leaves what was read.
+pub fn a_load_breaks_no_rule()
+    ensures fine { (n : ℕ → ℕ) (s : Sending) (limits : List Known) (p : Load) (r : Receiving)
+        → IsQuiet n s → Sends s limits max_packet p (with_flight s p) → IsMirrored s r → frames_fault r p.frames ≡ None }
+    ensures reads { (s : Sending) (limits : List Known) (r : Receiving) (amount : ℕ) (fs : List Known) (k : ℕ)
+        → AllByRecursion (IsDue s limits) fs → (incoming_at (after_all r amount fs) k).held.read ≡ (incoming_at r k).held.read }
+    ensures money { (r : Receiving) (amount : ℕ) (fs : List Known)
+        → sum (shares fs) ≡ amount → r.credit + amount < 2 ^ 63 → ((k : ℕ) → is_over_max (slot r.streams k) (money_in k fs) ≡ false) → money_fault r amount fs ≡ None }
+    ensures split { (ms : List ℕ) → 0 < sum ms → parts (sum ms) ms ≡ ms }
+{}
+
+/// A reply tells the connection's limit, and the window of each stream that a frame of the request names.
+pub fn a_reply_tells_each_window()
+    ensures connection { (r : Receiving) (fs : List Known) → Contains (reply_frames r fs) (ConnectionMaxData (connection_limit r)) }
+    ensures window { (r : Receiving) (fs : List Known) (k : ℕ)
+        → 1 ≤ k → k ≤ 64 → may_name r k ≡ true → list_any (names k) fs ≡ true → Contains (reply_frames r fs) (StreamMaxData k (capped ((incoming_at r k).held.read + 65536))) }
+{}
+
+/// A receiver that is abreast of the sender fulfills each load of a quiet run.
+pub fn a_load_is_fulfilled()
+    ensures { (n : ℕ → ℕ) (s : Sending) (limits : List Known) (p : Load) (q : Packet) (r : Receiving)
+        → IsQuiet n s → Sends s limits max_packet p (with_flight s p) → IsAbreast n s r → IsPacketOf p q → fault_of r q p.amount ≡ None }
+{}
+
+/// Its reply tells what it had read and credited, and so enough for the next Send.
+pub fn a_fulfill_tells_enough()
+    ensures tells { (n : ℕ → ℕ) (s : Sending) (limits : List Known) (p : Load) (q : Packet) (r : Receiving)
+        → IsQuiet n s → Sends s limits max_packet p (with_flight s p) → IsAbreast n s r → IsPacketOf p q → PeerTells s p (reply_frames (effect r q p.amount) (frames_of q)) }
+    ensures enough { (n : ℕ → ℕ) (s : Sending) (limits : List Known) (p : Load) (q : Packet) (r : Receiving)
+        → IsQuiet n s → Sends s limits max_packet p (with_flight s p) → Fills s limits max_packet p → IsSmall s → IsAbreast n s r → IsPacketOf p q
+        → TellsEnough (once_fulfilled s p) (reply_frames (effect r q p.amount) (frames_of q)) }
+{}
+
+/// Once such a load took effect a read takes all that the sender has then acknowledged.
+pub fn a_load_is_read()
+    ensures { (n : ℕ → ℕ) (s : Sending) (limits : List Known) (p : Load) (q : Packet) (r : Receiving) (k : ℕ) (y : Outgoing)
+        → IsQuiet n s → Sends s limits max_packet p (with_flight s p) → Fills s limits max_packet p → IsAbreast n s r → IsPacketOf p q
+        → outgoing_at (once_fulfilled s p) k ≡ Some y → (let h = (incoming_at (effect r q p.amount) k).held in h.read + length (run h) ≡ y.acked_end) }
+{}
+
+/// A receiver whose reader takes what it can is abreast again after each round.
+pub fn a_round_keeps_abreast()
+    ensures { (n : ℕ → ℕ) (s t : Sending) (limits : List Known) (p : Load) (q : Packet) (r u : Receiving)
+        → IsQuiet n s → Sends s limits max_packet p (with_flight s p) → Fills s limits max_packet p → IsAbreast n s r → IsPacketOf p q
+        → IsReadOut (effect r q p.amount) u → IsWritten n (after_all_told (once_fulfilled s p) (reply_frames (effect r q p.amount) (frames_of q))) t → IsAbreast n t u }
+{}
+
+/// A run of both sides has no more Sends than the bound, with nothing assumed of what the receiver answers: from an opening
+/// and a receiver that is abreast of it, whatever was read out and written on. Where nothing is left, all bytes of each
+/// stream were read and all its money was credited.
+pub fn exchanges_are_bounded()
+    ensures bounded { (n : ℕ → ℕ) (config : Config) (m : ℕ) (s t : Sending) (r u : Receiving)
+        → IsModest n → IsOpening n config s → IsAbreast n s r → Exchanges n m s r t u → m + 1 ≤ bound n s }
+    ensures sharper { (n : ℕ → ℕ) (config : Config) (m : ℕ) (s t : Sending) (r u : Receiving)
+        → IsModest n → IsOpening n config s → IsAbreast n s r → Exchanges n m s r t u → m + work_left n t ≤ work_left n s }
+    ensures abreast { (n : ℕ → ℕ) (config : Config) (m : ℕ) (s t : Sending) (r u : Receiving)
+        → IsModest n → IsOpening n config s → IsAbreast n s r → Exchanges n m s r t u → IsQuiet n t × IsAbreast n t u }
+    ensures delivered { (n : ℕ → ℕ) (s : Sending) (r : Receiving) (k : ℕ) (x : Outgoing)
+        → IsQuiet n s → IsAbreast n s r → work_left n s ≡ 0 → outgoing_at s k ≡ Some x → ((incoming_at r k).held.read ≡ n k) × ((incoming_at r k).credited ≡ x.offered) }
+{}
+
+/// Reads of each open stream, of as many bytes as it holds in a row, take all that can be read.
+pub fn reads_take_all()
+    ensures { (limit : ℕ) (r : Receiving) → length r.streams ≡ 65 → ((k : ℕ) → (incoming_at r k).held.aborted ≡ None) → ((k : ℕ) → length (run (incoming_at r k).held) ≤ limit)
+        → IsReadOut r (read_each limit 0 65 r) }
+{}
+
+/// A write on a stream that is open, with what waits in a row, is taken as far as 262,144 bytes that are not acknowledged,
+/// and refused past them.
+pub fn a_write_is_taken_where_it_fits()
+    ensures fits { (s : Sending) (k count : ℕ) (x : Outgoing) → outgoing_at s k ≡ Some x → IsRow x → is_closed x ≡ false → all_accepted s.streams + count < 2 ^ 63
+        → x.accepted + count ≤ x.acked_end + 262144 → write_refusal s k count ≡ None }
+    ensures full { (s : Sending) (k count : ℕ) (x : Outgoing) → outgoing_at s k ≡ Some x → IsRow x → is_closed x ≡ false
+        → x.acked_end + 262144 < x.accepted + count → write_refusal s k count ≡ Some Full }
+{}
+
+/// A stream whose input was written as far as it fits, and closed where that was its end, is written on.
+pub fn a_stream_is_written_on()
+    ensures more { (n : ℕ) (x : Outgoing) (more : List ℕ) → x.accepted + length more < n → x.acked_end + 262144 ≤ x.accepted + length more → IsRefilled n x (after_write more x) }
+    ensures closed { (n : ℕ) (x : Outgoing) (more : List ℕ) → x.accepted + length more ≡ n → IsRefilled n x (after_clean (after_write more x)) }
+{}
+
+/// A receiver to which nothing came is abreast of an opening, where it lets all that is offered come.
+pub fn an_opening_is_abreast()
+    ensures { (n : ℕ → ℕ) (config : Config) (s : Sending) (parity : ℕ) (kept : List ℕ)
+        → IsOpening n config s → AllowsAll s (opened_receiving parity kept) → IsAbreast n s (opened_receiving parity kept) }
+{}
+
+/// What came is held, and a run of what is held in a row takes it all.
+pub fn a_read_takes_all()
+    ensures held { (xs : List ℕ) (o q : ℕ) (s : Held) → IsOn s → s.read ≤ q → o ≤ q → q < o + length xs → (b : ℕ) × (get (after_insert o xs s).bytes q ≡ Some b) }
+    ensures run { (s : Held) (run : List ℕ) (end : ℕ) → IsRun s run → s.read ≤ end
+        → ((q : ℕ) → s.read ≤ q → q < end → (b : ℕ) × (get s.bytes q ≡ Some b)) → ((q : ℕ) → end ≤ q → get s.bytes q ≡ None) → s.read + length run ≡ end }
+{}
