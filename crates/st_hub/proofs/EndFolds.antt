@@ -12,16 +12,16 @@ fold_keeps P f step [] b h = h
 fold_keeps P f step (x ∷ xs) b h = fold_keeps P f step xs (f b x) (step b x h)
 
 module _ (P : Sending → Type 0) where
-  open_if : ((s : Sending) (k : ℕ) → outgoing_at s k ≡ None → P s → P (with_outgoing s k new_outgoing)) → (s : Sending) (k : ℕ) (b : Bool) (o : Option Outgoing) → outgoing_at s k ≡ o → P s
+  open_if : (r : Receiving) → ((s : Sending) (k : ℕ) → is_open r k ≡ true → outgoing_at s k ≡ None → P s → P (with_outgoing s k new_outgoing)) → (s : Sending) (k : ℕ) (b : Bool) (o : Option Outgoing) → is_open r k ≡ b → outgoing_at s k ≡ o → P s
       → P (cond (b && not (is_some o)) (with_outgoing s k new_outgoing) s)
-  open_if step s k true None e h = step s k e h
-  open_if step s k true (Some x) e h = h
-  open_if step s k false o e h = h
+  open_if r step s k true None on e h = step s k on e h
+  open_if r step s k true (Some x) on e h = h
+  open_if r step s k false o on e h = h
 
   -- what a new stream keeps, opening streams keeps
-  pub opened_keeps : ((s : Sending) (k : ℕ) → outgoing_at s k ≡ None → P s → P (with_outgoing s k new_outgoing)) → (r : Receiving) (s : Sending) → P s → P (opened_too r s)
+  pub opened_keeps : (r : Receiving) → ((s : Sending) (k : ℕ) → is_open r k ≡ true → outgoing_at s k ≡ None → P s → P (with_outgoing s k new_outgoing)) → (s : Sending) → P s → P (opened_too r s)
   unfolding opened_too
-  opened_keeps step r s h = fold_keeps P (opened_at r) (λ t k. open_if step t k (is_open r k) (outgoing_at t k) refl) (range_with_len 1 64) s h
+  opened_keeps r step s h = fold_keeps P (opened_at r) (λ t k. open_if r step t k (is_open r k) (outgoing_at t k) refl refl) (range_with_len 1 64) s h
 
   mark_keeps : ((s : Sending) (m : Marks) → P s → P (record s { marks = m })) → (s : Sending) (f : Known) → P s → P (after_marked s f)
   mark_keeps step s (ConnectionMaxData n) h = step s _ h

@@ -1,5 +1,5 @@
 -- A hub over rings that nobody used.
-use Rattle.std.proofs.Common.{◌≡◌, ℕ, zero, suc, ◌+◌, ◌*◌, false, not, List, [], ◌∷◌, map, length, replicate, Option, None, Some, slice_get, is_some, refl, sym, ap, subst, ◌∙◌, arith}
+use Rattle.std.proofs.Common.{◌≡◌, ℕ, zero, suc, ◌+◌, ◌*◌, false, not, inl, inr, List, [], ◌∷◌, map, length, replicate, Option, None, Some, slice_get, is_some, refl, sym, ap, subst, ◌∙◌, arith}
 use Rattle.std.specs.Prelude.{IsSome, slice_index_or, sum}
 use Rattle.std.proofs.lemmas.List.Sums.{sum_by-cons}
 use Rattle.std.specs.Ordering.{nat_cmp}
@@ -18,6 +18,7 @@ use Rattle.st_queues.specs.declared.lanes.WriteLane.{WriteLane}
 use Rattle.st_queues.specs.declared.lanes.ReadLane.{ReadLane}
 use Rattle.st_end.specs.State.{EndState}
 use Rattle.st_hub.specs.Flow.{Flow, Inlet, Outlet, no_inlet, no_outlet, inlet_at, outlet_at, rings_of, has_end, has_last, IsSent, TiedBy}
+use Rattle.st_hub.specs.Handing.{IsKnown}
 use Rattle.st_hub.specs.Hub.{IsNew, shown_of}
 use Rattle.st_hub.specs.Inside.{inlet_of, outlet_of, flow_of, IsSound}
 use Rattle.st_hub.proofs.Merges.{merge_none}
@@ -33,6 +34,15 @@ is_here (Some x) h = refl
 
 sent_none : IsSent [] None
 sent_none = record { accepted = refl; kept = λ q b e. absurd (let none : fmap.get {X = ℕ} {R = nat_cmp} fmap.empty q ≡ None = fmap.get-empty nat_cmp q in cc) }
+
+none_known : (e : EndState) (s : ℕ) → IsNew e → ¬ (IsKnown e (s + 1))
+none_known e s new at =
+    let out : outgoing_at e.sending (s + 1) ≡ None = ap (λ xs. slot xs (s + 1)) new.sent ∙ no_value 65 (s + 1) in
+    let inn : slot e.receiving.streams (s + 1) ≡ None = ap (λ xs. slot xs (s + 1)) new.received ∙ no_value 65 (s + 1) in
+    elim at [
+      | inl on ↦ absurd (let off : is_some (outgoing_at e.sending (s + 1)) ≡ false = ap is_some out in cc)
+      | inr on ↦ absurd (let off : is_some (slot e.receiving.streams (s + 1)) ≡ false = ap is_some inn in cc)
+    ]
 
 module _ {A : Type 0} where
   pub fresh_inlet : (xs : List (WriteLane A)) (n : ℕ) → ((k : ℕ) (x : WriteLane A) → slice_get xs k ≡ Some x → Fresh (n + k) x) → (r : ℕ) → inlet_at (map inlet_of xs) r ≡ no_inlet
@@ -77,6 +87,7 @@ module _ {A : Type 0} where
         paired = λ s l. record {
           both = ap (λ (x : Inlet A). x.out) (ins (8 * s)) ∙ sym (ap (λ (x : Outlet A). x.out) (outs s));
           is_open = λ on. absurd (let off : (outlet_at f.outlets s).out ≡ false = ap (λ (x : Outlet A). x.out) (outs s) in cc);
+          own = λ mine at. absurd (none_known e s new at);
         };
         parity = new.parity;
         width = ap length new.sent;

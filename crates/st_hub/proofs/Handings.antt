@@ -3,8 +3,9 @@ use Rattle.std.proofs.Common.{◌≡◌, ◌≢◌, ℕ, ◌+◌, ◌*◌, ◌<�
 use Rattle.std.specs.Prelude.{slice_set, IsSome, IfSome, ◌↔◌}
 use Rattle.std.proofs.lemmas.List.{map-set}
 use Rattle.std.proofs.lemmas.Bool.{cases_eq}
-use Rattle.st_tables.proofs.SlotLemmas.{set_or, set_here, set_there, slot_here}
+use Rattle.st_tables.proofs.SlotLemmas.{set_or, set_here, set_there, slot_here, slot_apart}
 use Rattle.st_sender.specs.Sending.{outgoing_at, new_outgoing}
+use Rattle.st_receiver.specs.Streams.{incoming_at}
 use Rattle.st_queues.specs.Names.{RingId}
 use Rattle.st_queues.specs.Writing.{Written}
 use Rattle.st_queues.specs.Reading.{Read}
@@ -16,7 +17,7 @@ use Rattle.st_queues.specs.declared.lanes.ReadLane.{ReadLane}
 use Rattle.st_end.specs.State.{EndState}
 use Rattle.st_end.specs.Calls.{has_stream}
 use Rattle.st_hub.specs.Flow.{Flow, Inlet, Outlet, no_inlet, no_outlet, inlet_at, outlet_at, writer_out, reader_out, AllTied}
-use Rattle.st_hub.specs.Handing.{IsFreshWriter, IsFreshReader, IsPaired, AllPaired}
+use Rattle.st_hub.specs.Handing.{IsKnown, IsFreshWriter, IsFreshReader, IsPaired, AllPaired}
 use Rattle.st_hub.specs.Keeping.{Keeps}
 use Rattle.st_hub.specs.Inside.{inlet_of, outlet_of, IsLane, IsReadLane, AllLanes, AllReadLanes, IsSound}
 use Rattle.st_hub.proofs.Lists.{at_map}
@@ -41,6 +42,14 @@ is_there (Some x) h = refl
 held_by : (o : Bool) (n : Bool) → n ≡ false → (o ≡ true → n ≡ true) → o ≡ false
 held_by true n off f = absurd (let e : n ≡ true = f refl in cc)
 held_by false n off f = refl
+
+-- the other streams are open where they were
+pub opened_others : (e b : EndState) (k : ℕ) → Opened e b k → (j : ℕ) → j ≢ k → IsKnown b j → IsKnown e j
+opened_others e b k o j ne at =
+    elim (subst (λ (z : EndState). IsKnown z j) o.after at) [
+      | inl on ↦ inl (sym (ap is_some (slot_apart e.sending.streams k new_outgoing j ne)) ∙ on)
+      | inr on ↦ inr (sym (ap is_some (slot_apart e.receiving.streams k (incoming_at e.receiving k) j ne)) ∙ on)
+    ]
 
 -- a stream that opened is open
 pub opened_on : (e b : EndState) (k : ℕ) → Opened e b k → length e.sending.streams ≡ 65 → k < 65 → has_stream b k ≡ true
@@ -114,9 +123,9 @@ module _ {A : Type 0} where
     );
   }
 
-  ends_paired : (a b : EndState) (xs : List (Inlet A)) (ys : List (Outlet A)) (s : ℕ) → s < 64 → length xs ≡ 512 → length ys ≡ 64 → Keeps 0 a b → has_stream b (s + 1) ≡ true → AllPaired (record { core = a; inlets = xs; outlets = ys })
+  ends_paired : (a b : EndState) (xs : List (Inlet A)) (ys : List (Outlet A)) (s : ℕ) → s < 64 → length xs ≡ 512 → length ys ≡ 64 → Keeps 0 a b → ((j : ℕ) → j ≢ s + 1 → IsKnown b j → IsKnown a j) → has_stream b (s + 1) ≡ true → AllPaired (record { core = a; inlets = xs; outlets = ys })
       → AllPaired (record { core = b; inlets = writer_out xs (8 * s); outlets = reader_out ys s })
-  ends_paired a b xs ys s ls wi wo k opened p t lt =
+  ends_paired a b xs ys s ls wi wo k others opened p t lt =
       let w : Inlet A = record (inlet_at xs (8 * s)) { out = true } in
       let r : Outlet A = record (outlet_at ys s) { out = true } in
       let f : Flow A = record { core = b; inlets = writer_out xs (8 * s); outlets = reader_out ys s } in
@@ -124,22 +133,28 @@ module _ {A : Type 0} where
         | inl same ↦ subst (IsPaired f) (sym same) (record {
           both = ap (λ (y : Inlet A). y.out) (set_here xs (8 * s) w no_inlet (omega arith)) ∙ sym (ap (λ (y : Outlet A). y.out) (set_here ys s r no_outlet (omega arith)));
           is_open = λ e. opened;
+          own = λ e at. ap (λ (y : Outlet A). y.out) (set_here ys s r no_outlet (omega arith));
         })
         | inr ne ↦
             let was = p t lt in
             let far : 8 * t ≢ 8 * s = λ e. ne (omega arith) in
             let x : (inlet_at (writer_out xs (8 * s)) (8 * t)).out ≡ (inlet_at xs (8 * t)).out = ap (λ (y : Inlet A). y.out) (set_there xs (8 * s) w no_inlet (8 * t) far) in
             let y : (outlet_at (reader_out ys s) t).out ≡ (outlet_at ys t).out = ap (λ (y : Outlet A). y.out) (set_there ys s r no_outlet t ne) in
-            record { both = x ∙ was.both ∙ sym y; is_open = λ e. (k.sent.each (t + 1)).is_open (was.is_open (sym y ∙ e)) }
+            let apart : t + 1 ≢ s + 1 = λ e. ne (omega arith) in
+            record {
+              both = x ∙ was.both ∙ sym y;
+              is_open = λ e. (k.sent.each (t + 1)).is_open (was.is_open (sym y ∙ e));
+              own = λ e at. y ∙ was.own (e ∙ k.read.parity) (others (t + 1) apart at);
+            }
       ]
 
-  pub ends_sound : (w r : ℕ → RingId A) (a b : EndState) (xs us : List (WriteLane A)) (ys vs : List (ReadLane A)) (s : ℕ) → s < 64 → Keeps 0 a b → has_stream b (s + 1) ≡ true
+  pub ends_sound : (w r : ℕ → RingId A) (a b : EndState) (xs us : List (WriteLane A)) (ys vs : List (ReadLane A)) (s : ℕ) → s < 64 → Keeps 0 a b → ((j : ℕ) → j ≢ s + 1 → IsKnown b j → IsKnown a j) → has_stream b (s + 1) ≡ true
       → AllLanes w us → AllReadLanes r vs → map inlet_of us ≡ writer_out (map inlet_of xs) (8 * s) → map outlet_of vs ≡ reader_out (map outlet_of ys) s → IsSound w r a xs ys → IsSound w r b us vs
-  ends_sound w r a b xs us ys vs s ls k opened lanes reads is os sound =
+  ends_sound w r a b xs us ys vs s ls k others opened lanes reads is os sound =
       let P : List (Inlet A) × List (Outlet A) → Type 0 = λ z. AllTied (record { core = b; inlets = z.0; outlets = z.1 }) × AllPaired (record { core = b; inlets = z.0; outlets = z.1 }) in
       let here = subst P (λ i. (sym is i, sym os i)) (
         ends_tied a b (map inlet_of xs) (map outlet_of ys) s k sound.tied,
-        ends_paired a b (map inlet_of xs) (map outlet_of ys) s ls sound.tied.inlets sound.tied.outlets k opened sound.paired,
+        ends_paired a b (map inlet_of xs) (map outlet_of ys) s ls sound.tied.inlets sound.tied.outlets k others opened sound.paired,
       ) in
       record { lanes = lanes; read_lanes = reads; tied = here.0; paired = here.1; parity = omega (arith, k.read.parity, sound.parity); width = k.sent.width ∙ sound.width }
 
@@ -167,7 +182,7 @@ module _ {A : Type 0} where
       let was = p t lt in
       let far : 8 * t ≢ 8 * s + j = λ same. absurd (omega arith) in
       let x : (inlet_at (writer_out xs (8 * s + j)) (8 * t)).out ≡ (inlet_at xs (8 * t)).out = ap (λ (y : Inlet A). y.out) (set_there xs (8 * s + j) (record (inlet_at xs (8 * s + j)) { out = true }) no_inlet (8 * t) far) in
-      record { both = x ∙ was.both; is_open = was.is_open }
+      record { both = x ∙ was.both; is_open = was.is_open; own = was.own }
 
   pub further_sound : (w r : ℕ → RingId A) (e : EndState) (xs us : List (WriteLane A)) (ys : List (ReadLane A)) (s j : ℕ) → 0 < j → j < 8 → AllLanes w us → map inlet_of us ≡ writer_out (map inlet_of xs) (8 * s + j) → IsSound w r e xs ys → IsSound w r e us ys
   further_sound w r e xs us ys s j above below lanes is sound =

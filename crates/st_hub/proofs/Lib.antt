@@ -3,6 +3,7 @@ pub mod SentKeeping
 pub mod ReadKeeping
 pub mod EndEvents
 pub mod Receiving
+pub mod Opening
 pub mod CoreCalls
 pub mod Totals
 pub mod Lists

@@ -27,11 +27,12 @@ use Rattle.st_hub.proofs.SentKeeping.{all_told, opened_too_keeps, all_marked_kee
 use Rattle.st_hub.proofs.ReadKeeping.{read_same, effect_read}
 use Rattle.st_hub.proofs.EndEvents.{keeps_same}
 
--- what a verdict says of a Prepare: a Fulfill leaves the effect of its amount, and every other reason is above 0
-abbrev Tells : EndState → PreparePacket → Verdict → Type 0
+-- what a verdict says of a Prepare: a Fulfill leaves the effect of its amount, and broke no rule; every other reason is
+-- above 0
+abbrev pub Tells : EndState → PreparePacket → Verdict → Type 0
 Tells e q (Unread code reason) = nat_eq reason 0 ≡ false
 Tells e q (Rejects p reason) = nat_eq reason 0 ≡ false
-Tells e q (Fulfills p r) = r ≡ effect e.receiving p q.amount
+Tells e q (Fulfills p r) = (r ≡ effect e.receiving p q.amount) × (fault_of e.receiving p q.amount ≡ None)
 
 reason_number : (why : Reason) → nat_eq (reasons.number why) 0 ≡ false
 reason_number Repeated = refl
@@ -60,9 +61,9 @@ key_number key_faults.Tag = refl
 key_number (key_faults.Packet e) = refl
 key_number key_faults.NoMemory = refl
 
-tells_judged : (e : EndState) (q : PreparePacket) (p : Packet) (o : Option Reason) → Tells e q (judged_as p (effect e.receiving p q.amount) o)
-tells_judged e q p None = refl
-tells_judged e q p (Some why) = reason_number why
+tells_judged : (e : EndState) (q : PreparePacket) (p : Packet) (o : Option Reason) → fault_of e.receiving p q.amount ≡ o → Tells e q (judged_as p (effect e.receiving p q.amount) o)
+tells_judged e q p None is = (refl, is)
+tells_judged e q p (Some why) is = reason_number why
 
 tells_if : (b : Bool) (e : EndState) (q : PreparePacket) (v w : Verdict) → Tells e q v → Tells e q w → Tells e q (cond b v w)
 tells_if true e q v w f g = f
@@ -70,9 +71,9 @@ tells_if false e q v w f g = g
 
 tells_opened : (e : EndState) (q : PreparePacket) (r : Result Packet KeyError) → Tells e q (opened_as e q r)
 tells_opened e q (Err fault) = key_number fault
-tells_opened e q (Ok p) = tells_if (is_own_condition e q) e q (judged_as p (effect e.receiving p q.amount) (fault_of e.receiving p q.amount)) (Rejects p 55) (tells_judged e q p (fault_of e.receiving p q.amount)) refl
+tells_opened e q (Ok p) = tells_if (is_own_condition e q) e q (judged_as p (effect e.receiving p q.amount) (fault_of e.receiving p q.amount)) (Rejects p 55) (tells_judged e q p (fault_of e.receiving p q.amount) refl) refl
 
-tells_verdict : (e : EndState) (now : ℤ) (r : Result PreparePacket IlpError) → Tells e (prepare_or_none r) (verdict_on e now r)
+pub tells_verdict : (e : EndState) (now : ℤ) (r : Result PreparePacket IlpError) → Tells e (prepare_or_none r) (verdict_on e now r)
 tells_verdict e now (Err fault) = ilp_number fault
 tells_verdict e now (Ok q) =
     let last = opened_as e q (opened e.keys 12 q.payload) in
@@ -97,7 +98,7 @@ fulfilled_keeps n e p r is =
 verdict_keeps : (e : EndState) (q : PreparePacket) (v : Verdict) → Tells e q v → Keeps (cond (nat_eq (reason_of v) 0) q.amount 0) e (after_verdict e v)
 verdict_keeps e q (Unread code reason) t = subst (λ n. Keeps n e e) (none_by (nat_eq reason 0) q.amount t) (keeps_same e)
 verdict_keeps e q (Rejects p reason) t = told_keeps q.amount (nat_eq reason 0) e p t
-verdict_keeps e q (Fulfills p r) t = fulfilled_keeps q.amount e p r t
+verdict_keeps e q (Fulfills p r) t = fulfilled_keeps q.amount e p r t.0
 
 pub received_keeps : (e : EndState) (bytes : List ℕ) (now : ℤ) → Keeps (credited_by (received e bytes now).0) e (received e bytes now).1
 received_keeps e bytes now = verdict_keeps e (prepare_or_none (prepare_at bytes)) (verdict_on e now (prepare_at bytes)) (tells_verdict e now (prepare_at bytes))

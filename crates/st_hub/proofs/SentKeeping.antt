@@ -143,7 +143,7 @@ pub opening_keeps : (s : Sending) (k : ℕ) → outgoing_at s k ≡ None → Kee
 opening_keeps s k e = new_out s k e
 
 pub opened_too_keeps : (r : Receiving) (s t : Sending) → KeepsSent s t → KeepsSent s (opened_too r t)
-opened_too_keeps r s t h = opened_keeps (KeepsSent s) (λ u k e g. sent_join s u (with_outgoing u k new_outgoing) g (new_out u k e)) r t h
+opened_too_keeps r s t h = opened_keeps (KeepsSent s) r (λ u k on e g. sent_join s u (with_outgoing u k new_outgoing) g (new_out u k e)) t h
 
 marks_keep : (s t : Sending) (m : Marks) → KeepsSent s t → KeepsSent s (record t { marks = m })
 marks_keep s t m h = record { width = h.width; each = h.each; paid = h.paid }

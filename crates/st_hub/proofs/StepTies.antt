@@ -16,12 +16,13 @@ use Rattle.st_hub.specs.Merge.{Took, item}
 use Rattle.st_hub.specs.Flow.{Flow, Inlet, Outlet, no_inlet, no_outlet, inlet_at, outlet_at, rings_of, with_item, with_delivery, IsSent, TiedBy, AllTied}
 use Rattle.st_hub.specs.Handing.{AllPaired}
 use Rattle.st_hub.specs.Steps.{read_limit, got_of, Takes, Ends, Gives, GivesNone, StepAt, takes, ends, gives, gives_none, Steps, Flows, Continues}
-use Rattle.st_hub.specs.Keeping.{KeepsOut, Keeps, Rises}
+use Rattle.st_hub.specs.Keeping.{KeepsOut, Keeps, OpensNoOwn, Rises}
 use Rattle.st_hub.proofs.Merges.{merge_same, merge_more, joined_more}
 use Rattle.st_hub.proofs.Ties.{sent_keeps, tied_same}
 use Rattle.st_hub.proofs.SentKeeping.{out_same}
 use Rattle.st_hub.proofs.EndEvents.{keeps_same, close_keeps}
 use Rattle.st_hub.proofs.Totals.{keeps_rises, rises_same, rises_join}
+use Rattle.st_hub.proofs.Opening.{same_opens, write_opens, close_opens, read_opens}
 use Rattle.st_hub.proofs.CoreSteps.{write_is, bytes_of, read_is}
 
 -- rings of different streams, and different rings of a stream, have different numbers
@@ -106,6 +107,12 @@ module _ {A : Type 0} where
     | inr c ↦ subst (Keeps 0 a.core) (sym c.1) (keeps_same a.core)
   ]
 
+  ends_open : (a b : Flow A) (s j : ℕ) → Ends s j a b → OpensNoOwn a.core b.core
+  ends_open a b s j h = elim h.closes [
+    | inl c ↦ close_opens a.core b.core (s + 1) (Ok tt) c.1
+    | inr c ↦ subst (OpensNoOwn a.core) (sym c.1) (same_opens a.core)
+  ]
+
   ends_continue : (a b : Flow A) (s j : ℕ) → s < 64 → j < 8 → length a.inlets ≡ 512 → Ends s j a b → (t : ℕ) (log : List (Took A)) → TiedBy a t log → (more : List (Took A)) × TiedBy b t (log ++ more)
   ends_continue a b s j ls lj wide h t log tie =
       let k = ends_keeps a b s j h in
@@ -173,6 +180,7 @@ module _ {A : Type 0} where
     pub readers : (s : ℕ) → (outlet_at b.outlets s).out ≡ (outlet_at a.outlets s).out
     pub rises : Rises a.core b.core
     pub credit : b.core.receiving.credit ≡ a.core.receiving.credit
+    pub opens : OpensNoOwn a.core b.core
 
   step_kept : (s : ℕ) (a b : Flow A) → s < 64 → length a.inlets ≡ 512 → length a.outlets ≡ 64 → StepAt s a b → Kept a b
   step_kept s a b ls wi wo (takes j lj h) =
@@ -185,6 +193,7 @@ module _ {A : Type 0} where
         readers = λ t. ap (λ os. (outlet_at os t).out) h.outlets;
         rises = w.rises;
         credit = ap (λ r. r.credit) w.same;
+        opens = write_opens a.core b.core (s + 1) h.chunk.items (Ok tt) h.writes;
       }
   step_kept s a b ls wi wo (ends j lj h) =
       let k = ends_keeps a b s j h in
@@ -196,6 +205,7 @@ module _ {A : Type 0} where
         readers = λ t. ap (λ os. (outlet_at os t).out) h.outlets;
         rises = keeps_rises 0 a.core b.core k;
         credit = omega (arith, k.read.credit);
+        opens = ends_open a b s j h;
       }
   step_kept s a b ls wi wo (gives h) =
       let r = read_is a.core b.core (s + 1) read_limit (got_of h.delivery) h.reads in
@@ -207,6 +217,7 @@ module _ {A : Type 0} where
         readers = λ t. ap (λ os. (outlet_at os t).out) h.outlets ∙ put_out a.outlets s h.delivery t;
         rises = r.rises;
         credit = r.credit;
+        opens = read_opens a.core b.core (s + 1) read_limit (got_of h.delivery) h.reads;
       }
   step_kept s a b ls wi wo (gives_none h) =
       let r = read_is a.core b.core (s + 1) read_limit reading.Nothing h.reads in
@@ -218,6 +229,7 @@ module _ {A : Type 0} where
         readers = λ t. ap (λ os. (outlet_at os t).out) h.outlets;
         rises = r.rises;
         credit = r.credit;
+        opens = read_opens a.core b.core (s + 1) read_limit reading.Nothing h.reads;
       }
 
   kept_same : (a : Flow A) → length a.inlets ≡ 512 → length a.outlets ≡ 64 → Kept a a
@@ -229,6 +241,7 @@ module _ {A : Type 0} where
     readers = λ s. refl;
     rises = rises_same a.core;
     credit = refl;
+    opens = same_opens a.core;
   }
 
   kept_join : (a b c : Flow A) → Kept a b → Kept b c → Kept a c
@@ -243,6 +256,7 @@ module _ {A : Type 0} where
     readers = λ s. g.readers s ∙ f.readers s;
     rises = rises_join a.core b.core c.core f.rises g.rises;
     credit = g.credit ∙ f.credit;
+    opens = record { each = λ k own at. f.opens.each k own (g.opens.each k (own ∙ sym f.rises.parity) at) };
   }
 
   pub steps_kept : (n : ℕ) (a b : Flow A) → length a.inlets ≡ 512 → length a.outlets ≡ 64 → Steps n a b → Kept a b
@@ -264,6 +278,7 @@ module _ {A : Type 0} where
       record {
         both = k.writers (8 * s) ∙ was.both ∙ sym (k.readers s);
         is_open = λ e. k.rises.is_open (s + 1) (was.is_open (sym (k.readers s) ∙ e));
+        own = λ e at. k.readers s ∙ was.own (e ∙ k.rises.parity) (k.opens.each (s + 1) (e ∙ k.rises.parity) at);
       }
 
   -- ---- steps one after another

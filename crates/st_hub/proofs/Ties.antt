@@ -11,7 +11,7 @@ use Rattle.st_end.specs.State.{EndState}
 use Rattle.st_hub.specs.Merge.{Took, item}
 use Rattle.st_hub.specs.Flow.{Flow, Inlet, Outlet, outlet_at, rings_of, IsSent, TiedBy, AllTied}
 use Rattle.st_hub.specs.Handing.{AllPaired}
-use Rattle.st_hub.specs.Keeping.{KeepsOut, Keeps}
+use Rattle.st_hub.specs.Keeping.{KeepsOut, Keeps, OpensNoOwn}
 use Rattle.st_hub.specs.Inside.{inlet_of, outlet_of, AllLanes, AllReadLanes, IsSound}
 use Rattle.st_hub.proofs.Merges.{merge_same}
 
@@ -41,16 +41,22 @@ module _ {A : Type 0} where
     each = λ s l. let was = t.each s l in (was.0, core_tied n a b xs ys h s was.0 was.1);
   }
 
-  core_paired : (n : ℕ) (a b : EndState) (xs : List (Inlet A)) (ys : List (Outlet A)) → Keeps n a b → AllPaired (record { core = a; inlets = xs; outlets = ys }) → AllPaired (record { core = b; inlets = xs; outlets = ys })
-  core_paired n a b xs ys h p s l = let was = p s l in record { both = was.both; is_open = λ e. (h.sent.each (s + 1)).is_open (was.is_open e) }
+  core_paired : (n : ℕ) (a b : EndState) (xs : List (Inlet A)) (ys : List (Outlet A)) → Keeps n a b → OpensNoOwn a b → AllPaired (record { core = a; inlets = xs; outlets = ys }) → AllPaired (record { core = b; inlets = xs; outlets = ys })
+  core_paired n a b xs ys h o p s l =
+      let was = p s l in
+      record {
+        both = was.both;
+        is_open = λ e. (h.sent.each (s + 1)).is_open (was.is_open e);
+        own = λ e at. was.own (e ∙ h.read.parity) (o.each (s + 1) (e ∙ h.read.parity) at);
+      }
 
   -- the end changed, and nothing was written or read
-  pub core_sound : (w r : ℕ → RingId A) (n : ℕ) (a b : EndState) (xs : List (WriteLane A)) (ys : List (ReadLane A)) → Keeps n a b → IsSound w r a xs ys → IsSound w r b xs ys
-  core_sound w r n a b xs ys h s = record {
+  pub core_sound : (w r : ℕ → RingId A) (n : ℕ) (a b : EndState) (xs : List (WriteLane A)) (ys : List (ReadLane A)) → Keeps n a b → OpensNoOwn a b → IsSound w r a xs ys → IsSound w r b xs ys
+  core_sound w r n a b xs ys h o s = record {
     lanes = s.lanes;
     read_lanes = s.read_lanes;
     tied = core_all_tied n a b _ _ h s.tied;
-    paired = core_paired n a b _ _ h s.paired;
+    paired = core_paired n a b _ _ h o s.paired;
     parity = omega (arith, h.read.parity, s.parity);
     width = h.sent.width ∙ s.width;
   }

@@ -1,14 +1,23 @@
 -- Which ends of rings were handed out.
-use Rattle.std.specs.Prelude.{◌≡◌, ◌≢◌, ℕ, ◌+◌, ◌-◌, ◌*◌, ◌<◌, true, false, List, [], Result, Ok, Err}
+use Rattle.std.specs.Prelude.{◌≡◌, ◌≢◌, ◌⊎◌, ℕ, ◌+◌, ◌-◌, ◌*◌, ◌%◌, ◌<◌, true, false, List, [], Result, Ok, Err}
 use Rattle.st_queues.specs.Writing.{Written}
 use Rattle.st_queues.specs.Reading.{Read}
 use Rattle.st_queues.specs.declared.items.Over.TheVariants.{Open}
+use Rattle.st_receiver.specs.Streams.{is_open}
 use Rattle.st_end.specs.declared.error.EndError.{EndError}
 use Rattle.st_end.specs.State.{EndState}
 use Rattle.st_end.specs.Calls.{has_stream}
 use Rattle.st_hub.specs.declared.error.HubError.{HubError}
 use Rattle.st_hub.specs.declared.error.HubError.TheVariants.{NoStream, NoShareLeft, Stranger, MissingShare, NoMemory, EightWriters, WriterTooLate}
 use Rattle.st_hub.specs.Flow.{Flow, Inlet, inlet_at, outlet_at, writer_out, reader_out, is_writing}
+
+-- a number of this end's own streams: odd for a client, even for a server
+abbrev pub IsOwn : EndState → (number : ℕ) → Type 0
+IsOwn e k = k % 2 ≡ e.receiving.parity
+
+-- a stream is open, for sending or for receiving
+abbrev pub IsKnown : EndState → (number : ℕ) → Type 0
+IsKnown e k = (has_stream e k ≡ true) ⊎ (is_open e.receiving k ≡ true)
 
 module _ {A : Type 0} where
   -- a writer that nobody used, and a reader
@@ -22,9 +31,10 @@ module _ {A : Type 0} where
   abbrev pub with_ends_out : Flow A → (place : ℕ) → Flow A
   with_ends_out f s = record f { inlets = writer_out f.inlets (8 * s); outlets = reader_out f.outlets s }
 
-  -- a stream is open whose ends nobody has: the peer opened it, since a stream that this end opens has its ends handed
-  -- out with that
+  -- a stream is open whose ends nobody has. It is one of the peer's: a stream that this end opens has its ends handed out
+  -- with that
   pub record IsLeft (f : Flow A) (s : ℕ) : Type 0 where
+    pub peers : ¬ (IsOwn f.core (s + 1))
     pub is_open : has_stream f.core (s + 1) ≡ true
     pub writer : (inlet_at f.inlets (8 * s)).out ≡ false
     pub reader : (outlet_at f.outlets s).out ≡ false
@@ -32,10 +42,12 @@ module _ {A : Type 0} where
   abbrev pub IsTaken : Flow A → ℕ → Type 0
   IsTaken f s = has_stream f.core (s + 1) ≡ true → (outlet_at f.outlets s).out ≡ true
 
-  -- of a stream's first writer and its reader both were handed out or neither, and only where it is open
+  -- of a stream's first writer and its reader both were handed out or neither, and only where it is open; where it is one
+  -- of this end's own they were
   pub record IsPaired (f : Flow A) (s : ℕ) : Type 0 where
     pub both : (inlet_at f.inlets (8 * s)).out ≡ (outlet_at f.outlets s).out
     pub is_open : (outlet_at f.outlets s).out ≡ true → has_stream f.core (s + 1) ≡ true
+    pub own : IsOwn f.core (s + 1) → IsKnown f.core (s + 1) → (outlet_at f.outlets s).out ≡ true
 
   abbrev pub AllPaired : Flow A → Type 0
   AllPaired f = (s : ℕ) → s < 64 → IsPaired f s

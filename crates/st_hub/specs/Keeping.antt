@@ -9,6 +9,7 @@ use Rattle.st_sender.specs.Refusals.{accepted_of}
 use Rattle.st_receiver.specs.Streams.{Receiving, delivered_of}
 use Rattle.st_end.specs.State.{EndState}
 use Rattle.st_hub.specs.Flow.{unacked_of}
+use Rattle.st_hub.specs.Handing.{IsOwn, IsKnown}
 
 -- as many bytes were accepted, and what is kept was kept before
 pub record KeepsOut (x y : Option Outgoing) : Type 0 where
@@ -31,6 +32,10 @@ pub record KeepsRead (gain : ℕ) (r t : Receiving) : Type 0 where
 pub record Keeps (gain : ℕ) (a b : EndState) : Type 0 where
   pub sent : KeepsSent a.sending b.sending
   pub read : KeepsRead gain a.receiving b.receiving
+
+-- no stream opens that is one of this end's own
+pub record OpensNoOwn (a b : EndState) : Type 0 where
+  pub each : (k : ℕ) → IsOwn a k → IsKnown b k → IsKnown a k
 
 -- nothing that an end counts falls
 pub record Rises (a b : EndState) : Type 0 where

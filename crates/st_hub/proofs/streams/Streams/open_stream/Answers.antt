@@ -1,13 +1,13 @@
-use Rattle.std.proofs.Common.{◌≡◌, ◌+◌, ◌-◌, ℕ, subst, sym, arith, None}
+use Rattle.std.proofs.Common.{◌≡◌, ◌≢◌, ◌+◌, ◌-◌, ℕ, subst, sym, arith, None}
 use Rattle.st_sender.specs.Sending.{outgoing_at}
 use Rattle.st_end.specs.Calls.{has_stream}
 use Rattle.st_hub.specs.Flow.{Flow}
-use Rattle.st_hub.specs.Handing.{HandsOut}
+use Rattle.st_hub.specs.Handing.{IsKnown, HandsOut}
 use Rattle.st_hub.specs.Inside.{flow_of}
 use Rattle.st_hub.specs.Keeping.{Keeps}
 use Rattle.st_hub.proofs.EndEvents.{keeps_same}
 use Rattle.st_hub.proofs.CoreCalls.{opened_ok}
-use Rattle.st_hub.proofs.Handings.{opened_on, closed_held, ends_sound}
+use Rattle.st_hub.proofs.Handings.{opened_on, opened_others, closed_held, ends_sound}
 use Rattle.st_hub.proofs.streams.Streams.open_stream.Goals as goal
 
 pub returns-in_err-stream-clause-keeps : goal.returns-in_err-stream-clause-keeps
@@ -42,7 +42,8 @@ invariant_of-self-2 g c =
     let s = c.from-place.result - 1 in
     let is : c.in_ok-stream.stream ≡ s + 1 = omega (arith, n.0, c.from-place.ensures) in
     let e = c.ends-writer.ensures in
-    ends_sound _ _ _ _ c.self.inside.writes.items _ c.self.inside.reads.items _ s (omega (arith, n.0, n.1, c.from-place.ensures)) o.keeps
+    let others = subst (λ n. (j : ℕ) → j ≢ n → IsKnown c.open_stream.new.self j → IsKnown c.self.inside.core j) is (opened_others _ _ _ o) in
+    ends_sound _ _ _ _ c.self.inside.writes.items _ c.self.inside.reads.items _ s (omega (arith, n.0, n.1, c.from-place.ensures)) o.keeps others
     (subst (λ k. has_stream c.open_stream.new.self k ≡ _) is (opened_on _ _ _ o v.width n.1)) e.lanes.0 e.lanes.1 e.out.0 e.out.1 v
 
 pub returns-clause-handed : goal.returns-clause-handed

@@ -3,10 +3,11 @@ use Rattle.st_hub.specs.Flow.{Flow}
 use Rattle.st_hub.specs.Keeping.{Keeps}
 use Rattle.st_hub.proofs.Ties.{core_sound}
 use Rattle.st_hub.proofs.CoreCalls.{send_keeps}
+use Rattle.st_hub.proofs.Opening.{send_opens}
 use Rattle.st_hub.proofs.streams.Streams.send.Goals as goal
 
 pub invariant_of-self : goal.invariant_of-self
-invariant_of-self g c = core_sound _ _ 0 _ _ _ _ (send_keeps _ _ c.args.iv c.args.now _ c.send.ensures.goes c.send.ensures.unchanged) c.self.invariant
+invariant_of-self g c = core_sound _ _ 0 _ _ _ _ (send_keeps _ _ c.args.iv c.args.now _ c.send.ensures.goes c.send.ensures.unchanged) (send_opens _ _ c.args.iv c.args.now _ c.send.ensures.goes c.send.ensures.unchanged) c.self.invariant
 
 pub returns-clause-goes : goal.returns-clause-goes
 returns-clause-goes g c = rw (← c.self.view_is) c.send.ensures.goes

@@ -1,12 +1,13 @@
 use Rattle.std.proofs.Common.{subst, sym}
 use Rattle.st_hub.specs.Flow.{Flow}
-use Rattle.st_hub.specs.Keeping.{Keeps}
+use Rattle.st_hub.specs.Keeping.{Keeps, OpensNoOwn}
 use Rattle.st_hub.proofs.Ties.{core_sound}
 use Rattle.st_hub.proofs.EndEvents.{ended_keeps}
+use Rattle.st_hub.proofs.Opening.{ended_opens}
 use Rattle.st_hub.proofs.streams.Streams.settle.Goals as goal
 
 pub invariant_of-self : goal.invariant_of-self
-invariant_of-self g c = core_sound _ _ 0 _ _ _ _ (subst (Keeps 0 _) (sym c.settle_flight.ensures) (ended_keeps _ _ _)) c.self.invariant
+invariant_of-self g c = core_sound _ _ 0 _ _ _ _ (subst (Keeps 0 _) (sym c.settle_flight.ensures) (ended_keeps _ _ _)) (subst (OpensNoOwn _) (sym c.settle_flight.ensures) (ended_opens _ _ _)) c.self.invariant
 
 pub returns-clause-keeps : goal.returns-clause-keeps
 returns-clause-keeps g c = subst (λ (f : Flow _). Keeps 0 f.core c.settle_flight.new.core) c.self.view_is (subst (Keeps 0 _) (sym c.settle_flight.ensures) (ended_keeps _ _ _))

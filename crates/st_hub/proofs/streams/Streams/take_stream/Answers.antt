@@ -1,4 +1,4 @@
-use Rattle.std.proofs.Common.{◌≡◌, ◌+◌, ℕ, subst, sym, refl, ◌∙◌, arith, true}
+use Rattle.std.proofs.Common.{◌≡◌, ◌+◌, ℕ, Bool, subst, sym, refl, ◌∙◌, arith, true, false, inl}
 use Rattle.st_end.specs.Calls.{has_stream}
 use Rattle.st_hub.specs.Flow.{Flow}
 use Rattle.st_hub.specs.Handing.{IsLeft, TakesLeft}
@@ -17,8 +17,11 @@ invariant_of-self-2 g c =
     let v = c.self.invariant in
     let f = c.in_ok-place.ensures.found in
     let e = c.ends-writer.ensures in
-    ends_sound _ _ _ _ c.self.inside.writes.items _ c.self.inside.reads.items _ c.from.result (omega (arith, f.0, c.from.ensures)) (keeps_same c.self.inside.core)
+    ends_sound _ _ _ _ c.self.inside.writes.items _ c.self.inside.reads.items _ c.from.result (omega (arith, f.0, c.from.ensures)) (keeps_same c.self.inside.core) (λ j ne at. at)
     (subst (λ n. has_stream c.self.inside.core (n + 1) ≡ true) (sym c.from.ensures) f.1) e.lanes.0 e.lanes.1 e.out.0 e.out.1 v
+
+both_ways : (b : Bool) → b ≡ true → b ≡ false → ⊥
+both_ways b on off = absurd (cc)
 
 pub returns-clause-taken : goal.returns-clause-taken
 returns-clause-taken g c =
@@ -26,11 +29,12 @@ returns-clause-taken g c =
     let is : c.from.result ≡ p = c.from.ensures in
     let f = c.in_ok-place.ensures.found in
     let e = c.ends-writer.ensures in
+    let paired = c.self.invariant.paired p f.0 in
     let b = flow_of c.self.inside.core c.ends-writer.new.writes.items c.ends-writer.new.reads.items in
     subst (λ (a : Flow _). (s : ℕ) × TakesLeft a b (p + 1) c.ends-writer.result.0 c.ends-writer.result.1 s) c.self.view_is (
       c.from.result,
       record {
-        left = subst (λ n. IsLeft (flow_of c.self.inside.core c.self.inside.writes.items c.self.inside.reads.items) n) (sym is) (record { is_open = f.1; writer = (c.self.invariant.paired p f.0).both ∙ f.2; reader = f.2 });
+        left = subst (λ n. IsLeft (flow_of c.self.inside.core c.self.inside.writes.items c.self.inside.reads.items) n) (sym is) (record { peers = λ own. both_ways _ (paired.own own (inl f.1)) f.2; is_open = f.1; writer = paired.both ∙ f.2; reader = f.2 });
         lowest = λ t lt. c.in_ok-place.ensures.lowest t (omega (arith, is));
         same = refl;
         handed = record {
