@@ -291,7 +291,7 @@ was_read : (e : EndState) → AllRead (Was e) e.receiving
 was_read e k on own = inr on
 
 opens_by : (e b : EndState) → AllSent (Was e) b.sending → AllRead (Was e) b.receiving → OpensNoOwn e b
-opens_by e b s r = record { each = λ k own at. elim at [ | inl on ↦ s k on own | inr on ↦ r k on own ] }
+opens_by e b s r = record { each = λ k own at. elim at [ inl on ↦ s k on own | inr on ↦ r k on own ] }
 
 pub same_opens : (e : EndState) → OpensNoOwn e e
 same_opens e = record { each = λ k own at. at }
