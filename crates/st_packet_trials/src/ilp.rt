@@ -1,13 +1,10 @@
-//! Worked packets, and each changed byte against a second, plain reading of the rules.
+//! Worked packets.
 
-use plain::{Reader, Refusal, first_refusal};
 use st_ilp::{
     Answer, IlpError, Moment, Prepare, put_reject, read_answer, read_expiry, read_prepare,
     reject_len, write_answer, write_expiry, write_prepare,
 };
 use st_oer::OerError;
-
-mod plain;
 
 const PREPARE: &[u8; 70] = b"\x0c\x44\0\0\0\0\0\0\0\x0520240102030405006\
 \0\0\0\0\0\0\0\0\0\0\0\0\0\0\0\0\0\0\0\0\0\0\0\0\0\0\0\0\0\0\0\0\x09example.b\0";
@@ -217,45 +214,4 @@ fn prepares_that_are_not_written(rt: HostRuntime) {
         let refused = write_prepare(alloc, &prepare).err();
         assert_eq!(rt; refused.map(|error| error.number()), Some(number));
     }
-}
-
-#[test]
-fn changed_bytes(rt: HostRuntime) {
-    let alloc = rt.alloc();
-    for (bytes, reader) in [
-        (PREPARE.as_slice(), Reader::Prepare),
-        (REJECT.as_slice(), Reader::Answer),
-    ] {
-        for n in 0..bytes.len() {
-            assert_eq!(rt;
-                told(reader, &bytes[..n]),
-                first_refusal(reader, &bytes[..n]),
-                "cut at {n}"
-            );
-        }
-        for i in 0..bytes.len() {
-            for byte in [0, 0x7f, 0x80, 0xff] {
-                let mut changed = Vec::new(alloc);
-                changed.extend_from_slice(bytes).expect(&rt, "memory");
-                changed[i] = byte;
-                assert_eq!(rt;
-                    told(reader, &changed),
-                    first_refusal(reader, &changed),
-                    "{byte} at {i}"
-                );
-            }
-        }
-    }
-}
-
-/// What a reader refused.
-fn told(reader: Reader, bytes: &[u8]) -> Option<Refusal> {
-    let error = match reader {
-        Reader::Prepare => read_prepare(bytes).err()?,
-        Reader::Answer => read_answer(bytes).err()?,
-    };
-    Some(Refusal {
-        number: error.number(),
-        inner: error.inner(),
-    })
 }

@@ -1,7 +1,6 @@
-//! Tests of fields in OER, of ILPv4 packets and of STREAM packets: worked values, every changed byte of some packets against
-//! a second, plain reading of the rules, and writers while memory is refused. Each request for memory is refused in turn,
-//! from the first until a run meets no refusal, or up to `LAST`; after a refusal the value is as before, and the same call
-//! then succeeds.
+//! Tests of fields in OER, of ILPv4 packets and of STREAM packets: worked values, and writers while memory is refused. Each
+//! request for memory is refused in turn, from the first until a run meets no refusal, or up to `LAST`; after a refusal the
+//! value is as before, and the same call then succeeds.
 #![tactic(auto)]
 
 #[cfg(test)]

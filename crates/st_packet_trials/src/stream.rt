@@ -1,8 +1,7 @@
-use plain::{Refusal, Summary};
+//! Worked packets.
+
 use st_frames::{Frame, FrameError, MAX_PACKET, put_packet, read_packet, write_packet};
 use std::test::Fail;
-
-mod plain;
 
 /// Kind 12, sequence 1, amount 0, one frame: StreamData, stream 1, offset 0, "hi".
 const HI: [u8; 17] = [
@@ -13,129 +12,96 @@ const HI: [u8; 17] = [
 /// Kind 12, sequence 1, amount 0, one frame.
 const HEAD: [u8; 8] = [0x01, 0x0c, 0x01, 0x01, 0x01, 0x00, 0x01, 0x01];
 
-/// What a packet of kind 12 reads as.
-fn told(bytes: &[u8]) -> Result<Summary, Refusal> {
-    let packet = match read_packet(bytes, 12) {
-        Ok(packet) => packet,
-        Err(error) => {
-            return Err(Refusal {
-                number: error.number(),
-                inner: error.inner(),
-            });
-        }
-    };
-    let mut summary = Summary {
-        sequence: packet.sequence,
-        amount: packet.amount,
-        known: 0,
-        data: 0,
-    };
-    for (index, frame) in packet.frames {
-        summary.known = summary.known.wrapping_add(1);
-        if let Frame::StreamData {
-            stream,
-            offset,
-            bytes,
-        } = frame
-        {
-            summary.add_data(index, stream, offset, bytes.len() as u64);
-        }
-    }
-    Ok(summary)
+/// The number of a refusal of a packet of kind 12, and the one that it wraps.
+fn refusal(bytes: &[u8]) -> Option<(u8, Option<u64>)> {
+    let error = read_packet(bytes, 12).err()?;
+    Some((error.number(), error.inner()))
 }
 
-fn read_as(sequence: u64, known: u64, data: u64) -> Result<Summary, Refusal> {
-    Ok(Summary {
-        sequence,
-        amount: 0,
-        known,
-        data,
-    })
-}
-
-fn refused(number: u8, inner: Option<u64>) -> Result<Summary, Refusal> {
-    Err(Refusal { number, inner })
-}
-
-#[test]
-fn packets_read(rt: HostRuntime) -> Result<(), Fail> {
+/// Whether bytes are a packet of kind 12, sequence 1 and amount 0 with "hi" of stream 1 at this index and no other known frame.
+fn says_hi(bytes: &[u8], index: u64) -> bool {
     let hi = Frame::StreamData {
         stream: 1,
         offset: 0,
         bytes: b"hi",
     };
-    assert_eq!(rt; told(&HI), read_as(1, 1, 3));
+    let Ok(packet) = read_packet(bytes, 12) else {
+        return false;
+    };
+    let mut frames = packet.frames;
+    frames.next() == Some((index, hi))
+        && frames.next() == None
+        && packet.sequence == 1
+        && packet.amount == 0
+}
+
+#[test]
+fn packets_read(rt: HostRuntime) {
+    assert!(rt; says_hi(&HI, 0));
     let trailing = [
         0x01, 0x0c, 0x01, 0x01, 0x01, 0x00, 0x01, 0x01, 0x14, 0x07, 0x01, 0x01, 0x01, 0x00, 0x02,
         0x68, 0x69, 0xff, 0xff,
     ];
-    assert_eq!(rt; told(&trailing), read_as(1, 1, 3));
-    let mut frames = read_packet(&trailing, 12)?.frames;
-    assert_eq!(rt; frames.next(), Some((0, hi)));
-    assert_eq!(rt; frames.next(), None);
+    assert!(rt; says_hi(&trailing, 0));
     let skipped = [
         0x01, 0x0c, 0x01, 0x01, 0x01, 0x00, 0x01, 0x02, 0x99, 0x01, 0x00, 0x14, 0x07, 0x01, 0x01,
         0x01, 0x00, 0x02, 0x68, 0x69,
     ];
-    assert_eq!(rt; told(&skipped), read_as(1, 1, 4));
-    let mut frames = read_packet(&skipped, 12)?.frames;
-    assert_eq!(rt; frames.next(), Some((1, hi)));
-    assert_eq!(rt; frames.next(), None);
-    Ok(())
+    assert!(rt; says_hi(&skipped, 1));
 }
 
 #[test]
 fn packets_refused(rt: HostRuntime) -> Result<(), Fail> {
-    assert_eq!(rt; told(&HI[..12]), refused(22, Some(1)));
+    assert_eq!(rt; refusal(&HI[..12]), Some((22, Some(1))));
     let mut other_version = HI;
     other_version[0] = 2;
-    assert_eq!(rt; told(&other_version), refused(20, None));
+    assert_eq!(rt; refusal(&other_version), Some((20, None)));
     assert_eq!(rt; read_packet(&HI, 13).err(), Some(FrameError::Kind));
     assert_eq!(rt;
-        told(&[
+        refusal(&[
             0x01, 0x0c, 0x01, 0x01, 0x01, 0x00, 0x01, 0x01, 0x03, 0x01, 0x01
         ]),
-        refused(23, Some(0))
+        Some((23, Some(0)))
     );
     let many = [
         0x01, 0x0c, 0x01, 0x01, 0x01, 0x00, 0x08, 0xff, 0xff, 0xff, 0xff, 0xff, 0xff, 0xff, 0xff,
     ];
-    assert_eq!(rt; told(&many), refused(22, Some(1)));
+    assert_eq!(rt; refusal(&many), Some((22, Some(1))));
     assert_eq!(rt;
-        told(&[
+        refusal(&[
             0x01, 0x0c, 0x01, 0x01, 0x01, 0x00, 0x01, 0x01, 0x14, 0x01, 0x02
         ]),
-        refused(23, Some(0))
+        Some((23, Some(0)))
     );
     assert_eq!(rt;
-        told(&[
+        refusal(&[
             0x01, 0x0c, 0x09, 0x01, 0x00, 0x00, 0x00, 0x00, 0x00, 0x00, 0x00, 0x00
         ]),
-        refused(22, Some(4))
+        Some((22, Some(4)))
     );
     // the skeleton of the second frame comes before the contents of the first
     assert_eq!(rt;
-        told(&[
+        refusal(&[
             0x01, 0x0c, 0x01, 0x01, 0x01, 0x00, 0x01, 0x02, 0x03, 0x01, 0x01, 0x99, 0x80
         ]),
-        refused(22, Some(2))
+        Some((22, Some(2)))
     );
     // a message that is no UTF-8, and an address with an empty segment, behind an unknown frame
     assert_eq!(rt;
-        told(&[
+        refusal(&[
             0x01, 0x0c, 0x01, 0x01, 0x01, 0x00, 0x01, 0x01, 0x01, 0x03, 0x01, 0x01, 0xff
         ]),
-        refused(23, Some(0))
+        Some((23, Some(0)))
     );
     assert_eq!(rt;
-        told(&[
+        refusal(&[
             0x01, 0x0c, 0x01, 0x01, 0x01, 0x00, 0x01, 0x02, 0x99, 0x00, 0x02, 0x03, 0x02, 0x67,
             0x2e
         ]),
-        refused(23, Some(1))
+        Some((23, Some(1)))
     );
     let long = vec![in rt.alloc(); 1u8; MAX_PACKET + 1]?;
-    assert_eq!(rt; told(&long), refused(24, None));
+    assert_eq!(rt; refusal(&long), Some((24, None)));
     Ok(())
 }
 
@@ -287,7 +253,12 @@ fn packets_written(rt: HostRuntime) -> Result<(), Fail> {
     let many = [Frame::ConnectionMaxData { max_offset: 0 }; 300];
     let text = write_packet(rt.alloc(), 12, 1, 0, &many)?;
     assert_eq!(rt; text.len(), 1_209);
-    assert_eq!(rt; told(&text), read_as(1, 300, 0));
+    let mut read = 0u64;
+    for (_, frame) in read_packet(&text, 12)?.frames {
+        assert_eq!(rt; frame, Frame::ConnectionMaxData { max_offset: 0 });
+        read = read.saturating_add(1);
+    }
+    assert_eq!(rt; read, 300);
     Ok(())
 }
 
@@ -338,18 +309,4 @@ fn packets_not_written(rt: HostRuntime) -> Result<(), Fail> {
         Some(FrameError::FrameFormat(1))
     );
     Ok(())
-}
-
-#[test]
-fn every_prefix_and_change(rt: HostRuntime) {
-    for n in 0..=HI.len() {
-        assert_eq!(rt; told(&HI[..n]), plain::told(&HI[..n]), "the first {n}");
-    }
-    for i in 0..HI.len() {
-        for byte in [0x00, 0x7f, 0x80, 0xff] {
-            let mut changed = HI;
-            changed[i] = byte;
-            assert_eq!(rt; told(&changed), plain::told(&changed), "{byte} at {i}");
-        }
-    }
 }
