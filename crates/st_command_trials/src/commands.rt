@@ -48,7 +48,8 @@ const CONNECTOR: [&str; 5] = [
 ];
 
 /// A table of two accounts, the second with a neighbour, and a route.
-const TABLE: &str = "account 100 10 alice - -\naccount 100 10 bob 127.0.0.1:1 t\n\nroute test.b 1\n";
+const TABLE: &str =
+    "account 100 10 alice - -\naccount 100 10 bob 127.0.0.1:1 t\n\nroute test.b 1\n";
 
 /// What a run came to.
 #[derive(Drop)]
@@ -69,12 +70,7 @@ fn ran<
         + Wait
         + std::time::Clock
         + Sync,
->(
-    rt: &N,
-    alloc: Global,
-    words: &[&str],
-    input: R,
-) -> Ran {
+>(rt: &N, alloc: Global, words: &[&str], input: R) -> Ran {
     let mut reader = CountRead::new(input);
     let mut writer = CountWrite::new(Sink::new(alloc));
     let mut errors = CountWrite::new(Sink::new(alloc));
@@ -271,7 +267,12 @@ fn help_names_options(rt: HostRuntime) {
     let all = ran(&rt, alloc, &["ilpstream", "--help"], b"".as_slice());
     for (command, options) in rows {
         assert!(rt; all.written.text().contains(command), "{command}");
-        let ran = ran(&rt, alloc, &["ilpstream", command, "--help"], b"".as_slice());
+        let ran = ran(
+            &rt,
+            alloc,
+            &["ilpstream", command, "--help"],
+            b"".as_slice(),
+        );
         for option in options {
             assert!(rt; ran.written.text().contains(*option), "{command} {option}");
         }

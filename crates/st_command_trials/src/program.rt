@@ -49,12 +49,7 @@ fn started<
         + Wait
         + std::time::Clock
         + Sync,
->(
-    rt: &N,
-    alloc: Global,
-    host: &H,
-    is_terminal: bool,
-) -> (u8, Sink, Sink) {
+>(rt: &N, alloc: Global, host: &H, is_terminal: bool) -> (u8, Sink, Sink) {
     let mut reader = CountRead::new(STORED.as_bytes());
     let mut writer = CountWrite::new(Sink::new(alloc));
     let mut errors = CountWrite::new(Sink::new(alloc));
@@ -78,11 +73,7 @@ fn ran<
         + Wait
         + std::time::Clock
         + Sync,
->(
-    rt: &N,
-    alloc: Global,
-    words: &[&str],
-) -> (u8, Sink, Sink) {
+>(rt: &N, alloc: Global, words: &[&str]) -> (u8, Sink, Sink) {
     let mut reader = CountRead::new(STORED.as_bytes());
     let mut writer = CountWrite::new(Sink::new(alloc));
     let mut errors = CountWrite::new(Sink::new(alloc));

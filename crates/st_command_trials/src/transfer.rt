@@ -24,7 +24,10 @@ fn pattern(alloc: Global, n: u64) -> Result<Vec<u8>, Fail> {
 }
 
 /// A place on loopback where nothing listens.
-fn free_place<N: Net<Listener = TcpListener, Stream = TcpStream>>(rt: &N, alloc: Global) -> Result<String, Fail> {
+fn free_place<N: Net<Listener = TcpListener, Stream = TcpStream>>(
+    rt: &N,
+    alloc: Global,
+) -> Result<String, Fail> {
     let listener = TcpListener::bind(rt, "127.0.0.1:0")?;
     let place = format!(in alloc; "{}", listener.local_addr()?)?;
     Ok(place)
@@ -57,12 +60,7 @@ fn ran<
         + Wait
         + std::time::Clock
         + Sync,
->(
-    rt: &N,
-    alloc: Global,
-    words: &[&str],
-    input: &[u8],
-) -> (u8, Vec<u8>, Vec<u8>) {
+>(rt: &N, alloc: Global, words: &[&str], input: &[u8]) -> (u8, Vec<u8>, Vec<u8>) {
     let mut reader = CountRead::new(input);
     let mut writer = CountWrite::new(Vec::new(alloc));
     let mut errors = CountWrite::new(Vec::new(alloc));
@@ -77,7 +75,9 @@ fn three_commands(rt: HostRuntime) -> Result<(), Fail> {
     let end = free_place(&rt, alloc)?;
     let hub = free_place(&rt, alloc)?;
     let bytes = pattern(alloc, 70_000)?;
-    let table = format!(in alloc; "account 1000 1000 alice - -\naccount 1000 1000 bob {end} hub\nroute test.b 1\n")?;
+    let table = format!(in alloc;
+        "account 1000 1000 alice - -\naccount 1000 1000 bob {end} hub\nroute test.b 1\n"
+    )?;
     let listen = format!(in alloc; "--listen={end}")?;
     let listen_hub = format!(in alloc; "--listen={hub}")?;
     let to = format!(in alloc; "--to={hub}")?;

@@ -119,7 +119,15 @@ pub fn start<
     ensures status { result ≤ 2 }
 {
     match words(host) {
-        Ok(words) => obey(rt, alloc, is_terminal, words.as_slice(), reader, writer, errors),
+        Ok(words) => obey(
+            rt,
+            alloc,
+            is_terminal,
+            words.as_slice(),
+            reader,
+            writer,
+            errors,
+        ),
         Err(error) => refuse_words(errors, &error),
     }
 }
@@ -133,10 +141,7 @@ pub fn ilpstream<
         + Wait
         + std::time::Clock
         + Sync,
->(
-    host: &HostRuntime,
-    rt: &N,
-) -> ExitCode {
+>(host: &HostRuntime, rt: &N) -> ExitCode {
     let input = host.stdin();
     let is_terminal = input.is_terminal();
     let mut reader = CountRead::new(input);

@@ -48,7 +48,13 @@ pub(crate) fn send<
         return Err(RunError::NoRandom);
     };
     let config = widest().with_least(settings.least);
-    match client_end(alloc, settings.secret, settings.address, settings.peer, config) {
+    match client_end(
+        alloc,
+        settings.secret,
+        settings.address,
+        settings.peer,
+        config,
+    ) {
         Ok(end) => {
             send_on(
                 rt,

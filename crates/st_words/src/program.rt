@@ -8,8 +8,8 @@ ghost use Rattle.st_words.specs.Program.{HasShape};
 
 use crate::options::{number, option, or, required, with, with_command};
 use crate::texts::{
-    AFTER_CONNECTOR_HELP, AFTER_FRAMES_HELP, AFTER_HELP, AFTER_RECEIVE_HELP,
-    AFTER_SEND_HELP, LEAST_HELP, SECRET_HELP, TOKEN_HELP,
+    AFTER_CONNECTOR_HELP, AFTER_FRAMES_HELP, AFTER_HELP, AFTER_RECEIVE_HELP, AFTER_SEND_HELP,
+    LEAST_HELP, SECRET_HELP, TOKEN_HELP,
 };
 use clap::Command;
 use st_settings::{MAX_MONEY, MAX_REQUESTS, MAX_WORKERS};

@@ -32,10 +32,10 @@ returns-in-Err-Refused-clause-obeys g c =
     let words : List Text = map g.S.AsStr.text c.args.words.now in
     let kind : HasKind (refusals words) c.in-Err-Refused.error = rw c.in-Err-Refused.field-0-is at c.in-Err-Refused.ensures in
     let memory : (refusals words ≡ [] → kind_of c.in-Err-Refused.error ≡ OutOfMemory) = λ none.
-        elim (subst (λ (kinds : Kinds). HasKind kinds c.in-Err-Refused.error) none kind) [
-          | inl wants ↦ wants
-          | inr wrong ↦ absurd wrong
-        ] in
+    elim (subst (λ (kinds : Kinds). HasKind kinds c.in-Err-Refused.error) none kind) [
+      | inl wants ↦ wants
+      | inr wrong ↦ absurd wrong
+    ] in
     record {
       frames = λ asks. inr (refl, c.tell.ensures.memory (memory asks.0));
       asked = λ none. inr (inr (refl, c.tell.ensures.memory (memory none)));
