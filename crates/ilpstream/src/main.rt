@@ -1,9 +1,9 @@
 //! The program `ilpstream`.
 #![tactic(auto)]
 
-use st_commands::ilpstream;
+use st_program::ilpstream;
 use std::process::ExitCode;
 
 fn main(rt: HostRuntime) -> ExitCode {
-    ilpstream(&rt)
+    ilpstream(&rt, &rt)
 }

@@ -3,6 +3,8 @@
 #![tactic(auto)]
 
 #[cfg(test)]
+mod commands;
+#[cfg(test)]
 mod devices;
 #[cfg(test)]
 mod examples;
@@ -12,6 +14,8 @@ mod frames;
 mod memory;
 #[cfg(test)]
 mod program;
+#[cfg(test)]
+mod transfer;
 
 /// The number of the last request that is refused in turn. No call that is tried up to it makes as many.
 #[cfg(test)]

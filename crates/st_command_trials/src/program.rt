@@ -4,12 +4,16 @@
 use crate::LAST;
 use crate::devices::{Faulty, STORED, STORED_TEXT, Sink};
 use refusing::Refusing;
-use st_commands::{run, start};
 use st_oer::{CountRead, CountWrite};
+use st_program::{run, start};
 use std::alloc::Global;
 use std::env::FillError;
+use std::fs::{File, Files};
 use std::io::ErrorKind;
+use std::net::{Net, TcpListener, TcpStream};
 use std::rt::Env;
+use std::sync::Wait;
+use std::thread::Threads;
 
 /// The words of a process, which need not be text.
 #[derive(Drop)]
@@ -37,11 +41,20 @@ impl Env for Words<'_> {
 }
 
 /// What a process with this host did with the stored input: its status, its writer, and its writer of errors.
-fn started<H: Env + Alloc>(alloc: Global, host: &H, is_terminal: bool) -> (u8, Sink, Sink) {
+fn started<
+    H: Env + Alloc,
+    N: Net<Listener = TcpListener, Stream = TcpStream>
+        + Files<File = File>
+        + Threads
+        + Wait
+        + std::time::Clock
+        + Sync,
+>(rt: &N, alloc: Global, host: &H, is_terminal: bool) -> (u8, Sink, Sink) {
     let mut reader = CountRead::new(STORED.as_bytes());
     let mut writer = CountWrite::new(Sink::new(alloc));
     let mut errors = CountWrite::new(Sink::new(alloc));
     let status = start(
+        rt,
         alloc,
         host,
         is_terminal,
@@ -53,11 +66,18 @@ fn started<H: Env + Alloc>(alloc: Global, host: &H, is_terminal: bool) -> (u8, S
 }
 
 /// What a run over these words did with the stored input: its status, its writer, and its writer of errors.
-fn ran(alloc: Global, words: &[&str]) -> (u8, Sink, Sink) {
+fn ran<
+    N: Net<Listener = TcpListener, Stream = TcpStream>
+        + Files<File = File>
+        + Threads
+        + Wait
+        + std::time::Clock
+        + Sync,
+>(rt: &N, alloc: Global, words: &[&str]) -> (u8, Sink, Sink) {
     let mut reader = CountRead::new(STORED.as_bytes());
     let mut writer = CountWrite::new(Sink::new(alloc));
     let mut errors = CountWrite::new(Sink::new(alloc));
-    let status = run(alloc, words, &mut reader, &mut writer, &mut errors);
+    let status = run(rt, alloc, words, &mut reader, &mut writer, &mut errors);
     (status, writer.into_inner(), errors.into_inner())
 }
 
@@ -66,7 +86,7 @@ fn ran(alloc: Global, words: &[&str]) -> (u8, Sink, Sink) {
 fn the_command_is_frames(rt: HostRuntime) {
     let rows: [&[&str]; 2] = [&["ilpstream"], &["ilpstream", "frames"]];
     for words in rows {
-        let (status, written, told) = ran(rt.alloc(), words);
+        let (status, written, told) = ran(&rt, rt.alloc(), words);
         assert_eq!(rt; written.text(), STORED_TEXT, "{words:?}");
         assert!(rt; told.is_untouched(), "{words:?}");
         assert_eq!(rt; status, 0, "{words:?}");
@@ -76,7 +96,7 @@ fn the_command_is_frames(rt: HostRuntime) {
 #[test]
 fn version_and_help(rt: HostRuntime) {
     for word in ["--version", "-V"] {
-        let (status, written, told) = ran(rt.alloc(), &["ilpstream", word]);
+        let (status, written, told) = ran(&rt, rt.alloc(), &["ilpstream", word]);
         assert_eq!(rt; written.text(), "ilpstream 0.1.0\n", "{word}");
         assert!(rt; told.is_untouched(), "{word}");
         assert_eq!(rt; status, 0, "{word}");
@@ -88,7 +108,7 @@ const HELP: [&str; 8] = [
     "Usage: ilpstream [COMMAND]",
     "Without a command it does `frames`",
     "standard input until its end",
-    "  0  every line was taken",
+    "  0  the command did its work",
     "  1  a line was refused",
     "  2  the arguments ask for no command",
     "README.md",
@@ -106,7 +126,7 @@ const FRAMES_HELP: [&str; 4] = [
 #[test]
 fn help_names_what_a_run_needs(rt: HostRuntime) {
     for word in ["--help", "-h"] {
-        let (status, written, told) = ran(rt.alloc(), &["ilpstream", word]);
+        let (status, written, told) = ran(&rt, rt.alloc(), &["ilpstream", word]);
         for part in HELP {
             assert!(rt; written.text().contains(part), "{word}: {part}");
         }
@@ -115,7 +135,7 @@ fn help_names_what_a_run_needs(rt: HostRuntime) {
     }
     let rows = [["frames", "--help"], ["frames", "-h"], ["help", "frames"]];
     for [first, second] in rows {
-        let (status, written, told) = ran(rt.alloc(), &["ilpstream", first, second]);
+        let (status, written, told) = ran(&rt, rt.alloc(), &["ilpstream", first, second]);
         for part in FRAMES_HELP {
             assert!(rt; written.text().contains(part), "{first} {second}: {part}");
         }
@@ -124,7 +144,7 @@ fn help_names_what_a_run_needs(rt: HostRuntime) {
     }
 }
 
-/// Words that no command has, one of a command to come among them: nothing is read or written.
+/// Words that ask for no command, one of a command without its options among them: nothing is read or written.
 #[test]
 fn other_words_are_refused(rt: HostRuntime) {
     let rows: [&[&str]; 5] = [
@@ -135,7 +155,7 @@ fn other_words_are_refused(rt: HostRuntime) {
         &["ilpstream", ""],
     ];
     for words in rows {
-        let (status, written, told) = ran(rt.alloc(), words);
+        let (status, written, told) = ran(&rt, rt.alloc(), words);
         assert_eq!(rt; status, 2, "{words:?}");
         assert!(rt; written.is_untouched(), "{words:?}");
         assert!(rt; !told.text().is_empty(), "{words:?}");
@@ -151,14 +171,14 @@ fn texts_meet_faults(rt: HostRuntime) {
         let mut reader = CountRead::new(STORED.as_bytes());
         let mut writer = CountWrite::new(Faulty::new(Sink::new(alloc), 4096, n, ErrorKind::Other));
         let mut errors = CountWrite::new(Sink::new(alloc));
-        let status = run(alloc, &words, &mut reader, &mut writer, &mut errors);
+        let status = run(&rt, alloc, &words, &mut reader, &mut writer, &mut errors);
         assert_eq!(rt; errors.into_inner().text(), "fault 91\n", "at {n}");
         assert_eq!(rt; status, 1, "at {n}");
 
         let words = ["ilpstream", "send"];
         let mut writer = CountWrite::new(Sink::new(alloc));
         let mut errors = CountWrite::new(Faulty::new(Sink::new(alloc), 4096, n, ErrorKind::Other));
-        let status = run(alloc, &words, &mut reader, &mut writer, &mut errors);
+        let status = run(&rt, alloc, &words, &mut reader, &mut writer, &mut errors);
         assert_eq!(rt; status, 2, "at {n}");
         assert!(rt; writer.into_inner().is_untouched(), "at {n}");
     }
@@ -177,7 +197,7 @@ fn the_words_of_a_process(rt: HostRuntime) {
     ];
     for (words, wanted, text, why) in rows {
         let host = (Words(words), rt.alloc());
-        let (status, written, told) = started(rt.alloc(), &host, false);
+        let (status, written, told) = started(&rt, rt.alloc(), &host, false);
         assert_eq!(rt; written.text(), text, "{words:?}");
         assert_eq!(rt; told.text(), why, "{words:?}");
         assert_eq!(rt; status, wanted, "{words:?}");
@@ -192,7 +212,7 @@ fn no_memory_for_the_words(rt: HostRuntime) {
     for n in 1..=LAST {
         heap.refuse_from(n);
         let host = (Words(&words), &heap);
-        let (status, written, told) = started(rt.alloc(), &host, false);
+        let (status, written, told) = started(&rt, rt.alloc(), &host, false);
         if !heap.has_refused() {
             assert_eq!(rt; written.text(), STORED_TEXT);
             assert_eq!(rt; status, 0);
@@ -217,7 +237,7 @@ fn a_terminal_is_told(rt: HostRuntime) {
     ];
     for (words, reads) in rows {
         let host = (Words(words), rt.alloc());
-        let (status, _, told) = started(rt.alloc(), &host, true);
+        let (status, _, told) = started(&rt, rt.alloc(), &host, true);
         let lines = told.text().lines().count();
         assert_eq!(rt; lines, if reads { 1 } else { 0 }, "{words:?}");
         assert_eq!(rt;
@@ -226,7 +246,7 @@ fn a_terminal_is_told(rt: HostRuntime) {
             "{words:?}"
         );
         assert_eq!(rt; status, 0, "{words:?}");
-        let (_, _, told) = started(rt.alloc(), &host, false);
+        let (_, _, told) = started(&rt, rt.alloc(), &host, false);
         assert!(rt; told.is_untouched(), "{words:?}");
     }
 }

@@ -3,5 +3,4 @@ pub mod Overs
 pub mod PiecesTold
 pub mod LinesSoFar
 pub mod Progressing
-pub mod WordsTaken
 pub mod Spending

@@ -1,7 +1,6 @@
 -- How a run ended, and what was written by then.
 use Rattle.std.specs.Prelude.{◌≡◌, ◌⊎◌, ℕ, ◌+◌, ◌-◌, ◌^◌, ◌≤◌, Bool, true, false, List, take, Option, Some, None, Result, Ok, Err, IfSome}
 use Rattle.std.specs.Io.KnownBytes.{Appends}
-use Rattle.clap.specs.Words.{Kinds}
 use Rattle.st_oer.specs.Faults.{count_after}
 use Rattle.st_oer.specs.Tallies.{device_of, tally_of}
 use Rattle.st_oer.specs.declared.counted.Counting.{Counting}
@@ -13,7 +12,6 @@ use Rattle.st_commands.specs.declared.frames.Lines.TheVariants.{AllTaken, SomeRe
 use Rattle.st_commands.specs.Answers.{IsAnswer}
 use Rattle.st_commands.specs.Errors.{fault_number}
 use Rattle.st_commands.specs.Texts.{fault_text}
-use Rattle.st_commands.specs.Words.{MayRefuse, MayShow}
 
 abbrev pub has_refusal : Lines → Bool
 has_refusal AllTaken = false
@@ -85,10 +83,6 @@ Says text said e f = (Appends (said (device_of e)) (said (device_of f)) text × 
 abbrev pub TellsFault : {E : Type 0} → Fault → (E → Option (List ℕ)) → Counting E → Counting E → ℕ → Type 0
 TellsFault x said e f status = (status ≡ 1) × Says (fault_text (fault_number x)) said e f
 
--- no memory for the words: nothing was written but the fault
-abbrev pub LacksMemory : {W E : Type 0} → W → W → (E → Option (List ℕ)) → Counting E → Counting E → ℕ → Type 0
-LacksMemory w v said e f status = (v ≡ w) × TellsFault fault.NoMemory said e f status
-
 -- a run over all lines: e and f are the writer for errors at the start and now
 pub record RunsFrames {E : Type 0} (input before now : Option (List ℕ)) (ended : Option Fault → Type 0) (said : E → Option (List ℕ)) (e f : Counting E) (status : ℕ) : Type 0 where
   pub taken : status ≡ 0 → (f ≡ e) × ended None × IfSome input (λ bytes. WritesAnswer bytes false before now)
@@ -96,11 +90,3 @@ pub record RunsFrames {E : Type 0} (input before now : Option (List ℕ)) (ended
       ⊎ ((x : Fault) × ended (Some x) × TellsFault x said e f status)
   pub part : IfSome input (λ bytes. BeginsAnswer bytes before now)
   pub bound : status ≤ 1
-
--- clap's answer was told: a mistake in the words to the writer for errors, e at the start and f now, help or the version
--- to the other, w and v
-abbrev pub TellsAnswer : {W E : Type 0} → Kinds → (Option Fault → Type 0) → (E → Option (List ℕ)) → W → W → Counting E → Counting E → ℕ → Type 0
-TellsAnswer kinds ended said w v e f status = ((status ≡ 2) × MayRefuse kinds × (v ≡ w))
-    ⊎ ((status ≡ 0) × MayShow kinds × ended None × (f ≡ e))
-    ⊎ (MayShow kinds × ((x : Fault) × ended (Some x) × TellsFault x said e f status))
-    ⊎ LacksMemory w v said e f status

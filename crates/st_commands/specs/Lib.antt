@@ -5,6 +5,4 @@ pub mod Drafts
 pub mod Answers
 pub mod LineSoFar
 pub mod Progress
-pub mod Words
 pub mod Endings
-pub mod Process

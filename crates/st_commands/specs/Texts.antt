@@ -31,11 +31,3 @@ stream_text stream bytes = codes "stream " ++ decimal stream ++ codes " " ++ dec
 -- what a fault prints: `fault 90` and a newline
 abbrev pub fault_text : ℕ → List ℕ
 fault_text n = codes "fault " ++ decimal n ++ 10 ∷ []
-
--- what a terminal is told before its lines are read
-abbrev pub waits_text : List ℕ
-waits_text = codes "ilpstream: reads packets from the terminal, one a line in hexadecimal; Ctrl-D on a new line ends them\n"
-
--- what is told of words that are no text
-abbrev pub not_utf8_text : List ℕ
-not_utf8_text = codes "error: invalid UTF-8 was detected in one or more arguments\n"

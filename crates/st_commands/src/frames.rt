@@ -330,7 +330,7 @@ pub fn answer_frames<A: Allocator + Copy, R: Read, W: Write>(
 }
 
 /// Writes a text, as far as the writer takes it.
-pub(crate) fn say<E: Write>(errors: &mut CountWrite<E>, text: &str)
+pub fn say<E: Write>(errors: &mut CountWrite<E>, text: &str)
     ensures { Says text.now E.contents errors.old errors.new }
 {
     let mut turns = TURNS;
@@ -338,7 +338,7 @@ pub(crate) fn say<E: Write>(errors: &mut CountWrite<E>, text: &str)
 }
 
 /// Tells a fault, as far as the writer takes it. The status of a fault.
-pub(crate) fn tell_fault<E: Write>(errors: &mut CountWrite<E>, fault: Fault) -> u8
+pub fn tell_fault<E: Write>(errors: &mut CountWrite<E>, fault: Fault) -> u8
     ensures { TellsFault fault E.contents errors.old errors.new result }
 {
     say(errors, fault_line(fault));

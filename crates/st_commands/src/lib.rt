@@ -1,22 +1,18 @@
-//! The commands of the program `ilpstream`, over words, a reader, a writer and a writer for errors.
+//! The command `frames` of the program `ilpstream`, over a reader, a writer and a writer for errors, and how a run ends.
 //!
 //! `frames` reads plain STREAM packets, one line each, and prints the longest run of each stream. What it writes is
 //! stated by the lines of its input (specs/Answers.antt): which lines are refused and by which number, and what each
-//! stream's run is. How a run may end, and what was written by then, is in specs/Endings.antt. `run` reads the words
-//! (specs/Words.antt) and calls the command; the program hands it the standard streams.
+//! stream's run is. How a run may end, and what was written by then, is in specs/Endings.antt: `put`, `say` and
+//! `tell_fault` write so for the other commands too.
 #![tactic(auto)]
 
 mod error;
 mod frames;
 mod line;
 mod output;
-mod process;
-mod program;
 mod streams;
 mod texts;
-mod words;
 
 pub use error::{Fault, LineError};
-pub use frames::{Lines, answer_frames, run_frames};
-pub use process::{ilpstream, start};
-pub use program::run;
+pub use frames::{Lines, TURNS, answer_frames, run_frames, say, tell_fault};
+pub use output::put;

@@ -7,38 +7,6 @@ ghost use Rattle.st_commands.specs.Texts.{fault_text, line_text, numbered_text, 
 use crate::error::{Fault, LineError};
 use std::alloc::{AllocError, Allocator};
 
-/// What ends the program's help.
-pub const AFTER_HELP: &str =
-    "Without a command it does `frames`, which reads standard input until its end.
-
-Exit status:
-  0  every line was taken, or help or the version was printed
-  1  a line was refused, or a fault ended the run
-  2  the arguments ask for no command
-
-A refused line, the Nth, prints `line N refused R`; a fault prints `fault R` to standard error.
-What each number R means is in README.md, under 'What the program does'.
-
-Example:
-  ./ilpstream frames < examples/frames.txt";
-
-/// What ends the help of `frames`.
-pub const AFTER_FRAMES_HELP: &str =
-    "It reads standard input until its end. Each line is one plain STREAM packet of an ILP Prepare;
-an empty line is skipped. A refused line, the Nth, prints `line N refused R` at once, and the
-status is then 1, else 0. What each number R means is in README.md, under 'What the program does'.
-At the end each stream prints its number, the length of its run in bytes, and the run.
-
-Example:
-  ./ilpstream frames < examples/frames.txt";
-
-/// What a terminal is told before its lines are read.
-pub const WAITS: &str =
-    "ilpstream: reads packets from the terminal, one a line in hexadecimal; Ctrl-D on a new line ends them\n";
-
-/// What is told of words that are no text.
-pub const NOT_UTF8: &str = "error: invalid UTF-8 was detected in one or more arguments\n";
-
 /// What a refused line prints.
 pub fn refused_line<A: Allocator + Copy>(
     alloc: A,

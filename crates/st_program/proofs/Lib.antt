@@ -1,0 +1,4 @@
+pub mod Pieces
+pub mod WordsTaken
+pub mod Asked
+pub mod Tables

@@ -1,0 +1,10 @@
+use Rattle.std.proofs.Common.{◌≡◌}
+use Rattle.std.specs.Io.KnownBytes.{Consumes}
+use Rattle.st_oer.specs.Tallies.{device_of, tally_of}
+use Rattle.st_program.proofs.input.read_whole.Given as goal
+
+abbrev pub invariant-loop : goal.invariant-loop
+invariant-loop g l = record {
+  taken : Consumes (g.R.Read.remaining (device_of l.fn.reader)) (g.R.Read.remaining (device_of l.reader)) l.bytes.items;
+  faults : (tally_of l.reader).faults ≡ (tally_of l.fn.reader).faults;
+}

@@ -1,0 +1,54 @@
+use Rattle.std.proofs.Common.{◌≡◌, List, subst, map, [], refl, inl, inr, arith}
+use Rattle.clap.specs.Words.{HasKind, Kinds, Text, kind_of}
+use Rattle.clap.specs.declared.error.kind.ErrorKind.TheVariants.{OutOfMemory}
+use Rattle.st_oer.specs.Tallies.{tally_of}
+use Rattle.st_words.specs.declared.request.Request.{Request}
+use Rattle.st_words.specs.Words.{command_of, refusals}
+use Rattle.st_commands.specs.Endings.{HasEnded}
+use Rattle.st_program.specs.Endings.{Does}
+use Rattle.st_program.proofs.Asked.{asked_lawful, frames_alone}
+use Rattle.st_program.proofs.WordsTaken.{shown_is_no_mistake, shown_is_not_taken}
+use Rattle.st_program.proofs.program.run.Goals as goal
+
+pub returns-in-Ok-clause-obeys : goal.returns-in-Ok-clause-obeys
+returns-in-Ok-clause-obeys g c =
+    let words : List Text = map g.S.AsStr.text c.args.words.now in
+    record {
+      frames = λ asks. inl (subst (λ (q : Request). Does q g.R.Read.remaining g.W.Write.contents g.E.Write.contents
+          (HasEnded (tally_of c.args.reader.now) (tally_of c.obey.new.reader) (tally_of c.args.writer.now) (tally_of c.obey.new.writer))
+          c.args.reader.now c.obey.new.reader c.args.writer.now c.obey.new.writer c.args.errors.now c.obey.new.errors c.obey.result)
+          (frames_alone words c.in-Ok.request asks c.in-Ok.ensures) c.obey.ensures.does);
+      asked = λ none. inl (c.in-Ok.request, c.in-Ok.ensures, c.obey.ensures.does);
+      told = λ refused. absurd (refused c.in-Ok.ensures.0);
+      bad = λ has. absurd (has.1 c.in-Ok.request c.in-Ok.ensures.1);
+      shown = λ asks. absurd (shown_is_not_taken words asks c.in-Ok.ensures.0);
+    }
+
+pub obey-requires-after_bounds : goal.obey-requires-after_bounds
+obey-requires-after_bounds g c κs within = asked_lawful (command_of (map g.S.AsStr.text c.args.words.now)) c.in-Ok.request c.in-Ok.ensures.1
+
+pub returns-in-Err-Refused-clause-obeys : goal.returns-in-Err-Refused-clause-obeys
+returns-in-Err-Refused-clause-obeys g c =
+    let words : List Text = map g.S.AsStr.text c.args.words.now in
+    let kind : HasKind (refusals words) c.in-Err-Refused.error = rw c.in-Err-Refused.field-0-is at c.in-Err-Refused.ensures in
+    let memory : (refusals words ≡ [] → kind_of c.in-Err-Refused.error ≡ OutOfMemory) = λ none.
+    elim (subst (λ (kinds : Kinds). HasKind kinds c.in-Err-Refused.error) none kind) [
+      | inl wants ↦ wants
+      | inr wrong ↦ absurd wrong
+    ] in
+    record {
+      frames = λ asks. inr (refl, c.tell.ensures.memory (memory asks.0));
+      asked = λ none. inr (inr (refl, c.tell.ensures.memory (memory none)));
+      told = λ _. (refl, c.tell.ensures.told (tally_of c.args.reader.now) (refusals words) kind);
+      bad = λ has. let m = c.tell.ensures.memory (memory has.0) in (refl, m.0, (m.1.0, inr m.1.1));
+      shown = λ asks. elim (c.tell.ensures.told (tally_of c.args.reader.now) (refusals words) kind) [
+        | inl mistake ↦ absurd (shown_is_no_mistake words asks mistake.1)
+        | inr other ↦ elim other [
+          | inl done ↦ rw done.0 (omega arith)
+          | inr fault ↦ elim fault [
+            | inl one ↦ rw one.1.2.0 (omega arith)
+            | inr lacks ↦ rw lacks.1.0 (omega arith)
+          ]
+        ]
+      ];
+    }

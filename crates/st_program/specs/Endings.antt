@@ -1,0 +1,53 @@
+-- What the program answers, and how a command ended.
+use Rattle.std.specs.Prelude.{◌≡◌, ◌⊎◌, ℕ, List, Option, Some, None, Result, Ok, Err}
+use Rattle.clap.specs.Words.{Kinds}
+use Rattle.st_oer.specs.Tallies.{device_of}
+use Rattle.st_oer.specs.declared.counted.Counting.{Counting}
+use Rattle.st_commands.specs.declared.error.Fault.{Fault}
+use Rattle.st_commands.specs.declared.error.Fault.TheVariants as fault
+use Rattle.st_commands.specs.Endings.{RunsFrames, Says, TellsFault}
+use Rattle.st_commands.specs.Texts.{fault_text}
+use Rattle.st_words.specs.declared.request.Request.{Request}
+use Rattle.st_words.specs.declared.request.Request.TheVariants as request
+use Rattle.st_program.specs.declared.error.RunError.{RunError}
+use Rattle.st_program.specs.Errors.{number}
+use Rattle.st_program.specs.Table.{EndsBy}
+use Rattle.st_program.specs.Words.{MayRefuse, MayShow}
+
+-- no memory for the words: nothing was written but the fault
+abbrev pub LacksMemory : {W E : Type 0} → W → W → (E → Option (List ℕ)) → Counting E → Counting E → ℕ → Type 0
+LacksMemory w v said e f status = (v ≡ w) × TellsFault fault.NoMemory said e f status
+
+-- clap's answer was told: a mistake in the words to the writer for errors, e at the start and f now, help or the version
+-- to the other, w and v
+abbrev pub TellsAnswer : {W E : Type 0} → Kinds → (Option Fault → Type 0) → (E → Option (List ℕ)) → W → W → Counting E → Counting E → ℕ → Type 0
+TellsAnswer kinds ended said w v e f status = ((status ≡ 2) × MayRefuse kinds × (v ≡ w))
+    ⊎ ((status ≡ 0) × MayShow kinds × ended None × (f ≡ e))
+    ⊎ (MayShow kinds × ((x : Fault) × ended (Some x) × TellsFault x said e f status))
+    ⊎ LacksMemory w v said e f status
+
+-- the status of a fault of this number, of which the line was said, or that of want of memory for the line
+abbrev pub TellsNumber : {E : Type 0} → ℕ → (E → Option (List ℕ)) → Counting E → Counting E → ℕ → Type 0
+TellsNumber n said e f status = (status ≡ 1) × (Says (fault_text n) said e f ⊎ Says (fault_text 99) said e f)
+
+-- a command ended so: nothing is told where its work was done
+abbrev pub TellsEnd : {T E : Type 0} → Result T RunError → (E → Option (List ℕ)) → Counting E → Counting E → ℕ → Type 0
+TellsEnd (Ok x) said e f status = (status ≡ 0) × (f ≡ e)
+TellsEnd (Err x) said e f status = TellsNumber (number x) said e f status
+
+-- it ended in some way
+abbrev pub Ends : {E : Type 0} → (E → Option (List ℕ)) → Counting E → Counting E → ℕ → Type 0
+Ends said e f status = (end : Result (Unit {0}) RunError) × TellsEnd end said e f status
+
+-- what was asked for was done: r, w and e are the reader, the writer and the writer for errors at the start, s, v and f now
+abbrev pub Does : {R W E : Type 0} → Request → (R → Option (List ℕ)) → (W → Option (List ℕ)) → (E → Option (List ℕ)) → (Option Fault → Type 0)
+    → Counting R → Counting R → Counting W → Counting W → Counting E → Counting E → ℕ → Type 0
+Does request.Frames remaining contents said ended r s w v e f status = RunsFrames (remaining (device_of r)) (contents (device_of w)) (contents (device_of v)) ended said e f status
+Does (request.Send x) remaining contents said ended r s w v e f status = (v ≡ w) × Ends said e f status
+Does (request.Receive x) remaining contents said ended r s w v e f status = (s ≡ r) × Ends said e f status
+Does (request.Connector x) remaining contents said ended r s w v e f status =
+    (v ≡ w) × ((end : Result (Unit {0}) RunError) × EndsBy x.own.now (remaining (device_of r)) end × TellsEnd end said e f status)
+
+-- an option's text was told to be bad, or there was no memory for the words; nothing else was done
+abbrev pub TellsBadOption : {R W E : Type 0} → R → R → W → W → (E → Option (List ℕ)) → Counting E → Counting E → ℕ → Type 0
+TellsBadOption r s w v said e f status = (s ≡ r) × (v ≡ w) × TellsNumber 98 said e f status

@@ -1,0 +1,14 @@
+-- The numbers by which it is told why a command ended before its work was done.
+use Rattle.std.specs.Prelude.{ℕ}
+use Rattle.st_commands.specs.Errors.{fault_number}
+use Rattle.st_transfer.specs.Errors as transfer
+use Rattle.st_program.specs.declared.error.RunError.{RunError}
+use Rattle.st_program.specs.declared.error.RunError.TheVariants as run
+
+abbrev pub number : RunError → ℕ
+number (run.Fault x) = fault_number x
+number run.NoRandom = 90
+number run.NoListener = 80
+number run.BadTable = 96
+number run.BadOption = 98
+number (run.Transfer e) = transfer.number e

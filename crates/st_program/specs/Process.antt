@@ -1,0 +1,44 @@
+-- What the program does as a process. Which words a process has no clause can say: here they are some words.
+use Rattle.std.specs.Prelude.{◌≡◌, ◌≢◌, ◌⊎◌, ℕ, ◌≤◌, Bool, true, List, [], Option}
+use Rattle.clap.specs.Words.{Text}
+use Rattle.st_oer.specs.Tallies.{device_of}
+use Rattle.st_oer.specs.declared.counted.Counting.{Counting}
+use Rattle.st_commands.specs.declared.error.Fault.{Fault}
+use Rattle.st_commands.specs.declared.error.Fault.TheVariants.{NoMemory}
+use Rattle.st_commands.specs.Endings.{RunsFrames, Says, TellsFault}
+use Rattle.st_words.specs.declared.request.Request.{Request}
+use Rattle.st_words.specs.Words.{refusals}
+use Rattle.st_program.specs.Endings.{Does, LacksMemory, TellsAnswer, TellsBadOption}
+use Rattle.st_program.specs.Texts.{not_utf8_text, waits_text}
+use Rattle.st_program.specs.Words.{AsksFor, AsksFrames, AsksToShow, HasBadOption, after_name}
+
+-- what the words ask for was done: r, w and e are the reader, the writer and the writer for errors at the start, s, v and f
+-- now
+pub record Obeys {R W E : Type 0} (words : List Text) (remaining : R → Option (List ℕ)) (contents : W → Option (List ℕ)) (said : E → Option (List ℕ))
+    (ended : Option Fault → Type 0) (r s : Counting R) (w v : Counting W) (e f : Counting E) (status : ℕ) : Type 0 where
+  pub frames : AsksFrames words
+      → RunsFrames (remaining (device_of r)) (contents (device_of w)) (contents (device_of v)) ended said e f status ⊎ ((s ≡ r) × LacksMemory w v said e f status)
+  pub asked : refusals words ≡ []
+      → ((q : Request) × AsksFor words q × Does q remaining contents said ended r s w v e f status)
+      ⊎ (HasBadOption words × TellsBadOption r s w v said e f status)
+      ⊎ ((s ≡ r) × LacksMemory w v said e f status)
+  pub told : refusals words ≢ [] → (s ≡ r) × TellsAnswer (refusals words) ended said w v e f status
+  pub bad : HasBadOption words → TellsBadOption r s w v said e f status
+  pub shown : AsksToShow (after_name words) → status ≤ 1
+
+-- whoever sits at the terminal, if the reader is one and the words ask for `frames`, is told what is waited for: e and m
+-- are the writer for errors before and after
+abbrev pub TellsTerminal : {E : Type 0} → Bool → List Text → (E → Option (List ℕ)) → Counting E → Counting E → Type 0
+TellsTerminal is_terminal words said e m = (m ≡ e)
+    ⊎ ((is_terminal ≡ true) × AsksFrames words × Says waits_text said e m)
+
+-- there was no memory for the words, or they are no text: nothing was read, and why was told to the writer for errors
+abbrev pub LacksWords : {R W E : Type 0} → R → R → W → W → (E → Option (List ℕ)) → Counting E → Counting E → ℕ → Type 0
+LacksWords r s w v said e f status = (s ≡ r) × (v ≡ w)
+    × (((status ≡ 2) × Says not_utf8_text said e f) ⊎ TellsFault NoMemory said e f status)
+
+-- what some words ask for was done, after the terminal was told
+abbrev pub ObeysSome : {R W E : Type 0} → Bool → (R → Option (List ℕ)) → (W → Option (List ℕ)) → (E → Option (List ℕ)) → (Option Fault → Type 0)
+    → Counting R → Counting R → Counting W → Counting W → Counting E → Counting E → ℕ → Type 0
+ObeysSome {E = E} is_terminal remaining contents said ended r s w v e f status =
+    (words : List Text) × (m : Counting E) × TellsTerminal is_terminal words said e m × Obeys words remaining contents said ended r s w v m f status

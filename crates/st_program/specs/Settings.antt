@@ -1,0 +1,26 @@
+-- What the commands rely on in their settings.
+use Rattle.std.specs.Prelude.{◌≡◌, true, ⊤}
+use Rattle.st_oer.specs.Address.{is_address}
+use Rattle.st_http.specs.Texts.{is_field_text}
+use Rattle.st_settings.specs.declared.settings.SendSettings.{SendSettings}
+use Rattle.st_settings.specs.declared.settings.ReceiveSettings.{ReceiveSettings}
+use Rattle.st_words.specs.declared.request.Request.{Request}
+use Rattle.st_words.specs.declared.request.Request.TheVariants as request
+
+-- both ends have addresses, and the neighbour may stand in a request
+pub record IsSender (s : SendSettings) : Type 0 where
+  pub to : is_field_text s.to.now ≡ true
+  pub token : is_field_text s.token.now ≡ true
+  pub address : is_address s.address.now ≡ true
+  pub peer : is_address s.peer.now ≡ true
+
+-- both ends have addresses
+pub record IsReceiver (s : ReceiveSettings) : Type 0 where
+  pub address : is_address s.address.now ≡ true
+  pub peer : is_address s.peer.now ≡ true
+
+abbrev pub IsLawful : Request → Type 0
+IsLawful request.Frames = ⊤
+IsLawful (request.Send s) = IsSender s
+IsLawful (request.Receive s) = IsReceiver s
+IsLawful (request.Connector s) = ⊤

@@ -1,0 +1,106 @@
+//! The command `connector`.
+
+ghost use Rattle.std.specs.Prelude.{◌≡◌, true, IfErr, IfOk};
+ghost use Rattle.st_oer.specs.Tallies.{device_of};
+ghost use Rattle.st_program.specs.Table.{EndsBy, SaysTable, Serves, WhyNoTable, is_hop};
+ghost use Rattle.st_desk.specs.Desk.{IsNew};
+
+use crate::error::RunError;
+use crate::hop::{hop_of, neighbours_of};
+use crate::input::read_whole;
+use st_commands::{Fault, TURNS};
+use st_hop::HopState;
+use st_oer::{CountRead, utf8};
+use st_settings::{ConnectorSettings, Table, TableError, read_table};
+use st_transfer::connector_on;
+use std::alloc::Global;
+use std::io::Read;
+use std::net::{Net, TcpListener, TcpStream};
+use std::sync::Wait;
+use std::thread::Threads;
+
+/// The table in bytes.
+fn table_in<'a>(alloc: Global, bytes: &'a [u8]) -> Result<Table<'a, Global>, RunError>
+    ensures said { IfOk result (λ table. SaysTable bytes.now table.accounts.items table.routes.items) }
+    ensures refused { IfErr result (WhyNoTable bytes.now) }
+{
+    let Some(text) = utf8(bytes) else {
+        return Err(RunError::BadTable);
+    };
+    match read_table(alloc, text) {
+        Ok(table) => Ok(table),
+        Err(TableError::BadLine) => Err(RunError::BadTable),
+        Err(TableError::NoMemory) => Err(RunError::Fault(Fault::NoMemory)),
+    }
+}
+
+/// Serves by a table, of which the hop was made.
+fn serve_by<
+    N: Net<Listener = TcpListener, Stream = TcpStream> + Threads + Wait + std::time::Clock + Sync,
+>(
+    rt: &N,
+    alloc: Global,
+    settings: &ConnectorSettings<'_>,
+    table: &Table<'_, Global>,
+    hop: HopState<Global>,
+) -> Result<(), RunError>
+    requires new { IsNew hop }
+    requires made { is_hop settings.now.own.now table.now.accounts.items table.now.routes.items ≡ true }
+    ensures { Serves settings.now.own.now table.now.accounts.items table.now.routes.items result }
+{
+    let tokens = table.tokens(alloc)?;
+    let neighbours = neighbours_of(alloc, &table.accounts)?;
+    let Ok(listener) = TcpListener::bind(rt, settings.listen) else {
+        return Err(RunError::NoListener);
+    };
+    match connector_on(
+        rt,
+        alloc,
+        listener,
+        hop,
+        &tokens,
+        &neighbours,
+        settings.requests,
+        settings.workers,
+        TURNS,
+    ) {
+        Ok(_) => Ok(()),
+        Err(error) => Err(RunError::Transfer(error)),
+    }
+}
+
+/// Serves by a table.
+fn serve<
+    N: Net<Listener = TcpListener, Stream = TcpStream> + Threads + Wait + std::time::Clock + Sync,
+>(
+    rt: &N,
+    alloc: Global,
+    settings: &ConnectorSettings<'_>,
+    table: &Table<'_, Global>,
+) -> Result<(), RunError>
+    ensures { Serves settings.now.own.now table.now.accounts.items table.now.routes.items result }
+{
+    match hop_of(alloc, settings.own, table) {
+        Ok(hop) => serve_by(rt, alloc, settings, table, hop),
+        Err(error) => Err(error),
+    }
+}
+
+/// Reads the table, and serves so many requests by it.
+pub(crate) fn connector<
+    R: Read,
+    N: Net<Listener = TcpListener, Stream = TcpStream> + Threads + Wait + std::time::Clock + Sync,
+>(
+    rt: &N,
+    alloc: Global,
+    settings: &ConnectorSettings<'_>,
+    reader: &mut CountRead<R>,
+) -> Result<(), RunError>
+    ensures { EndsBy settings.now.own.now (R.remaining (device_of reader.old)) result }
+{
+    let bytes = read_whole(alloc, reader)?;
+    match table_in(alloc, &bytes) {
+        Ok(table) => serve(rt, alloc, settings, &table),
+        Err(error) => Err(error),
+    }
+}

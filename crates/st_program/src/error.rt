@@ -1,0 +1,75 @@
+//! Why a command ended before its work was done.
+
+ghost use Rattle.std.specs.Prelude.{◌≡◌};
+ghost use Rattle.st_program.specs.Errors as errors;
+
+use st_commands::Fault;
+use st_transfer::TransferError;
+use std::alloc::AllocError;
+use thiserror::Error;
+
+/// Why a command ended before its work was done.
+#[derive(Clone, Copy, Debug, PartialEq, Eq, Error)]
+pub enum RunError {
+    /// The input or the output failed or their turns ran out, or there was no memory.
+    #[error("{0}")]
+    Fault(Fault),
+    /// The file that random bytes come from cannot be opened.
+    #[error("the file of random bytes cannot be opened")]
+    NoRandom,
+    /// Nothing can listen at the address.
+    #[error("nothing can listen at the address")]
+    NoListener,
+    /// The table of a connector is bad.
+    #[error("the table is bad")]
+    BadTable,
+    /// The text of an option is bad.
+    #[error("an option is bad")]
+    BadOption,
+    /// The transfer ended short.
+    #[error("{0}")]
+    Transfer(TransferError),
+}
+
+impl RunError {
+    /// The number that `fault` prints.
+    pub fn number(&self) -> u8
+        ensures { result ≡ errors.number self.now }
+    {
+        match self {
+            RunError::Fault(fault) => fault.number(),
+            RunError::NoRandom => 90,
+            RunError::NoListener => 80,
+            RunError::BadTable => 96,
+            RunError::BadOption => 98,
+            RunError::Transfer(error) => error.number(),
+        }
+    }
+}
+
+ghost use Rattle.st_program.specs.declared.error.RunError.TheVariants.{Fault as IsFault, Transfer};
+ghost use Rattle.st_commands.specs.declared.error.Fault.TheVariants.{NoMemory};
+
+impl From<Fault> for RunError {
+    ghost from_gives = { λ x e. e ≡ IsFault x };
+
+    fn from(fault: Fault) -> RunError {
+        RunError::Fault(fault)
+    }
+}
+
+impl From<TransferError> for RunError {
+    ghost from_gives = { λ x e. e ≡ Transfer x };
+
+    fn from(error: TransferError) -> RunError {
+        RunError::Transfer(error)
+    }
+}
+
+impl From<AllocError> for RunError {
+    ghost from_gives = { λ _ e. e ≡ IsFault NoMemory };
+
+    fn from(_error: AllocError) -> RunError {
+        RunError::Fault(Fault::NoMemory)
+    }
+}

@@ -1,0 +1,159 @@
+//! The program as a process runs it, over the words that the process was given.
+
+ghost use Rattle.std.specs.Prelude.{◌≡◌, ◌≤◌, ◌⊎◌, map};
+ghost use Rattle.st_oer.specs.Tallies.{tally_of};
+ghost use Rattle.st_commands.specs.Endings.{HasEnded, Says, TellsFault};
+ghost use Rattle.st_program.specs.Process.{LacksWords, ObeysSome, TellsTerminal};
+ghost use Rattle.st_program.specs.Texts.{not_utf8_text};
+
+use crate::program::run;
+use st_commands::{Fault, say, tell_fault};
+use st_oer::{CountRead, CountWrite};
+use st_words::{Request, read_words};
+use std::alloc::Global;
+use std::convert::AsStr;
+use std::fs::{File, Files};
+use std::io::{ErrorKind, IsTerminal, Read, Write};
+use std::net::{Net, TcpListener, TcpStream};
+use std::process::ExitCode;
+use std::rt::Env;
+use std::sync::Wait;
+use std::thread::Threads;
+use std::{env, io};
+
+/// What a terminal is told before its lines are read.
+const WAITS: &str =
+    "ilpstream: reads packets from the terminal, one a line in hexadecimal; Ctrl-D on a new line ends them\n";
+
+/// What is told of words that are no text.
+const NOT_UTF8: &str = "error: invalid UTF-8 was detected in one or more arguments\n";
+
+/// The words of the command line, of which the first is the program's name.
+fn words<H: Env + Alloc>(host: &H) -> io::Result<Vec<String<H::A>, H::A>> {
+    Ok(env::args(host)?.collect(host.alloc())?)
+}
+
+/// Tells why the words cannot be read. Status 2 for words that are not UTF-8, else that of the fault: want of memory.
+fn refuse_words<E: Write>(errors: &mut CountWrite<E>, error: &io::Error) -> u8
+    ensures { ((result ≡ 2) × Says not_utf8_text E.contents errors.old errors.new)
+        ⊎ TellsFault Fault.NoMemory E.contents errors.old errors.new result }
+{
+    if error.kind() == ErrorKind::OutOfMemory {
+        return tell_fault(errors, Fault::NoMemory);
+    }
+    say(errors, NOT_UTF8);
+    2
+}
+
+/// Tells whoever sits at the terminal, if the reader is one and the words ask for `frames`, what is waited for.
+fn tell_terminal<S: AsStr, E: Write>(
+    alloc: Global,
+    is_terminal: bool,
+    words: &[S],
+    errors: &mut CountWrite<E>,
+)
+    ensures { TellsTerminal is_terminal (map S.text words.now) E.contents errors.old errors.new }
+{
+    if is_terminal && let Ok(Request::Frames) = read_words(alloc, words) {
+        say(errors, WAITS);
+    }
+}
+
+/// Does what the words ask for, once the terminal was told.
+fn obey<
+    S: AsStr,
+    R: Read,
+    W: Write,
+    E: Write,
+    N: Net<Listener = TcpListener, Stream = TcpStream>
+        + Files<File = File>
+        + Threads
+        + Wait
+        + std::time::Clock
+        + Sync,
+>(
+    rt: &N,
+    alloc: Global,
+    is_terminal: bool,
+    words: &[S],
+    reader: &mut CountRead<R>,
+    writer: &mut CountWrite<W>,
+    errors: &mut CountWrite<E>,
+) -> u8
+    ensures obeys { ObeysSome is_terminal R.remaining W.contents E.contents
+        (HasEnded (tally_of reader.old) (tally_of reader.new) (tally_of writer.old) (tally_of writer.new))
+        reader.old reader.new writer.old writer.new errors.old errors.new result }
+    ensures status { result ≤ 2 }
+{
+    tell_terminal(alloc, is_terminal, words, errors);
+    run(rt, alloc, words, reader, writer, errors)
+}
+
+/// Does what the words of the host ask for, as `run` does, and gives the status. Where they ask for `frames` and the reader
+/// is a terminal, as `is_terminal` says, `errors` is first told what is waited for. Words that are not UTF-8 have status 2,
+/// and want of memory for the words is the fault 99.
+pub fn start<
+    H: Env + Alloc,
+    R: Read,
+    W: Write,
+    E: Write,
+    N: Net<Listener = TcpListener, Stream = TcpStream>
+        + Files<File = File>
+        + Threads
+        + Wait
+        + std::time::Clock
+        + Sync,
+>(
+    rt: &N,
+    alloc: Global,
+    host: &H,
+    is_terminal: bool,
+    reader: &mut CountRead<R>,
+    writer: &mut CountWrite<W>,
+    errors: &mut CountWrite<E>,
+) -> u8
+    ensures does { ObeysSome is_terminal R.remaining W.contents E.contents
+        (HasEnded (tally_of reader.old) (tally_of reader.new) (tally_of writer.old) (tally_of writer.new))
+        reader.old reader.new writer.old writer.new errors.old errors.new result
+        ⊎ LacksWords reader.old reader.new writer.old writer.new E.contents errors.old errors.new result }
+    ensures status { result ≤ 2 }
+{
+    match words(host) {
+        Ok(words) => obey(
+            rt,
+            alloc,
+            is_terminal,
+            words.as_slice(),
+            reader,
+            writer,
+            errors,
+        ),
+        Err(error) => refuse_words(errors, &error),
+    }
+}
+
+/// The program `ilpstream`, over the process's words and standard streams: `host` has these, and `rt`, the same runtime,
+/// gives files, sockets, threads and the time.
+pub fn ilpstream<
+    N: Net<Listener = TcpListener, Stream = TcpStream>
+        + Files<File = File>
+        + Threads
+        + Wait
+        + std::time::Clock
+        + Sync,
+>(host: &HostRuntime, rt: &N) -> ExitCode {
+    let input = host.stdin();
+    let is_terminal = input.is_terminal();
+    let mut reader = CountRead::new(input);
+    let mut writer = CountWrite::new(host.stdout());
+    let mut errors = CountWrite::new(host.stderr());
+    ExitCode::from(start(
+        rt,
+        host.alloc(),
+        host,
+        is_terminal,
+        &mut reader,
+        &mut writer,
+        &mut errors,
+    ))
+}

@@ -1,0 +1,149 @@
+//! The program, over its words and its three streams.
+
+ghost use Rattle.std.specs.Prelude.{◌≡◌, ◌≤◌, ◌⊎◌, map, None, Some};
+ghost use Rattle.st_oer.specs.Tallies.{tally_of};
+ghost use Rattle.clap.specs.Words.{HasKind, Kinds, kind_of};
+ghost use Rattle.st_commands.specs.Endings.{HasEnded, TellsFault};
+ghost use Rattle.st_program.specs.Settings.{IsLawful};
+ghost use Rattle.st_program.specs.Endings.{Does, LacksMemory, TellsAnswer};
+ghost use Rattle.st_program.specs.Process.{Obeys};
+
+use crate::connector::connector;
+use crate::receive::receive;
+use crate::send::send;
+use crate::tell::{tell_end, tell_number};
+use clap::Error;
+use clap::error::ErrorKind;
+use st_commands::{Fault, TURNS, put, run_frames, say, tell_fault};
+use st_oer::{CountRead, CountWrite, Tally};
+use st_words::{Request, WordsError, read_words};
+use std::alloc::Global;
+use std::convert::AsStr;
+use std::fs::{File, Files};
+use std::io::{Read, Write};
+use std::net::{Net, TcpListener, TcpStream};
+use std::sync::Wait;
+use std::thread::Threads;
+
+/// Writes help or the version. Status 0, or that of a fault.
+fn show<W: Write, E: Write>(
+    alloc: Global,
+    writer: &mut CountWrite<W>,
+    errors: &mut CountWrite<E>,
+    error: &Error,
+) -> u8
+    ensures { (r : Tally) → ((result ≡ 0) × HasEnded r r (tally_of writer.old) (tally_of writer.new) None × (errors.new ≡ errors.old))
+        ⊎ ((x : Fault) × HasEnded r r (tally_of writer.old) (tally_of writer.new) (Some x) × TellsFault x E.contents errors.old errors.new result)
+        ⊎ LacksMemory writer.old writer.new E.contents errors.old errors.new result }
+{
+    let Ok(text) = format!(in alloc; "{error}") else {
+        return tell_fault(errors, Fault::NoMemory);
+    };
+    let mut turns = TURNS;
+    match put(writer, text.as_bytes(), &mut turns) {
+        Ok(()) => 0,
+        Err(fault) => tell_fault(errors, fault),
+    }
+}
+
+/// Writes what is wrong with the words, as far as `errors` takes it. Status 2, or that of a fault.
+fn refuse<E: Write>(alloc: Global, errors: &mut CountWrite<E>, error: &Error) -> u8
+    ensures { (result ≡ 2) ⊎ TellsFault Fault.NoMemory E.contents errors.old errors.new result }
+{
+    let Ok(text) = format!(in alloc; "{error}") else {
+        return tell_fault(errors, Fault::NoMemory);
+    };
+    say(errors, text.as_str());
+    2
+}
+
+/// Tells what clap answers in place of taking the words.
+fn tell<W: Write, E: Write>(
+    alloc: Global,
+    writer: &mut CountWrite<W>,
+    errors: &mut CountWrite<E>,
+    error: &Error,
+) -> u8
+    ensures memory { kind_of error.now ≡ ErrorKind.OutOfMemory → LacksMemory writer.old writer.new E.contents errors.old errors.new result }
+    ensures told { (r : Tally) (kinds : Kinds) → HasKind kinds error.now
+        → TellsAnswer kinds (HasEnded r r (tally_of writer.old) (tally_of writer.new)) E.contents writer.old writer.new errors.old errors.new result }
+    ensures status { result ≤ 2 }
+{
+    match error.kind() {
+        ErrorKind::OutOfMemory => tell_fault(errors, Fault::NoMemory),
+        ErrorKind::DisplayHelp | ErrorKind::DisplayVersion => show(alloc, writer, errors, error),
+        _ => refuse(alloc, errors, error),
+    }
+}
+
+/// Does what was asked for. The status: 0 is done, 1 a run that refused a line or met a fault.
+fn obey<
+    R: Read,
+    W: Write,
+    E: Write,
+    N: Net<Listener = TcpListener, Stream = TcpStream>
+        + Files<File = File>
+        + Threads
+        + Wait
+        + std::time::Clock
+        + Sync,
+>(
+    rt: &N,
+    alloc: Global,
+    request: &Request<'_>,
+    reader: &mut CountRead<R>,
+    writer: &mut CountWrite<W>,
+    errors: &mut CountWrite<E>,
+) -> u8
+    requires { IsLawful request.now }
+    ensures does { Does request.now R.remaining W.contents E.contents
+        (HasEnded (tally_of reader.old) (tally_of reader.new) (tally_of writer.old) (tally_of writer.new))
+        reader.old reader.new writer.old writer.new errors.old errors.new result }
+    ensures status { result ≤ 1 }
+{
+    match request {
+        Request::Frames => run_frames(alloc, reader, writer, errors),
+        Request::Send(settings) => tell_end(alloc, errors, send(rt, alloc, settings, reader)),
+        Request::Receive(settings) => {
+            tell_end(alloc, errors, receive(rt, alloc, settings, writer))
+        }
+        Request::Connector(settings) => {
+            tell_end(alloc, errors, connector(rt, alloc, settings, reader))
+        }
+    }
+}
+
+/// Does what the words ask for, of which the first is the program's name, and gives the status: 0 is done, 1 a run that
+/// refused a line or met a fault, 2 words that are refused. No words but the name ask for `frames`. Help and the version
+/// go to the writer, a mistake in the words to `errors`; an option whose text is bad is the fault 98, and want of memory
+/// for the words the fault 99.
+pub fn run<
+    S: AsStr,
+    R: Read,
+    W: Write,
+    E: Write,
+    N: Net<Listener = TcpListener, Stream = TcpStream>
+        + Files<File = File>
+        + Threads
+        + Wait
+        + std::time::Clock
+        + Sync,
+>(
+    rt: &N,
+    alloc: Global,
+    words: &[S],
+    reader: &mut CountRead<R>,
+    writer: &mut CountWrite<W>,
+    errors: &mut CountWrite<E>,
+) -> u8
+    ensures obeys { Obeys (map S.text words.now) R.remaining W.contents E.contents
+        (HasEnded (tally_of reader.old) (tally_of reader.new) (tally_of writer.old) (tally_of writer.new))
+        reader.old reader.new writer.old writer.new errors.old errors.new result }
+    ensures status { result ≤ 2 }
+{
+    match read_words(alloc, words) {
+        Ok(request) => obey(rt, alloc, &request, reader, writer, errors),
+        Err(WordsError::Refused(error)) => tell(alloc, writer, errors, &error),
+        Err(WordsError::BadOption) => tell_number(alloc, errors, 98),
+    }
+}

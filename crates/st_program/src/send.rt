@@ -1,0 +1,74 @@
+//! The command `send`.
+
+ghost use Rattle.std.specs.Prelude.{◌≡◌};
+ghost use Rattle.st_program.specs.Settings.{IsSender};
+
+use crate::error::RunError;
+use st_commands::TURNS;
+use st_oer::CountRead;
+use st_sender::{EndConfig, MAX_IN_FLIGHT, MAX_PACKET_LIMIT, MAX_PACKETS};
+use st_settings::SendSettings;
+use st_transfer::{Neighbour, TransferError, client_end, send_on};
+use std::alloc::Global;
+use std::fs::{File, Files};
+use std::io::Read;
+use std::net::{Net, TcpListener, TcpStream};
+use std::sync::Wait;
+use std::thread::Threads;
+
+/// An end that sends as much at once as an end may.
+pub(crate) fn widest() -> EndConfig {
+    let Some(config) = EndConfig::new(MAX_IN_FLIGHT, MAX_PACKETS, MAX_PACKET_LIMIT) else {
+        unreachable!();
+    };
+    config
+}
+
+/// Sends the input and money to a receiver.
+pub(crate) fn send<
+    R: Read,
+    N: Net<Listener = TcpListener, Stream = TcpStream>
+        + Files<File = File>
+        + Threads
+        + Wait
+        + std::time::Clock
+        + Sync,
+>(
+    rt: &N,
+    alloc: Global,
+    settings: &SendSettings<'_>,
+    reader: &mut CountRead<R>,
+) -> Result<(), RunError>
+    requires { IsSender settings.now }
+{
+    let Some(neighbour) = Neighbour::new(settings.to, settings.token) else {
+        unreachable!();
+    };
+    let Ok(random) = File::open(rt, settings.random) else {
+        return Err(RunError::NoRandom);
+    };
+    let config = widest().with_least(settings.least);
+    match client_end(
+        alloc,
+        settings.secret,
+        settings.address,
+        settings.peer,
+        config,
+    ) {
+        Ok(end) => {
+            send_on(
+                rt,
+                alloc,
+                end,
+                neighbour,
+                reader,
+                random,
+                settings.money,
+                settings.workers,
+                TURNS,
+            )?;
+            Ok(())
+        }
+        Err(error) => Err(RunError::Transfer(TransferError::End(error))),
+    }
+}

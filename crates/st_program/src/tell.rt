@@ -1,0 +1,46 @@
+//! What is told of an end before the work was done.
+
+ghost use Rattle.std.specs.Prelude.{◌≡◌, ◌≤◌, IfOk, string_bytes};
+ghost use Rattle.st_commands.specs.Texts.{fault_text};
+ghost use Rattle.st_program.specs.Endings.{TellsEnd, TellsNumber};
+
+use crate::error::RunError;
+use st_commands::{Fault, say, tell_fault};
+use st_oer::CountWrite;
+use std::alloc::{AllocError, Global};
+use std::io::Write;
+
+/// What a fault of this number prints.
+#[tactic(auto, using(crate::proofs::Pieces::pieces))]
+fn fault_line(alloc: Global, number: u8) -> Result<String, AllocError>
+    ensures { IfOk result (λ text. string_bytes text ≡ fault_text number) }
+{
+    let text = format!(in alloc; "fault {number}\n")?;
+    Ok(text)
+}
+
+/// Tells a fault of this number, as far as `errors` takes it, or that of want of memory. The status of a fault.
+pub(crate) fn tell_number<E: Write>(alloc: Global, errors: &mut CountWrite<E>, number: u8) -> u8
+    ensures { TellsNumber number E.contents errors.old errors.new result }
+{
+    let Ok(text) = fault_line(alloc, number) else {
+        return tell_fault(errors, Fault::NoMemory);
+    };
+    say(errors, text.as_str());
+    1
+}
+
+/// Tells how a command ended, if by an error. Its status.
+pub(crate) fn tell_end<E: Write>(
+    alloc: Global,
+    errors: &mut CountWrite<E>,
+    ended: Result<(), RunError>,
+) -> u8
+    ensures told { TellsEnd ended E.contents errors.old errors.new result }
+    ensures status { result ≤ 1 }
+{
+    match ended {
+        Ok(()) => 0,
+        Err(error) => tell_number(alloc, errors, error.number()),
+    }
+}
