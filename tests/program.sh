@@ -110,6 +110,13 @@ same 'a full output' $'1\nfault 91' "$?"$'\n'"$(cat "$room/err")"
 "$program" fames 2>&- >"$room/out"
 same 'no output for errors' $'2\n' "$?"$'\n'"$(cat "$room/out")"
 
+# A file and money from a sender through a connector to a receiver, by the example, on ports of its own.
+program=$top/examples/transfer/run
+export BYTES=70000 MONEY=500 END=17771 HUB=17770
+run </dev/null
+unset BYTES MONEY END HUB
+same 'a transfer' $'70000 bytes and 500 units came whole\n--\n\n--\n0' "${out% in *}"$'\n--\n'"$err"$'\n--\n'"$status"
+
 # A link to a link, from another folder.
 ln -s "$top/ilpstream" "$room/once"
 ln -s once "$room/twice"

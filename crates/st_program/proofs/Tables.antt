@@ -1,11 +1,11 @@
 -- From a table to the end of a connector.
-use Rattle.std.proofs.Common.{◌≡◌, ◌⊎◌, ℕ, true, false, List, Option, Some, None, refl, sym, subst, ◌∙◌, inl, inr}
+use Rattle.std.proofs.Common.{◌≡◌, ℕ, List, Option, Some, None, subst, inl, inr}
 use Rattle.std.specs.Prelude.{IfSome, Result, Ok, Err}
 use Rattle.st_hop.specs.declared.route.Route.{Route}
 use Rattle.st_settings.specs.declared.line.AccountLine.{AccountLine}
 use Rattle.st_program.specs.declared.error.RunError.{RunError}
 use Rattle.st_program.specs.declared.error.RunError.TheVariants as run
-use Rattle.st_program.specs.Table.{EndsBy, HasTable, LacksTable, SaysTable, Serves, WhyNoHop, WhyNoTable, is_hop}
+use Rattle.st_program.specs.Table.{EndsBy, HasTable, LacksTable, SaysTable, Serves, WhyNoHop, WhyNoTable}
 
 -- what holds of the bytes that were read holds of the input
 said_of : (input : Option (List ℕ)) (bytes : List ℕ) (P : List ℕ → Type 0) → IfSome input (λ all. bytes ≡ all) → P bytes → IfSome input P
