@@ -1,178 +1,296 @@
-//! A schedule of which each request for memory is refused in turn.
+//! Worked schedules of which each request for memory is refused in turn. What could not be recorded has not happened, what a
+//! core call found no memory for is left as it was, and the same event then does what the schedule says.
 
-use crate::rows::config;
+use crate::player::{Player, other};
+use crate::rows::{account, config};
 use refusing::Refusing;
-use st_chain::{Event, Fault, World};
-use st_ilp::Moment;
-use st_nodes::{Side, Told, Way};
+use st_chain::{Event, Fault, Trace};
+use st_hop::Account;
+use st_nodes::{EndEntry, Side, Told, Way};
 use st_receiver::Got;
 use std::alloc::{Allocator, Global};
 use std::process::Abort;
 
-const IV: [u8; 12] = [7; 12];
-
 /// What is written and read.
 const TEXT: &[u8] = b"ab";
 
-/// A world to which an event that met no memory happens again.
-#[derive(Drop)]
-struct Player<A: Allocator + Copy> {
-    world: World<A>,
-    now: Moment,
-    /// How many events the world could not record, and how many core calls found no memory.
-    faults: u64,
-    lacks: u64,
-    /// How many answers were given on the one link.
-    given: usize,
+/// The two ways of a Prepare.
+const UP: Way = Way::ToServer;
+
+const DOWN: Way = Way::ToClient;
+
+/// The schedules.
+#[derive(Clone, Copy)]
+enum Schedule {
+    /// The Fulfill of the first Prepare is lost, and its bytes go again.
+    BytesAgain,
+    /// A hop passes at most 100 units on, of 150 that are offered.
+    TooLarge,
+    /// The Fulfill that the second of two hops gave is lost towards the first.
+    LostFulfill,
+    /// Bytes and money go both ways over a hop.
+    BothWays,
 }
 
-impl<A: Allocator + Copy> Player<A> {
-    fn new(rt: &impl Abort, alloc: A) -> Result<Player<A>, Fault> {
-        Ok(Player {
-            world: World::new(alloc, 0, config(rt))?,
-            now: Moment::new(0).expect(rt, "it is not below 0"),
-            faults: 0,
-            lacks: 0,
-            given: 0,
-        })
+impl Schedule {
+    /// The hops, each with the most units that it passes on.
+    fn limits(self) -> &'static [u64] {
+        match self {
+            Schedule::BytesAgain => &[],
+            Schedule::TooLarge => &[100],
+            Schedule::LostFulfill => &[1_000, 1_000],
+            Schedule::BothWays => &[1_000],
+        }
     }
 
-    /// An event, which happens again where the world could not record it.
-    fn record(&mut self, rt: &impl Abort, event: &Event<'_>) -> Told<A> {
-        match self.world.step(event) {
-            Ok(told) => told,
-            Err(fault) => {
-                assert_eq!(rt; fault, Fault::NoMemory);
-                self.faults = self.faults.saturating_add(1);
-                match self.world.step(event) {
-                    Ok(told) => told,
-                    Err(_) => panic!(rt; "one request alone is refused"),
-                }
+    fn play<A: Allocator + Copy>(self, rt: &impl Abort, player: &mut Player<A>) {
+        player.open(rt, Side::Client, 1);
+        match self {
+            Schedule::BytesAgain => send_again(rt, player),
+            Schedule::TooLarge => learn_limit(rt, player),
+            Schedule::LostFulfill => lose_fulfill(rt, player),
+            Schedule::BothWays => {
+                go_both_ways(rt, player);
+                come_both_ways(rt, player);
             }
         }
     }
 
-    /// The same, and again where the core call found no memory.
-    fn take(&mut self, rt: &impl Abort, event: &Event<'_>) -> Told<A> {
-        let told = self.record(rt, event);
-        let Told::NoMemory = told else {
-            return told;
-        };
-        assert!(rt; self.world.trace().refused());
-        self.lacks = self.lacks.saturating_add(1);
-        if let Event::Arrive(_, _, _, _) = event {
-            self.given = self.given.saturating_add(1);
-        }
-        self.record(rt, event)
-    }
-
-    /// An event that is met by a call on a stream.
-    fn call(&mut self, rt: &impl Abort, event: &Event<'_>) {
-        assert!(rt; matches!(self.take(rt, event), Told::Call(Ok(()))));
-    }
-
-    fn send(&mut self, rt: &impl Abort) {
-        let event = Event::Send(Side::Client, IV, self.now);
-        assert!(rt; matches!(self.take(rt, &event), Told::Sent));
-    }
-
-    /// A Prepare comes to the server, who fulfils it.
-    fn arrive(&mut self, rt: &impl Abort, which: usize) {
-        let event = Event::Arrive(0, Way::ToServer, which, self.now);
-        let told = self.take(rt, &event);
-        assert!(rt;
-            matches!(
-                told,
-                Told::Answered {
-                    reason: 0,
-                    amount: _,
-                    sequence: _
-                }
-            )
-        );
-        self.given = self.given.saturating_add(1);
-    }
-
-    /// What a read at the server gives.
-    fn read(&mut self, rt: &impl Abort) -> Got<A> {
-        match self.take(rt, &Event::Read(Side::Server, 1, 10)) {
-            Told::Gave(Ok(got)) => got,
-            _ => panic!(rt; "the stream is open"),
+    /// Whether the trace is that of the schedule.
+    fn is_right<A: Allocator + Copy>(self, trace: &Trace<A>) -> bool {
+        match self {
+            Schedule::BytesAgain => is_read(trace) && has_fulfilled(trace, &[1, 2, 3], 0),
+            Schedule::TooLarge => {
+                stands(trace, 0, 0, (100, 100))
+                    && has_paid(trace, Side::Client, 100, 100)
+                    && has_turned_back(trace, 150)
+                    && has_fulfilled(trace, &[2], 100)
+            }
+            Schedule::LostFulfill => {
+                stands(trace, 1, 0, (20, 10))
+                    && has_paid(trace, Side::Client, 10, 20)
+                    && has_fulfilled(trace, &[1, 2], 10)
+            }
+            Schedule::BothWays => {
+                stands(trace, 0, 0, (10, 10))
+                    && has_paid(trace, Side::Client, 10, 10)
+                    && has_paid(trace, Side::Server, 20, 20)
+                    && has_fulfilled(trace, &[1], 10)
+            }
         }
     }
+}
 
-    fn write_all(&mut self, rt: &impl Abort) {
-        let opened = self.take(rt, &Event::OpenStream(Side::Client));
-        assert!(rt; matches!(opened, Told::Opened(Ok(1))));
-        self.call(rt, &Event::Write(Side::Client, 1, TEXT));
-        self.call(rt, &Event::Close(Side::Client, 1));
+/// An end writes the text on a stream.
+fn write<A: Allocator + Copy>(rt: &impl Abort, player: &mut Player<A>, side: Side, stream: u8) {
+    player.call(rt, &Event::Write(side, stream, TEXT));
+}
+
+/// The first of these Prepares is lost on its way back.
+fn send_again<A: Allocator + Copy>(rt: &impl Abort, player: &mut Player<A>) {
+    write(rt, player, Side::Client, 1);
+    player.call(rt, &Event::Close(Side::Client, 1));
+    player.send(rt, Side::Client);
+    player.arrive(rt, 0, UP, 1);
+    player.lose(rt, 0, UP, 1);
+    player.send(rt, Side::Client);
+    player.arrive(rt, 0, UP, 2);
+    player.come_back(rt, 0, UP);
+    player.send(rt, Side::Client);
+    player.arrive(rt, 0, UP, 3);
+    read(rt, player, Side::Server, 1);
+    for _ in 0..2 {
+        let told = player.read(rt, Side::Server, 1);
+        assert!(rt; matches!(told, Told::Gave(Ok(Got::End))));
     }
+}
 
-    fn send_all(&mut self, rt: &impl Abort) {
-        self.send(rt);
-        self.arrive(rt, 1);
-        self.call(rt, &Event::Fault(0, Way::ToServer, 1, self.now));
-        self.send(rt);
-        self.arrive(rt, 2);
-        let answer = Event::AnswerArrives(0, Way::ToServer, self.given, self.now);
-        self.call(rt, &answer);
-        self.send(rt);
-        self.arrive(rt, 3);
+/// The text is read at an end.
+fn read<A: Allocator + Copy>(rt: &impl Abort, player: &mut Player<A>, side: Side, stream: u8) {
+    match player.read(rt, side, stream) {
+        Told::Gave(Ok(Got::Bytes(bytes))) => assert!(rt; bytes.as_slice() == TEXT),
+        _ => panic!(rt; "there are bytes"),
     }
+}
 
-    fn read_all(&mut self, rt: &impl Abort) {
-        match self.read(rt) {
-            Got::Bytes(bytes) => assert!(rt; bytes.as_slice() == TEXT),
-            _ => panic!(rt; "there are bytes"),
+fn learn_limit<A: Allocator + Copy>(rt: &impl Abort, player: &mut Player<A>) {
+    player.offer(rt, Side::Client, 1, 150, 500);
+    player.send(rt, Side::Client);
+    player.turn_back(rt, 0, UP, 1);
+    player.come_back(rt, 0, UP);
+    player.send(rt, Side::Client);
+    player.pass(rt, 0, UP, 2);
+    player.arrive(rt, 1, UP, 1);
+    player.come_back(rt, 1, UP);
+    player.come_back(rt, 0, UP);
+}
+
+fn lose_fulfill<A: Allocator + Copy>(rt: &impl Abort, player: &mut Player<A>) {
+    player.offer(rt, Side::Client, 1, 10, 100);
+    player.send(rt, Side::Client);
+    player.pass(rt, 0, UP, 1);
+    player.pass(rt, 1, UP, 1);
+    player.arrive(rt, 2, UP, 1);
+    player.come_back(rt, 2, UP);
+    player.lose(rt, 1, UP, 1);
+    player.come_back(rt, 0, UP);
+    player.send(rt, Side::Client);
+    player.pass(rt, 0, UP, 2);
+    player.pass(rt, 1, UP, 2);
+    player.arrive(rt, 2, UP, 2);
+    for link in [2, 1, 0] {
+        player.come_back(rt, link, UP);
+    }
+}
+
+/// Both ends write and offer, and both their Prepares come to the other end.
+fn go_both_ways<A: Allocator + Copy>(rt: &impl Abort, player: &mut Player<A>) {
+    player.open(rt, Side::Server, 2);
+    write(rt, player, Side::Client, 1);
+    write(rt, player, Side::Server, 2);
+    player.offer(rt, Side::Client, 1, 10, 100);
+    player.offer(rt, Side::Server, 2, 20, 100);
+    player.send(rt, Side::Client);
+    player.send(rt, Side::Server);
+    player.pass(rt, 0, UP, 1);
+    player.pass(rt, 1, DOWN, 1);
+    player.arrive(rt, 1, UP, 1);
+    player.arrive(rt, 0, DOWN, 1);
+}
+
+/// Their answers come back, and what came is read.
+fn come_both_ways<A: Allocator + Copy>(rt: &impl Abort, player: &mut Player<A>) {
+    player.come_back(rt, 1, UP);
+    player.come_back(rt, 0, DOWN);
+    player.come_back(rt, 0, UP);
+    player.come_back(rt, 1, DOWN);
+    read(rt, player, Side::Server, 1);
+    read(rt, player, Side::Client, 2);
+}
+
+/// Whether the text was read to its end, and all else that is told of a stream did not happen.
+fn is_read<A: Allocator + Copy>(trace: &Trace<A>) -> bool {
+    let Some(ledger) = trace.ledger(Side::Client, 1) else {
+        return false;
+    };
+    ledger.written() == TEXT
+        && ledger.read() == TEXT
+        && ledger.is_closed()
+        && ledger.told_end()
+        && !ledger.is_aborted()
+        && !ledger.told_abort()
+        && trace.ledger(Side::Server, 1).is_none()
+}
+
+/// Whether the first hop rejected a Prepare of this amount that it put on no link.
+fn has_turned_back<A: Allocator + Copy>(trace: &Trace<A>, amount: u64) -> bool {
+    let Some(hop) = trace.hop(0) else {
+        return false;
+    };
+    for entry in hop.answered() {
+        if entry.amount_in == amount && entry.outgoing.is_none() && !entry.fulfilled {
+            return true;
         }
-        assert!(rt; matches!(self.read(rt), Got::End));
-        assert!(rt; matches!(self.read(rt), Got::End));
     }
+    false
+}
 
-    /// Whether the trace is that of the schedule, and notes want of memory where there was some.
-    fn is_right(&self) -> bool {
-        let trace = self.world.trace();
-        let Some(ledger) = trace.ledger(Side::Client, 1) else {
+/// Whether an end paid so much, and the other one was credited so much.
+fn has_paid<A: Allocator + Copy>(trace: &Trace<A>, side: Side, paid: u64, credited: u64) -> bool {
+    trace.end(side).totals().paid == paid && trace.end(other(side)).totals().credited == credited
+}
+
+/// Whether the claimer's claims against the neighbour before it, and the payer's dues to the one behind it, are these.
+fn stands<A: Allocator + Copy>(
+    trace: &Trace<A>,
+    claimer: usize,
+    payer: usize,
+    balances: (u64, u64),
+) -> bool {
+    let (Some(claimer), Some(payer)) = (trace.hop(claimer), trace.hop(payer)) else {
+        return false;
+    };
+    (claimer.claims(0), payer.dues(1)) == (Ok(balances.0), Ok(balances.1))
+}
+
+/// Whether the server fulfilled Prepares of these sequences and this amount, and no others.
+fn has_fulfilled<A: Allocator + Copy>(trace: &Trace<A>, sequences: &[u64], amount: u64) -> bool {
+    let mut wanted = sequences.iter();
+    for entry in trace.end(Side::Server).answered() {
+        if entry.fulfilled && !is_next(entry, wanted.next(), amount) {
             return false;
-        };
-        ledger.written() == TEXT
-            && ledger.read() == TEXT
-            && ledger.told_end()
-            && trace.refused() == (self.lacks > 0)
+        }
     }
+    wanted.next().is_none()
+}
+
+fn is_next(entry: &EndEntry, sequence: Option<&u64>, amount: u64) -> bool {
+    entry.amount == amount && entry.sequence == sequence.copied()
+}
+
+/// Hops that pass on so much.
+fn hops(rt: &impl Abort, alloc: Global, limits: &[u64]) -> Vec<Account> {
+    let mut hops = Vec::new(alloc);
+    for limit in limits {
+        assert!(rt; hops.push(account(*limit)).is_ok());
+    }
+    hops
 }
 
 /// The schedule, whose request `n` is refused: whether there was one.
-fn meets(rt: &impl Abort, heap: &Refusing<Global>, n: u64) -> bool {
+fn meets(
+    rt: &impl Abort,
+    heap: &Refusing<Global>,
+    hops: &[Account],
+    schedule: Schedule,
+    n: u64,
+) -> bool {
     heap.refuse_only(n);
-    let mut player = match Player::new(rt, heap) {
+    let mut player = match Player::new(rt, heap, hops, config(rt)) {
         Ok(player) => player,
         Err(fault) => {
             assert_eq!(rt; fault, Fault::NoMemory);
+            assert!(rt; Player::new(rt, heap, hops, config(rt)).is_ok());
             return heap.has_refused();
         }
     };
-    player.write_all(rt);
-    player.send_all(rt);
-    player.read_all(rt);
-    assert!(rt; player.is_right(), "at {n}");
+    schedule.play(rt, &mut player);
     let met = heap.has_refused();
-    assert_eq!(rt;
-        player.faults.saturating_add(player.lacks),
-        u64::from(met),
-        "at {n}"
-    );
+    assert!(rt; schedule.is_right(player.trace()), "at {n}");
+    assert_eq!(rt; player.trace().refused(), player.lacks() > 0, "at {n}");
+    assert_eq!(rt; player.refusals(), u64::from(met), "at {n}");
     met
 }
 
-#[test]
-fn what_found_no_memory_happens_again(rt: HostRuntime) {
-    let heap: Refusing<Global> = Refusing::new(rt.alloc());
+/// Refuses each request in turn, until a run meets no refusal.
+fn refuse_each(rt: &impl Abort, global: Global, schedule: Schedule) {
+    let heap: Refusing<Global> = Refusing::new(global);
+    let hops = hops(rt, global, schedule.limits());
     for n in 1..10_000_u64 {
-        if !meets(&rt, &heap, n) {
+        if !meets(rt, &heap, &hops, schedule, n) {
             assert!(rt; 20 < n, "it asks for more");
             return;
         }
     }
     panic!(rt; "no run met no refusal");
+}
+
+#[test]
+fn bytes_go_again_without_memory(rt: HostRuntime) {
+    refuse_each(&rt, rt.alloc(), Schedule::BytesAgain);
+}
+
+#[test]
+fn a_packet_limit_is_learned_without_memory(rt: HostRuntime) {
+    refuse_each(&rt, rt.alloc(), Schedule::TooLarge);
+}
+
+#[test]
+fn a_fulfill_is_lost_without_memory(rt: HostRuntime) {
+    refuse_each(&rt, rt.alloc(), Schedule::LostFulfill);
+}
+
+#[test]
+fn both_ways_without_memory(rt: HostRuntime) {
+    refuse_each(&rt, rt.alloc(), Schedule::BothWays);
 }

@@ -1,113 +1,69 @@
-//! Sums that are kept apart from those of a world, by what its events told.
+//! The Prepares that were answered, kept apart from the world by what its events told.
 
 use st_chain::Trace;
-use st_nodes::{HopEntry, Node, Side, Told};
-use st_receiver::Got;
+use st_nodes::{EndEntry, HopEntry, Node, Side, Told};
 use std::alloc::Global;
 use std::process::Abort;
 
-/// What an end was told.
+/// The Prepares that an end answered.
 #[derive(Drop)]
-pub(crate) struct Apart {
+pub(crate) struct Answers {
     side: Side,
-    /// The bytes that it wrote on stream 1 and those that it read.
-    pub(crate) written: Vec<u8>,
-    pub(crate) read: Vec<u8>,
-    /// Whether it was told an end or an abort of what it reads.
-    is_over: bool,
-    /// The amounts of the Prepares that it fulfilled, and how many it answered.
-    pub(crate) credit: u64,
-    pub(crate) answered: usize,
+    entries: Vec<EndEntry>,
 }
 
-impl Apart {
-    pub(crate) fn new(alloc: Global, side: Side) -> Apart {
-        Apart {
+impl Answers {
+    pub(crate) fn new(alloc: Global, side: Side) -> Answers {
+        Answers {
             side,
-            written: Vec::new(alloc),
-            read: Vec::new(alloc),
-            is_over: false,
-            credit: 0,
-            answered: 0,
+            entries: Vec::new(alloc),
         }
     }
 
-    /// What a read gave.
-    pub(crate) fn gave(&mut self, rt: &impl Abort, told: Told<Global>) {
-        match told {
-            Told::Gave(Ok(Got::Bytes(bytes))) => {
-                assert!(rt; !self.is_over);
-                assert!(rt; self.read.extend_from_slice(&bytes).is_ok());
+    /// Whether a Prepare of this entry's sequence was fulfilled.
+    fn has_fulfilled(&self, entry: &EndEntry) -> bool {
+        for earlier in &self.entries {
+            if earlier.fulfilled && earlier.sequence == entry.sequence {
+                return true;
             }
-            Told::Gave(Ok(Got::End | Got::Aborted(_))) => self.is_over = true,
-            _ => {}
         }
+        false
     }
 
-    /// That a write was taken.
-    pub(crate) fn wrote(&mut self, rt: &impl Abort, bytes: &[u8], told: Told<Global>) {
-        if let Told::Call(Ok(())) = told {
-            assert!(rt; self.written.extend_from_slice(bytes).is_ok());
-        }
-    }
-
-    /// What the end answered, if this was its answer.
-    pub(crate) fn answers(&mut self, told: Told<Global>) {
-        if let Told::Answered {
+    /// What the end answered, if this was its answer: no sequence is fulfilled twice.
+    pub(crate) fn answered(&mut self, rt: &impl Abort, told: &Told<Global>) {
+        let Told::Answered {
             reason,
             amount,
-            sequence: _,
+            sequence,
         } = told
-        {
-            self.answered = self.answered.saturating_add(1);
-            if reason == 0 {
-                self.credit = self.credit.saturating_add(amount);
-            }
-        }
+        else {
+            return;
+        };
+        let entry = EndEntry {
+            amount: *amount,
+            sequence: *sequence,
+            fulfilled: *reason == 0,
+        };
+        assert!(rt; !entry.fulfilled || !self.has_fulfilled(&entry));
+        assert!(rt; self.entries.push(entry).is_ok());
     }
-}
 
-/// The end on the other side.
-fn other(side: Side) -> Side {
-    match side {
-        Side::Client => Side::Server,
-        Side::Server => Side::Client,
-    }
-}
-
-impl Apart {
-    /// Whether an end's record is this one.
-    fn is_record(&self, trace: &Trace<Global>) -> bool {
+    /// The sum of the amounts that were fulfilled.
+    pub(crate) fn credit(&self) -> u64 {
         let mut credit = 0u64;
-        let end = trace.end(self.side);
-        for entry in end.answered() {
+        for entry in &self.entries {
             if entry.fulfilled {
                 credit = credit.saturating_add(entry.amount);
             }
         }
-        end.answered().len() == self.answered
-            && end.totals().credited == self.credit
-            && credit == self.credit
+        credit
     }
 
-    /// Whether the ledgers of stream 1 are this one's, both ways.
-    fn is_ledger(&self, trace: &Trace<Global>) -> bool {
-        let written = match trace.ledger(self.side, 1) {
-            Some(ledger) => ledger.written() == self.written.as_slice(),
-            None => self.written.is_empty(),
-        };
-        let read = match trace.ledger(other(self.side), 1) {
-            Some(ledger) => {
-                ledger.read() == self.read.as_slice() && ledger.written().starts_with(&self.read)
-            }
-            None => self.read.is_empty(),
-        };
-        written && read
-    }
-
-    /// Whether what the world keeps of an end is what it told.
-    pub(crate) fn is_kept(&self, trace: &Trace<Global>) -> bool {
-        self.is_record(trace) && self.is_ledger(trace)
+    /// Whether an end's record and its credit are these.
+    pub(crate) fn are_kept(&self, trace: &Trace<Global>) -> bool {
+        let end = trace.end(self.side);
+        end.answered() == self.entries.as_slice() && end.totals().credited == self.credit()
     }
 }
 
