@@ -27,4 +27,5 @@ pub mod Exchanging
 pub mod Opening
 pub mod ReadingOut
 pub mod Writing
+pub mod Feeding
 pub mod Closing

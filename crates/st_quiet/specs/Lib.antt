@@ -3,3 +3,4 @@ pub mod Left
 pub mod Rounds
 pub mod Mirrored
 pub mod Exchanges
+pub mod Calls

@@ -26,6 +26,8 @@ ghost use Rattle.st_quiet.specs.Quiet.{IsQuiet, IsRow};
 ghost use Rattle.st_quiet.specs.Left.{all_frames_left, all_money_left, bound, work_left};
 ghost use Rattle.st_quiet.specs.Rounds.{IsRefilled, once_fulfilled, IsWritten, IsDone, IsOpening, IsSmall, PeerTells, Rounds, TellsEnough};
 ghost use Rattle.st_quiet.specs.Exchanges.{AllowsAll, Exchanges, IsModest, opened_receiving, read_each};
+ghost use Rattle.st_end.specs.State.{EndState};
+ghost use Rattle.st_quiet.specs.Calls.{CanWrite, lengths, write_each};
 ghost use Rattle.st_quiet.specs.Mirrored.{IsAbreast, IsMirrored, IsOn, IsPacketOf, IsReadOut};
 
 /// From the opening on a quiet run has fewer Sends than the bound; so there is room in it for the one that gives none.
@@ -134,6 +136,12 @@ pub fn a_write_is_taken_where_it_fits()
 pub fn a_stream_is_written_on()
     ensures more { (n : ℕ) (x : Outgoing) (more : List ℕ) → x.accepted + length more < n → x.acked_end + 262144 ≤ x.accepted + length more → IsRefilled n x (after_write more x) }
     ensures closed { (n : ℕ) (x : Outgoing) (more : List ℕ) → x.accepted + length more ≡ n → IsRefilled n x (after_clean (after_write more x)) }
+{}
+
+/// Calls that write what fits of each stream's input, and close it at its end, are a writing on, and change nothing else.
+pub fn calls_write_on()
+    ensures { (input : ℕ → List ℕ) (e : EndState) → CanWrite (lengths input) e
+        → (let g = write_each input 0 65 e in IsWritten (lengths input) e.sending g.sending × (g ≡ record e { sending = g.sending })) }
 {}
 
 /// A receiver to which nothing came is abreast of an opening, where it lets all that is offered come.

@@ -1,0 +1,48 @@
+-- The calls of an end by which its input is written on.
+use Rattle.std.specs.Prelude.{◌≡◌, ℕ, zero, suc, ◌+◌, ◌-◌, ◌≤◌, Bool, true, false, List, length, take, drop, nat_eq, if◌then◌else◌}
+use Rattle.std.specs.declared.option.Option.{Option}
+use Rattle.std.specs.declared.option.Option.TheVariants.{None, Some}
+use Rattle.st_sender.specs.Sending.{Outgoing, outgoing_at}
+use Rattle.st_end.specs.State.{EndState}
+use Rattle.st_end.specs.Calls.{close, write}
+use Rattle.st_quiet.specs.Quiet.{IsRow}
+use Rattle.st_quiet.specs.Exchanges.{IsModest}
+
+-- how many bytes each stream's input has
+abbrev pub lengths : (input : ℕ → List ℕ) → ℕ → ℕ
+lengths input k = length (input k)
+
+-- as much of the rest of an input as fits
+abbrev pub fitting : List ℕ → Outgoing → List ℕ
+fitting xs x = take (x.acked_end + 262144 - x.accepted) (drop x.accepted xs)
+
+abbrev pub closed_if : Bool → EndState → ℕ → EndState
+closed_if b e k = if b then (close e k).1 else e
+
+abbrev pub written_at : List ℕ → EndState → ℕ → Option Outgoing → EndState
+written_at xs e k None = e
+written_at xs e k (Some x) = closed_if (nat_eq (x.accepted + length (fitting xs x)) (length xs)) (write e k (fitting xs x)).1 k
+
+-- a write of it, and a close where that was the end
+abbrev pub written_on : List ℕ → EndState → ℕ → EndState
+written_on xs e k = written_at xs e k (outgoing_at e.sending k)
+
+unfoldable pub write_each : (input : ℕ → List ℕ) → (first count : ℕ) → EndState → EndState
+write_each input first zero e = e
+write_each input first (suc m) e = write_each input (first + 1) m (written_on (input first) e first)
+
+-- a stream of n bytes that only these calls wrote on
+pub record IsFed (n : ℕ) (x : Outgoing) : Type 0 where
+  pub row : IsRow x
+  pub alive : x.abort ≡ None
+  pub total : x.accepted ≤ n
+  pub kept : x.accepted ≤ x.acked_end + 262144
+  pub ended : x.clean ≡ true → x.accepted ≡ n
+
+-- nothing refuses a call that fits
+pub record CanWrite (n : ℕ → ℕ) (e : EndState) : Type 0 where
+  pub alive : e.sending.failed ≡ false
+  pub unclosed : e.receiving.closed ≡ false
+  pub slots : length e.sending.streams ≡ 65
+  pub modest : IsModest n
+  pub streams : (k : ℕ) (x : Outgoing) → outgoing_at e.sending k ≡ Some x → IsFed (n k) x
