@@ -25,7 +25,7 @@ use Rattle.st_quiet.specs.Calls.{CanWrite, IsFed, closed_if, fitting, lengths, w
 use Rattle.st_quiet.proofs.Sums.{sum_next}
 use Rattle.st_quiet.proofs.Writing.{refilled_clean, refilled_more, write_fits}
 
--- ---- what is accepted stays modest
+-- ---- a sum over the streams is within that of what each may have
 
 next_place : (n : ℕ → ℕ) (i j a : ℕ) → a ≤ n (i + suc j) → a ≤ n (i + 1 + j)
 next_place n i j a l = let e : i + suc j ≡ i + 1 + j = omega arith in subst (λ z. a ≤ n z) e l
@@ -33,47 +33,54 @@ next_place n i j a l = let e : i + suc j ≡ i + 1 + j = omega arith in subst (�
 first_place : (n : ℕ → ℕ) (i a : ℕ) → a ≤ n (i + 0) → a ≤ n i
 first_place n i a l = let e : i + 0 ≡ i = omega arith in subst (λ z. a ≤ n z) e l
 
-all_within : (n : ℕ → ℕ) (xs : Slots Outgoing) (i : ℕ) → ((j : ℕ) → accepted_of (slot xs j) ≤ n (i + j)) → all_accepted xs ≤ sum (map n (range_with_len i (length xs)))
-all_within n [] i within = omega arith
-all_within n (o ∷ xs) i within =
-    let rest = all_within n xs (i + 1) (λ j. next_place n i j (accepted_of (slot xs j)) (within (suc j))) in
-    let step = sum_next (n i) (map n (range_with_len (i + 1) (length xs))) in
-    let here = first_place n i (accepted_of o) (within zero) in
-    omega (arith, rest, step, here)
+module _ (of : Option Outgoing → ℕ) (all : Slots Outgoing → ℕ) (none : all [] ≡ 0) (more : (o : Option Outgoing) (xs : Slots Outgoing) → all (o ∷ xs) ≡ of o + all xs) where
+  all_within : (n : ℕ → ℕ) (xs : Slots Outgoing) (i : ℕ) → ((j : ℕ) → of (slot xs j) ≤ n (i + j)) → all xs ≤ sum (map n (range_with_len i (length xs)))
+  all_within n [] i within = omega (arith, none)
+  all_within n (o ∷ xs) i within =
+      let rest = all_within n xs (i + 1) (λ j. next_place n i j (of (slot xs j)) (within (suc j))) in
+      let step = sum_next (n i) (map n (range_with_len (i + 1) (length xs))) in
+      let here = first_place n i (of o) (within zero) in
+      let this = more o xs in
+      omega (arith, rest, step, here, this)
 
--- so also with all of one stream's input
-all_but_within : (n : ℕ → ℕ) (xs : Slots Outgoing) (i k : ℕ) (x : Outgoing) → ((j : ℕ) → accepted_of (slot xs j) ≤ n (i + j)) → slot xs k ≡ Some x → all_accepted xs + (n (i + k) - x.accepted) ≤ sum (map n (range_with_len i (length xs)))
-all_but_within n [] i k x within e = absurd (cc)
-all_but_within n (o ∷ xs) i zero x within e =
-    let rest = all_within n xs (i + 1) (λ j. next_place n i j (accepted_of (slot xs j)) (within (suc j))) in
-    let step = sum_next (n i) (map n (range_with_len (i + 1) (length xs))) in
-    let first : accepted_of o ≡ x.accepted = ap accepted_of e in
-    let here = first_place n i (accepted_of o) (within zero) in
-    let place : n (i + 0) ≡ n i = ap n (let z : i + 0 ≡ i = omega arith in z) in
-    omega (arith, rest, step, first, here, place)
-all_but_within n (o ∷ xs) i (suc k) x within e =
-    let rest = all_but_within n xs (i + 1) k x (λ j. next_place n i j (accepted_of (slot xs j)) (within (suc j))) e in
-    let step = sum_next (n i) (map n (range_with_len (i + 1) (length xs))) in
-    let here = first_place n i (accepted_of o) (within zero) in
-    let place : n (i + suc k) ≡ n (i + 1 + k) = ap n (let z : i + suc k ≡ i + 1 + k = omega arith in z) in
-    omega (arith, rest, step, here, place)
+  -- so also with all that one stream may have
+  all_but_within : (n : ℕ → ℕ) (xs : Slots Outgoing) (i k : ℕ) (x : Outgoing) → ((j : ℕ) → of (slot xs j) ≤ n (i + j)) → slot xs k ≡ Some x → all xs + (n (i + k) - of (Some x)) ≤ sum (map n (range_with_len i (length xs)))
+  all_but_within n [] i k x within e = absurd (cc)
+  all_but_within n (o ∷ xs) i zero x within e =
+      let rest = all_within n xs (i + 1) (λ j. next_place n i j (of (slot xs j)) (within (suc j))) in
+      let step = sum_next (n i) (map n (range_with_len (i + 1) (length xs))) in
+      let first : of o ≡ of (Some x) = ap of e in
+      let here = first_place n i (of o) (within zero) in
+      let place : n (i + 0) ≡ n i = ap n (let z : i + 0 ≡ i = omega arith in z) in
+      let this = more o xs in
+      omega (arith, rest, step, first, here, place, this)
+  all_but_within n (o ∷ xs) i (suc k) x within e =
+      let rest = all_but_within n xs (i + 1) k x (λ j. next_place n i j (of (slot xs j)) (within (suc j))) e in
+      let step = sum_next (n i) (map n (range_with_len (i + 1) (length xs))) in
+      let here = first_place n i (of o) (within zero) in
+      let place : n (i + suc k) ≡ n (i + 1 + k) = ap n (let z : i + suc k ≡ i + 1 + k = omega arith in z) in
+      let this = more o xs in
+      omega (arith, rest, step, here, place, this)
 
-abbrev Within : (ℕ → ℕ) → Sending → Type 0
+  pub room_of : (n : ℕ → ℕ) (xs : Slots Outgoing) (k : ℕ) (x : Outgoing) → length xs ≡ 65 → IsModest n → ((j : ℕ) → of (slot xs j) ≤ n j) → slot xs k ≡ Some x → all xs + (n k - of (Some x)) < 2 ^ 63
+  room_of n xs k x slots modest within e =
+      let most = all_but_within n xs 0 k x (λ j. from_zero j (within j)) e in
+      let place : n (0 + k) ≡ n k = ap n (let z : 0 + k ≡ k = omega arith in z) in
+      let whole : sum (map n (range_with_len 0 (length xs))) ≡ sum (map n (range_with_len 0 65)) = ap (λ m. sum (map n (range_with_len 0 m))) slots in
+      omega (arith, most, place, whole, modest)
+    where
+      from_zero : (j : ℕ) → of (slot xs j) ≤ n j → of (slot xs j) ≤ n (0 + j)
+      from_zero j l = let e : j ≡ 0 + j = omega arith in subst (λ z. of (slot xs j) ≤ n z) e l
+
+abbrev pub Within : (ℕ → ℕ) → Sending → Type 0
 Within n s = (k : ℕ) → accepted_of (outgoing_at s k) ≤ n k
 
-room_left : (n : ℕ → ℕ) (s : Sending) (k : ℕ) (x : Outgoing) → length s.streams ≡ 65 → IsModest n → Within n s → outgoing_at s k ≡ Some x → all_accepted s.streams + (n k - x.accepted) < 2 ^ 63
-room_left n s k x slots modest within e =
-    let most = all_but_within n s.streams 0 k x (λ j. from_zero j (within j)) e in
-    let place : n (0 + k) ≡ n k = ap n (let z : 0 + k ≡ k = omega arith in z) in
-    let all : sum (map n (range_with_len 0 (length s.streams))) ≡ sum (map n (range_with_len 0 65)) = ap (λ m. sum (map n (range_with_len 0 m))) slots in
-    omega (arith, most, place, all, modest)
-  where
-    from_zero : (j : ℕ) → accepted_of (outgoing_at s j) ≤ n j → accepted_of (outgoing_at s j) ≤ n (0 + j)
-    from_zero j l = let e : j ≡ 0 + j = omega arith in subst (λ z. accepted_of (outgoing_at s j) ≤ n z) e l
+pub room_left : (n : ℕ → ℕ) (s : Sending) (k : ℕ) (x : Outgoing) → length s.streams ≡ 65 → IsModest n → Within n s → outgoing_at s k ≡ Some x → all_accepted s.streams + (n k - x.accepted) < 2 ^ 63
+room_left n s k x slots modest within e = room_of accepted_of all_accepted refl (λ o xs. refl) n s.streams k x slots modest within e
 
 -- ---- a call that is taken, and one that is refused
 
-call_taken : (e : EndState) (k : ℕ) (x : Outgoing) (o : Option OutboxError) (f : Outgoing → Outgoing) → outgoing_at e.sending k ≡ Some x → e.sending.failed ≡ false → e.receiving.closed ≡ false → o ≡ None
+pub call_taken : (e : EndState) (k : ℕ) (x : Outgoing) (o : Option OutboxError) (f : Outgoing → Outgoing) → outgoing_at e.sending k ≡ Some x → e.sending.failed ≡ false → e.receiving.closed ≡ false → o ≡ None
     → (done e (refusal e k o) (changed e.sending k f)).1 ≡ record e { sending = with_outgoing e.sending k (f x) }
 call_taken e k x o f at alive unclosed none =
     ap (λ z. (done e z (changed e.sending k f)).1) (refuses o at none) ∙ ap (λ z. record e { sending = changed_at e.sending k f z }) at
@@ -159,7 +166,7 @@ stays_shut xs e k x at alive unclosed clean =
 part_long : (xs : List ℕ) (x : Outgoing) → length (fitting xs x) ≡ min (x.acked_end + 262144 - x.accepted) (length xs - x.accepted)
 part_long xs x = length-take (x.acked_end + 262144 - x.accepted) (drop x.accepted xs) ∙ ap (min (x.acked_end + 262144 - x.accepted)) (length-drop x.accepted xs)
 
-here_is : (e : EndState) (k : ℕ) (x y : Outgoing) → outgoing_at e.sending k ≡ Some x → outgoing_at (with_outgoing e.sending k y) k ≡ Some y
+pub here_is : (e : EndState) (k : ℕ) (x y : Outgoing) → outgoing_at e.sending k ≡ Some x → outgoing_at (with_outgoing e.sending k y) k ≡ Some y
 here_is e k x y at = slot_here e.sending.streams k y (slot_within e.sending.streams k x at)
 
 refilled_by : (n : ℕ) (o p : Option Outgoing) (x y : Outgoing) → o ≡ Some x → p ≡ Some y → IsRefilled n x y → Refilled n o p
@@ -210,7 +217,7 @@ fed_goes xs e k x at alive unclosed fed still modest =
           here = refilled_by (length xs) _ _ x y at there (refilled_more (length xs) x (fitting xs x) (omega (arith, some, long, total)) (omega (arith, some, long, total, kept)));
         }
 
-fed_at : (xs : List ℕ) (e : EndState) (k : ℕ) (o : Option Outgoing) → outgoing_at e.sending k ≡ o → e.sending.failed ≡ false → e.receiving.closed ≡ false → ((x : Outgoing) → o ≡ Some x → IsFed (length xs) x)
+pub fed_at : (xs : List ℕ) (e : EndState) (k : ℕ) (o : Option Outgoing) → outgoing_at e.sending k ≡ o → e.sending.failed ≡ false → e.receiving.closed ≡ false → ((x : Outgoing) → o ≡ Some x → IsFed (length xs) x)
     → ((x : Outgoing) → o ≡ Some x → all_accepted e.sending.streams + (length xs - x.accepted) < 2 ^ 63) → FedAt (length xs) k e (written_at xs e k o)
 fed_at xs e k None at alive unclosed fed modest = record { beside = beside_same k e; here = subst (λ z. Refilled (length xs) z (outgoing_at e.sending k)) (sym at) at }
 fed_at xs e k (Some x) at alive unclosed fed modest = elim (cases_Bool x.clean) [
@@ -234,7 +241,7 @@ fed_on : (input : ℕ → List ℕ) (first : ℕ) (e : EndState) → IsModest (l
 fed_on input first e modest h =
     fed_at (input first) e first (outgoing_at e.sending first) refl h.alive h.unclosed (λ x at. h.streams first x (omega arith) at) (λ x at. room_left (lengths input) e.sending first x h.slots modest h.within at)
 
-refilled_within : (n : ℕ) (o p : Option Outgoing) → Refilled n o p → accepted_of p ≤ n
+pub refilled_within : (n : ℕ) (o p : Option Outgoing) → Refilled n o p → accepted_of p ≤ n
 refilled_within n None p e = let z : accepted_of p ≡ 0 = ap accepted_of e in omega (arith, z)
 refilled_within n (Some x) p is = let z : accepted_of p ≡ is.0.accepted = ap accepted_of is.1 in let t = is.2.total in omega (arith, z, t)
 
@@ -282,12 +289,12 @@ fed_each input first (suc m) e modest h =
     apart : (k : ℕ) → (k < first) ⊎ (first + suc m ≤ k) → k ≢ first
     apart k h = omega arith
 
-past_none : (xs : Slots Outgoing) (k : ℕ) → length xs ≤ k → slot xs k ≡ None
+pub past_none : (xs : Slots Outgoing) (k : ℕ) → length xs ≤ k → slot xs k ≡ None
 past_none [] k l = refl
 past_none (x ∷ xs) zero l = absurd (omega arith)
 past_none (x ∷ xs) (suc k) l = past_none xs k (omega arith)
 
-within_by : (n : ℕ) (o : Option Outgoing) → ((x : Outgoing) → o ≡ Some x → x.accepted ≤ n) → accepted_of o ≤ n
+pub within_by : (n : ℕ) (o : Option Outgoing) → ((x : Outgoing) → o ≡ Some x → x.accepted ≤ n) → accepted_of o ≤ n
 within_by n None h = omega arith
 within_by n (Some x) h = h x refl
 

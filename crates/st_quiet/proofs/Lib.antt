@@ -28,4 +28,5 @@ pub mod Opening
 pub mod ReadingOut
 pub mod Writing
 pub mod Feeding
+pub mod Beginning
 pub mod Closing

@@ -1,10 +1,14 @@
--- The calls of an end by which its input is written on.
-use Rattle.std.specs.Prelude.{◌≡◌, ℕ, zero, suc, ◌+◌, ◌-◌, ◌≤◌, Bool, true, false, List, length, take, drop, nat_eq, if◌then◌else◌}
+-- The calls of two ends by which a quiet run opens, and by which the input is written on.
+use Rattle.std.specs.Prelude.{◌≡◌, ℕ, zero, suc, ◌+◌, ◌-◌, ◌<◌, ◌≤◌, Bool, true, false, List, length, take, drop, nat_eq, if◌then◌else◌, Result, Ok, Err}
 use Rattle.std.specs.declared.option.Option.{Option}
 use Rattle.std.specs.declared.option.Option.TheVariants.{None, Some}
-use Rattle.st_sender.specs.Sending.{Outgoing, outgoing_at}
+use Rattle.st_oer.specs.Ratios.{ratio}
+use Rattle.st_sender.specs.Sending.{Config, Outgoing, outgoing_at}
+use Rattle.st_end.specs.declared.error.EndError.{EndError}
+use Rattle.st_end.specs.declared.role.Role.{Role}
+use Rattle.st_end.specs.declared.role.Role.TheVariants.{Client, Server}
 use Rattle.st_end.specs.State.{EndState}
-use Rattle.st_end.specs.Calls.{close, write}
+use Rattle.st_end.specs.Calls.{close, offer, open_stream, set_receive_max, write}
 use Rattle.st_quiet.specs.Quiet.{IsRow}
 use Rattle.st_quiet.specs.Exchanges.{IsModest}
 
@@ -46,3 +50,31 @@ pub record CanWrite (n : ℕ → ℕ) (e : EndState) : Type 0 where
   pub slots : length e.sending.streams ≡ 65
   pub modest : IsModest n
   pub streams : (k : ℕ) (x : Outgoing) → outgoing_at e.sending k ≡ Some x → IsFed (n k) x
+
+-- ---- the opening
+
+-- a stream that opened gets its money and its input
+abbrev pub begun : (input : ℕ → List ℕ) → (money : ℕ → ℕ) → Result ℕ EndError × EndState → EndState
+begun input money (Ok k, e) = written_on (input k) (offer e k (money k)).1 k
+begun input money (Err why, e) = e
+
+-- so many of them
+unfoldable pub begin_each : (input : ℕ → List ℕ) → (money : ℕ → ℕ) → (count : ℕ) → EndState → EndState
+begin_each input money zero e = e
+begin_each input money (suc m) e = begin_each input money m (begun input money (open_stream e))
+
+-- the other end lets so much come on each stream that may be opened there
+unfoldable pub allow_each : (money : ℕ → ℕ) → (first count : ℕ) → EndState → EndState
+allow_each money first zero e = e
+allow_each money first (suc m) e = allow_each money (first + 1) m (set_receive_max e first (money first)).1
+
+abbrev pub other : Role → Role
+other Client = Server
+other Server = Client
+
+-- it may send, and all that it sends should arrive
+pub record MaySend (config : Config) : Type 0 where
+  pub in_flight : 0 < config.in_flight
+  pub packets : 0 < config.packets
+  pub pays : 0 < config.packet_limit
+  pub whole : config.least ≡ ratio 1 1

@@ -26,8 +26,10 @@ ghost use Rattle.st_quiet.specs.Quiet.{IsQuiet, IsRow};
 ghost use Rattle.st_quiet.specs.Left.{all_frames_left, all_money_left, bound, work_left};
 ghost use Rattle.st_quiet.specs.Rounds.{IsRefilled, once_fulfilled, IsWritten, IsDone, IsOpening, IsSmall, PeerTells, Rounds, TellsEnough};
 ghost use Rattle.st_quiet.specs.Exchanges.{AllowsAll, Exchanges, IsModest, opened_receiving, read_each};
-ghost use Rattle.st_end.specs.State.{EndState};
-ghost use Rattle.st_quiet.specs.Calls.{CanWrite, lengths, write_each};
+ghost use Rattle.st_keys.specs.Keys.{DerivedKeys};
+ghost use Rattle.st_end.specs.State.{EndState, new_end};
+ghost use Rattle.st_end.specs.declared.role.Role.{Role};
+ghost use Rattle.st_quiet.specs.Calls.{CanWrite, MaySend, begin_each, lengths, write_each};
 ghost use Rattle.st_quiet.specs.Mirrored.{IsAbreast, IsMirrored, IsOn, IsPacketOf, IsReadOut};
 
 /// From the opening on a quiet run has fewer Sends than the bound; so there is room in it for the one that gives none.
@@ -142,6 +144,12 @@ pub fn a_stream_is_written_on()
 pub fn calls_write_on()
     ensures { (input : ℕ → List ℕ) (e : EndState) → CanWrite (lengths input) e
         → (let g = write_each input 0 65 e in IsWritten (lengths input) e.sending g.sending × (g ≡ record e { sending = g.sending })) }
+{}
+
+/// Calls that open streams, with money and input for each, are an opening.
+pub fn calls_open()
+    ensures { (role : Role) (keys : DerivedKeys) (own peer : List ℕ) (config : Config) (input : ℕ → List ℕ) (money : ℕ → ℕ) (count : ℕ) → MaySend config → IsModest (lengths input) → IsModest money
+        → IsOpening (lengths input) config (begin_each input money count (new_end role keys own peer config)).sending }
 {}
 
 /// A receiver to which nothing came is abreast of an opening, where it lets all that is offered come.
