@@ -29,4 +29,5 @@ pub mod ReadingOut
 pub mod Writing
 pub mod Feeding
 pub mod Beginning
+pub mod Allowing
 pub mod Closing

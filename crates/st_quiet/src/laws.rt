@@ -29,7 +29,7 @@ ghost use Rattle.st_quiet.specs.Exchanges.{AllowsAll, Exchanges, IsModest, opene
 ghost use Rattle.st_keys.specs.Keys.{DerivedKeys};
 ghost use Rattle.st_end.specs.State.{EndState, new_end};
 ghost use Rattle.st_end.specs.declared.role.Role.{Role};
-ghost use Rattle.st_quiet.specs.Calls.{CanWrite, MaySend, begin_each, lengths, write_each};
+ghost use Rattle.st_quiet.specs.Calls.{CanWrite, MaySend, allow_each, begin_each, lengths, other, write_each};
 ghost use Rattle.st_quiet.specs.Mirrored.{IsAbreast, IsMirrored, IsOn, IsPacketOf, IsReadOut};
 
 /// From the opening on a quiet run has fewer Sends than the bound; so there is room in it for the one that gives none.
@@ -146,10 +146,14 @@ pub fn calls_write_on()
         → (let g = write_each input 0 65 e in IsWritten (lengths input) e.sending g.sending × (g ≡ record e { sending = g.sending })) }
 {}
 
-/// Calls that open streams, with money and input for each, are an opening.
+/// Calls that open streams, with money and input for each, are an opening, and the peer that lets that money come is abreast
+/// of it.
 pub fn calls_open()
-    ensures { (role : Role) (keys : DerivedKeys) (own peer : List ℕ) (config : Config) (input : ℕ → List ℕ) (money : ℕ → ℕ) (count : ℕ) → MaySend config → IsModest (lengths input) → IsModest money
-        → IsOpening (lengths input) config (begin_each input money count (new_end role keys own peer config)).sending }
+    ensures opening { (role : Role) (keys : DerivedKeys) (own peer : List ℕ) (config : Config) (input : ℕ → List ℕ) (money : ℕ → ℕ) (count : ℕ)
+        → MaySend config → IsModest (lengths input) → IsModest money → IsOpening (lengths input) config (begin_each input money count (new_end role keys own peer config)).sending }
+    ensures abreast { (role : Role) (keys : DerivedKeys) (own peer : List ℕ) (config its_config : Config) (input : ℕ → List ℕ) (money : ℕ → ℕ) (count : ℕ)
+        → MaySend config → IsModest (lengths input) → IsModest money
+        → IsAbreast (lengths input) (begin_each input money count (new_end role keys own peer config)).sending (allow_each money 0 65 (new_end (other role) keys peer own its_config)).receiving }
 {}
 
 /// A receiver to which nothing came is abreast of an opening, where it lets all that is offered come.
