@@ -30,4 +30,6 @@ pub mod Writing
 pub mod Feeding
 pub mod Beginning
 pub mod Allowing
+pub mod Tellable
+pub mod Trips
 pub mod Closing

@@ -4,3 +4,4 @@ pub mod Rounds
 pub mod Mirrored
 pub mod Exchanges
 pub mod Calls
+pub mod Trips

@@ -25,11 +25,12 @@ ghost use Rattle.st_receiver.specs.Judged.{after_all, effect, fault_of};
 ghost use Rattle.st_quiet.specs.Quiet.{IsQuiet, IsRow};
 ghost use Rattle.st_quiet.specs.Left.{all_frames_left, all_money_left, bound, work_left};
 ghost use Rattle.st_quiet.specs.Rounds.{IsRefilled, once_fulfilled, IsWritten, IsDone, IsOpening, IsSmall, PeerTells, Rounds, TellsEnough};
-ghost use Rattle.st_quiet.specs.Exchanges.{AllowsAll, Exchanges, IsModest, opened_receiving, read_each};
+ghost use Rattle.st_quiet.specs.Exchanges.{AllowsAll, Exchange, Exchanges, IsModest, opened_receiving, read_each};
 ghost use Rattle.st_keys.specs.Keys.{DerivedKeys};
 ghost use Rattle.st_end.specs.State.{EndState, new_end};
 ghost use Rattle.st_end.specs.declared.role.Role.{Role};
 ghost use Rattle.st_quiet.specs.Calls.{CanWrite, MaySend, allow_each, begin_each, lengths, other, write_each};
+ghost use Rattle.st_quiet.specs.Trips.{AreJoined, CanTell, Trip};
 ghost use Rattle.st_quiet.specs.Mirrored.{IsAbreast, IsMirrored, IsOn, IsPacketOf, IsReadOut};
 
 /// From the opening on a quiet run has fewer Sends than the bound; so there is room in it for the one that gives none.
@@ -167,4 +168,11 @@ pub fn a_read_takes_all()
     ensures held { (xs : List ℕ) (o q : ℕ) (s : Held) → IsOn s → s.read ≤ q → o ≤ q → q < o + length xs → (b : ℕ) × (get (after_insert o xs s).bytes q ≡ Some b) }
     ensures run { (s : Held) (run : List ℕ) (end : ℕ) → IsRun s run → s.read ≤ end
         → ((q : ℕ) → s.read ≤ q → q < end → (b : ℕ) × (get s.bytes q ≡ Some b)) → ((q : ℕ) → end ≤ q → get s.bytes q ≡ None) → s.read + length run ≡ end }
+{}
+
+/// Between two ends of a connection with nothing between them a trip of bytes is an exchange: the Prepare that goes opens at
+/// the peer as the load, is fulfilled there, and the answer acknowledges it here and raises the limits.
+pub fn a_trip_is_an_exchange()
+    ensures { (n : ℕ → ℕ) (e f g h : EndState) → IsQuiet n e.sending → IsAbreast n e.sending f.receiving → AreJoined e f → CanTell f.receiving → Trip n e f g h
+        → Exchange n e.sending f.receiving g.sending h.receiving }
 {}
