@@ -40,11 +40,13 @@ use Rattle.st_end.proofs.Taking.{received_read}
 use Rattle.st_quiet.specs.Quiet.{IsQuiet}
 use Rattle.st_quiet.specs.Rounds.{IsWritten, once_fulfilled}
 use Rattle.st_quiet.specs.Mirrored.{IsAbreast, IsPacketOf, IsReadOut}
-use Rattle.st_quiet.specs.Exchanges.{Exchange}
-use Rattle.st_quiet.specs.Trips.{AreJoined, CanTell, Trip, once_answered, once_received}
+use Rattle.st_quiet.specs.Exchanges.{Exchange, Exchanges, IsModest}
+use Rattle.st_quiet.specs.Trips.{AreJoined, CanTell, Trip, Trips, once_answered, once_received}
+use Rattle.st_quiet.proofs.Rounds.{round_keeps}
+use Rattle.st_quiet.proofs.Exchanging.{exchange_round}
 use Rattle.st_quiet.proofs.Fulfilling.{load_fulfilled}
 use Rattle.st_quiet.proofs.Tellable.{Writes, reply_writes, writes_room}
-use Rattle.st_quiet.proofs.Abreast.{effect_limits}
+use Rattle.st_quiet.proofs.Abreast.{effect_max, effect_within, round_abreast}
 
 bytes_same : (xs : List ℕ) → bytes_eq xs xs ≡ true
 bytes_same xs = (slice_eq-Decides (λ a b. Decides-eqb a b) xs xs (pointwise nat_eq xs xs) refl).1 refl
@@ -206,19 +208,22 @@ load_answered e p payload bytes reply told alone a =
         ∙ raises (once_fulfilled e.sending p) p.sequence a.packet a.sequence_is
         ∙ ap (after_all_told (once_fulfilled e.sending p)) a.frames
 
--- ---- an exchange
+-- ---- both ends once the answer came back
 
-pub trip_exchange : (n : ℕ → ℕ) (e f g h : EndState) → IsQuiet n e.sending → IsAbreast n e.sending f.receiving → AreJoined e f → CanTell f.receiving → Trip n e f g h → Exchange n e.sending f.receiving g.sending h.receiving
-trip_exchange n e f g h quiet abreast joined tellable x = record {
-  limits = limits e.receiving;
-  load = load;
-  packet = p;
-  sends = sends;
-  fills = x.goes.filled.whole quiet.whole;
-  carries = is_packet_of load;
-  left = x.left;
-  reads = subst (λ (z : EndState). IsReadOut z.receiving h.receiving) came x.reads;
-  writes = subst (λ (z : EndState). IsWritten n z.sending g.sending) back x.writes;
+record Came (e f : EndState) (load : Load) (once_here once_there : EndState) : Type 0 where
+  there : ◌≡◌ {A = EndState} once_there (after_verdict f (Fulfills (packet_of_load load) (effect f.receiving (packet_of_load load) load.amount)))
+  payload : List ℕ
+  here : once_here ≡ answered_end e load payload (reply_frames (effect f.receiving (packet_of_load load) load.amount) (frames_of (packet_of_load load)))
+
+both_came : (n : ℕ → ℕ) (e f g h : EndState) → IsQuiet n e.sending → IsAbreast n e.sending f.receiving → AreJoined e f → CanTell f.receiving → (x : Trip n e f g h)
+    → Came e f x.goes.load (once_answered x.gone f x.flight x.bytes x.later) (once_received f x.bytes x.later)
+both_came n e f g h quiet abreast joined tellable x = record {
+  there = ap (λ z. z.1) fulfilled_by;
+  payload = x.goes.payload;
+  here = ap (λ z. ended x.gone x.flight (Some z.0.bytes)) fulfilled_by
+      ∙ ap (λ o. ended x.gone o (Some bytes)) x.goes.flight_is
+      ∙ ap (λ z. ended z (flight_for e load x.goes.payload) (Some bytes)) gone
+      ∙ load_answered e load x.goes.payload bytes reply told quiet.alone (subst (λ k. Answered k bytes x.goes.payload reply load.sequence told) joined.keys answers);
 }
   where
     load : Load
@@ -230,28 +235,82 @@ trip_exchange n e f g h quiet abreast joined tellable x = record {
     q : PreparePacket
     q = prepare_for e x.now load.amount x.goes.payload
 
-    sends : Sends e.sending (limits e.receiving) max_packet load (with_flight e.sending load)
-    sends = goes_sends e x.gone x.iv x.bytes x.now x.flight x.goes
-
     after : Receiving
     after = effect f.receiving p load.amount
+
+    told : List Known
+    told = reply_frames after (frames_of p)
+
+    bytes : List ℕ
+    bytes = answer_text (answer_for f q (Fulfills p after))
+
+    reply : List ℕ
+    reply = reply_payload f.keys fulfill_kind q p after
+
+    sends : Sends e.sending (limits e.receiving) max_packet load (with_flight e.sending load)
+    sends = goes_sends e x.gone x.iv x.bytes x.now x.flight x.goes
 
     fulfilled_by : received f x.bytes x.later ≡ received_as f q (Fulfills p after)
     fulfilled_by = goes_fulfilled n e f x.gone x.iv x.bytes x.now x.later x.flight x.long quiet abreast joined x.in_time x.goes
 
-    came : once_received f x.bytes x.later ≡ after_verdict f (Fulfills p after)
-    came = ap (λ z. z.1) fulfilled_by
+    few : (k : ℕ) → k < 65 → ((incoming_at after k).receive_max < 2 ^ 64) × ((incoming_at after k).credited < 2 ^ 64)
+    few k l =
+        let same = effect_max n e.sending (limits e.receiving) load p f.receiving k quiet sends abreast (is_packet_of load) in
+        let most = effect_within n e.sending (limits e.receiving) load p f.receiving k quiet sends abreast (is_packet_of load) l in
+        let small = tellable k in
+        (omega (arith, same, small), omega (arith, most, small))
 
-    answers : Answered f.keys (answer_text (answer_for f q (Fulfills p after))) x.goes.payload (reply_payload f.keys fulfill_kind q p after) load.sequence (reply_frames after (frames_of p))
-    answers = reply_answers f q p after (goes_long e x.gone x.iv x.bytes x.now x.flight x.long x.goes) x.goes.spells.sequence x.goes.lawful.amount
-        (reply_writes after (frames_of p) (λ k l. (let at = effect_limits n e.sending (limits e.receiving) load p f.receiving k quiet sends abreast (is_packet_of load) l in
-            let most = at.0 in let few = at.1 in let small = tellable k in (omega (arith, most, small), omega (arith, few, small)))))
+    answers : Answered f.keys bytes x.goes.payload reply load.sequence told
+    answers = reply_answers f q p after (goes_long e x.gone x.iv x.bytes x.now x.flight x.long x.goes) x.goes.spells.sequence x.goes.lawful.amount (reply_writes after (frames_of p) few)
 
     gone : x.gone ≡ with_condition e (flight_for e load x.goes.payload) (with_flight e.sending load)
     gone = x.goes.after_is ∙ ap (λ o. with_condition e o x.goes.sending) x.goes.flight_is ∙ ap (with_condition e (flight_for e load x.goes.payload)) x.goes.sends.after
 
-    back : once_answered x.gone f x.flight x.bytes x.later ≡ answered_end e load x.goes.payload (reply_frames after (frames_of p))
-    back = ap (λ z. ended x.gone x.flight (Some z.0.bytes)) fulfilled_by
-        ∙ ap (λ o. ended x.gone o (Some (answer_text (answer_for f q (Fulfills p after))))) x.goes.flight_is
-        ∙ ap (λ z. ended z (flight_for e load x.goes.payload) (Some (answer_text (answer_for f q (Fulfills p after))))) gone
-        ∙ load_answered e load x.goes.payload _ (reply_payload f.keys fulfill_kind q p after) (reply_frames after (frames_of p)) quiet.alone (subst (λ k. Answered k (answer_text (answer_for f q (Fulfills p after))) x.goes.payload (reply_payload f.keys fulfill_kind q p after) load.sequence (reply_frames after (frames_of p))) joined.keys answers)
+-- ---- an exchange
+
+pub trip_exchange : (n : ℕ → ℕ) (e f g h : EndState) → IsQuiet n e.sending → IsAbreast n e.sending f.receiving → AreJoined e f → CanTell f.receiving → Trip n e f g h → Exchange n e.sending f.receiving g.sending h.receiving
+trip_exchange n e f g h quiet abreast joined tellable x =
+    let came = both_came n e f g h quiet abreast joined tellable x in
+    record {
+      limits = limits e.receiving;
+      load = x.goes.load;
+      packet = packet_of_load x.goes.load;
+      sends = goes_sends e x.gone x.iv x.bytes x.now x.flight x.goes;
+      fills = x.goes.filled.whole quiet.whole;
+      carries = is_packet_of x.goes.load;
+      left = x.left;
+      reads = subst (λ (z : EndState). IsReadOut z.receiving h.receiving) came.there x.reads;
+      writes = subst (λ (z : EndState). IsWritten n z.sending g.sending) came.here x.writes;
+    }
+
+-- and the ends stay those of one connection
+joined_still : (n : ℕ → ℕ) (e f g h : EndState) → IsQuiet n e.sending → IsAbreast n e.sending f.receiving → AreJoined e f → CanTell f.receiving → Trip n e f g h → AreJoined g h
+joined_still n e f g h quiet abreast joined tellable x =
+    let came = both_came n e f g h quiet abreast joined tellable x in
+    let here = x.written_alone ∙ ap (λ (z : EndState). record z { sending = g.sending }) came.here in
+    let there = x.read_alone ∙ ap (λ (z : EndState). record z { receiving = h.receiving }) came.there in
+    record {
+      keys = ap (λ (z : EndState). z.keys) there ∙ joined.keys ∙ sym (ap (λ (z : EndState). z.keys) here);
+      address = ap (λ (z : EndState). z.peer) here ∙ joined.address ∙ sym (ap (λ (z : EndState). z.own) there);
+    }
+
+tells_still : (n : ℕ → ℕ) (e f g h : EndState) → IsQuiet n e.sending → IsAbreast n e.sending f.receiving → AreJoined e f → CanTell f.receiving → Trip n e f g h → CanTell h.receiving
+tells_still n e f g h quiet abreast joined tellable x k =
+    let y = trip_exchange n e f g h quiet abreast joined tellable x in
+    let same = effect_max n e.sending y.limits y.load y.packet f.receiving k quiet y.sends abreast y.carries in
+    let read = y.reads.receive_max k in
+    let small = tellable k in
+    omega (arith, same, read, small)
+
+-- ---- so many of them
+
+pub trips_exchanges : (n : ℕ → ℕ) (m : ℕ) (e f g h : EndState) → IsModest n → IsQuiet n e.sending → IsAbreast n e.sending f.receiving → AreJoined e f → CanTell f.receiving → Trips n m e f g h → Exchanges n m e.sending f.receiving g.sending h.receiving
+trips_exchanges n zero e f g h modest quiet abreast joined tellable run = (ap (λ (z : EndState). z.sending) run.0, ap (λ (z : EndState). z.receiving) run.1)
+trips_exchanges n (suc m) e f g h modest quiet abreast joined tellable run =
+    let mid = run.0 in
+    let between = run.1 in
+    let x = run.2 in
+    let y = trip_exchange n e f mid between quiet abreast joined tellable x in
+    let kept = round_abreast n e.sending mid.sending y.limits y.load y.packet f.receiving between.receiving quiet y.sends y.fills abreast y.carries y.reads y.writes in
+    let still = round_keeps n e.sending mid.sending quiet (exchange_round n e.sending f.receiving mid.sending between.receiving modest quiet abreast y) in
+    (mid.sending, between.receiving, y, trips_exchanges n m mid between g h modest still kept (joined_still n e f mid between quiet abreast joined tellable x) (tells_still n e f mid between quiet abreast joined tellable x) run.3)

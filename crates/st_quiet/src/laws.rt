@@ -30,7 +30,7 @@ ghost use Rattle.st_keys.specs.Keys.{DerivedKeys};
 ghost use Rattle.st_end.specs.State.{EndState, new_end};
 ghost use Rattle.st_end.specs.declared.role.Role.{Role};
 ghost use Rattle.st_quiet.specs.Calls.{CanWrite, MaySend, allow_each, begin_each, lengths, other, write_each};
-ghost use Rattle.st_quiet.specs.Trips.{AreJoined, CanTell, Trip};
+ghost use Rattle.st_quiet.specs.Trips.{AreJoined, CanTell, Trip, Trips};
 ghost use Rattle.st_quiet.specs.Mirrored.{IsAbreast, IsMirrored, IsOn, IsPacketOf, IsReadOut};
 
 /// From the opening on a quiet run has fewer Sends than the bound; so there is room in it for the one that gives none.
@@ -175,4 +175,14 @@ pub fn a_read_takes_all()
 pub fn a_trip_is_an_exchange()
     ensures { (n : ℕ → ℕ) (e f g h : EndState) → IsQuiet n e.sending → IsAbreast n e.sending f.receiving → AreJoined e f → CanTell f.receiving → Trip n e f g h
         → Exchange n e.sending f.receiving g.sending h.receiving }
+{}
+
+/// So a run of trips has no more Sends than the bound; where nothing is left, all was delivered.
+pub fn trips_are_bounded()
+    ensures bounded { (n : ℕ → ℕ) (config : Config) (m : ℕ) (e f g h : EndState) → IsModest n → IsOpening n config e.sending → IsAbreast n e.sending f.receiving → AreJoined e f → CanTell f.receiving
+        → Trips n m e f g h → m + 1 ≤ bound n e.sending }
+    ensures exchanges { (n : ℕ → ℕ) (config : Config) (m : ℕ) (e f g h : EndState) → IsModest n → IsOpening n config e.sending → IsAbreast n e.sending f.receiving → AreJoined e f → CanTell f.receiving
+        → Trips n m e f g h → Exchanges n m e.sending f.receiving g.sending h.receiving }
+    ensures delivered { (n : ℕ → ℕ) (config : Config) (m k : ℕ) (e f g h : EndState) (x : Outgoing) → IsModest n → IsOpening n config e.sending → IsAbreast n e.sending f.receiving → AreJoined e f → CanTell f.receiving
+        → Trips n m e f g h → work_left n g.sending ≡ 0 → outgoing_at g.sending k ≡ Some x → ((incoming_at h.receiving k).held.read ≡ n k) × ((incoming_at h.receiving k).credited ≡ x.offered) }
 {}
