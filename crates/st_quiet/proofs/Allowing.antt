@@ -7,9 +7,9 @@ use Rattle.std.proofs.lemmas.Bool.Decides.{nat_tests}
 use Rattle.std.proofs.lemmas.List.{length-replicate, length-set}
 use Rattle.std.proofs.lemmas.Nat.{mod-mul-add}
 use Rattle.st_tables.specs.Slots.{no_slots, slot}
-use Rattle.st_tables.proofs.SlotLemmas.{set_here, set_there, slot_within}
+use Rattle.st_tables.proofs.SlotLemmas.{set_here, set_or, set_there, slot_within}
 use Rattle.st_sender.specs.Sending.{Config, Outgoing, outgoing_at}
-use Rattle.st_receiver.specs.Streams.{Incoming, Receiving, incoming_at, may_name, new_receiving, with_incoming, with_kept, with_max, with_receive_max}
+use Rattle.st_receiver.specs.Streams.{Incoming, Receiving, fresh_incoming, incoming_at, incoming_or, may_name, new_receiving, with_incoming, with_kept, with_max, with_receive_max}
 use Rattle.st_keys.specs.Keys.{DerivedKeys}
 use Rattle.st_end.specs.declared.role.Role.{Role}
 use Rattle.st_end.specs.declared.role.Role.TheVariants.{Client, Server}
@@ -21,8 +21,9 @@ use Rattle.st_quiet.specs.Rounds.{IsOpening}
 use Rattle.st_quiet.specs.Mirrored.{IsAbreast}
 use Rattle.st_quiet.specs.Exchanges.{AllowsAll, IsModest, opened_receiving}
 use Rattle.st_quiet.specs.Calls.{MaySend, allow_each, begin_each, lengths, other}
+use Rattle.st_quiet.specs.Trips.{CanTell}
 use Rattle.st_quiet.proofs.Sums.{sum_below}
-use Rattle.st_quiet.proofs.Lowering.{no_slot}
+use Rattle.st_quiet.proofs.Lowering.{no_slot, place_below}
 use Rattle.st_quiet.proofs.Opening.{opening_abreast}
 use Rattle.st_quiet.proofs.Beginning.{IsBegun, begun_opening, calls_begun}
 
@@ -33,6 +34,7 @@ pub record Allows (q : ℕ) (money : ℕ → ℕ) (first : ℕ) (f : EndState) :
   pub is : f.receiving ≡ opened_receiving q kept
   pub long : length kept ≡ 65
   pub most : (k : ℕ) → k < first → k < 65 → may_name (new_receiving q) k ≡ true → money k ≤ slice_index kept k
+  pub few : (k : ℕ) → slice_index kept k ≤ money k
 
 kept_where_none : (r : Receiving) (k a : ℕ) → slot r.streams k ≡ None → with_receive_max r k a ≡ with_kept r k a
 kept_where_none r k a none = ap (λ o. cond (is_some o) (with_incoming r k (with_max a (incoming_at r k))) (with_kept r k a)) none
@@ -50,6 +52,10 @@ one_allowed q money first f h = elim (cases_Bool (may_name (new_receiving q) fir
         | inl same ↦ subst (λ i. money i ≤ slice_index next i) (sym same) (here (let w = within in omega (arith, w, same)))
         | inr apart ↦ (let was : slice_index next k ≡ slice_index h.kept k = set_there h.kept first (max (slice_index h.kept first) (money first)) 0 k apart in let old = h.most k (omega (arith, l, apart)) within name in omega (arith, was, old))
       ];
+      few = λ k. elim (set_or h.kept first (max (slice_index h.kept first) (money first)) 0 k) [
+        | inl here ↦ (let old = h.few first in let is = here.1 in subst (λ i. slice_index next i ≤ money i) (sym here.0) (omega (arith, old, is)))
+        | inr there ↦ (let old = h.few k in omega (arith, old, there))
+      ];
     })
   | inr never ↦ subst (Allows q money (first + 1)) (sym (refused never)) (record {
       kept = h.kept;
@@ -59,6 +65,7 @@ one_allowed q money first f h = elim (cases_Bool (may_name (new_receiving q) fir
         | inl same ↦ absurd (let no : may_name (new_receiving q) k ≡ false = ap (may_name (new_receiving q)) same ∙ never in cc)
         | inr apart ↦ h.most k (omega (arith, l, apart)) within name
       ];
+      few = h.few;
     })
 ]
   where
@@ -84,9 +91,14 @@ all_allowed q money first (suc m) f h =
     subst (λ n. Allows q money n (allow_each money first (suc m) f)) (let z : first + 1 + m ≡ first + suc m = omega arith in z)
     (all_allowed q money (first + 1) m (set_receive_max f first (money first)).1 (one_allowed q money first f h))
 
+no_kept : (m k : ℕ) → slice_index (replicate {A = ℕ} m 0) k ≡ 0
+no_kept zero k = refl
+no_kept (suc m) zero = refl
+no_kept (suc m) (suc k) = no_kept m k
+
 pub calls_allow : (role : Role) (keys : DerivedKeys) (own peer : List ℕ) (config : Config) (money : ℕ → ℕ) → Allows (parity role) money 65 (allow_each money 0 65 (new_end role keys own peer config))
 calls_allow role keys own peer config money =
-    all_allowed (parity role) money 0 65 (new_end role keys own peer config) (record { kept = replicate 65 0; is = refl; long = length-replicate {A = ℕ} 65 0; most = λ k l. absurd (omega (arith, l)) })
+    all_allowed (parity role) money 0 65 (new_end role keys own peer config) (record { kept = replicate 65 0; is = refl; long = length-replicate {A = ℕ} 65 0; most = λ k l. absurd (omega (arith, l)); few = λ k. (let none = no_kept 65 k in omega (arith, none)) })
 
 -- ---- the peer of an end that opened streams
 
@@ -118,3 +130,16 @@ begun_abreast role n money config e f may modest begun allows =
 
     name : (k : ℕ) (x : Outgoing) → outgoing_at e.sending k ≡ Some x → may_name (new_receiving (parity (other role))) k ≡ true
     name k x at = let own = begun.own k x at in may_peer role k own.0 own.1 own.2
+
+pub allowed_tells : (q : ℕ) (money : ℕ → ℕ) (f : EndState) → IsModest money → Allows q money 65 f → CanTell f.receiving
+allowed_tells q money f modest h k =
+    let is : (incoming_at f.receiving k).receive_max ≡ slice_index h.kept k = ap (λ r. (incoming_at r k).receive_max) h.is ∙ ap (λ (x : Incoming). x.receive_max) (ap (incoming_or (fresh_incoming (slice_index h.kept k))) (no_slot {A = Incoming} k)) in
+    elim (cases_lt k 65) [
+      | inl low ↦ (let few = h.few k in let below = place_below money k 0 65 (omega arith) (omega (arith, low)) in omega (arith, is, few, below, modest))
+      | inr past ↦ (let none = past_kept h.kept k (let long = h.long in omega (arith, long, past)) in omega (arith, is, none))
+    ]
+  where
+    past_kept : (xs : List ℕ) (k : ℕ) → length xs ≤ k → slice_index xs k ≡ 0
+    past_kept [] k l = refl
+    past_kept (x ∷ xs) zero l = absurd (omega arith)
+    past_kept (x ∷ xs) (suc k) l = past_kept xs k (omega arith)

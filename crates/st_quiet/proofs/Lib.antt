@@ -29,6 +29,7 @@ pub mod ReadingOut
 pub mod Writing
 pub mod Feeding
 pub mod Beginning
+pub mod SameEnds
 pub mod Allowing
 pub mod Tellable
 pub mod Trips

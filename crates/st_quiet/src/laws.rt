@@ -147,14 +147,16 @@ pub fn calls_write_on()
         → (let g = write_each input 0 65 e in IsWritten (lengths input) e.sending g.sending × (g ≡ record e { sending = g.sending })) }
 {}
 
-/// Calls that open streams, with money and input for each, are an opening, and the peer that lets that money come is abreast
-/// of it.
+/// Calls that open streams, with money and input for each, are an opening; the peer that lets that money come is abreast of
+/// it, and can tell so.
 pub fn calls_open()
     ensures opening { (role : Role) (keys : DerivedKeys) (own peer : List ℕ) (config : Config) (input : ℕ → List ℕ) (money : ℕ → ℕ) (count : ℕ)
         → MaySend config → IsModest (lengths input) → IsModest money → IsOpening (lengths input) config (begin_each input money count (new_end role keys own peer config)).sending }
     ensures abreast { (role : Role) (keys : DerivedKeys) (own peer : List ℕ) (config its_config : Config) (input : ℕ → List ℕ) (money : ℕ → ℕ) (count : ℕ)
         → MaySend config → IsModest (lengths input) → IsModest money
         → IsAbreast (lengths input) (begin_each input money count (new_end role keys own peer config)).sending (allow_each money 0 65 (new_end (other role) keys peer own its_config)).receiving }
+    ensures joined { (role : Role) (keys : DerivedKeys) (own peer : List ℕ) (config its_config : Config) (input : ℕ → List ℕ) (money : ℕ → ℕ) (count : ℕ) → IsModest money
+        → (let f = allow_each money 0 65 (new_end (other role) keys peer own its_config) in AreJoined (begin_each input money count (new_end role keys own peer config)) f × CanTell f.receiving) }
 {}
 
 /// A receiver to which nothing came is abreast of an opening, where it lets all that is offered come.
