@@ -23,7 +23,7 @@ use Rattle.st_end.specs.State.{EndState, new_end, parity}
 use Rattle.st_end.specs.Calls.{connection_refusal, first_free, free_or, offer, open_stream, opened_unless, opening_as, own_number, own_numbers, with_stream}
 use Rattle.st_quiet.specs.Rounds.{IsOpening, IsRefilled, Refilled}
 use Rattle.st_quiet.specs.Exchanges.{IsModest}
-use Rattle.st_quiet.specs.Calls.{IsFed, MaySend, begin_each, begun, lengths, written_on}
+use Rattle.st_quiet.specs.Calls.{AreHeldBack, IsFed, IsHeldBack, MaySend, begin_each, begun, lengths, written_on}
 use Rattle.st_quiet.proofs.Lowering.{no_slot}
 use Rattle.st_quiet.proofs.Feeding.{Beside, FedAt, Within, beside_then, beside_with, call_taken, fed_at, refilled_within, room_left, room_of, within_by}
 
@@ -59,6 +59,7 @@ pub record IsBegun (p : ℕ) (n money : ℕ → ℕ) (config : Config) (e : EndS
   pub parity : e.receiving.parity ≡ p
   pub streams : (k : ℕ) (y : Outgoing) → outgoing_at e.sending k ≡ Some y → IsRefilled (n k) (record new_outgoing { offered = 0 + money k }) y
   pub own : (k : ℕ) (y : Outgoing) → outgoing_at e.sending k ≡ Some y → (i : ℕ) × (i < 32) × (k ≡ 2 * i + (2 - p))
+  pub held_back : AreHeldBack n e.sending
 
 fresh_fed : (n money : ℕ) → IsFed n (record new_outgoing { offered = money })
 fresh_fed n money = record {
@@ -70,8 +71,7 @@ fresh_fed n money = record {
   };
   alive = refl;
   total = omega arith;
-  kept = omega arith;
-  ended = λ e. absurd (cc);
+  held_back = record { kept = omega arith; ended = λ e. absurd (cc) };
 }
 
 -- ---- one more
@@ -91,6 +91,10 @@ stream_begun p input money config e k few modest modest_money h free =
       own = λ j y at. elim (cases_eq j k) [
         | inl same ↦ (free.place, free.low, same ∙ free.is)
         | inr apart ↦ h.own j y (before j y apart at)
+      ];
+      held_back = λ j y at. elim (cases_eq j k) [
+        | inl same ↦ subst (λ i. IsHeldBack (length (input i)) y) (sym same) (fed.held_back y (subst (λ i. outgoing_at last.sending i ≡ Some y) same at))
+        | inr apart ↦ h.held_back j y (before j y apart at)
       ];
     })
   where
@@ -197,6 +201,7 @@ new_begun role keys own peer n money config = record {
   parity = refl;
   streams = λ k y at. absurd (let none : ◌≡◌ {A = Option Outgoing} None (Some y) = sym (no_slot k) ∙ at in cc);
   own = λ k y at. absurd (let none : ◌≡◌ {A = Option Outgoing} None (Some y) = sym (no_slot k) ∙ at in cc);
+  held_back = λ k y at. absurd (let none : ◌≡◌ {A = Option Outgoing} None (Some y) = sym (no_slot k) ∙ at in cc);
 }
 
 few_roles : (role : Role) → parity role ≤ 1

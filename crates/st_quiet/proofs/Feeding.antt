@@ -21,7 +21,7 @@ use Rattle.st_end.specs.Calls.{close, connection_refusal, done, refusal, write, 
 use Rattle.st_end.specs.Errors.{wrapped}
 use Rattle.st_quiet.specs.Rounds.{IsRefilled, IsWritten, Refilled}
 use Rattle.st_quiet.specs.Exchanges.{IsModest}
-use Rattle.st_quiet.specs.Calls.{CanWrite, IsFed, closed_if, fitting, lengths, write_each, written_at, written_on}
+use Rattle.st_quiet.specs.Calls.{AreHeldBack, CanWrite, IsFed, IsHeldBack, closed_if, fitting, lengths, write_each, written_at, written_on}
 use Rattle.st_quiet.proofs.Sums.{sum_next}
 use Rattle.st_quiet.proofs.Writing.{refilled_clean, refilled_more, write_fits}
 
@@ -126,6 +126,7 @@ beside_then k e f g a b = record {
 pub record FedAt (n k : ℕ) (e f : EndState) : Type 0 where
   pub beside : Beside k e f
   pub here : Refilled n (outgoing_at e.sending k) (outgoing_at f.sending k)
+  pub held_back : (y : Outgoing) → outgoing_at f.sending k ≡ Some y → IsHeldBack n y
 
 -- a stream that is closed stays as it is
 refilled_same : (n : ℕ) (x : Outgoing) → x.accepted ≡ n → x.clean ≡ true → IsRefilled n x x
@@ -172,6 +173,9 @@ here_is e k x y at = slot_here e.sending.streams k y (slot_within e.sending.stre
 refilled_by : (n : ℕ) (o p : Option Outgoing) (x y : Outgoing) → o ≡ Some x → p ≡ Some y → IsRefilled n x y → Refilled n o p
 refilled_by n o p x y a b is = subst (λ z. Refilled n z p) (sym a) (y, b, is)
 
+held_by : (n : ℕ) (o : Option Outgoing) (x : Outgoing) → o ≡ Some x → IsHeldBack n x → (y : Outgoing) → o ≡ Some y → IsHeldBack n y
+held_by n o x a h y b = let both : ◌≡◌ {A = Option Outgoing} (Some x) (Some y) = sym a ∙ b in let same : x ≡ y = cc in subst (IsHeldBack n) same h
+
 fed_goes : (xs : List ℕ) (e : EndState) (k : ℕ) (x : Outgoing) → outgoing_at e.sending k ≡ Some x → e.sending.failed ≡ false → e.receiving.closed ≡ false → IsFed (length xs) x → x.clean ≡ false
     → all_accepted e.sending.streams + (length xs - x.accepted) < 2 ^ 63 → FedAt (length xs) k e (written_at xs e k (Some x))
 fed_goes xs e k x at alive unclosed fed still modest =
@@ -181,7 +185,7 @@ fed_goes xs e k x at alive unclosed fed still modest =
     long = part_long xs x
 
     kept : x.accepted ≤ x.acked_end + 262144
-    kept = fed.kept
+    kept = fed.held_back.kept
 
     total : x.accepted ≤ length xs
     total = fed.total
@@ -209,21 +213,24 @@ fed_goes xs e k x at alive unclosed fed still modest =
         subst (FedAt (length xs) k e) (sym closed) (record {
           beside = beside_then k e f _ (beside_with k e y) (beside_with k f (after_clean y));
           here = refilled_by (length xs) _ _ x (after_clean y) at (here_is f k y (after_clean y) there) (refilled_clean (length xs) x (fitting xs x) all);
+          held_back = held_by (length xs) _ (after_clean y) (here_is f k y (after_clean y) there) (record { kept = omega (arith, long, kept); ended = λ e. all });
         })
     ended false is =
         let some : x.accepted + length (fitting xs x) ≢ length xs = grind (arith, nat_tests) in
         record {
           beside = beside_with k e y;
           here = refilled_by (length xs) _ _ x y at there (refilled_more (length xs) x (fitting xs x) (omega (arith, some, long, total)) (omega (arith, some, long, total, kept)));
+          held_back = held_by (length xs) _ y there (record { kept = omega (arith, long, kept); ended = λ e. absurd (let clash : ◌≡◌ {A = Bool} false true = sym still ∙ e in cc) });
         }
 
 pub fed_at : (xs : List ℕ) (e : EndState) (k : ℕ) (o : Option Outgoing) → outgoing_at e.sending k ≡ o → e.sending.failed ≡ false → e.receiving.closed ≡ false → ((x : Outgoing) → o ≡ Some x → IsFed (length xs) x)
     → ((x : Outgoing) → o ≡ Some x → all_accepted e.sending.streams + (length xs - x.accepted) < 2 ^ 63) → FedAt (length xs) k e (written_at xs e k o)
-fed_at xs e k None at alive unclosed fed modest = record { beside = beside_same k e; here = subst (λ z. Refilled (length xs) z (outgoing_at e.sending k)) (sym at) at }
+fed_at xs e k None at alive unclosed fed modest = record { beside = beside_same k e; here = subst (λ z. Refilled (length xs) z (outgoing_at e.sending k)) (sym at) at; held_back = λ y here. absurd (let clash : ◌≡◌ {A = Option Outgoing} None (Some y) = sym at ∙ here in cc) }
 fed_at xs e k (Some x) at alive unclosed fed modest = elim (cases_Bool x.clean) [
   | inl clean ↦ subst (FedAt (length xs) k e) (sym (stays_shut xs e k x at alive unclosed clean)) (record {
       beside = beside_same k e;
-      here = refilled_by (length xs) _ _ x x at at (refilled_same (length xs) x ((fed x refl).ended clean) clean);
+      here = refilled_by (length xs) _ _ x x at at (refilled_same (length xs) x ((fed x refl).held_back.ended clean) clean);
+      held_back = held_by (length xs) _ x at (fed x refl).held_back;
     })
   | inr still ↦ fed_goes xs e k x at alive unclosed (fed x refl) still (modest x refl)
 ]
@@ -261,11 +268,12 @@ record FedEach (n : ℕ → ℕ) (first count : ℕ) (e f : EndState) : Type 0 w
   rest : f ≡ record e { sending = record e.sending { streams = f.sending.streams } }
   slots : length f.sending.streams ≡ length e.sending.streams
   here : (k : ℕ) → first ≤ k → k < first + count → Refilled (n k) (outgoing_at e.sending k) (outgoing_at f.sending k)
+  held_back : (k : ℕ) → first ≤ k → k < first + count → (y : Outgoing) → outgoing_at f.sending k ≡ Some y → IsHeldBack (n k) y
   others : (k : ℕ) → (k < first) ⊎ (first + count ≤ k) → outgoing_at f.sending k ≡ outgoing_at e.sending k
 
 fed_each : (input : ℕ → List ℕ) (first count : ℕ) (e : EndState) → IsModest (lengths input) → Feeding (lengths input) first e → FedEach (lengths input) first count e (write_each input first count e)
 unfolding write_each
-fed_each input first zero e modest h = record { rest = refl; slots = refl; here = λ k from till. absurd (omega (arith, from, till)); others = λ k at. refl }
+fed_each input first zero e modest h = record { rest = refl; slots = refl; here = λ k from till. absurd (omega (arith, from, till)); held_back = λ k from till. absurd (omega (arith, from, till)); others = λ k at. refl }
 fed_each input first (suc m) e modest h =
     let f = written_on (input first) e first in
     let g = write_each input (first + 1) m f in
@@ -278,6 +286,10 @@ fed_each input first (suc m) e modest h =
         | inl same ↦ subst (λ i. Refilled (length (input i)) (outgoing_at e.sending i) (outgoing_at g.sending i)) (sym same)
             (subst (Refilled (length (input first)) (outgoing_at e.sending first)) (sym (rest.others first (inl (omega arith)))) one.here)
         | inr apart ↦ subst (λ o. Refilled (length (input k)) o (outgoing_at g.sending k)) (one.beside.others k apart) (rest.here k (omega (arith, from, apart)) (omega (arith, till)))
+      ];
+      held_back = λ k from till. elim (cases_eq k first) [
+        | inl same ↦ subst (λ i. (y : Outgoing) → outgoing_at g.sending i ≡ Some y → IsHeldBack (length (input i)) y) (sym same) (λ y at. one.held_back y (sym (rest.others first (inl (omega arith))) ∙ at))
+        | inr apart ↦ rest.held_back k (omega (arith, from, apart)) (omega (arith, till))
       ];
       others = λ k at. rest.others k (further k at) ∙ one.beside.others k (apart k at);
     }
@@ -298,29 +310,37 @@ pub within_by : (n : ℕ) (o : Option Outgoing) → ((x : Outgoing) → o ≡ So
 within_by n None h = omega arith
 within_by n (Some x) h = h x refl
 
+all_fed : (input : ℕ → List ℕ) (e : EndState) → CanWrite (lengths input) e → FedEach (lengths input) 0 65 e (write_each input 0 65 e)
+all_fed input e can = fed_each input 0 65 e can.modest (record {
+  alive = can.alive;
+  unclosed = can.unclosed;
+  slots = can.slots;
+  within = λ k. within_by (length (input k)) (outgoing_at e.sending k) (λ x at. (can.streams k x at).total);
+  streams = λ k x from at. can.streams k x at;
+})
+
 pub each_written : (input : ℕ → List ℕ) (e : EndState) → CanWrite (lengths input) e
     → (let g = write_each input 0 65 e in IsWritten (lengths input) e.sending g.sending × (g ≡ record e { sending = g.sending }))
 each_written input e can = (record {
   streams = λ k. elim (cases_lt k 65) [
     | inl low ↦ all.here k (omega arith) (omega (arith, low))
-    | inr past ↦ (let none = past_none e.sending.streams k (omega (arith, slots, past)) in
+    | inr past ↦ (let none = past_none e.sending.streams k (let slots = can.slots in omega (arith, slots, past)) in
         subst (λ o. Refilled (length (input k)) o (outgoing_at g.sending k)) (sym none) (all.others k (inr (omega (arith, past))) ∙ none))
   ];
   slots = all.slots;
   rest = ap (λ (z : EndState). z.sending) all.rest;
 }, all.rest ∙ ap (λ (z : Sending). record e { sending = z }) (sym (ap (λ (z : EndState). z.sending) all.rest)))
   where
-    slots : length e.sending.streams ≡ 65
-    slots = can.slots
-
     g : EndState
     g = write_each input 0 65 e
 
     all : FedEach (lengths input) 0 65 e g
-    all = fed_each input 0 65 e can.modest (record {
-      alive = can.alive;
-      unclosed = can.unclosed;
-      slots = can.slots;
-      within = λ k. within_by (length (input k)) (outgoing_at e.sending k) (λ x at. (can.streams k x at).total);
-      streams = λ k x from at. can.streams k x at;
-    })
+    all = all_fed input e can
+
+pub each_held_back : (input : ℕ → List ℕ) (e : EndState) → CanWrite (lengths input) e → AreHeldBack (lengths input) (write_each input 0 65 e).sending
+each_held_back input e can k y at =
+    let all = all_fed input e can in
+    let within = slot_within (write_each input 0 65 e).sending.streams k y at in
+    let same = all.slots in
+    let slots = can.slots in
+    all.held_back k (omega arith) (omega (arith, within, same, slots)) y at

@@ -3,12 +3,13 @@ use Rattle.std.specs.Prelude.{◌≡◌, ℕ, zero, suc, ◌+◌, ◌-◌, ◌<�
 use Rattle.std.specs.declared.option.Option.{Option}
 use Rattle.std.specs.declared.option.Option.TheVariants.{None, Some}
 use Rattle.st_oer.specs.Ratios.{ratio}
-use Rattle.st_sender.specs.Sending.{Config, Outgoing, outgoing_at}
+use Rattle.st_sender.specs.Sending.{Config, Outgoing, Sending, outgoing_at}
 use Rattle.st_end.specs.declared.error.EndError.{EndError}
 use Rattle.st_end.specs.declared.role.Role.{Role}
 use Rattle.st_end.specs.declared.role.Role.TheVariants.{Client, Server}
 use Rattle.st_end.specs.State.{EndState}
 use Rattle.st_end.specs.Calls.{close, offer, open_stream, set_receive_max, write}
+use Rattle.st_end.specs.Reading.{read}
 use Rattle.st_quiet.specs.Quiet.{IsRow}
 use Rattle.st_quiet.specs.Exchanges.{IsModest}
 
@@ -35,13 +36,20 @@ unfoldable pub write_each : (input : ℕ → List ℕ) → (first count : ℕ) �
 write_each input first zero e = e
 write_each input first (suc m) e = write_each input (first + 1) m (written_on (input first) e first)
 
--- a stream of n bytes that only these calls wrote on
+-- a stream of n bytes that was written no further than fits, and closed at the end alone
+pub record IsHeldBack (n : ℕ) (x : Outgoing) : Type 0 where
+  pub kept : x.accepted ≤ x.acked_end + 262144
+  pub ended : x.clean ≡ true → x.accepted ≡ n
+
+abbrev pub AreHeldBack : (ℕ → ℕ) → Sending → Type 0
+AreHeldBack n s = (k : ℕ) (x : Outgoing) → outgoing_at s k ≡ Some x → IsHeldBack (n k) x
+
+-- so that it can be written on
 pub record IsFed (n : ℕ) (x : Outgoing) : Type 0 where
   pub row : IsRow x
   pub alive : x.abort ≡ None
   pub total : x.accepted ≤ n
-  pub kept : x.accepted ≤ x.acked_end + 262144
-  pub ended : x.clean ≡ true → x.accepted ≡ n
+  pub held_back : IsHeldBack n x
 
 -- nothing refuses a call that fits
 pub record CanWrite (n : ℕ → ℕ) (e : EndState) : Type 0 where
@@ -50,6 +58,11 @@ pub record CanWrite (n : ℕ → ℕ) (e : EndState) : Type 0 where
   pub slots : length e.sending.streams ≡ 65
   pub modest : IsModest n
   pub streams : (k : ℕ) (x : Outgoing) → outgoing_at e.sending k ≡ Some x → IsFed (n k) x
+
+-- a read of each open stream, of at most so many bytes
+unfoldable pub take_each : (limit first count : ℕ) → EndState → EndState
+take_each limit first zero e = e
+take_each limit first (suc m) e = take_each limit (first + 1) m (read e first limit).1
 
 -- ---- the opening
 
