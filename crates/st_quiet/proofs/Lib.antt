@@ -33,4 +33,6 @@ pub mod SameEnds
 pub mod Allowing
 pub mod Tellable
 pub mod Trips
+pub mod Turns
+pub mod Running
 pub mod Closing

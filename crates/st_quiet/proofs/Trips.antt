@@ -41,7 +41,7 @@ use Rattle.st_quiet.specs.Quiet.{IsQuiet}
 use Rattle.st_quiet.specs.Rounds.{IsWritten, once_fulfilled}
 use Rattle.st_quiet.specs.Mirrored.{IsAbreast, IsPacketOf, IsReadOut}
 use Rattle.st_quiet.specs.Exchanges.{Exchange, Exchanges, IsModest}
-use Rattle.st_quiet.specs.Trips.{AreJoined, CanTell, Trip, Trips, once_answered, once_received}
+use Rattle.st_quiet.specs.Trips.{AreJoined, CanTell, Passage, Trip, Trips, once_answered, once_received}
 use Rattle.st_quiet.proofs.Rounds.{round_keeps}
 use Rattle.st_quiet.proofs.Exchanging.{exchange_round}
 use Rattle.st_quiet.proofs.Fulfilling.{load_fulfilled}
@@ -64,7 +64,7 @@ packet_of_load p = packet_with 12 p.sequence p.least p.frames
 pub is_packet_of : (p : Load) → IsPacketOf p (packet_of_load p)
 is_packet_of p = record { sequence = refl; amount = refl; frames = keeps_frames 12 p.sequence p.least p.frames }
 
-goes_sends : (e gone : EndState) (iv bytes : List ℕ) (now : ℤ) (flight : Open) (g : Goes e iv now flight bytes gone) → Sends e.sending (limits e.receiving) max_packet g.load (with_flight e.sending g.load)
+pub goes_sends : (e gone : EndState) (iv bytes : List ℕ) (now : ℤ) (flight : Open) (g : Goes e iv now flight bytes gone) → Sends e.sending (limits e.receiving) max_packet g.load (with_flight e.sending g.load)
 goes_sends e gone iv bytes now flight g = subst (Sends e.sending (limits e.receiving) max_packet g.load) g.sends.after g.sends
 
 goes_opens : (e gone : EndState) (iv bytes : List ℕ) (now : ℤ) (flight : Open) → length iv ≡ 12 → (g : Goes e iv now flight bytes gone) → opened e.keys prepare_kind g.payload ≡ Ok (packet_of_load g.load)
@@ -210,14 +210,14 @@ load_answered e p payload bytes reply told alone a =
 
 -- ---- both ends once the answer came back
 
-record Came (e f : EndState) (load : Load) (once_here once_there : EndState) : Type 0 where
-  there : ◌≡◌ {A = EndState} once_there (after_verdict f (Fulfills (packet_of_load load) (effect f.receiving (packet_of_load load) load.amount)))
-  payload : List ℕ
-  here : once_here ≡ answered_end e load payload (reply_frames (effect f.receiving (packet_of_load load) load.amount) (frames_of (packet_of_load load)))
+pub record Came (e f : EndState) (load : Load) (once_here once_there : EndState) : Type 0 where
+  pub there : ◌≡◌ {A = EndState} once_there (after_verdict f (Fulfills (packet_of_load load) (effect f.receiving (packet_of_load load) load.amount)))
+  pub payload : List ℕ
+  pub here : once_here ≡ answered_end e load payload (reply_frames (effect f.receiving (packet_of_load load) load.amount) (frames_of (packet_of_load load)))
 
-both_came : (n : ℕ → ℕ) (e f g h : EndState) → IsQuiet n e.sending → IsAbreast n e.sending f.receiving → AreJoined e f → CanTell f.receiving → (x : Trip n e f g h)
-    → Came e f x.goes.load (once_answered x.gone f x.flight x.bytes x.later) (once_received f x.bytes x.later)
-both_came n e f g h quiet abreast joined tellable x = record {
+pub both_came : (n : ℕ → ℕ) (e f : EndState) → IsQuiet n e.sending → IsAbreast n e.sending f.receiving → AreJoined e f → CanTell f.receiving → (x : Passage e)
+    → Came e f x.goes.load (once_answered f x) (once_received f x)
+both_came n e f quiet abreast joined tellable x = record {
   there = ap (λ z. z.1) fulfilled_by;
   payload = x.goes.payload;
   here = ap (λ z. ended x.gone x.flight (Some z.0.bytes)) fulfilled_by
@@ -270,23 +270,24 @@ both_came n e f g h quiet abreast joined tellable x = record {
 
 pub trip_exchange : (n : ℕ → ℕ) (e f g h : EndState) → IsQuiet n e.sending → IsAbreast n e.sending f.receiving → AreJoined e f → CanTell f.receiving → Trip n e f g h → Exchange n e.sending f.receiving g.sending h.receiving
 trip_exchange n e f g h quiet abreast joined tellable x =
-    let came = both_came n e f g h quiet abreast joined tellable x in
+    let w = x.passage in
+    let came = both_came n e f quiet abreast joined tellable w in
     record {
       limits = limits e.receiving;
-      load = x.goes.load;
-      packet = packet_of_load x.goes.load;
-      sends = goes_sends e x.gone x.iv x.bytes x.now x.flight x.goes;
-      fills = x.goes.filled.whole quiet.whole;
-      carries = is_packet_of x.goes.load;
-      left = x.left;
+      load = w.goes.load;
+      packet = packet_of_load w.goes.load;
+      sends = goes_sends e w.gone w.iv w.bytes w.now w.flight w.goes;
+      fills = w.goes.filled.whole quiet.whole;
+      carries = is_packet_of w.goes.load;
+      left = w.left;
       reads = subst (λ (z : EndState). IsReadOut z.receiving h.receiving) came.there x.reads;
       writes = subst (λ (z : EndState). IsWritten n z.sending g.sending) came.here x.writes;
     }
 
 -- and the ends stay those of one connection
-joined_still : (n : ℕ → ℕ) (e f g h : EndState) → IsQuiet n e.sending → IsAbreast n e.sending f.receiving → AreJoined e f → CanTell f.receiving → Trip n e f g h → AreJoined g h
+pub joined_still : (n : ℕ → ℕ) (e f g h : EndState) → IsQuiet n e.sending → IsAbreast n e.sending f.receiving → AreJoined e f → CanTell f.receiving → Trip n e f g h → AreJoined g h
 joined_still n e f g h quiet abreast joined tellable x =
-    let came = both_came n e f g h quiet abreast joined tellable x in
+    let came = both_came n e f quiet abreast joined tellable x.passage in
     let here = x.written_alone ∙ ap (λ (z : EndState). record z { sending = g.sending }) came.here in
     let there = x.read_alone ∙ ap (λ (z : EndState). record z { receiving = h.receiving }) came.there in
     record {
@@ -294,7 +295,7 @@ joined_still n e f g h quiet abreast joined tellable x =
       address = ap (λ (z : EndState). z.peer) here ∙ joined.address ∙ sym (ap (λ (z : EndState). z.own) there);
     }
 
-tells_still : (n : ℕ → ℕ) (e f g h : EndState) → IsQuiet n e.sending → IsAbreast n e.sending f.receiving → AreJoined e f → CanTell f.receiving → Trip n e f g h → CanTell h.receiving
+pub tells_still : (n : ℕ → ℕ) (e f g h : EndState) → IsQuiet n e.sending → IsAbreast n e.sending f.receiving → AreJoined e f → CanTell f.receiving → Trip n e f g h → CanTell h.receiving
 tells_still n e f g h quiet abreast joined tellable x k =
     let y = trip_exchange n e f g h quiet abreast joined tellable x in
     let same = effect_max n e.sending y.limits y.load y.packet f.receiving k quiet y.sends abreast y.carries in

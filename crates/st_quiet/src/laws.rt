@@ -30,7 +30,7 @@ ghost use Rattle.st_keys.specs.Keys.{DerivedKeys};
 ghost use Rattle.st_end.specs.State.{EndState, new_end};
 ghost use Rattle.st_end.specs.declared.role.Role.{Role};
 ghost use Rattle.st_quiet.specs.Calls.{CanWrite, MaySend, allow_each, begin_each, lengths, other, write_each};
-ghost use Rattle.st_quiet.specs.Trips.{AreJoined, CanTell, Trip, Trips};
+ghost use Rattle.st_quiet.specs.Trips.{AreJoined, CanTell, Trip, Trips, Turns};
 ghost use Rattle.st_quiet.specs.Mirrored.{IsAbreast, IsMirrored, IsOn, IsPacketOf, IsReadOut};
 
 /// From the opening on a quiet run has fewer Sends than the bound; so there is room in it for the one that gives none.
@@ -187,4 +187,18 @@ pub fn trips_are_bounded()
         → Trips n m e f g h → Exchanges n m e.sending f.receiving g.sending h.receiving }
     ensures delivered { (n : ℕ → ℕ) (config : Config) (m k : ℕ) (e f g h : EndState) (x : Outgoing) → IsModest n → IsOpening n config e.sending → IsAbreast n e.sending f.receiving → AreJoined e f → CanTell f.receiving
         → Trips n m e f g h → work_left n g.sending ≡ 0 → outgoing_at g.sending k ≡ Some x → ((incoming_at h.receiving k).held.read ≡ n k) × ((incoming_at h.receiving k).credited ≡ x.offered) }
+{}
+
+/// So a run of two ends by their calls alone, from their opening on, has no more Sends than the bound; where nothing is left,
+/// each stream's input was read whole, and its money was credited.
+pub fn a_run_is_bounded()
+    ensures bounded { (role : Role) (keys : DerivedKeys) (own peer : List ℕ) (config its_config : Config) (input : ℕ → List ℕ) (money : ℕ → ℕ) (count limit m : ℕ) (g h : EndState)
+        → MaySend config → IsModest (lengths input) → IsModest money
+        → (let e = begin_each input money count (new_end role keys own peer config) in let f = allow_each money 0 65 (new_end (other role) keys peer own its_config) in
+            Turns input limit m e f g h → m + 1 ≤ bound (lengths input) e.sending) }
+    ensures delivered { (role : Role) (keys : DerivedKeys) (own peer : List ℕ) (config its_config : Config) (input : ℕ → List ℕ) (money : ℕ → ℕ) (count limit m k : ℕ) (g h : EndState) (x : Outgoing)
+        → MaySend config → IsModest (lengths input) → IsModest money
+        → (let e = begin_each input money count (new_end role keys own peer config) in let f = allow_each money 0 65 (new_end (other role) keys peer own its_config) in
+            Turns input limit m e f g h → work_left (lengths input) g.sending ≡ 0 → outgoing_at g.sending k ≡ Some x
+            → ((incoming_at h.receiving k).held.read ≡ length (input k)) × ((incoming_at h.receiving k).credited ≡ x.offered)) }
 {}
