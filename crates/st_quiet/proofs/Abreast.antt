@@ -363,3 +363,28 @@ round_abreast n s t limits p q r u quiet sends fills abreast is = subst P (sym i
       out = out;
       writes = writes;
     })
+
+-- what a load leaves of receive maxes and credits
+pub effect_max : (n : ℕ → ℕ) (s : Sending) (limits : List Known) (p : Load) (q : Packet) (r : Receiving) (k : ℕ) → IsQuiet n s → Sends s limits max_packet p (with_flight s p) → IsAbreast n s r → IsPacketOf p q
+    → (incoming_at (effect r q p.amount) k).receive_max ≡ (incoming_at r k).receive_max
+effect_max n s limits p q r k quiet sends abreast is =
+    subst (λ fs. (incoming_at (after_all r p.amount fs) k).receive_max ≡ (incoming_at r k).receive_max) (sym is.frames) (effect_told r p.amount p.frames k abreast.mirrored.slots (load_taken n s limits p r quiet sends abreast.mirrored)).receive_max
+
+pub effect_within : (n : ℕ → ℕ) (s : Sending) (limits : List Known) (p : Load) (q : Packet) (r : Receiving) (k : ℕ) → IsQuiet n s → Sends s limits max_packet p (with_flight s p) → IsAbreast n s r → IsPacketOf p q → k < 65
+    → (incoming_at (effect r q p.amount) k).credited ≤ (incoming_at r k).receive_max
+effect_within n s limits p q r k quiet sends abreast is l =
+    subst (λ fs. (incoming_at (after_all r p.amount fs) k).credited ≤ (incoming_at r k).receive_max) (sym is.frames)
+    (let now = (effect_told r p.amount p.frames k abreast.mirrored.slots (load_taken n s limits p r quiet sends abreast.mirrored)).credited in
+      let paid = credited_after s limits p r k quiet.slots abreast.mirrored.slots sends l in
+      let few = part_within n s limits p r k (outgoing_at s k) quiet sends abreast l refl in
+      omega (arith, now, paid, few))
+
+-- so that what it holds can be read
+pub effect_slots_long : (n : ℕ → ℕ) (s : Sending) (limits : List Known) (p : Load) (q : Packet) (r : Receiving) → IsQuiet n s → Sends s limits max_packet p (with_flight s p) → IsAbreast n s r → IsPacketOf p q → length (effect r q p.amount).streams ≡ 65
+effect_slots_long n s limits p q r quiet sends abreast is =
+    subst (λ fs. length (after_all r p.amount fs).streams ≡ 65) (sym is.frames) (effect_slots s limits r p.amount p.frames sends.due ∙ abreast.mirrored.slots)
+
+pub effect_stays_alive : (n : ℕ → ℕ) (s : Sending) (limits : List Known) (p : Load) (q : Packet) (r : Receiving) (k : ℕ) → IsQuiet n s → Sends s limits max_packet p (with_flight s p) → IsAbreast n s r → IsPacketOf p q
+    → (incoming_at (effect r q p.amount) k).held.aborted ≡ None
+effect_stays_alive n s limits p q r k quiet sends abreast is =
+    subst (λ fs. (incoming_at (after_all r p.amount fs) k).held.aborted ≡ None) (sym is.frames) (effect_alive n s limits r p.amount p.frames k quiet sends.due ∙ abreast.mirrored.alive k)

@@ -47,7 +47,7 @@ modest_small n s modest quiet = record {
 
 -- ---- a run of both sides
 
-exchange_round : (n : ℕ → ℕ) (s : Sending) (r : Receiving) (t : Sending) (u : Receiving) → IsModest n → IsQuiet n s → IsAbreast n s r → Exchange n s r t u → Round n s t
+pub exchange_round : (n : ℕ → ℕ) (s : Sending) (r : Receiving) (t : Sending) (u : Receiving) → IsModest n → IsQuiet n s → IsAbreast n s r → Exchange n s r t u → Round n s t
 exchange_round n s r t u modest quiet abreast x = record {
   limits = x.limits;
   load = x.load;

@@ -27,4 +27,12 @@ pub mod Exchanging
 pub mod Opening
 pub mod ReadingOut
 pub mod Writing
+pub mod Feeding
+pub mod Beginning
+pub mod SameEnds
+pub mod Allowing
+pub mod Tellable
+pub mod Trips
+pub mod Turns
+pub mod Running
 pub mod Closing

@@ -3,3 +3,5 @@ pub mod Left
 pub mod Rounds
 pub mod Mirrored
 pub mod Exchanges
+pub mod Calls
+pub mod Trips

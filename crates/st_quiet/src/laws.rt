@@ -25,7 +25,12 @@ ghost use Rattle.st_receiver.specs.Judged.{after_all, effect, fault_of};
 ghost use Rattle.st_quiet.specs.Quiet.{IsQuiet, IsRow};
 ghost use Rattle.st_quiet.specs.Left.{all_frames_left, all_money_left, bound, work_left};
 ghost use Rattle.st_quiet.specs.Rounds.{IsRefilled, once_fulfilled, IsWritten, IsDone, IsOpening, IsSmall, PeerTells, Rounds, TellsEnough};
-ghost use Rattle.st_quiet.specs.Exchanges.{AllowsAll, Exchanges, IsModest, opened_receiving, read_each};
+ghost use Rattle.st_quiet.specs.Exchanges.{AllowsAll, Exchange, Exchanges, IsModest, opened_receiving, read_each};
+ghost use Rattle.st_keys.specs.Keys.{DerivedKeys};
+ghost use Rattle.st_end.specs.State.{EndState, new_end};
+ghost use Rattle.st_end.specs.declared.role.Role.{Role};
+ghost use Rattle.st_quiet.specs.Calls.{CanWrite, MaySend, allow_each, begin_each, lengths, other, write_each};
+ghost use Rattle.st_quiet.specs.Trips.{AreJoined, CanTell, Trip, Trips, Turns};
 ghost use Rattle.st_quiet.specs.Mirrored.{IsAbreast, IsMirrored, IsOn, IsPacketOf, IsReadOut};
 
 /// From the opening on a quiet run has fewer Sends than the bound; so there is room in it for the one that gives none.
@@ -136,6 +141,24 @@ pub fn a_stream_is_written_on()
     ensures closed { (n : ℕ) (x : Outgoing) (more : List ℕ) → x.accepted + length more ≡ n → IsRefilled n x (after_clean (after_write more x)) }
 {}
 
+/// Calls that write what fits of each stream's input, and close it at its end, are a writing on, and change nothing else.
+pub fn calls_write_on()
+    ensures { (input : ℕ → List ℕ) (e : EndState) → CanWrite (lengths input) e
+        → (let g = write_each input 0 65 e in IsWritten (lengths input) e.sending g.sending × (g ≡ record e { sending = g.sending })) }
+{}
+
+/// Calls that open streams, with money and input for each, are an opening; the peer that lets that money come is abreast of
+/// it, and can tell so.
+pub fn calls_open()
+    ensures opening { (role : Role) (keys : DerivedKeys) (own peer : List ℕ) (config : Config) (input : ℕ → List ℕ) (money : ℕ → ℕ) (count : ℕ)
+        → MaySend config → IsModest (lengths input) → IsModest money → IsOpening (lengths input) config (begin_each input money count (new_end role keys own peer config)).sending }
+    ensures abreast { (role : Role) (keys : DerivedKeys) (own peer : List ℕ) (config its_config : Config) (input : ℕ → List ℕ) (money : ℕ → ℕ) (count : ℕ)
+        → MaySend config → IsModest (lengths input) → IsModest money
+        → IsAbreast (lengths input) (begin_each input money count (new_end role keys own peer config)).sending (allow_each money 0 65 (new_end (other role) keys peer own its_config)).receiving }
+    ensures joined { (role : Role) (keys : DerivedKeys) (own peer : List ℕ) (config its_config : Config) (input : ℕ → List ℕ) (money : ℕ → ℕ) (count : ℕ) → IsModest money
+        → (let f = allow_each money 0 65 (new_end (other role) keys peer own its_config) in AreJoined (begin_each input money count (new_end role keys own peer config)) f × CanTell f.receiving) }
+{}
+
 /// A receiver to which nothing came is abreast of an opening, where it lets all that is offered come.
 pub fn an_opening_is_abreast()
     ensures { (n : ℕ → ℕ) (config : Config) (s : Sending) (parity : ℕ) (kept : List ℕ)
@@ -147,4 +170,35 @@ pub fn a_read_takes_all()
     ensures held { (xs : List ℕ) (o q : ℕ) (s : Held) → IsOn s → s.read ≤ q → o ≤ q → q < o + length xs → (b : ℕ) × (get (after_insert o xs s).bytes q ≡ Some b) }
     ensures run { (s : Held) (run : List ℕ) (end : ℕ) → IsRun s run → s.read ≤ end
         → ((q : ℕ) → s.read ≤ q → q < end → (b : ℕ) × (get s.bytes q ≡ Some b)) → ((q : ℕ) → end ≤ q → get s.bytes q ≡ None) → s.read + length run ≡ end }
+{}
+
+/// Between two ends of a connection with nothing between them a trip of bytes is an exchange: the Prepare that goes opens at
+/// the peer as the load, is fulfilled there, and the answer acknowledges it here and raises the limits.
+pub fn a_trip_is_an_exchange()
+    ensures { (n : ℕ → ℕ) (e f g h : EndState) → IsQuiet n e.sending → IsAbreast n e.sending f.receiving → AreJoined e f → CanTell f.receiving → Trip n e f g h
+        → Exchange n e.sending f.receiving g.sending h.receiving }
+{}
+
+/// So a run of trips has no more Sends than the bound; where nothing is left, all was delivered.
+pub fn trips_are_bounded()
+    ensures bounded { (n : ℕ → ℕ) (config : Config) (m : ℕ) (e f g h : EndState) → IsModest n → IsOpening n config e.sending → IsAbreast n e.sending f.receiving → AreJoined e f → CanTell f.receiving
+        → Trips n m e f g h → m + 1 ≤ bound n e.sending }
+    ensures exchanges { (n : ℕ → ℕ) (config : Config) (m : ℕ) (e f g h : EndState) → IsModest n → IsOpening n config e.sending → IsAbreast n e.sending f.receiving → AreJoined e f → CanTell f.receiving
+        → Trips n m e f g h → Exchanges n m e.sending f.receiving g.sending h.receiving }
+    ensures delivered { (n : ℕ → ℕ) (config : Config) (m k : ℕ) (e f g h : EndState) (x : Outgoing) → IsModest n → IsOpening n config e.sending → IsAbreast n e.sending f.receiving → AreJoined e f → CanTell f.receiving
+        → Trips n m e f g h → work_left n g.sending ≡ 0 → outgoing_at g.sending k ≡ Some x → ((incoming_at h.receiving k).held.read ≡ n k) × ((incoming_at h.receiving k).credited ≡ x.offered) }
+{}
+
+/// So a run of two ends by their calls alone, from their opening on, has no more Sends than the bound; where nothing is left,
+/// each stream's input was read whole, and its money was credited.
+pub fn a_run_is_bounded()
+    ensures bounded { (role : Role) (keys : DerivedKeys) (own peer : List ℕ) (config its_config : Config) (input : ℕ → List ℕ) (money : ℕ → ℕ) (count limit m : ℕ) (g h : EndState)
+        → MaySend config → IsModest (lengths input) → IsModest money
+        → (let e = begin_each input money count (new_end role keys own peer config) in let f = allow_each money 0 65 (new_end (other role) keys peer own its_config) in
+            Turns input limit m e f g h → m + 1 ≤ bound (lengths input) e.sending) }
+    ensures delivered { (role : Role) (keys : DerivedKeys) (own peer : List ℕ) (config its_config : Config) (input : ℕ → List ℕ) (money : ℕ → ℕ) (count limit m k : ℕ) (g h : EndState) (x : Outgoing)
+        → MaySend config → IsModest (lengths input) → IsModest money
+        → (let e = begin_each input money count (new_end role keys own peer config) in let f = allow_each money 0 65 (new_end (other role) keys peer own its_config) in
+            Turns input limit m e f g h → work_left (lengths input) g.sending ≡ 0 → outgoing_at g.sending k ≡ Some x
+            → ((incoming_at h.receiving k).held.read ≡ length (input k)) × ((incoming_at h.receiving k).credited ≡ x.offered)) }
 {}
