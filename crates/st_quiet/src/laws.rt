@@ -172,8 +172,8 @@ pub fn a_read_takes_all()
         → ((q : ℕ) → s.read ≤ q → q < end → (b : ℕ) × (get s.bytes q ≡ Some b)) → ((q : ℕ) → end ≤ q → get s.bytes q ≡ None) → s.read + length run ≡ end }
 {}
 
-/// Between two ends of a connection with nothing between them a trip of bytes is an exchange: the Prepare that goes opens at
-/// the peer as the load, is fulfilled there, and the answer acknowledges it here and raises the limits.
+/// Between two ends of a connection with nothing between them a trip of bytes is an exchange: the load took effect there
+/// before the reads, and was acknowledged here before the writes.
 pub fn a_trip_is_an_exchange()
     ensures { (n : ℕ → ℕ) (e f g h : EndState) → IsQuiet n e.sending → IsAbreast n e.sending f.receiving → AreJoined e f → CanTell f.receiving → Trip n e f g h
         → Exchange n e.sending f.receiving g.sending h.receiving }
