@@ -375,9 +375,9 @@ pub effect_within : (n : ℕ → ℕ) (s : Sending) (limits : List Known) (p : L
 effect_within n s limits p q r k quiet sends abreast is l =
     subst (λ fs. (incoming_at (after_all r p.amount fs) k).credited ≤ (incoming_at r k).receive_max) (sym is.frames)
     (let now = (effect_told r p.amount p.frames k abreast.mirrored.slots (load_taken n s limits p r quiet sends abreast.mirrored)).credited in
-      let paid = credited_after s limits p r k quiet.slots abreast.mirrored.slots sends l in
-      let few = part_within n s limits p r k (outgoing_at s k) quiet sends abreast l refl in
-      omega (arith, now, paid, few))
+    let paid = credited_after s limits p r k quiet.slots abreast.mirrored.slots sends l in
+    let few = part_within n s limits p r k (outgoing_at s k) quiet sends abreast l refl in
+    omega (arith, now, paid, few))
 
 -- so that what it holds can be read
 pub effect_slots_long : (n : ℕ → ℕ) (s : Sending) (limits : List Known) (p : Load) (q : Packet) (r : Receiving) → IsQuiet n s → Sends s limits max_packet p (with_flight s p) → IsAbreast n s r → IsPacketOf p q → length (effect r q p.amount).streams ≡ 65

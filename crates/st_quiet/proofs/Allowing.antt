@@ -1,12 +1,11 @@
 -- Receive maxes that are set at an end to which nothing came.
-use Rattle.std.proofs.Common.{◌≡◌, ◌≢◌, ℕ, zero, suc, ◌+◌, ◌-◌, ◌*◌, ◌%◌, ◌^◌, ◌<◌, ◌≤◌, Bool, true, false, not, ◌&&◌, ◌||◌, cond, List, [], ◌∷◌, map, max, sum, set, length, replicate, refl, sym, ap, subst, ◌∙◌, arith, Option, None, Some, ◌⊎◌, inl, inr, nat_eq, nat_le, slice_index}
+use Rattle.std.proofs.Common.{◌≡◌, ℕ, zero, suc, ◌+◌, ◌-◌, ◌*◌, ◌%◌, ◌<◌, ◌≤◌, true, false, cond, List, [], ◌∷◌, max, set, length, replicate, refl, sym, ap, subst, ◌∙◌, arith, Option, None, Some, inl, inr, nat_eq, nat_le, slice_index}
 use Rattle.std.specs.Prelude.{is_some}
-use Rattle.std.specs.List.{range_with_len}
 use Rattle.std.proofs.lemmas.Bool.{cases_Bool, cases_eq, cases_lt}
 use Rattle.std.proofs.lemmas.Bool.Decides.{nat_tests}
 use Rattle.std.proofs.lemmas.List.{length-replicate, length-set}
 use Rattle.std.proofs.lemmas.Nat.{mod-mul-add}
-use Rattle.st_tables.specs.Slots.{no_slots, slot}
+use Rattle.st_tables.specs.Slots.{slot}
 use Rattle.st_tables.proofs.SlotLemmas.{set_here, set_or, set_there, slot_within}
 use Rattle.st_sender.specs.Sending.{Config, Outgoing, outgoing_at}
 use Rattle.st_receiver.specs.Streams.{Incoming, Receiving, fresh_incoming, incoming_at, incoming_or, may_name, new_receiving, with_incoming, with_kept, with_max, with_receive_max}
@@ -14,18 +13,16 @@ use Rattle.st_keys.specs.Keys.{DerivedKeys}
 use Rattle.st_end.specs.declared.role.Role.{Role}
 use Rattle.st_end.specs.declared.role.Role.TheVariants.{Client, Server}
 use Rattle.st_end.specs.State.{EndState, new_end, parity}
-use Rattle.st_end.specs.Calls as calls
 use Rattle.st_end.specs.Calls.{set_receive_max}
-use Rattle.st_quiet.specs.Left.{all_money_left, money_left}
-use Rattle.st_quiet.specs.Rounds.{IsOpening}
+use Rattle.st_quiet.specs.Left.{money_left}
 use Rattle.st_quiet.specs.Mirrored.{IsAbreast}
-use Rattle.st_quiet.specs.Exchanges.{AllowsAll, IsModest, opened_receiving}
-use Rattle.st_quiet.specs.Calls.{MaySend, allow_each, begin_each, lengths, other}
+use Rattle.st_quiet.specs.Exchanges.{IsModest, opened_receiving}
+use Rattle.st_quiet.specs.Calls.{MaySend, allow_each, other}
 use Rattle.st_quiet.specs.Trips.{CanTell}
 use Rattle.st_quiet.proofs.Sums.{sum_below}
 use Rattle.st_quiet.proofs.Lowering.{no_slot, place_below}
 use Rattle.st_quiet.proofs.Opening.{opening_abreast}
-use Rattle.st_quiet.proofs.Beginning.{IsBegun, begun_opening, calls_begun}
+use Rattle.st_quiet.proofs.Beginning.{IsBegun, begun_opening}
 
 -- ---- the values that are kept
 
@@ -45,28 +42,28 @@ kept_next q first a kept = kept_where_none (opened_receiving q kept) first a (no
 one_allowed : (q : ℕ) (money : ℕ → ℕ) (first : ℕ) (f : EndState) → Allows q money first f → Allows q money (first + 1) (set_receive_max f first (money first)).1
 one_allowed q money first f h = elim (cases_Bool (may_name (new_receiving q) first)) [
   | inl may ↦ subst (Allows q money (first + 1)) (sym (taken may)) (record {
-      kept = next;
-      is = ap (λ r. with_receive_max r first (money first)) h.is ∙ kept_next q first (money first) h.kept;
-      long = length-set h.kept first _ ∙ h.long;
-      most = λ k l within name. elim (cases_eq k first) [
-        | inl same ↦ subst (λ i. money i ≤ slice_index next i) (sym same) (here (let w = within in omega (arith, w, same)))
-        | inr apart ↦ (let was : slice_index next k ≡ slice_index h.kept k = set_there h.kept first (max (slice_index h.kept first) (money first)) 0 k apart in let old = h.most k (omega (arith, l, apart)) within name in omega (arith, was, old))
-      ];
-      few = λ k. elim (set_or h.kept first (max (slice_index h.kept first) (money first)) 0 k) [
-        | inl here ↦ (let old = h.few first in let is = here.1 in subst (λ i. slice_index next i ≤ money i) (sym here.0) (omega (arith, old, is)))
-        | inr there ↦ (let old = h.few k in omega (arith, old, there))
-      ];
-    })
+    kept = next;
+    is = ap (λ r. with_receive_max r first (money first)) h.is ∙ kept_next q first (money first) h.kept;
+    long = length-set h.kept first _ ∙ h.long;
+    most = λ k l within name. elim (cases_eq k first) [
+      | inl same ↦ subst (λ i. money i ≤ slice_index next i) (sym same) (here (let w = within in omega (arith, w, same)))
+      | inr apart ↦ (let was : slice_index next k ≡ slice_index h.kept k = set_there h.kept first (max (slice_index h.kept first) (money first)) 0 k apart in let old = h.most k (omega (arith, l, apart)) within name in omega (arith, was, old))
+    ];
+    few = λ k. elim (set_or h.kept first (max (slice_index h.kept first) (money first)) 0 k) [
+      | inl here ↦ (let old = h.few first in let is = here.1 in subst (λ i. slice_index next i ≤ money i) (sym here.0) (omega (arith, old, is)))
+      | inr there ↦ (let old = h.few k in omega (arith, old, there))
+    ];
+  })
   | inr never ↦ subst (Allows q money (first + 1)) (sym (refused never)) (record {
-      kept = h.kept;
-      is = h.is;
-      long = h.long;
-      most = λ k l within name. elim (cases_eq k first) [
-        | inl same ↦ absurd (let no : may_name (new_receiving q) k ≡ false = ap (may_name (new_receiving q)) same ∙ never in cc)
-        | inr apart ↦ h.most k (omega (arith, l, apart)) within name
-      ];
-      few = h.few;
-    })
+    kept = h.kept;
+    is = h.is;
+    long = h.long;
+    most = λ k l within name. elim (cases_eq k first) [
+      | inl same ↦ absurd (let no : may_name (new_receiving q) k ≡ false = ap (may_name (new_receiving q)) same ∙ never in cc)
+      | inr apart ↦ h.most k (omega (arith, l, apart)) within name
+    ];
+    few = h.few;
+  })
 ]
   where
     next : List ℕ

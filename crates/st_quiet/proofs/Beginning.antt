@@ -1,31 +1,26 @@
 -- What an end has once streams were opened on it, with money and input.
-use Rattle.std.proofs.Common.{◌≡◌, ◌≢◌, ℕ, zero, suc, ◌+◌, ◌-◌, ◌*◌, ◌%◌, ◌^◌, ◌<◌, ◌≤◌, Bool, true, false, not, ◌&&◌, ◌||◌, cond, List, [], ◌∷◌, map, sum, length, refl, sym, ap, subst, ◌∙◌, arith, Option, None, Some, ◌⊎◌, inl, inr, nat_eq, nat_le, slice_index, Result, Ok, Err}
-use Rattle.std.specs.Prelude.{is_some}
+use Rattle.std.proofs.Common.{◌≡◌, ◌≢◌, ℕ, zero, suc, ◌+◌, ◌-◌, ◌*◌, ◌^◌, ◌<◌, ◌≤◌, false, cond, List, map, length, refl, sym, ap, subst, ◌∙◌, arith, Option, None, Some, inl, inr, nat_le}
 use Rattle.std.specs.FinMap as fmap
 use Rattle.std.specs.List.{range_with_len}
 use Rattle.std.specs.Ordering.{nat_cmp}
-use Rattle.std.proofs.lemmas.Bool.{cases_Bool, cases_eq, cases_lt}
+use Rattle.std.proofs.lemmas.Bool.{cases_eq}
 use Rattle.std.proofs.lemmas.Bool.Decides.{nat_tests}
 use Rattle.std.proofs.lemmas.List.{length-set}
-use Rattle.st_oer.specs.Ratios.{ratio}
-use Rattle.st_tables.specs.Slots.{Slots, no_slots, slot, with_slot}
-use Rattle.st_tables.proofs.SlotLemmas.{slot_apart, slot_here, slot_within}
-use Rattle.st_sender.specs.declared.error.OutboxError.{OutboxError}
+use Rattle.st_tables.proofs.SlotLemmas.{slot_apart, slot_here}
 use Rattle.st_sender.specs.declared.error.OutboxError.TheVariants.{AmountTooLarge}
-use Rattle.st_sender.specs.Sending.{Config, Outgoing, Sending, new_outgoing, new_sending, outgoing_at, with_outgoing, changed}
+use Rattle.st_sender.specs.Sending.{Config, Outgoing, Sending, new_outgoing, new_sending, outgoing_at, with_outgoing}
 use Rattle.st_sender.specs.Accepting.{after_offer}
 use Rattle.st_sender.specs.Refusals.{accepted_of, all_offered, is_closed, offered_of, offer_refusal, refusal_at, too_much}
 use Rattle.st_keys.specs.Keys.{DerivedKeys}
-use Rattle.st_end.specs.declared.error.EndError.{EndError}
 use Rattle.st_end.specs.declared.role.Role.{Role}
 use Rattle.st_end.specs.declared.role.Role.TheVariants.{Client, Server}
 use Rattle.st_end.specs.State.{EndState, new_end, parity}
-use Rattle.st_end.specs.Calls.{connection_refusal, first_free, free_or, offer, open_stream, opened_unless, opening_as, own_number, own_numbers, with_stream}
+use Rattle.st_end.specs.Calls.{connection_refusal, first_free, free_or, offer, open_stream, opened_unless, opening_as, own_number, with_stream}
 use Rattle.st_quiet.specs.Rounds.{IsOpening, IsRefilled, Refilled}
 use Rattle.st_quiet.specs.Exchanges.{IsModest}
 use Rattle.st_quiet.specs.Calls.{AreHeldBack, IsFed, IsHeldBack, MaySend, begin_each, begun, lengths, written_on}
 use Rattle.st_quiet.proofs.Lowering.{no_slot}
-use Rattle.st_quiet.proofs.Feeding.{Beside, FedAt, Within, beside_then, beside_with, call_taken, fed_at, refilled_within, room_left, room_of, within_by}
+use Rattle.st_quiet.proofs.Feeding.{FedAt, Within, call_taken, fed_at, room_left, room_of, within_by}
 
 -- ---- an own number that is free
 

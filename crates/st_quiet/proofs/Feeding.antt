@@ -1,12 +1,12 @@
 -- Writes of what fits, and closes at the end, write each stream's input on.
-use Rattle.std.proofs.Common.{◌≡◌, ◌≢◌, ℕ, zero, suc, ◌+◌, ◌-◌, ◌^◌, ◌<◌, ◌≤◌, Bool, true, false, ◌||◌, cond, List, [], ◌∷◌, map, sum, min, length, take, drop, length-take, length-drop, refl, sym, ap, subst, ◌∙◌, arith, Option, None, Some, ◌⊎◌, inl, inr, nat_eq}
+use Rattle.std.proofs.Common.{◌≡◌, ◌≢◌, ℕ, zero, suc, ◌+◌, ◌-◌, ◌^◌, ◌<◌, ◌≤◌, Bool, true, false, ◌||◌, cond, List, [], ◌∷◌, map, sum, min, length, drop, length-take, length-drop, refl, sym, ap, subst, ◌∙◌, arith, Option, None, Some, ◌⊎◌, inl, inr, nat_eq}
 use Rattle.std.specs.Prelude.{is_some}
 use Rattle.std.specs.Option.{option_or}
 use Rattle.std.specs.List.{range_with_len}
 use Rattle.std.proofs.lemmas.Bool.{cases_Bool, cases_eq, cases_lt}
 use Rattle.std.proofs.lemmas.Bool.Decides.{nat_tests}
 use Rattle.std.proofs.lemmas.List.{length-set}
-use Rattle.st_tables.specs.Slots.{Slots, slot, with_slot}
+use Rattle.st_tables.specs.Slots.{Slots, slot}
 use Rattle.st_tables.specs.Table.{put_bytes}
 use Rattle.st_tables.proofs.SlotLemmas.{slot_apart, slot_here, slot_within}
 use Rattle.st_sender.specs.declared.error.OutboxError.{OutboxError}
@@ -14,7 +14,6 @@ use Rattle.st_sender.specs.declared.error.OutboxError.TheVariants.{Closed}
 use Rattle.st_sender.specs.Sending.{Outgoing, Sending, outgoing_at, with_outgoing, changed, changed_at}
 use Rattle.st_sender.specs.Accepting.{after_clean, after_write}
 use Rattle.st_sender.specs.Refusals.{accepted_of, all_accepted, close_refusal, full, is_closed, no_more, refusal_at, write_refusal}
-use Rattle.st_end.specs.declared.error.EndError.{EndError}
 use Rattle.st_end.specs.State.{EndState}
 use Rattle.st_end.specs.Calls as calls
 use Rattle.st_end.specs.Calls.{close, connection_refusal, done, refusal, write, wrapped_too}
@@ -228,10 +227,10 @@ pub fed_at : (xs : List ℕ) (e : EndState) (k : ℕ) (o : Option Outgoing) → 
 fed_at xs e k None at alive unclosed fed modest = record { beside = beside_same k e; here = subst (λ z. Refilled (length xs) z (outgoing_at e.sending k)) (sym at) at; held_back = λ y here. absurd (let clash : ◌≡◌ {A = Option Outgoing} None (Some y) = sym at ∙ here in cc) }
 fed_at xs e k (Some x) at alive unclosed fed modest = elim (cases_Bool x.clean) [
   | inl clean ↦ subst (FedAt (length xs) k e) (sym (stays_shut xs e k x at alive unclosed clean)) (record {
-      beside = beside_same k e;
-      here = refilled_by (length xs) _ _ x x at at (refilled_same (length xs) x ((fed x refl).held_back.ended clean) clean);
-      held_back = held_by (length xs) _ x at (fed x refl).held_back;
-    })
+    beside = beside_same k e;
+    here = refilled_by (length xs) _ _ x x at at (refilled_same (length xs) x ((fed x refl).held_back.ended clean) clean);
+    held_back = held_by (length xs) _ x at (fed x refl).held_back;
+  })
   | inr still ↦ fed_goes xs e k x at alive unclosed (fed x refl) still (modest x refl)
 ]
 
@@ -321,15 +320,18 @@ all_fed input e can = fed_each input 0 65 e can.modest (record {
 
 pub each_written : (input : ℕ → List ℕ) (e : EndState) → CanWrite (lengths input) e
     → (let g = write_each input 0 65 e in IsWritten (lengths input) e.sending g.sending × (g ≡ record e { sending = g.sending }))
-each_written input e can = (record {
-  streams = λ k. elim (cases_lt k 65) [
-    | inl low ↦ all.here k (omega arith) (omega (arith, low))
-    | inr past ↦ (let none = past_none e.sending.streams k (let slots = can.slots in omega (arith, slots, past)) in
-        subst (λ o. Refilled (length (input k)) o (outgoing_at g.sending k)) (sym none) (all.others k (inr (omega (arith, past))) ∙ none))
-  ];
-  slots = all.slots;
-  rest = ap (λ (z : EndState). z.sending) all.rest;
-}, all.rest ∙ ap (λ (z : Sending). record e { sending = z }) (sym (ap (λ (z : EndState). z.sending) all.rest)))
+each_written input e can = (
+  record {
+    streams = λ k. elim (cases_lt k 65) [
+      | inl low ↦ all.here k (omega arith) (omega (arith, low))
+      | inr past ↦ (let none = past_none e.sending.streams k (let slots = can.slots in omega (arith, slots, past)) in
+          subst (λ o. Refilled (length (input k)) o (outgoing_at g.sending k)) (sym none) (all.others k (inr (omega (arith, past))) ∙ none))
+    ];
+    slots = all.slots;
+    rest = ap (λ (z : EndState). z.sending) all.rest;
+  },
+  all.rest ∙ ap (λ (z : Sending). record e { sending = z }) (sym (ap (λ (z : EndState). z.sending) all.rest)),
+)
   where
     g : EndState
     g = write_each input 0 65 e

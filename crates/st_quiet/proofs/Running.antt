@@ -10,7 +10,7 @@ use Rattle.st_quiet.specs.Rounds.{IsOpening}
 use Rattle.st_quiet.specs.Mirrored.{IsAbreast}
 use Rattle.st_quiet.specs.Exchanges.{Exchanges, IsModest}
 use Rattle.st_quiet.specs.Calls.{MaySend, allow_each, begin_each, lengths, other}
-use Rattle.st_quiet.specs.Trips.{AreJoined, CanTell, Turns}
+use Rattle.st_quiet.specs.Trips.{AreJoined, Turns}
 use Rattle.st_quiet.proofs.Rounds.{rounds_lower}
 use Rattle.st_quiet.proofs.Bound.{opening_quiet, sends_bounded}
 use Rattle.st_quiet.proofs.Exchanging.{all_delivered, exchanges_rounds}
@@ -35,7 +35,7 @@ Receiver role keys own peer config money = allow_each money 0 65 (new_end (other
 
 run_exchanges : (role : Role) (keys : DerivedKeys) (own peer : List ℕ) (config its_config : Config) (input : ℕ → List ℕ) (money : ℕ → ℕ) (count limit m : ℕ) (g h : EndState) → MaySend config → IsModest (lengths input) → IsModest money
     → (let e = Sender role keys own peer config input money count in let f = Receiver role keys own peer its_config money in
-        Turns input limit m e f g h → IsOpening (lengths input) config e.sending × IsAbreast (lengths input) e.sending f.receiving × Exchanges (lengths input) m e.sending f.receiving g.sending h.receiving)
+    Turns input limit m e f g h → IsOpening (lengths input) config e.sending × IsAbreast (lengths input) e.sending f.receiving × Exchanges (lengths input) m e.sending f.receiving g.sending h.receiving)
 run_exchanges role keys own peer config its_config input money count limit m g h may modest modest_money run =
     let n = lengths input in
     let e = Sender role keys own peer config input money count in
@@ -60,7 +60,7 @@ run_bounded role keys own peer config its_config input money count limit m g h m
 
 pub run_delivered : (role : Role) (keys : DerivedKeys) (own peer : List ℕ) (config its_config : Config) (input : ℕ → List ℕ) (money : ℕ → ℕ) (count limit m k : ℕ) (g h : EndState) (x : Outgoing) → MaySend config → IsModest (lengths input) → IsModest money
     → (let e = Sender role keys own peer config input money count in let f = Receiver role keys own peer its_config money in
-        Turns input limit m e f g h → work_left (lengths input) g.sending ≡ 0 → outgoing_at g.sending k ≡ Some x → ((incoming_at h.receiving k).held.read ≡ length (input k)) × ((incoming_at h.receiving k).credited ≡ x.offered))
+    Turns input limit m e f g h → work_left (lengths input) g.sending ≡ 0 → outgoing_at g.sending k ≡ Some x → ((incoming_at h.receiving k).held.read ≡ length (input k)) × ((incoming_at h.receiving k).credited ≡ x.offered))
 run_delivered role keys own peer config its_config input money count limit m k g h x may modest modest_money run done at =
     let n = lengths input in
     let e = Sender role keys own peer config input money count in

@@ -2,7 +2,7 @@
 use Rattle.std.proofs.Common.{◌≡◌, ℕ, zero, suc, ◌+◌, ◌*◌, ◌^◌, ◌<◌, ◌≤◌, Bool, true, false, cond, List, [], ◌∷◌, ◌++◌, length, length-append, refl, sym, subst, arith}
 use Rattle.std.specs.List.{AllByRecursion, flat_map, list_any, range_with_len}
 use Rattle.std.proofs.lemmas.List.Concat.{flat_map-cons}
-use Rattle.st_oer.specs.Spelling.{octets, var_uint}
+use Rattle.st_oer.specs.Spelling.{var_uint}
 use Rattle.st_frames.specs.Frames.{ConnectionMaxData, Known, StreamMaxData, StreamMaxMoney, max_packet}
 use Rattle.st_frames.specs.Table.{row_of}
 use Rattle.st_frames.specs.Told.{names}

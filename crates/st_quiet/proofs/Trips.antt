@@ -1,5 +1,5 @@
 -- From bytes to an exchange: the Prepare that goes is fulfilled where it comes, and its answer acknowledges it.
-use Rattle.std.proofs.Common.{◌≡◌, ℕ, zero, suc, ◌+◌, ◌^◌, ◌<◌, ◌≤◌, Bool, true, false, not, ◌||◌, cond, List, [], ◌∷◌, ◌++◌, length, take, min, length-take, refl, sym, ap, subst, ◌∙◌, arith, ℤ, Option, None, Some, Result, Ok, Err, nat_eq, nat_le}
+use Rattle.std.proofs.Common.{◌≡◌, ℕ, zero, suc, ◌^◌, ◌<◌, ◌≤◌, true, false, not, cond, List, [], ◌∷◌, ◌++◌, length, take, length-take, refl, sym, ap, subst, ◌∙◌, arith, ℤ, None, Some, Result, Ok, nat_eq, nat_le}
 use Rattle.std.specs.Prelude.{◌+ℤ◌, bytes_eq, int_le}
 use Rattle.std.specs.Cmp.Lexicographic.{pointwise}
 use Rattle.std.specs.FinMap as fmap
@@ -7,12 +7,11 @@ use Rattle.std.specs.Ordering.{nat_cmp}
 use Rattle.std.proofs.lemmas.Bool.Decides.{Decides-eqb, nat_tests}
 use Rattle.std.proofs.lemmas.Grind.{common_steps}
 use Rattle.std.proofs.lemmas.Slice.Eq.{slice_eq-Decides}
-use Rattle.st_oer.specs.Address.{dot, is_within}
-use Rattle.st_ilp.specs.Packets.{AnswerPacket, Fulfilled, PreparePacket}
-use Rattle.st_ilp.specs.Spelling.{answer_text, fulfill_kind, prepare_kind, prepare_text}
+use Rattle.st_oer.specs.Address.{is_within}
+use Rattle.st_ilp.specs.Packets.{Fulfilled, PreparePacket}
+use Rattle.st_ilp.specs.Spelling.{answer_text, fulfill_kind, prepare_kind}
 use Rattle.st_ilp.specs.Reading.{answer_at, prepare_at}
-use Rattle.st_ilp.specs.Laws.{IsPrepare, is_fulfill}
-use Rattle.st_ilp.specs.declared.error.IlpError.{IlpError}
+use Rattle.st_ilp.specs.Laws.{is_fulfill}
 use Rattle.st_ilp.proofs.PacketReads.{answer_reads, prepare_reads}
 use Rattle.st_frames.specs.Frames.{Known, Packet, frames_of, max_packet}
 use Rattle.st_frames.specs.Written.{packet_text, packet_with}
@@ -26,14 +25,13 @@ use Rattle.st_sender.specs.Sending.{Flight, Load, Sending}
 use Rattle.st_sender.specs.Flights.{flight_at, flight_of}
 use Rattle.st_sender.specs.Loads.{Sends, with_flight}
 use Rattle.st_sender.specs.Answering.{Plain, after_all_told, after_failed}
-use Rattle.st_receiver.specs.declared.reason.Reason.{Reason}
 use Rattle.st_receiver.specs.Streams.{Receiving, incoming_at}
 use Rattle.st_receiver.specs.Judged.{effect, fault_of}
 use Rattle.st_receiver.specs.Limits.{limits, reply_frames}
 use Rattle.st_end.specs.State.{EndState}
 use Rattle.st_end.specs.Sending.{Goes, answer_time, flight_for, is_kept, open_flight, prepare_for, with_condition}
-use Rattle.st_end.specs.Receiving.{Fulfills, Rejects, Unread, Verdict, after_verdict, answer_for, f02, is_own_condition, judged_as, opened_as, payload_or_none, r00, received, received_as, reply_iv, reply_payload, verdict_on}
-use Rattle.st_end.specs.Answers.{after_outcome, answered_by, ended, ended_with, fits, raised}
+use Rattle.st_end.specs.Receiving.{Fulfills, Rejects, Unread, after_verdict, answer_for, f02, is_own_condition, judged_as, opened_as, payload_or_none, r00, received, received_as, reply_iv, reply_payload, verdict_on}
+use Rattle.st_end.specs.Answers.{answered_by, ended, ended_with, raised}
 use Rattle.st_end.specs.declared.flight.Open.{Open}
 use Rattle.st_end.proofs.Going.{seals, spellable}
 use Rattle.st_end.proofs.Taking.{received_read}

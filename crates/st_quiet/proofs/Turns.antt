@@ -1,10 +1,9 @@
 -- Reads and writes by calls make a trip of what passed.
-use Rattle.std.proofs.Common.{◌≡◌, ℕ, zero, suc, ◌+◌, ◌<◌, ◌≤◌, Bool, true, false, cond, List, length, map, max, refl, sym, ap, subst, ◌∙◌, arith, Option, None, Some, Result, Ok, Err}
+use Rattle.std.proofs.Common.{◌≡◌, ℕ, zero, suc, ◌+◌, ◌≤◌, Bool, true, false, cond, List, length, refl, sym, ap, subst, ◌∙◌, arith, Option, None, Some, Result, Ok, Err}
 use Rattle.std.specs.FinMap as fmap
-use Rattle.st_frames.specs.Frames.{Known, Packet, frames_of, max_packet}
+use Rattle.st_frames.specs.Frames.{Known, frames_of, max_packet}
 use Rattle.st_reassembly.specs.Run.{run}
 use Rattle.st_sender.specs.Sending.{Load, Outgoing, Sending, outgoing_at}
-use Rattle.st_sender.specs.Flights.{flown, highest_end}
 use Rattle.st_sender.specs.Loads.{Sends, with_flight}
 use Rattle.st_sender.specs.Filling.{Fills}
 use Rattle.st_sender.specs.Answering.{after_all_told, landed}
@@ -15,7 +14,6 @@ use Rattle.st_receiver.specs.Limits.{limits, reply_frames}
 use Rattle.st_end.specs.declared.error.EndError.{EndError}
 use Rattle.st_end.specs.declared.error.EndError.TheVariants.{NoStream}
 use Rattle.st_end.specs.State.{EndState}
-use Rattle.st_end.specs.Reading.{read}
 use Rattle.st_quiet.specs.Quiet.{IsQuiet}
 use Rattle.st_quiet.specs.Rounds.{IsWritten, once_fulfilled}
 use Rattle.st_quiet.specs.Mirrored.{IsAbreast, IsReadOut}
@@ -99,13 +97,16 @@ answered_writes n e own p payload told modest quiet unclosed held sends fills =
 
 pub turn_trip : (input : ℕ → List ℕ) (limit : ℕ) (e f g h : EndState) → IsModest (lengths input) → IsQuiet (lengths input) e.sending → IsAbreast (lengths input) e.sending f.receiving → AreJoined e f → CanTell f.receiving → AreHeldBack (lengths input) e.sending
     → Turn input limit e f g h → Trip (lengths input) e f g h × AreHeldBack (lengths input) g.sending
-turn_trip input limit e f g h modest quiet abreast joined tellable held x = (record {
-  passage = w;
-  reads = subst (IsReadOut (once_received f w).receiving) (sym (ap (λ (z : EndState). z.receiving) there)) out;
-  read_alone = alone there;
-  writes = subst (λ (z : EndState). IsWritten (lengths input) (once_answered f w).sending z.sending) (sym x.writes) written.0;
-  written_alone = x.writes ∙ written.1 ∙ ap (λ (z : EndState). record (once_answered f w) { sending = z.sending }) (sym x.writes);
-}, subst (λ (z : EndState). AreHeldBack (lengths input) z.sending) (sym x.writes) (each_held_back input (once_answered f w) can))
+turn_trip input limit e f g h modest quiet abreast joined tellable held x = (
+  record {
+    passage = w;
+    reads = subst (IsReadOut (once_received f w).receiving) (sym (ap (λ (z : EndState). z.receiving) there)) out;
+    read_alone = alone there;
+    writes = subst (λ (z : EndState). IsWritten (lengths input) (once_answered f w).sending z.sending) (sym x.writes) written.0;
+    written_alone = x.writes ∙ written.1 ∙ ap (λ (z : EndState). record (once_answered f w) { sending = z.sending }) (sym x.writes);
+  },
+  subst (λ (z : EndState). AreHeldBack (lengths input) z.sending) (sym x.writes) (each_held_back input (once_answered f w) can),
+)
   where
     w : Passage e
     w = x.passage

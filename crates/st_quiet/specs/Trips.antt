@@ -10,7 +10,7 @@ use Rattle.st_end.specs.Answers.{ended}
 use Rattle.st_end.specs.declared.flight.Open.{Open}
 use Rattle.st_quiet.specs.Mirrored.{IsReadOut}
 use Rattle.st_quiet.specs.Rounds.{IsWritten}
-use Rattle.st_quiet.specs.Calls.{lengths, take_each, write_each}
+use Rattle.st_quiet.specs.Calls.{take_each, write_each}
 
 -- the ends of one connection: what the first sends is for the second
 pub record AreJoined (e f : EndState) : Type 0 where

@@ -172,8 +172,8 @@ pub fn a_read_takes_all()
         → ((q : ℕ) → s.read ≤ q → q < end → (b : ℕ) × (get s.bytes q ≡ Some b)) → ((q : ℕ) → end ≤ q → get s.bytes q ≡ None) → s.read + length run ≡ end }
 {}
 
-/// Between two ends of a connection with nothing between them a trip of bytes is an exchange: the Prepare that goes opens at
-/// the peer as the load, is fulfilled there, and the answer acknowledges it here and raises the limits.
+/// Between two ends of a connection with nothing between them a trip of bytes is an exchange: the load took effect there
+/// before the reads, and was acknowledged here before the writes.
 pub fn a_trip_is_an_exchange()
     ensures { (n : ℕ → ℕ) (e f g h : EndState) → IsQuiet n e.sending → IsAbreast n e.sending f.receiving → AreJoined e f → CanTell f.receiving → Trip n e f g h
         → Exchange n e.sending f.receiving g.sending h.receiving }
@@ -195,10 +195,10 @@ pub fn a_run_is_bounded()
     ensures bounded { (role : Role) (keys : DerivedKeys) (own peer : List ℕ) (config its_config : Config) (input : ℕ → List ℕ) (money : ℕ → ℕ) (count limit m : ℕ) (g h : EndState)
         → MaySend config → IsModest (lengths input) → IsModest money
         → (let e = begin_each input money count (new_end role keys own peer config) in let f = allow_each money 0 65 (new_end (other role) keys peer own its_config) in
-            Turns input limit m e f g h → m + 1 ≤ bound (lengths input) e.sending) }
+        Turns input limit m e f g h → m + 1 ≤ bound (lengths input) e.sending) }
     ensures delivered { (role : Role) (keys : DerivedKeys) (own peer : List ℕ) (config its_config : Config) (input : ℕ → List ℕ) (money : ℕ → ℕ) (count limit m k : ℕ) (g h : EndState) (x : Outgoing)
         → MaySend config → IsModest (lengths input) → IsModest money
         → (let e = begin_each input money count (new_end role keys own peer config) in let f = allow_each money 0 65 (new_end (other role) keys peer own its_config) in
-            Turns input limit m e f g h → work_left (lengths input) g.sending ≡ 0 → outgoing_at g.sending k ≡ Some x
-            → ((incoming_at h.receiving k).held.read ≡ length (input k)) × ((incoming_at h.receiving k).credited ≡ x.offered)) }
+        Turns input limit m e f g h → work_left (lengths input) g.sending ≡ 0 → outgoing_at g.sending k ≡ Some x
+        → ((incoming_at h.receiving k).held.read ≡ length (input k)) × ((incoming_at h.receiving k).credited ≡ x.offered)) }
 {}

@@ -1,8 +1,7 @@
 use Rattle.st_quiet.proofs.laws.calls_open.Goals as goal
 use Rattle.st_quiet.proofs.Beginning.{begun_opening, calls_begun}
 use Rattle.st_quiet.proofs.Allowing.{allowed_tells, begun_abreast, calls_allow}
-use Rattle.st_quiet.proofs.SameEnds.{allow_same, begin_same}
-use Rattle.std.proofs.Common.{◌∙◌, sym}
+use Rattle.st_quiet.proofs.Running.{calls_joined}
 use Rattle.st_end.specs.State.{new_end, parity}
 use Rattle.st_quiet.specs.Calls.{allow_each, begin_each, lengths, other}
 
@@ -16,7 +15,7 @@ returns-clause-abreast g = λ role keys own peer config its_config input money c
     (calls_begun role keys own peer config input money count modest modest_money) (calls_allow (other role) keys peer own its_config money)
 
 pub returns-clause-joined : goal.returns-clause-joined
-returns-clause-joined g = λ role keys own peer config its_config input money count modest_money.
-    (let e = begin_same input money count (new_end role keys own peer config) in
-      let f = allow_same money 0 65 (new_end (other role) keys peer own its_config) in
-      (record { keys = f.keys ∙ sym e.keys; address = e.peer ∙ sym f.own }, allowed_tells (parity (other role)) money (allow_each money 0 65 (new_end (other role) keys peer own its_config)) modest_money (calls_allow (other role) keys peer own its_config money)))
+returns-clause-joined g = λ role keys own peer config its_config input money count modest_money. (
+  calls_joined role keys own peer config its_config input money count,
+  allowed_tells (parity (other role)) money (allow_each money 0 65 (new_end (other role) keys peer own its_config)) modest_money (calls_allow (other role) keys peer own its_config money),
+)
