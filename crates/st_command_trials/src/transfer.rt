@@ -68,6 +68,74 @@ fn ran<
     (status, writer.into_inner(), errors.into_inner())
 }
 
+/// What `receive` comes to, which listens as this word says.
+fn received<
+    N: Net<Listener = TcpListener, Stream = TcpStream>
+        + Files<File = File>
+        + Threads
+        + Wait
+        + std::time::Clock
+        + Sync,
+>(rt: &N, alloc: Global, listen: &str) -> (u8, Vec<u8>, Vec<u8>) {
+    let words = [
+        "ilpstream",
+        "receive",
+        listen,
+        "--token=hub",
+        SECRET,
+        "--address=test.b",
+        "--peer=test.a",
+        "--receive-max=500",
+    ];
+    ran(rt, alloc, &words, b"")
+}
+
+/// What `connector` comes to, which listens as this word says.
+fn connected<
+    N: Net<Listener = TcpListener, Stream = TcpStream>
+        + Files<File = File>
+        + Threads
+        + Wait
+        + std::time::Clock
+        + Sync,
+>(rt: &N, alloc: Global, listen: &str, table: &str) -> (u8, Vec<u8>, Vec<u8>) {
+    let words = [
+        "ilpstream",
+        "connector",
+        listen,
+        "--own=test.hub",
+        "--requests=1000",
+    ];
+    ran(rt, alloc, &words, table.as_bytes())
+}
+
+/// What `send` comes to, whose neighbour this word names, once something listens at both places. Then no request of the
+/// connector is left.
+fn sent<
+    N: Net<Listener = TcpListener, Stream = TcpStream>
+        + Files<File = File>
+        + Threads
+        + Wait
+        + std::time::Clock
+        + Sync,
+>(rt: &N, alloc: Global, end: &str, hub: &str, to: &str, bytes: &[u8]) -> (u8, Vec<u8>, Vec<u8>) {
+    let words = [
+        "ilpstream",
+        "send",
+        to,
+        "--token=alice",
+        SECRET,
+        "--address=test.a",
+        "--peer=test.b",
+        "--money=500",
+    ];
+    await_listener(rt, end);
+    await_listener(rt, hub);
+    let told = ran(rt, alloc, &words, bytes);
+    use_up(rt, hub);
+    told
+}
+
 /// 70,000 bytes and 500 units.
 #[test]
 fn three_commands(rt: HostRuntime) -> Result<(), Fail> {
@@ -81,52 +149,26 @@ fn three_commands(rt: HostRuntime) -> Result<(), Fail> {
     let listen = format!(in alloc; "--listen={end}")?;
     let listen_hub = format!(in alloc; "--listen={hub}")?;
     let to = format!(in alloc; "--to={hub}")?;
-    let receive = [
-        "ilpstream",
-        "receive",
-        listen.as_str(),
-        "--token=hub",
-        SECRET,
-        "--address=test.b",
-        "--peer=test.a",
-        "--receive-max=500",
-    ];
-    let connector = [
-        "ilpstream",
-        "connector",
-        listen_hub.as_str(),
-        "--own=test.hub",
-        "--requests=1000",
-    ];
-    let send = [
-        "ilpstream",
-        "send",
-        to.as_str(),
-        "--token=alice",
-        SECRET,
-        "--address=test.a",
-        "--peer=test.b",
-        "--money=500",
-    ];
-    let ((got, written, _), ((passed, _, _), (sent, _, told))) = thread::join(
+    let ends = thread::map_indices(
         &rt,
-        || ran(&rt, alloc, &receive, b""),
-        || {
-            thread::join(
-                &rt,
-                || ran(&rt, alloc, &connector, table.as_bytes()),
-                || {
-                    await_listener(&rt, end.as_str());
-                    await_listener(&rt, hub.as_str());
-                    let sent = ran(&rt, alloc, &send, &bytes);
-                    use_up(&rt, hub.as_str());
-                    sent
-                },
-            )
+        alloc,
+        3,
+        &|index| {
+            if index == 0 {
+                received(&rt, alloc, listen.as_str())
+            } else if index == 1 {
+                connected(&rt, alloc, listen_hub.as_str(), table.as_str())
+            } else {
+                sent(&rt, alloc, end.as_str(), hub.as_str(), to.as_str(), &bytes)
+            }
         },
-    );
-    assert!(rt; told.is_empty());
-    assert_eq!(rt; (got, passed, sent), (0, 0, 0));
-    assert!(rt; written.as_slice() == bytes.as_slice());
+    )?;
+    let [got, passed, done] = ends.as_slice() else {
+        assert!(rt; false, "three ends");
+        return Ok(());
+    };
+    assert!(rt; done.2.is_empty());
+    assert_eq!(rt; (got.0, passed.0, done.0), (0, 0, 0));
+    assert!(rt; got.1.as_slice() == bytes.as_slice());
     Ok(())
 }
