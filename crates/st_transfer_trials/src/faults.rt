@@ -1,42 +1,55 @@
 //! Transfers that end with a fault, and connections that end alone.
 
-use crate::loopback::{pattern, use_up};
-use crate::sides::{Counter, TURNS, connect, receive, receive_into, send, send_by};
-use st_file::FileError;
-use st_oer::{Counting, FailAt};
+use crate::sides::{Counter, Terms, send, with_money};
+use crate::transfers::{Place, listen, pattern, transfer};
 use st_transfer::TransferError;
 use std::io::Write;
-use std::net::{Net, TcpListener, TcpStream};
+use std::net::{Net, TcpStream};
 use std::test::Fail;
-use std::thread;
 
 /// Nobody listens at the connector's address: the connection fails after as many exchanges as it bears.
 #[test]
 fn a_connector_that_is_not_there_fails_the_connection(rt: HostRuntime) -> Result<(), Fail> {
     let alloc = rt.alloc();
-    let listener = TcpListener::bind(&rt, "127.0.0.1:0")?;
-    let host = format!(in alloc; "{}", listener.local_addr()?)?;
+    let Place { listener, host } = listen(&rt, alloc)?;
     drop(listener);
     let bytes = pattern(alloc, 1_000_000)?;
-    let sent = send(&rt, alloc, host.as_str(), "s0", bytes.as_slice(), 7, 4);
+    let sent = send(
+        &rt,
+        alloc,
+        host.as_str(),
+        bytes.as_slice(),
+        Counter { next: 1 },
+        with_money(7, 4),
+    );
     assert_eq!(rt; sent, Err(TransferError::Failed));
     assert_eq!(rt; sent.err().map(|e| e.number()), Some(58));
     Ok(())
 }
 
-/// A token that the connector does not know: 200 requests are claimed, and nothing is owed.
+/// A token that the receiver, of 500 connections, does not know: nothing comes.
 #[test]
 fn a_wrong_token_fails_the_connection(rt: HostRuntime) -> Result<(), Fail> {
     let alloc = rt.alloc();
-    let between = TcpListener::bind(&rt, "127.0.0.1:0")?;
-    let hop = format!(in alloc; "{}", between.local_addr()?)?;
-    let (owed, sent) = thread::join(
+    let Place { listener, host } = listen(&rt, alloc)?;
+    let host = host.as_str();
+    let terms = Terms {
+        is_known: false,
+        connections: 500,
+        ..with_money(7, 1)
+    };
+    let kept = transfer(
         &rt,
-        || connect(&rt, alloc, between, "127.0.0.1:1", 200, 2),
-        || send(&rt, alloc, hop.as_str(), "s9", b"abc".as_slice(), 7, 1),
+        alloc,
+        listener,
+        host,
+        &[host],
+        b"abc".as_slice(),
+        terms,
     );
-    assert_eq!(rt; sent, Err(TransferError::Failed));
-    assert_eq!(rt; owed, Ok(0));
+    assert_eq!(rt; kept.sent, Err(TransferError::Failed));
+    assert_eq!(rt; kept.told, Err(TransferError::Turns));
+    assert_eq!(rt; kept.bytes.len(), 0);
     Ok(())
 }
 
@@ -52,57 +65,20 @@ fn write_bytes<R: Net>(rt: &R, host: &str, bytes: &[u8]) {
     }
 }
 
-/// A peer that closes at once, one that sends no HTTP, and one that is cut off in its head end alone.
+/// A peer that closes at once, one that sends no HTTP, and one that is cut off in its head, each before the transfer, end
+/// alone.
 #[test]
 fn bad_connections_end_alone(rt: HostRuntime) -> Result<(), Fail> {
     let alloc = rt.alloc();
-    let listener = TcpListener::bind(&rt, "127.0.0.1:0")?;
-    let host = format!(in alloc; "{}", listener.local_addr()?)?;
-    let (kept, sent) = thread::join(
-        &rt,
-        || receive(&rt, alloc, listener, 0, TURNS),
-        || {
-            write_bytes(&rt, host.as_str(), b"");
-            write_bytes(&rt, host.as_str(), b"SSH-2.0-elsewhere\r\n\r\n");
-            write_bytes(&rt, host.as_str(), b"POST /ilp HTTP/1.1\r\nHost: here\r\n");
-            send(&rt, alloc, host.as_str(), "t0", b"abc".as_slice(), 0, 1)
-        },
-    );
-    assert_eq!(rt; sent, Ok(3));
+    let Place { listener, host } = listen(&rt, alloc)?;
+    let host = host.as_str();
+    write_bytes(&rt, host, b"");
+    write_bytes(&rt, host, b"SSH-2.0-elsewhere\r\n\r\n");
+    write_bytes(&rt, host, b"POST /ilp HTTP/1.1\r\nHost: here\r\n");
+    let terms = with_money(0, 1);
+    let kept = transfer(&rt, alloc, listener, host, &[], b"abc".as_slice(), terms);
+    assert_eq!(rt; kept.sent, Ok(3));
     assert_eq!(rt; kept.told, Ok(3));
-    Ok(())
-}
-
-/// The receiver takes 100 of 500 units and all bytes; then the sender idles until its turns are used up, and the receiver
-/// until it has no connection left.
-#[test]
-fn a_receive_max_is_kept(rt: HostRuntime) -> Result<(), Fail> {
-    let alloc = rt.alloc();
-    let listener = TcpListener::bind(&rt, "127.0.0.1:0")?;
-    let host = format!(in alloc; "{}", listener.local_addr()?)?;
-    let random = Counter { next: 1 };
-    let (kept, sent) = thread::join(
-        &rt,
-        || receive(&rt, alloc, listener, 100, 2_000),
-        || {
-            let sent = send_by(
-                &rt,
-                alloc,
-                host.as_str(),
-                "t0",
-                b"abc".as_slice(),
-                random,
-                500,
-                1,
-                1_000,
-            );
-            use_up(&rt, host.as_str());
-            sent
-        },
-    );
-    assert_eq!(rt; sent, Err(TransferError::Turns));
-    assert_eq!(rt; kept.told, Err(TransferError::Turns));
-    assert!(rt; kept.bytes.as_slice() == b"abc".as_slice());
     Ok(())
 }
 
@@ -111,38 +87,14 @@ fn a_receive_max_is_kept(rt: HostRuntime) -> Result<(), Fail> {
 fn no_iv_is_a_fault(rt: HostRuntime) -> Result<(), Fail> {
     let alloc = rt.alloc();
     let random = b"twelve bytes".as_slice();
-    let sent = send_by(
+    let sent = send(
         &rt,
         alloc,
         "127.0.0.1:1",
-        "t0",
         b"abc".as_slice(),
         random,
-        0,
-        1,
-        TURNS,
+        with_money(0, 1),
     );
     assert_eq!(rt; sent, Err(TransferError::IvFault));
-    Ok(())
-}
-
-/// An output that fails at its second write: the first piece is told.
-#[test]
-fn a_failing_output_is_told(rt: HostRuntime) -> Result<(), Fail> {
-    let alloc = rt.alloc();
-    let listener = TcpListener::bind(&rt, "127.0.0.1:0")?;
-    let host = format!(in alloc; "{}", listener.local_addr()?)?;
-    let mut writer = Counting::new(FailAt::new(Vec::new(alloc), 2));
-    let bytes = pattern(alloc, 10_000)?;
-    let (told, sent) = thread::join(
-        &rt,
-        || receive_into(&rt, alloc, listener, 0, &mut writer, TURNS),
-        || send(&rt, alloc, host.as_str(), "t0", bytes.as_slice(), 0, 1),
-    );
-    assert_eq!(rt;
-        told,
-        Err(TransferError::File(FileError::WriteFault(4_096)))
-    );
-    assert_eq!(rt; sent, Err(TransferError::Failed));
     Ok(())
 }

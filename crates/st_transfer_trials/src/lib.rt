@@ -1,10 +1,18 @@
-//! Transfers over loopback: a receiver, a connector and a sender in one process, each in a thread. No contract says what
+//! Transfers over loopback: a receiver, connectors and a sender in one process, each in a thread. No contract says what
 //! goes over a socket: these tests do.
 #![tactic(auto)]
 
 #[cfg(test)]
+mod aborts;
+#[cfg(test)]
+mod chains;
+#[cfg(test)]
+mod devices;
+#[cfg(test)]
 mod faults;
 #[cfg(test)]
-mod loopback;
+mod pairs;
 #[cfg(test)]
 mod sides;
+#[cfg(test)]
+mod transfers;

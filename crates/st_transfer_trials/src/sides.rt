@@ -1,9 +1,12 @@
-//! The sides of a transfer, with the addresses and the secret of the tests.
+//! The sides of a transfer, with the addresses, the tokens and the secret of the tests.
 ghost use Rattle.std.specs.Prelude.{◌≡◌, IfOk};
 ghost use Rattle.st_desk.specs.Desk as desk;
+ghost use Rattle.st_hub.specs.Hub as hub;
 
+use st_desk::Owed;
+use st_end::EndState;
 use st_hop::{Account, HopError, HopState, Route};
-use st_oer::{Counting, is_address};
+use st_oer::{Counting, Rate, is_address};
 use st_sender::EndConfig;
 use st_transfer::{
     Neighbour, RuntimeClock, TransferError, client_end, connector_on, receive_on, send_on,
@@ -12,18 +15,47 @@ use st_transfer::{
 use std::alloc::Global;
 use std::io;
 use std::io::{Read, Write};
-use std::net::{Net, TcpListener, TcpStream};
+use std::net::{Net, OpenListener, OpenStream, TcpListener, TcpStream};
 use std::sync::Wait;
 use std::thread::Threads;
 
 /// More calls of a stream than one exchange takes, and more turns than a transfer does.
 pub(crate) const TURNS: u64 = 1_000_000;
 
+/// By which each side's requests are known at the next one.
+pub(crate) const TOKEN: &str = "t0";
+
 const SECRET: [u8; 32] = [7; 32];
 
 const SENDER: &str = "test.a";
 
 const RECEIVER: &str = "test.b";
+
+/// What a sender offers, how much of it has to arrive, whether its token is known, and by how many workers it sends in how
+/// many turns; and how much a receiver takes, in how many connections.
+#[derive(Clone, Copy)]
+pub(crate) struct Terms {
+    pub(crate) money: u64,
+    pub(crate) least: Rate,
+    pub(crate) is_known: bool,
+    pub(crate) workers: u8,
+    pub(crate) turns: u64,
+    pub(crate) receive_max: u64,
+    pub(crate) connections: u64,
+}
+
+/// So much money, all of which has to arrive, by so many workers, and as many turns and connections as it takes.
+pub(crate) fn with_money(money: u64, workers: u8) -> Terms {
+    Terms {
+        money,
+        least: Rate::new(1, 1).unwrap(),
+        is_known: true,
+        workers,
+        turns: TURNS,
+        receive_max: money,
+        connections: TURNS,
+    }
+}
 
 /// The packets of a connection, in all and in flight.
 fn config() -> Option<EndConfig> {
@@ -46,38 +78,17 @@ impl Read for Counter {
     }
 }
 
-/// What a receiver came to, and what it wrote.
-#[derive(Drop)]
-pub(crate) struct Kept {
-    pub(crate) told: Result<u64, TransferError>,
-    pub(crate) bytes: Vec<u8>,
-}
-
-/// The receiver `test.b`, which knows its peer by the token `t0` and takes at most so many connections.
-pub(crate) fn receive<R: std::time::Clock>(
+/// The receiver `test.b`, at this listener and into this writer.
+pub(crate) fn receive<L: OpenListener + Drop, W: Write, R: std::time::Clock>(
     rt: &R,
     alloc: Global,
-    listener: TcpListener,
-    receive_max: u64,
-    turns: u64,
-) -> Kept {
-    let mut writer = Counting::new(Vec::new(alloc));
-    let told = receive_into(rt, alloc, listener, receive_max, &mut writer, turns);
-    Kept {
-        told,
-        bytes: writer.into_inner(),
-    }
-}
-
-/// The same, into this writer.
-pub(crate) fn receive_into<W: Write, R: std::time::Clock>(
-    rt: &R,
-    alloc: Global,
-    listener: TcpListener,
-    receive_max: u64,
+    listener: L,
     writer: &mut Counting<W>,
-    turns: u64,
-) -> Result<u64, TransferError> {
+    terms: Terms,
+) -> Result<u64, TransferError>
+where
+    L::Stream: Read + Write + OpenStream,
+{
     let Some(config) = config() else {
         return Err(TransferError::NoMemory);
     };
@@ -87,105 +98,113 @@ pub(crate) fn receive_into<W: Write, R: std::time::Clock>(
     match server_end(alloc, SECRET, RECEIVER, SENDER, config) {
         Ok(end) => {
             let clock = RuntimeClock::new(rt);
+            let Terms {
+                receive_max,
+                connections,
+                ..
+            } = terms;
             receive_on(
                 alloc,
                 listener,
-                "t0",
+                TOKEN,
                 end,
                 receive_max,
                 writer,
                 clock,
-                turns,
+                connections,
             )
         }
         Err(error) => Err(TransferError::End(error)),
     }
 }
 
-/// The hop `test.h`, with the sender behind account 0 and the receiver behind account 1.
-fn new_hop(alloc: Global) -> Result<HopState<Global>, HopError>
+/// A hop with the sender's side behind account 0, and the receiver's behind account 1 at this rate.
+fn new_hop(alloc: Global, rate: Rate) -> Result<HopState<Global>, HopError>
     ensures { IfOk result desk.IsNew }
 {
     let account = Account {
         limit: 1_000_000,
         max_packet: 1_000_000,
     };
-    let routes = [Route::one_to_one("test.b", 1)];
-    HopState::new(alloc, "test.h", &[account, account], &routes)
+    let route = Route {
+        prefix: RECEIVER,
+        account: 1,
+        rate,
+    };
+    HopState::new(alloc, "test.h", &[account, account], &[route])
 }
 
-/// A connector that takes so many requests, from the sender by the token `s0`. It tells what all accounts owe.
+/// A connector of 1,000 requests and four workers, with the receiver's side at the host `next`, that exchanges amounts at
+/// this rate. It tells what all accounts owe, and what it owes them.
 pub(crate) fn connect<
     R: Net<Listener = TcpListener, Stream = TcpStream> + Threads + Wait + std::time::Clock + Sync,
 >(
     rt: &R,
     alloc: Global,
     listener: TcpListener,
-    receiver: &str,
-    requests: u64,
-    workers: u8,
-) -> Result<u64, TransferError> {
-    let Ok(hop) = new_hop(alloc) else {
+    next: &str,
+    rate: Rate,
+) -> Result<Owed, TransferError> {
+    let Ok(hop) = new_hop(alloc, rate) else {
         return Err(TransferError::NoMemory);
     };
-    let neighbours = [None, Neighbour::new(receiver, "t0")];
-    let owed = connector_on(
+    let neighbours = [None, Neighbour::new(next, TOKEN)];
+    connector_on(
         rt,
         alloc,
         listener,
         hop,
-        &["s0", "s1"],
+        &[TOKEN, "t1"],
         &neighbours,
-        requests,
-        workers,
+        1_000,
+        4,
         TURNS,
-    )?;
-    Ok(owed.claims)
+    )
 }
 
-/// The sender `test.a`, with so much money, by so many workers, to a neighbour that knows it by this token.
+/// The end of the sender `test.a`.
+pub(crate) fn sender(alloc: Global, least: Rate) -> Result<EndState<Global>, TransferError>
+    ensures { IfOk result hub.IsNew }
+{
+    let Some(config) = config() else {
+        return Err(TransferError::NoMemory);
+    };
+    if !is_address(SENDER) || !is_address(RECEIVER) {
+        return Err(TransferError::NoMemory);
+    }
+    match client_end(alloc, SECRET, SENDER, RECEIVER, config.with_least(least)) {
+        Ok(end) => Ok(end),
+        Err(error) => Err(TransferError::End(error)),
+    }
+}
+
+/// The sender `test.a`, by the neighbour `next`, with IVs from this reader.
 pub(crate) fn send<
-    I: Read + Drop,
-    R: Net<Listener = TcpListener, Stream = TcpStream> + Threads + Wait + std::time::Clock + Sync,
->(
-    rt: &R,
-    alloc: Global,
-    host: &str,
-    token: &str,
-    input: I,
-    money: u64,
-    workers: u8,
-) -> Result<u64, TransferError> {
-    let random = Counter { next: 1 };
-    send_by(rt, alloc, host, token, input, random, money, workers, TURNS)
-}
-
-/// The same, with IVs from this reader and so many turns.
-pub(crate) fn send_by<
     I: Read + Drop,
     G: Read + Drop + Send,
     R: Net<Listener = TcpListener, Stream = TcpStream> + Threads + Wait + std::time::Clock + Sync,
 >(
     rt: &R,
     alloc: Global,
-    host: &str,
-    token: &str,
+    next: &str,
     input: I,
     random: G,
-    money: u64,
-    workers: u8,
-    turns: u64,
+    terms: Terms,
 ) -> Result<u64, TransferError> {
-    let (Some(config), Some(neighbour)) = (config(), Neighbour::new(host, token)) else {
+    let Terms {
+        money,
+        least,
+        is_known,
+        workers,
+        turns,
+        ..
+    } = terms;
+    let token = if is_known { TOKEN } else { "t9" };
+    let Some(neighbour) = Neighbour::new(next, token) else {
         return Err(TransferError::NoMemory);
     };
-    if !is_address(SENDER) || !is_address(RECEIVER) {
-        return Err(TransferError::NoMemory);
-    }
-    match client_end(alloc, SECRET, SENDER, RECEIVER, config) {
-        Ok(end) => send_on(
-            rt, alloc, end, neighbour, input, random, money, workers, turns,
-        ),
-        Err(error) => Err(TransferError::End(error)),
-    }
+    let end = sender(alloc, least)?;
+    send_on(
+        rt, alloc, end, neighbour, input, random, money, workers, turns,
+    )
 }

@@ -1,0 +1,105 @@
+//! A sender that aborts its stream.
+
+use crate::sides::{TOKEN, TURNS, receive, sender, with_money};
+use crate::transfers::{Place, listen};
+use st_desk::{Clock, Link};
+use st_end::{EndState, Flight};
+use st_file::FileError;
+use st_http::is_field_text;
+use st_link::HttpLink;
+use st_oer::{Counting, Rate};
+use st_transfer::{RuntimeClock, TransferError};
+use std::alloc::Global;
+use std::net::Net;
+use std::test::Fail;
+use std::thread;
+
+/// A flight that is abandoned where it is let go.
+struct Waiting {
+    flight: Flight,
+}
+
+impl Drop for Waiting {
+    fn drop(self) {
+        let Waiting { flight } = self;
+        flight.abandon();
+    }
+}
+
+impl Waiting {
+    fn spend(self) -> Flight {
+        let Waiting { flight } = self;
+        flight
+    }
+}
+
+/// The answer of the peer to a flight: whether it was a Fulfill that was taken.
+fn takes(end: &mut EndState<Global>, waiting: Waiting, answer: Option<Vec<u8>>) -> bool {
+    let flight = waiting.spend();
+    if !end.is_open(&flight) {
+        flight.abandon();
+        return false;
+    }
+    let Some(mut bytes) = answer else {
+        end.fault(flight);
+        return false;
+    };
+    end.answer(flight, &mut bytes)
+}
+
+/// Sends the next packet, and takes its answer: whether it was a Fulfill.
+fn send_next<N: Net + std::time::Clock>(
+    net: &N,
+    end: &mut EndState<Global>,
+    link: &mut HttpLink<'_, N, Global>,
+    number: u8,
+) -> bool {
+    let now = RuntimeClock::new(net).now();
+    let Ok(next) = end.send([number; 12], now) else {
+        return false;
+    };
+    let Some((flight, bytes)) = next else {
+        return false;
+    };
+    let waiting = Waiting { flight };
+    let answer = link.exchange(&bytes).ok();
+    takes(end, waiting, answer)
+}
+
+/// Sends "abc" on stream 1, and then aborts it with code 9: whether both were fulfilled.
+fn send_and_abort<N: Net + std::time::Clock>(net: &N, alloc: Global, host: &str) -> bool {
+    if !is_field_text(host) || !is_field_text(TOKEN) {
+        return false;
+    }
+    let Ok(mut link) = HttpLink::new(alloc, alloc, net, host, TOKEN, TURNS) else {
+        return false;
+    };
+    let Ok(mut end) = sender(alloc, Rate::new(1, 1).unwrap()) else {
+        return false;
+    };
+    if end.open_stream() != Ok(1) || end.write(1, b"abc").is_err() {
+        return false;
+    }
+    if !send_next(net, &mut end, &mut link, 1) || end.abort(1, 9).is_err() {
+        return false;
+    }
+    send_next(net, &mut end, &mut link, 2)
+}
+
+/// The receiver writes what came before the abort, answers the request that brought it, and then tells it.
+#[test]
+fn an_abort_is_told_once_it_was_answered(rt: HostRuntime) -> Result<(), Fail> {
+    let alloc = rt.alloc();
+    let Place { listener, host } = listen(&rt, alloc)?;
+    let mut writer = Counting::new(Vec::new(alloc));
+    let (told, fulfilled) = thread::join(
+        &rt,
+        || receive(&rt, alloc, listener, &mut writer, with_money(0, 1)),
+        || send_and_abort(&rt, alloc, host.as_str()),
+    );
+    assert!(rt; fulfilled);
+    assert_eq!(rt; told, Err(TransferError::File(FileError::Aborted(9, 3))));
+    assert_eq!(rt; told.err().map(|e| e.number()), Some(92));
+    assert!(rt; writer.into_inner().as_slice() == b"abc".as_slice());
+    Ok(())
+}

@@ -1,0 +1,119 @@
+//! A receiver and a sender at work together, each in a thread.
+
+use crate::sides::{Counter, Terms, receive, send};
+use st_oer::Counting;
+use st_transfer::TransferError;
+use std::alloc::Global;
+use std::io::{Read, Write};
+use std::net::{Net, TcpListener, TcpStream};
+use std::sync::Wait;
+use std::test::Fail;
+use std::thread;
+use std::thread::Threads;
+
+/// So many bytes that tell their places.
+pub(crate) fn pattern(alloc: Global, n: u64) -> Result<Vec<u8>, Fail> {
+    let mut bytes = Vec::new(alloc);
+    for i in 0..n {
+        bytes.push((i % 251) as u8)?;
+    }
+    Ok(bytes)
+}
+
+/// A listener at a port that the kernel chose, and where it is reached.
+#[derive(Drop)]
+pub(crate) struct Place {
+    pub(crate) listener: TcpListener,
+    pub(crate) host: String,
+}
+
+/// Listens at a new place on loopback.
+pub(crate) fn listen<R: Net<Listener = TcpListener, Stream = TcpStream>>(
+    rt: &R,
+    alloc: Global,
+) -> Result<Place, Fail> {
+    let listener = TcpListener::bind(rt, "127.0.0.1:0")?;
+    let host = format!(in alloc; "{}", listener.local_addr()?)?;
+    Ok(Place { listener, host })
+}
+
+/// Opens and drops connections until one is refused.
+fn use_up<R: Net>(rt: &R, host: &str) {
+    for _ in 0..100_000u32 {
+        if TcpStream::connect(rt, host).is_err() {
+            return;
+        }
+    }
+}
+
+/// Sends this input by the neighbour `next`, and then uses up the connections that each of the hosts still waits for.
+fn send_all<
+    I: Read + Drop,
+    R: Net<Listener = TcpListener, Stream = TcpStream> + Threads + Wait + std::time::Clock + Sync,
+>(
+    rt: &R,
+    alloc: Global,
+    next: &str,
+    hosts: &[&str],
+    input: I,
+    terms: Terms,
+) -> Result<u64, TransferError> {
+    let sent = send(rt, alloc, next, input, Counter { next: 1 }, terms);
+    for host in hosts {
+        use_up(rt, host);
+    }
+    sent
+}
+
+/// What a receiver came to, what it wrote, and what the sender came to.
+#[derive(Drop)]
+pub(crate) struct Kept {
+    pub(crate) told: Result<u64, TransferError>,
+    pub(crate) bytes: Vec<u8>,
+    pub(crate) sent: Result<u64, TransferError>,
+}
+
+/// A transfer of this input, by the neighbour `next`, to a receiver that writes here: what the receiver came to, and what
+/// the sender. What the hosts still wait for is used up then.
+pub(crate) fn transfer_into<
+    I: Read + Drop + Send,
+    W: Write + Send,
+    R: Net<Listener = TcpListener, Stream = TcpStream> + Threads + Wait + std::time::Clock + Sync,
+>(
+    rt: &R,
+    alloc: Global,
+    listener: TcpListener,
+    next: &str,
+    hosts: &[&str],
+    input: I,
+    writer: &mut Counting<W>,
+    terms: Terms,
+) -> (Result<u64, TransferError>, Result<u64, TransferError>) {
+    thread::join(
+        rt,
+        || receive(rt, alloc, listener, writer, terms),
+        || send_all(rt, alloc, next, hosts, input, terms),
+    )
+}
+
+/// The same, to a receiver whose output takes all.
+pub(crate) fn transfer<
+    I: Read + Drop + Send,
+    R: Net<Listener = TcpListener, Stream = TcpStream> + Threads + Wait + std::time::Clock + Sync,
+>(
+    rt: &R,
+    alloc: Global,
+    listener: TcpListener,
+    next: &str,
+    hosts: &[&str],
+    input: I,
+    terms: Terms,
+) -> Kept {
+    let mut writer = Counting::new(Vec::new(alloc));
+    let (told, sent) = transfer_into(rt, alloc, listener, next, hosts, input, &mut writer, terms);
+    Kept {
+        told,
+        bytes: writer.into_inner(),
+        sent,
+    }
+}
