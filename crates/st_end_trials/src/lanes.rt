@@ -1,6 +1,6 @@
 //! What the user of an end does on one stream.
 
-use crate::numbers::Numbers;
+use seeds::Numbers;
 use st_end::{EndError, EndState};
 use st_receiver::Got;
 use std::alloc::Global;

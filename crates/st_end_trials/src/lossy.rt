@@ -1,8 +1,8 @@
 //! Two ends between which Prepares and answers are lost, repeated and reordered, by a seed. At the end everything passes.
 
 use crate::lanes::Lane;
-use crate::numbers::Numbers;
 use crate::sides::Side;
+use seeds::Numbers;
 use st_sender::EndConfig;
 use std::alloc::Global;
 use std::process::Abort;

@@ -97,7 +97,7 @@ fn ready<A: Allocator + Copy>(
 }
 
 /// A number that differs, as good as always, where the bytes differ (FNV-1a).
-fn digest(bytes: &[u8]) -> u64 {
+pub(crate) fn digest(bytes: &[u8]) -> u64 {
     let mut digest = 0xcbf2_9ce4_8422_2325_u64;
     for &byte in bytes {
         digest = (digest ^ u64::from(byte)).wrapping_mul(0x0100_0000_01b3);
@@ -230,7 +230,7 @@ fn flown<A: Allocator + Copy>(
 }
 
 /// Takes a Fulfill, or a fault where there is none.
-fn land<A: Allocator + Copy>(
+pub(crate) fn land<A: Allocator + Copy>(
     rt: &impl Abort,
     client: &mut EndState<A>,
     waiting: Waiting,

@@ -2,8 +2,8 @@
 
 use crate::ends::new_end;
 use crate::lanes::Lane;
-use crate::numbers::Numbers;
 use crate::waiting::Waiting;
+use seeds::Numbers;
 use st_end::{EndState, Received, Role};
 use st_ilp::Moment;
 use st_sender::EndConfig;
