@@ -4,6 +4,7 @@ use crate::LAST;
 use refusing::Refusing;
 use st_oer::{OerError, put_length, put_octets, put_u8, put_u64, put_var_uint};
 use std::alloc::{Allocator, Global};
+use std::process::Abort;
 use std::test::Fail;
 
 /// A field to be appended.
@@ -26,7 +27,53 @@ fn put<A: Allocator>(out: &mut Vec<u8, A>, field: Field<'_>) -> Result<(), OerEr
     }
 }
 
-/// Each request of an appended field is refused in turn: the vector is as before, and the same call then succeeds.
+/// Whether a field that is appended meets the refusal of request `n`. If so the vector has its length, and the same call then
+/// succeeds.
+fn meets<A: Allocator>(
+    rt: &impl Abort,
+    heap: &Refusing<Global>,
+    out: &mut Vec<u8, A>,
+    field: Field<'_>,
+    n: u64,
+) -> bool {
+    let length = out.len();
+    heap.refuse_only(n);
+    let answer = put(out, field);
+    let met = heap.has_refused();
+    heap.refuse_none();
+    if met {
+        assert_eq!(rt; answer, Err(OerError::NoMemory), "at {n}");
+        assert_eq!(rt; out.len(), length, "at {n}");
+        assert!(rt; put(out, field).is_ok(), "at {n}");
+    } else {
+        assert!(rt; answer.is_ok(), "at {n}");
+    }
+    met
+}
+
+/// Each request of a field that is appended to these bytes is refused in turn, and in the end this stands there: the last
+/// request that was refused.
+fn refuse_each(
+    rt: &impl Abort,
+    heap: &Refusing<Global>,
+    front: &[u8],
+    field: Field<'_>,
+    want: &[u8],
+) -> Result<u64, OerError> {
+    let mut most = 0;
+    for n in 1..=LAST {
+        heap.refuse_none();
+        let mut out = Vec::with_capacity(heap, front.len())?;
+        out.extend_from_slice(front)?;
+        if meets(rt, heap, &mut out, field, n) {
+            most = n;
+        }
+        assert!(rt; out.as_slice() == want, "at {n}");
+    }
+    Ok(most)
+}
+
+/// The vector is as before, and the same call then succeeds.
 #[test]
 fn a_field_is_appended_or_not(rt: HostRuntime) -> Result<(), Fail> {
     let rows: [(Field<'_>, &[u8]); 6] = [
@@ -39,25 +86,7 @@ fn a_field_is_appended_or_not(rt: HostRuntime) -> Result<(), Fail> {
     ];
     let heap: Refusing<Global> = Refusing::new(rt.alloc());
     for (field, bytes) in rows {
-        let mut most = 0;
-        for n in 1..=LAST {
-            heap.refuse_none();
-            let mut out = Vec::with_capacity(&heap, 2)?;
-            out.extend_from_slice(b"ab")?;
-            heap.refuse_only(n);
-            let answer = put(&mut out, field);
-            let met = heap.has_refused();
-            heap.refuse_none();
-            if met {
-                most = n;
-                assert_eq!(rt; answer, Err(OerError::NoMemory), "at {n}");
-                assert!(rt; out.as_slice() == b"ab".as_slice(), "at {n}");
-                put(&mut out, field)?;
-            } else {
-                assert_eq!(rt; answer, Ok(()), "at {n}");
-            }
-            assert!(rt; out.as_slice() == bytes, "at {n}");
-        }
+        let most = refuse_each(&rt, &heap, b"ab", field, bytes)?;
         assert!(rt; 0 < most && most < LAST);
     }
     assert_eq!(rt; OerError::NoMemory.number(), 5);
@@ -68,24 +97,10 @@ fn a_field_is_appended_or_not(rt: HostRuntime) -> Result<(), Fail> {
 #[test]
 fn long_octets_are_appended_or_not(rt: HostRuntime) -> Result<(), Fail> {
     let text = [0xab; 300];
+    let mut want = b"\x82\x01\x2c".to_vec(rt.alloc())?;
+    want.extend_from_slice(&text)?;
     let heap: Refusing<Global> = Refusing::new(rt.alloc());
-    let mut most = 0;
-    for n in 1..=LAST {
-        heap.refuse_none();
-        let mut out = Vec::new(&heap);
-        heap.refuse_only(n);
-        let answer = put_octets(&mut out, &text);
-        let met = heap.has_refused();
-        heap.refuse_none();
-        if met {
-            most = n;
-            assert_eq!(rt; answer, Err(OerError::NoMemory), "at {n}");
-            assert!(rt; out.as_slice().is_empty(), "at {n}");
-            put_octets(&mut out, &text)?;
-        }
-        let bytes = out.as_slice().strip_prefix(b"\x82\x01\x2c".as_slice());
-        assert!(rt; bytes == Some(text.as_slice()), "at {n}");
-    }
+    let most = refuse_each(&rt, &heap, b"", Field::Octets(&text), &want)?;
     assert!(rt; 1 < most && most < LAST);
     Ok(())
 }

@@ -10,29 +10,26 @@ use std::io;
 use std::io::{ErrorKind, Read, Write};
 use std::test::Fail;
 
-const LONG_LIMIT: &[u8] = &[9, 1, 0, 0, 0, 0, 0, 0, 0, 0];
+const LONG_LIMIT: &[u8] = b"\x09\x01\0\0\0\0\0\0\0\0";
 
 #[test]
 fn numbers_are_read(rt: HostRuntime) {
     let rows: [(&[u8], Result<u64, OerError>); 15] = [
-        (&[1, 0], Ok(0)),
-        (&[1, 0x7f], Ok(127)),
-        (&[1, 0x80], Ok(128)),
-        (&[2, 1, 0], Ok(256)),
-        (&[1, 5, 0xff], Ok(5)),
-        (
-            &[8, 0xff, 0xff, 0xff, 0xff, 0xff, 0xff, 0xff, 0xff],
-            Ok(u64::MAX),
-        ),
-        (&[2, 0, 1], Err(OerError::LongNumber)),
-        (&[0], Err(OerError::LongNumber)),
-        (&[0x81, 5], Err(OerError::LongLength)),
-        (&[0x80], Err(OerError::LongLength)),
-        (&[2, 1], Err(OerError::Short)),
-        (&[], Err(OerError::Short)),
-        (&[0x82, 1], Err(OerError::Short)),
-        (&[0x82, 0, 200], Err(OerError::LongLength)),
-        (&[0x89], Err(OerError::TooBig)),
+        (b"\x01\0", Ok(0)),
+        (b"\x01\x7f", Ok(127)),
+        (b"\x01\x80", Ok(128)),
+        (b"\x02\x01\0", Ok(256)),
+        (b"\x01\x05\xff", Ok(5)),
+        (b"\x08\xff\xff\xff\xff\xff\xff\xff\xff", Ok(u64::MAX)),
+        (b"\x02\0\x01", Err(OerError::LongNumber)),
+        (b"\0", Err(OerError::LongNumber)),
+        (b"\x81\x05", Err(OerError::LongLength)),
+        (b"\x80", Err(OerError::LongLength)),
+        (b"\x02\x01", Err(OerError::Short)),
+        (b"", Err(OerError::Short)),
+        (b"\x82\x01", Err(OerError::Short)),
+        (b"\x82\0\xc8", Err(OerError::LongLength)),
+        (b"\x89", Err(OerError::TooBig)),
     ];
     for (bytes, want) in rows {
         let mut cut = Cut::new(bytes);
@@ -42,15 +39,19 @@ fn numbers_are_read(rt: HostRuntime) {
         }
         assert_eq!(rt; Cut::new(bytes).limit(), want, "limit of {bytes:?}");
     }
-    assert_eq!(rt; Cut::new(&[9, 0]).var_uint(), Err(OerError::TooBig));
-    assert_eq!(rt; Cut::new(&[9, 0]).limit(), Err(OerError::Short));
+}
+
+#[test]
+fn numbers_of_nine_bytes_are_read(rt: HostRuntime) {
+    assert_eq!(rt; Cut::new(b"\x09\0").var_uint(), Err(OerError::TooBig));
+    assert_eq!(rt; Cut::new(b"\x09\0").limit(), Err(OerError::Short));
     assert_eq!(rt; Cut::new(LONG_LIMIT).var_uint(), Err(OerError::TooBig));
     assert_eq!(rt;
         Cut::new(LONG_LIMIT).limit(),
         Ok(18_446_744_073_709_551_615)
     );
-    let with_zero = [9, 0, 1, 0, 0, 0, 0, 0, 0, 0];
-    assert_eq!(rt; Cut::new(&with_zero).limit(), Err(OerError::LongNumber));
+    let with_zero = b"\x09\0\x01\0\0\0\0\0\0\0";
+    assert_eq!(rt; Cut::new(with_zero).limit(), Err(OerError::LongNumber));
 }
 
 #[test]
@@ -71,14 +72,11 @@ fn a_cut_moves_on(rt: HostRuntime) {
 #[test]
 fn hostile_octets_are_refused(rt: HostRuntime) {
     let rows: [(&[u8], OerError); 5] = [
-        (
-            &[0x88, 0xff, 0xff, 0xff, 0xff, 0xff, 0xff, 0xff, 0xff],
-            OerError::Short,
-        ),
-        (&[0x89, 1, 0, 0, 0, 0, 0, 0, 0, 0], OerError::TooBig),
-        (&[0x80], OerError::LongLength),
-        (&[0x81, 0x7f], OerError::LongLength),
-        (&[3, 1, 2], OerError::Short),
+        (b"\x88\xff\xff\xff\xff\xff\xff\xff\xff", OerError::Short),
+        (b"\x89\x01\0\0\0\0\0\0\0\0", OerError::TooBig),
+        (b"\x80", OerError::LongLength),
+        (b"\x81\x7f", OerError::LongLength),
+        (b"\x03\x01\x02", OerError::Short),
     ];
     for (bytes, want) in rows {
         let mut cut = Cut::new(bytes);
@@ -100,10 +98,8 @@ fn fields_are_written(rt: HostRuntime) -> Result<(), Fail> {
     put_length(&mut out, 127)?;
     put_length(&mut out, 128)?;
     put_length(&mut out, 65_478)?;
-    let want = [
-        0x14, 1, 2, 3, 4, 5, 6, 7, 8, 1, 0, 1, 0x7f, 1, 0x80, 2, 1, 0, 8, 0xff, 0xff, 0xff, 0xff,
-        0xff, 0xff, 0xff, 0xff, 2, 0x68, 0x69, 0, 0x7f, 0x81, 0x80, 0x82, 0xff, 0xc6,
-    ];
+    let want =
+        b"\x14\x01\x02\x03\x04\x05\x06\x07\x08\x01\0\x01\x7f\x01\x80\x02\x01\0\x08\xff\xff\xff\xff\xff\xff\xff\xff\x02\x68\x69\0\x7f\x81\x80\x82\xff\xc6";
     assert_eq!(rt; out.as_slice(), want.as_slice());
     Ok(())
 }

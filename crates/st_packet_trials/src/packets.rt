@@ -207,11 +207,9 @@ fn a_reject_with_room_asks_for_no_memory(rt: HostRuntime) -> Result<(), Fail> {
     Ok(())
 }
 
-/// A packet is appended behind bytes: it asks once, for all of its room, or not at all where the room is there.
+/// A packet is appended behind bytes: it asks once, for all of its room.
 #[test]
 fn a_packet_is_appended_or_not(rt: HostRuntime) -> Result<(), Fail> {
-    let size = packet_len(1, 0, &FRAMES)?;
-    assert_eq!(rt; size, PACKET.len());
     let heap: Refusing<Global> = Refusing::new(rt.alloc());
     let mut out = b"ab".to_vec(&heap)?;
     heap.refuse_from(1);
@@ -223,6 +221,15 @@ fn a_packet_is_appended_or_not(rt: HostRuntime) -> Result<(), Fail> {
     put_packet(&mut out, 12, 1, 0, &FRAMES)?;
     assert_eq!(rt; heap.asked(), 1);
     assert!(rt; is_behind(&out, b"ab", PACKET));
+    Ok(())
+}
+
+/// It asks for no memory where the room is there.
+#[test]
+fn a_packet_with_room_asks_for_no_memory(rt: HostRuntime) -> Result<(), Fail> {
+    let size = packet_len(1, 0, &FRAMES)?;
+    assert_eq!(rt; size, PACKET.len());
+    let heap: Refusing<Global> = Refusing::new(rt.alloc());
     for front in [&FRONT[..0], &FRONT[..1], &FRONT[..28], &FRONT] {
         heap.refuse_none();
         let mut room = front.to_vec(&heap)?;
@@ -235,15 +242,14 @@ fn a_packet_is_appended_or_not(rt: HostRuntime) -> Result<(), Fail> {
     Ok(())
 }
 
-/// Packets with as much data as there may be are written where there is memory, and ask for it once. The fronts are the
-/// fields of RFC 0027 and RFC 0029, section 5, with their lengths in hexadecimal.
+/// A Prepare with as much data as there may be is written where there is memory, and asks for it once. The front is the fields
+/// of RFC 0027 with their lengths in hexadecimal.
 #[test]
-fn the_longest_packets_are_written(rt: HostRuntime) -> Result<(), Fail> {
+fn the_longest_prepare_is_written(rt: HostRuntime) -> Result<(), Fail> {
     let heap: Refusing<Global> = Refusing::new(rt.alloc());
-    let data = vec![in rt.alloc(); 0xa5u8; MAX_DATA + 1]?;
-    let most = &data[..32_767];
+    let data = Vec::from_elem(rt.alloc(), 0xa5, 32_767)?;
     let offer = Prepare {
-        payload: most,
+        payload: &data,
         ..OFFER
     };
     heap.refuse_only(2);
@@ -251,25 +257,36 @@ fn the_longest_packets_are_written(rt: HostRuntime) -> Result<(), Fail> {
     assert_eq!(rt; heap.asked(), 1);
     let front = b"\x0c\x82\x80\x45\0\0\0\0\0\0\0\x0520240102030405006\
 \0\0\0\0\0\0\0\0\0\0\0\0\0\0\0\0\0\0\0\0\0\0\0\0\0\0\0\0\0\0\0\0\x09example.b\x82\x7f\xff";
-    assert!(rt; is_behind(&prepare, front, most));
+    assert!(rt; is_behind(&prepare, front, &data));
+    Ok(())
+}
+
+#[test]
+fn a_longer_prepare_is_refused(rt: HostRuntime) -> Result<(), Fail> {
+    let data = Vec::from_elem(rt.alloc(), 0xa5, MAX_DATA + 1)?;
     let long = Prepare {
         payload: &data,
         ..OFFER
     };
-    assert_eq!(rt;
-        write_prepare(&heap, &long).err(),
-        Some(IlpError::DataTooLong)
-    );
+    let refused = write_prepare(rt.alloc(), &long).err();
+    assert_eq!(rt; refused, Some(IlpError::DataTooLong));
+    Ok(())
+}
 
+/// An answer of each kind with as much data as there may be.
+#[test]
+fn the_longest_answers_are_written(rt: HostRuntime) -> Result<(), Fail> {
+    let heap: Refusing<Global> = Refusing::new(rt.alloc());
+    let data = Vec::from_elem(rt.alloc(), 0xa5, 32_767)?;
     let fulfill = Answer::Fulfill {
         fulfillment: *b"0123456789abcdef0123456789abcdef",
-        payload: most,
+        payload: &data,
     };
     let reject = Answer::Reject {
         code: *b"F99",
         by: "",
         message: "",
-        payload: most,
+        payload: &data,
     };
     let fronts: [(Answer<'_>, &[u8]); 2] = [
         (
@@ -282,12 +299,12 @@ fn the_longest_packets_are_written(rt: HostRuntime) -> Result<(), Fail> {
         heap.refuse_only(2);
         let written = write_answer(&heap, &answer)?;
         assert_eq!(rt; heap.asked(), 1);
-        assert!(rt; is_behind(&written, front, most));
+        assert!(rt; is_behind(&written, front, &data));
     }
     Ok(())
 }
 
-/// A STREAM packet of 32,739 bytes is written with one request, and one byte more is refused with none.
+/// A STREAM packet of 32,739 bytes (RFC 0029, section 5) is written with one request.
 #[test]
 fn the_longest_stream_packet_is_written(rt: HostRuntime) -> Result<(), Fail> {
     let heap: Refusing<Global> = Refusing::new(rt.alloc());
@@ -303,6 +320,13 @@ fn the_longest_stream_packet_is_written(rt: HostRuntime) -> Result<(), Fail> {
     assert_eq!(rt; packet.len(), MAX_PACKET);
     let front = b"\x01\x0c\x01\x01\x01\0\x01\x01\x14\x82\x7f\xd7\x01\x01\x01\0\x82\x7f\xd0";
     assert!(rt; is_behind(&packet, front, &full));
+    Ok(())
+}
+
+/// One byte more is refused with none.
+#[test]
+fn a_longer_stream_packet_is_refused(rt: HostRuntime) -> Result<(), Fail> {
+    let heap: Refusing<Global> = Refusing::new(rt.alloc());
     let longer = Vec::from_elem(rt.alloc(), 7, 32_721)?;
     let stream = [Frame::StreamData {
         stream: 1,

@@ -38,68 +38,56 @@ fn says_hi(bytes: &[u8], index: u64) -> bool {
 #[test]
 fn packets_read(rt: HostRuntime) {
     assert!(rt; says_hi(&HI, 0));
-    let trailing = [
-        0x01, 0x0c, 0x01, 0x01, 0x01, 0x00, 0x01, 0x01, 0x14, 0x07, 0x01, 0x01, 0x01, 0x00, 0x02,
-        0x68, 0x69, 0xff, 0xff,
-    ];
-    assert!(rt; says_hi(&trailing, 0));
-    let skipped = [
-        0x01, 0x0c, 0x01, 0x01, 0x01, 0x00, 0x01, 0x02, 0x99, 0x01, 0x00, 0x14, 0x07, 0x01, 0x01,
-        0x01, 0x00, 0x02, 0x68, 0x69,
-    ];
-    assert!(rt; says_hi(&skipped, 1));
+    let trailing = b"\x01\x0c\x01\x01\x01\0\x01\x01\x14\x07\x01\x01\x01\0\x02\x68\x69\xff\xff";
+    assert!(rt; says_hi(trailing, 0));
+    let skipped = b"\x01\x0c\x01\x01\x01\0\x01\x02\x99\x01\0\x14\x07\x01\x01\x01\0\x02\x68\x69";
+    assert!(rt; says_hi(skipped, 1));
+}
+
+/// Bytes that are no packet of kind 12, each with the number of its refusal and the one inside.
+const REFUSED: [(&[u8], (u8, Option<u64>)); 9] = [
+    (
+        b"\x01\x0c\x01\x01\x01\0\x01\x01\x14\x07\x01\x01",
+        (22, Some(1)),
+    ),
+    // another version
+    (
+        b"\x02\x0c\x01\x01\x01\0\x01\x01\x14\x07\x01\x01\x01\0\x02hi",
+        (20, None),
+    ),
+    (b"\x01\x0c\x01\x01\x01\0\x01\x01\x03\x01\x01", (23, Some(0))),
+    (
+        b"\x01\x0c\x01\x01\x01\0\x08\xff\xff\xff\xff\xff\xff\xff\xff",
+        (22, Some(1)),
+    ),
+    (b"\x01\x0c\x01\x01\x01\0\x01\x01\x14\x01\x02", (23, Some(0))),
+    (b"\x01\x0c\x09\x01\0\0\0\0\0\0\0\0", (22, Some(4))),
+    // the skeleton of the second frame comes before the contents of the first
+    (
+        b"\x01\x0c\x01\x01\x01\0\x01\x02\x03\x01\x01\x99\x80",
+        (22, Some(2)),
+    ),
+    // a message that is no UTF-8, and an address with an empty segment, behind an unknown frame
+    (
+        b"\x01\x0c\x01\x01\x01\0\x01\x01\x01\x03\x01\x01\xff",
+        (23, Some(0)),
+    ),
+    (
+        b"\x01\x0c\x01\x01\x01\0\x01\x02\x99\0\x02\x03\x02g.",
+        (23, Some(1)),
+    ),
+];
+
+#[test]
+fn packets_refused(rt: HostRuntime) {
+    for (bytes, want) in REFUSED {
+        assert_eq!(rt; refusal(bytes), Some(want), "{bytes:?}");
+    }
+    assert_eq!(rt; read_packet(&HI, 13).err(), Some(FrameError::Kind));
 }
 
 #[test]
-fn packets_refused(rt: HostRuntime) -> Result<(), Fail> {
-    assert_eq!(rt; refusal(&HI[..12]), Some((22, Some(1))));
-    let mut other_version = HI;
-    other_version[0] = 2;
-    assert_eq!(rt; refusal(&other_version), Some((20, None)));
-    assert_eq!(rt; read_packet(&HI, 13).err(), Some(FrameError::Kind));
-    assert_eq!(rt;
-        refusal(&[
-            0x01, 0x0c, 0x01, 0x01, 0x01, 0x00, 0x01, 0x01, 0x03, 0x01, 0x01
-        ]),
-        Some((23, Some(0)))
-    );
-    let many = [
-        0x01, 0x0c, 0x01, 0x01, 0x01, 0x00, 0x08, 0xff, 0xff, 0xff, 0xff, 0xff, 0xff, 0xff, 0xff,
-    ];
-    assert_eq!(rt; refusal(&many), Some((22, Some(1))));
-    assert_eq!(rt;
-        refusal(&[
-            0x01, 0x0c, 0x01, 0x01, 0x01, 0x00, 0x01, 0x01, 0x14, 0x01, 0x02
-        ]),
-        Some((23, Some(0)))
-    );
-    assert_eq!(rt;
-        refusal(&[
-            0x01, 0x0c, 0x09, 0x01, 0x00, 0x00, 0x00, 0x00, 0x00, 0x00, 0x00, 0x00
-        ]),
-        Some((22, Some(4)))
-    );
-    // the skeleton of the second frame comes before the contents of the first
-    assert_eq!(rt;
-        refusal(&[
-            0x01, 0x0c, 0x01, 0x01, 0x01, 0x00, 0x01, 0x02, 0x03, 0x01, 0x01, 0x99, 0x80
-        ]),
-        Some((22, Some(2)))
-    );
-    // a message that is no UTF-8, and an address with an empty segment, behind an unknown frame
-    assert_eq!(rt;
-        refusal(&[
-            0x01, 0x0c, 0x01, 0x01, 0x01, 0x00, 0x01, 0x01, 0x01, 0x03, 0x01, 0x01, 0xff
-        ]),
-        Some((23, Some(0)))
-    );
-    assert_eq!(rt;
-        refusal(&[
-            0x01, 0x0c, 0x01, 0x01, 0x01, 0x00, 0x01, 0x02, 0x99, 0x00, 0x02, 0x03, 0x02, 0x67,
-            0x2e
-        ]),
-        Some((23, Some(1)))
-    );
+fn longer_packets_are_refused(rt: HostRuntime) -> Result<(), Fail> {
     let long = vec![in rt.alloc(); 1u8; MAX_PACKET + 1]?;
     assert_eq!(rt; refusal(&long), Some((24, None)));
     Ok(())
@@ -109,30 +97,27 @@ fn packets_refused(rt: HostRuntime) -> Result<(), Fail> {
 fn samples() -> [(&'static [u8], Frame<'static>); 13] {
     [
         (
-            &[0x01, 0x04, 0x01, 0x02, 0x6e, 0x6f],
+            b"\x01\x04\x01\x02\x6e\x6f",
             Frame::ConnectionClose {
                 code: 1,
                 message: "no",
             },
         ),
         (
-            &[0x02, 0x04, 0x03, 0x67, 0x2e, 0x61],
+            b"\x02\x04\x03\x67\x2e\x61",
             Frame::ConnectionNewAddress { address: "g.a" },
         ),
+        (b"\x02\x01\0", Frame::ConnectionNewAddress { address: "" }),
         (
-            &[0x02, 0x01, 0x00],
-            Frame::ConnectionNewAddress { address: "" },
-        ),
-        (
-            &[0x03, 0x03, 0x02, 0x01, 0x00],
+            b"\x03\x03\x02\x01\0",
             Frame::ConnectionMaxData { max_offset: 256 },
         ),
         (
-            &[0x04, 0x02, 0x01, 0x7f],
+            b"\x04\x02\x01\x7f",
             Frame::ConnectionDataBlocked { max_offset: 127 },
         ),
         (
-            &[0x10, 0x04, 0x01, 0x01, 0x09, 0x00],
+            b"\x10\x04\x01\x01\x09\0",
             Frame::StreamClose {
                 stream: 1,
                 code: 9,
@@ -140,7 +125,7 @@ fn samples() -> [(&'static [u8], Frame<'static>); 13] {
             },
         ),
         (
-            &[0x10, 0x06, 0x01, 0x01, 0xff, 0x02, 0xc3, 0xa9],
+            b"\x10\x06\x01\x01\xff\x02\xc3\xa9",
             Frame::StreamClose {
                 stream: 1,
                 code: 255,
@@ -148,14 +133,14 @@ fn samples() -> [(&'static [u8], Frame<'static>); 13] {
             },
         ),
         (
-            &[0x11, 0x04, 0x01, 0x03, 0x01, 0x80],
+            b"\x11\x04\x01\x03\x01\x80",
             Frame::StreamMoney {
                 stream: 3,
                 shares: 128,
             },
         ),
         (
-            &[0x12, 0x07, 0x01, 0x02, 0x02, 0xff, 0xff, 0x01, 0x00],
+            b"\x12\x07\x01\x02\x02\xff\xff\x01\0",
             Frame::StreamMaxMoney {
                 stream: 2,
                 receive_max: 65_535,
@@ -163,10 +148,7 @@ fn samples() -> [(&'static [u8], Frame<'static>); 13] {
             },
         ),
         (
-            &[
-                0x13, 0x0d, 0x01, 0x01, 0x08, 0xff, 0xff, 0xff, 0xff, 0xff, 0xff, 0xff, 0xff, 0x01,
-                0x05,
-            ],
+            b"\x13\x0d\x01\x01\x08\xff\xff\xff\xff\xff\xff\xff\xff\x01\x05",
             Frame::StreamMoneyBlocked {
                 stream: 1,
                 send_max: u64::MAX,
@@ -174,7 +156,7 @@ fn samples() -> [(&'static [u8], Frame<'static>); 13] {
             },
         ),
         (
-            &[0x14, 0x07, 0x01, 0x01, 0x01, 0x00, 0x02, 0x68, 0x69],
+            b"\x14\x07\x01\x01\x01\0\x02\x68\x69",
             Frame::StreamData {
                 stream: 1,
                 offset: 0,
@@ -182,14 +164,14 @@ fn samples() -> [(&'static [u8], Frame<'static>); 13] {
             },
         ),
         (
-            &[0x15, 0x05, 0x01, 0x05, 0x02, 0x40, 0x00],
+            b"\x15\x05\x01\x05\x02\x40\0",
             Frame::StreamMaxData {
                 stream: 5,
                 max_offset: 16_384,
             },
         ),
         (
-            &[0x16, 0x04, 0x01, 0x40, 0x01, 0x00],
+            b"\x16\x04\x01\x40\x01\0",
             Frame::StreamDataBlocked {
                 stream: 64,
                 max_offset: 0,
@@ -217,11 +199,8 @@ fn each_frame_both_ways(rt: HostRuntime) -> Result<(), Fail> {
 
 #[test]
 fn a_limit_of_nine_bytes(rt: HostRuntime) -> Result<(), Fail> {
-    let bytes = [
-        0x01, 0x0c, 0x01, 0x01, 0x01, 0x00, 0x01, 0x01, 0x03, 0x0a, 0x09, 0x01, 0x00, 0x00, 0x00,
-        0x00, 0x00, 0x00, 0x00, 0x00,
-    ];
-    let mut frames = read_packet(&bytes, 12)?.frames;
+    let bytes = b"\x01\x0c\x01\x01\x01\0\x01\x01\x03\x0a\x09\x01\0\0\0\0\0\0\0\0";
+    let mut frames = read_packet(bytes, 12)?.frames;
     assert_eq!(rt;
         frames.next(),
         Some((
@@ -248,7 +227,7 @@ fn packets_written(rt: HostRuntime) -> Result<(), Fail> {
     let empty = write_packet(rt.alloc(), 14, 256, 1, &[])?;
     assert_eq!(rt;
         empty.as_slice(),
-        [0x01, 0x0e, 0x02, 0x01, 0x00, 0x01, 0x01, 0x01, 0x00].as_slice()
+        b"\x01\x0e\x02\x01\0\x01\x01\x01\0".as_slice()
     );
     let many = [Frame::ConnectionMaxData { max_offset: 0 }; 300];
     let text = write_packet(rt.alloc(), 12, 1, 0, &many)?;
