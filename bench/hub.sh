@@ -1,0 +1,29 @@
+#!/usr/bin/env bash
+# How many chunks of 1, 64 and 4,096 bytes go through one ring of a hub from thread to thread in a second of the clock, each the
+# best of the runs, and beside that the processor's seconds that they took. By hand, on a quiet machine of more than one core:
+# bench/hub.sh [RUNS]
+set -euo pipefail
+cd "$(dirname "$0")/../crates/bench_hub"
+runs=${1:-3}
+
+echo "proving and building bench_hub where it is older than its sources" >&2
+rt run -- 0 0 >&2
+
+seconds() { # of the clock and of the processor that the program takes with these words, the run of the least time
+    local TIMEFORMAT='%R %U %S'
+    for _ in $(seq "$runs"); do
+        { time out/bench_hub "$@" >/dev/null; } 2>&1
+    done | sort -n | head -n 1
+}
+
+rate() { # amount, heading, words
+    local amount=$1 heading=$2
+    shift 2
+    seconds "$@" | awk -v amount="$amount" -v heading="$heading" '{
+        printf "%-32s %14.0f a second, %6.2f s of the clock, %6.2f s of the processor\n", heading, amount / $1, $1, $2 + $3
+    }'
+}
+
+for length in 1 64 4096; do
+    rate 4000000 "chunks of $length bytes" 4000000 "$length"
+done
