@@ -1,14 +1,13 @@
 #!/usr/bin/env bash
-# What a hub's rings and workers do in a second of the clock, each the best of the runs: chunks of 1, 64 and 4,096 bytes that go
-# through one ring from thread to thread, and bytes that go in memory from a writer of one hub to a reader of another, 64 MiB in
-# chunks of 4,096 bytes, by 1, 2 and 4 workers, and beside that the processor's seconds that they took. By hand, on a quiet
-# machine of more than one core: bench/hub.sh [RUNS]
+# How many chunks of 1, 64 and 4,096 bytes go through one ring of a hub from thread to thread in a second of the clock, each the
+# best of the runs, and beside that the processor's seconds that they took. By hand, on a quiet machine of more than one core:
+# bench/hub.sh [RUNS]
 set -euo pipefail
 cd "$(dirname "$0")/../crates/bench_hub"
 runs=${1:-3}
 
 echo "proving and building bench_hub where it is older than its sources" >&2
-rt run -- 0 0 0 0 >&2
+rt run -- 0 0 >&2
 
 seconds() { # of the clock and of the processor that the program takes with these words, the run of the least time
     local TIMEFORMAT='%R %U %S'
@@ -26,8 +25,5 @@ rate() { # amount, heading, words
 }
 
 for length in 1 64 4096; do
-    rate 4000000 "chunks of $length bytes" 4000000 "$length" 0 0
-done
-for workers in 1 2 4; do
-    rate 67108864 "bytes by $workers workers" 0 0 16384 "$workers"
+    rate 4000000 "chunks of $length bytes" 4000000 "$length"
 done
