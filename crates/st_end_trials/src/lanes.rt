@@ -1,6 +1,5 @@
 //! What the user of an end does on one stream.
 
-use seeds::Numbers;
 use st_end::{EndError, EndState};
 use st_receiver::Got;
 use std::alloc::Global;
