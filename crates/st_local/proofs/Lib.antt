@@ -1,0 +1,5 @@
+pub mod Cuts
+pub mod Asides
+pub mod Joined
+pub mod Stops
+pub mod Plays

@@ -1,0 +1,10 @@
+use Rattle.std.proofs.Common.{◌∙◌, ap}
+use Rattle.st_chain.specs.Left.{left_of}
+use Rattle.st_local.specs.Playing.{Played}
+use Rattle.st_local.proofs.Plays.{ended_whole}
+use Rattle.st_local.proofs.play.Play.has_ended.Goals as goal
+
+pub returns-in-Some-clause-whole : goal.returns-in-Some-clause-whole
+returns-in-Some-clause-whole g c =
+    λ ended. ended_whole c.trace.result.now c.args.self.now.world c.args.stream c.in-Some.ledger.now c.told_end.result (c.trace.ensures.trace ∙ ap (λ (p : Played). left_of p.world) c.self.view_is)
+    c.trace.ensures.holds c.in-Some.ensures c.told_end.ensures ended

@@ -1,0 +1,87 @@
+-- How a run ended, and what was written by then.
+use Rattle.std.specs.Prelude.{◌≡◌, ◌⊎◌, ⊤, ℕ, ◌+◌, ◌-◌, ◌^◌, ◌≤◌, ◌<◌, true, List, ◌++◌, length, take, Option, Some, None, IfSome, Result, Ok, Err}
+use Rattle.std.specs.Io.KnownBytes.{Appends}
+use Rattle.st_oer.specs.Faults.{count_after}
+use Rattle.st_oer.specs.Tallies.{device_of, tally_of}
+use Rattle.st_oer.specs.declared.counted.Counting.{Counting}
+use Rattle.st_oer.specs.declared.tally.Tally.{Tally}
+use Rattle.st_local.specs.declared.fault.LocalFault.{LocalFault}
+use Rattle.st_local.specs.declared.fault.LocalFault.TheVariants as fault
+use Rattle.st_local.specs.Errors.{fault_number, reader_faults, writer_faults}
+use Rattle.st_local.specs.Texts.{fault_text}
+use Rattle.st_world.specs.State.{World}
+use Rattle.st_local.specs.Playing.{HasFailed, Plays, most_events}
+
+-- how many bytes an input has at most
+abbrev pub most_bytes : ℕ
+most_bytes = 2 ^ 20
+
+-- a piece stands behind what was kept, or there would be too many bytes, or memory was refused
+abbrev pub KeepsPiece : {T : Type 0} → (old piece new : List ℕ) → Result T LocalFault → Type 0
+KeepsPiece old piece new (Ok done) = (new ≡ old ++ piece) × (length new ≤ most_bytes)
+KeepsPiece old piece new (Err e) = ((e ≡ fault.TooLong) × (most_bytes < length old + length piece)) ⊎ (e ≡ fault.NoMemory)
+
+-- why the input was not read to its end: its bytes are these, where that is known, and so many turns are left
+abbrev pub StopsRead : Option (List ℕ) → (left : ℕ) → LocalFault → Type 0
+StopsRead input left fault.TooLong = IfSome input (λ bytes. most_bytes < length bytes)
+StopsRead input left fault.Input = ⊤
+StopsRead input left fault.Turns = left ≡ 0
+StopsRead input left fault.NoMemory = ⊤
+StopsRead input left e = ⊥
+
+-- the first bytes of a text were written, all of them or fewer
+abbrev pub WritesPart : List ℕ → Option (List ℕ) → Option (List ℕ) → Type 0
+WritesPart text before now = (sent : ℕ) × Appends before now (take sent text)
+
+-- why a text was not written: so many turns are left
+abbrev pub StopsWrite : (left : ℕ) → LocalFault → Type 0
+StopsWrite left fault.Output = ⊤
+StopsWrite left fault.Turns = left ≡ 0
+StopsWrite left e = ⊥
+
+-- each call of the reader, r before and s now, and of the writer, w before and v now, took one turn, and turns were taken by
+-- calls alone
+abbrev pub SpendsTurns : Tally → Tally → Tally → Tally → ℕ → ℕ → Type 0
+SpendsTurns r s w v before after = (reads : ℕ) × (writes : ℕ) × (before ≡ after + reads + writes) × (s.calls ≡ count_after reads r.calls) × (v.calls ≡ count_after writes w.calls)
+
+-- where nothing waited for a flush before, nothing does now
+abbrev pub StaysFlushed : Tally → Tally → Type 0
+StaysFlushed w v = w.flushed ≡ true → v.flushed ≡ true
+
+-- how many calls of its reader and its writer a run makes at most, and then of its writer for errors
+abbrev pub most_turns : ℕ
+most_turns = 2 ^ 31 - 1
+
+-- how a run ended, with this fault or none: what its reader, r before and s now, and its writer, w before and v now, counted
+pub record HasEnded (r s w v : Tally) (end : Option LocalFault) : Type 0 where
+  pub reader : s.faults ≡ reader_faults end r.faults
+  pub writer : v.faults ≡ writer_faults end w.faults
+  pub left : ℕ
+  pub turns : SpendsTurns r s w v most_turns left
+  pub used_up : end ≡ Some fault.Turns → left ≡ 0
+  pub flushed : end ≡ None → StaysFlushed w v
+
+-- a text was written whole and flushed, to the writer that was e before and is f now; or the first bytes of it, all of them
+-- or fewer, and the writer counted an error or was called as often as a run may
+abbrev pub Says : {E : Type 0} → List ℕ → (E → Option (List ℕ)) → Counting E → Counting E → Type 0
+Says text said e f = (Appends (said (device_of e)) (said (device_of f)) text × StaysFlushed (tally_of e) (tally_of f))
+    ⊎ (WritesPart text (said (device_of e)) (said (device_of f))
+    × (((tally_of f).faults ≡ count_after 1 (tally_of e).faults) ⊎ ((tally_of f).calls ≡ count_after most_turns (tally_of e).calls)))
+
+-- the status of a fault, of which the line was said
+abbrev pub TellsFault : {E : Type 0} → LocalFault → (E → Option (List ℕ)) → Counting E → Counting E → ℕ → Type 0
+TellsFault x said e f status = (status ≡ 1) × Says (fault_text (fault_number x)) said e f
+
+-- why not all was done: by what was played, or by the input where it is known
+abbrev pub Explains : Option (List ℕ) → LocalFault → Type 0
+Explains input fault.Failed = (hops events : ℕ) × (w : World) × Plays hops events w × HasFailed w
+Explains input fault.TooLong = IfSome input (λ bytes. most_bytes < length bytes)
+Explains input fault.Events = (hops : ℕ) × (w : World) × Plays hops most_events w
+Explains input e = ⊤
+
+-- a run: e and f are the writer for errors at the start and now
+pub record RunsLocal {E : Type 0} (input before now : Option (List ℕ)) (ended : Option LocalFault → Type 0) (said : E → Option (List ℕ)) (e f : Counting E) (status : ℕ) : Type 0 where
+  pub done : status ≡ 0 → (f ≡ e) × ended None × IfSome input (λ bytes. Appends before now bytes × (length bytes ≤ most_bytes))
+  pub refused : status ≡ 1 → (x : LocalFault) × ended (Some x) × Explains input x × TellsFault x said e f status
+  pub part : IfSome input (λ bytes. WritesPart bytes before now)
+  pub bound : status ≤ 1

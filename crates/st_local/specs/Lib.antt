@@ -1,0 +1,5 @@
+pub mod Errors
+pub mod Texts
+pub mod Parts
+pub mod Playing
+pub mod Endings

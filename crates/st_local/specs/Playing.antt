@@ -1,0 +1,78 @@
+-- What is played: a world from its opening on, and what each event leaves of what was written at the client.
+use Rattle.std.specs.Prelude.{◌≡◌, ◌≢◌, ◌⊎◌, ⊤, ℕ, ◌-◌, ◌^◌, ◌<◌, ◌≤◌, true, List, ◌++◌, length, map, replicate}
+use Rattle.st_sender.specs.Sending.{Config}
+use Rattle.st_sender.specs.Configs.{config}
+use Rattle.st_world.specs.Sides.{Client, Server}
+use Rattle.st_world.specs.State.{World, end_at, ledger_at}
+use Rattle.st_world.specs.Events.{Event, Write}
+use Rattle.st_world.specs.Runs.{Chain, Run, opening}
+use Rattle.st_chain.specs.Chains.{chain_of, one_to_one, free_account}
+use Rattle.st_local.specs.declared.fault.LocalFault.{LocalFault}
+use Rattle.st_local.specs.declared.fault.LocalFault.TheVariants as fault
+use Rattle.st_local.specs.Parts.{stream_at, sent_of}
+
+-- how many events there are at most
+abbrev pub most_events : ℕ
+most_events = 1_000_000
+
+-- one Prepare at a time, as many as a connection may send, of amounts without a limit
+abbrev pub local_config : Config
+local_config = config 1 (2 ^ 31 - 1) (2 ^ 63 - 1)
+
+-- a chain of so many hops whose limits are not reached
+abbrev pub local_chain : (hops : ℕ) → Chain
+local_chain hops = chain_of (map one_to_one (replicate hops free_account)) local_config
+
+-- a world that a run of so many events reaches
+abbrev pub Plays : (hops events : ℕ) → World → Type 0
+Plays hops events w = (es : List Event) × (length es ≡ events) × Run (opening (local_chain hops)) es w
+
+pub record Played : Type 0 where
+  pub world : World
+  pub hops : ℕ
+  pub events : ℕ  -- how many there were
+
+-- the connection failed at an end
+abbrev pub HasFailed : World → Type 0
+HasFailed w = ((end_at w Client).sending.failed ≡ true) ⊎ ((end_at w Server).sending.failed ≡ true)
+
+-- why it goes no further
+abbrev pub StopsPlay : Played → LocalFault → Type 0
+StopsPlay p fault.Failed = Plays p.hops p.events p.world × HasFailed p.world
+StopsPlay p fault.Events = Plays p.hops most_events p.world
+StopsPlay p fault.NoMemory = ⊤
+StopsPlay p e = ⊥
+
+-- ---- what was written at the client and read at the server
+
+abbrev pub written_on : World → (stream : ℕ) → List ℕ
+written_on w k = (ledger_at w Client k).written
+
+abbrev pub read_on : World → (stream : ℕ) → List ℕ
+read_on w k = (ledger_at w Client k).read
+
+-- nothing is written at the client
+abbrev pub IsAside : Event → Type 0
+IsAside (Write Client k xs) = ⊥
+IsAside event = ⊤
+
+-- events by which nothing is written at the client
+pub record Continues (old new : Played) : Type 0 where
+  pub hops : new.hops ≡ old.hops
+  pub events : old.events ≤ new.events
+  pub written : (k : ℕ) → written_on new.world k ≡ written_on old.world k
+
+-- an event by which these bytes are
+pub record Writes (k : ℕ) (xs : List ℕ) (old new : Played) : Type 0 where
+  pub hops : new.hops ≡ old.hops
+  pub events : old.events ≤ new.events
+  pub here : written_on new.world k ≡ written_on old.world k ++ xs
+  pub apart : (j : ℕ) → j ≢ k → written_on new.world j ≡ written_on old.world j
+
+-- the first so many bytes of the input are written, each part on its stream
+abbrev pub HasSent : (size : ℕ) → List ℕ → (sent : ℕ) → World → Type 0
+HasSent size input sent w = (place : ℕ) → written_on w (stream_at place) ≡ sent_of size input sent place
+
+-- of each of these streams all that was written was read
+abbrev pub IsAllRead : (streams : ℕ) → World → Type 0
+IsAllRead streams w = (place : ℕ) → place < streams → read_on w (stream_at place) ≡ written_on w (stream_at place)

@@ -1,0 +1,6 @@
+-- The texts that are written.
+use Rattle.std.specs.Prelude.{ℕ, List, [], ◌∷◌, ◌++◌, codes, decimal}
+
+-- what a fault prints: `fault 58` and a newline
+abbrev pub fault_text : ℕ → List ℕ
+fault_text n = codes "fault " ++ decimal n ++ 10 ∷ []

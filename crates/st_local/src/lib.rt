@@ -1,0 +1,24 @@
+//! The command `local`: an input goes over a chain of connectors in memory, and what was read at its end is written.
+//!
+//! The input is cut into parts (`specs/Parts.antt`), each on a stream of its own of one STREAM connection (RFC 0029)
+//! through a world of st_chain. What is played is a run of that world's definitions (`specs/Playing.antt`), so what holds of
+//! every run holds of it; the bytes that are written are those that its reads gave. How a run may end, and what was
+//! written by then, is in `specs/Endings.antt`.
+#![tactic(auto)]
+
+mod chain;
+mod fault;
+mod input;
+mod local;
+mod output;
+mod parts;
+mod play;
+mod streams;
+mod texts;
+
+pub use fault::LocalFault;
+pub use input::MAX_BYTES;
+pub use local::{play_local, run_local};
+pub use output::TURNS;
+pub use parts::part_size;
+pub use play::MAX_EVENTS;

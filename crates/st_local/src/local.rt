@@ -1,0 +1,101 @@
+//! The command `local`: the input goes over a chain in memory, and what was read at its end is written.
+
+ghost use Rattle.std.specs.Prelude.{◌≡◌, ◌<◌, ◌≤◌, ◌^◌, length, IfErr, IfSome, OnOk};
+ghost use Rattle.std.specs.Io.KnownBytes.{Appends};
+ghost use Rattle.st_oer.specs.Tallies.{TakesTurns, device_of, tally_of};
+ghost use Rattle.st_local.specs.Errors.{fault_of, reader_faults, writer_faults};
+ghost use Rattle.st_local.specs.Parts.{joined, stream_at};
+ghost use Rattle.st_local.specs.Playing.{read_on};
+ghost use Rattle.st_local.specs.Endings.{Explains, HasEnded, RunsLocal, SpendsTurns, StaysFlushed, StopsWrite, WritesPart, most_bytes};
+
+use crate::fault::LocalFault;
+use crate::input::read_input;
+use crate::output::{TURNS, put, tell_fault};
+use crate::parts::stream_at;
+use crate::play::Play;
+use crate::streams::send_parts;
+use st_oer::{CountRead, CountWrite};
+use st_settings::LocalSettings;
+use std::alloc::Allocator;
+use std::io::{Read, Write};
+
+/// Writes what was read of each stream, in their order.
+fn put_parts<A: Allocator + Copy, W: Write>(
+    play: &Play<A>,
+    streams: usize,
+    writer: &mut CountWrite<W>,
+    turns: &mut u64,
+) -> Result<(), LocalFault>
+    requires { streams ≤ 32 }
+    ensures whole { OnOk result (Appends (W.contents (device_of writer.old)) (W.contents (device_of writer.new)) (joined (λ place. read_on play.now.world (stream_at place)) streams)) }
+    ensures part { WritesPart (joined (λ place. read_on play.now.world (stream_at place)) streams) (W.contents (device_of writer.old)) (W.contents (device_of writer.new)) }
+    ensures faults { (tally_of writer.new).faults ≡ writer_faults (fault_of result) (tally_of writer.old).faults }
+    ensures flushed { OnOk result (StaysFlushed (tally_of writer.old) (tally_of writer.new)) }
+    ensures turns { TakesTurns (tally_of writer.old) (tally_of writer.new) turns.old turns.new }
+    ensures why { IfErr result (StopsWrite turns.new) }
+{
+    for place in 0..streams {
+        put(writer, play.read_on(stream_at(place)), turns)?;
+    }
+    Ok(())
+}
+
+/// Sends the reader's bytes over a chain of hops in memory, and writes what was read at its end. They are cut into so many
+/// consecutive parts as the settings say streams, of sizes that are equal but for the last ones; each goes on a stream of
+/// its own. One of so many Prepares of the client is lost, as the settings say. Each call of a device takes one of `turns`.
+///
+/// Nothing is written before every stream has ended: at a fault before that, nothing is. A fault of the reader or the
+/// writer is told exactly where it counted an error in this call, and that of the turns only where none is left.
+pub fn play_local<A: Allocator + Copy, R: Read, W: Write>(
+    alloc: A,
+    settings: &LocalSettings,
+    reader: &mut CountRead<R>,
+    writer: &mut CountWrite<W>,
+    turns: &mut u64,
+) -> Result<(), LocalFault>
+    requires hops { settings.now.hops ≤ 8 }
+    requires some { 0 < settings.now.streams }
+    requires streams { settings.now.streams ≤ 32 }
+    ensures whole { OnOk result (IfSome (R.remaining (device_of reader.old)) (λ bytes. Appends (W.contents (device_of writer.old)) (W.contents (device_of writer.new)) bytes × (length bytes ≤ most_bytes))) }
+    ensures part { IfSome (R.remaining (device_of reader.old)) (λ bytes. WritesPart bytes (W.contents (device_of writer.old)) (W.contents (device_of writer.new))) }
+    ensures why { IfErr result (Explains (R.remaining (device_of reader.old))) }
+    ensures reader_faults { (tally_of reader.new).faults ≡ reader_faults (fault_of result) (tally_of reader.old).faults }
+    ensures writer_faults { (tally_of writer.new).faults ≡ writer_faults (fault_of result) (tally_of writer.old).faults }
+    ensures flushed { OnOk result (StaysFlushed (tally_of writer.old) (tally_of writer.new)) }
+    ensures out_of_turns { IfErr result (λ e. (e ≡ LocalFault.Turns) → turns.new ≡ 0) }
+    ensures turns { SpendsTurns (tally_of reader.old) (tally_of reader.new) (tally_of writer.old) (tally_of writer.new) turns.old turns.new }
+{
+    let input = read_input(alloc, reader, turns)?;
+    let Ok(mut play) = Play::new(alloc, usize::from(settings.hops)) else {
+        return Err(LocalFault::NoMemory);
+    };
+    let streams = usize::from(settings.streams);
+    match send_parts(&mut play, &input, streams, settings.lose) {
+        Ok(()) => put_parts(&play, streams, writer, turns),
+        Err(fault) => Err(fault),
+    }
+}
+
+/// The command `local`: `play_local`, whose fault is told to `errors` by its number. The status is 0 where all was written,
+/// else 1. It makes at most 2^31 - 1 calls of the reader and the writer, and tells the fault of the turns where it made all
+/// of these.
+pub fn run_local<A: Allocator + Copy, R: Read, W: Write, E: Write>(
+    alloc: A,
+    settings: &LocalSettings,
+    reader: &mut CountRead<R>,
+    writer: &mut CountWrite<W>,
+    errors: &mut CountWrite<E>,
+) -> u8
+    requires hops { settings.now.hops ≤ 8 }
+    requires some { 0 < settings.now.streams }
+    requires streams { settings.now.streams ≤ 32 }
+    ensures { RunsLocal (R.remaining (device_of reader.old)) (W.contents (device_of writer.old)) (W.contents (device_of writer.new))
+        (HasEnded (tally_of reader.old) (tally_of reader.new) (tally_of writer.old) (tally_of writer.new))
+        E.contents errors.old errors.new result }
+{
+    let mut turns = TURNS;
+    match play_local(alloc, settings, reader, writer, &mut turns) {
+        Ok(()) => 0,
+        Err(fault) => tell_fault(errors, fault),
+    }
+}

@@ -1,0 +1,20 @@
+//! How the input is cut into parts, each for a stream of its own.
+
+ghost use Rattle.std.specs.Prelude.{◌≡◌, ◌<◌};
+ghost use Rattle.st_local.specs.Parts.{part_size, stream_at};
+
+/// The bytes of a part where so many bytes are cut into so many parts, rounded up: the last parts may be shorter, or empty.
+pub fn part_size(bytes: usize, parts: usize) -> usize
+    requires { 0 < parts }
+    ensures { result ≡ part_size bytes parts }
+{
+    bytes.div_ceil(parts)
+}
+
+/// The number of the stream that carries the part at this place, from 0: the client's own numbers are odd.
+pub(crate) fn stream_at(place: usize) -> u8
+    requires { place < 32 }
+    ensures { result ≡ stream_at place }
+{
+    (2 * place + 1) as u8
+}

@@ -1,0 +1,175 @@
+//! A world that is played, event by event.
+
+ghost use Rattle.std.specs.Prelude.{◌≡◌, ◌≢◌, ◌+◌, ◌<◌, ◌≤◌, ℕ, [], MatchBool, true, length, IfOk, IfErr, IsOkUnless, OnOk};
+ghost use Rattle.st_world.specs.Sides.{Client};
+ghost use Rattle.st_world.specs.State.{ledger_at};
+ghost use Rattle.st_world.specs.Steps.{Happens};
+ghost use Rattle.st_nodes.specs.Seen.{told_seen};
+ghost use Rattle.st_chain.specs.Seen.{event_seen};
+ghost use Rattle.st_local.specs.Playing.{Continues, HasFailed, IsAside, Plays, StopsPlay, Writes, local_config, most_events, written_on, read_on};
+
+use crate::fault::LocalFault;
+use st_chain::{Event, World};
+use st_ilp::Moment;
+use st_nodes::{Side, Told};
+use st_sender::{EndConfig, MAX_PACKET_LIMIT, MAX_PACKETS};
+use std::alloc::Allocator;
+use std::marker::Model;
+
+/// The most events of a run.
+pub const MAX_EVENTS: u64 = 1_000_000;
+
+/// A world, and how many events it met.
+#[derive(Drop)]
+pub(crate) struct Play<A: Allocator + Copy> {
+    world: World<A>,
+    hops: usize,
+    events: u64,
+}
+
+impl<A: Allocator + Copy> Model for Play<A> {
+    ghost use Rattle.std.specs.Prelude.{◌≤◌};
+    ghost use Rattle.std.specs.Coded.{codes};
+    ghost use Rattle.std.specs.FinMap as map;
+    ghost use Rattle.st_local.specs.Playing.{Played, Plays, most_events};
+
+    ghost Value = { Played };
+
+    ghost coded = { Prim.hlevel (codes, map.code) };
+
+    ghost view = { λ a. record { world = a.world; hops = a.hops; events = a.events } };
+
+    ghost invariant = { λ a. (a.hops ≤ 8) × (a.events ≤ most_events) × Plays a.hops a.events a.world };
+}
+
+/// One Prepare at a time, as many as a connection may send, of amounts without a limit.
+fn config() -> EndConfig
+    ensures { result ≡ local_config }
+{
+    EndConfig::new(1, MAX_PACKETS, MAX_PACKET_LIMIT).unwrap()
+}
+
+impl<A: Allocator + Copy> Play<A> {
+    /// A world of so many hops where nothing has happened.
+    pub(crate) fn new(alloc: A, hops: usize) -> Result<Play<A>, LocalFault>
+        requires { hops ≤ 8 }
+        ensures hops { IfOk result (λ p. p.hops ≡ hops) }
+        ensures blank { IfOk result (λ p. (k : ℕ) → written_on p.world k ≡ []) }
+        ensures only_memory { IsOkUnless result LocalFault.NoMemory }
+    {
+        let Ok(world) = World::new(alloc, hops, config()) else {
+            return Err(LocalFault::NoMemory);
+        };
+        Ok(Play {
+            world,
+            hops,
+            events: 0,
+        })
+    }
+
+    /// How many hops there are.
+    pub(crate) fn hops(&self) -> usize
+        ensures count { result ≡ self.now.hops }
+        ensures few { result ≤ 8 }
+    {
+        self.hops
+    }
+
+    /// The one moment at which all happens.
+    pub(crate) fn now() -> Moment {
+        Moment::new(0).unwrap()
+    }
+
+    /// The number of the next event, as an IV that no other has.
+    fn iv(&self) -> [u8; 12] {
+        let mut iv = [0; 12];
+        iv[4..].copy_from_slice(&self.events.to_be_bytes());
+        iv
+    }
+
+    /// One event. Refused is the one that would be one too many, and want of memory.
+    pub(crate) fn take(&mut self, event: &Event<'_>) -> Result<Told<A>, LocalFault>
+        ensures happens { IfOk result (λ told. Happens self.old.world (event_seen event.now) (told_seen told) self.new.world) }
+        ensures one { OnOk result (self.new.events ≡ self.old.events + 1) }
+        ensures room { OnOk result (self.old.events < most_events) }
+        ensures hops { self.new.hops ≡ self.old.hops }
+        ensures why { IfErr result (StopsPlay self.new) }
+    {
+        if self.events >= MAX_EVENTS {
+            return Err(LocalFault::Events);
+        }
+        let Ok(told) = self.world.step(event) else {
+            return Err(LocalFault::NoMemory);
+        };
+        self.events += 1;
+        if matches!(told, Told::NoMemory) {
+            return Err(LocalFault::NoMemory);
+        }
+        Ok(told)
+    }
+
+    /// An event by which nothing is written at the client. What it told.
+    pub(crate) fn pass(&mut self, event: &Event<'_>) -> Result<Told<A>, LocalFault>
+        requires { IsAside (event_seen event.now) }
+        ensures kept { OnOk result (Continues self.old self.new) }
+        ensures one { OnOk result (self.new.events ≡ self.old.events + 1) }
+        ensures room { OnOk result (self.old.events < most_events) }
+        ensures why { IfErr result (StopsPlay self.new) }
+    {
+        let told = self.take(event)?;
+        Ok(told)
+    }
+
+    /// An end sends. Whether a Prepare went.
+    pub(crate) fn send(&mut self, side: Side) -> Result<bool, LocalFault>
+        ensures kept { OnOk result (Continues self.old self.new) }
+        ensures one { OnOk result (self.new.events ≡ self.old.events + 1) }
+        ensures room { OnOk result (self.old.events < most_events) }
+        ensures why { IfErr result (StopsPlay self.new) }
+    {
+        let iv = self.iv();
+        let told = self.pass(&Event::Send(side, iv, Play::<A>::now()))?;
+        Ok(matches!(told, Told::Sent))
+    }
+
+    /// Writes bytes on a stream of the client. Whether it took them.
+    pub(crate) fn write(&mut self, stream: u8, bytes: &[u8]) -> Result<bool, LocalFault>
+        ensures taken { IfOk result (λ taken. MatchBool taken (Writes stream bytes.now self.old self.new) (Continues self.old self.new)) }
+        ensures why { IfErr result (StopsPlay self.new) }
+    {
+        let told = self.take(&Event::Write(Side::Client, stream, bytes))?;
+        let Told::Call(answer) = told else {
+            return Ok(false);
+        };
+        Ok(answer.is_ok())
+    }
+
+    /// What was read so far of a stream of the client.
+    pub(crate) fn read_on(&self, stream: u8) -> &[u8]
+        ensures { result.now ≡ read_on self.now.world stream }
+    {
+        match self.world.trace().ledger(Side::Client, stream) {
+            Some(ledger) => ledger.read(),
+            None => &[],
+        }
+    }
+
+    /// Whether the server was told the end of a stream of the client: it has read then all that was written.
+    pub(crate) fn has_ended(&self, stream: u8) -> bool
+        ensures told { result ≡ (ledger_at self.now.world Client stream).told_end }
+        ensures whole { result ≡ true → read_on self.now.world stream ≡ written_on self.now.world stream }
+    {
+        match self.world.trace().ledger(Side::Client, stream) {
+            Some(ledger) => ledger.told_end(),
+            None => false,
+        }
+    }
+
+    /// Whether the connection failed at an end.
+    pub(crate) fn has_failed(&self) -> bool
+        ensures failed { result ≡ true → HasFailed self.now.world }
+        ensures run { Plays self.now.hops self.now.events self.now.world }
+    {
+        self.world.is_failed(Side::Client) || self.world.is_failed(Side::Server)
+    }
+}

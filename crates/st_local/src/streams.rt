@@ -1,0 +1,199 @@
+//! The input's parts, each on a stream of its own.
+
+ghost use Rattle.std.specs.Prelude.{◌≡◌, ◌<◌, ◌≤◌, ℕ, [], length, true, OnOk, IfOk, IfErr};
+ghost use Rattle.st_local.specs.Parts.{part_at, part_size, stream_at};
+ghost use Rattle.st_local.specs.Playing.{Continues, HasSent, IsAllRead, StopsPlay, most_events, read_on, written_on};
+
+use crate::chain::{Counts, send_client, send_server};
+use crate::fault::LocalFault;
+use crate::parts::{part_size, stream_at};
+use crate::play::Play;
+use st_chain::Event;
+use st_nodes::Side;
+use std::alloc::Allocator;
+
+/// How many bytes are written at once.
+const PIECE: usize = 16_384;
+
+/// How many bytes are read at once.
+const MAX_READ: usize = 65_536;
+
+/// The client opens so many streams.
+fn open_streams<A: Allocator + Copy>(play: &mut Play<A>, streams: usize) -> Result<(), LocalFault>
+    ensures kept { OnOk result (Continues play.old play.new) }
+    ensures why { IfErr result (StopsPlay play.new) }
+{
+    for place in 0..streams {
+        let _opened = place;
+        let _told = play.pass(&Event::OpenStream(Side::Client))?;
+    }
+    Ok(())
+}
+
+/// Writes the next bytes of the input, those of one part. Whether they were taken.
+fn write_piece<A: Allocator + Copy>(
+    play: &mut Play<A>,
+    input: &[u8],
+    streams: usize,
+    sent: &mut usize,
+) -> Result<bool, LocalFault>
+    requires some { 0 < streams }
+    requires few { streams ≤ 32 }
+    requires left { sent.old < length input.now }
+    ensures sent { HasSent (part_size (length input.now) streams) input.now sent.old play.old.world
+        → OnOk result (HasSent (part_size (length input.now) streams) input.now sent.new play.new.world) }
+    ensures within { sent.new ≤ length input.now }
+    ensures some { IfOk result (λ taken. taken ≡ true → sent.old < sent.new) }
+    ensures hops { OnOk result (play.new.hops ≡ play.old.hops) }
+    ensures events { OnOk result (play.old.events ≤ play.new.events) }
+    ensures why { IfErr result (StopsPlay play.new) }
+{
+    let size = part_size(input.len(), streams);
+    let place = *sent / size;
+    let count = PIECE.min(size - *sent % size).min(input.len() - *sent);
+    let taken = play.write(stream_at(place), &input[*sent..*sent + count])?;
+    if taken {
+        *sent += count;
+    }
+    Ok(taken)
+}
+
+/// Writes as much of the input as the client takes now.
+fn write_all<A: Allocator + Copy>(
+    play: &mut Play<A>,
+    input: &[u8],
+    streams: usize,
+    sent: &mut usize,
+) -> Result<(), LocalFault>
+    requires some { 0 < streams }
+    requires few { streams ≤ 32 }
+    ensures sent { HasSent (part_size (length input.now) streams) input.now sent.old play.old.world
+        → OnOk result (HasSent (part_size (length input.now) streams) input.now sent.new play.new.world) }
+    ensures hops { OnOk result (play.new.hops ≡ play.old.hops) }
+    ensures events { OnOk result (play.old.events ≤ play.new.events) }
+    ensures why { IfErr result (StopsPlay play.new) }
+{
+    while *sent < input.len() {
+        if !write_piece(play, input, streams, sent)? {
+            return Ok(());
+        }
+    }
+    Ok(())
+}
+
+/// Closes the streams whose parts are written: how many are closed by then.
+fn close_written<A: Allocator + Copy>(
+    play: &mut Play<A>,
+    bytes: usize,
+    streams: usize,
+    sent: usize,
+    closed: usize,
+) -> Result<usize, LocalFault>
+    requires some { 0 < streams }
+    requires few { streams ≤ 32 }
+    ensures kept { OnOk result (Continues play.old play.new) }
+    ensures why { IfErr result (StopsPlay play.new) }
+{
+    let size = part_size(bytes, streams);
+    let mut count = closed;
+    while count < streams && (sent == bytes || (count + 1).saturating_mul(size) <= sent) {
+        let _told = play.pass(&Event::Close(Side::Client, stream_at(count)))?;
+        count += 1;
+    }
+    Ok(count)
+}
+
+/// Reads at the server what can be read of each stream that has not ended.
+fn read_streams<A: Allocator + Copy>(play: &mut Play<A>, streams: usize) -> Result<(), LocalFault>
+    requires { streams ≤ 32 }
+    ensures kept { OnOk result (Continues play.old play.new) }
+    ensures why { IfErr result (StopsPlay play.new) }
+{
+    for place in 0..streams {
+        let stream = stream_at(place);
+        if !play.has_ended(stream) {
+            let _told = play.pass(&Event::Read(Side::Server, stream, MAX_READ))?;
+        }
+    }
+    Ok(())
+}
+
+/// Whether the server was told the end of each stream.
+fn have_ended<A: Allocator + Copy>(play: &Play<A>, streams: usize) -> bool
+    requires { streams ≤ 32 }
+    ensures { result ≡ true → IsAllRead streams play.now.world }
+{
+    for place in 0..streams {
+        if !play.has_ended(stream_at(place)) {
+            return false;
+        }
+    }
+    true
+}
+
+/// How far the input is sent.
+#[derive(Clone, Copy, Drop)]
+struct Progress {
+    /// How many of its bytes are written.
+    sent: usize,
+    /// How many of the streams are closed.
+    closed: usize,
+    /// The Prepares that went.
+    counts: Counts,
+}
+
+/// Each side once: the client writes, closes and sends, the server reads and sends. Whether every stream has ended.
+fn take_turns<A: Allocator + Copy>(
+    play: &mut Play<A>,
+    input: &[u8],
+    streams: usize,
+    lose: u64,
+    progress: &mut Progress,
+) -> Result<bool, LocalFault>
+    requires some { 0 < streams }
+    requires few { streams ≤ 32 }
+    ensures sent { HasSent (part_size (length input.now) streams) input.now progress.old.sent play.old.world
+        → OnOk result (HasSent (part_size (length input.now) streams) input.now progress.new.sent play.new.world) }
+    ensures done { IfOk result (λ done. done ≡ true → (progress.new.sent ≡ length input.now) × IsAllRead streams play.new.world) }
+    ensures hops { OnOk result (play.new.hops ≡ play.old.hops) }
+    ensures more { OnOk result (play.old.events < play.new.events) }
+    ensures room { OnOk result (play.old.events < most_events) }
+    ensures why { IfErr result (StopsPlay play.new) }
+{
+    write_all(play, input, streams, &mut progress.sent)?;
+    progress.closed = close_written(play, input.len(), streams, progress.sent, progress.closed)?;
+    send_client(play, &mut progress.counts, lose)?;
+    read_streams(play, streams)?;
+    send_server(play, &mut progress.counts)?;
+    Ok(progress.sent == input.len() && have_ended(play, streams))
+}
+
+/// Sends each part of the input on a stream of its own, until every stream has ended at the server. One of so many Prepares
+/// of the client is lost, where that is not 0.
+pub(crate) fn send_parts<A: Allocator + Copy>(
+    play: &mut Play<A>,
+    input: &[u8],
+    streams: usize,
+    lose: u64,
+) -> Result<(), LocalFault>
+    requires some { 0 < streams }
+    requires few { streams ≤ 32 }
+    requires blank { (k : ℕ) → written_on play.old.world k ≡ [] }
+    ensures delivered { OnOk result ((place : ℕ) → place < streams → read_on play.new.world (stream_at place) ≡ part_at (part_size (length input.now) streams) input.now place) }
+    ensures why { IfErr result (StopsPlay play.new) }
+{
+    open_streams(play, streams)?;
+    let mut progress = Progress {
+        sent: 0,
+        closed: 0,
+        counts: Counts::none(),
+    };
+    'playing: loop {
+        if take_turns(play, input, streams, lose, &mut progress)? {
+            return Ok(());
+        }
+        if play.has_failed() {
+            return Err(LocalFault::Failed);
+        }
+    }
+}
