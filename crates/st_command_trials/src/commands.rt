@@ -53,7 +53,7 @@ const TABLE: &str =
 
 /// What a run came to.
 #[derive(Drop)]
-struct Ran {
+struct Outcome {
     status: u8,
     /// How often the input was read.
     reads: u64,
@@ -70,12 +70,12 @@ fn ran<
         + Wait
         + std::time::Clock
         + Sync,
->(rt: &N, alloc: Global, words: &[&str], input: R) -> Ran {
+>(rt: &N, alloc: Global, words: &[&str], input: R) -> Outcome {
     let mut reader = CountRead::new(input);
     let mut writer = CountWrite::new(Sink::new(alloc));
     let mut errors = CountWrite::new(Sink::new(alloc));
     let status = run(rt, alloc, words, &mut reader, &mut writer, &mut errors);
-    Ran {
+    Outcome {
         status,
         reads: reader.tally().calls,
         written: writer.into_inner(),
@@ -106,16 +106,16 @@ fn bad_options(rt: HostRuntime) -> Result<(), Fail> {
         (&SEND, 2, "--to=127.0.0.1:65536"),
         (&SEND, 3, "--token="),
         (&SEND, 4, "--secret=00"),
-        (&SEND, 5, "--address=a"),
+        (&SEND, 5, "--address=test."),
         (&SEND, 6, "--peer=test..b"),
         (&SEND, 7, "--least=0:1"),
         (&RECEIVE, 2, "--listen=:7771"),
         (&RECEIVE, 3, "--token=a b"),
         (&RECEIVE, 4, "--secret=g"),
         (&RECEIVE, 5, "--address="),
-        (&RECEIVE, 6, "--peer=b"),
+        (&RECEIVE, 6, "--peer=.b"),
         (&CONNECTOR, 2, "--listen=here"),
-        (&CONNECTOR, 3, "--own=hub"),
+        (&CONNECTOR, 3, "--own=test hub"),
     ];
     for (words, place, word) in rows {
         let words = with(alloc, words, place, word)?;
