@@ -117,6 +117,25 @@ run </dev/null
 unset BYTES MONEY END HUB
 same 'a transfer' $'70000 bytes and 500 units came whole\n--\n\n--\n0' "${out% in *}"$'\n--\n'"$err"$'\n--\n'"$status"
 
+# Bytes over a chain in memory: none, 70,000 over two hops that lose each third Prepare, four on three streams, and one where
+# each Prepare is lost.
+program=$top/ilpstream
+run local --hops 2 --lose 3 </dev/null
+same 'local: no bytes' $'\n--\n\n--\n0' "$(told)"
+head -c 70000 /dev/urandom >"$room/sent"
+"$program" local --hops 2 --lose 3 <"$room/sent" >"$room/out" 2>"$room/err"
+same 'local: 70,000 bytes' $'0\n\nequal' "$?"$'\n'"$(cat "$room/err")"$'\n'"$(cmp "$room/sent" "$room/out" && echo equal)"
+run local --streams 3 < <(printf abcd)
+same 'local: streams' $'abcd\n--\n\n--\n0' "$(told)"
+run local --lose 1 < <(printf a)
+same 'local: all is lost' $'\n--\nfault 58\n--\n1' "$(told)"
+for words in 'local --hops 9' 'local --streams 0' 'local --lose x'; do
+    # shellcheck disable=SC2086
+    run $words </dev/null
+    has "$words" "$err" "error: "
+    same "$words" $'\n2' "$out"$'\n'"$status"
+done
+
 # A link to a link, from another folder.
 ln -s "$top/ilpstream" "$room/once"
 ln -s once "$room/twice"

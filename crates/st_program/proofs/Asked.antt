@@ -6,12 +6,13 @@ use Rattle.clap.specs.Words.{Row, Text}
 use Rattle.st_oer.specs.Address.{is_address}
 use Rattle.st_http.specs.Texts.{is_field_text}
 use Rattle.st_settings.specs.Settings as settings
+use Rattle.st_settings.specs.declared.settings.LocalSettings.{LocalSettings}
 use Rattle.st_settings.specs.declared.settings.SendSettings.{SendSettings}
 use Rattle.st_settings.specs.declared.settings.ReceiveSettings.{ReceiveSettings}
 use Rattle.st_words.specs.declared.request.Request.{Request}
 use Rattle.st_words.specs.declared.request.Request.TheVariants as request
 use Rattle.st_words.specs.Words.{AsksBy}
-use Rattle.st_program.specs.Settings.{IsLawful, IsReceiver, IsSender}
+use Rattle.st_program.specs.Settings.{IsChain, IsLawful, IsReceiver, IsSender}
 use Rattle.st_program.specs.Words.{AsksFor, AsksFrames}
 
 unlike : (s t : Text) → bytes_eq s t ≡ false → s ≢ t
@@ -23,6 +24,7 @@ unlike s t differs e =
 by_command : (o : Option (Text × List Row)) (q : Request) → AsksBy o request.Frames → AsksBy o q → q ≡ request.Frames
 by_command None q frames asks = asks
 by_command (Some (name, rows)) request.Frames frames asks = refl
+by_command (Some (name, rows)) (request.Local s) frames asks = absurd (unlike (codes "frames") (codes "local") refl (sym frames ∙ asks.0))
 by_command (Some (name, rows)) (request.Send s) frames asks = absurd (unlike (codes "frames") (codes "send") refl (sym frames ∙ asks.0))
 by_command (Some (name, rows)) (request.Receive s) frames asks = absurd (unlike (codes "frames") (codes "receive") refl (sym frames ∙ asks.0))
 by_command (Some (name, rows)) (request.Connector s) frames asks = absurd (unlike (codes "frames") (codes "connector") refl (sym frames ∙ asks.0))
@@ -36,6 +38,13 @@ visible s t e h = ap is_field_text e ∙ h
 
 address : (s t : List ℕ) → s ≡ t → is_address t ≡ true → is_address s ≡ true
 address s t e h = ap is_address e ∙ h
+
+chain : (o : settings.LocalTexts) (s : LocalSettings) → settings.IsLocal o s → IsChain s
+chain o s h = record {
+  hops = h.hops.number.bounded;
+  some = h.streams.enough;
+  streams = h.streams.number.bounded;
+}
 
 sender : (o : settings.SendTexts) (s : SendSettings) → settings.IsSend o s → IsSender s
 sender o s h = record {
@@ -55,6 +64,7 @@ receiver o s h = record {
 pub asked_lawful : (o : Option (Text × List Row)) (q : Request) → AsksBy o q → IsLawful q
 asked_lawful None q asks = subst IsLawful (sym asks) tt
 asked_lawful (Some (name, rows)) request.Frames asks = tt
+asked_lawful (Some (name, rows)) (request.Local s) asks = chain _ s asks.1
 asked_lawful (Some (name, rows)) (request.Send s) asks = sender _ s asks.1
 asked_lawful (Some (name, rows)) (request.Receive s) asks = receiver _ s asks.1
 asked_lawful (Some (name, rows)) (request.Connector s) asks = tt

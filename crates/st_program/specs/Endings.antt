@@ -1,12 +1,13 @@
 -- What the program answers, and how a command ended.
 use Rattle.std.specs.Prelude.{◌≡◌, ◌⊎◌, ℕ, List, Option, Some, None, Result, Ok, Err}
 use Rattle.clap.specs.Words.{Kinds}
-use Rattle.st_oer.specs.Tallies.{device_of}
+use Rattle.st_oer.specs.Tallies.{device_of, tally_of}
 use Rattle.st_oer.specs.declared.counted.Counting.{Counting}
 use Rattle.st_commands.specs.declared.error.Fault.{Fault}
 use Rattle.st_commands.specs.declared.error.Fault.TheVariants as fault
 use Rattle.st_commands.specs.Endings.{RunsFrames, Says, TellsFault}
 use Rattle.st_commands.specs.Texts.{fault_text}
+use Rattle.st_local.specs.Endings as local
 use Rattle.st_words.specs.declared.request.Request.{Request}
 use Rattle.st_words.specs.declared.request.Request.TheVariants as request
 use Rattle.st_program.specs.declared.error.RunError.{RunError}
@@ -43,6 +44,8 @@ Ends said e f status = (end : Result (Unit {0}) RunError) × TellsEnd end said e
 abbrev pub Does : {R W E : Type 0} → Request → (R → Option (List ℕ)) → (W → Option (List ℕ)) → (E → Option (List ℕ)) → (Option Fault → Type 0)
     → Counting R → Counting R → Counting W → Counting W → Counting E → Counting E → ℕ → Type 0
 Does request.Frames remaining contents said ended r s w v e f status = RunsFrames (remaining (device_of r)) (contents (device_of w)) (contents (device_of v)) ended said e f status
+Does (request.Local x) remaining contents said ended r s w v e f status = local.RunsLocal (remaining (device_of r)) (contents (device_of w)) (contents (device_of v))
+    (local.HasEnded (tally_of r) (tally_of s) (tally_of w) (tally_of v)) said e f status
 Does (request.Send x) remaining contents said ended r s w v e f status = (v ≡ w) × Ends said e f status
 Does (request.Receive x) remaining contents said ended r s w v e f status = (s ≡ r) × Ends said e f status
 Does (request.Connector x) remaining contents said ended r s w v e f status =

@@ -1,11 +1,18 @@
 -- What the commands rely on in their settings.
-use Rattle.std.specs.Prelude.{◌≡◌, true, ⊤}
+use Rattle.std.specs.Prelude.{◌≡◌, ◌<◌, ◌≤◌, true, ⊤}
 use Rattle.st_oer.specs.Address.{is_address}
 use Rattle.st_http.specs.Texts.{is_field_text}
+use Rattle.st_settings.specs.declared.settings.LocalSettings.{LocalSettings}
 use Rattle.st_settings.specs.declared.settings.SendSettings.{SendSettings}
 use Rattle.st_settings.specs.declared.settings.ReceiveSettings.{ReceiveSettings}
 use Rattle.st_words.specs.declared.request.Request.{Request}
 use Rattle.st_words.specs.declared.request.Request.TheVariants as request
+
+-- a chain of so many hops, and so many streams
+pub record IsChain (s : LocalSettings) : Type 0 where
+  pub hops : s.hops ≤ 8
+  pub some : 0 < s.streams
+  pub streams : s.streams ≤ 32
 
 -- both ends have addresses, and the neighbour may stand in a request
 pub record IsSender (s : SendSettings) : Type 0 where
@@ -21,6 +28,7 @@ pub record IsReceiver (s : ReceiveSettings) : Type 0 where
 
 abbrev pub IsLawful : Request → Type 0
 IsLawful request.Frames = ⊤
+IsLawful (request.Local s) = IsChain s
 IsLawful (request.Send s) = IsSender s
 IsLawful (request.Receive s) = IsReceiver s
 IsLawful (request.Connector s) = ⊤

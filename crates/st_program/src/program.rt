@@ -15,6 +15,7 @@ use crate::tell::{tell_end, tell_number};
 use clap::Error;
 use clap::error::ErrorKind;
 use st_commands::{Fault, TURNS, put, run_frames, say, tell_fault};
+use st_local::run_local;
 use st_oer::{CountRead, CountWrite, Tally};
 use st_words::{Request, WordsError, read_words};
 use std::alloc::Global;
@@ -103,6 +104,7 @@ fn obey<
 {
     match request {
         Request::Frames => run_frames(alloc, reader, writer, errors),
+        Request::Local(settings) => run_local(alloc, settings, reader, writer, errors),
         Request::Send(settings) => tell_end(alloc, errors, send(rt, alloc, settings, reader)),
         Request::Receive(settings) => {
             tell_end(alloc, errors, receive(rt, alloc, settings, writer))

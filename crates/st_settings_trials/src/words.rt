@@ -1,6 +1,5 @@
 //! Each command's words.
 
-use st_settings::{LocalOptions, LocalSettings};
 use st_words::{Request, WordsError, read_words};
 use std::alloc::Global;
 
@@ -130,13 +129,9 @@ fn connector_says_its_settings(rt: HostRuntime) {
 
 #[test]
 fn local_says_its_settings(rt: HostRuntime) {
-    let texts = LocalOptions {
-        hops: "8",
-        lose: "3",
-        streams: "1",
-    };
-    let Some(settings) = LocalSettings::read(&texts) else {
-        assert!(rt; false, "the texts are taken");
+    let words = ["ilpstream", "local", "--lose", "3", "--hops", "8"];
+    let Ok(Request::Local(settings)) = read_words(rt.alloc(), words.as_slice()) else {
+        assert!(rt; false, "the words are taken");
         return;
     };
     assert!(rt; settings.hops == 8 && settings.lose == 3 && settings.streams == 1);
@@ -212,5 +207,6 @@ fn other_words_are_refused(rt: HostRuntime) {
     assert!(rt; longer(alloc, "--workers", "16") == 0 && longer(alloc, "--least", "3:4") == 0);
     assert!(rt; longer(alloc, "--to", "h:1") == 2 && longer(alloc, "--tokens", "t") == 2);
     assert!(rt; changed(alloc, 1, "sent") == 2 && status_of(alloc, &SEND[..10]) == 2);
+    assert!(rt; status_of(alloc, &["ilpstream", "local", "--hops", "9"]) == 2);
     assert!(rt; status_of(alloc, &["ilpstream", "send", "--help"]) == 2);
 }

@@ -8,12 +8,13 @@ use Rattle.clap.specs.Simple.{is_simple}
 use Rattle.clap.specs.declared.parser.matches.Found.{Found}
 use Rattle.clap.proofs.WalkLemmas.{first_value-rows}
 use Rattle.st_settings.specs.Settings as settings
+use Rattle.st_settings.specs.declared.settings.LocalSettings.{LocalSettings}
 use Rattle.st_settings.specs.declared.settings.SendSettings.{SendSettings}
 use Rattle.st_settings.specs.declared.settings.ReceiveSettings.{ReceiveSettings}
 use Rattle.st_settings.specs.declared.settings.ConnectorSettings.{ConnectorSettings}
 use Rattle.st_words.specs.declared.request.Request.TheVariants as request
 use Rattle.st_words.specs.Program.{program}
-use Rattle.st_words.specs.Words.{IsBad, connector_texts, receive_texts, send_texts, value_of}
+use Rattle.st_words.specs.Words.{IsBad, connector_texts, local_texts, receive_texts, send_texts, value_of}
 
 pub is_simple_program : is_simple program ≡ true
 is_simple_program = refl
@@ -38,20 +39,30 @@ unlike s t differs e =
     absurd (cc)
 
 module _ (name : Text) (rows : List Row) where
+  pub bad_local : name ≡ codes "local" → ((s : LocalSettings) → ¬ (settings.IsLocal (local_texts rows) s)) → IsBad name rows
+  bad_local is none request.Frames asks = unlike (codes "local") (codes "frames") refl (sym is ∙ asks)
+  bad_local is none (request.Local s) asks = none s asks.1
+  bad_local is none (request.Send s) asks = unlike (codes "local") (codes "send") refl (sym is ∙ asks.0)
+  bad_local is none (request.Receive s) asks = unlike (codes "local") (codes "receive") refl (sym is ∙ asks.0)
+  bad_local is none (request.Connector s) asks = unlike (codes "local") (codes "connector") refl (sym is ∙ asks.0)
+
   pub bad_send : name ≡ codes "send" → ((s : SendSettings) → ¬ (settings.IsSend (send_texts rows) s)) → IsBad name rows
   bad_send is none request.Frames asks = unlike (codes "send") (codes "frames") refl (sym is ∙ asks)
+  bad_send is none (request.Local s) asks = unlike (codes "send") (codes "local") refl (sym is ∙ asks.0)
   bad_send is none (request.Send s) asks = none s asks.1
   bad_send is none (request.Receive s) asks = unlike (codes "send") (codes "receive") refl (sym is ∙ asks.0)
   bad_send is none (request.Connector s) asks = unlike (codes "send") (codes "connector") refl (sym is ∙ asks.0)
 
   pub bad_receive : name ≡ codes "receive" → ((s : ReceiveSettings) → ¬ (settings.IsReceive (receive_texts rows) s)) → IsBad name rows
   bad_receive is none request.Frames asks = unlike (codes "receive") (codes "frames") refl (sym is ∙ asks)
+  bad_receive is none (request.Local s) asks = unlike (codes "receive") (codes "local") refl (sym is ∙ asks.0)
   bad_receive is none (request.Send s) asks = unlike (codes "receive") (codes "send") refl (sym is ∙ asks.0)
   bad_receive is none (request.Receive s) asks = none s asks.1
   bad_receive is none (request.Connector s) asks = unlike (codes "receive") (codes "connector") refl (sym is ∙ asks.0)
 
   pub bad_connector : name ≡ codes "connector" → ((s : ConnectorSettings) → ¬ (settings.IsConnector (connector_texts rows) s)) → IsBad name rows
   bad_connector is none request.Frames asks = unlike (codes "connector") (codes "frames") refl (sym is ∙ asks)
+  bad_connector is none (request.Local s) asks = unlike (codes "connector") (codes "local") refl (sym is ∙ asks.0)
   bad_connector is none (request.Send s) asks = unlike (codes "connector") (codes "send") refl (sym is ∙ asks.0)
   bad_connector is none (request.Receive s) asks = unlike (codes "connector") (codes "receive") refl (sym is ∙ asks.0)
   bad_connector is none (request.Connector s) asks = none s asks.1

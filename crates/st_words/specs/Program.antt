@@ -39,6 +39,13 @@ required_rule name = with_required (option_rule name)
 abbrev pub frames : Shape
 frames = new_shape (codes "frames")
 
+abbrev pub local : Shape
+local = record (new_shape (codes "local")) {
+  rules = with_default (codes "1") (number_rule (codes "hops") 0 8)
+      ∷ with_default (codes "0") (number_rule (codes "lose") 0 1_000_000)
+      ∷ with_default (codes "1") (number_rule (codes "streams") 1 32) ∷ [];
+}
+
 abbrev pub send : Shape
 send = record (new_shape (codes "send")) {
   rules = required_rule (codes "to")
@@ -78,5 +85,5 @@ alone = record { top = record (new_shape (codes "ilpstream")) { has_version = tr
 abbrev pub program : App
 program = record {
   top = record alone.top { is_leaf = false };
-  subs = frames ∷ send ∷ receive ∷ connector ∷ [];
+  subs = frames ∷ local ∷ send ∷ receive ∷ connector ∷ [];
 }

@@ -12,6 +12,13 @@ use Rattle.st_words.specs.Program.{program}
 abbrev pub value_of : Text → List Row → Text
 value_of name rows = unwrap_or (first_of name rows) []
 
+abbrev pub local_texts : List Row → settings.LocalTexts
+local_texts rows = record {
+  hops = value_of (codes "hops") rows;
+  lose = value_of (codes "lose") rows;
+  streams = value_of (codes "streams") rows;
+}
+
 abbrev pub send_texts : List Row → settings.SendTexts
 send_texts rows = record {
   to = value_of (codes "to") rows;
@@ -46,6 +53,7 @@ connector_texts rows = record {
 -- a command of this name, with these values of its options, asks for this
 abbrev pub Asks : Text → List Row → Request → Type 0
 Asks name rows request.Frames = name ≡ codes "frames"
+Asks name rows (request.Local s) = (name ≡ codes "local") × settings.IsLocal (local_texts rows) s
 Asks name rows (request.Send s) = (name ≡ codes "send") × settings.IsSend (send_texts rows) s
 Asks name rows (request.Receive s) = (name ≡ codes "receive") × settings.IsReceive (receive_texts rows) s
 Asks name rows (request.Connector s) = (name ≡ codes "connector") × settings.IsConnector (connector_texts rows) s

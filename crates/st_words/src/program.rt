@@ -8,11 +8,11 @@ ghost use Rattle.st_words.specs.Program.{HasShape};
 
 use crate::options::{number, option, or, required, with, with_command};
 use crate::texts::{
-    AFTER_CONNECTOR_HELP, AFTER_FRAMES_HELP, AFTER_HELP, AFTER_RECEIVE_HELP, AFTER_SEND_HELP,
-    LEAST_HELP, SECRET_HELP, TOKEN_HELP,
+    AFTER_CONNECTOR_HELP, AFTER_FRAMES_HELP, AFTER_HELP, AFTER_LOCAL_HELP, AFTER_RECEIVE_HELP,
+    AFTER_SEND_HELP, LEAST_HELP, SECRET_HELP, TOKEN_HELP,
 };
 use clap::Command;
-use st_settings::{MAX_MONEY, MAX_REQUESTS, MAX_WORKERS};
+use st_settings::{MAX_HOPS, MAX_LOSE, MAX_MONEY, MAX_REQUESTS, MAX_STREAMS, MAX_WORKERS};
 use std::alloc::{AllocError, Global};
 
 /// The program's version.
@@ -34,6 +34,41 @@ fn frames<'a>(alloc: Global) -> Command<'a>
         "Reads STREAM packets in hexadecimal, one a line, and prints each stream's longest run",
         AFTER_FRAMES_HELP,
     )
+}
+
+fn local<'a>(alloc: Global) -> Result<Command<'a>, AllocError>
+    ensures { IfOk result (HasShape spec.local) }
+{
+    let hops = number(
+        alloc,
+        "hops",
+        "Connectors between the two ends, 0 to 8",
+        0,
+        MAX_HOPS,
+    );
+    let lose = number(
+        alloc,
+        "lose",
+        "Each N-th Prepare that the client sends is lost, N from 0 to 1000000; 0 loses none",
+        0,
+        MAX_LOSE,
+    );
+    let streams = number(
+        alloc,
+        "streams",
+        "Streams that the input is cut into, 1 to 32",
+        1,
+        MAX_STREAMS,
+    );
+    let command = named(
+        alloc,
+        "local",
+        "Sends standard input through a connection in memory, to standard output",
+        AFTER_LOCAL_HELP,
+    );
+    let command = with(command, or(hops, "1"))?;
+    let command = with(command, or(lose, "0"))?;
+    with(command, or(streams, "1"))
 }
 
 fn send<'a>(alloc: Global) -> Result<Command<'a>, AllocError>
@@ -191,6 +226,7 @@ pub(crate) fn program<'a>(alloc: Global) -> Result<Command<'a>, AllocError>
         .about("STREAM over Interledger")
         .after_help(AFTER_HELP);
     let program = with_command(program, frames(alloc))?;
+    let program = with_command(program, local(alloc)?)?;
     let program = with_command(program, send(alloc)?)?;
     let program = with_command(program, receive(alloc)?)?;
     with_command(program, connector(alloc)?)

@@ -11,7 +11,8 @@ use crate::error::WordsError;
 use crate::program::program;
 use clap::{ArgMatches, Error};
 use st_settings::{
-    ConnectorOptions, ConnectorSettings, ReceiveOptions, ReceiveSettings, SendOptions, SendSettings,
+    ConnectorOptions, ConnectorSettings, LocalOptions, LocalSettings, ReceiveOptions,
+    ReceiveSettings, SendOptions, SendSettings,
 };
 use std::alloc::Global;
 use std::convert::AsStr;
@@ -21,6 +22,8 @@ use std::convert::AsStr;
 pub enum Request<'a> {
     /// `frames`, or no command.
     Frames,
+    /// `local`
+    Local(LocalSettings),
     /// `send`
     Send(SendSettings<'a>),
     /// `receive`
@@ -34,6 +37,16 @@ fn value<'a>(matches: &ArgMatches<'a>, name: &str) -> &'a str
     ensures { result.now ≡ value_of name.now (rows_of (found_of matches.now)) }
 {
     matches.get_str(name).unwrap_or("")
+}
+
+fn local<'a>(matches: &ArgMatches<'a>) -> LocalOptions<'a>
+    ensures { settings.local_texts result ≡ spec.local_texts (rows_of (found_of matches.now)) }
+{
+    LocalOptions {
+        hops: value(matches, "hops"),
+        lose: value(matches, "lose"),
+        streams: value(matches, "streams"),
+    }
 }
 
 fn send<'a>(matches: &ArgMatches<'a>) -> SendOptions<'a>
@@ -82,6 +95,7 @@ fn request_of<'a>(name: &str, matches: &ArgMatches<'a>) -> Option<Request<'a>>
 {
     match name {
         "frames" => Some(Request::Frames),
+        "local" => Some(Request::Local(LocalSettings::read(&local(matches))?)),
         "send" => {
             let Some(settings) = SendSettings::read(&send(matches)) else {
                 return None;

@@ -25,6 +25,15 @@ At the end each stream prints its number, the length of its run in bytes, and th
 Example:
   ./ilpstream frames < examples/frames.txt";
 
+/// What ends the help of `local`.
+pub const AFTER_LOCAL_HELP: &str =
+    "The input, at most 1048576 bytes, is cut into as many parts as there are streams, each sent on a
+stream of its own and closed; the output is the parts in the order of the streams. No socket is
+opened.
+
+Example:
+  ./ilpstream local --hops 2 --lose 3 --streams 4 < README.md";
+
 /// What ends the help of `send`.
 pub const AFTER_SEND_HELP: &str =
     "Standard input goes on stream 1, which is closed at its end; the money is offered on it. Each packet

@@ -1,11 +1,18 @@
 use Rattle.std.proofs.Common.{subst}
 use Rattle.clap.specs.Words.{found_of, rows_of}
 use Rattle.st_settings.specs.Settings as settings
+use Rattle.st_settings.specs.declared.settings.LocalSettings.{LocalSettings}
 use Rattle.st_settings.specs.declared.settings.SendSettings.{SendSettings}
 use Rattle.st_settings.specs.declared.settings.ReceiveSettings.{ReceiveSettings}
 use Rattle.st_settings.specs.declared.settings.ConnectorSettings.{ConnectorSettings}
-use Rattle.st_words.proofs.Commands.{bad_connector, bad_receive, bad_send}
+use Rattle.st_words.proofs.Commands.{bad_connector, bad_local, bad_receive, bad_send}
 use Rattle.st_words.proofs.request.request_of.Goals as goal
+
+pub returns-in_err-read-in-local : goal.returns-in_err-read-in-local
+returns-in_err-read-in-local c =
+    rw c.from_residual.ensures
+    (bad_local c.args.name.now (rows_of (found_of c.args.matches.now)) c.in-local.is
+    (subst (λ (t : settings.LocalTexts). (s : LocalSettings) → ¬ (settings.IsLocal t s)) c.local.ensures c.in_err-read-in-local.ensures))
 
 pub returns-in_default-read : goal.returns-in_default-read
 returns-in_default-read c =
@@ -14,7 +21,7 @@ returns-in_default-read c =
 
 pub returns-in_err-read-in-receive : goal.returns-in_err-read-in-receive
 returns-in_err-read-in-receive c =
-    rw c.from_residual.ensures
+    rw c.from_residual-in_err-read-in-receive.ensures
     (bad_receive c.args.name.now (rows_of (found_of c.args.matches.now)) c.in-receive.is
     (subst (λ (t : settings.ReceiveTexts). (s : ReceiveSettings) → ¬ (settings.IsReceive t s)) c.receive.ensures c.in_err-read-in-receive.ensures))
 
