@@ -1,12 +1,22 @@
 #!/usr/bin/env bash
-# The whole gate: `rt ci`, then the program that it built, run as whoever uses it does, and the README's examples. The last
-# line counts all.
+# The whole gate: `rt ci`, then the program that it built, run as whoever uses it does, and the README's examples. Each line of
+# `rt ci` on a crate bears the minute that it came in; the line before the last tells what the whole took, the last counts all.
 set -u
 cd "$(dirname "$(readlink -f "${BASH_SOURCE[0]}")")/.." || exit 1
 log=$(mktemp)
 trap 'rm -f "$log"' EXIT
 
-rt ci | tee "$log"
+# Puts the minutes since the start before each line that tells of a crate.
+stamped() {
+    while IFS= read -r line; do
+        case $line in
+            "rt: "* | "== "*) echo "[$((SECONDS / 60)) min] $line" ;;
+            *) printf '%s\n' "$line" ;;
+        esac
+    done
+}
+
+rt ci | stamped | tee "$log"
 status=${PIPESTATUS[0]}
 if [ -x crates/ilpstream/out/ilpstream ]; then
     tests/program.sh | tee -a "$log"
@@ -19,6 +29,7 @@ fi
 tests/readme.py | tee -a "$log"
 [ "${PIPESTATUS[0]}" = 0 ] || status=1
 
+echo "the gate took $((SECONDS / 60)) minutes on $(nproc) cores"
 sed -nE 's/^([0-9]+) passed, ([0-9]+) failed$/\1 \2/p' "$log" | {
     passed=0 failed=0
     while read -r well ill; do

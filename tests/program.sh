@@ -85,19 +85,44 @@ for word in --version -V; do
     run $word </dev/null
     same "$word" $'ilpstream 0.1.0\n--\n\n--\n0' "$(told)"
 done
-for words in --help -h help 'frames --help' 'help frames'; do
+for words in --help -h help 'frames --help' 'frames -h' 'help frames'; do
     # shellcheck disable=SC2086
     run $words </dev/null
-    has "$words" "$out" './ilpstream frames < examples/frames.txt'
+    for part in 'Usage: ilpstream ' 'standard input until its end' README.md './ilpstream frames < examples/frames.txt'; do
+        has "$words" "$out" "$part"
+    done
     same "$words" $'\n0' "$err"$'\n'"$status"
 done
+run --help </dev/null
+for part in 'Usage: ilpstream [COMMAND]' 'Without a command it does `frames`' '  0  the command did its work' \
+    '  1  a line was refused' '  2  the arguments ask for no command' frames local send receive connector; do
+    has 'help' "$out" "$part"
+done
 
-for words in fames 'frames frames' '--frames'; do
+# The help of each command names its options.
+names() {
+    run "$1" --help </dev/null
+    for part in "${@:2}"; do
+        has "the help of $1" "$out" "$part"
+    done
+    same "the help of $1" $'\n0' "$err"$'\n'"$status"
+}
+names local '--hops <N>' '--streams <N>' '--lose <N>'
+names send '--to <HOST:PORT>' '--token <TOKEN>' '--secret <HEX>' '--address <ADDRESS>' '--peer <ADDRESS>' '--money <N>' \
+    '--workers <N>' '--random <FILE>' '--least <NUM:DEN>'
+names receive '--listen <HOST:PORT>' '--token <TOKEN>' '--secret <HEX>' '--address <ADDRESS>' '--peer <ADDRESS>' \
+    '--receive-max <N>'
+names connector '--listen <HOST:PORT>' '--own <ADDRESS>' '--requests <N>' '--workers <N>'
+
+for words in fames 'frames frames' '--frames' send; do
     # shellcheck disable=SC2086
     run $words <"$top/examples/frames.txt"
     has "$words" "$err" "error: "
     same "$words" $'\n2' "$out"$'\n'"$status"
 done
+(exec -a $'\xff' "$top/crates/ilpstream/out/ilpstream" frames) <"$top/examples/frames.txt" >"$room/out" 2>"$room/err"
+same 'a name that is no text' $'2\n\nerror: invalid UTF-8 was detected in one or more arguments' \
+    "$?"$'\n'"$(cat "$room/out")"$'\n'"$(cat "$room/err")"
 run $'\xff' <"$top/examples/frames.txt"
 same 'a word that is no text' $'\n--\nerror: invalid UTF-8 was detected in one or more arguments\n--\n2' "$(told)"
 
@@ -107,8 +132,90 @@ same 'no input' $'\n--\nfault 90\n--\n1' "$(told)"
 same 'no output' $'1\nfault 91' "$?"$'\n'"$(cat "$room/err")"
 "$program" <"$top/examples/frames.txt" 2>"$room/err" >/dev/full
 same 'a full output' $'1\nfault 91' "$?"$'\n'"$(cat "$room/err")"
+"$program" -V </dev/null 2>"$room/err" >/dev/full
+same 'a full output for the version' $'1\nfault 91' "$?"$'\n'"$(cat "$room/err")"
+"$program" send </dev/null 2>/dev/full >"$room/out"
+same 'a full output for refused words' $'2\n' "$?"$'\n'"$(cat "$room/out")"
 "$program" fames 2>&- >"$room/out"
 same 'no output for errors' $'2\n' "$?"$'\n'"$(cat "$room/out")"
+
+# Commands that end before a packet is sent. What they leave of their input is $left.
+left_by() {
+    "$program" "$@" >"$room/out" 2>"$room/err"
+    status=$?
+    left=$(cat)
+    out=$(cat "$room/out") err=$(cat "$room/err")
+}
+with() { # puts a word in the place of one, counted from 0, of those that follow
+    words=("${@:3}")
+    words[$1]=$2
+}
+secret=--secret=000102030405060708090a0b0c0d0e0f101112131415161718191a1b1c1d1e1f
+send=(send --to=127.0.0.1:1 --token=t "$secret" --address=test.a --peer=test.b --random=/nowhere/random)
+# (an address that this machine has not: RFC 5737)
+receive=(receive --listen=192.0.2.1:7771 --token=t "$secret" --address=test.b --peer=test.a)
+connector=(connector --listen=192.0.2.1:7770 --own=test.hub --requests=10)
+table=$'account 100 10 alice - -\naccount 100 10 bob 127.0.0.1:1 t\n\nroute test.b 1'
+
+bad_option() {
+    left_by "${words[@]}" <<<"$table"
+    same "${words[*]}" $'\n--\nfault 98\n--\n1\n--\n'"$table" "$(told)"$'\n--\n'"$left"
+}
+while read -r place word; do
+    with "$place" "$word" "${send[@]}" && bad_option
+done <<'ROWS'
+1 --to=127.0.0.1
+1 --to=127.0.0.1:65536
+2 --token=
+3 --secret=00
+4 --address=test.
+5 --peer=test..b
+6 --least=0:1
+ROWS
+with 1 --listen=:7771 "${receive[@]}" && bad_option
+with 2 '--token=a b' "${receive[@]}" && bad_option
+with 3 --secret=g "${receive[@]}" && bad_option
+with 4 --address= "${receive[@]}" && bad_option
+with 5 --peer=.b "${receive[@]}" && bad_option
+with 1 --listen=here "${connector[@]}" && bad_option
+with 2 '--own=test hub' "${connector[@]}" && bad_option
+
+# Numbers out of their bounds, and options that are missing or unknown.
+refused_words() {
+    left_by "${words[@]}" <<<"$table"
+    has "${words[*]}" "$err" "error: "
+    same "${words[*]}" $'\n2\n'"$table" "$out"$'\n'"$status"$'\n'"$left"
+}
+for word in --money=9223372036854775808 --workers=0 --workers=17 --tokens=t; do
+    with 6 "$word" "${send[@]}" && refused_words
+done
+with 1 --money=1 "${send[@]}" && refused_words
+with 1 --receive-max=1 "${receive[@]}" && refused_words
+with 3 --requests=0 "${connector[@]}" && refused_words
+with 3 --workers=4 "${connector[@]}" && refused_words
+
+# A table is read before anything is listened to: the fault 96 tells a bad one, and 80 that a good one has no listener.
+for bad in 'acount 100 10 alice - -' 'account 100 10 alice - ' 'account 100 10 alice - t' 'account -1 10 alice - -' \
+    'account 9223372036854775808 10 alice - -' $'account 100 10 alice - -\nroute test.b 1' \
+    $'account 100 10 alice - -\nroute test.b 0\nroute test.b 0 1 1' $'account 100 10 alice - -\nroute test.b 0 1 0' \
+    $'account 100 10 alice - -\n\xff'; do
+    run "${connector[@]}" <<<"$bad"
+    same "the table $bad" $'\n--\nfault 96\n--\n1' "$(told)"
+done
+for good in "$table" '' $' account  1 2 t - - \r'; do
+    run "${connector[@]}" <<<"$good"
+    same "the table $good" $'\n--\nfault 80\n--\n1' "$(told)"
+done
+
+# No file of random bytes, no listener, no table and nowhere to tell it.
+left_by "${send[@]}" <<<abc
+same 'no random bytes' $'\n--\nfault 90\n--\n1\nabc' "$(told)"$'\n'"$left"
+left_by "${receive[@]}" <<<abc
+same 'no listener' $'\n--\nfault 80\n--\n1\nabc' "$(told)"$'\n'"$left"
+run "${connector[@]}" <&-
+same 'no table' $'\n--\nfault 90\n--\n1' "$(told)"
+"$program" "${connector[@]}" <<<"$table" 2>/dev/full >"$room/out"
+same 'a full output for errors' $'1\n' "$?"$'\n'"$(cat "$room/out")"
 
 # A file and money from a sender through a connector to a receiver, by the example, on ports of its own.
 program=$top/examples/transfer/run
@@ -135,6 +242,46 @@ for words in 'local --hops 9' 'local --streams 0' 'local --lose x'; do
     has "$words" "$err" "error: "
     same "$words" $'\n2' "$out"$'\n'"$status"
 done
+
+# A peer between a sender and a receiver that lies, at each third exchange and at every one; and devices that fail. What comes
+# is a beginning of what was sent. A Fulfill acknowledges whatever its payload is; F06, the answer to a payload that does
+# not open, fails the connection at once, and so do 200 failures in a row.
+program=python3
+run "$top/tests/liar.py" "$top/ilpstream"
+same 'a peer that lies' "wrong fulfillment, each third: whole
+wrong fulfillment, every one: send 58, receive waits, a part
+another's fulfillment, each third: whole
+another's fulfillment, every one: send 58, receive waits, a part
+answer with a turned bit, each third: whole
+answer with a turned bit, every one: whole
+answer of 70,000 bytes, each third: whole
+answer of 70,000 bytes, every one: send 58, receive waits, a part
+drop before the answer, each third: whole
+drop before the answer, every one: send 58, receive waits, a part
+drop in the head, each third: whole
+drop in the head, every one: send 58, receive waits, a part
+drop in the answer, each third: whole
+drop in the answer, every one: send 58, receive waits, a part
+head byte by byte, each third: whole
+head byte by byte, every one: whole
+drop at once, each third: whole
+drop at once, every one: send 58, receive waits, nothing
+drop in the request, each third: whole
+drop in the request, every one: send 58, receive waits, nothing
+drop before the receiver, each third: whole
+drop before the receiver, every one: send 58, receive waits, nothing
+wrong condition, each third: whole
+wrong condition, every one: send 58, receive waits, nothing
+request with a turned bit, each third: send 58, receive waits, a part
+request with a turned bit, every one: send 58, receive waits, nothing
+another's request again, each third: whole
+another's request again, every one: whole
+a full disk as output: send 58, receive 91, nothing
+an input that fails: send 90, receive waits, nothing
+--
+
+--
+0" "$(told)"
 
 # A link to a link, from another folder.
 ln -s "$top/ilpstream" "$room/once"

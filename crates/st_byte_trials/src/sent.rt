@@ -27,32 +27,32 @@ fn is_lowest_row<A: Allocator + Copy>(bytes: &Unacked<A>, row: &[u8]) -> bool {
 #[test]
 fn sends_the_lowest_due_bytes_first(rt: HostRuntime) -> Result<(), Fail> {
     let mut bytes = Unacked::new(rt.alloc());
-    assert_eq!(rt; bytes.lowest_due(), None);
+    assert!(rt; bytes.lowest_due() == None);
     bytes.accept(b"abcdef")?;
     bytes.accept(b"gh")?;
-    assert_eq!(rt; bytes.accepted(), 8);
-    assert_eq!(rt; send(&mut bytes, 1, 3)?, Some((0, 3)));
-    assert_eq!(rt; send(&mut bytes, 2, 3)?, Some((3, 6)));
-    assert_eq!(rt; bytes.lowest_due(), Some((6, 8)));
+    assert!(rt; bytes.accepted() == 8);
+    assert!(rt; send(&mut bytes, 1, 3)? == Some((0, 3)));
+    assert!(rt; send(&mut bytes, 2, 3)? == Some((3, 6)));
+    assert!(rt; bytes.lowest_due() == Some((6, 8)));
     bytes.failed(1);
-    assert_eq!(rt; bytes.lowest_due(), Some((0, 3)));
-    assert_eq!(rt; send(&mut bytes, 3, 2)?, Some((0, 2)));
-    assert_eq!(rt; bytes.acknowledged(2), 6);
-    assert_eq!(rt; bytes.lowest_due(), Some((2, 3)));
-    assert_eq!(rt; send(&mut bytes, 4, 9)?, Some((2, 3)));
-    assert_eq!(rt; send(&mut bytes, 5, 9)?, Some((6, 8)));
-    assert_eq!(rt; bytes.count(), 5);
-    assert_eq!(rt; bytes.acknowledged(3), 2);
-    assert_eq!(rt; bytes.acknowledged(4), 3);
+    assert!(rt; bytes.lowest_due() == Some((0, 3)));
+    assert!(rt; send(&mut bytes, 3, 2)? == Some((0, 2)));
+    assert!(rt; bytes.acknowledged(2) == 6);
+    assert!(rt; bytes.lowest_due() == Some((2, 3)));
+    assert!(rt; send(&mut bytes, 4, 9)? == Some((2, 3)));
+    assert!(rt; send(&mut bytes, 5, 9)? == Some((6, 8)));
+    assert!(rt; bytes.count() == 5);
+    assert!(rt; bytes.acknowledged(3) == 2);
+    assert!(rt; bytes.acknowledged(4) == 3);
     bytes.failed(5);
-    assert_eq!(rt; bytes.count(), 2);
+    assert!(rt; bytes.count() == 2);
     assert!(rt; !bytes.is_done());
     assert!(rt; is_lowest_row(&bytes, b"gh"));
-    assert_eq!(rt; send(&mut bytes, 6, 9)?, Some((6, 8)));
-    assert_eq!(rt; bytes.acknowledged(6), 8);
-    assert_eq!(rt; bytes.acknowledged(6), 0);
+    assert!(rt; send(&mut bytes, 6, 9)? == Some((6, 8)));
+    assert!(rt; bytes.acknowledged(6) == 8);
+    assert!(rt; bytes.acknowledged(6) == 0);
     assert!(rt; bytes.is_done());
-    assert_eq!(rt; bytes.accepted(), 8);
+    assert!(rt; bytes.accepted() == 8);
     Ok(())
 }
 
@@ -60,10 +60,10 @@ fn sends_the_lowest_due_bytes_first(rt: HostRuntime) -> Result<(), Fail> {
 fn a_piece_has_the_bytes_that_were_accepted(rt: HostRuntime) -> Result<(), Fail> {
     let mut bytes = Unacked::new(rt.alloc());
     bytes.accept(b"abcdef")?;
-    assert_eq!(rt; send(&mut bytes, 1, 2)?, Some((0, 2)));
+    assert!(rt; send(&mut bytes, 1, 2)? == Some((0, 2)));
     bytes.acknowledged(1);
     assert!(rt; is_lowest_row(&bytes, b"cdef"));
-    assert_eq!(rt; send(&mut bytes, 2, 3)?, Some((2, 5)));
+    assert!(rt; send(&mut bytes, 2, 3)? == Some((2, 5)));
     if bytes.accepted() == 6 {
         bytes.accept(b"gh")?;
     }
@@ -78,16 +78,16 @@ fn a_piece_has_the_bytes_that_were_accepted(rt: HostRuntime) -> Result<(), Fail>
 fn dropped_bytes_are_not_due_again(rt: HostRuntime) -> Result<(), Fail> {
     let mut bytes = Unacked::new(rt.alloc());
     bytes.accept(b"abcdef")?;
-    assert_eq!(rt; send(&mut bytes, 1, 2)?, Some((0, 2)));
-    assert_eq!(rt; send(&mut bytes, 2, 1)?, Some((2, 3)));
+    assert!(rt; send(&mut bytes, 1, 2)? == Some((0, 2)));
+    assert!(rt; send(&mut bytes, 2, 1)? == Some((2, 3)));
     bytes.drop_bytes();
-    assert_eq!(rt; bytes.count(), 0);
+    assert!(rt; bytes.count() == 0);
     assert!(rt; bytes.is_done());
-    assert_eq!(rt; bytes.lowest_due(), None);
+    assert!(rt; bytes.lowest_due() == None);
     bytes.failed(1);
-    assert_eq!(rt; bytes.lowest_due(), None);
-    assert_eq!(rt; bytes.acknowledged(2), 3);
-    assert_eq!(rt; bytes.accepted(), 6);
+    assert!(rt; bytes.lowest_due() == None);
+    assert!(rt; bytes.acknowledged(2) == 3);
+    assert!(rt; bytes.accepted() == 6);
     Ok(())
 }
 
@@ -98,29 +98,28 @@ fn a_thousand_claims_are_acknowledged_from_the_last_on(rt: HostRuntime) -> Resul
     let mut bytes = Unacked::new(rt.alloc());
     let all = vec![in rt.alloc(); 7_u8; 262_144]?;
     bytes.accept(&all)?;
-    assert_eq!(rt; bytes.count(), 262_144);
-    assert_eq!(rt; bytes.lowest_due(), Some((0, 262_144)));
+    assert!(rt; bytes.count() == 262_144);
+    assert!(rt; bytes.lowest_due() == Some((0, 262_144)));
     for sequence in 1..1001_u64 {
-        assert_eq!(rt;
-            send(&mut bytes, sequence, 262)?,
-            Some((262 * sequence - 262, 262 * sequence))
+        assert!(rt;
+            send(&mut bytes, sequence, 262)? == Some((262 * sequence - 262, 262 * sequence))
         );
     }
-    assert_eq!(rt; send(&mut bytes, 1001, 262)?, Some((262_000, 262_144)));
-    assert_eq!(rt; bytes.acknowledged(1001), 262_144);
-    assert_eq!(rt; bytes.count(), 262_000);
+    assert!(rt; send(&mut bytes, 1001, 262)? == Some((262_000, 262_144)));
+    assert!(rt; bytes.acknowledged(1001) == 262_144);
+    assert!(rt; bytes.count() == 262_000);
     for back in 1..1000_u64 {
-        assert_eq!(rt; bytes.acknowledged(1001 - back), 262_262 - 262 * back);
+        assert!(rt; bytes.acknowledged(1001 - back) == 262_262 - 262 * back);
     }
-    assert_eq!(rt; bytes.count(), 262);
+    assert!(rt; bytes.count() == 262);
     bytes.failed(1);
-    assert_eq!(rt; bytes.lowest_due(), Some((0, 262)));
-    assert_eq!(rt; send(&mut bytes, 1002, 16_000)?, Some((0, 262)));
-    assert_eq!(rt; bytes.acknowledged(1002), 262);
+    assert!(rt; bytes.lowest_due() == Some((0, 262)));
+    assert!(rt; send(&mut bytes, 1002, 16_000)? == Some((0, 262)));
+    assert!(rt; bytes.acknowledged(1002) == 262);
     assert!(rt; bytes.is_done());
     if bytes.accepted() == 262_144 {
         bytes.accept(b"a")?;
     }
-    assert_eq!(rt; bytes.lowest_due(), Some((262_144, 262_145)));
+    assert!(rt; bytes.lowest_due() == Some((262_144, 262_145)));
     Ok(())
 }

@@ -249,7 +249,7 @@ fn meets(
     let mut player = match Player::new(rt, heap, hops, config(rt)) {
         Ok(player) => player,
         Err(fault) => {
-            assert_eq!(rt; fault, Fault::NoMemory);
+            assert!(rt; fault == Fault::NoMemory);
             assert!(rt; Player::new(rt, heap, hops, config(rt)).is_ok());
             return heap.has_refused();
         }
@@ -257,8 +257,8 @@ fn meets(
     schedule.play(rt, &mut player);
     let met = heap.has_refused();
     assert!(rt; schedule.is_right(player.trace()), "at {n}");
-    assert_eq!(rt; player.trace().refused(), player.lacks() > 0, "at {n}");
-    assert_eq!(rt; player.refusals(), u64::from(met), "at {n}");
+    assert!(rt; player.trace().refused() == (player.lacks() > 0), "at {n}");
+    assert!(rt; player.refusals() == u64::from(met), "at {n}");
     met
 }
 

@@ -122,8 +122,8 @@ impl<A: Allocator + Copy> Player<A> {
         match self.world.step(event) {
             Ok(told) => told,
             Err(fault) => {
-                assert_eq!(rt; fault, Fault::NoMemory);
-                assert_eq!(rt; Standing::of(self.world.trace()), before);
+                assert!(rt; fault == Fault::NoMemory);
+                assert!(rt; Standing::of(self.world.trace()) == before);
                 self.faults = self.faults.saturating_add(1);
                 self.again(rt, event)
             }
@@ -139,7 +139,7 @@ impl<A: Allocator + Copy> Player<A> {
             self.note_answer(rt, *link, *way);
             want = before.with_answer();
         }
-        assert_eq!(rt; Standing::of(self.world.trace()), want);
+        assert!(rt; Standing::of(self.world.trace()) == want);
     }
 
     /// The same, and again where the core call found no memory.
@@ -176,7 +176,7 @@ impl<A: Allocator + Copy> Player<A> {
     /// An end opens its first stream, of this number.
     pub(crate) fn open(&mut self, rt: &impl Abort, side: Side, stream: u8) {
         match self.take(rt, &Event::OpenStream(side)) {
-            Told::Opened(Ok(opened)) => assert_eq!(rt; opened, stream),
+            Told::Opened(Ok(opened)) => assert!(rt; opened == stream),
             _ => panic!(rt; "it can be opened"),
         }
     }
@@ -202,7 +202,7 @@ impl<A: Allocator + Copy> Player<A> {
     /// A Prepare comes to an end, which fulfils it.
     pub(crate) fn arrive(&mut self, rt: &impl Abort, link: usize, way: Way, which: usize) {
         match self.come(rt, link, way, which) {
-            Told::Answered { reason, .. } => assert_eq!(rt; reason, 0),
+            Told::Answered { reason, .. } => assert!(rt; reason == 0),
             _ => panic!(rt; "the end answers"),
         }
         self.note_answer(rt, link, way);

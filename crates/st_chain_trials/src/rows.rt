@@ -80,10 +80,10 @@ fn balances(trace: &Trace<Global>, place: usize) -> Option<(u64, u64)> {
 #[test]
 fn hops_exchange(rt: HostRuntime) {
     let trace = exchanged(&rt, rt.alloc());
-    assert_eq!(rt; balances(&trace, 0), Some((100, 150)));
-    assert_eq!(rt; balances(&trace, 1), Some((150, 75)));
-    assert_eq!(rt; trace.end(Side::Client).totals().paid, 100);
-    assert_eq!(rt; trace.end(Side::Server).totals().credited, 75);
+    assert!(rt; balances(&trace, 0) == Some((100, 150)));
+    assert!(rt; balances(&trace, 1) == Some((150, 75)));
+    assert!(rt; trace.end(Side::Client).totals().paid == 100);
+    assert!(rt; trace.end(Side::Server).totals().credited == 75);
 }
 
 /// Why a world could not be made.
@@ -97,14 +97,11 @@ fn refusal(made: Result<World<Global>, Fault>) -> Option<u8> {
 #[test]
 fn no_chain_is_longer_than_eight_hops(rt: HostRuntime) {
     let hops = |count| refusal(World::new(rt.alloc(), count, config(&rt)));
-    assert_eq!(rt;
-        (hops(0), hops(MAX_HOPS), hops(MAX_HOPS + 1)),
-        (None, None, Some(78))
-    );
+    assert!(rt; (hops(0), hops(MAX_HOPS), hops(MAX_HOPS + 1)) == (None, None, Some(78)));
     let high = [Account {
         limit: 1 << 63,
         max_packet: 1,
     }];
     let made = World::with_hops(rt.alloc(), &high, config(&rt));
-    assert_eq!(rt; refusal(made), Some(78));
+    assert!(rt; refusal(made) == Some(78));
 }

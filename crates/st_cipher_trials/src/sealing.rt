@@ -53,13 +53,13 @@ fn a_packet_is_sealed_or_not(rt: HostRuntime) -> Result<(), Fail> {
     let keys = Keys::of([0; 32]);
     heap.refuse_only(1);
     let refused = keys.seal_packet(&heap, IV, 12, 1, 0, &[HI]).err();
-    assert_eq!(rt; refused, Some(KeyError::NoMemory));
-    assert_eq!(rt; KeyError::NoMemory.number(), 33);
+    assert!(rt; refused == Some(KeyError::NoMemory));
+    assert!(rt; KeyError::NoMemory.number() == 33);
     heap.refuse_from(2);
     let payload = keys.seal_packet(&heap, IV, 12, 1, 0, &[HI])?;
-    assert_eq!(rt; heap.asked(), 1);
-    assert_eq!(rt; payload.capacity(), 45);
-    assert_eq!(rt; payload.as_slice(), SEALED.as_slice());
+    assert!(rt; heap.asked() == 1);
+    assert!(rt; payload.capacity() == 45);
+    assert!(rt; payload.as_slice() == SEALED.as_slice());
     Ok(())
 }
 
@@ -78,24 +78,21 @@ fn the_greatest_packet(rt: HostRuntime) -> Result<(), Fail> {
     };
     heap.refuse_from(2);
     let mut payload = keys.seal_packet(&heap, IV, 12, 1, 0, &[frame(full)])?;
-    assert_eq!(rt; heap.asked(), 1);
-    assert_eq!(rt; payload.len(), 32_767);
-    assert_eq!(rt; payload.capacity(), 32_767);
-    assert_eq!(rt; keys.fulfillment(&payload), FULL_FULFILLMENT);
+    assert!(rt; heap.asked() == 1);
+    assert!(rt; payload.len() == 32_767);
+    assert!(rt; payload.capacity() == 32_767);
+    assert!(rt; keys.fulfillment(&payload) == FULL_FULFILLMENT);
     let mut frames = keys.open_packet(&mut payload, 12)?.frames;
     assert!(rt; frames.next() == Some((0, frame(full))));
     assert!(rt; payload.starts_with(&IV));
 
     heap.refuse_from(1);
     let large = keys.seal_packet(&heap, IV, 12, 1, 0, &[frame(&data)]).err();
-    assert_eq!(rt; large, Some(KeyError::Packet(FrameError::TooLong)));
+    assert!(rt; large == Some(KeyError::Packet(FrameError::TooLong)));
     let stranger = Frame::ConnectionNewAddress { address: "a..b" };
     let unwritable = keys.seal_packet(&heap, IV, 12, 1, 0, &[HI, stranger]).err();
-    assert_eq!(rt;
-        unwritable,
-        Some(KeyError::Packet(FrameError::FrameFormat(1)))
-    );
-    assert_eq!(rt; heap.asked(), 0);
+    assert!(rt; unwritable == Some(KeyError::Packet(FrameError::FrameFormat(1))));
+    assert!(rt; heap.asked() == 0);
     Ok(())
 }
 
@@ -104,8 +101,8 @@ fn the_greatest_packet(rt: HostRuntime) -> Result<(), Fail> {
 fn what_opening_leaves(rt: HostRuntime) -> Result<(), Fail> {
     let keys = Keys::of([0; 32]);
     let mut payload = SEALED;
-    assert_eq!(rt; keys.open_packet(&mut payload, 12)?.sequence, 1);
-    assert_eq!(rt; payload, OPENED);
+    assert!(rt; keys.open_packet(&mut payload, 12)?.sequence == 1);
+    assert!(rt; payload == OPENED);
     Ok(())
 }
 
@@ -115,15 +112,12 @@ fn what_a_refused_packet_leaves(rt: HostRuntime) {
     let keys = Keys::of([0; 32]);
     let mut payload = SEALED;
     let refused = keys.open_packet(&mut payload, 13).err();
-    assert_eq!(rt; refused, Some(KeyError::Packet(FrameError::Kind)));
-    assert_eq!(rt; payload, OPENED);
+    assert!(rt; refused == Some(KeyError::Packet(FrameError::Kind)));
+    assert!(rt; payload == OPENED);
     let mut empty = EMPTY;
     let refused = keys.open_packet(&mut empty, 12).err();
-    assert_eq!(rt;
-        refused.map(|e| (e.number(), e.inner())),
-        Some((32, Some(22)))
-    );
-    assert_eq!(rt; empty, EMPTY);
+    assert!(rt; refused.map(|e| (e.number(), e.inner())) == Some((32, Some(22))));
+    assert!(rt; empty == EMPTY);
 }
 
 /// A payload that is too short keeps every byte.
@@ -133,8 +127,8 @@ fn what_a_short_payload_leaves(rt: HostRuntime) {
     for length in 0..OVERHEAD {
         let mut short = SEALED;
         let refused = keys.open_packet(&mut short[..length], 12).err();
-        assert_eq!(rt; refused, Some(KeyError::Short), "at {length}");
-        assert_eq!(rt; short, SEALED, "at {length}");
+        assert!(rt; refused == Some(KeyError::Short), "at {length}");
+        assert!(rt; short == SEALED, "at {length}");
     }
 }
 
@@ -147,7 +141,7 @@ fn what_a_wrong_tag_leaves(rt: HostRuntime) {
         payload[wrong] ^= 1;
         let before = payload;
         let refused = keys.open_packet(&mut payload, 12).err();
-        assert_eq!(rt; refused, Some(KeyError::Tag), "at {wrong}");
-        assert_eq!(rt; payload, before, "at {wrong}");
+        assert!(rt; refused == Some(KeyError::Tag), "at {wrong}");
+        assert!(rt; payload == before, "at {wrong}");
     }
 }

@@ -55,8 +55,8 @@ fn refuses_each_request(
         let met = heap.has_refused();
         heap.refuse_none();
         if !met {
-            assert_eq!(rt; (told.text(), told.fault()), (text, ""));
-            assert_eq!(rt; told.status, 0);
+            assert!(rt; (told.text(), told.fault()) == (text, ""));
+            assert!(rt; told.status == 0);
             assert!(rt; came.iter().all(|c| *c));
             return Ok(());
         }
@@ -65,10 +65,10 @@ fn refuses_each_request(
             came[k] = came[k] || answer == refused[k];
         }
         assert!(rt; refused.contains(&answer), "at {n}: {answer:?}");
-        assert_eq!(rt; told.status, 1, "at {n}");
+        assert!(rt; told.status == 1, "at {n}");
         let again = answer_to(&heap, alloc, input);
-        assert_eq!(rt; again.text(), text, "at {n}");
-        assert_eq!(rt; again.status, 0, "at {n}");
+        assert!(rt; again.text() == text, "at {n}");
+        assert!(rt; again.status == 0, "at {n}");
     }
     panic!(rt; "no run met no refusal");
 }
@@ -94,7 +94,7 @@ fn a_frame_alone_copies_nothing(rt: HostRuntime) {
     let alloc = rt.alloc();
     let named = "010c010101000101140701010100026162\n010c010201000101140701010103026364\n";
     let unknown = "010c010101000101140701010100026162\n010c010201000101990701010103026364\n";
-    assert_eq!(rt; requests_for(alloc, named), requests_for(alloc, unknown));
+    assert!(rt; requests_for(alloc, named) == requests_for(alloc, unknown));
 }
 
 /// From a request on there is no memory: the fault is told, which asks for none.
@@ -105,14 +105,14 @@ fn each_later_request_is_refused(rt: HostRuntime) {
         heap.refuse_from(n);
         let told = answer_to(&heap, rt.alloc(), STORED);
         if !heap.has_refused() {
-            assert_eq!(rt; told.text(), STORED_TEXT);
-            assert_eq!(rt; told.status, 0);
+            assert!(rt; told.text() == STORED_TEXT);
+            assert!(rt; told.status == 0);
             assert!(rt; 9 < n);
             return;
         }
-        assert_eq!(rt; told.fault(), "fault 99\n", "at {n}");
-        assert_eq!(rt; told.text(), "", "at {n}");
-        assert_eq!(rt; told.status, 1, "at {n}");
+        assert!(rt; told.fault() == "fault 99\n", "at {n}");
+        assert!(rt; told.text() == "", "at {n}");
+        assert!(rt; told.status == 1, "at {n}");
     }
     panic!(rt; "no run met no refusal");
 }
@@ -124,16 +124,10 @@ fn a_longer_line_asks_for_no_more(rt: HostRuntime) -> Result<(), Fail> {
     let heap: Refusing<Global> = Refusing::new(alloc);
     let line = "0".repeat(alloc, 65_480)?;
     let longer = "0".repeat(alloc, 1_000_000)?;
-    assert_eq!(rt;
-        answer_to(&heap, alloc, &line).text(),
-        "line 1 refused 24\n"
-    );
+    assert!(rt; answer_to(&heap, alloc, &line).text() == "line 1 refused 24\n");
     let asked = heap.asked();
     heap.refuse_none();
-    assert_eq!(rt;
-        answer_to(&heap, alloc, &longer).text(),
-        "line 1 refused 24\n"
-    );
-    assert_eq!(rt; heap.asked(), asked);
+    assert!(rt; answer_to(&heap, alloc, &longer).text() == "line 1 refused 24\n");
+    assert!(rt; heap.asked() == asked);
     Ok(())
 }

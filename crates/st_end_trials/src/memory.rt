@@ -180,14 +180,14 @@ fn meets(
     let met = heap.has_refused();
     heap.refuse_none();
     if met {
-        assert_eq!(rt; answer, Err(EndError::NoMemory), "{call:?} at {n}");
+        assert!(rt; answer == Err(EndError::NoMemory), "{call:?} at {n}");
         assert!(rt; end.totals() == before, "{call:?} at {n}");
         assert!(rt;
             given(heap, &mut end, call, prepare)? == want,
             "{call:?} at {n}"
         );
     } else {
-        assert_eq!(rt; answer, Ok(want.0), "{call:?}");
+        assert!(rt; answer == Ok(want.0), "{call:?}");
         assert!(rt; left(heap, &mut end)? == want.1, "{call:?}");
     }
     Ok(met)
@@ -250,11 +250,11 @@ pub(crate) fn land<A: Allocator + Copy>(
 /// The calls that never want memory, but for those that take a flight.
 fn call_others<A: Allocator + Copy>(rt: &impl Abort, end: &mut EndState<A>) {
     assert!(rt; end.has_stream(1) && !end.settled(1) && !end.is_failed());
-    assert_eq!(rt; end.offer(1, 7), Ok(()));
-    assert_eq!(rt; end.set_receive_max(1, 7), Ok(()));
-    assert_eq!(rt; end.close(1), Ok(()));
-    assert_eq!(rt; end.abort(1, 9), Ok(()));
-    assert_eq!(rt; end.totals().paid, 30);
+    assert!(rt; end.offer(1, 7) == Ok(()));
+    assert!(rt; end.set_receive_max(1, 7) == Ok(()));
+    assert!(rt; end.close(1) == Ok(()));
+    assert!(rt; end.abort(1, 9) == Ok(()));
+    assert!(rt; end.totals().paid == 30);
     assert!(rt; !end.t00().is_empty());
 }
 
@@ -300,6 +300,6 @@ fn the_other_calls_ask_for_no_memory(rt: HostRuntime) -> Result<(), EndError> {
     let flights = fly_twice(&heap)?;
     heap.refuse_from(1);
     land_both(&rt, flights);
-    assert_eq!(rt; heap.asked(), 0);
+    assert!(rt; heap.asked() == 0);
     Ok(())
 }

@@ -37,8 +37,8 @@ impl<A: Allocator + Copy> Steady<A> {
 
     /// That a call found no memory and left all as it was before.
     fn lacked(&mut self, rt: &impl Abort, error: EndError, before: Totals) {
-        assert_eq!(rt; error, EndError::NoMemory);
-        assert_eq!(rt; self.end.totals(), before);
+        assert!(rt; error == EndError::NoMemory);
+        assert!(rt; self.end.totals() == before);
         self.lacks = self.lacks.saturating_add(1);
     }
 
@@ -51,7 +51,7 @@ impl<A: Allocator + Copy> Steady<A> {
         let before = self.end.totals();
         if let Err(error) = self.end.open_stream() {
             self.lacked(rt, error, before);
-            assert_eq!(rt; self.end.open_stream(), Ok(stream));
+            assert!(rt; self.end.open_stream() == Ok(stream));
         }
         assert!(rt; self.end.has_stream(stream));
     }
@@ -60,7 +60,7 @@ impl<A: Allocator + Copy> Steady<A> {
         let before = self.end.totals();
         if let Err(error) = self.end.write(stream, bytes) {
             self.lacked(rt, error, before);
-            assert_eq!(rt; self.end.write(stream, bytes), Ok(()));
+            assert!(rt; self.end.write(stream, bytes) == Ok(()));
         }
     }
 
@@ -94,7 +94,7 @@ impl<A: Allocator + Copy> Steady<A> {
                 again.expect(rt, "one request alone is refused")
             }
         };
-        assert_eq!(rt; received.reason, reason);
+        assert!(rt; received.reason == reason);
         self.note(&received.bytes);
         received.bytes
     }

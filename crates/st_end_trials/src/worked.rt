@@ -143,8 +143,8 @@ fn reason_of_hi(
     kind: u8,
 ) -> u8 {
     let received = receive(rt, end, bytes);
-    assert_eq!(rt; received.sequence, Some(1));
-    assert_eq!(rt; received.bytes.first(), Some(&kind));
+    assert!(rt; received.sequence == Some(1));
+    assert!(rt; received.bytes.first() == Some(&kind));
     let plain = opened(rt, alloc, &received.bytes);
     assert!(rt; tells_hi(&plain, kind));
     received.reason
@@ -179,21 +179,21 @@ fn hi_is_fulfilled_and_read(rt: HostRuntime) {
     let alloc = rt.alloc();
     let mut server = end(&rt, alloc, Role::Server);
     let hi = prepare_hi(&rt, alloc, 1);
-    assert_eq!(rt; reason_of_hi(&rt, alloc, &mut server, &hi, 13), 0);
+    assert!(rt; reason_of_hi(&rt, alloc, &mut server, &hi, 13) == 0);
     assert!(rt; reads(&rt, &mut server, b"hi"));
-    assert_eq!(rt; reason(&rt, &mut server, &hi), 60);
-    assert_eq!(rt; server.totals().delivered, 2);
+    assert!(rt; reason(&rt, &mut server, &hi) == 60);
+    assert!(rt; server.totals().delivered == 2);
 }
 
 #[test]
 fn closed_connection_is_read_and_not_written(rt: HostRuntime) {
     let alloc = rt.alloc();
     let mut server = end(&rt, alloc, Role::Server);
-    assert_eq!(rt; reason(&rt, &mut server, &prepare_hi(&rt, alloc, 1)), 0);
-    assert_eq!(rt; reason(&rt, &mut server, &prepare_close(&rt, alloc, 5)), 0);
+    assert!(rt; reason(&rt, &mut server, &prepare_hi(&rt, alloc, 1)) == 0);
+    assert!(rt; reason(&rt, &mut server, &prepare_close(&rt, alloc, 5)) == 0);
     assert!(rt; reads_abort(&rt, &mut server));
-    assert_eq!(rt; server.write(1, b"x"), Err(EndError::Closed));
-    assert_eq!(rt; reason(&rt, &mut server, &prepare_hi(&rt, alloc, 6)), 66);
+    assert!(rt; server.write(1, b"x") == Err(EndError::Closed));
+    assert!(rt; reason(&rt, &mut server, &prepare_hi(&rt, alloc, 6)) == 66);
 }
 
 #[test]
@@ -201,15 +201,15 @@ fn rate_probe_is_answered_and_delivers_nothing(rt: HostRuntime) {
     let alloc = rt.alloc();
     let mut server = end(&rt, alloc, Role::Server);
     let probe = probe_hi(&rt, alloc);
-    assert_eq!(rt; reason_of_hi(&rt, alloc, &mut server, &probe, 14), 55);
+    assert!(rt; reason_of_hi(&rt, alloc, &mut server, &probe, 14) == 55);
     assert!(rt; !server.has_stream(1));
 }
 
 /// A client whose stream 1 has "hi".
 fn client_of_hi(rt: &impl Abort, alloc: Global) -> EndState<Global> {
     let mut client = end(rt, alloc, Role::Client);
-    assert_eq!(rt; client.open_stream(), Ok(1));
-    assert_eq!(rt; client.write(1, b"hi"), Ok(()));
+    assert!(rt; client.open_stream() == Ok(1));
+    assert!(rt; client.write(1, b"hi") == Ok(()));
     client
 }
 
@@ -219,12 +219,12 @@ fn money_goes_up_to_the_receive_max(rt: HostRuntime) {
     let alloc = rt.alloc();
     let mut client = client_of_hi(&rt, alloc);
     let mut server = end(&rt, alloc, Role::Server);
-    assert_eq!(rt; client.offer(1, 30), Ok(()));
-    assert_eq!(rt; server.set_receive_max(1, 10), Ok(()));
+    assert!(rt; client.offer(1, 30) == Ok(()));
+    assert!(rt; server.set_receive_max(1, 10) == Ok(()));
     assert!(rt; pass(&rt, &mut client, &mut server, 0));
     assert!(rt; pass(&rt, &mut client, &mut server, 1));
-    assert_eq!(rt; client.totals().paid, 10);
-    assert_eq!(rt; server.totals().credited, 10);
+    assert!(rt; client.totals().paid == 10);
+    assert!(rt; server.totals().credited == 10);
     assert!(rt; reads(&rt, &mut server, b"hi"));
 }
 
@@ -233,7 +233,7 @@ fn a_stream_is_read_to_its_end(rt: HostRuntime) {
     let alloc = rt.alloc();
     let mut client = client_of_hi(&rt, alloc);
     let mut server = end(&rt, alloc, Role::Server);
-    assert_eq!(rt; client.close(1), Ok(()));
+    assert!(rt; client.close(1) == Ok(()));
     assert!(rt; pass(&rt, &mut client, &mut server, 0));
     assert!(rt; !client.settled(1));
     assert!(rt; pass(&rt, &mut client, &mut server, 1));

@@ -88,7 +88,7 @@ impl<R: Wait + Abort + std::time::Clock> Trial<R> for FailsAt {
         let mut link = FailLink::new(behind, self.k);
         let input = input(alloc)?;
         let reading = carry(rt, alloc, hubs, seat, &mut link, input.as_slice())?;
-        assert_eq!(rt; link.faults(), 1);
+        assert!(rt; link.faults() == 1);
         assert!(rt; reading.is_over, "exchange {}", self.k);
         assert!(rt; reading.read == input, "exchange {}", self.k);
         Ok(())
@@ -167,10 +167,10 @@ impl<R: Wait + Abort + std::time::Clock> Trial<R> for LosesAnAnswer {
         offer(rt, hubs, 10)?;
         let share = hubs.far.lock(rt).share()?;
         let share = send_losing(rt, hubs, seat, share);
-        assert_eq!(rt; hubs.gauge.seen(seat).paid, 10);
+        assert!(rt; hubs.gauge.seen(seat).paid == 10);
         let mut shares = Vec::new(alloc);
         shares.push(share)?;
-        assert_eq!(rt; credited(rt, hubs, shares), 20);
+        assert!(rt; credited(rt, hubs, shares) == 20);
         Ok(())
     }
 }

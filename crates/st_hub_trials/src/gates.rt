@@ -115,7 +115,7 @@ fn both<
         || worker(rt, hubs, counts, seat, mine, 1),
         || worker(rt, hubs, counts, &mut other, theirs, 2),
     );
-    assert_eq!(rt; (first, second), (WorkEnd::Turns, WorkEnd::Turns));
+    assert!(rt; (first, second) == (WorkEnd::Turns, WorkEnd::Turns));
     (mine, theirs)
 }
 
@@ -134,8 +134,8 @@ pub(crate) fn two_workers<
     let mut shares = Vec::new(alloc);
     shares.push(mine)?;
     shares.push(theirs)?;
-    assert_eq!(rt; credited(rt, hubs, shares), 20);
-    assert_eq!(rt; counts.in_vain.load(Ordering::SeqCst), 0);
+    assert!(rt; credited(rt, hubs, shares) == 20);
+    assert!(rt; counts.in_vain.load(Ordering::SeqCst) == 0);
     Ok(())
 }
 
@@ -155,11 +155,11 @@ impl<R: Wait + Abort + std::time::Clock> Trial<R> for OneWorker {
         let mine = hubs.far.lock(rt).share()?;
         let counts = Counts::new();
         let (told, mine) = worker(rt, hubs, &counts, seat, mine, 1);
-        assert_eq!(rt; told, WorkEnd::Turns);
+        assert!(rt; told == WorkEnd::Turns);
         let mut shares = Vec::new(alloc);
         shares.push(mine)?;
-        assert_eq!(rt; credited(rt, hubs, shares), 20);
-        assert_eq!(rt; counts.in_vain.load(Ordering::SeqCst), LOOKS);
+        assert!(rt; credited(rt, hubs, shares) == 20);
+        assert!(rt; counts.in_vain.load(Ordering::SeqCst) == LOOKS);
         Ok(())
     }
 }

@@ -20,7 +20,7 @@ pub(crate) fn send_over<N: HubName<Global>, M: HubName<Global>, R: Wait + Abort 
     let mut link = HubLink::new(rt, &hubs.far, share, stopped_clock(rt));
     let mut ivs = Counting { first: 1, next: 0 };
     let told = work_on(rt, hubs, seat, &mut link, &mut ivs, turns);
-    assert_eq!(rt; told, WorkEnd::Turns);
+    assert!(rt; told == WorkEnd::Turns);
     link.into_share()
 }
 
@@ -34,7 +34,7 @@ fn write_abcd<N: HubName<Global>>(
     writer.try_write(b"ab".to_vec(alloc)?)?;
     writer.try_write(b"cd".to_vec(alloc)?)?;
     hub.pump()?;
-    assert_eq!(rt; hub.meet_writer(&mut writer), 0);
+    assert!(rt; hub.meet_writer(&mut writer) == 0);
     hub.offer(stream, 10)?;
     Ok(stream)
 }
@@ -66,15 +66,15 @@ impl<R: Wait + Abort + std::time::Clock> Trial<R> for Written {
         seat: &mut GaugeSeat<N, Global>,
     ) -> Result<(), Fail> {
         let stream = write_abcd(rt, alloc, &mut *hubs.near.lock(rt))?;
-        assert_eq!(rt; hubs.gauge.seen(seat).accepted, 4);
+        assert!(rt; hubs.gauge.seen(seat).accepted == 4);
         hubs.far.lock(rt).set_receive_max(stream, 100)?;
         let share = hubs.far.lock(rt).share()?;
         let share = send_over(rt, hubs, seat, share, 8);
-        assert_eq!(rt; hubs.gauge.seen(seat).paid, 10);
+        assert!(rt; hubs.gauge.seen(seat).paid == 10);
         read_abcd(rt, alloc, &mut *hubs.far.lock(rt))?;
         let mut shares = Vec::new(alloc);
         shares.push(share)?;
-        assert_eq!(rt; credited(rt, hubs, shares), 10);
+        assert!(rt; credited(rt, hubs, shares) == 10);
         Ok(())
     }
 }

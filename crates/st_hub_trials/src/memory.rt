@@ -185,11 +185,11 @@ impl<R: Wait + Abort> Refused<R> for Called<'_> {
         let was = heap.has_refused();
         heap.refuse_none();
         if was {
-            assert_eq!(rt; told, Err(HubError::NoMemory));
+            assert!(rt; told == Err(HubError::NoMemory));
             told = self.call(hub, &mut share);
         }
-        assert_eq!(rt; told, Ok(self.gives));
-        assert_eq!(rt; gauge.seen(seat), self.totals);
+        assert!(rt; told == Ok(self.gives));
+        assert!(rt; gauge.seen(seat) == self.totals);
         Ok(was)
     }
 }
@@ -270,10 +270,10 @@ impl<R: Wait + Abort> Refused<R> for Pumped {
             1 => 2,
             _ => 0,
         };
-        assert_eq!(rt; gauge.seen(seat).accepted, moved);
+        assert!(rt; gauge.seen(seat).accepted == moved);
         hub.pump()?;
-        assert_eq!(rt; gauge.seen(seat).accepted, 4);
-        assert_eq!(rt; hub.meet_writer(&mut writer), 0);
+        assert!(rt; gauge.seen(seat).accepted == 4);
+        assert!(rt; hub.meet_writer(&mut writer) == 0);
         Ok(was)
     }
 }
@@ -303,8 +303,8 @@ fn call_others<N: HubName<A>, A: Allocator + Copy>(
     assert!(rt; hub.add_writer(1).is_ok());
     assert!(rt; hub.take_stream().is_some());
     assert!(rt; hub.take_stream().is_none());
-    assert_eq!(rt; hub.meet_writer(writer), 2);
-    assert_eq!(rt; hub.meet_reader(reader), 0);
+    assert!(rt; hub.meet_writer(writer) == 2);
+    assert!(rt; hub.meet_reader(reader) == 0);
     assert!(rt; matches!(reader.try_read(), Got::Nothing));
     assert!(rt; !hub.settled(1) && !hub.is_failed() && !hub.t00().is_empty());
     Ok(())
@@ -344,12 +344,12 @@ impl<R: Wait + Abort> Refused<R> for AskNone<'_> {
         let hub = &mut *hub.lock(rt);
         let mut share = hub.share()?;
         let (mut writer, mut reader) = begin(rt, alloc, hub)?;
-        assert_eq!(rt; came(hub, &mut share, self.prepare), Ok(10));
+        assert!(rt; came(hub, &mut share, self.prepare) == Ok(10));
         heap.refuse_from(1);
         call_others(rt, hub, &mut writer, &mut reader)?;
-        assert_eq!(rt; heap.asked(), 0);
+        assert!(rt; heap.asked() == 0);
         heap.refuse_none();
-        assert_eq!(rt; finished(heap, hub), Ok(0));
+        assert!(rt; finished(heap, hub) == Ok(0));
         Ok(heap.has_refused())
     }
 }
@@ -382,7 +382,7 @@ impl<R: Wait + Abort> Refused<R> for Gathers {
         shares.push(hub.share()?)?;
         heap.refuse_from(1);
         assert!(rt; matches!(hub.gather(shares), Ok(0)));
-        assert_eq!(rt; heap.asked(), 0);
+        assert!(rt; heap.asked() == 0);
         Ok(false)
     }
 }
@@ -415,11 +415,11 @@ impl<R: Wait + Abort + std::time::Clock> Refused<R> for Starved<'_> {
         let mut link = HubLink::new(rt, hub, share, stopped_clock(rt));
         heap.refuse_from(1);
         let told = link.exchange(self.prepare);
-        assert_eq!(rt; told.err(), Some(LinkFault::NoMemory));
+        assert!(rt; told.err() == Some(LinkFault::NoMemory));
         let mut ivs = Counting { first: 1, next: 0 };
         let mut clock = stopped_clock(rt);
         let told = work(rt, hub, &mut link, &mut ivs, &mut clock, gauge, seat, 1);
-        assert_eq!(rt; told, WorkEnd::NoMemory);
+        assert!(rt; told == WorkEnd::NoMemory);
         Ok(heap.has_refused())
     }
 }

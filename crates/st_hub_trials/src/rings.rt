@@ -77,7 +77,7 @@ fn meet_all<N: HubName<Global>>(
     items: usize,
 ) {
     for writer in writers {
-        assert_eq!(rt; hub.meet_writer(writer), items);
+        assert!(rt; hub.meet_writer(writer) == items);
     }
 }
 
@@ -101,7 +101,7 @@ impl<R: Wait + Abort> Trial<R> for EightRings {
         meet_all(rt, hub, &mut writers, 64);
         hub.pump()?;
         meet_all(rt, hub, &mut writers, 0);
-        assert_eq!(rt; hubs.gauge.seen(seat).accepted, 512);
+        assert!(rt; hubs.gauge.seen(seat).accepted == 512);
         Ok(())
     }
 }

@@ -96,7 +96,7 @@ pub(crate) fn two_stop<
     let mut watching = hubs.gauge.split(seat);
     let (told, is_paid) = all(rt, hubs, seat, &mut watching, mine, theirs);
     assert!(rt; is_paid);
-    assert_eq!(rt; told, (WorkEnd::Stopped, WorkEnd::Stopped));
+    assert!(rt; told == (WorkEnd::Stopped, WorkEnd::Stopped));
     Ok(())
 }
 
@@ -179,15 +179,15 @@ impl<R: Wait + Abort + std::time::Clock> Trial<R> for Ends {
     ) -> Result<(), Fail> {
         let mut ivs = Counting { first: 1, next: 0 };
         let told = ended(rt, alloc, hubs, seat, &mut ivs);
-        assert_eq!(rt; told, WorkEnd::Turns);
+        assert!(rt; told == WorkEnd::Turns);
         offer(rt, hubs, 10)?;
         let told = ended(rt, alloc, hubs, seat, &mut NoIvs);
-        assert_eq!(rt; told, WorkEnd::IvFault);
+        assert!(rt; told == WorkEnd::IvFault);
         let told = ended(rt, alloc, hubs, seat, &mut ivs);
-        assert_eq!(rt; told, WorkEnd::Failed);
+        assert!(rt; told == WorkEnd::Failed);
         hubs.gauge.ask_stop(seat);
         let told = ended(rt, alloc, hubs, seat, &mut ivs);
-        assert_eq!(rt; told, WorkEnd::Stopped);
+        assert!(rt; told == WorkEnd::Stopped);
         Ok(())
     }
 }

@@ -25,8 +25,8 @@ impl<R: Wait + Abort> Trial<R> for ReadsBack {
         let (_, mut writer, _reader) = hub.open_stream()?;
         writer.try_write(b"ab".to_vec(alloc)?)?;
         hub.pump()?;
-        assert_eq!(rt; hub.meet_writer(&mut writer), 0);
-        assert_eq!(rt; hubs.gauge.seen(seat).accepted, 2);
+        assert!(rt; hub.meet_writer(&mut writer) == 0);
+        assert!(rt; hubs.gauge.seen(seat).accepted == 2);
         Ok(())
     }
 }
@@ -54,11 +54,11 @@ fn end_two<N: HubName<Global>>(
 ) -> Result<(), Fail> {
     first.try_end()?;
     hub.pump()?;
-    assert_eq!(rt; hub.offer(stream, 0), Ok(()));
+    assert!(rt; hub.offer(stream, 0) == Ok(()));
     second.try_end()?;
     hub.pump()?;
-    assert_eq!(rt; hub.offer(stream, 0).err().map(|e| e.number()), Some(51));
-    assert_eq!(rt; refusal(hub.add_writer(stream)), 79);
+    assert!(rt; hub.offer(stream, 0).err().map(|e| e.number()) == Some(51));
+    assert!(rt; refusal(hub.add_writer(stream)) == 79);
     Ok(())
 }
 
@@ -68,7 +68,7 @@ fn write_two<N: HubName<Global>>(
     alloc: Global,
     hub: &mut HubState<N, Global>,
 ) -> Result<(), Fail> {
-    assert_eq!(rt; refusal(hub.add_writer(1)), 50);
+    assert!(rt; refusal(hub.add_writer(1)) == 50);
     let (stream, mut first, _reader) = hub.open_stream()?;
     let mut second = hub.add_writer(stream)?;
     first.try_write(b"aa".to_vec(alloc)?)?;
@@ -96,7 +96,7 @@ impl<R: Wait + Abort + std::time::Clock> Trial<R> for TwoWriters {
         seat: &mut GaugeSeat<N, Global>,
     ) -> Result<(), Fail> {
         write_two(rt, alloc, &mut *hubs.near.lock(rt))?;
-        assert_eq!(rt; hubs.gauge.seen(seat).accepted, 6);
+        assert!(rt; hubs.gauge.seen(seat).accepted == 6);
         let share = hubs.far.lock(rt).share()?;
         let _share = send_over(rt, hubs, seat, share, 8);
         let mut reading = Reading::new(alloc);
@@ -127,9 +127,9 @@ impl<R: Wait + Abort> Trial<R> for NineWriters {
         let hub = &mut *hubs.near.lock(rt);
         let (stream, _writer, _reader) = hub.open_stream()?;
         for _ in 0..7u8 {
-            assert_eq!(rt; refusal(hub.add_writer(stream)), 0);
+            assert!(rt; refusal(hub.add_writer(stream)) == 0);
         }
-        assert_eq!(rt; refusal(hub.add_writer(stream)), 76);
+        assert!(rt; refusal(hub.add_writer(stream)) == 76);
         assert!(rt; hub.take_stream().is_none());
         Ok(())
     }

@@ -42,8 +42,8 @@ fn meets<A: Allocator>(
     let met = heap.has_refused();
     heap.refuse_none();
     if met {
-        assert_eq!(rt; answer, Err(OerError::NoMemory), "at {n}");
-        assert_eq!(rt; out.len(), length, "at {n}");
+        assert!(rt; answer == Err(OerError::NoMemory), "at {n}");
+        assert!(rt; out.len() == length, "at {n}");
         assert!(rt; put(out, field).is_ok(), "at {n}");
     } else {
         assert!(rt; answer.is_ok(), "at {n}");
@@ -89,7 +89,7 @@ fn a_field_is_appended_or_not(rt: HostRuntime) -> Result<(), Fail> {
         let most = refuse_each(&rt, &heap, b"ab", field, bytes)?;
         assert!(rt; 0 < most && most < LAST);
     }
-    assert_eq!(rt; OerError::NoMemory.number(), 5);
+    assert!(rt; OerError::NoMemory.number() == 5);
     Ok(())
 }
 
@@ -129,13 +129,13 @@ fn a_field_with_room_asks_for_no_memory(rt: HostRuntime) -> Result<(), Fail> {
             }
             let is_full = out.capacity() == length;
             heap.refuse_from(1);
-            assert_eq!(rt; put(&mut out, field), Ok(()), "{count}, {size}");
-            assert_eq!(rt; heap.asked(), 0, "{count}, {size}");
-            assert_eq!(rt; out.len(), length, "{count}, {size}");
+            assert!(rt; put(&mut out, field) == Ok(()), "{count}, {size}");
+            assert!(rt; heap.asked() == 0, "{count}, {size}");
+            assert!(rt; out.len() == length, "{count}, {size}");
             if is_full {
-                assert_eq!(rt; put_u8(&mut out, 7), Err(OerError::NoMemory));
-                assert_eq!(rt; heap.asked(), 1, "{count}, {size}");
-                assert_eq!(rt; out.len(), length, "{count}, {size}");
+                assert!(rt; put_u8(&mut out, 7) == Err(OerError::NoMemory));
+                assert!(rt; heap.asked() == 1, "{count}, {size}");
+                assert!(rt; out.len() == length, "{count}, {size}");
             }
         }
     }

@@ -29,28 +29,22 @@ const OFFER: Prepare<'static> = Prepare {
 #[test]
 fn worked_packets(rt: HostRuntime) {
     let alloc = rt.alloc();
-    assert_eq!(rt; read_prepare(PREPARE), Ok(OFFER));
-    assert_eq!(rt; read_answer(REJECT), Ok(LIQUIDITY));
-    assert_eq!(rt;
-        read_answer(b"\x0e\x0fT04\x09example.c\0\0\0"),
-        Err(IlpError::Trailing)
-    );
-    assert_eq!(rt;
-        read_answer(b"\x0e\x10T04\x09example.c\0\0\0"),
-        Err(IlpError::Trailing)
-    );
-    assert_eq!(rt; read_prepare(REJECT), Err(IlpError::Kind));
+    assert!(rt; read_prepare(PREPARE) == Ok(OFFER));
+    assert!(rt; read_answer(REJECT) == Ok(LIQUIDITY));
+    assert!(rt; read_answer(b"\x0e\x0fT04\x09example.c\0\0\0") == Err(IlpError::Trailing));
+    assert!(rt; read_answer(b"\x0e\x10T04\x09example.c\0\0\0") == Err(IlpError::Trailing));
+    assert!(rt; read_prepare(REJECT) == Err(IlpError::Kind));
     let mut no_date = *PREPARE;
     no_date[10..27].copy_from_slice(b"20240230000000000");
-    assert_eq!(rt; read_prepare(&no_date), Err(IlpError::Expiry));
+    assert!(rt; read_prepare(&no_date) == Err(IlpError::Expiry));
     let endless = read_prepare(b"\x0c\x88\xff\xff\xff\xff\xff\xff\xff\xff");
-    assert_eq!(rt; endless, Err(IlpError::Oer(OerError::Short)));
-    assert_eq!(rt; IlpError::Oer(OerError::Short).number(), 10);
-    assert_eq!(rt; IlpError::Oer(OerError::Short).inner(), Some(1));
+    assert!(rt; endless == Err(IlpError::Oer(OerError::Short)));
+    assert!(rt; IlpError::Oer(OerError::Short).number() == 10);
+    assert!(rt; IlpError::Oer(OerError::Short).inner() == Some(1));
     let offer = write_prepare(alloc, &OFFER).expect(&rt, "memory");
-    assert_eq!(rt; offer.as_slice(), PREPARE.as_slice());
+    assert!(rt; offer.as_slice() == PREPARE.as_slice());
     let reject = write_answer(alloc, &LIQUIDITY).expect(&rt, "memory");
-    assert_eq!(rt; reject.as_slice(), REJECT.as_slice());
+    assert!(rt; reject.as_slice() == REJECT.as_slice());
     let fulfill = Answer::Fulfill {
         fulfillment: [0; 32],
         payload: &[],
@@ -59,8 +53,8 @@ fn worked_packets(rt: HostRuntime) {
     bytes[0] = 0x0d;
     bytes[1] = 0x21;
     let written = write_answer(alloc, &fulfill).expect(&rt, "memory");
-    assert_eq!(rt; written.as_slice(), bytes.as_slice());
-    assert_eq!(rt; read_answer(&bytes), Ok(fulfill));
+    assert!(rt; written.as_slice() == bytes.as_slice());
+    assert!(rt; read_answer(&bytes) == Ok(fulfill));
 }
 
 #[test]
@@ -80,39 +74,27 @@ fn lengths_of_rejects(rt: HostRuntime) {
         (last, last),
     ];
     for (data, length) in rows {
-        assert_eq!(rt; reject_len("", data), length, "{data}");
+        assert!(rt; reject_len("", data) == length, "{data}");
     }
-    assert_eq!(rt; reject_len("example.c", last - 33), last);
-    assert_eq!(rt; reject_len("example.c", last - 34), last - 1);
+    assert!(rt; reject_len("example.c", last - 33) == last);
+    assert!(rt; reject_len("example.c", last - 34) == last - 1);
 }
 
 #[test]
 fn rejects_into_room(rt: HostRuntime) {
     let payload = [0, 0, 0, 0, 0, 0, 0, 0x96, 0, 0, 0, 0, 0, 0, 0, 0x64];
     let room = reject_len("example.c", payload.len());
-    assert_eq!(rt; room, 33);
+    assert!(rt; room == 33);
     let mut out = Vec::with_capacity(rt.alloc(), room).expect(&rt, "memory");
-    assert_eq!(rt;
-        put_reject(&mut out, *b"F08", "example.c", &payload),
-        Ok(())
+    assert!(rt; put_reject(&mut out, *b"F08", "example.c", &payload) == Ok(()));
+    assert!(rt;
+        out.as_slice()
+            == b"\x0e\x1fF08\x09example.c\0\x10\0\0\0\0\0\0\0\x96\0\0\0\0\0\0\0\x64".as_slice()
     );
-    assert_eq!(rt;
-        out.as_slice(),
-        b"\x0e\x1fF08\x09example.c\0\x10\0\0\0\0\0\0\0\x96\0\0\0\0\0\0\0\x64".as_slice()
-    );
-    assert_eq!(rt;
-        put_reject(&mut out, *b"F 8", "a..b", &[]),
-        Err(IlpError::Code)
-    );
-    assert_eq!(rt;
-        put_reject(&mut out, *b"F08", "a..b", &[]),
-        Err(IlpError::Address)
-    );
-    assert_eq!(rt;
-        put_reject(&mut out, *b"F08", "", &[0; 32_768]),
-        Err(IlpError::DataTooLong)
-    );
-    assert_eq!(rt; out.len(), 33);
+    assert!(rt; put_reject(&mut out, *b"F 8", "a..b", &[]) == Err(IlpError::Code));
+    assert!(rt; put_reject(&mut out, *b"F08", "a..b", &[]) == Err(IlpError::Address));
+    assert!(rt; put_reject(&mut out, *b"F08", "", &[0; 32_768]) == Err(IlpError::DataTooLong));
+    assert!(rt; out.len() == 33);
 }
 
 #[test]
@@ -124,11 +106,11 @@ fn expiries(rt: HostRuntime) {
         (1_704_164_645_006, b"20240102030405006"),
     ];
     for (millis, text) in rows {
-        assert_eq!(rt; write_expiry(millis), Ok(*text));
-        assert_eq!(rt; read_expiry(text), Ok(millis));
+        assert!(rt; write_expiry(millis) == Ok(*text));
+        assert!(rt; read_expiry(text) == Ok(millis));
     }
     for millis in [253_402_300_800_000, -62_167_219_200_001, i64::MIN, i64::MAX] {
-        assert_eq!(rt; write_expiry(millis), Err(IlpError::Expiry));
+        assert!(rt; write_expiry(millis) == Err(IlpError::Expiry));
     }
     let refused: [&[u8]; 5] = [
         b"20240102030460006",
@@ -138,13 +120,12 @@ fn expiries(rt: HostRuntime) {
         b"202401020304050060",
     ];
     for text in refused {
-        assert_eq!(rt; read_expiry(text), Err(IlpError::Expiry));
+        assert!(rt; read_expiry(text) == Err(IlpError::Expiry));
     }
-    assert_eq!(rt; Moment::new(-1), None);
-    assert_eq!(rt; Moment::new(253_402_300_000_001), None);
-    assert_eq!(rt;
-        Moment::new(253_402_300_000_000).map(|moment| moment.ms()),
-        Some(253_402_300_000_000)
+    assert!(rt; Moment::new(-1) == None);
+    assert!(rt; Moment::new(253_402_300_000_001) == None);
+    assert!(rt;
+        Moment::new(253_402_300_000_000).map(|moment| moment.ms()) == Some(253_402_300_000_000)
     );
 }
 
@@ -162,10 +143,10 @@ fn long_fields(rt: HostRuntime) {
         };
         let written = write_answer(alloc, &answer);
         match &written {
-            Ok(bytes) => assert_eq!(rt; read_answer(bytes), Ok(answer)),
-            Err(error) => assert_eq!(rt; *error, IlpError::DataTooLong),
+            Ok(bytes) => assert!(rt; read_answer(bytes) == Ok(answer)),
+            Err(error) => assert!(rt; *error == IlpError::DataTooLong),
         }
-        assert_eq!(rt; written.is_err(), refused);
+        assert!(rt; written.is_err() == refused);
     }
     // A message of 16,384 bytes is not written, but read.
     let mut long = [b'm'; 16_400];
@@ -178,17 +159,14 @@ fn long_fields(rt: HostRuntime) {
 #[test]
 fn fields_that_break_a_rule(rt: HostRuntime) {
     // The message of this Reject is the byte ff.
-    assert_eq!(rt;
-        read_answer(b"\x0e\x07F00\0\x01\xff\0"),
-        Err(IlpError::NotUtf8)
-    );
-    assert_eq!(rt; IlpError::NotUtf8.number(), 15);
+    assert!(rt; read_answer(b"\x0e\x07F00\0\x01\xff\0") == Err(IlpError::NotUtf8));
+    assert!(rt; IlpError::NotUtf8.number() == 15);
     // A Fulfill with 32,768 bytes of data.
     let mut long = [0; 32_807];
     long[..4].copy_from_slice(b"\x0d\x82\x80\x23");
     long[36..39].copy_from_slice(b"\x82\x80\0");
-    assert_eq!(rt; read_answer(&long), Err(IlpError::DataTooLong));
-    assert_eq!(rt; IlpError::DataTooLong.number(), 14);
+    assert!(rt; read_answer(&long) == Err(IlpError::DataTooLong));
+    assert!(rt; IlpError::DataTooLong.number() == 14);
 }
 
 #[test]
@@ -212,6 +190,6 @@ fn prepares_that_are_not_written(rt: HostRuntime) {
             ..OFFER
         };
         let refused = write_prepare(alloc, &prepare).err();
-        assert_eq!(rt; refused.map(|error| error.number()), Some(number));
+        assert!(rt; refused.map(|error| error.number()) == Some(number));
     }
 }

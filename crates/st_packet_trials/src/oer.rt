@@ -33,40 +33,37 @@ fn numbers_are_read(rt: HostRuntime) {
     ];
     for (bytes, want) in rows {
         let mut cut = Cut::new(bytes);
-        assert_eq!(rt; cut.var_uint(), want, "number of {bytes:?}");
+        assert!(rt; cut.var_uint() == want, "number of {bytes:?}");
         if want.is_err() {
-            assert_eq!(rt; cut.rest(), bytes, "cut of {bytes:?}");
+            assert!(rt; cut.rest() == bytes, "cut of {bytes:?}");
         }
-        assert_eq!(rt; Cut::new(bytes).limit(), want, "limit of {bytes:?}");
+        assert!(rt; Cut::new(bytes).limit() == want, "limit of {bytes:?}");
     }
 }
 
 #[test]
 fn numbers_of_nine_bytes_are_read(rt: HostRuntime) {
-    assert_eq!(rt; Cut::new(b"\x09\0").var_uint(), Err(OerError::TooBig));
-    assert_eq!(rt; Cut::new(b"\x09\0").limit(), Err(OerError::Short));
-    assert_eq!(rt; Cut::new(LONG_LIMIT).var_uint(), Err(OerError::TooBig));
-    assert_eq!(rt;
-        Cut::new(LONG_LIMIT).limit(),
-        Ok(18_446_744_073_709_551_615)
-    );
+    assert!(rt; Cut::new(b"\x09\0").var_uint() == Err(OerError::TooBig));
+    assert!(rt; Cut::new(b"\x09\0").limit() == Err(OerError::Short));
+    assert!(rt; Cut::new(LONG_LIMIT).var_uint() == Err(OerError::TooBig));
+    assert!(rt; Cut::new(LONG_LIMIT).limit() == Ok(18_446_744_073_709_551_615));
     let with_zero = b"\x09\0\x01\0\0\0\0\0\0\0";
-    assert_eq!(rt; Cut::new(with_zero).limit(), Err(OerError::LongNumber));
+    assert!(rt; Cut::new(with_zero).limit() == Err(OerError::LongNumber));
 }
 
 #[test]
 fn a_cut_moves_on(rt: HostRuntime) {
     let bytes = [7, 0, 0, 0, 0, 0, 0, 1, 2, 1, 5, 3, 10, 11, 12, 20, 21];
     let mut cut = Cut::new(&bytes);
-    assert_eq!(rt; cut.get_u8(), Ok(7));
-    assert_eq!(rt; cut.get_u64(), Ok(258));
-    assert_eq!(rt; cut.var_uint(), Ok(5));
-    assert_eq!(rt; cut.octets(), Ok([10, 11, 12].as_slice()));
-    assert_eq!(rt; cut.fixed(3), Err(OerError::Short));
-    assert_eq!(rt; cut.get_u64(), Err(OerError::Short));
-    assert_eq!(rt; cut.fixed(2), Ok([20, 21].as_slice()));
-    assert_eq!(rt; cut.get_u8(), Err(OerError::Short));
-    assert_eq!(rt; cut.rest(), [].as_slice());
+    assert!(rt; cut.get_u8() == Ok(7));
+    assert!(rt; cut.get_u64() == Ok(258));
+    assert!(rt; cut.var_uint() == Ok(5));
+    assert!(rt; cut.octets() == Ok([10, 11, 12].as_slice()));
+    assert!(rt; cut.fixed(3) == Err(OerError::Short));
+    assert!(rt; cut.get_u64() == Err(OerError::Short));
+    assert!(rt; cut.fixed(2) == Ok([20, 21].as_slice()));
+    assert!(rt; cut.get_u8() == Err(OerError::Short));
+    assert!(rt; cut.rest() == [].as_slice());
 }
 
 #[test]
@@ -80,8 +77,8 @@ fn hostile_octets_are_refused(rt: HostRuntime) {
     ];
     for (bytes, want) in rows {
         let mut cut = Cut::new(bytes);
-        assert_eq!(rt; cut.octets(), Err(want), "octets of {bytes:?}");
-        assert_eq!(rt; cut.rest(), bytes, "cut of {bytes:?}");
+        assert!(rt; cut.octets() == Err(want), "octets of {bytes:?}");
+        assert!(rt; cut.rest() == bytes, "cut of {bytes:?}");
     }
 }
 
@@ -100,7 +97,7 @@ fn fields_are_written(rt: HostRuntime) -> Result<(), Fail> {
     put_length(&mut out, 65_478)?;
     let want =
         b"\x14\x01\x02\x03\x04\x05\x06\x07\x08\x01\0\x01\x7f\x01\x80\x02\x01\0\x08\xff\xff\xff\xff\xff\xff\xff\xff\x02\x68\x69\0\x7f\x81\x80\x82\xff\xc6";
-    assert_eq!(rt; out.as_slice(), want.as_slice());
+    assert!(rt; out.as_slice() == want.as_slice());
     Ok(())
 }
 
@@ -115,8 +112,8 @@ fn sizes_are_told(rt: HostRuntime) {
         (65_535, 3, 3),
         (u64::MAX, 9, 9),
     ] {
-        assert_eq!(rt; length_size(number), length, "length {number}");
-        assert_eq!(rt; var_uint_size(number), var_uint, "number {number}");
+        assert!(rt; length_size(number) == length, "length {number}");
+        assert!(rt; var_uint_size(number) == var_uint, "number {number}");
     }
 }
 
@@ -125,12 +122,9 @@ fn long_octets_are_written_and_read(rt: HostRuntime) -> Result<(), Fail> {
     let text = Vec::from_elem(rt.alloc(), 0xab, 300)?;
     let mut out = Vec::new(rt.alloc());
     put_octets(&mut out, text.as_slice())?;
-    assert_eq!(rt; out.len(), 303);
-    assert_eq!(rt;
-        out.as_slice().get(..4),
-        Some([0x82, 1, 0x2c, 0xab].as_slice())
-    );
-    assert_eq!(rt; Cut::new(out.as_slice()).octets(), Ok(text.as_slice()));
+    assert!(rt; out.len() == 303);
+    assert!(rt; out.as_slice().get(..4) == Some([0x82, 1, 0x2c, 0xab].as_slice()));
+    assert!(rt; Cut::new(out.as_slice()).octets() == Ok(text.as_slice()));
     Ok(())
 }
 
@@ -168,9 +162,8 @@ fn prefixes_end_with_a_segment(rt: HostRuntime) {
         ("example", "test.b", false),
     ];
     for (prefix, address, want) in rows {
-        assert_eq!(rt;
-            is_within(prefix, address),
-            want,
+        assert!(rt;
+            is_within(prefix, address) == want,
             "{prefix} before {address}"
         );
     }
@@ -178,10 +171,10 @@ fn prefixes_end_with_a_segment(rt: HostRuntime) {
 
 #[test]
 fn texts_are_told(rt: HostRuntime) {
-    assert_eq!(rt; utf8(b"h\xc3\xa9"), Some("h\u{e9}"));
-    assert_eq!(rt; utf8(b""), Some(""));
-    assert_eq!(rt; utf8(b"\xc3"), None);
-    assert_eq!(rt; utf8(b"a\xff"), None);
+    assert!(rt; utf8(b"h\xc3\xa9") == Some("h\u{e9}"));
+    assert!(rt; utf8(b"") == Some(""));
+    assert!(rt; utf8(b"\xc3") == None);
+    assert!(rt; utf8(b"a\xff") == None);
 }
 
 #[test]
@@ -206,9 +199,9 @@ fn refusals_have_numbers_and_texts(rt: HostRuntime) -> Result<(), Fail> {
         (OerError::NoMemory, 5, "out of memory"),
     ];
     for (error, number, text) in rows {
-        assert_eq!(rt; error.number(), number);
-        assert_eq!(rt; error.inner(), None);
-        assert_eq!(rt; format!(in rt.alloc(); "{error}")?.as_str(), text);
+        assert!(rt; error.number() == number);
+        assert!(rt; error.inner() == None);
+        assert!(rt; format!(in rt.alloc(); "{error}")?.as_str() == text);
     }
     Ok(())
 }
@@ -272,29 +265,29 @@ fn reads_come_in_turns(rt: HostRuntime) {
     let device = Faulty::new([1, 2, 3].as_slice(), 2, 2, ErrorKind::Interrupted);
     let mut reader = CountRead::new(device);
     let mut buf = [0; 8];
-    assert_eq!(rt; read_turn(&mut reader, &mut buf), ReadTurn::Bytes(2));
-    assert_eq!(rt; &buf[..3], [1, 2, 0].as_slice());
-    assert_eq!(rt; read_turn(&mut reader, &mut buf), ReadTurn::Again);
-    assert_eq!(rt; reader.faults(), 0);
-    assert_eq!(rt; read_turn(&mut reader, &mut []), ReadTurn::Bytes(0));
-    assert_eq!(rt; read_turn(&mut reader, &mut buf), ReadTurn::Bytes(1));
-    assert_eq!(rt; buf[0], 3);
-    assert_eq!(rt; read_turn(&mut reader, &mut buf), ReadTurn::End);
+    assert!(rt; read_turn(&mut reader, &mut buf) == ReadTurn::Bytes(2));
+    assert!(rt; &buf[..3] == [1, 2, 0].as_slice());
+    assert!(rt; read_turn(&mut reader, &mut buf) == ReadTurn::Again);
+    assert!(rt; reader.faults() == 0);
+    assert!(rt; read_turn(&mut reader, &mut []) == ReadTurn::Bytes(0));
+    assert!(rt; read_turn(&mut reader, &mut buf) == ReadTurn::Bytes(1));
+    assert!(rt; buf[0] == 3);
+    assert!(rt; read_turn(&mut reader, &mut buf) == ReadTurn::End);
     let tally = Tally {
         calls: 5,
         faults: 0,
         interruptions: 1,
         flushed: true,
     };
-    assert_eq!(rt; reader.tally(), tally);
+    assert!(rt; reader.tally() == tally);
 
     let device = Faulty::new([1].as_slice(), 2, 1, ErrorKind::ConnectionReset);
     let mut reader = CountRead::new(device);
-    assert_eq!(rt; read_turn(&mut reader, &mut buf), ReadTurn::Fault);
-    assert_eq!(rt; reader.faults(), 1);
-    assert_eq!(rt; read_turn(&mut reader, &mut buf), ReadTurn::Bytes(1));
-    assert_eq!(rt; reader.faults(), 1);
-    assert_eq!(rt; reader.into_inner().calls, 2);
+    assert!(rt; read_turn(&mut reader, &mut buf) == ReadTurn::Fault);
+    assert!(rt; reader.faults() == 1);
+    assert!(rt; read_turn(&mut reader, &mut buf) == ReadTurn::Bytes(1));
+    assert!(rt; reader.faults() == 1);
+    assert!(rt; reader.into_inner().calls == 2);
 }
 
 #[test]
@@ -310,8 +303,8 @@ fn texts_are_put_in_turns(rt: HostRuntime) {
         let device = Faulty::new(Vec::new(rt.alloc()), 2, fails_at, kind);
         let mut writer = CountWrite::new(device);
         let mut turns = given;
-        assert_eq!(rt; put_all(&mut writer, b"abcde", &mut turns), want);
-        assert_eq!(rt; turns, left, "call {fails_at}");
+        assert!(rt; put_all(&mut writer, b"abcde", &mut turns) == want);
+        assert!(rt; turns == left, "call {fails_at}");
         let is_fault = matches!(want, Err(PutError::Fault(_)));
         let tally = Tally {
             calls: made,
@@ -319,14 +312,14 @@ fn texts_are_put_in_turns(rt: HostRuntime) {
             interruptions: u64::from(fails_at == 2),
             flushed: fails_at == 1,
         };
-        assert_eq!(rt; writer.tally(), tally, "call {fails_at}");
+        assert!(rt; writer.tally() == tally, "call {fails_at}");
         let written = match want {
             Ok(()) => 5,
             Err(PutError::Fault(sent) | PutError::Turns(sent)) => sent,
         };
         let Faulty { inner, calls, .. } = writer.into_inner();
-        assert_eq!(rt; Some(inner.as_slice()), b"abcde".get(..written));
-        assert_eq!(rt; calls, made);
+        assert!(rt; Some(inner.as_slice()) == b"abcde".get(..written));
+        assert!(rt; calls == made);
     }
 }
 
@@ -339,15 +332,15 @@ fn flushes_come_in_turns(rt: HostRuntime) {
     for (kind, want, faults) in rows {
         let device = Faulty::new(Vec::new(rt.alloc()), 2, 2, kind);
         let mut writer = CountWrite::new(device);
-        assert_eq!(rt; write_turn(&mut writer, b"abc"), WriteTurn::Moved(2));
+        assert!(rt; write_turn(&mut writer, b"abc") == WriteTurn::Moved(2));
         assert!(rt; !writer.tally().flushed);
-        assert_eq!(rt; flush_turn(&mut writer), want);
-        assert_eq!(rt; writer.faults(), faults);
+        assert!(rt; flush_turn(&mut writer) == want);
+        assert!(rt; writer.faults() == faults);
         assert!(rt; !writer.tally().flushed);
-        assert_eq!(rt; flush_turn(&mut writer), FlushTurn::Done);
-        assert_eq!(rt; writer.faults(), faults);
+        assert!(rt; flush_turn(&mut writer) == FlushTurn::Done);
+        assert!(rt; writer.faults() == faults);
         assert!(rt; writer.tally().flushed);
-        assert_eq!(rt; writer.into_inner().calls, 3);
+        assert!(rt; writer.into_inner().calls == 3);
     }
 }
 
@@ -360,10 +353,10 @@ fn a_failed_write_is_told(rt: HostRuntime) {
     for (kind, want, faults) in rows {
         let device = Faulty::new(Vec::new(rt.alloc()), 2, 1, kind);
         let mut writer = CountWrite::new(device);
-        assert_eq!(rt; write_turn(&mut writer, b"abc"), want);
-        assert_eq!(rt; writer.faults(), faults);
-        assert_eq!(rt; write_turn(&mut writer, b"abc"), WriteTurn::Moved(2));
-        assert_eq!(rt; writer.into_inner().inner.as_slice(), b"ab".as_slice());
+        assert!(rt; write_turn(&mut writer, b"abc") == want);
+        assert!(rt; writer.faults() == faults);
+        assert!(rt; write_turn(&mut writer, b"abc") == WriteTurn::Moved(2));
+        assert!(rt; writer.into_inner().inner.as_slice() == b"ab".as_slice());
     }
 }
 
@@ -372,28 +365,28 @@ fn a_failed_write_is_told(rt: HostRuntime) {
 fn one_call_fails(rt: HostRuntime) {
     let mut buf = [0; 2];
     let mut reader = FailAt::new([1, 2, 3].as_slice(), 2);
-    assert_eq!(rt; reader.read(&mut buf).ok(), Some(2));
-    assert_eq!(rt; reader.read(&mut buf).ok(), None);
-    assert_eq!(rt; reader.faults(), 1);
-    assert_eq!(rt; reader.read(&mut buf).ok(), Some(1));
-    assert_eq!(rt; buf, [3, 2]);
-    assert_eq!(rt; reader.faults(), 1);
-    assert_eq!(rt; reader.tally().calls, 3);
-    assert_eq!(rt; reader.into_inner().len(), 0);
+    assert!(rt; reader.read(&mut buf).ok() == Some(2));
+    assert!(rt; reader.read(&mut buf).ok() == None);
+    assert!(rt; reader.faults() == 1);
+    assert!(rt; reader.read(&mut buf).ok() == Some(1));
+    assert!(rt; buf == [3, 2]);
+    assert!(rt; reader.faults() == 1);
+    assert!(rt; reader.tally().calls == 3);
+    assert!(rt; reader.into_inner().len() == 0);
 
     let mut writer = FailAt::new(Vec::new(rt.alloc()), 2);
     assert!(rt; writer.write(b"ab").is_ok());
     assert!(rt; writer.flush().is_err());
     assert!(rt; writer.flush().is_ok());
     assert!(rt; writer.write(b"c").is_ok());
-    assert_eq!(rt; writer.faults(), 1);
-    assert_eq!(rt; writer.into_inner().as_slice(), b"abc".as_slice());
+    assert!(rt; writer.faults() == 1);
+    assert!(rt; writer.into_inner().as_slice() == b"abc".as_slice());
 
     let mut writer = FailAt::new(Vec::new(rt.alloc()), 0);
     for _ in 0..9 {
         assert!(rt; writer.write(b"a").is_ok());
     }
-    assert_eq!(rt; writer.faults(), 0);
+    assert!(rt; writer.faults() == 0);
 }
 
 /// What fails behind a wrapper is told by the turn of that call alone.
@@ -404,15 +397,14 @@ fn a_text_meets_each_failing_call(rt: HostRuntime) {
         let mut writer = CountWrite::new(device);
         let mut turns = 9;
         let answer = put_all(&mut writer, b"abcde", &mut turns);
-        assert_eq!(rt; answer, Err(PutError::Fault(sent)), "call {k}");
-        assert_eq!(rt; turns, left, "call {k}");
-        assert_eq!(rt; writer.faults(), 1, "call {k}");
-        assert_eq!(rt;
-            put_all(&mut writer, b"abcde", &mut turns),
-            Ok(()),
+        assert!(rt; answer == Err(PutError::Fault(sent)), "call {k}");
+        assert!(rt; turns == left, "call {k}");
+        assert!(rt; writer.faults() == 1, "call {k}");
+        assert!(rt;
+            put_all(&mut writer, b"abcde", &mut turns) == Ok(()),
             "call {k}"
         );
-        assert_eq!(rt; writer.faults(), 1, "call {k}");
+        assert!(rt; writer.faults() == 1, "call {k}");
     }
 }
 
@@ -437,9 +429,9 @@ fn amounts_are_exchanged(rt: HostRuntime) {
         let Some(rate) = Rate::new(num, den) else {
             panic!(rt; "{num} to {den} is a rate");
         };
-        assert_eq!(rt; rate.num(), num);
-        assert_eq!(rt; rate.den(), den);
-        assert_eq!(rt; rate.of(amount), want, "{amount} at {num} to {den}");
+        assert!(rt; rate.num() == num);
+        assert!(rt; rate.den() == den);
+        assert!(rt; rate.of(amount) == want, "{amount} at {num} to {den}");
     }
     assert!(rt; Rate::new(0, 1).is_none());
     assert!(rt; Rate::new(1, 0).is_none());

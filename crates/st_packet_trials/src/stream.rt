@@ -81,15 +81,15 @@ const REFUSED: [(&[u8], (u8, Option<u64>)); 9] = [
 #[test]
 fn packets_refused(rt: HostRuntime) {
     for (bytes, want) in REFUSED {
-        assert_eq!(rt; refusal(bytes), Some(want), "{bytes:?}");
+        assert!(rt; refusal(bytes) == Some(want), "{bytes:?}");
     }
-    assert_eq!(rt; read_packet(&HI, 13).err(), Some(FrameError::Kind));
+    assert!(rt; read_packet(&HI, 13).err() == Some(FrameError::Kind));
 }
 
 #[test]
 fn longer_packets_are_refused(rt: HostRuntime) -> Result<(), Fail> {
     let long = vec![in rt.alloc(); 1u8; MAX_PACKET + 1]?;
-    assert_eq!(rt; refusal(&long), Some((24, None)));
+    assert!(rt; refusal(&long) == Some((24, None)));
     Ok(())
 }
 
@@ -187,12 +187,9 @@ fn each_frame_both_ways(rt: HostRuntime) -> Result<(), Fail> {
         packet.extend_from_slice(bytes)?;
         let read = read_packet(&packet, 12)?;
         let mut frames = read.frames.again();
-        assert_eq!(rt; frames.next(), Some((0, frame)));
-        assert_eq!(rt; frames.next(), None);
-        assert_eq!(rt;
-            write_packet(rt.alloc(), 12, 1, 0, &[frame])?.as_slice(),
-            packet.as_slice()
-        );
+        assert!(rt; frames.next() == Some((0, frame)));
+        assert!(rt; frames.next() == None);
+        assert!(rt; write_packet(rt.alloc(), 12, 1, 0, &[frame])?.as_slice() == packet.as_slice());
     }
     Ok(())
 }
@@ -201,14 +198,14 @@ fn each_frame_both_ways(rt: HostRuntime) -> Result<(), Fail> {
 fn a_limit_of_nine_bytes(rt: HostRuntime) -> Result<(), Fail> {
     let bytes = b"\x01\x0c\x01\x01\x01\0\x01\x01\x03\x0a\x09\x01\0\0\0\0\0\0\0\0";
     let mut frames = read_packet(bytes, 12)?.frames;
-    assert_eq!(rt;
-        frames.next(),
-        Some((
-            0,
-            Frame::ConnectionMaxData {
-                max_offset: u64::MAX
-            }
-        ))
+    assert!(rt;
+        frames.next()
+            == Some((
+                0,
+                Frame::ConnectionMaxData {
+                    max_offset: u64::MAX
+                }
+            ))
     );
     Ok(())
 }
@@ -220,24 +217,18 @@ fn packets_written(rt: HostRuntime) -> Result<(), Fail> {
         offset: 0,
         bytes: b"hi",
     }];
-    assert_eq!(rt;
-        write_packet(rt.alloc(), 12, 1, 0, &hi)?.as_slice(),
-        HI.as_slice()
-    );
+    assert!(rt; write_packet(rt.alloc(), 12, 1, 0, &hi)?.as_slice() == HI.as_slice());
     let empty = write_packet(rt.alloc(), 14, 256, 1, &[])?;
-    assert_eq!(rt;
-        empty.as_slice(),
-        b"\x01\x0e\x02\x01\0\x01\x01\x01\0".as_slice()
-    );
+    assert!(rt; empty.as_slice() == b"\x01\x0e\x02\x01\0\x01\x01\x01\0".as_slice());
     let many = [Frame::ConnectionMaxData { max_offset: 0 }; 300];
     let text = write_packet(rt.alloc(), 12, 1, 0, &many)?;
-    assert_eq!(rt; text.len(), 1_209);
+    assert!(rt; text.len() == 1_209);
     let mut read = 0u64;
     for (_, frame) in read_packet(&text, 12)?.frames {
-        assert_eq!(rt; frame, Frame::ConnectionMaxData { max_offset: 0 });
+        assert!(rt; frame == Frame::ConnectionMaxData { max_offset: 0 });
         read = read.saturating_add(1);
     }
-    assert_eq!(rt; read, 300);
+    assert!(rt; read == 300);
     Ok(())
 }
 
@@ -252,11 +243,11 @@ fn a_packet_is_appended(rt: HostRuntime) -> Result<(), Fail> {
     put_packet(&mut out, 12, 1, 0, &[hi])?;
     let mut want = b"ab".to_vec(rt.alloc())?;
     want.extend_from_slice(&HI)?;
-    assert_eq!(rt; out.as_slice(), want.as_slice());
+    assert!(rt; out.as_slice() == want.as_slice());
     let nowhere = Frame::ConnectionNewAddress { address: "a..b" };
     let refused = put_packet(&mut out, 12, 1, 0, &[hi, nowhere]);
-    assert_eq!(rt; refused, Err(FrameError::FrameFormat(1)));
-    assert_eq!(rt; out.as_slice(), want.as_slice());
+    assert!(rt; refused == Err(FrameError::FrameFormat(1)));
+    assert!(rt; out.as_slice() == want.as_slice());
     Ok(())
 }
 
@@ -269,23 +260,17 @@ fn packets_not_written(rt: HostRuntime) -> Result<(), Fail> {
         offset: 0,
         bytes: &data[..32_720],
     }];
-    assert_eq!(rt;
-        write_packet(rt.alloc(), 12, 1, 0, &fits)?.len(),
-        MAX_PACKET
-    );
+    assert!(rt; write_packet(rt.alloc(), 12, 1, 0, &fits)?.len() == MAX_PACKET);
     let long = Frame::StreamData {
         stream: 1,
         offset: 0,
         bytes: &data,
     };
-    assert_eq!(rt;
-        write_packet(rt.alloc(), 12, 1, 0, &[long]).err(),
-        Some(FrameError::TooLong)
-    );
+    assert!(rt; write_packet(rt.alloc(), 12, 1, 0, &[long]).err() == Some(FrameError::TooLong));
     let nowhere = Frame::ConnectionNewAddress { address: "a..b" };
-    assert_eq!(rt;
-        write_packet(rt.alloc(), 12, 1, 0, &[long, nowhere]).err(),
-        Some(FrameError::FrameFormat(1))
+    assert!(rt;
+        write_packet(rt.alloc(), 12, 1, 0, &[long, nowhere]).err()
+            == Some(FrameError::FrameFormat(1))
     );
     Ok(())
 }

@@ -4,7 +4,7 @@ use Rattle.std.specs.Prelude.{is_some, slice_index}
 use Rattle.std.specs.List.{list_any}
 use Rattle.std.specs.Ordering.{nat_cmp}
 use Rattle.std.specs.FinSet.{FinSet}
-use Rattle.std.proofs.lemmas.List.{get_or-set_same, get_or-set_other, get_or_read}
+use Rattle.std.proofs.lemmas.List.{length-set, get_or-set_same, get_or-set_other, get_or_read}
 use Rattle.std.proofs.lemmas.Bool.{cases_eq}
 use Rattle.st_tables.specs.Slots.{Slots, slot}
 use Rattle.st_tables.proofs.SlotLemmas.{slot_within}
@@ -21,6 +21,10 @@ set-twice : (ps : Slots Incoming) (k : ℕ) (a b : Option Incoming) → set (set
 set-twice [] k a b = refl
 set-twice (p ∷ ps) zero a b = refl
 set-twice (p ∷ ps) (suc k) a b = ap (λ r. p ∷ r) (set-twice ps k a b)
+
+-- a place is emptied, and the others stay
+pub drawn_length : {X : Type 0} (ss left : Slots X) (k : ℕ) → left ≡ set ss k None → length ss ≡ 65 → length left ≡ 65
+drawn_length ss left k drawn whole = ap length drawn ∙ length-set ss k None ∙ whole
 
 -- what the code keeps, as it is seen
 abbrev pub shown : (parity : ℕ) → Slots Incoming → List ℕ → FinSet nat_cmp → ℕ → Bool → Receiving
@@ -70,6 +74,9 @@ either true b e = inl refl
 either false b e = inr e
 
 -- a number that is ready is one of the table's
+pub open_within : (ss : Slots Incoming) (k : ℕ) → length ss ≡ 65 → is_some (slot ss k) ≡ true → k < 65
+open_within ss k whole some = subst (λ n. k < n) whole (some_within ss k (slot ss k) refl some)
+
 pub ready_within : (ss : Slots Incoming) (ws : Slots Held) (k : ℕ) → length ss ≡ 65 → length ws ≡ 65 → (is_some (slot ss k) || is_some (slot ws k)) ≡ true → k < 65
 ready_within ss ws k a b e = elim (either (is_some (slot ss k)) (is_some (slot ws k)) e) [
   | inl h ↦ subst (λ n. k < n) a (some_within ss k (slot ss k) refl h)

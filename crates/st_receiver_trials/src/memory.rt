@@ -78,12 +78,12 @@ fn new_wants_memory_or_succeeds(rt: HostRuntime) -> Result<(), Fail> {
         let met = heap.has_refused();
         heap.refuse_none();
         if !met {
-            assert_eq!(rt; answer?.credited(), 0);
+            assert!(rt; answer?.credited() == 0);
             assert!(rt; 1 < n);
             return Ok(());
         }
         assert!(rt; answer.is_err(), "at {n}");
-        assert_eq!(rt; Intake::new(&heap, 0)?.credited(), 0, "at {n}");
+        assert!(rt; Intake::new(&heap, 0)?.credited() == 0, "at {n}");
     }
     panic!(rt; "no run met no refusal");
 }
@@ -126,12 +126,12 @@ fn judge_wants_memory_only_where_it_was_refused(rt: HostRuntime) -> Result<(), F
         let met = heap.has_refused();
         heap.refuse_none();
         if !met {
-            assert_eq!(rt; answer, 0);
+            assert!(rt; answer == 0);
             assert!(rt; 1 < n);
             return Ok(());
         }
-        assert_eq!(rt; answer, 67, "at {n}");
-        assert_eq!(rt; judged(&mut intake, &packet, 10), 0, "at {n}");
+        assert!(rt; answer == 67, "at {n}");
+        assert!(rt; judged(&mut intake, &packet, 10) == 0, "at {n}");
     }
     panic!(rt; "no run met no refusal");
 }
@@ -148,12 +148,12 @@ fn a_reply_is_whole_or_not_at_all(rt: HostRuntime) -> Result<(), Fail> {
         let met = heap.has_refused();
         heap.refuse_none();
         if !met {
-            assert_eq!(rt; answer?, 5);
+            assert!(rt; answer? == 5);
             assert!(rt; 1 < n);
             return Ok(());
         }
         assert!(rt; answer.is_err(), "at {n}");
-        assert_eq!(rt; told(&intake, &packet)?, 5, "at {n}");
+        assert!(rt; told(&intake, &packet)? == 5, "at {n}");
     }
     panic!(rt; "no run met no refusal");
 }
@@ -169,12 +169,12 @@ fn limits_are_whole_or_not_at_all(rt: HostRuntime) -> Result<(), Fail> {
         let met = heap.has_refused();
         heap.refuse_none();
         if !met {
-            assert_eq!(rt; answer?.len(), 65);
+            assert!(rt; answer?.len() == 65);
             assert!(rt; 1 < n);
             return Ok(());
         }
         assert!(rt; answer.is_err(), "at {n}");
-        assert_eq!(rt; intake.limits()?.len(), 65, "at {n}");
+        assert!(rt; intake.limits()?.len() == 65, "at {n}");
     }
     panic!(rt; "no run met no refusal");
 }
@@ -193,12 +193,12 @@ fn read_is_whole_or_not_at_all(rt: HostRuntime) -> Result<(), Fail> {
         let met = heap.has_refused();
         heap.refuse_none();
         if !met {
-            assert_eq!(rt; answer?, 2);
+            assert!(rt; answer? == 2);
             assert!(rt; 1 < n);
             return Ok(());
         }
         assert!(rt; answer.is_err(), "at {n}");
-        assert_eq!(rt; read(&mut intake)?, 2, "at {n}");
+        assert!(rt; read(&mut intake)? == 2, "at {n}");
     }
     panic!(rt; "no run met no refusal");
 }
@@ -218,10 +218,10 @@ fn an_effect_asks_for_no_memory(rt: HostRuntime) -> Result<(), Fail> {
         }
         Decision::Reject { code: _, reason: _ } => panic!(rt; "the packet breaks no rule"),
     }
-    assert_eq!(rt; intake.credited(), 10);
-    assert_eq!(rt; intake.credited_to(1), 10);
+    assert!(rt; intake.credited() == 10);
+    assert!(rt; intake.credited_to(1) == 10);
     allow(&mut intake);
     assert!(rt; intake.has_stream(3));
-    assert_eq!(rt; heap.asked(), 0);
+    assert!(rt; heap.asked() == 0);
     Ok(())
 }

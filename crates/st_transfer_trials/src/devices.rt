@@ -23,19 +23,18 @@ fn each_read_of_the_input_fails_in_turn(rt: HostRuntime) -> Result<(), Fail> {
             ..with_money(0, 1)
         };
         let kept = transfer(&rt, alloc, listener, host, &[host], input, terms);
-        assert_eq!(rt;
-            kept.sent,
-            Err(TransferError::File(FileError::ReadFault(read))),
+        assert!(rt;
+            kept.sent == Err(TransferError::File(FileError::ReadFault(read))),
             "at {k}"
         );
-        assert_eq!(rt; kept.told, Err(TransferError::Turns), "at {k}");
+        assert!(rt; kept.told == Err(TransferError::Turns), "at {k}");
         assert!(rt; kept.bytes.len() as u64 <= read, "at {k}");
         assert!(rt;
             bytes.as_slice().starts_with(kept.bytes.as_slice()),
             "at {k}"
         );
     }
-    assert_eq!(rt; TransferError::File(FileError::ReadFault(0)).number(), 90);
+    assert!(rt; TransferError::File(FileError::ReadFault(0)).number() == 90);
     Ok(())
 }
 
@@ -61,19 +60,18 @@ fn each_call_of_the_output_fails_in_turn(rt: HostRuntime) -> Result<(), Fail> {
         let written = writer.into_inner().into_inner();
         assert!(rt; bytes.as_slice().starts_with(written.as_slice()), "at {k}");
         if told == Ok(10_000) {
-            assert_eq!(rt; sent, Ok(10_000), "at {k}");
-            assert_eq!(rt; written.len(), 10_000);
+            assert!(rt; sent == Ok(10_000), "at {k}");
+            assert!(rt; written.len() == 10_000);
             break;
         }
-        assert_eq!(rt;
-            told,
-            Err(TransferError::File(FileError::WriteFault(written.len() as u64))),
+        assert!(rt;
+            told == Err(TransferError::File(FileError::WriteFault(written.len() as u64))),
             "at {k}"
         );
         failed = k;
     }
     assert!(rt; 3 <= failed && failed < 100);
-    assert_eq!(rt; TransferError::File(FileError::WriteFault(0)).number(), 91);
+    assert!(rt; TransferError::File(FileError::WriteFault(0)).number() == 91);
     Ok(())
 }
 
@@ -85,13 +83,13 @@ fn a_listener_that_gives_no_connection_is_a_fault(rt: HostRuntime) -> Result<(),
     listener.set_nonblocking(true)?;
     let mut writer = Counting::new(Vec::new(alloc));
     let told = receive(&rt, alloc, listener, &mut writer, with_money(0, 1));
-    assert_eq!(rt; told, Err(TransferError::Accept));
-    assert_eq!(rt; told.err().map(|e| e.number()), Some(80));
-    assert_eq!(rt; writer.into_inner().len(), 0);
+    assert!(rt; told == Err(TransferError::Accept));
+    assert!(rt; told.err().map(|e| e.number()) == Some(80));
+    assert!(rt; writer.into_inner().len() == 0);
     let between = listen(&rt, alloc)?;
     between.listener.set_nonblocking(true)?;
     let same = Rate::new(1, 1).unwrap();
     let owed = connect(&rt, alloc, between.listener, host.as_str(), same);
-    assert_eq!(rt; owed, Err(TransferError::Accept));
+    assert!(rt; owed == Err(TransferError::Accept));
     Ok(())
 }

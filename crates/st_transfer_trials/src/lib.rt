@@ -5,6 +5,8 @@
 #[cfg(test)]
 mod aborts;
 #[cfg(test)]
+mod brittle;
+#[cfg(test)]
 mod chains;
 #[cfg(test)]
 mod devices;

@@ -36,6 +36,11 @@ HasShape s c = (shape_of c ≡ s) × (has_globals c ≡ false)
 abbrev pub required_rule : Text → Rule
 required_rule name = with_required (option_rule name)
 
+-- what both ends of a transfer have to be told
+abbrev pub with_ends : Shape → Shape
+with_ends s = with_rule (with_rule (with_rule (with_rule s (required_rule (codes "token"))) (required_rule (codes "secret")))
+    (required_rule (codes "address"))) (required_rule (codes "peer"))
+
 abbrev pub frames : Shape
 frames = new_shape (codes "frames")
 

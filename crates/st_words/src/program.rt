@@ -1,10 +1,10 @@
 //! The commands and their options.
 
-ghost use Rattle.std.specs.Prelude.{◌≡◌, IfOk};
-ghost use Rattle.clap.specs.Words.{app_of};
+ghost use Rattle.std.specs.Prelude.{◌≡◌, false, IfOk};
+ghost use Rattle.clap.specs.Words.{app_of, shape_of};
 ghost use Rattle.clap.specs.Simple.{new_shape};
 ghost use Rattle.st_words.specs.Program as spec;
-ghost use Rattle.st_words.specs.Program.{HasShape};
+ghost use Rattle.st_words.specs.Program.{HasShape, has_globals};
 
 use crate::options::{number, option, or, required, with, with_command};
 use crate::texts::{
@@ -39,6 +39,12 @@ fn frames<'a>(alloc: Global) -> Command<'a>
 fn local<'a>(alloc: Global) -> Result<Command<'a>, AllocError>
     ensures { IfOk result (HasShape spec.local) }
 {
+    let command = named(
+        alloc,
+        "local",
+        "Sends standard input through a connection in memory, to standard output",
+        AFTER_LOCAL_HELP,
+    );
     let hops = number(
         alloc,
         "hops",
@@ -46,6 +52,7 @@ fn local<'a>(alloc: Global) -> Result<Command<'a>, AllocError>
         0,
         MAX_HOPS,
     );
+    let command = with(command, or(hops, "1"))?;
     let lose = number(
         alloc,
         "lose",
@@ -53,6 +60,7 @@ fn local<'a>(alloc: Global) -> Result<Command<'a>, AllocError>
         0,
         MAX_LOSE,
     );
+    let command = with(command, or(lose, "0"))?;
     let streams = number(
         alloc,
         "streams",
@@ -60,40 +68,54 @@ fn local<'a>(alloc: Global) -> Result<Command<'a>, AllocError>
         1,
         MAX_STREAMS,
     );
-    let command = named(
-        alloc,
-        "local",
-        "Sends standard input through a connection in memory, to standard output",
-        AFTER_LOCAL_HELP,
-    );
-    let command = with(command, or(hops, "1"))?;
-    let command = with(command, or(lose, "0"))?;
     with(command, or(streams, "1"))
 }
 
-fn send<'a>(alloc: Global) -> Result<Command<'a>, AllocError>
-    ensures { IfOk result (HasShape spec.send) }
+/// The command with what both ends of a transfer have to be told: the neighbour's token, the secret, and their addresses.
+fn with_ends<'a>(
+    alloc: Global,
+    command: Command<'a>,
+    peer_help: &'a str,
+) -> Result<Command<'a>, AllocError>
+    requires { has_globals command ≡ false }
+    ensures { IfOk result (HasShape (spec.with_ends (shape_of command.entry))) }
 {
-    let to = option(
-        alloc,
-        "to",
-        "HOST:PORT",
-        "The neighbour that requests go to, its port up to 65535",
-    );
     let token = option(alloc, "token", "TOKEN", TOKEN_HELP);
+    let command = with(command, required(token))?;
     let secret = option(alloc, "secret", "HEX", SECRET_HELP);
+    let command = with(command, required(secret))?;
     let address = option(
         alloc,
         "address",
         "ADDRESS",
         "This end's ILP address, up to 1023 characters",
     );
-    let peer = option(
+    let command = with(command, required(address))?;
+    let peer = option(alloc, "peer", "ADDRESS", peer_help);
+    with(command, required(peer))
+}
+
+fn send<'a>(alloc: Global) -> Result<Command<'a>, AllocError>
+    ensures { IfOk result (HasShape spec.send) }
+{
+    let command = named(
         alloc,
-        "peer",
-        "ADDRESS",
-        "The receiver's ILP address, up to 1023 characters",
+        "send",
+        "Sends standard input and money to a receiver",
+        AFTER_SEND_HELP,
     );
+    let to = option(
+        alloc,
+        "to",
+        "HOST:PORT",
+        "The neighbour that requests go to, its port up to 65535",
+    );
+    let command = with(command, required(to))?;
+    let command = with_ends(
+        alloc,
+        command,
+        "The receiver's ILP address, up to 1023 characters",
+    )?;
     let money = number(
         alloc,
         "money",
@@ -101,6 +123,7 @@ fn send<'a>(alloc: Global) -> Result<Command<'a>, AllocError>
         0,
         MAX_MONEY,
     );
+    let command = with(command, or(money, "0"))?;
     let workers = number(
         alloc,
         "workers",
@@ -108,53 +131,39 @@ fn send<'a>(alloc: Global) -> Result<Command<'a>, AllocError>
         1,
         MAX_WORKERS,
     );
+    let command = with(command, or(workers, "4"))?;
     let random = option(
         alloc,
         "random",
         "FILE",
         "Where random bytes are read from, twelve a packet",
     );
-    let least = option(alloc, "least", "NUM:DEN", LEAST_HELP);
-    let command = named(
-        alloc,
-        "send",
-        "Sends standard input and money to a receiver",
-        AFTER_SEND_HELP,
-    );
-    let command = with(command, required(to))?;
-    let command = with(command, required(token))?;
-    let command = with(command, required(secret))?;
-    let command = with(command, required(address))?;
-    let command = with(command, required(peer))?;
-    let command = with(command, or(money, "0"))?;
-    let command = with(command, or(workers, "4"))?;
     let command = with(command, or(random, "/dev/urandom"))?;
+    let least = option(alloc, "least", "NUM:DEN", LEAST_HELP);
     with(command, or(least, "1:1"))
 }
 
 fn receive<'a>(alloc: Global) -> Result<Command<'a>, AllocError>
     ensures { IfOk result (HasShape spec.receive) }
 {
+    let command = named(
+        alloc,
+        "receive",
+        "Takes what one sender sends, and writes it to standard output",
+        AFTER_RECEIVE_HELP,
+    );
     let listen = option(
         alloc,
         "listen",
         "HOST:PORT",
         "Where requests are taken, a port up to 65535",
     );
-    let token = option(alloc, "token", "TOKEN", TOKEN_HELP);
-    let secret = option(alloc, "secret", "HEX", SECRET_HELP);
-    let address = option(
+    let command = with(command, required(listen))?;
+    let command = with_ends(
         alloc,
-        "address",
-        "ADDRESS",
-        "This end's ILP address, up to 1023 characters",
-    );
-    let peer = option(
-        alloc,
-        "peer",
-        "ADDRESS",
+        command,
         "The sender's ILP address, up to 1023 characters",
-    );
+    )?;
     let receive_max = number(
         alloc,
         "receive-max",
@@ -162,35 +171,32 @@ fn receive<'a>(alloc: Global) -> Result<Command<'a>, AllocError>
         0,
         MAX_MONEY,
     );
-    let command = named(
-        alloc,
-        "receive",
-        "Takes what one sender sends, and writes it to standard output",
-        AFTER_RECEIVE_HELP,
-    );
-    let command = with(command, required(listen))?;
-    let command = with(command, required(token))?;
-    let command = with(command, required(secret))?;
-    let command = with(command, required(address))?;
-    let command = with(command, required(peer))?;
     with(command, or(receive_max, "0"))
 }
 
 fn connector<'a>(alloc: Global) -> Result<Command<'a>, AllocError>
     ensures { IfOk result (HasShape spec.connector) }
 {
+    let command = named(
+        alloc,
+        "connector",
+        "Takes packets from neighbours and passes them on, by the table on standard input",
+        AFTER_CONNECTOR_HELP,
+    );
     let listen = option(
         alloc,
         "listen",
         "HOST:PORT",
         "Where requests are taken, a port up to 65535",
     );
+    let command = with(command, required(listen))?;
     let own = option(
         alloc,
         "own",
         "ADDRESS",
         "The connector's own ILP address, up to 1023 characters",
     );
+    let command = with(command, required(own))?;
     let requests = number(
         alloc,
         "requests",
@@ -198,6 +204,7 @@ fn connector<'a>(alloc: Global) -> Result<Command<'a>, AllocError>
         1,
         MAX_REQUESTS,
     );
+    let command = with(command, required(requests))?;
     let workers = number(
         alloc,
         "workers",
@@ -205,15 +212,6 @@ fn connector<'a>(alloc: Global) -> Result<Command<'a>, AllocError>
         1,
         MAX_WORKERS,
     );
-    let command = named(
-        alloc,
-        "connector",
-        "Takes packets from neighbours and passes them on, by the table on standard input",
-        AFTER_CONNECTOR_HELP,
-    );
-    let command = with(command, required(listen))?;
-    let command = with(command, required(own))?;
-    let command = with(command, required(requests))?;
     with(command, or(workers, "4"))
 }
 

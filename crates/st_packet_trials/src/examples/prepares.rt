@@ -18,9 +18,9 @@ fn offer<A: Allocator>(alloc: A, payload: &[u8]) -> Result<Vec<u8, A>, IlpError>
 #[test]
 fn a_prepare_is_written_and_read(rt: HostRuntime) -> Result<(), std::test::Fail> {
     let bytes = offer(rt.alloc(), b"hi")?;
-    assert_eq!(rt; bytes.len(), 72);
+    assert!(rt; bytes.len() == 72);
     let prepare = st_ilp::read_prepare(&bytes)?;
-    assert_eq!(rt; prepare.amount, 5);
-    assert_eq!(rt; prepare.payload, b"hi".as_slice());
+    assert!(rt; prepare.amount == 5);
+    assert!(rt; prepare.payload == b"hi".as_slice());
     Ok(())
 }

@@ -1,24 +1,13 @@
 use Rattle.std.proofs.Common.{◌∙◌, ap, ap₂, codes}
 use Rattle.std.proofs.lemmas.Result.{IfOk-weaker}
-use Rattle.st_words.specs.Program.{with_default, with_required, with_rule}
+use Rattle.st_words.specs.Program.{with_default, with_ends, with_required, with_rule}
 use Rattle.st_words.proofs.program.receive.Goals as goal
 
 pub returns : goal.returns
 returns c =
     let r1 = c.required.ensures.rule ∙ ap with_required c.option-listen.ensures.rule in
-    let r2 = c.required-2.ensures.rule ∙ ap with_required c.option-token.ensures.rule in
-    let r3 = c.required-3.ensures.rule ∙ ap with_required c.option-secret.ensures.rule in
-    let r4 = c.required-4.ensures.rule ∙ ap with_required c.option-address.ensures.rule in
-    let r5 = c.required-5.ensures.rule ∙ ap with_required c.option-peer.ensures.rule in
-    let r6 = c.or.ensures.rule ∙ ap (with_default (codes "0")) c.number-receive_max.ensures.rule in
+    let r2 = c.or.ensures.rule ∙ ap (with_default (codes "0")) c.number-receive_max.ensures.rule in
     let s1 = c.in_ok-command.ensures.0 ∙ ap₂ with_rule c.named-command.ensures.0 r1 in
-    let o1 = c.in_ok-command.ensures.1 ∙ c.named-command.ensures.1 in
-    let s2 = c.in_ok-command-2.ensures.0 ∙ ap₂ with_rule s1 r2 in
-    let o2 = c.in_ok-command-2.ensures.1 ∙ o1 in
-    let s3 = c.in_ok-command-3.ensures.0 ∙ ap₂ with_rule s2 r3 in
-    let o3 = c.in_ok-command-3.ensures.1 ∙ o2 in
-    let s4 = c.in_ok-command-4.ensures.0 ∙ ap₂ with_rule s3 r4 in
-    let o4 = c.in_ok-command-4.ensures.1 ∙ o3 in
-    let s5 = c.in_ok-command-5.ensures.0 ∙ ap₂ with_rule s4 r5 in
-    let o5 = c.in_ok-command-5.ensures.1 ∙ o4 in
-    IfOk-weaker c.with-6.result _ _ (λ m h. (h.0 ∙ ap₂ with_rule s5 r6, h.1 ∙ o5)) c.with-6.ensures
+    let s2 = c.in_ok-command-2.ensures.0 ∙ ap with_ends s1 in
+    let o2 = c.in_ok-command-2.ensures.1 in
+    IfOk-weaker c.with-2.result _ _ (λ m h. (h.0 ∙ ap₂ with_rule s2 r2, h.1 ∙ o2)) c.with-2.ensures

@@ -1,4 +1,6 @@
-use Rattle.std.proofs.Common.{◌<◌, length, arith}
+use Rattle.std.proofs.Common.{◌<◌, ◌∙◌, Some, length, ap, arith}
+use Rattle.std.proofs.lemmas.List.{length-set}
+use Rattle.st_receiver.specs.Standing.{Standing}
 use Rattle.st_receiver.proofs.Applying.{window_made, window_stays}
 use Rattle.st_receiver.proofs.intake.Intake.make_ready.Goals as goal
 
@@ -11,3 +13,21 @@ pub returns-clause-ready : goal.returns-clause-ready
 returns-clause-ready g c = λ _.
     let l : c.args.stream < length c.self.inside.windows.items = omega (arith, c.self.invariant.1, c.if-stream-ge65.false) in
     window_made c.self.inside.parity c.self.inside.slots.items c.self.inside.kept c.self.inside.fulfilled.set c.self.inside.credit c.self.inside.closed c.self.inside.fulfilled.room c.self.inside.windows.items c.args.stream c.in-Ok.window l
+
+pub returns-clause-state : goal.returns-clause-state
+returns-clause-state g c = ap (λ (t : Standing). t.state) c.self.view_is
+
+pub invariant_of-self : goal.invariant_of-self
+invariant_of-self g c = (c.self.invariant.0, length-set c.self.inside.windows.items c.args.stream (Some c.in-Ok.window) ∙ c.self.invariant.1)
+
+pub returns-then-stream-ge65-clause-stays : goal.returns-then-stream-ge65-clause-stays
+returns-then-stream-ge65-clause-stays g c = λ k ready. ready
+
+pub returns-then-has_stream-clause-stays : goal.returns-then-has_stream-clause-stays
+returns-then-has_stream-clause-stays g c = λ k ready. ready
+
+pub returns-then-is_some-clause-stays : goal.returns-then-is_some-clause-stays
+returns-then-is_some-clause-stays g c = λ k ready. ready
+
+pub returns-in_default-clause-stays : goal.returns-in_default-clause-stays
+returns-in_default-clause-stays g c = λ k ready. ready

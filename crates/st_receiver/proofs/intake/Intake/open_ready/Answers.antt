@@ -1,6 +1,7 @@
-use Rattle.std.proofs.Common.{◌<◌, ◌∙◌, refl, sym, ap, subst}
+use Rattle.std.proofs.Common.{◌<◌, ◌∙◌, Some, refl, sym, ap, subst}
+use Rattle.std.proofs.lemmas.List.{length-set}
 use Rattle.st_receiver.specs.Standing.{Standing, is_ready}
-use Rattle.st_receiver.proofs.Applying.{changed, changed_keeps, ready_within}
+use Rattle.st_receiver.proofs.Applying.{changed, changed_keeps, drawn_length, ready_within}
 use Rattle.st_receiver.proofs.intake.Intake.open_ready.Goals as goal
 
 pub returns-clause-state : goal.returns-clause-state
@@ -14,3 +15,16 @@ returns-clause-keeps g c =
     c.args.stream c.drawn-incoming.result c.self.view_is c.drawn-incoming.ensures.left
     (subst (λ n. c.args.stream < n) (sym c.self.invariant.0) (ready_within c.self.inside.slots.items c.self.inside.windows.items c.args.stream c.self.invariant.0 c.self.invariant.1 (ap (λ (t : Standing). is_ready t c.args.stream) c.self.view_is ∙ c.requires.ready)))
     c.drawn-incoming.ensures.others
+
+pub drawn-incoming-requires-clause-within : goal.drawn-incoming-requires-clause-within
+drawn-incoming-requires-clause-within g c = ready_within c.self.inside.slots.items c.self.inside.windows.items c.args.stream c.self.invariant.0 c.self.invariant.1 (ap (λ (t : Standing). is_ready t c.args.stream) c.self.view_is ∙ c.requires.ready)
+
+pub drawn-incoming-requires-clause-ready : goal.drawn-incoming-requires-clause-ready
+drawn-incoming-requires-clause-ready g c = ap (λ (t : Standing). is_ready t c.args.stream) c.self.view_is ∙ c.requires.ready
+
+pub invariant_of-self : goal.invariant_of-self
+invariant_of-self g c = (
+  length-set c.drawn-incoming.new.slots.items c.args.stream (Some c.drawn-incoming.result)
+      ∙ drawn_length c.self.inside.slots.items c.drawn-incoming.new.slots.items c.args.stream c.drawn-incoming.ensures.left c.self.invariant.0,
+  c.drawn-incoming.ensures.windows,
+)

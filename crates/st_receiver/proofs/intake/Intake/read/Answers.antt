@@ -1,7 +1,11 @@
-use Rattle.std.proofs.Common.{◌∙◌, ap}
-use Rattle.st_receiver.specs.Streams.{Incoming}
+use Rattle.std.proofs.Common.{◌∙◌, ◌||◌, Some, ap}
+use Rattle.std.proofs.lemmas.List.{length-set}
+use Rattle.std.specs.Prelude.{is_some}
+use Rattle.st_tables.specs.Slots.{slot}
+use Rattle.st_receiver.specs.Standing.{Standing}
+use Rattle.st_receiver.specs.Streams.{Incoming, is_open}
 use Rattle.st_receiver.specs.Reading.{got, after_get}
-use Rattle.st_receiver.proofs.Applying.{drawn_is, changed}
+use Rattle.st_receiver.proofs.Applying.{changed, drawn_is, drawn_length, open_within}
 use Rattle.st_receiver.proofs.Answering.{if_ok, on_ok, on_err, opened_same}
 use Rattle.st_receiver.proofs.intake.Intake.read.Goals as goal
 
@@ -23,3 +27,16 @@ returns-clause-unchanged g c = on_err c.get-got.result
     c.args.stream (λ x. x) c.drawn-incoming.result c.get-got.new.self c.self.view_is c.drawn-incoming.ensures.left c.drawn-incoming.ensures.stream h
     ∙ opened_same c.args.self.now.state c.args.stream c.requires)
     c.get-got.ensures.unchanged
+
+pub drawn-incoming-requires-clause-within : goal.drawn-incoming-requires-clause-within
+drawn-incoming-requires-clause-within g c = open_within c.self.inside.slots.items c.args.stream c.self.invariant.0 (ap (λ (t : Standing). is_open t.state c.args.stream) c.self.view_is ∙ c.requires)
+
+pub drawn-incoming-requires-clause-ready : goal.drawn-incoming-requires-clause-ready
+drawn-incoming-requires-clause-ready g c = ap (λ b. b || is_some (slot c.self.inside.windows.items c.args.stream)) (ap (λ (t : Standing). is_open t.state c.args.stream) c.self.view_is ∙ c.requires)
+
+pub invariant_of-self : goal.invariant_of-self
+invariant_of-self g c = (
+  length-set c.drawn-incoming.new.slots.items c.args.stream (Some c.get-got.new.self)
+      ∙ drawn_length c.self.inside.slots.items c.drawn-incoming.new.slots.items c.args.stream c.drawn-incoming.ensures.left c.self.invariant.0,
+  c.drawn-incoming.ensures.windows,
+)

@@ -39,3 +39,9 @@ returns-clause-keeps g c =
     c.args.stream c.put.new.self c.self.view_is c.drawn-incoming.ensures.left
     (subst (λ n. c.args.stream < n) (sym c.self.invariant.0) (ready_within c.self.inside.slots.items c.self.inside.windows.items c.args.stream c.self.invariant.0 c.self.invariant.1 (ap (λ (t : Standing). is_ready t c.args.stream) c.self.view_is ∙ c.requires.ready)))
     c.drawn-incoming.ensures.others
+
+pub drawn-incoming-requires-clause-within : goal.drawn-incoming-requires-clause-within
+drawn-incoming-requires-clause-within g c = ready_within c.self.inside.slots.items c.self.inside.windows.items c.args.stream c.self.invariant.0 c.self.invariant.1 (ap (λ (t : Standing). is_ready t c.args.stream) c.self.view_is ∙ c.requires.ready)
+
+pub drawn-incoming-requires-clause-ready : goal.drawn-incoming-requires-clause-ready
+drawn-incoming-requires-clause-ready g c = ap (λ (t : Standing). is_ready t c.args.stream) c.self.view_is ∙ c.requires.ready
