@@ -1,9 +1,0 @@
-//! The program `ilpstream`, run on a line that is refused.
-#![tactic(auto)]
-
-use st_program::ilpstream;
-use std::process::ExitCode;
-
-fn main(rt: HostRuntime) -> ExitCode {
-    ilpstream(&rt, &rt)
-}
