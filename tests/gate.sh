@@ -16,6 +16,14 @@ stamped() {
     done
 }
 
+# As many checks side by side as there are processors, where each can have 4.5 GB. By itself rt counts on up to twice of what a
+# check was seen to take, 3.5 GB at most, and then leaves a processor idle.
+processors=$(nproc)
+available=$(sed -nE 's/^MemAvailable: *([0-9]+) kB$/\1/p' /proc/meminfo)
+if [ "$((available / processors))" -ge 4500000 ]; then
+    export RT_JOBS=${RT_JOBS:-$processors}
+fi
+
 rt ci | stamped | tee "$log"
 status=${PIPESTATUS[0]}
 if [ -x crates/ilpstream/out/ilpstream ]; then
@@ -29,7 +37,7 @@ fi
 tests/readme.py | tee -a "$log"
 [ "${PIPESTATUS[0]}" = 0 ] || status=1
 
-echo "the gate took $((SECONDS / 60)) minutes on $(nproc) cores"
+echo "the gate took $((SECONDS / 60)) minutes on $processors cores"
 sed -nE 's/^([0-9]+) passed, ([0-9]+) failed$/\1 \2/p' "$log" | {
     passed=0 failed=0
     while read -r well ill; do

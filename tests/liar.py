@@ -39,6 +39,14 @@ def fields_at(packet):
     return 2 if packet[1] < 128 else 2 + packet[1] - 128
 
 
+def iv_of(prepare):
+    """The IV of what a Prepare carries: the first 12 bytes of its data, behind its address (both with a length in front)."""
+    at = fields_at(prepare) + 8 + 17 + 32
+    at += 1 + prepare[at]
+    at += 1 if prepare[at] < 128 else 1 + prepare[at] - 128
+    return prepare[at : at + 12]
+
+
 def asked(host, request):
     """What the receiver answers to these bytes; nothing where it is gone."""
     try:
@@ -55,7 +63,7 @@ class Liar:
 
     def __init__(self, lie, every, host):
         self.lie, self.every, self.host = lie, every, host
-        self.exchanges, self.kept, self.request = 0, b"", b""
+        self.exchanges, self.kept, self.request, self.ivs = 0, b"", b"", []
         self.listener = socket.create_server(("127.0.0.1", 0))
         threading.Thread(target=self.serve, daemon=True).start()
 
@@ -81,6 +89,7 @@ class Liar:
             stream.recv(100)
             return
         head, body = message(stream)
+        self.ivs.append(iv_of(body))
         if lie == "drop before the receiver":
             return
         at = fields_at(body)
@@ -174,6 +183,8 @@ def run(lie, every, room, out=None, given=None):
     if os.path.isfile(out):
         with open(out, "rb") as output:
             came = output.read()
+    if len(set(liar.ivs)) != len(liar.ivs):
+        return f"WRONG: of {len(liar.ivs)} IVs {len(set(liar.ivs))} are different"
     if not whole.startswith(came) or (received == "0" and came != whole):
         return f"WRONG: send {sent}, receive {received}, {len(came)} bytes"
     # Where the answer to the close is lost, the receiver is gone, and the sender knows no more than that.

@@ -283,6 +283,14 @@ an input that fails: send 90, receive waits, nothing
 --
 0" "$(told)"
 
+# Too little memory, from what the program can just start in: a run tells its fault or writes all, and nothing else. A connector of
+# one account needs no more than that; a receiver that cannot answer waits for a request that it can.
+run "$top/tests/tight.py" "$top/crates/ilpstream/out/ilpstream"
+same 'too little memory' $'\n0' "$(grep -E 'WRONG' <<<"$out")$err"$'\n'"$status"
+for told in 'local: fault 99, well' 'connector: well' 'receive: waits, well' 'fault 99, well'; do
+    has 'too little memory' "$out" "$told"
+done
+
 # A link to a link, from another folder.
 ln -s "$top/ilpstream" "$room/once"
 ln -s once "$room/twice"

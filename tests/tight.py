@@ -1,0 +1,150 @@
+#!/usr/bin/env python3
+"""Runs the commands with too little memory: tight.py PROGRAM. What may be allocated is set a step higher from run to run, from
+what the program can just start in to what it runs well in. A line for each command tells the ways in which its runs ended, each
+once, and what is wrong, if anything is: a run writes a beginning of what it should and tells a numbered fault, or it writes all and
+has status 0."""
+import os, re, resource, socket, subprocess, sys, tempfile, time
+
+PROGRAM = sys.argv[1]
+SECRET = "000102030405060708090a0b0c0d0e0f101112131415161718191a1b1c1d1e1f"
+INPUT = bytes(n % 251 for n in range(70_000))
+TABLE = b"account 500 500 alice - -\naccount 500 500 bob 127.0.0.1:9 hub\nroute example.bob 1\n"
+STEP = 64 * 1024
+# So many runs that end well end a sweep, and so many steps are too many.
+WELL, STEPS = 8, 1_000
+# More seconds than any run may take.
+BOUND = 60
+
+
+class Run:
+    """The program with these words over a file's bytes, held to so much space; to all that there is where that is 0."""
+
+    def __init__(self, words, space, given=os.devnull):
+        limit = (lambda: resource.setrlimit(resource.RLIMIT_DATA, (space, space))) if space else None
+        self.out = tempfile.TemporaryFile()
+        with open(given, "rb") as file:
+            self.ran = subprocess.Popen([PROGRAM, *words], stdin=file, stdout=self.out, stderr=subprocess.PIPE, preexec_fn=limit)
+
+    def ending(self, whole, bound=BOUND):
+        """How it ended, and what is wrong with that or with what it wrote; it is stopped after so many seconds."""
+        try:
+            _, errors = self.ran.communicate(timeout=bound)
+            return judged(self.ran.returncode, errors, self.written(), whole)
+        except subprocess.TimeoutExpired:
+            self.ran.kill()
+            self.ran.communicate()
+            return "waits" if whole.startswith(self.written()) else "WRONG: waits, and wrote what was not sent"
+
+    def written(self):
+        self.out.seek(0)
+        return self.out.read()
+
+
+def judged(status, errors, written, whole):
+    fault = re.fullmatch(rb"fault (\d+)\n", errors)
+    if not whole.startswith(written):
+        return f"WRONG: wrote what was not sent, {errors!r}"
+    if status == 1 and fault:
+        return f"fault {fault[1].decode()}"
+    if status == 0 and written == whole:
+        return "well"
+    return f"WRONG: status {status}, {len(written)} bytes, {errors[:200]!r}"
+
+
+def least():
+    """The least space in which the program starts."""
+    low, high = 0, 1 << 30
+    while high - low > 4096:
+        middle = (low + high) // 2
+        well = Run(["--version"], middle).ran.wait(BOUND) == 0
+        low, high = (low, middle) if well else (middle, high)
+    return high
+
+
+def free_port():
+    with socket.create_server(("127.0.0.1", 0)) as it:
+        return it.getsockname()[1]
+
+
+def listens(port, ran):
+    """Whether a process listens there before it ends."""
+    while ran.poll() is None:
+        try:
+            socket.create_connection(("127.0.0.1", port)).close()
+            return True
+        except OSError:
+            time.sleep(0.005)
+    return False
+
+
+def local(given):
+    return lambda space: Run(["local", "--hops=2"], space, given).ending(INPUT)
+
+
+def connector(table):
+    def run(space):
+        port = free_port()
+        it = Run(["connector", f"--listen=127.0.0.1:{port}", "--own=example.hub", "--requests=1"], space, table)
+        listens(port, it.ran)
+        return it.ending(b"")
+
+    return run
+
+
+def transfer(given, tight):
+    """A transfer in which `send` or `receive` is held to the space. The other may wait for the one that is, and that one for it."""
+
+    def run(space):
+        port = free_port()
+        own = ["--token=t", f"--secret={SECRET}"]
+        receive = Run(
+            ["receive", f"--listen=127.0.0.1:{port}", *own, "--address=test.b", "--peer=test.a"],
+            space if tight == "receive" else 0)
+        if not listens(port, receive.ran):
+            return receive.ending(INPUT)
+        send = Run(
+            ["send", f"--to=127.0.0.1:{port}", *own, "--address=test.a", "--peer=test.b", "--workers=2"],
+            space if tight == "send" else 0, given)
+        sent = send.ending(b"")
+        received = receive.ending(INPUT, BOUND if sent == "well" else 0.2)
+        told, other = (sent, received) if tight == "send" else (received, sent)
+        return told if not other.startswith("WRONG") else f"{told}, the other: {other}"
+
+    return run
+
+
+def sweep(run, low):
+    """The ways in which runs end in more and more space, each once, the numbered ones in their order."""
+    met, well, space = set(), 0, low
+    for _ in range(STEPS):
+        told = run(space)
+        if "-v" in sys.argv:
+            print(f"   {space}: {told}", flush=True)
+        met.add(told)
+        well = well + 1 if told == "well" else 0
+        if well == WELL:
+            return ", ".join(sorted(met))
+        space += STEP
+    return f"WRONG: does not end well, {', '.join(sorted(met))}"
+
+
+def main():
+    with tempfile.TemporaryDirectory() as room:
+        bytes_, table = f"{room}/bytes", f"{room}/table"
+        for path, held in ((bytes_, INPUT), (table, TABLE)):
+            with open(path, "wb") as file:
+                file.write(held)
+        low = least()
+        for name, run in (
+            ("local", local(bytes_)),
+            ("connector", connector(table)),
+            ("receive", transfer(bytes_, "receive")),
+            ("send", transfer(bytes_, "send")),
+        ):
+            begun = time.time()
+            print(f"{name}: {sweep(run, low)}", flush=True)
+            if "-v" in sys.argv:
+                print(f"   {time.time() - begun:.1f} s", flush=True)
+
+
+main()
