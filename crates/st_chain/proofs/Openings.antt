@@ -10,7 +10,7 @@ use Rattle.st_sender.specs.Sending.{Config}
 use Rattle.st_world.specs.Runs.{Table, is_lawful, is_chain, new_node, opening}
 use Rattle.st_world.specs.State.{World, Node, Party, no_lanes}
 use Rattle.st_chain.specs.Places.{Links}
-use Rattle.st_chain.specs.Left.{IsReached}
+use Rattle.st_chain.specs.Left.{Left, in_world, left_of, IsReached}
 use Rattle.st_chain.proofs.Meets.{Led, of_parts}
 use Rattle.st_chain.specs.Chains.{Terms, one_to_one, free_account, table_of, tables_from, chain_of, client_name, server_name}
 
@@ -104,6 +104,17 @@ opened ts config p q ns a b ls ep eq en ea eb el =
     ∙ ap (λ (x : Links). of_parts (record { client = p'; server = q' }) ns' x (record { client = a; server = b }) false) el'
     ∙ ap (λ (x : Led). of_parts (record { client = p'; server = q' }) ns' ls' (record { client = x; server = b }) false) ea
     ∙ ap (λ (x : Led). of_parts (record { client = p'; server = q' }) ns' ls' (record { client = no; server = x }) false) eb
+
+-- and without its links
+pub opened_left : (ts : List Terms) (config : Config) (p q : Party) (ns : List Node) (a b : Led) → p ≡ (opening (chain_of ts config)).ends.client → q ≡ (opening (chain_of ts config)).ends.server → ns ≡ map new_node (tables_from 1 ts) → a ≡ fmap.empty → b ≡ fmap.empty
+    → left_of (of_parts (record { client = p; server = q }) ns [] (record { client = a; server = b }) false) ≡ left_of (opening (chain_of ts config))
+opened_left ts config p q ns a b ep eq en ea eb = ap left_of (opened ts config p q ns a b (replicate (length ts + 1) no_lanes) ep eq en ea eb refl)
+
+-- the two together
+pub opened_with : (ts : List Terms) (config : Config) (t : Left) (ls : Links) → t ≡ left_of (opening (chain_of ts config)) → ls ≡ replicate (length ts + 1) no_lanes → in_world t ls ≡ opening (chain_of ts config)
+opened_with ts config t ls et el =
+    ap (λ (x : Left). in_world x ls) et
+    ∙ ap (λ (x : Links). in_world (left_of (opening (chain_of ts config))) x) (el ∙ ap (λ (n : ℕ). replicate (n + 1) no_lanes) (sym (tables_length ts 1)))
 
 pub opened_links : (ts : List Terms) (ns : List Node) (ls : Links) → ns ≡ map new_node (tables_from 1 ts) → ls ≡ replicate (length ts + 1) no_lanes → length ls ≡ length ns + 1
 opened_links ts ns ls en el =

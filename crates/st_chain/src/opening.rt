@@ -7,6 +7,7 @@ ghost use Rattle.st_keys.specs.Keys.{keys_of};
 ghost use Rattle.st_end.specs.State.{new_end};
 ghost use Rattle.st_world.specs.State.{no_lanes};
 ghost use Rattle.st_world.specs.Runs.{new_node, new_party, is_chain, opening};
+ghost use Rattle.st_chain.specs.Left.{left_of};
 ghost use Rattle.st_chain.specs.Chains.{hop_name, turned_over, table_of, tables_from, chain_of, one_to_one, free_account, client_name, server_name};
 
 use crate::fault::Fault;
@@ -173,6 +174,43 @@ fn server_of<A: Allocator + Copy>(alloc: A, config: EndConfig) -> Result<Party<A
     }
 }
 
+/// Both ends of a chain where nothing has happened: the client and the server.
+fn ends_of<A: Allocator + Copy>(
+    alloc: A,
+    config: EndConfig,
+) -> Result<(Party<A>, Party<A>), AllocError>
+    ensures { IfOk result (λ ps. (ps.0 ≡ new_party (new_end Role.Client (keys_of (replicate 32 0)) client_name server_name config)) × (ps.1 ≡ new_party (new_end Role.Server (keys_of (replicate 32 0)) server_name client_name config))) }
+{
+    let client = client_of(alloc, config)?;
+    let server = server_of(alloc, config)?;
+    Ok((client, server))
+}
+
+/// What a chain where nothing has happened leaves.
+fn nothing_left<A: Allocator + Copy>(
+    alloc: A,
+    terms: &[(Account, Rate)],
+    config: EndConfig,
+) -> Result<Trace<A>, AllocError>
+    requires few { length terms.now ≤ 8 }
+    requires lawful { list_all (λ t. is_account t.0) terms.now ≡ true }
+    ensures { IfOk result (λ t. t ≡ left_of (opening (chain_of terms.now config))) }
+{
+    let from_client = Ledgers::new(alloc)?;
+    let from_server = Ledgers::new(alloc)?;
+    let nodes = hops_of(alloc, terms)?;
+    let (client, server) = ends_of(alloc, config)?;
+    Ok(Trace {
+        client,
+        server,
+        nodes,
+        from_client,
+        from_server,
+        refused: false,
+        alloc,
+    })
+}
+
 /// The opening of a chain that can be made.
 fn open<A: Allocator + Copy>(
     alloc: A,
@@ -183,16 +221,8 @@ fn open<A: Allocator + Copy>(
     requires lawful { list_all (λ t. is_account t.0) terms.now ≡ true }
     ensures { IfOk result (λ w. w ≡ opening (chain_of terms.now config)) }
 {
-    let trace = Trace {
-        client: client_of(alloc, config)?,
-        server: server_of(alloc, config)?,
-        nodes: hops_of(alloc, terms)?,
-        from_client: Ledgers::new(alloc)?,
-        from_server: Ledgers::new(alloc)?,
-        refused: false,
-        alloc,
-    };
     let links = links_of(alloc, terms.len() + 1)?;
+    let trace = nothing_left(alloc, terms, config)?;
     Ok(World { trace, links })
 }
 
