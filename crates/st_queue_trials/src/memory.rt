@@ -2,12 +2,13 @@
 ghost use Rattle.std.specs.Prelude.{◌≡◌, ℕ, IfSome};
 ghost use Rattle.st_queues.specs.Lanes.{AllNamed, AllNamedReads, IsOurs, IsOurRead, ring_at};
 ghost use Rattle.st_queues.specs.ReadEnds.{SameReadEnd};
+ghost use Rattle.st_queues.specs.Watching.{no_totals};
 ghost use Rattle.st_queues.specs.WriteEnds.{SameWriteEnd};
 
 use refusing::Refusing;
 use st_queues::{
-    Delivery, Got, HubName, Named, QueueError, ReadEnd, ReadLane, Rings, Totals, WriteEnd,
-    WriteLane,
+    Delivery, Gauge, GaugeSeat, Got, HubName, HubSeat, Named, QueueError, ReadEnd, ReadLane, Rings,
+    StreamWriter, Totals, WriteEnd, WriteLane,
 };
 use std::alloc::{Allocator, Global};
 use std::marker::Brand;
@@ -26,7 +27,7 @@ fn rings_are_refused_where_memory_is(rt: HostRuntime) -> Result<(), Fail> {
         match answer {
             Err(error) => {
                 assert!(rt; met, "at {n}");
-                assert_eq!(rt; error.number(), 69);
+                assert!(rt; error.number() == 69);
             }
             Ok(_) => {
                 assert!(rt; !met, "at {n}");
@@ -79,6 +80,73 @@ fn put_abort<A: Allocator + Copy>(end: &mut ReadEnd<A>)
     }
 }
 
+/// Two chunks and an end are written, and the end is refused when it is written again.
+fn write_three<N: HubName<A>, A: Allocator + Copy>(
+    rt: &impl Abort,
+    writer: &mut StreamWriter<N, A>,
+    one: Vec<u8, A>,
+    two: Vec<u8, A>,
+)
+    ensures { writer.new.ring ≡ writer.old.ring }
+{
+    assert!(rt; writer.try_write(one).is_ok());
+    assert!(rt; writer.try_write(two).is_ok());
+    assert!(rt; writer.try_end().is_ok());
+    assert!(rt; matches!(writer.try_end(), Err(QueueError::Ended(_))));
+    assert!(rt; writer.free() == 0);
+}
+
+/// Two chunks and an end go through the first ring.
+fn use_write_ring<N: HubName<A>, A: Allocator + Copy>(
+    rt: &impl Abort,
+    alloc: A,
+    writes: Vec<WriteLane<A>, A>,
+    one: Vec<u8, A>,
+    two: Vec<u8, A>,
+)
+    requires { AllNamed N.write_ring writes.items }
+{
+    let mut lane = first_write::<N, A>(writes).expect(rt, "there is a ring");
+    let mut writer = lane.hand_out::<N>(alloc).expect(rt, "nobody took it");
+    write_three(rt, &mut writer, one, two);
+    assert!(rt; lane.end.meet(&mut writer) == 3);
+    drop_one(&mut lane.end);
+    assert!(rt; lane.end.meet(&mut writer) == 2);
+}
+
+/// An abort goes through the first reader's ring.
+fn use_read_ring<N: HubName<A>, A: Allocator + Copy>(rt: &impl Abort, reads: Vec<ReadLane<A>, A>)
+    requires { AllNamedReads N.read_ring reads.items }
+{
+    let mut lane = first_read::<N, A>(reads).expect(rt, "there is a ring");
+    let mut reader = lane.hand_out::<N>().expect(rt, "nobody took it");
+    put_abort(&mut lane.end);
+    assert!(rt; lane.end.meet(&mut reader) == 1);
+    assert!(rt; matches!(reader.try_read(), Got::Aborted(3)));
+}
+
+/// Totals are published, and a stop is asked for.
+fn use_gauge<N: HubName<A>, A: Allocator + Copy>(
+    rt: &impl Abort,
+    gauge: &Gauge<N, A>,
+    hub_seat: &mut HubSeat<N, A>,
+    seat: &mut GaugeSeat<N, A>,
+)
+    requires { hub_seat.old ≡ no_totals }
+{
+    let totals = Totals {
+        accepted: 2,
+        delivered: 0,
+        credited: 0,
+        paid: 0,
+    };
+    gauge.publish(hub_seat, totals);
+    let mut other = gauge.split(seat);
+    assert!(rt; gauge.seen(&mut other) == totals);
+    gauge.ask_stop(seat);
+    assert!(rt; gauge.stopped(&mut other));
+}
+
 /// Two chunks and an end go through the first ring, an abort through the first reader's, and totals are published.
 fn use_all<N: HubName<A>, A: Allocator + Copy, R: Abort>(
     rt: &R,
@@ -96,36 +164,12 @@ fn use_all<N: HubName<A>, A: Allocator + Copy, R: Abort>(
         reads,
         hub_gauge,
         mut hub_seat,
-        gauge,
         mut seat,
         ..
     } = rings.named::<N>();
-    let mut lane = first_write::<N, A>(writes).expect(rt, "there is a ring");
-    let mut writer = lane.hand_out::<N>(alloc).expect(rt, "nobody took it");
-    assert!(rt; writer.try_write(one).is_ok());
-    assert!(rt; writer.try_write(two).is_ok());
-    assert!(rt; writer.try_end().is_ok());
-    assert!(rt; matches!(writer.try_end(), Err(QueueError::Ended(_))));
-    assert_eq!(rt; writer.free(), 0);
-    assert_eq!(rt; lane.end.meet(&mut writer), 3);
-    drop_one(&mut lane.end);
-    assert_eq!(rt; lane.end.meet(&mut writer), 2);
-    let mut lane = first_read::<N, A>(reads).expect(rt, "there is a ring");
-    let mut reader = lane.hand_out::<N>().expect(rt, "nobody took it");
-    put_abort(&mut lane.end);
-    assert_eq!(rt; lane.end.meet(&mut reader), 1);
-    assert!(rt; matches!(reader.try_read(), Got::Aborted(3)));
-    let totals = Totals {
-        accepted: 2,
-        delivered: 0,
-        credited: 0,
-        paid: 0,
-    };
-    hub_gauge.publish(&mut hub_seat, totals);
-    let mut other = gauge.split(&mut seat);
-    assert_eq!(rt; gauge.seen(&mut other), totals);
-    gauge.ask_stop(&mut seat);
-    assert!(rt; gauge.stopped(&mut other));
+    use_write_ring::<N, A>(rt, alloc, writes, one, two);
+    use_read_ring::<N, A>(rt, reads);
+    use_gauge(rt, &hub_gauge, &mut hub_seat, &mut seat);
 }
 
 /// Once rings are made no call asks for memory.
@@ -137,6 +181,6 @@ fn rings_that_are_made_ask_for_no_memory(rt: HostRuntime) -> Result<(), Fail> {
     let two = Vec::from_elem(&heap, 7, 4096)?;
     heap.refuse_from(1);
     use_all::<Brand, &Refusing<Global>, HostRuntime>(&rt, &heap, rings, one, two);
-    assert_eq!(rt; heap.asked(), 0);
+    assert!(rt; heap.asked() == 0);
     Ok(())
 }

@@ -1,11 +1,12 @@
 ghost use Rattle.std.specs.Prelude.{◌≡◌, ℕ, IfSome};
 ghost use Rattle.st_queues.specs.Lanes.{AllNamed, AllNamedReads, Fresh, FreshRead, IsOurs, IsOurRead, ring_at};
 ghost use Rattle.st_queues.specs.ReadEnds.{SameReadEnd};
+ghost use Rattle.st_queues.specs.Watching.{no_totals};
 ghost use Rattle.st_queues.specs.WriteEnds.{SameWriteEnd};
 
 use st_queues::{
-    Delivery, Got, HubName, Item, Named, QueueError, ReadEnd, ReadLane, Rings, Totals, WriteEnd,
-    WriteLane,
+    Delivery, Gauge, GaugeSeat, Got, HubName, HubSeat, Item, Named, QueueError, ReadEnd, ReadLane,
+    Rings, StreamReader, StreamWriter, Totals, WriteEnd, WriteLane,
 };
 use std::alloc::{AllocError, Global};
 use std::marker::Brand;
@@ -80,7 +81,58 @@ fn put(end: &mut ReadEnd<Global>, delivery: Delivery<Global>) -> bool
     true
 }
 
-fn fill<N: HubName<Global>, R: Abort>(
+/// A ring of its own and its writer.
+fn open_write<N: HubName<Global>>(
+    rt: &impl Abort,
+    alloc: Global,
+    rings: Rings<Global>,
+    ring: usize,
+) -> (WriteLane<Global>, StreamWriter<N, Global>)
+    requires gauge { rings.gauge ≡ N.gauge }
+    requires writes { (k : ℕ) → N.write_ring k ≡ ring_at rings.writes k }
+    requires reads { (k : ℕ) → N.read_ring k ≡ ring_at rings.reads k }
+    ensures lane { IsOurs N.write_ring result.0 }
+    ensures writer { result.1.ring ≡ result.0.end.ring }
+{
+    let Named { writes, .. } = rings.named::<N>();
+    let mut lane = write_lane::<N>(writes, ring).expect(rt, "the ring is there");
+    let writer = lane.hand_out::<N>(alloc).expect(rt, "nobody took it");
+    (lane, writer)
+}
+
+/// A fresh ring takes 64 chunks of one byte.
+fn fill<N: HubName<Global>>(
+    rt: &impl Abort,
+    alloc: Global,
+    writer: &mut StreamWriter<N, Global>,
+) -> Result<(), AllocError>
+    ensures { writer.new.ring ≡ writer.old.ring }
+{
+    assert!(rt; writer.free() == 64);
+    for _ in 0..64u8 {
+        assert!(rt; writer.try_write(Vec::from_slice(alloc, b"a")?).is_ok());
+    }
+    assert!(rt; writer.free() == 0);
+    Ok(())
+}
+
+/// A full ring refuses a chunk, an end, and an empty chunk.
+fn refuse_more<N: HubName<Global>>(
+    rt: &impl Abort,
+    alloc: Global,
+    writer: &mut StreamWriter<N, Global>,
+) -> Result<(), AllocError>
+    ensures { writer.new.ring ≡ writer.old.ring }
+{
+    let last = Vec::from_slice(alloc, b"z")?;
+    assert!(rt; is_refused(writer.try_write(last), 70, b"z"));
+    assert!(rt; is_refused(writer.try_end(), 70, b""));
+    assert!(rt; is_refused(writer.try_write(Vec::new(alloc)), 71, b""));
+    Ok(())
+}
+
+/// A ring is filled, and has room for one where one was taken.
+fn fill_ring<N: HubName<Global>, R: Abort>(
     rt: &R,
     alloc: Global,
     rings: Rings<Global>,
@@ -90,24 +142,15 @@ fn fill<N: HubName<Global>, R: Abort>(
     requires writes { (k : ℕ) → N.write_ring k ≡ ring_at rings.writes k }
     requires reads { (k : ℕ) → N.read_ring k ≡ ring_at rings.reads k }
 {
-    let Named { writes, .. } = rings.named::<N>();
-    let mut lane = write_lane::<N>(writes, ring).expect(rt, "the ring is there");
-    let mut writer = lane.hand_out::<N>(alloc).expect(rt, "nobody took it");
-    assert_eq!(rt; writer.ring(), ring);
-    assert_eq!(rt; writer.free(), 64);
-    for _ in 0..64 {
-        assert!(rt; writer.try_write(Vec::from_slice(alloc, b"a")?).is_ok());
-    }
-    assert_eq!(rt; writer.free(), 0);
-    let last = Vec::from_slice(alloc, b"z")?;
-    assert!(rt; is_refused(writer.try_write(last), 70, b"z"));
-    assert!(rt; is_refused(writer.try_end(), 70, b""));
-    assert!(rt; is_refused(writer.try_write(Vec::new(alloc)), 71, b""));
-    assert_eq!(rt; lane.end.meet(&mut writer), 64);
+    let (mut lane, mut writer) = open_write::<N>(rt, alloc, rings, ring);
+    assert!(rt; writer.ring() == ring);
+    fill(rt, alloc, &mut writer)?;
+    refuse_more(rt, alloc, &mut writer)?;
+    assert!(rt; lane.end.meet(&mut writer) == 64);
     assert!(rt; next_is(&mut lane.end, Some(b"a".as_slice())));
-    assert_eq!(rt; writer.free(), 1);
+    assert!(rt; writer.free() == 1);
     assert!(rt; writer.try_end().is_ok());
-    assert_eq!(rt; lane.end.meet(&mut writer), 64);
+    assert!(rt; lane.end.meet(&mut writer) == 64);
     assert!(rt; lane.hand_out::<N>(alloc).is_none());
     Ok(())
 }
@@ -116,9 +159,64 @@ fn fill<N: HubName<Global>, R: Abort>(
 fn a_fresh_ring_takes_64_items(rt: HostRuntime) -> Result<(), Fail> {
     for ring in [0, 7, 511] {
         let rings = Rings::new(rt.alloc())?;
-        fill::<Brand, HostRuntime>(&rt, rt.alloc(), rings, ring)?;
+        fill_ring::<Brand, HostRuntime>(&rt, rt.alloc(), rings, ring)?;
     }
     Ok(())
+}
+
+/// A chunk of 4,097 bytes, of which none is taken, is given back.
+fn refuse_long<N: HubName<Global>>(
+    rt: &impl Abort,
+    alloc: Global,
+    writer: &mut StreamWriter<N, Global>,
+) -> Result<(), AllocError>
+    ensures { writer.new.ring ≡ writer.old.ring }
+{
+    let back = writer.try_write(Vec::from_elem(alloc, 7, 4097)?);
+    assert!(rt; matches!(&back, Err(QueueError::BadLength(chunk)) if chunk.len() == 4097));
+    Ok(())
+}
+
+/// Two chunks and an end are written, beside chunks that have a bad length.
+fn write_three<N: HubName<Global>>(
+    rt: &impl Abort,
+    alloc: Global,
+    writer: &mut StreamWriter<N, Global>,
+) -> Result<(), AllocError>
+    ensures { writer.new.ring ≡ writer.old.ring }
+{
+    assert!(rt; writer.try_write(Vec::from_slice(alloc, b"ab")?).is_ok());
+    assert!(rt; writer.try_write(Vec::from_elem(alloc, 7, 4096)?).is_ok());
+    assert!(rt; is_refused(writer.try_write(Vec::new(alloc)), 71, b""));
+    refuse_long(rt, alloc, writer)?;
+    assert!(rt; writer.try_end().is_ok());
+    Ok(())
+}
+
+/// After its end a writer writes nothing.
+fn refuse_late<N: HubName<Global>>(
+    rt: &impl Abort,
+    alloc: Global,
+    writer: &mut StreamWriter<N, Global>,
+) -> Result<(), AllocError>
+    ensures { writer.new.ring ≡ writer.old.ring }
+{
+    assert!(rt; writer.free() == 0);
+    let late = Vec::from_slice(alloc, b"late")?;
+    assert!(rt; is_refused(writer.try_write(late), 72, b"late"));
+    assert!(rt; is_refused(writer.try_write(Vec::new(alloc)), 71, b""));
+    assert!(rt; is_refused(writer.try_end(), 72, b""));
+    Ok(())
+}
+
+/// The two chunks and the end come out.
+fn take_three(rt: &impl Abort, end: &mut WriteEnd<Global>)
+    ensures { SameWriteEnd end.old end.new }
+{
+    assert!(rt; next_is(end, Some(b"ab".as_slice())));
+    assert!(rt; next_is(end, Some([7; 4096].as_slice())));
+    assert!(rt; next_is(end, None));
+    assert!(rt; !end.look());
 }
 
 fn write<N: HubName<Global>, R: Abort>(
@@ -130,28 +228,12 @@ fn write<N: HubName<Global>, R: Abort>(
     requires writes { (k : ℕ) → N.write_ring k ≡ ring_at rings.writes k }
     requires reads { (k : ℕ) → N.read_ring k ≡ ring_at rings.reads k }
 {
-    let Named { writes, .. } = rings.named::<N>();
-    let mut lane = write_lane::<N>(writes, 15).expect(rt, "the ring is there");
-    let mut writer = lane.hand_out::<N>(alloc).expect(rt, "nobody took it");
-    let most = Vec::from_elem(alloc, 7, 4096)?;
-    let more = Vec::from_elem(alloc, 7, 4097)?;
-    assert!(rt; writer.try_write(Vec::from_slice(alloc, b"ab")?).is_ok());
-    assert!(rt; writer.try_write(most).is_ok());
-    assert!(rt; is_refused(writer.try_write(Vec::new(alloc)), 71, b""));
-    let back = writer.try_write(more);
-    assert!(rt; matches!(&back, Err(QueueError::BadLength(chunk)) if chunk.len() == 4097));
-    assert!(rt; writer.try_end().is_ok());
-    assert_eq!(rt; writer.free(), 0);
-    let late = Vec::from_slice(alloc, b"late")?;
-    assert!(rt; is_refused(writer.try_write(late), 72, b"late"));
-    assert!(rt; is_refused(writer.try_write(Vec::new(alloc)), 71, b""));
-    assert!(rt; is_refused(writer.try_end(), 72, b""));
-    assert_eq!(rt; lane.end.meet(&mut writer), 3);
-    assert!(rt; next_is(&mut lane.end, Some(b"ab".as_slice())));
-    assert!(rt; next_is(&mut lane.end, Some([7; 4096].as_slice())));
-    assert!(rt; next_is(&mut lane.end, None));
-    assert!(rt; !lane.end.look());
-    assert_eq!(rt; lane.end.meet(&mut writer), 0);
+    let (mut lane, mut writer) = open_write::<N>(rt, alloc, rings, 15);
+    write_three(rt, alloc, &mut writer)?;
+    refuse_late(rt, alloc, &mut writer)?;
+    assert!(rt; lane.end.meet(&mut writer) == 3);
+    take_three(rt, &mut lane.end);
+    assert!(rt; lane.end.meet(&mut writer) == 0);
     Ok(())
 }
 
@@ -160,6 +242,50 @@ fn what_is_written_comes_out_in_order(rt: HostRuntime) -> Result<(), Fail> {
     let rings = Rings::new(rt.alloc())?;
     write::<Brand, HostRuntime>(&rt, rt.alloc(), rings)?;
     Ok(())
+}
+
+/// Two bytes are put into a ring of 64, and then an end or an abort.
+fn put_two(
+    rt: &impl Abort,
+    alloc: Global,
+    end: &mut ReadEnd<Global>,
+    abort: Option<u64>,
+) -> Result<(), AllocError>
+    ensures { SameReadEnd end.old end.new }
+{
+    assert!(rt; end.room() == 64);
+    let bytes = Vec::from_slice(alloc, b"ab")?;
+    assert!(rt; put(end, Delivery::Bytes(bytes)));
+    let last = match abort {
+        None => Delivery::End,
+        Some(code) => Delivery::Aborted(code),
+    };
+    assert!(rt; put(end, last));
+    assert!(rt; end.room() == 62);
+    Ok(())
+}
+
+/// Whether this is the end, or the abort with that code.
+fn is_last(got: Got<Global>, abort: Option<u64>) -> bool {
+    match abort {
+        None => matches!(got, Got::End),
+        Some(code) => matches!(got, Got::Aborted(told) if told == code),
+    }
+}
+
+/// The two bytes are read, and then the last is told again and again.
+fn read_two<N: HubName<Global>>(
+    rt: &impl Abort,
+    reader: &mut StreamReader<N, Global>,
+    abort: Option<u64>,
+)
+    ensures { reader.new.stream ≡ reader.old.stream }
+{
+    let got = reader.try_read();
+    assert!(rt; matches!(&got, Got::Bytes(bytes) if bytes.as_slice() == b"ab".as_slice()));
+    for _ in 0..3u8 {
+        assert!(rt; is_last(reader.try_read(), abort));
+    }
 }
 
 fn read<N: HubName<Global>, R: Abort>(
@@ -176,35 +302,13 @@ fn read<N: HubName<Global>, R: Abort>(
     let Named { reads, .. } = rings.named::<N>();
     let mut lane = read_lane::<N>(reads, stream).expect(rt, "the ring is there");
     let mut reader = lane.hand_out::<N>().expect(rt, "nobody took it");
-    assert_eq!(rt; reader.stream(), stream);
+    assert!(rt; reader.stream() == stream);
     assert!(rt; matches!(reader.try_read(), Got::Nothing));
-    assert_eq!(rt; lane.end.room(), 64);
-    assert!(rt;
-        put(
-            &mut lane.end,
-            Delivery::Bytes(Vec::from_slice(alloc, b"ab")?)
-        )
-    );
-    let last = match abort {
-        None => Delivery::End,
-        Some(code) => Delivery::Aborted(code),
-    };
-    assert!(rt; put(&mut lane.end, last));
-    assert_eq!(rt; lane.end.room(), 62);
-    assert_eq!(rt; lane.end.meet(&mut reader), 2);
-    let got = reader.try_read();
-    assert!(rt; matches!(&got, Got::Bytes(bytes) if bytes.as_slice() == b"ab".as_slice()));
-    for _ in 0..3 {
-        let got = reader.try_read();
-        assert!(rt;
-            match abort {
-                None => matches!(got, Got::End),
-                Some(code) => matches!(got, Got::Aborted(told) if told == code),
-            }
-        );
-    }
-    assert_eq!(rt; lane.end.meet(&mut reader), 0);
-    assert_eq!(rt; lane.end.room(), 64);
+    put_two(rt, alloc, &mut lane.end, abort)?;
+    assert!(rt; lane.end.meet(&mut reader) == 2);
+    read_two(rt, &mut reader, abort);
+    assert!(rt; lane.end.meet(&mut reader) == 0);
+    assert!(rt; lane.end.room() == 64);
     assert!(rt; lane.hand_out::<N>().is_none());
     Ok(())
 }
@@ -229,6 +333,39 @@ fn totals(accepted: u64, delivered: u64, credited: u64, paid: u64) -> Totals
     }
 }
 
+/// Totals are published twice, and each seat sees them.
+fn publish_twice<N: HubName<Global>>(
+    rt: &impl Abort,
+    hub_gauge: &Gauge<N, Global>,
+    gauge: &Gauge<N, Global>,
+    hub_seat: &mut HubSeat<N, Global>,
+    seat: &mut GaugeSeat<N, Global>,
+    other: &mut GaugeSeat<N, Global>,
+)
+    requires { hub_seat.old ≡ no_totals }
+{
+    assert!(rt; gauge.seen(seat) == totals(0, 0, 0, 0));
+    hub_gauge.publish(hub_seat, totals(4, 3, 2, 1));
+    assert!(rt; gauge.seen(seat) == totals(4, 3, 2, 1));
+    hub_gauge.publish(hub_seat, totals(4, 30, 2, 10));
+    assert!(rt; hub_gauge.seen(other) == totals(4, 30, 2, 10));
+}
+
+/// One seat asks to stop, and each sees it.
+fn stop_once<N: HubName<Global>>(
+    rt: &impl Abort,
+    hub_gauge: &Gauge<N, Global>,
+    gauge: &Gauge<N, Global>,
+    seat: &mut GaugeSeat<N, Global>,
+    other: &mut GaugeSeat<N, Global>,
+) {
+    assert!(rt; !gauge.stopped(seat));
+    gauge.ask_stop(other);
+    assert!(rt; gauge.stopped(other));
+    assert!(rt; hub_gauge.stopped(seat));
+    assert!(rt; gauge.stopped(&mut gauge.split(seat)));
+}
+
 fn watch<N: HubName<Global>, R: Abort>(rt: &R, rings: Rings<Global>)
     requires gauge { rings.gauge ≡ N.gauge }
     requires writes { (k : ℕ) → N.write_ring k ≡ ring_at rings.writes k }
@@ -242,17 +379,9 @@ fn watch<N: HubName<Global>, R: Abort>(rt: &R, rings: Rings<Global>)
         ..
     } = rings.named::<N>();
     let mut other = gauge.split(&mut seat);
-    assert_eq!(rt; gauge.seen(&mut seat), totals(0, 0, 0, 0));
-    hub_gauge.publish(&mut hub_seat, totals(4, 3, 2, 1));
-    assert_eq!(rt; gauge.seen(&mut seat), totals(4, 3, 2, 1));
-    hub_gauge.publish(&mut hub_seat, totals(4, 30, 2, 10));
-    assert_eq!(rt; hub_gauge.seen(&mut other), totals(4, 30, 2, 10));
-    assert!(rt; !gauge.stopped(&mut seat));
-    gauge.ask_stop(&mut other);
-    assert!(rt; gauge.stopped(&mut other));
-    assert!(rt; hub_gauge.stopped(&mut seat));
-    assert!(rt; gauge.stopped(&mut gauge.split(&mut seat)));
-    assert_eq!(rt; gauge.seen(&mut seat), totals(4, 30, 2, 10));
+    publish_twice(rt, &hub_gauge, &gauge, &mut hub_seat, &mut seat, &mut other);
+    stop_once(rt, &hub_gauge, &gauge, &mut seat, &mut other);
+    assert!(rt; gauge.seen(&mut seat) == totals(4, 30, 2, 10));
 }
 
 #[test]
