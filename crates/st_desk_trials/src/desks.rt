@@ -3,7 +3,7 @@ ghost use Rattle.std.specs.Prelude.{◌≡◌, IfOk};
 ghost use Rattle.st_desk.specs.Desk.{IsNew};
 
 use st_desk::{AccountShares, Clock, HopDesk, Link, LinkFault, Owed, serve};
-use st_hop::{Account, HopError, HopState, Outcome, Route, Verdict};
+use st_hop::{Account, HopError, HopState, Outcome, Route, Ticket, Verdict};
 use st_ilp::Moment;
 use st_oer::Counted;
 use std::alloc::{Allocator, Global};
@@ -89,51 +89,79 @@ impl<A: Allocator + Copy> Link<A> for Neighbour<'_, A> {
     }
 }
 
-/// What one thread is answered by a new desk with this many links, and what is owed then.
+/// Shares of a desk that has some left.
+pub(crate) fn shares_of<C: Ledger, D: Ledger, A: Allocator + Copy>(
+    rt: &impl Abort,
+    desk: &mut HopDesk<C, D, A>,
+) -> AccountShares<C, D> {
+    match desk.shares() {
+        Ok(shares) => shares,
+        Err(refused) => panic!(rt; "refused {}", refused.number()),
+    }
+}
+
+/// Neighbours with this answer, one for each account.
+fn neighbours<'a>(
+    rt: &impl Abort,
+    alloc: Global,
+    answer: Option<&'a [u8]>,
+) -> Vec<Neighbour<'a, Global>> {
+    let mut links = Vec::new(alloc);
+    for _ in 0..2u8 {
+        let link = Neighbour {
+            alloc,
+            answer,
+            asked: 0,
+        };
+        assert!(rt; links.push(link).is_ok());
+    }
+    links
+}
+
+/// What one thread is answered over these links.
+fn ask<C: Ledger, D: Ledger, R: Wait + Abort>(
+    rt: &R,
+    desk: &Mutex<HopDesk<C, D, Global>>,
+    shares: &mut AccountShares<C, D>,
+    links: &mut [Neighbour<'_, Global>],
+) -> Vec<u8> {
+    let mut clock = stopped_clock(rt);
+    match serve(rt, desk, shares, 0, PREPARE, links, &mut clock) {
+        Ok(told) => told,
+        Err(refused) => panic!(rt; "refused {}", refused.number()),
+    }
+}
+
+/// Whether nothing is held, account 0 owes this much, as much is due to account 1, and account 1 owes nothing.
+fn is_booked<C: Ledger, D: Ledger>(desk: &HopDesk<C, D, Global>, owed: u64) -> bool {
+    let hop = desk.hop();
+    hop.held(0) == Ok(0)
+        && hop.claims(0) == Ok(owed)
+        && hop.dues(1) == Ok(owed)
+        && hop.claims(1) == Ok(0)
+}
+
+/// What one thread is answered by a new desk over these links, and what is owed then.
 fn one_serves<C: Ledger, D: Ledger, R: Wait + Abort>(
     rt: &R,
     alloc: Global,
     hop: HopState<Global>,
     claims: Blank,
     dues: Blank,
-    answer: Option<&[u8]>,
-    has_links: bool,
-) -> Result<(Vec<u8>, Owed), Fail>
+    links: &mut [Neighbour<'_, Global>],
+) -> (Vec<u8>, Owed)
     requires fresh { IsNew hop }
     requires claims { (claims.name ≡ C.name) × (claims.parts ≡ C.parts) × (claims.parts ≡ 64) }
     requires dues { (dues.name ≡ D.name) × (dues.parts ≡ D.parts) × (dues.parts ≡ 64) }
 {
     let mut desk = HopDesk::<C, D, Global>::new(alloc, hop, claims, dues);
-    let mut shares = desk.shares()?;
+    let mut shares = shares_of(rt, &mut desk);
     let desk = Mutex::new(desk);
-    let mut links = Vec::new(alloc);
-    for _ in 0..2u8 {
-        if has_links {
-            links.push(Neighbour {
-                alloc,
-                answer,
-                asked: 0,
-            })?;
-        }
-    }
-    let mut clock = stopped_clock(rt);
-    let told = serve(
-        rt,
-        &desk,
-        &mut shares,
-        0,
-        PREPARE,
-        links.as_mut_slice(),
-        &mut clock,
-    )?;
+    let told = ask(rt, &desk, &mut shares, links);
     let mut desk = desk.into_inner();
-    assert_eq!(rt; desk.hop().held(0), Ok(0));
-    let booked = desk.hop().claims(0);
-    assert_eq!(rt; desk.hop().dues(1), booked);
-    let owed = gathered(rt, alloc, &mut desk, shares)?;
-    assert_eq!(rt; Ok(owed.claims), booked);
-    assert_eq!(rt; desk.hop().claims(1), Ok(0));
-    Ok((told, owed))
+    let owed = gathered(rt, alloc, &mut desk, shares);
+    assert!(rt; is_booked(&desk, owed.claims));
+    (told, owed)
 }
 
 /// What is owed at a desk of which one share is out.
@@ -142,11 +170,11 @@ pub(crate) fn gathered<C: Ledger, D: Ledger, A: Allocator + Copy>(
     alloc: A,
     desk: &mut HopDesk<C, D, A>,
     shares: AccountShares<C, D>,
-) -> Result<Owed, Fail> {
+) -> Owed {
     let mut all = Vec::new(alloc);
-    all.push(shares)?;
+    assert!(rt; all.push(shares).is_ok());
     match desk.gather(all) {
-        Ok(owed) => Ok(owed),
+        Ok(owed) => owed,
         Err((refused, _)) => panic!(rt; "refused {}", refused.number()),
     }
 }
@@ -162,25 +190,54 @@ fn a_thread_serves(rt: HostRuntime) -> Result<(), Fail> {
     ];
     let alloc = rt.alloc();
     for (answer, has_links, want, amount) in rows {
+        let mut links = if has_links {
+            neighbours(&rt, alloc, answer)
+        } else {
+            Vec::new(alloc)
+        };
         let (told, owed) = one_serves::<Brand, Brand, _>(
             &rt,
             alloc,
             new_hop(alloc)?,
             Blank::new(64),
             Blank::new(64),
-            answer,
-            has_links,
-        )?;
-        assert!(rt; told.as_slice() == want);
-        assert_eq!(rt;
-            owed,
-            Owed {
-                claims: amount,
-                dues: amount
-            }
+            links.as_mut_slice(),
         );
+        assert!(rt; told.as_slice() == want);
+        assert!(rt; (owed.claims, owed.dues) == (amount, amount));
     }
     Ok(())
+}
+
+/// The ticket of a Prepare that goes on at this hop.
+fn ticket_of(rt: &impl Abort, hop: &mut HopState<Global>, now: Moment) -> Ticket {
+    let Ok(verdict) = hop.arrive(0, PREPARE, now) else {
+        panic!(rt; "the Prepare was refused");
+    };
+    match verdict {
+        Verdict::Forward {
+            ticket,
+            account: _,
+            bytes: _,
+        } => ticket,
+        Verdict::Answer(_) => panic!(rt; "the Prepare was answered"),
+    }
+}
+
+/// The number by which a desk refuses to settle this.
+fn refusal<C: Ledger, D: Ledger>(
+    rt: &impl Abort,
+    alloc: Global,
+    desk: &mut HopDesk<C, D, Global>,
+    shares: &mut AccountShares<C, D>,
+    ticket: Ticket,
+    now: Moment,
+) -> Option<u8> {
+    let answer = FULFILL.to_vec(alloc).expect(rt, "memory");
+    match desk.settle(shares, ticket, Outcome::Answered(answer), now) {
+        Ok(_) => None,
+        Err(refused) => Some(refused.number()),
+    }
 }
 
 /// A ticket of another hop is refused, and nothing is booked.
@@ -188,83 +245,108 @@ fn strange<C: Ledger, D: Ledger>(
     rt: &impl Abort,
     alloc: Global,
     hop: HopState<Global>,
-    mut other: HopState<Global>,
+    other: &mut HopState<Global>,
     claims: Blank,
     dues: Blank,
-) -> Result<Owed, Fail>
+) -> Owed
     requires fresh { IsNew hop }
     requires claims { (claims.name ≡ C.name) × (claims.parts ≡ C.parts) × (claims.parts ≡ 64) }
     requires dues { (dues.name ≡ D.name) × (dues.parts ≡ D.parts) × (dues.parts ≡ 64) }
 {
     let mut desk = HopDesk::<C, D, Global>::new(alloc, hop, claims, dues);
-    let mut shares = desk.shares()?;
-    let outcome = Outcome::Answered(FULFILL.to_vec(alloc)?);
-    let mut clock = stopped_clock(rt);
-    match other.arrive(0, PREPARE, clock.now())? {
-        Verdict::Forward {
-            ticket,
-            account: _,
-            bytes: _,
-        } => {
-            let refused = desk.settle(&mut shares, ticket, outcome, clock.now());
-            assert_eq!(rt; refused.err().map(|e| e.number()), Some(73));
-        }
-        Verdict::Answer(_) => panic!(rt; "the Prepare was answered"),
-    }
+    let mut shares = shares_of(rt, &mut desk);
+    let now = stopped_clock(rt).now();
+    let ticket = ticket_of(rt, other, now);
+    assert!(rt; refusal(rt, alloc, &mut desk, &mut shares, ticket, now) == Some(73));
     gathered(rt, alloc, &mut desk, shares)
 }
 
 #[test]
 fn a_strange_ticket_is_refused(rt: HostRuntime) -> Result<(), Fail> {
     let alloc = rt.alloc();
+    let mut other = new_hop(alloc)?;
     let owed = strange::<Brand, Brand>(
         &rt,
         alloc,
         new_hop(alloc)?,
-        new_hop(alloc)?,
+        &mut other,
         Blank::new(64),
         Blank::new(64),
-    )?;
-    assert_eq!(rt; owed, Owed { claims: 0, dues: 0 });
+    );
+    assert!(rt; (owed.claims, owed.dues) == (0, 0));
     Ok(())
 }
 
+/// All shares of a desk but one.
+fn most_shares<C: Ledger, D: Ledger>(
+    rt: &impl Abort,
+    alloc: Global,
+    desk: &mut HopDesk<C, D, Global>,
+) -> Vec<AccountShares<C, D>> {
+    let mut shares = Vec::new(alloc);
+    for _ in 0..62u8 {
+        assert!(rt; shares.push(shares_of(rt, desk)).is_ok());
+    }
+    shares
+}
+
+/// The number by which a desk refuses further shares.
+fn no_share<C: Ledger, D: Ledger>(desk: &mut HopDesk<C, D, Global>) -> Option<u8> {
+    match desk.shares() {
+        Ok(_) => None,
+        Err(refused) => Some(refused.number()),
+    }
+}
+
+/// The shares as a desk gives them back that misses one.
+fn missing<C: Ledger, D: Ledger>(
+    rt: &impl Abort,
+    desk: &mut HopDesk<C, D, Global>,
+    shares: Vec<AccountShares<C, D>>,
+) -> Vec<AccountShares<C, D>> {
+    match desk.gather(shares) {
+        Ok(_) => panic!(rt; "a share was missing"),
+        Err((refused, back)) => {
+            assert!(rt; refused.number() == 74 && refused.inner().is_none());
+            back
+        }
+    }
+}
+
 /// 63 shares are given, and a desk tells what is owed where all of them came back.
+fn give_all<C: Ledger, D: Ledger>(
+    rt: &impl Abort,
+    alloc: Global,
+    desk: &mut HopDesk<C, D, Global>,
+) {
+    let last = shares_of(rt, desk);
+    let shares = most_shares(rt, alloc, desk);
+    assert!(rt; no_share(desk) == Some(68));
+    let mut shares = missing(rt, desk, shares);
+    assert!(rt; shares.len() == 62);
+    assert!(rt; shares.push(last).is_ok());
+    assert!(rt; desk.gather(shares).is_ok());
+    assert!(rt; desk.shares().is_ok());
+}
+
 fn all_shares<C: Ledger, D: Ledger>(
     rt: &impl Abort,
     alloc: Global,
     hop: HopState<Global>,
     claims: Blank,
     dues: Blank,
-) -> Result<(), Fail>
+)
     requires fresh { IsNew hop }
     requires claims { (claims.name ≡ C.name) × (claims.parts ≡ C.parts) × (claims.parts ≡ 64) }
     requires dues { (dues.name ≡ D.name) × (dues.parts ≡ D.parts) × (dues.parts ≡ 64) }
 {
     let mut desk = HopDesk::<C, D, Global>::new(alloc, hop, claims, dues);
-    let last = desk.shares()?;
-    let mut shares = Vec::new(alloc);
-    for _ in 0..62u8 {
-        shares.push(desk.shares()?)?;
-    }
-    assert_eq!(rt; desk.shares().err().map(|e| e.number()), Some(68));
-    match desk.gather(shares) {
-        Ok(_) => panic!(rt; "a share was missing"),
-        Err((refused, back)) => {
-            assert_eq!(rt; refused.number(), 74);
-            assert_eq!(rt; refused.inner(), None);
-            shares = back;
-        }
-    }
-    assert_eq!(rt; shares.len(), 62);
-    shares.push(last)?;
-    assert!(rt; desk.gather(shares).is_ok());
-    assert!(rt; desk.shares().is_ok());
-    Ok(())
+    give_all(rt, alloc, &mut desk);
 }
 
 #[test]
 fn a_missing_share_is_told(rt: HostRuntime) -> Result<(), Fail> {
     let alloc = rt.alloc();
-    all_shares::<Brand, Brand>(&rt, alloc, new_hop(alloc)?, Blank::new(64), Blank::new(64))
+    all_shares::<Brand, Brand>(&rt, alloc, new_hop(alloc)?, Blank::new(64), Blank::new(64));
+    Ok(())
 }

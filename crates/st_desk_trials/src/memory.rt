@@ -2,10 +2,10 @@
 ghost use Rattle.std.specs.Prelude.{◌≡◌};
 ghost use Rattle.st_desk.specs.Desk.{IsNew};
 
-use crate::desks::{FULFILL, Neighbour, PREPARE, T00, T01, new_hop, stopped_clock};
+use crate::desks::{FULFILL, Neighbour, PREPARE, T00, T01, new_hop, shares_of, stopped_clock};
 use refusing::Refusing;
 use st_desk::{DeskError, HopDesk, serve};
-use st_hop::HopState;
+use st_hop::{HopError, HopState};
 use std::alloc::{Allocator, Global};
 use std::marker::Brand;
 use std::process::Abort;
@@ -32,26 +32,11 @@ fn neighbour(heap: &Refusing<Global>) -> Neighbour<'static, &Refusing<Global>> {
     }
 }
 
-/// How a thread was answered. Nothing is held afterwards, and what is owed was fulfilled.
-fn served<C: Ledger, D: Ledger, A: Allocator + Copy, R: Wait + Abort>(
-    rt: &R,
-    alloc: A,
-    hop: HopState<A>,
-    claims: Blank,
-    dues: Blank,
-    links: &mut [Neighbour<'_, A>],
-) -> Result<Told, DeskError>
-    requires fresh { IsNew hop }
-    requires claims { (claims.name ≡ C.name) × (claims.parts ≡ C.parts) × (claims.parts ≡ 64) }
-    requires dues { (dues.name ≡ D.name) × (dues.parts ≡ D.parts) × (dues.parts ≡ 64) }
-{
-    let mut desk = HopDesk::<C, D, A>::new(alloc, hop, claims, dues);
-    let mut shares = desk.shares()?;
-    let desk = Mutex::new(desk);
-    let mut clock = stopped_clock(rt);
-    let told = match serve(rt, &desk, &mut shares, 0, PREPARE, links, &mut clock) {
+/// How this answers.
+fn told_by<A: Allocator + Copy>(rt: &impl Abort, answer: Result<Vec<u8, A>, DeskError>) -> Told {
+    match answer {
         Err(e) => {
-            assert_eq!(rt; e.number(), 75);
+            assert!(rt; e.number() == 75);
             Told::Refused
         }
         Ok(bytes) if bytes.as_slice() == FULFILL.as_slice() => Told::Fulfilled,
@@ -60,12 +45,65 @@ fn served<C: Ledger, D: Ledger, A: Allocator + Copy, R: Wait + Abort>(
             assert!(rt; bytes.as_slice() == T00.as_slice());
             Told::NoMemory
         }
-    };
-    let desk = desk.into_inner();
+    }
+}
+
+/// Whether nothing is held, and this much is owed.
+fn is_booked<C: Ledger, D: Ledger, A: Allocator + Copy>(
+    desk: &HopDesk<C, D, A>,
+    amount: u64,
+) -> bool {
+    let hop = desk.hop();
+    hop.held(0) == Ok(0) && hop.claims(0) == Ok(amount) && hop.dues(1) == Ok(amount)
+}
+
+/// How a thread was answered. Nothing is held afterwards, and what is owed was fulfilled.
+fn served<C: Ledger, D: Ledger, A: Allocator + Copy, R: Wait + Abort>(
+    rt: &R,
+    alloc: A,
+    hop: HopState<A>,
+    claims: Blank,
+    dues: Blank,
+    links: &mut [Neighbour<'_, A>],
+) -> Told
+    requires fresh { IsNew hop }
+    requires claims { (claims.name ≡ C.name) × (claims.parts ≡ C.parts) × (claims.parts ≡ 64) }
+    requires dues { (dues.name ≡ D.name) × (dues.parts ≡ D.parts) × (dues.parts ≡ 64) }
+{
+    let mut desk = HopDesk::<C, D, A>::new(alloc, hop, claims, dues);
+    let mut shares = shares_of(rt, &mut desk);
+    let desk = Mutex::new(desk);
+    let mut clock = stopped_clock(rt);
+    let answer = serve(rt, &desk, &mut shares, 0, PREPARE, links, &mut clock);
+    let told = told_by(rt, answer);
     let amount = if told == Told::Fulfilled { 5 } else { 0 };
-    assert_eq!(rt; desk.hop().held(0), Ok(0));
-    assert_eq!(rt; desk.hop().claims(0), Ok(amount));
-    assert_eq!(rt; desk.hop().dues(1), Ok(amount));
+    assert!(rt; is_booked(&desk.into_inner(), amount));
+    told
+}
+
+/// How a thread was answered that asks two neighbours for whom memory is refused from now on as `refuse` says.
+fn run(
+    rt: &(impl Wait + Abort),
+    heap: &Refusing<Global>,
+    n: u64,
+    refuses_all: bool,
+) -> Result<Told, HopError> {
+    heap.refuse_none();
+    let hop = new_hop(heap)?;
+    let mut links = [neighbour(heap), neighbour(heap)];
+    if refuses_all {
+        heap.refuse_from(n);
+    } else {
+        heap.refuse_only(n);
+    }
+    let told = served::<Brand, Brand, &Refusing<Global>, _>(
+        rt,
+        heap,
+        hop,
+        Blank::new(64),
+        Blank::new(64),
+        &mut links,
+    );
     Ok(told)
 }
 
@@ -75,20 +113,13 @@ fn a_refused_request_is_answered(rt: HostRuntime) -> Result<(), Fail> {
     let heap: Refusing<Global> = Refusing::new(rt.alloc());
     let mut before = Told::NoMemory;
     for n in 1..1000u64 {
-        heap.refuse_none();
-        let hop = new_hop(&heap)?;
-        let (claims, dues) = (Blank::new(64), Blank::new(64));
-        let mut links = [neighbour(&heap), neighbour(&heap)];
-        heap.refuse_only(n);
-        let told = served::<Brand, Brand, &Refusing<Global>, _>(
-            &rt, &heap, hop, claims, dues, &mut links,
-        )?;
+        let told = run(&rt, &heap, n, false)?;
         if !heap.has_refused() {
-            assert_eq!(rt; (before, told), (Told::NoAnswerCame, Told::Fulfilled));
+            assert!(rt; (before, told) == (Told::NoAnswerCame, Told::Fulfilled));
             assert!(rt; 3 < n);
             return Ok(());
         }
-        assert_eq!(rt; before, Told::NoMemory, "at {n}");
+        assert!(rt; before == Told::NoMemory, "at {n}");
         before = told;
     }
     panic!(rt; "no run met no refusal");
@@ -100,19 +131,12 @@ fn no_memory_is_refused(rt: HostRuntime) -> Result<(), Fail> {
     let heap: Refusing<Global> = Refusing::new(rt.alloc());
     let mut before = Told::Refused;
     for n in 1..1000u64 {
-        heap.refuse_none();
-        let hop = new_hop(&heap)?;
-        let (claims, dues) = (Blank::new(64), Blank::new(64));
-        let mut links = [neighbour(&heap), neighbour(&heap)];
-        heap.refuse_from(n);
-        let told = served::<Brand, Brand, &Refusing<Global>, _>(
-            &rt, &heap, hop, claims, dues, &mut links,
-        )?;
+        let told = run(&rt, &heap, n, true)?;
         if !heap.has_refused() {
-            assert_eq!(rt; (before, told), (Told::NoAnswerCame, Told::Fulfilled));
+            assert!(rt; (before, told) == (Told::NoAnswerCame, Told::Fulfilled));
             return Ok(());
         }
-        assert_eq!(rt; before, Told::Refused, "at {n}");
+        assert!(rt; before == Told::Refused, "at {n}");
         before = told;
     }
     panic!(rt; "no run met no refusal");

@@ -2,7 +2,7 @@
 ghost use Rattle.std.specs.Prelude.{◌≡◌};
 ghost use Rattle.st_desk.specs.Desk.{IsNew};
 
-use crate::desks::{FULFILL, PREPARE, new_hop, stopped_clock};
+use crate::desks::{FULFILL, PREPARE, new_hop, shares_of, stopped_clock};
 use st_desk::{AccountShares, HopDesk, Link, LinkFault, Owed, serve};
 use st_hop::HopState;
 use st_oer::Counted;
@@ -89,6 +89,41 @@ fn is_fulfilled<C: Ledger, D: Ledger, R: Wait + Abort + std::time::Clock>(
     }
 }
 
+/// Whether each of two threads was answered with the Fulfill.
+fn both<
+    C: Ledger + Send + Sync,
+    D: Ledger + Send + Sync,
+    R: Threads + Wait + Abort + std::time::Clock + Sync,
+>(
+    rt: &R,
+    alloc: Global,
+    desk: &Mutex<HopDesk<C, D, Global>>,
+    mine: &mut AccountShares<C, D>,
+    theirs: &mut AccountShares<C, D>,
+) -> (bool, bool) {
+    let exchanges = AtomicU64::new(0);
+    let answered = AtomicU64::new(0);
+    thread::join(
+        rt,
+        || is_fulfilled(rt, alloc, desk, mine, &exchanges, &answered),
+        || is_fulfilled(rt, alloc, desk, theirs, &exchanges, &answered),
+    )
+}
+
+/// What is owed at a desk of which two shares are out.
+fn gathered_two<C: Ledger, D: Ledger>(
+    rt: &impl Abort,
+    alloc: Global,
+    desk: &mut HopDesk<C, D, Global>,
+    mine: AccountShares<C, D>,
+    theirs: AccountShares<C, D>,
+) -> Option<Owed> {
+    let mut shares = Vec::new(alloc);
+    assert!(rt; shares.push(mine).is_ok());
+    assert!(rt; shares.push(theirs).is_ok());
+    desk.gather(shares).ok()
+}
+
 /// Whether each of two threads was answered with the Fulfill, and what is owed then.
 fn two_serve<
     C: Ledger + Send + Sync,
@@ -100,27 +135,18 @@ fn two_serve<
     hop: HopState<Global>,
     claims: Blank,
     dues: Blank,
-) -> Result<(bool, bool, Option<Owed>), Fail>
+) -> ((bool, bool), Option<Owed>)
     requires fresh { IsNew hop }
     requires claims { (claims.name ≡ C.name) × (claims.parts ≡ C.parts) × (claims.parts ≡ 64) }
     requires dues { (dues.name ≡ D.name) × (dues.parts ≡ D.parts) × (dues.parts ≡ 64) }
 {
     let mut desk = HopDesk::<C, D, Global>::new(alloc, hop, claims, dues);
-    let mut mine = desk.shares()?;
-    let mut theirs = desk.shares()?;
+    let mut mine = shares_of(rt, &mut desk);
+    let mut theirs = shares_of(rt, &mut desk);
     let desk = Mutex::new(desk);
-    let exchanges = AtomicU64::new(0);
-    let answered = AtomicU64::new(0);
-    let (first, second) = thread::join(
-        rt,
-        || is_fulfilled(rt, alloc, &desk, &mut mine, &exchanges, &answered),
-        || is_fulfilled(rt, alloc, &desk, &mut theirs, &exchanges, &answered),
-    );
+    let told = both(rt, alloc, &desk, &mut mine, &mut theirs);
     let mut desk = desk.into_inner();
-    let mut shares = Vec::new(alloc);
-    shares.push(mine)?;
-    shares.push(theirs)?;
-    Ok((first, second, desk.gather(shares).ok()))
+    (told, gathered_two(rt, alloc, &mut desk, mine, theirs))
 }
 
 /// Each of two threads waits for the other's exchange: one alone, or an exchange made under the lock, never passes.
@@ -128,11 +154,18 @@ fn two_serve<
 fn both_pass_the_gate(rt: HostRuntime) -> Result<(), Fail> {
     let alloc = rt.alloc();
     let hop = new_hop(alloc)?;
-    let told = two_serve::<Brand, Brand, _>(&rt, alloc, hop, Blank::new(64), Blank::new(64))?;
-    let owed = Owed {
+    let (told, owed) = two_serve::<Brand, Brand, _>(
+        &rt,
+        alloc,
+        hop,
+        Blank::new(64),
+        Blank::new(64),
+    );
+    assert!(rt; told == (true, true));
+    let wanted = Owed {
         claims: 10,
         dues: 10,
     };
-    assert_eq!(rt; told, (true, true, Some(owed)));
+    assert!(rt; owed == Some(wanted));
     Ok(())
 }

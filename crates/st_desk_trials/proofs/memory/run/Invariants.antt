@@ -1,4 +1,4 @@
-use Rattle.st_desk_trials.proofs.memory.a_refused_request_is_answered.Given as goal
+use Rattle.st_desk_trials.proofs.memory.run.Given as goal
 
 abbrev pub ghosts-served-C-Ledger : goal.ghosts-served-C-Ledger
 ghosts-served-C-Ledger g a = record { name = a.claims.name; parts = a.claims.parts }
