@@ -1,5 +1,6 @@
 pub mod Pieces
 pub mod Overs
+pub mod OnePiece
 pub mod PiecesTold
 pub mod LinesSoFar
 pub mod Progressing

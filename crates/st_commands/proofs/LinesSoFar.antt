@@ -1,6 +1,7 @@
 -- What the line so far stands for.
-use Rattle.std.proofs.Common.{◌≡◌, ◌≢◌, ◌<◌, ◌≤◌, ℕ, ◌+◌, ◌-◌, ◌*◌, ◌%◌, ◌==◌, nat_lt, true, false, if◌then◌else◌, List, [], ◌∷◌, ◌++◌, length, take, slice_index, Result, Ok, Err, refl, sym, ap, subst, ◌∙◌, inl, inr, arith}
+use Rattle.std.proofs.Common.{◌≡◌, ◌≢◌, ◌↔◌, ◌<◌, ◌≤◌, ℕ, zero, suc, nat_eq, ◌+◌, ◌-◌, ◌*◌, ◌%◌, ◌==◌, nat_lt, true, false, if◌then◌else◌, List, [], ◌∷◌, ◌++◌, length, take, slice_index, Result, Ok, Err, refl, sym, ap, subst, ◌∙◌, inl, inr, arith}
 use Rattle.std.specs.List.{All, AllPass}
+use Rattle.std.specs.Bool.{IsTrue}
 use Rattle.std.specs.Char.{is_ascii_hexdigit}
 use Rattle.std.specs.Str.Lines.{strip_carriage_return}
 use Rattle.std.proofs.lemmas.Bool.{cases_lt, cases_eq}
@@ -205,3 +206,15 @@ long_is_no_packet s text even long h =
 
 pub kept_is_text : (s : LineState) (text : List ℕ) → s.count ≤ most_digits → AreDigits s text → s.digits ≡ text
 kept_is_text s text short h = h.kept ∙ take_all most_digits text (omega (arith, h.count, short))
+
+-- a text with something other than digits has a character
+pub never_empty : (text : List ℕ) → HasOther text → IsTrue false ↔ (length text ≡ 0)
+never_empty text other = grind (arith, nat_tests, other.within)
+
+zero_tells : (n : ℕ) → IsTrue (nat_eq n 0) ↔ (n ≡ 0)
+zero_tells zero = grind (arith, nat_tests)
+zero_tells (suc n) = grind (arith, nat_tests)
+
+-- a text of digits has as many characters as were counted
+pub counted : (s : LineState) (n : ℕ) (text : List ℕ) → n ≡ s.count → AreDigits s text → IsTrue (nat_eq n 0) ↔ (length text ≡ 0)
+counted s n text same digits = subst (λ m. IsTrue (nat_eq n 0) ↔ (m ≡ 0)) (same ∙ digits.count) (zero_tells n)
