@@ -108,25 +108,35 @@ fn is_done<A: Allocator + Copy>(ends: &Steady<A>, stream: u8, credited: u64, pai
     ends.end.totals() == want && ends.end.settled(stream)
 }
 
-/// Makes two ends and lets them talk while request `n` is refused: whether there was one. All bytes on the way are those of a
-/// run that met no refusal.
-fn meets(rt: &impl Abort, heap: &Refusing<Global>, want: (u64, u64), n: u64) -> bool {
-    heap.refuse_only(n);
-    let mut ends = match Ends::new(rt, heap) {
-        Ok(ends) => ends,
-        Err(error) => {
-            assert!(rt; error == EndError::NoMemory);
-            assert!(rt; Ends::new(rt, heap).is_ok());
-            return heap.has_refused();
-        }
-    };
-    talk(rt, &mut ends);
-    let met = heap.has_refused();
+/// That all came at both ends, that all bytes on the way are those of a run that met no refusal, and that a call found no memory
+/// where a request was refused.
+fn check<A: Allocator + Copy>(
+    rt: &impl Abort,
+    ends: &Ends<A>,
+    want: (u64, u64),
+    met: bool,
+    n: u64,
+) {
     assert!(rt; is_done(&ends.client, 1, 20, 30), "at {n}");
     assert!(rt; is_done(&ends.server, 2, 60, 20), "at {n}");
     assert!(rt; ends.digests() == want, "at {n}");
     assert!(rt; ends.lacks() == u64::from(met), "at {n}");
-    met
+}
+
+/// Makes two ends and lets them talk while request `n` is refused: whether there was one.
+fn meets(rt: &impl Abort, heap: &Refusing<Global>, want: (u64, u64), n: u64) -> bool {
+    heap.refuse_only(n);
+    match Ends::new(rt, heap) {
+        Ok(mut ends) => {
+            talk(rt, &mut ends);
+            check(rt, &ends, want, heap.has_refused(), n);
+        }
+        Err(error) => {
+            assert!(rt; error == EndError::NoMemory);
+            assert!(rt; Ends::new(rt, heap).is_ok());
+        }
+    }
+    heap.has_refused()
 }
 
 /// The digests of a run that meets no refusal.

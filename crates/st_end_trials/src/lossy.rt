@@ -147,18 +147,29 @@ fn go_on(
     true
 }
 
-/// The connection of a seed: whether all bytes and all money came, and all ended.
+/// Much happens and then everything passes: whether all bytes and all money came, and all ended.
+fn come_through(
+    rt: &impl Abort,
+    alloc: Global,
+    numbers: &mut Numbers,
+    client: &mut Side,
+    server: &mut Side,
+) -> bool {
+    go_on(rt, alloc, numbers, client, server)
+        && let_pass(rt, alloc, client, server)
+        && is_done(client, server)
+        && is_done(server, client)
+        && client.pays(server)
+        && server.pays(client)
+}
+
+/// The connection of a seed: whether all came through.
 fn runs(rt: &impl Abort, alloc: Global, seed: u64) -> bool {
     let mut numbers = Numbers::of(seed);
     let streams = numbers.below(4) as u8 + 1;
     let mut client = new_side(rt, alloc, &mut numbers, 0, streams);
     let mut server = new_side(rt, alloc, &mut numbers, 1, streams);
-    go_on(rt, alloc, &mut numbers, &mut client, &mut server)
-        && let_pass(rt, alloc, &mut client, &mut server)
-        && is_done(&client, &server)
-        && is_done(&server, &client)
-        && client.pays(&server)
-        && server.pays(&client)
+    come_through(rt, alloc, &mut numbers, &mut client, &mut server)
 }
 
 #[test]

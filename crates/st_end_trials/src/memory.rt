@@ -41,13 +41,18 @@ fn end<A: Allocator + Copy>(alloc: A, role: Role) -> Result<EndState<A>, EndErro
     new_end(alloc, role, config)
 }
 
+/// An end where memory is not refused.
+fn made<A: Allocator + Copy>(rt: &impl Abort, alloc: A, role: Role) -> EndState<A> {
+    end(alloc, role).expect(rt, "there is memory")
+}
+
 /// A client with bytes and money on its stream 1.
-fn writing<A: Allocator + Copy>(alloc: A) -> Result<EndState<A>, EndError> {
-    let mut client = end(alloc, Role::Client)?;
-    let stream = client.open_stream()?;
-    client.write(stream, b"there is more than one word of it")?;
-    client.offer(stream, 30)?;
-    Ok(client)
+fn writing<A: Allocator + Copy>(rt: &impl Abort, alloc: A) -> EndState<A> {
+    let mut client = made(rt, alloc, Role::Client);
+    assert!(rt; client.open_stream() == Ok(1));
+    assert!(rt; client.write(1, b"there is more than one word of it") == Ok(()));
+    assert!(rt; client.offer(1, 30) == Ok(()));
+    client
 }
 
 /// The next Prepare, whose flight is abandoned: none is no bytes.
@@ -62,37 +67,37 @@ fn sent<A: Allocator + Copy>(alloc: A, end: &mut EndState<A>) -> Result<Vec<u8, 
 }
 
 /// What a client sends first.
-fn prepare(global: Global) -> Result<Vec<u8>, EndError> {
-    let mut client = writing(global)?;
-    sent(global, &mut client)
+fn prepare(rt: &impl Abort, global: Global) -> Vec<u8> {
+    let mut client = writing(rt, global);
+    sent(global, &mut client).expect(rt, "there is memory")
 }
 
 /// A server that may receive 100 units on stream 1.
-fn listening<A: Allocator + Copy>(alloc: A) -> Result<EndState<A>, EndError> {
-    let mut server = end(alloc, Role::Server)?;
-    server.set_receive_max(1, 100)?;
-    Ok(server)
+fn listening<A: Allocator + Copy>(rt: &impl Abort, alloc: A) -> EndState<A> {
+    let mut server = made(rt, alloc, Role::Server);
+    assert!(rt; server.set_receive_max(1, 100) == Ok(()));
+    server
 }
 
 /// The same, once what the client sends first arrived.
-fn reading<A: Allocator + Copy>(alloc: A, prepare: &[u8]) -> Result<EndState<A>, EndError> {
-    let mut server = listening(alloc)?;
-    let received = server.receive(prepare, moment()?)?;
-    let _bytes = received.bytes;
-    Ok(server)
+fn reading<A: Allocator + Copy>(rt: &impl Abort, alloc: A, prepare: &[u8]) -> EndState<A> {
+    let mut server = listening(rt, alloc);
+    assert!(rt; receive(&mut server, prepare).is_ok());
+    server
 }
 
 /// An end for a call.
 fn ready<A: Allocator + Copy>(
+    rt: &impl Abort,
     alloc: A,
     call: Call,
     prepare: &[u8],
-) -> Result<EndState<A>, EndError> {
+) -> EndState<A> {
     match call {
-        Call::New | Call::OpenStream => end(alloc, Role::Client),
-        Call::Write | Call::Send => writing(alloc),
-        Call::Read => reading(alloc, prepare),
-        Call::Receive => listening(alloc),
+        Call::New | Call::OpenStream => made(rt, alloc, Role::Client),
+        Call::Write | Call::Send => writing(rt, alloc),
+        Call::Read => reading(rt, alloc, prepare),
+        Call::Receive => listening(rt, alloc),
     }
 }
 
@@ -162,8 +167,37 @@ fn given<A: Allocator + Copy>(
     Ok((first, left(alloc, end)?))
 }
 
-/// Whether a call on a fresh end meets the refusal of request `n`. If so it wants memory and nothing has changed, and then it
-/// gives and leaves what it should.
+/// Whether a call meets the refusal of request `n`. If so it wants memory and nothing has changed, and then it gives and leaves
+/// what it should.
+fn meets_on<'a>(
+    rt: &impl Abort,
+    heap: &'a Refusing<Global>,
+    end: &mut EndState<&'a Refusing<Global>>,
+    call: Call,
+    prepare: &[u8],
+    want: Given,
+    n: u64,
+) -> bool {
+    let before = end.totals();
+    heap.refuse_only(n);
+    let answer = called(heap, end, call, prepare);
+    let met = heap.has_refused();
+    heap.refuse_none();
+    if met {
+        assert!(rt; answer == Err(EndError::NoMemory), "{call:?} at {n}");
+        assert!(rt; end.totals() == before, "{call:?} at {n}");
+        assert!(rt;
+            given(heap, end, call, prepare) == Ok(want),
+            "{call:?} at {n}"
+        );
+    } else {
+        assert!(rt; answer == Ok(want.0), "{call:?}");
+        assert!(rt; left(heap, end) == Ok(want.1), "{call:?}");
+    }
+    met
+}
+
+/// The same on a fresh end.
 fn meets(
     rt: &impl Abort,
     heap: &Refusing<Global>,
@@ -171,62 +205,60 @@ fn meets(
     prepare: &[u8],
     want: Given,
     n: u64,
-) -> Result<bool, EndError> {
+) -> bool {
     heap.refuse_none();
-    let mut end = ready(heap, call, prepare)?;
-    let before = end.totals();
-    heap.refuse_only(n);
-    let answer = called(heap, &mut end, call, prepare);
-    let met = heap.has_refused();
-    heap.refuse_none();
-    if met {
-        assert!(rt; answer == Err(EndError::NoMemory), "{call:?} at {n}");
-        assert!(rt; end.totals() == before, "{call:?} at {n}");
-        assert!(rt;
-            given(heap, &mut end, call, prepare)? == want,
-            "{call:?} at {n}"
-        );
-    } else {
-        assert!(rt; answer == Ok(want.0), "{call:?}");
-        assert!(rt; left(heap, &mut end)? == want.1, "{call:?}");
-    }
-    Ok(met)
+    let mut end = ready(rt, heap, call, prepare);
+    meets_on(rt, heap, &mut end, call, prepare, want, n)
+}
+
+/// What a call gives and leaves where no memory is refused.
+fn wanted(rt: &impl Abort, global: Global, call: Call, prepare: &[u8]) -> Given {
+    let mut end = ready(rt, global, call, prepare);
+    given(global, &mut end, call, prepare).expect(rt, "there is memory")
 }
 
 /// Each request of a call is refused in turn, until a run meets no refusal.
-fn refuse_each(rt: &impl Abort, global: Global, call: Call) -> Result<(), EndError> {
-    let heap: Refusing<Global> = Refusing::new(global);
-    let prepare = prepare(global)?;
-    let want = given(global, &mut ready(global, call, &prepare)?, call, &prepare)?;
+fn refuse_each_of(
+    rt: &impl Abort,
+    heap: &Refusing<Global>,
+    call: Call,
+    prepare: &[u8],
+    want: Given,
+) {
     for n in 1..1000_u64 {
-        if !meets(rt, &heap, call, &prepare, want, n)? {
+        if !meets(rt, heap, call, prepare, want, n) {
             assert!(rt; 1 < n, "{call:?} asks for none");
-            return Ok(());
+            return;
         }
     }
     panic!(rt; "no run met no refusal");
 }
 
 #[test]
-fn each_call_wants_memory_or_succeeds(rt: HostRuntime) -> Result<(), EndError> {
+fn each_call_wants_memory_or_succeeds(rt: HostRuntime) {
+    let heap: Refusing<Global> = Refusing::new(rt.alloc());
+    let prepare = prepare(&rt, rt.alloc());
     for call in CALLS {
-        refuse_each(&rt, rt.alloc(), call)?;
+        let want = wanted(&rt, rt.alloc(), call, &prepare);
+        refuse_each_of(&rt, &heap, call, &prepare, want);
     }
-    Ok(())
 }
 
 /// The flight of the next Prepare, and its answer.
 fn flown<A: Allocator + Copy>(
+    rt: &impl Abort,
     client: &mut EndState<A>,
     server: &mut EndState<A>,
     iv: [u8; 12],
-) -> Result<(Waiting, Vec<u8, A>), EndError> {
-    let now = moment()?;
-    let Some((flight, bytes)) = client.send(iv, now)? else {
-        return Err(EndError::NoStream);
+) -> (Waiting, Vec<u8, A>) {
+    let now = moment().expect(rt, "it is not below 0");
+    let next = client.send(iv, now).expect(rt, "there is memory");
+    let Some((flight, bytes)) = next else {
+        panic!(rt; "there is a Prepare");
     };
     let waiting = Waiting::of(flight);
-    Ok((waiting, server.receive(&bytes, now)?.bytes))
+    let received = server.receive(&bytes, now).expect(rt, "there is memory");
+    (waiting, received.bytes)
 }
 
 /// Takes a Fulfill, or a fault where there is none.
@@ -267,18 +299,18 @@ struct TwoFlights<A: Allocator + Copy> {
     second: Waiting,
 }
 
-fn fly_twice<A: Allocator + Copy>(alloc: A) -> Result<TwoFlights<A>, EndError> {
-    let mut client = writing(alloc)?;
-    let mut server = listening(alloc)?;
-    let (first, answer) = flown(&mut client, &mut server, [1; 12])?;
-    client.write(1, b"more")?;
-    let (second, _lost) = flown(&mut client, &mut server, [2; 12])?;
-    Ok(TwoFlights {
+fn fly_twice<A: Allocator + Copy>(rt: &impl Abort, alloc: A) -> TwoFlights<A> {
+    let mut client = writing(rt, alloc);
+    let mut server = listening(rt, alloc);
+    let (first, answer) = flown(rt, &mut client, &mut server, [1; 12]);
+    assert!(rt; client.write(1, b"more") == Ok(()));
+    let (second, _lost) = flown(rt, &mut client, &mut server, [2; 12]);
+    TwoFlights {
         client,
         first,
         answer,
         second,
-    })
+    }
 }
 
 /// The calls that never want memory: one flight is answered and the other one met a fault.
@@ -295,11 +327,10 @@ fn land_both<A: Allocator + Copy>(rt: &impl Abort, flights: TwoFlights<A>) {
 }
 
 #[test]
-fn the_other_calls_ask_for_no_memory(rt: HostRuntime) -> Result<(), EndError> {
+fn the_other_calls_ask_for_no_memory(rt: HostRuntime) {
     let heap: Refusing<Global> = Refusing::new(rt.alloc());
-    let flights = fly_twice(&heap)?;
+    let flights = fly_twice(&rt, &heap);
     heap.refuse_from(1);
     land_both(&rt, flights);
     assert!(rt; heap.asked() == 0);
-    Ok(())
 }

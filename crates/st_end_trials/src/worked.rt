@@ -214,31 +214,38 @@ fn client_of_hi(rt: &impl Abort, alloc: Global) -> EndState<Global> {
 }
 
 /// The first Prepare is rejected, since no receive max was told yet; its reply tells one, and the second goes by it.
-#[test]
-fn money_goes_up_to_the_receive_max(rt: HostRuntime) {
-    let alloc = rt.alloc();
-    let mut client = client_of_hi(&rt, alloc);
-    let mut server = end(&rt, alloc, Role::Server);
+fn pay_twice(rt: &impl Abort, client: &mut EndState<Global>, server: &mut EndState<Global>) {
     assert!(rt; client.offer(1, 30) == Ok(()));
     assert!(rt; server.set_receive_max(1, 10) == Ok(()));
-    assert!(rt; pass(&rt, &mut client, &mut server, 0));
-    assert!(rt; pass(&rt, &mut client, &mut server, 1));
+    assert!(rt; pass(rt, client, server, 0));
+    assert!(rt; pass(rt, client, server, 1));
     assert!(rt; client.totals().paid == 10);
     assert!(rt; server.totals().credited == 10);
-    assert!(rt; reads(&rt, &mut server, b"hi"));
+    assert!(rt; reads(rt, server, b"hi"));
+}
+
+#[test]
+fn money_goes_up_to_the_receive_max(rt: HostRuntime) {
+    let mut client = client_of_hi(&rt, rt.alloc());
+    let mut server = end(&rt, rt.alloc(), Role::Server);
+    pay_twice(&rt, &mut client, &mut server);
+}
+
+/// A stream is closed, and its end comes with the second Prepare.
+fn go_to_the_end(rt: &impl Abort, client: &mut EndState<Global>, server: &mut EndState<Global>) {
+    assert!(rt; client.close(1) == Ok(()));
+    assert!(rt; pass(rt, client, server, 0));
+    assert!(rt; !client.settled(1));
+    assert!(rt; pass(rt, client, server, 1));
+    assert!(rt; client.settled(1));
+    assert!(rt; !pass(rt, client, server, 2));
+    assert!(rt; reads(rt, server, b"hi"));
+    assert!(rt; reads_end(rt, server));
 }
 
 #[test]
 fn a_stream_is_read_to_its_end(rt: HostRuntime) {
-    let alloc = rt.alloc();
-    let mut client = client_of_hi(&rt, alloc);
-    let mut server = end(&rt, alloc, Role::Server);
-    assert!(rt; client.close(1) == Ok(()));
-    assert!(rt; pass(&rt, &mut client, &mut server, 0));
-    assert!(rt; !client.settled(1));
-    assert!(rt; pass(&rt, &mut client, &mut server, 1));
-    assert!(rt; client.settled(1));
-    assert!(rt; !pass(&rt, &mut client, &mut server, 2));
-    assert!(rt; reads(&rt, &mut server, b"hi"));
-    assert!(rt; reads_end(&rt, &mut server));
+    let mut client = client_of_hi(&rt, rt.alloc());
+    let mut server = end(&rt, rt.alloc(), Role::Server);
+    go_to_the_end(&rt, &mut client, &mut server);
 }
