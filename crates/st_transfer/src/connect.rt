@@ -82,6 +82,26 @@ fn serve_all<C: Ledger, D: Ledger, R: Net + Wait + std::time::Clock>(
     }
 }
 
+/// A worker with shares of the desk, and links of its own.
+fn server_of<'a, C: Ledger, D: Ledger, R: Net + Wait + std::time::Clock>(
+    rt: &'a R,
+    alloc: Global,
+    desk: &'a Mutex<HopDesk<C, D, Global>>,
+    terms: ConnectTerms<'_>,
+) -> Result<Server<'a, C, D, R>, TransferError> {
+    let shares = shares_of(rt, desk).map_err(TransferError::Desk)?;
+    let Ok(links) = links_to(alloc, rt, terms.neighbours, terms.turns) else {
+        return Err(TransferError::NoMemory);
+    };
+    Ok(Server {
+        rt,
+        desk,
+        shares,
+        links,
+        clock: RuntimeClock::new(rt),
+    })
+}
+
 /// The workers of a connector, each with shares of the desk.
 fn servers<'a, C: Ledger, D: Ledger, R: Net + Wait + std::time::Clock>(
     rt: &'a R,
@@ -91,20 +111,8 @@ fn servers<'a, C: Ledger, D: Ledger, R: Net + Wait + std::time::Clock>(
 ) -> Result<Vec<Server<'a, C, D, R>>, TransferError> {
     let mut servers = Vec::new(alloc);
     for _ in 0..terms.workers {
-        let shares = shares_of(rt, desk).map_err(TransferError::Desk)?;
-        let Ok(links) = links_to(alloc, rt, terms.neighbours, terms.turns) else {
-            return Err(TransferError::NoMemory);
-        };
-        let server = Server {
-            rt,
-            desk,
-            shares,
-            links,
-            clock: RuntimeClock::new(rt),
-        };
-        if servers.push(server).is_err() {
-            return Err(TransferError::NoMemory);
-        }
+        let server = server_of(rt, alloc, desk, terms)?;
+        servers.push(server)?;
     }
     Ok(servers)
 }
@@ -117,21 +125,28 @@ fn shares_of<C: Ledger, D: Ledger>(
     desk.lock(rt).shares()
 }
 
-/// What the workers came to: what is owed, or the first fault.
-fn gathered<C: Ledger, D: Ledger>(
+/// The shares of the workers, or the first fault.
+fn shares_back<C: Ledger, D: Ledger>(
     alloc: Global,
-    mut desk: HopDesk<C, D, Global>,
     ends: Vec<Ended<C, D>>,
-) -> Result<Owed, TransferError> {
+) -> Result<Vec<AccountShares<C, D>>, TransferError> {
     let mut all = Vec::new(alloc);
     for end in ends {
         let Ended { told, shares } = end;
         told?;
-        if all.push(shares).is_err() {
-            return Err(TransferError::NoMemory);
-        }
+        all.push(shares)?;
     }
-    match desk.gather(all) {
+    Ok(all)
+}
+
+/// What the workers came to: what is owed, or the first fault.
+fn gathered<C: Ledger, D: Ledger>(
+    alloc: Global,
+    desk: &mut HopDesk<C, D, Global>,
+    ends: Vec<Ended<C, D>>,
+) -> Result<Owed, TransferError> {
+    let shares = shares_back(alloc, ends)?;
+    match desk.gather(shares) {
         Ok(owed) => Ok(owed),
         Err((error, _)) => Err(TransferError::Desk(error)),
     }
@@ -163,7 +178,7 @@ fn run<
         jobs,
         &|server| { serve_all(rt, alloc, listener, &left, terms, server) },
     )?;
-    gathered(alloc, desk.into_inner(), ends)
+    gathered(alloc, &mut desk.into_inner(), ends)
 }
 
 /// Answers so many requests that come to a listener from a hop at which nothing is owed and nothing is open. A request's

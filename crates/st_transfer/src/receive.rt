@@ -45,6 +45,27 @@ where
     Err(TransferError::Turns)
 }
 
+/// Sets the stream's receive max, and then takes requests and delivers.
+fn receive_from<L: OpenListener, W: Write, K: Clock>(
+    listener: &L,
+    token: &str,
+    receiver: &mut Receiver<K>,
+    receive_max: u64,
+    writer: &mut Counting<W>,
+    turns: u64,
+) -> Result<u64, TransferError>
+where
+    L::Stream: Read + Write + OpenStream,
+    ensures told { ReceivesFrom (calls.set_receive_max receiver.old.end file_stream receive_max) (W.contents (device_of writer.old)) (W.contents (device_of writer.new)) result }
+    ensures flushed { OnOk result ((tally_of writer.new).flushed ≡ true) }
+    ensures faults { (tally_of writer.new).faults ≡ faults_told result (tally_of writer.old).faults }
+{
+    match receiver.end.set_receive_max(STREAM, receive_max) {
+        Ok(()) => receive_all(listener, token, receiver, writer, turns),
+        Err(error) => Err(TransferError::End(error)),
+    }
+}
+
 /// Answers the requests that come to a listener with this token, one after another, from an end that sends no Prepare of
 /// its own, and writes what comes on stream 1 to the output: after each request what can be read then, before the next is
 /// taken. Stream 1 may be credited up to `receive_max` units. It answers how many bytes it wrote, once the stream ended
@@ -73,8 +94,5 @@ where
     ensures faults { (tally_of writer.new).faults ≡ faults_told result (tally_of writer.old).faults }
 {
     let mut receiver = Receiver { end, clock, alloc };
-    match receiver.end.set_receive_max(STREAM, receive_max) {
-        Ok(()) => receive_all(&listener, token, &mut receiver, writer, turns),
-        Err(error) => Err(TransferError::End(error)),
-    }
+    receive_from(&listener, token, &mut receiver, receive_max, writer, turns)
 }

@@ -139,8 +139,17 @@ fn work_by<
     )
 }
 
+/// A hub whose stream 1 is open, with the writer of that stream, and a gauge of the hub.
+#[derive(Drop)]
+struct Opened<N: HubName<Global>> {
+    hub: HubState<N, Global>,
+    writer: StreamWriter<N, Global>,
+    gauge: Gauge<N, Global>,
+    seat: GaugeSeat<N, Global>,
+}
+
 /// Opens stream 1 and offers the money on it.
-fn open<N: HubName<Global>>(
+fn open_on<N: HubName<Global>>(
     hub: &mut HubState<N, Global>,
     money: u64,
 ) -> Result<StreamWriter<N, Global>, TransferError> {
@@ -154,7 +163,60 @@ fn open<N: HubName<Global>>(
     }
 }
 
-/// Feeds the stream while the workers work.
+/// A hub over a new end, with stream 1 open and the money offered there.
+fn open<N: HubName<Global>>(
+    end: EndState<Global>,
+    rings: Rings<Global>,
+    blank: Blank,
+    money: u64,
+) -> Result<Opened<N>, TransferError>
+    requires fresh { IsNew end }
+    requires gauge { rings.gauge ≡ N.gauge }
+    requires writes { (k : ℕ) → N.write_ring k ≡ ring_at rings.writes k }
+    requires reads { (k : ℕ) → N.read_ring k ≡ ring_at rings.reads k }
+    requires name { (blank.name ≡ N.name) × (blank.parts ≡ N.parts) × (blank.parts ≡ 64) }
+{
+    let (mut hub, gauge, seat) = HubState::<N, Global>::new(end, rings, blank);
+    match open_on(&mut hub, money) {
+        Ok(writer) => Ok(Opened {
+            hub,
+            writer,
+            gauge,
+            seat,
+        }),
+        Err(error) => Err(error),
+    }
+}
+
+/// Feeds the stream while the workers work: what they came to, and what was fed.
+fn feed_beside<
+    N: HubName<Global> + Send + Sync,
+    I: Read + Drop,
+    G: Read + Drop + Send,
+    R: Net<Listener = TcpListener, Stream = TcpStream> + Threads + Wait + std::time::Clock + Sync,
+>(
+    rt: &R,
+    alloc: Global,
+    hub: &Mutex<HubState<N, Global>>,
+    writer: StreamWriter<N, Global>,
+    gauge: &Gauge<N, Global>,
+    seat: &mut GaugeSeat<N, Global>,
+    input: I,
+    random: G,
+    terms: SendTerms<'_>,
+) -> (Result<Vec<WorkEnd>, AllocError>, Result<u64, FileError>)
+    ensures { IfOk result.1 (λ n. IfSome (I.remaining input) (λ bytes. n ≡ counted (length bytes))) }
+{
+    let theirs = Mutex::new(gauge.split(seat));
+    let ivs = Mutex::new(ReaderIvs::new(random));
+    thread::join(
+        rt,
+        || work_by(rt, alloc, hub, gauge, &theirs, &ivs, terms),
+        || feed(rt, alloc, input, writer, gauge, seat, terms.turns),
+    )
+}
+
+/// Sends over an opened hub.
 #[tactic(auto, using(crate::proofs::Outcomes::sent_whole))]
 fn transfer<
     N: HubName<Global> + Send + Sync,
@@ -164,23 +226,22 @@ fn transfer<
 >(
     rt: &R,
     alloc: Global,
-    hub: HubState<N, Global>,
-    writer: StreamWriter<N, Global>,
-    gauge: &Gauge<N, Global>,
-    seat: &mut GaugeSeat<N, Global>,
+    opened: Opened<N>,
     input: I,
     random: G,
     terms: SendTerms<'_>,
 ) -> Result<u64, TransferError>
     ensures { IfOk result (λ n. IfSome (I.remaining input) (λ bytes. n ≡ counted (length bytes))) }
 {
+    let Opened {
+        hub,
+        writer,
+        gauge,
+        mut seat,
+    } = opened;
     let hub = Mutex::new(hub);
-    let theirs = Mutex::new(gauge.split(seat));
-    let ivs = Mutex::new(ReaderIvs::new(random));
-    let (ends, fed) = thread::join(
-        rt,
-        || work_by(rt, alloc, &hub, gauge, &theirs, &ivs, terms),
-        || feed(rt, alloc, input, writer, gauge, seat, terms.turns),
+    let (ends, fed) = feed_beside(
+        rt, alloc, &hub, writer, &gauge, &mut seat, input, random, terms,
     );
     match ends {
         Ok(ends) => told(&hub.into_inner(), fed, &ends),
@@ -211,11 +272,8 @@ fn run<
     requires name { (blank.name ≡ N.name) × (blank.parts ≡ N.parts) × (blank.parts ≡ 64) }
     ensures { IfOk result (λ n. IfSome (I.remaining input) (λ bytes. n ≡ counted (length bytes))) }
 {
-    let (mut hub, gauge, mut seat) = HubState::<N, Global>::new(end, rings, blank);
-    match open(&mut hub, terms.money) {
-        Ok(writer) => transfer(
-            rt, alloc, hub, writer, &gauge, &mut seat, input, random, terms,
-        ),
+    match open::<N>(end, rings, blank, terms.money) {
+        Ok(opened) => transfer(rt, alloc, opened, input, random, terms),
         Err(error) => Err(error),
     }
 }
