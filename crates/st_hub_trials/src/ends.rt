@@ -36,27 +36,38 @@ fn end_between<A: Allocator + Copy>(
 
 /// The client `test.a`, which sends at most so many units in a Prepare.
 pub(crate) fn client<A: Allocator + Copy>(
+    rt: &impl Abort,
     alloc: A,
     packet_limit: u64,
-) -> Result<EndState<A>, EndError>
-    ensures { IfOk result IsNew }
+) -> EndState<A>
+    ensures { IsNew result }
 {
-    end_between(alloc, Role::Client, "test.a", "test.b", packet_limit)
+    match end_between(alloc, Role::Client, "test.a", "test.b", packet_limit) {
+        Ok(end) => end,
+        Err(refused) => panic!(rt; "refused {}", refused.number()),
+    }
 }
 
 /// The server `test.b`.
-pub(crate) fn server<A: Allocator + Copy>(alloc: A) -> Result<EndState<A>, EndError>
-    ensures { IfOk result IsNew }
+pub(crate) fn server<A: Allocator + Copy>(rt: &impl Abort, alloc: A) -> EndState<A>
+    ensures { IsNew result }
 {
-    end_between(alloc, Role::Server, "test.b", "test.a", 1_000)
+    match end_between(alloc, Role::Server, "test.b", "test.a", 1_000) {
+        Ok(end) => end,
+        Err(refused) => panic!(rt; "refused {}", refused.number()),
+    }
 }
 
 /// One moment.
 #[derive(Drop)]
 pub(crate) struct Still(Moment);
 
+pub(crate) fn moment(rt: &impl Abort) -> Moment {
+    Moment::new(0).expect(rt, "a moment")
+}
+
 pub(crate) fn stopped_clock(rt: &impl Abort) -> Still {
-    Still(Moment::new(0).expect(rt, "a moment"))
+    Still(moment(rt))
 }
 
 impl Clock for Still {

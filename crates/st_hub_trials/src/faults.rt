@@ -1,11 +1,11 @@
 //! Links of which one exchange fails, and an answer that is lost.
 use crate::ends::{Counting, stopped_clock};
-use crate::hubs::{Locked, Trial, credited, offer, run, work_on};
+use crate::hubs::{Locked, Trial, credited, offer, open, run, share_of, work_on};
 use crate::readings::Reading;
 use st_desk::{FailLink, Link, LinkFault};
 use st_hub::{CreditShare, HubLink};
 use st_oer::Counted;
-use st_queues::{GaugeSeat, HubName};
+use st_queues::{GaugeSeat, HubName, StreamWriter};
 use std::alloc::{AllocError, Global};
 use std::process::Abort;
 use std::sync::Wait;
@@ -24,9 +24,20 @@ fn go_on<
     link: &mut L,
     ivs: &mut Counting,
     reading: &mut Reading<M>,
-) -> Result<(), Fail> {
+) {
     work_on(rt, hubs, seat, link, ivs, 1);
-    reading.go_on(&mut *hubs.far.lock(rt))
+    reading.go_on(rt, &mut *hubs.far.lock(rt));
+}
+
+/// Writes a chunk where there is room.
+fn write<N: HubName<Global>>(
+    rt: &impl Abort,
+    alloc: Global,
+    writer: &mut StreamWriter<N, Global>,
+    bytes: &[u8],
+) {
+    let chunk = bytes.to_vec(alloc).expect(rt, "memory");
+    assert!(rt; writer.try_write(chunk).is_ok());
 }
 
 /// A turn after each piece of the input, and some more after its end.
@@ -42,19 +53,47 @@ fn carry<
     seat: &mut GaugeSeat<N, Global>,
     link: &mut L,
     input: &[u8],
-) -> Result<Reading<M>, Fail> {
-    let (_, mut writer, _reader) = hubs.near.lock(rt).open_stream()?;
-    let mut reading = Reading::new(alloc);
+    writer: &mut StreamWriter<N, Global>,
+    reading: &mut Reading<M>,
+) {
     let mut ivs = Counting { first: 1, next: 0 };
     for chunk in input.chunks(PIECE) {
-        writer.try_write(chunk.to_vec(alloc)?)?;
-        go_on(rt, hubs, seat, link, &mut ivs, &mut reading)?;
+        write(rt, alloc, writer, chunk);
+        go_on(rt, hubs, seat, link, &mut ivs, reading);
     }
-    writer.try_end()?;
+    assert!(rt; writer.try_end().is_ok());
     for _ in 0..8u8 {
-        go_on(rt, hubs, seat, link, &mut ivs, &mut reading)?;
+        go_on(rt, hubs, seat, link, &mut ivs, reading);
     }
-    Ok(reading)
+}
+
+/// Whether the input comes whole over a link.
+fn is_carried<
+    N: HubName<Global>,
+    M: HubName<Global>,
+    L: Link<Global>,
+    R: Wait + Abort + std::time::Clock,
+>(
+    rt: &R,
+    alloc: Global,
+    hubs: &Locked<N, M>,
+    seat: &mut GaugeSeat<N, Global>,
+    link: &mut L,
+    input: &[u8],
+) -> bool {
+    let (_, mut writer) = open(rt, &mut *hubs.near.lock(rt));
+    let mut reading = Reading::new(alloc);
+    carry(
+        rt,
+        alloc,
+        hubs,
+        seat,
+        link,
+        input,
+        &mut writer,
+        &mut reading,
+    );
+    reading.is_over && reading.read.as_slice() == input
 }
 
 /// With so many bytes a turn, 70,000 bytes take 20 exchanges at least.
@@ -71,42 +110,47 @@ fn input(alloc: Global) -> Result<Vec<u8>, AllocError> {
 
 /// Bytes come whole over a link of which the exchange number `k` fails.
 #[derive(Drop)]
-struct FailsAt {
+struct FailsAt<'a> {
     k: u64,
+    input: &'a [u8],
 }
 
-impl<R: Wait + Abort + std::time::Clock> Trial<R> for FailsAt {
+impl<R: Wait + Abort + std::time::Clock> Trial<R> for FailsAt<'_> {
     fn run<N: HubName<Global>, M: HubName<Global>>(
         &self,
         rt: &R,
         alloc: Global,
         hubs: &Locked<N, M>,
         seat: &mut GaugeSeat<N, Global>,
-    ) -> Result<(), Fail> {
-        let share = hubs.far.lock(rt).share()?;
+    ) {
+        let share = share_of(rt, &mut *hubs.far.lock(rt));
         let behind = HubLink::new(rt, &hubs.far, share, stopped_clock(rt));
         let mut link = FailLink::new(behind, self.k);
-        let input = input(alloc)?;
-        let reading = carry(rt, alloc, hubs, seat, &mut link, input.as_slice())?;
+        assert!(rt;
+            is_carried(rt, alloc, hubs, seat, &mut link, self.input),
+            "exchange {}",
+            self.k
+        );
         assert!(rt; link.faults() == 1);
-        assert!(rt; reading.is_over, "exchange {}", self.k);
-        assert!(rt; reading.read == input, "exchange {}", self.k);
-        Ok(())
     }
 }
 
 #[test]
 fn bytes_come_whole_where_one_exchange_fails(rt: HostRuntime) -> Result<(), Fail> {
+    let input = input(rt.alloc())?;
+    let input = input.as_slice();
     for k in 1..11u64 {
-        run(&rt, rt.alloc(), 1_000, &FailsAt { k })?;
+        run(&rt, rt.alloc(), 1_000, &FailsAt { k, input });
     }
     Ok(())
 }
 
 #[test]
 fn bytes_come_whole_where_a_later_exchange_fails(rt: HostRuntime) -> Result<(), Fail> {
+    let input = input(rt.alloc())?;
+    let input = input.as_slice();
     for k in 11..21u64 {
-        run(&rt, rt.alloc(), 1_000, &FailsAt { k })?;
+        run(&rt, rt.alloc(), 1_000, &FailsAt { k, input });
     }
     Ok(())
 }
@@ -163,19 +207,16 @@ impl<R: Wait + Abort + std::time::Clock> Trial<R> for LosesAnAnswer {
         alloc: Global,
         hubs: &Locked<N, M>,
         seat: &mut GaugeSeat<N, Global>,
-    ) -> Result<(), Fail> {
-        offer(rt, hubs, 10)?;
-        let share = hubs.far.lock(rt).share()?;
+    ) {
+        offer(rt, hubs, 10);
+        let share = share_of(rt, &mut *hubs.far.lock(rt));
         let share = send_losing(rt, hubs, seat, share);
         assert!(rt; hubs.gauge.seen(seat).paid == 10);
-        let mut shares = Vec::new(alloc);
-        shares.push(share)?;
-        assert!(rt; credited(rt, hubs, shares) == 20);
-        Ok(())
+        assert!(rt; credited(rt, alloc, hubs, share) == 20);
     }
 }
 
 #[test]
-fn a_lost_answer_is_credited_and_not_paid(rt: HostRuntime) -> Result<(), Fail> {
-    run(&rt, rt.alloc(), 1_000, &LosesAnAnswer)
+fn a_lost_answer_is_credited_and_not_paid(rt: HostRuntime) {
+    run(&rt, rt.alloc(), 1_000, &LosesAnAnswer);
 }

@@ -1,15 +1,14 @@
 //! Workers that wait for one another's exchanges.
 use crate::ends::{Counting, stopped_clock};
-use crate::hubs::{Locked, Trial, credited, offer, run, work_on};
+use crate::hubs::{Locked, Trial, credited, gathered, offer, run, share_of, work_on};
 use st_desk::{Link, LinkFault};
-use st_hub::{CreditShare, HubLink, WorkEnd};
+use st_hub::{CreditShare, HubLink, HubState, WorkEnd};
 use st_oer::Counted;
 use st_queues::{GaugeSeat, HubName};
 use std::alloc::Global;
 use std::process::Abort;
 use std::sync::Wait;
 use std::sync::atomic::{AtomicU64, Ordering};
-use std::test::Fail;
 use std::thread;
 use std::thread::Threads;
 use std::time::Duration;
@@ -119,24 +118,35 @@ fn both<
     (mine, theirs)
 }
 
+/// What the second hub was credited, by its two shares.
+fn credited_both<M: HubName<Global>>(
+    rt: &impl Abort,
+    alloc: Global,
+    hub: &mut HubState<M, Global>,
+    mine: CreditShare<M>,
+    theirs: CreditShare<M>,
+) -> u64 {
+    let mut shares = Vec::new(alloc);
+    assert!(rt; shares.push(mine).is_ok());
+    assert!(rt; shares.push(theirs).is_ok());
+    gathered(rt, hub, shares)
+}
+
 /// Two workers send 20 units, 10 in a Prepare. Each waits for the other's exchange: an exchange made under the lock never
 /// passes.
 pub(crate) fn two_workers<
     N: HubName<Global> + Send + Sync,
     M: HubName<Global> + Send + Sync,
     R: Threads + Wait + Abort + std::time::Clock + Sync,
->(rt: &R, alloc: Global, hubs: &Locked<N, M>, seat: &mut GaugeSeat<N, Global>) -> Result<(), Fail> {
-    offer(rt, hubs, 20)?;
-    let mine = hubs.far.lock(rt).share()?;
-    let theirs = hubs.far.lock(rt).share()?;
+>(rt: &R, alloc: Global, hubs: &Locked<N, M>, seat: &mut GaugeSeat<N, Global>) {
+    offer(rt, hubs, 20);
+    let mine = share_of(rt, &mut *hubs.far.lock(rt));
+    let theirs = share_of(rt, &mut *hubs.far.lock(rt));
     let counts = Counts::new();
     let (mine, theirs) = both(rt, hubs, &counts, seat, mine, theirs);
-    let mut shares = Vec::new(alloc);
-    shares.push(mine)?;
-    shares.push(theirs)?;
-    assert!(rt; credited(rt, hubs, shares) == 20);
+    let credited = credited_both(rt, alloc, &mut *hubs.far.lock(rt), mine, theirs);
+    assert!(rt; credited == 20);
     assert!(rt; counts.in_vain.load(Ordering::SeqCst) == 0);
-    Ok(())
 }
 
 /// One worker sends them alone.
@@ -150,22 +160,19 @@ impl<R: Wait + Abort + std::time::Clock> Trial<R> for OneWorker {
         alloc: Global,
         hubs: &Locked<N, M>,
         seat: &mut GaugeSeat<N, Global>,
-    ) -> Result<(), Fail> {
-        offer(rt, hubs, 20)?;
-        let mine = hubs.far.lock(rt).share()?;
+    ) {
+        offer(rt, hubs, 20);
+        let mine = share_of(rt, &mut *hubs.far.lock(rt));
         let counts = Counts::new();
         let (told, mine) = worker(rt, hubs, &counts, seat, mine, 1);
         assert!(rt; told == WorkEnd::Turns);
-        let mut shares = Vec::new(alloc);
-        shares.push(mine)?;
-        assert!(rt; credited(rt, hubs, shares) == 20);
+        assert!(rt; credited(rt, alloc, hubs, mine) == 20);
         assert!(rt; counts.in_vain.load(Ordering::SeqCst) == LOOKS);
-        Ok(())
     }
 }
 
 /// One worker alone gets the fault after so many looks, and sends the money again.
 #[test]
-fn one_worker_does_not(rt: HostRuntime) -> Result<(), Fail> {
-    run(&rt, rt.alloc(), 10, &OneWorker)
+fn one_worker_does_not(rt: HostRuntime) {
+    run(&rt, rt.alloc(), 10, &OneWorker);
 }

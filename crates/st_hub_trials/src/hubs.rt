@@ -5,15 +5,14 @@ ghost use Rattle.st_hub.specs.Hub.{IsNew};
 
 use crate::ends::{Counting, client, server, stopped_clock};
 use st_desk::Link;
-use st_end::{EndError, EndState};
+use st_end::EndState;
 use st_hub::{CreditShare, HubState, WorkEnd, work};
-use st_queues::{Gauge, GaugeSeat, HubName, Rings};
-use std::alloc::Global;
+use st_queues::{Gauge, GaugeSeat, HubName, Rings, StreamWriter};
+use std::alloc::{Allocator, Global};
 use std::marker::Brand;
 use std::process::Abort;
 use std::sync::ledger::Blank;
 use std::sync::{Mutex, Wait};
-use std::test::Fail;
 
 /// Two hubs under their locks, and the gauge of the first.
 #[derive(Drop)]
@@ -50,26 +49,92 @@ pub(crate) fn work_on<
     )
 }
 
+/// The number and the writer of a new stream.
+pub(crate) fn open<N: HubName<A>, A: Allocator + Copy>(
+    rt: &impl Abort,
+    hub: &mut HubState<N, A>,
+) -> (u8, StreamWriter<N, A>) {
+    match hub.open_stream() {
+        Ok((stream, writer, _)) => (stream, writer),
+        Err(refused) => panic!(rt; "refused {}", refused.number()),
+    }
+}
+
+/// A further writer of a stream.
+pub(crate) fn further<N: HubName<Global>>(
+    rt: &impl Abort,
+    hub: &mut HubState<N, Global>,
+    stream: u8,
+) -> StreamWriter<N, Global> {
+    match hub.add_writer(stream) {
+        Ok(writer) => writer,
+        Err(refused) => panic!(rt; "refused {}", refused.number()),
+    }
+}
+
+/// A share of a hub's credit.
+pub(crate) fn share_of<N: HubName<A>, A: Allocator + Copy>(
+    rt: &impl Abort,
+    hub: &mut HubState<N, A>,
+) -> CreditShare<N> {
+    match hub.share() {
+        Ok(share) => share,
+        Err(refused) => panic!(rt; "refused {}", refused.number()),
+    }
+}
+
+/// Pumps a hub that has the memory for it.
+pub(crate) fn pump<N: HubName<A>, A: Allocator + Copy>(rt: &impl Abort, hub: &mut HubState<N, A>) {
+    assert!(rt; hub.pump() == Ok(()));
+}
+
+/// Offers so many units on a new stream: its number.
+fn offer_at<N: HubName<Global>>(rt: &impl Abort, hub: &mut HubState<N, Global>, amount: u64) -> u8 {
+    let (stream, _writer) = open(rt, hub);
+    assert!(rt; hub.offer(stream, amount) == Ok(()));
+    stream
+}
+
 /// Offers so many units on a stream whose peer takes 100.
-pub(crate) fn offer<N: HubName<Global>, M: HubName<Global>, R: Wait>(
+pub(crate) fn offer<N: HubName<Global>, M: HubName<Global>, R: Wait + Abort>(
     rt: &R,
     hubs: &Locked<N, M>,
     amount: u64,
-) -> Result<(), EndError> {
-    let (stream, _writer, _reader) = hubs.near.lock(rt).open_stream()?;
-    hubs.near.lock(rt).offer(stream, amount)?;
-    hubs.far.lock(rt).set_receive_max(stream, 100)
+) {
+    let stream = offer_at(rt, &mut *hubs.near.lock(rt), amount);
+    let told = hubs.far.lock(rt).set_receive_max(stream, 100);
+    assert!(rt; told == Ok(()));
 }
 
-/// What the second hub was credited, by all its shares.
-pub(crate) fn credited<N: HubName<Global>, M: HubName<Global>, R: Wait + Abort>(
-    rt: &R,
-    hubs: &Locked<N, M>,
+/// What a hub was credited, by all its shares.
+pub(crate) fn gathered<M: HubName<Global>>(
+    rt: &impl Abort,
+    hub: &mut HubState<M, Global>,
     shares: Vec<CreditShare<M>>,
 ) -> u64 {
-    match hubs.far.lock(rt).gather(shares) {
+    match hub.gather(shares) {
         Ok(credited) => credited,
         Err((refused, _)) => panic!(rt; "refused {}", refused.number()),
+    }
+}
+
+/// What the second hub was credited, by its one share.
+pub(crate) fn credited<N: HubName<Global>, M: HubName<Global>, R: Wait + Abort>(
+    rt: &R,
+    alloc: Global,
+    hubs: &Locked<N, M>,
+    share: CreditShare<M>,
+) -> u64 {
+    let mut shares = Vec::new(alloc);
+    assert!(rt; shares.push(share).is_ok());
+    gathered(rt, &mut *hubs.far.lock(rt), shares)
+}
+
+/// The rings of a hub.
+pub(crate) fn new_rings<A: Allocator + Copy>(rt: &impl Abort, alloc: A) -> Rings<A> {
+    match Rings::new(alloc) {
+        Ok(rings) => rings,
+        Err(refused) => panic!(rt; "refused {}", refused.number()),
     }
 }
 
@@ -111,7 +176,7 @@ pub(crate) trait Trial<R> {
         alloc: Global,
         hubs: &Locked<N, M>,
         seat: &mut GaugeSeat<N, Global>,
-    ) -> Result<(), Fail>;
+    );
 }
 
 fn run_named<N: HubName<Global>, M: HubName<Global>, T: Trial<R>, R>(
@@ -124,7 +189,7 @@ fn run_named<N: HubName<Global>, M: HubName<Global>, T: Trial<R>, R>(
     far_rings: Rings<Global>,
     far_blank: Blank,
     trial: &T,
-) -> Result<(), Fail>
+)
     requires near { IsNew near }
     requires near_gauge { near_rings.gauge ≡ N.gauge }
     requires near_writes { (k : ℕ) → N.write_ring k ≡ ring_at near_rings.writes k }
@@ -139,25 +204,20 @@ fn run_named<N: HubName<Global>, M: HubName<Global>, T: Trial<R>, R>(
     let (hubs, mut seat) = new_hubs::<N, M>(
         near, near_rings, near_blank, far, far_rings, far_blank,
     );
-    trial.run(rt, alloc, &hubs, &mut seat)
+    trial.run(rt, alloc, &hubs, &mut seat);
 }
 
 /// Tries this with new hubs. The client sends at most so many units in a Prepare.
-pub(crate) fn run<T: Trial<R>, R>(
-    rt: &R,
-    alloc: Global,
-    packet_limit: u64,
-    trial: &T,
-) -> Result<(), Fail> {
+pub(crate) fn run<T: Trial<R>, R: Abort>(rt: &R, alloc: Global, packet_limit: u64, trial: &T) {
     run_named::<Brand, Brand, T, R>(
         rt,
         alloc,
-        client(alloc, packet_limit)?,
-        Rings::new(alloc)?,
+        client(rt, alloc, packet_limit),
+        new_rings(rt, alloc),
         Blank::new(64),
-        server(alloc)?,
-        Rings::new(alloc)?,
+        server(rt, alloc),
+        new_rings(rt, alloc),
         Blank::new(64),
         trial,
-    )
+    );
 }

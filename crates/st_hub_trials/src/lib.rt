@@ -15,6 +15,8 @@ mod links;
 #[cfg(test)]
 mod memory;
 #[cfg(test)]
+mod moved;
+#[cfg(test)]
 mod readings;
 #[cfg(test)]
 mod rings;

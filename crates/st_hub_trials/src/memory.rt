@@ -3,23 +3,21 @@ ghost use Rattle.std.specs.Prelude.{◌≡◌, ℕ};
 ghost use Rattle.st_queues.specs.Lanes.{ring_at};
 ghost use Rattle.st_hub.specs.Hub.{IsNew};
 
-use crate::ends::{Counting, client, server, stopped_clock};
+use crate::ends::{client, moment, server};
+use crate::hubs::{new_rings, pump, share_of};
 use refusing::Refusing;
-use st_desk::{Link, LinkFault};
 use st_end::{EndError, EndState};
-use st_hop::Outcome;
-use st_hub::{CreditShare, HubError, HubLink, HubState, WorkEnd, work};
+use st_hub::{CreditShare, HubError, HubState};
 use st_ilp::Moment;
-use st_queues::{Gauge, GaugeSeat, Got, HubName, Rings, StreamReader, StreamWriter, Totals};
+use st_queues::{Gauge, GaugeSeat, HubName, Rings, StreamReader, StreamWriter, Totals};
 use std::alloc::{Allocator, Global};
 use std::marker::Brand;
 use std::process::Abort;
 use std::sync::ledger::Blank;
 use std::sync::{Mutex, Wait};
-use std::test::Fail;
 
 /// What is tried with a hub whose memory `heap` gives and refuses: whether a request was refused.
-trait Refused<R> {
+pub(crate) trait Refused<R> {
     fn run<N: HubName<A>, A: Allocator + Copy>(
         &self,
         rt: &R,
@@ -28,7 +26,7 @@ trait Refused<R> {
         hub: &Mutex<HubState<N, A>>,
         gauge: &Gauge<N, A>,
         seat: &mut GaugeSeat<N, A>,
-    ) -> Result<bool, Fail>;
+    ) -> bool;
 }
 
 fn run_named<N: HubName<A>, A: Allocator + Copy, T: Refused<R>, R>(
@@ -39,7 +37,7 @@ fn run_named<N: HubName<A>, A: Allocator + Copy, T: Refused<R>, R>(
     rings: Rings<A>,
     blank: Blank,
     trial: &T,
-) -> Result<bool, Fail>
+) -> bool
     requires fresh { IsNew core }
     requires gauge { rings.gauge ≡ N.gauge }
     requires writes { (k : ℕ) → N.write_ring k ≡ ring_at rings.writes k }
@@ -51,47 +49,59 @@ fn run_named<N: HubName<A>, A: Allocator + Copy, T: Refused<R>, R>(
 }
 
 /// Tries this with a new hub.
-fn run<T: Refused<R>, R: Abort>(rt: &R, heap: &Refusing<Global>, trial: &T) -> Result<bool, Fail> {
+pub(crate) fn run<T: Refused<R>, R: Abort>(rt: &R, heap: &Refusing<Global>, trial: &T) -> bool {
     heap.refuse_none();
-    let Ok(rings) = Rings::new(heap) else {
-        panic!(rt; "no rings");
-    };
-    let core = server(heap)?;
-    run_named::<Brand, &Refusing<Global>, T, R>(rt, heap, heap, core, rings, Blank::new(64), trial)
-}
-
-fn moment() -> Result<Moment, HubError> {
-    Moment::new(0).ok_or(HubError::NoStream)
+    run_named::<Brand, &Refusing<Global>, T, R>(
+        rt,
+        heap,
+        heap,
+        server(rt, heap),
+        new_rings(rt, heap),
+        Blank::new(64),
+        trial,
+    )
 }
 
 /// A Prepare of 10 units that a client sends first.
-fn prepare(alloc: Global) -> Result<Vec<u8>, EndError> {
-    let mut end = client(alloc, 1_000)?;
-    let stream = end.open_stream()?;
-    end.offer(stream, 10)?;
-    let now = Moment::new(0).ok_or(EndError::NoStream)?;
-    match end.send([9; 12], now)? {
-        Some((flight, bytes)) => {
+pub(crate) fn prepare(rt: &impl Abort, alloc: Global) -> Vec<u8> {
+    let mut end = client(rt, alloc, 1_000);
+    assert!(rt; end.open_stream() == Ok(1));
+    assert!(rt; end.offer(1, 10) == Ok(()));
+    match end.send([9; 12], moment(rt)) {
+        Ok(Some((flight, bytes))) => {
             flight.abandon();
-            Ok(bytes)
+            bytes
         }
-        None => Err(EndError::NoStream),
+        Ok(None) | Err(_) => panic!(rt; "nothing goes"),
+    }
+}
+
+/// "ab" and "cd" are written.
+fn write_abcd<N: HubName<A>, A: Allocator + Copy>(
+    rt: &impl Abort,
+    alloc: A,
+    writer: &mut StreamWriter<N, A>,
+) {
+    for chunk in [b"ab", b"cd"] {
+        let bytes = Vec::from_slice(alloc, chunk.as_slice()).expect(rt, "memory");
+        assert!(rt; writer.try_write(bytes).is_ok());
     }
 }
 
 /// A stream of the hub's own, on which "ab" and "cd" are written.
-fn begin<N: HubName<A>, A: Allocator + Copy>(
+pub(crate) fn begin<N: HubName<A>, A: Allocator + Copy>(
     rt: &impl Abort,
     alloc: A,
     hub: &mut HubState<N, A>,
-) -> Result<(StreamWriter<N, A>, StreamReader<N, A>), Fail> {
-    hub.set_receive_max(1, 100)?;
-    let (_, mut writer, reader) = hub.open_stream()?;
-    for chunk in [b"ab", b"cd"] {
-        let bytes = Vec::from_slice(alloc, chunk.as_slice())?;
-        assert!(rt; writer.try_write(bytes).is_ok());
+) -> (StreamWriter<N, A>, StreamReader<N, A>) {
+    assert!(rt; hub.set_receive_max(1, 100) == Ok(()));
+    match hub.open_stream() {
+        Ok((_, mut writer, reader)) => {
+            write_abcd(rt, alloc, &mut writer);
+            (writer, reader)
+        }
+        Err(refused) => panic!(rt; "refused {}", refused.number()),
     }
-    Ok((writer, reader))
 }
 
 /// The calls that may want memory.
@@ -113,8 +123,11 @@ fn opened<N: HubName<A>, A: Allocator + Copy>(hub: &mut HubState<N, A>) -> Resul
 }
 
 /// How many turns were taken.
-fn taken<N: HubName<A>, A: Allocator + Copy>(hub: &mut HubState<N, A>) -> Result<u64, HubError> {
-    match hub.take_turn([9; 12], moment()?)? {
+fn taken<N: HubName<A>, A: Allocator + Copy>(
+    hub: &mut HubState<N, A>,
+    now: Moment,
+) -> Result<u64, HubError> {
+    match hub.take_turn([9; 12], now)? {
         Some(turn) => {
             turn.abandon();
             Ok(1)
@@ -124,12 +137,13 @@ fn taken<N: HubName<A>, A: Allocator + Copy>(hub: &mut HubState<N, A>) -> Result
 }
 
 /// What a Prepare came with, where it is fulfilled.
-fn came<N: HubName<A>, A: Allocator + Copy>(
+pub(crate) fn came<N: HubName<A>, A: Allocator + Copy>(
     hub: &mut HubState<N, A>,
     share: &mut CreditShare<N>,
     prepare: &[u8],
+    now: Moment,
 ) -> Result<u64, HubError> {
-    let received = hub.incoming(share, prepare, moment()?)?;
+    let received = hub.incoming(share, prepare, now)?;
     if received.reason == 0 {
         Ok(received.amount)
     } else {
@@ -142,6 +156,7 @@ fn came<N: HubName<A>, A: Allocator + Copy>(
 struct Called<'a> {
     call: Call,
     prepare: &'a [u8],
+    now: Moment,
     gives: u64,
     totals: Totals,
     /// The number of the request that is refused.
@@ -157,9 +172,45 @@ impl Called<'_> {
         match self.call {
             Call::OpenStream => opened(hub),
             Call::Pump => hub.pump().map(|()| 0),
-            Call::TakeTurn => taken(hub),
-            Call::Incoming => came(hub, share, self.prepare),
+            Call::TakeTurn => taken(hub, self.now),
+            Call::Incoming => came(hub, share, self.prepare, self.now),
         }
+    }
+
+    /// Makes the call, and makes it again where it was refused: whether it was.
+    fn call_again<N: HubName<A>, A: Allocator + Copy>(
+        &self,
+        rt: &impl Abort,
+        heap: &Refusing<Global>,
+        hub: &mut HubState<N, A>,
+        share: &mut CreditShare<N>,
+    ) -> bool {
+        heap.refuse_only(self.n);
+        let mut told = self.call(hub, share);
+        let was = heap.has_refused();
+        heap.refuse_none();
+        if was {
+            assert!(rt; told == Err(HubError::NoMemory));
+            told = self.call(hub, share);
+        }
+        assert!(rt; told == Ok(self.gives));
+        was
+    }
+
+    /// The call at a hub with a stream of its own.
+    fn call_at<N: HubName<A>, A: Allocator + Copy>(
+        &self,
+        rt: &impl Abort,
+        heap: &Refusing<Global>,
+        alloc: A,
+        hub: &mut HubState<N, A>,
+    ) -> bool {
+        let mut share = share_of(rt, hub);
+        let _ends = begin(rt, alloc, hub);
+        if self.call == Call::TakeTurn {
+            pump(rt, hub);
+        }
+        self.call_again(rt, heap, hub, &mut share)
     }
 }
 
@@ -173,24 +224,10 @@ impl<R: Wait + Abort> Refused<R> for Called<'_> {
         hub: &Mutex<HubState<N, A>>,
         gauge: &Gauge<N, A>,
         seat: &mut GaugeSeat<N, A>,
-    ) -> Result<bool, Fail> {
-        let hub = &mut *hub.lock(rt);
-        let mut share = hub.share()?;
-        let _ends = begin(rt, alloc, hub)?;
-        if self.call == Call::TakeTurn {
-            hub.pump()?;
-        }
-        heap.refuse_only(self.n);
-        let mut told = self.call(hub, &mut share);
-        let was = heap.has_refused();
-        heap.refuse_none();
-        if was {
-            assert!(rt; told == Err(HubError::NoMemory));
-            told = self.call(hub, &mut share);
-        }
-        assert!(rt; told == Ok(self.gives));
+    ) -> bool {
+        let was = self.call_at(rt, heap, alloc, &mut *hub.lock(rt));
         assert!(rt; gauge.seen(seat) == self.totals);
-        Ok(was)
+        was
     }
 }
 
@@ -211,224 +248,35 @@ fn refuse_each<R: Wait + Abort>(
     call: Call,
     gives: u64,
     totals: Totals,
-) -> Result<(), Fail> {
+) {
+    let now = moment(rt);
     for n in 1..1_000u64 {
         let called = Called {
             call,
             prepare,
+            now,
             gives,
             totals,
             n,
         };
-        if !run(rt, heap, &called)? {
+        if !run(rt, heap, &called) {
             assert!(rt; 1 < n, "{call:?} asks for none");
-            return Ok(());
+            return;
         }
     }
     panic!(rt; "no run met no refusal");
 }
 
 #[test]
-fn each_call_wants_memory_or_succeeds(rt: HostRuntime) -> Result<(), Fail> {
+fn each_call_wants_memory_or_succeeds(rt: HostRuntime) {
     let heap: Refusing<Global> = Refusing::new(rt.alloc());
-    let prepare = prepare(rt.alloc())?;
+    let prepare = prepare(&rt, rt.alloc());
     for (call, gives, totals) in [
         (Call::OpenStream, 4, totals(0, 0)),
         (Call::Pump, 0, totals(4, 0)),
         (Call::TakeTurn, 1, totals(4, 0)),
         (Call::Incoming, 10, totals(0, 10)),
     ] {
-        refuse_each(&rt, &heap, prepare.as_slice(), call, gives, totals)?;
+        refuse_each(&rt, &heap, prepare.as_slice(), call, gives, totals);
     }
-    Ok(())
-}
-
-/// Two chunks are pumped, where the request number n is refused: those moved stand, and the next is where it was.
-#[derive(Drop)]
-struct Pumped {
-    n: u64,
-}
-
-impl<R: Wait + Abort> Refused<R> for Pumped {
-    fn run<N: HubName<A>, A: Allocator + Copy>(
-        &self,
-        rt: &R,
-        heap: &Refusing<Global>,
-        alloc: A,
-        hub: &Mutex<HubState<N, A>>,
-        gauge: &Gauge<N, A>,
-        seat: &mut GaugeSeat<N, A>,
-    ) -> Result<bool, Fail> {
-        let hub = &mut *hub.lock(rt);
-        let (mut writer, _reader) = begin(rt, alloc, hub)?;
-        heap.refuse_only(self.n);
-        let _told = hub.pump();
-        let was = heap.has_refused();
-        heap.refuse_none();
-        let moved = match hub.meet_writer(&mut writer) {
-            0 => 4,
-            1 => 2,
-            _ => 0,
-        };
-        assert!(rt; gauge.seen(seat).accepted == moved);
-        hub.pump()?;
-        assert!(rt; gauge.seen(seat).accepted == 4);
-        assert!(rt; hub.meet_writer(&mut writer) == 0);
-        Ok(was)
-    }
-}
-
-#[test]
-fn what_was_moved_stands(rt: HostRuntime) -> Result<(), Fail> {
-    let heap: Refusing<Global> = Refusing::new(rt.alloc());
-    for n in 1..1_000u64 {
-        if !run(&rt, &heap, &Pumped { n })? {
-            assert!(rt; 1 < n);
-            return Ok(());
-        }
-    }
-    panic!(rt; "no run met no refusal");
-}
-
-/// The calls that never want memory, but for those that take a turn or shares.
-fn call_others<N: HubName<A>, A: Allocator + Copy>(
-    rt: &impl Abort,
-    hub: &mut HubState<N, A>,
-    writer: &mut StreamWriter<N, A>,
-    reader: &mut StreamReader<N, A>,
-) -> Result<(), Fail> {
-    hub.offer(1, 5)?;
-    hub.set_receive_max(1, 200)?;
-    assert!(rt; hub.share().is_ok());
-    assert!(rt; hub.add_writer(1).is_ok());
-    assert!(rt; hub.take_stream().is_some());
-    assert!(rt; hub.take_stream().is_none());
-    assert!(rt; hub.meet_writer(writer) == 2);
-    assert!(rt; hub.meet_reader(reader) == 0);
-    assert!(rt; matches!(reader.try_read(), Got::Nothing));
-    assert!(rt; !hub.settled(1) && !hub.is_failed() && !hub.t00().is_empty());
-    Ok(())
-}
-
-/// Ends a turn with a fault: how many requests for memory that made.
-fn finished<N: HubName<A>, A: Allocator + Copy>(
-    heap: &Refusing<Global>,
-    hub: &mut HubState<N, A>,
-) -> Result<u64, HubError> {
-    match hub.take_turn([9; 12], moment()?)? {
-        Some(turn) => {
-            heap.refuse_from(1);
-            hub.finish_turn(turn, Outcome::Fault)?;
-            Ok(heap.asked())
-        }
-        None => Err(HubError::NoStream),
-    }
-}
-
-/// A hub whose peer opened stream 1.
-#[derive(Drop)]
-struct AskNone<'a> {
-    prepare: &'a [u8],
-}
-
-impl<R: Wait + Abort> Refused<R> for AskNone<'_> {
-    fn run<N: HubName<A>, A: Allocator + Copy>(
-        &self,
-        rt: &R,
-        heap: &Refusing<Global>,
-        alloc: A,
-        hub: &Mutex<HubState<N, A>>,
-        _gauge: &Gauge<N, A>,
-        _seat: &mut GaugeSeat<N, A>,
-    ) -> Result<bool, Fail> {
-        let hub = &mut *hub.lock(rt);
-        let mut share = hub.share()?;
-        let (mut writer, mut reader) = begin(rt, alloc, hub)?;
-        assert!(rt; came(hub, &mut share, self.prepare) == Ok(10));
-        heap.refuse_from(1);
-        call_others(rt, hub, &mut writer, &mut reader)?;
-        assert!(rt; heap.asked() == 0);
-        heap.refuse_none();
-        assert!(rt; finished(heap, hub) == Ok(0));
-        Ok(heap.has_refused())
-    }
-}
-
-#[test]
-fn the_other_calls_ask_for_no_memory(rt: HostRuntime) -> Result<(), Fail> {
-    let heap: Refusing<Global> = Refusing::new(rt.alloc());
-    let prepare = prepare(rt.alloc())?;
-    let prepare = prepare.as_slice();
-    assert!(rt; !run(&rt, &heap, &AskNone { prepare })?);
-    Ok(())
-}
-
-/// A hub is made and its shares come back.
-#[derive(Drop)]
-struct Gathers;
-
-impl<R: Wait + Abort> Refused<R> for Gathers {
-    fn run<N: HubName<A>, A: Allocator + Copy>(
-        &self,
-        rt: &R,
-        heap: &Refusing<Global>,
-        alloc: A,
-        hub: &Mutex<HubState<N, A>>,
-        _gauge: &Gauge<N, A>,
-        _seat: &mut GaugeSeat<N, A>,
-    ) -> Result<bool, Fail> {
-        let hub = &mut *hub.lock(rt);
-        let mut shares = Vec::new(alloc);
-        shares.push(hub.share()?)?;
-        heap.refuse_from(1);
-        assert!(rt; matches!(hub.gather(shares), Ok(0)));
-        assert!(rt; heap.asked() == 0);
-        Ok(false)
-    }
-}
-
-#[test]
-fn shares_are_gathered_without_memory(rt: HostRuntime) -> Result<(), Fail> {
-    let heap: Refusing<Global> = Refusing::new(rt.alloc());
-    assert!(rt; !run(&rt, &heap, &Gathers)?);
-    Ok(())
-}
-
-/// A worker and a link whose hub finds no memory.
-#[derive(Drop)]
-struct Starved<'a> {
-    prepare: &'a [u8],
-}
-
-impl<R: Wait + Abort + std::time::Clock> Refused<R> for Starved<'_> {
-    fn run<N: HubName<A>, A: Allocator + Copy>(
-        &self,
-        rt: &R,
-        heap: &Refusing<Global>,
-        alloc: A,
-        hub: &Mutex<HubState<N, A>>,
-        gauge: &Gauge<N, A>,
-        seat: &mut GaugeSeat<N, A>,
-    ) -> Result<bool, Fail> {
-        let share = hub.lock(rt).share()?;
-        let _ends = begin(rt, alloc, &mut *hub.lock(rt))?;
-        let mut link = HubLink::new(rt, hub, share, stopped_clock(rt));
-        heap.refuse_from(1);
-        let told = link.exchange(self.prepare);
-        assert!(rt; told.err() == Some(LinkFault::NoMemory));
-        let mut ivs = Counting { first: 1, next: 0 };
-        let mut clock = stopped_clock(rt);
-        let told = work(rt, hub, &mut link, &mut ivs, &mut clock, gauge, seat, 1);
-        assert!(rt; told == WorkEnd::NoMemory);
-        Ok(heap.has_refused())
-    }
-}
-
-#[test]
-fn a_worker_without_memory_tells_it(rt: HostRuntime) -> Result<(), Fail> {
-    let heap: Refusing<Global> = Refusing::new(rt.alloc());
-    let prepare = prepare(rt.alloc())?;
-    let prepare = prepare.as_slice();
-    assert!(rt; run(&rt, &heap, &Starved { prepare })?);
-    Ok(())
 }

@@ -1,9 +1,10 @@
 //! What is read at a hub.
 
+use crate::hubs::pump;
 use st_hub::HubState;
 use st_queues::{Got, HubName, StreamReader};
-use std::alloc::{AllocError, Global};
-use std::test::Fail;
+use std::alloc::Global;
+use std::process::Abort;
 
 /// What was read of the lowest stream that the peer opened.
 #[derive(Drop)]
@@ -15,17 +16,18 @@ pub(crate) struct Reading<N: HubName<Global>> {
 
 /// Reads all that stands in a ring: whether that is the end.
 fn read_all<N: HubName<Global>>(
+    rt: &impl Abort,
     reader: &mut StreamReader<N, Global>,
     read: &mut Vec<u8>,
-) -> Result<bool, AllocError> {
+) -> bool {
     for _ in 0..64u8 {
         match reader.try_read() {
-            Got::Bytes(bytes) => read.extend_from_slice(bytes.as_slice())?,
-            Got::End => return Ok(true),
-            _ => return Ok(false),
+            Got::Bytes(bytes) => assert!(rt; read.extend_from_slice(bytes.as_slice()).is_ok()),
+            Got::End => return true,
+            _ => return false,
         }
     }
-    Ok(false)
+    false
 }
 
 impl<N: HubName<Global>> Reading<N> {
@@ -38,14 +40,13 @@ impl<N: HubName<Global>> Reading<N> {
     }
 
     /// Pumps the hub, and reads what came of the stream.
-    pub(crate) fn go_on(&mut self, hub: &mut HubState<N, Global>) -> Result<(), Fail> {
-        hub.pump()?;
+    pub(crate) fn go_on(&mut self, rt: &impl Abort, hub: &mut HubState<N, Global>) {
+        pump(rt, hub);
         if self.reader.is_none() {
             self.reader = hub.take_stream().map(|(_, _, reader)| reader);
         }
         if let Some(reader) = &mut self.reader {
-            self.is_over = read_all(reader, &mut self.read)?;
+            self.is_over = read_all(rt, reader, &mut self.read);
         }
-        Ok(())
     }
 }

@@ -1,11 +1,10 @@
 //! The write rings of one stream.
-use crate::hubs::{Locked, Trial, run};
+use crate::hubs::{Locked, Trial, further, open, pump, run};
 use st_hub::HubState;
 use st_queues::{GaugeSeat, HubName, QueueError, StreamWriter};
-use std::alloc::{AllocError, Global};
+use std::alloc::Global;
 use std::process::Abort;
 use std::sync::Wait;
-use std::test::Fail;
 
 /// Whether a chunk is refused for its length.
 fn has_bad_length<N: HubName<Global>>(
@@ -31,26 +30,24 @@ fn gives_back(told: Result<(), QueueError<Global>>, chunk: &[u8]) -> bool {
 
 /// Whether a chunk is given back by a full ring, and an end is refused there.
 fn is_full<N: HubName<Global>>(
-    alloc: Global,
-    writer: &mut StreamWriter<N, Global>,
-) -> Result<bool, AllocError> {
-    let chunk = b"z".to_vec(alloc)?;
-    Ok(gives_back(writer.try_write(chunk), b"z") && gives_back(writer.try_end(), b""))
-}
-
-/// A fresh ring takes 64 chunks of one byte, and then no chunk and no end.
-fn fill<N: HubName<Global>>(
     rt: &impl Abort,
     alloc: Global,
     writer: &mut StreamWriter<N, Global>,
-) -> Result<(), AllocError> {
+) -> bool {
+    let chunk = b"z".to_vec(alloc).expect(rt, "memory");
+    gives_back(writer.try_write(chunk), b"z") && gives_back(writer.try_end(), b"")
+}
+
+/// A fresh ring takes 64 chunks of one byte, and then no chunk and no end.
+fn fill<N: HubName<Global>>(rt: &impl Abort, alloc: Global, writer: &mut StreamWriter<N, Global>) {
     assert!(rt; has_bad_length(writer, Vec::new(alloc)));
-    assert!(rt; has_bad_length(writer, Vec::from_elem(alloc, 7, 4097)?));
+    let long = Vec::from_elem(alloc, 7, 4097).expect(rt, "memory");
+    assert!(rt; has_bad_length(writer, long));
     for _ in 0..64u8 {
-        assert!(rt; writer.try_write(b"a".to_vec(alloc)?).is_ok());
+        let chunk = b"a".to_vec(alloc).expect(rt, "memory");
+        assert!(rt; writer.try_write(chunk).is_ok());
     }
-    assert!(rt; is_full(alloc, writer)?);
-    Ok(())
+    assert!(rt; is_full(rt, alloc, writer));
 }
 
 /// The further writers of a stream, each of which has filled its ring.
@@ -59,14 +56,14 @@ fn fill_further<N: HubName<Global>>(
     alloc: Global,
     hub: &mut HubState<N, Global>,
     stream: u8,
-) -> Result<Vec<StreamWriter<N, Global>>, Fail> {
+) -> Vec<StreamWriter<N, Global>> {
     let mut writers = Vec::new(alloc);
     for _ in 0..7u8 {
-        let mut writer = hub.add_writer(stream)?;
-        fill(rt, alloc, &mut writer)?;
-        writers.push(writer)?;
+        let mut writer = further(rt, hub, stream);
+        fill(rt, alloc, &mut writer);
+        assert!(rt; writers.push(writer).is_ok());
     }
-    Ok(writers)
+    writers
 }
 
 /// Each writer's ring has so many items.
@@ -82,6 +79,16 @@ fn meet_all<N: HubName<Global>>(
 }
 
 /// Each of a stream's eight rings is filled, and pumped.
+fn fill_all<N: HubName<Global>>(rt: &impl Abort, alloc: Global, hub: &mut HubState<N, Global>) {
+    let (stream, mut first) = open(rt, hub);
+    fill(rt, alloc, &mut first);
+    let mut writers = fill_further(rt, alloc, hub, stream);
+    assert!(rt; writers.push(first).is_ok());
+    meet_all(rt, hub, &mut writers, 64);
+    pump(rt, hub);
+    meet_all(rt, hub, &mut writers, 0);
+}
+
 #[derive(Drop)]
 struct EightRings;
 
@@ -92,23 +99,15 @@ impl<R: Wait + Abort> Trial<R> for EightRings {
         alloc: Global,
         hubs: &Locked<N, M>,
         seat: &mut GaugeSeat<N, Global>,
-    ) -> Result<(), Fail> {
-        let hub = &mut *hubs.near.lock(rt);
-        let (stream, mut first, _reader) = hub.open_stream()?;
-        fill(rt, alloc, &mut first)?;
-        let mut writers = fill_further(rt, alloc, hub, stream)?;
-        writers.push(first)?;
-        meet_all(rt, hub, &mut writers, 64);
-        hub.pump()?;
-        meet_all(rt, hub, &mut writers, 0);
+    ) {
+        fill_all(rt, alloc, &mut *hubs.near.lock(rt));
         assert!(rt; hubs.gauge.seen(seat).accepted == 512);
-        Ok(())
     }
 }
 
 #[test]
-fn each_of_eight_rings_takes_64_items(rt: HostRuntime) -> Result<(), Fail> {
-    run(&rt, rt.alloc(), 1_000, &EightRings)
+fn each_of_eight_rings_takes_64_items(rt: HostRuntime) {
+    run(&rt, rt.alloc(), 1_000, &EightRings);
 }
 
 /// A seat that asks to stop.
@@ -122,18 +121,17 @@ impl<R: Abort> Trial<R> for AskedToStop {
         _alloc: Global,
         hubs: &Locked<N, M>,
         seat: &mut GaugeSeat<N, Global>,
-    ) -> Result<(), Fail> {
+    ) {
         let gauge = &hubs.gauge;
         let mut other = gauge.split(seat);
         assert!(rt; !gauge.stopped(&mut other));
         gauge.ask_stop(seat);
         assert!(rt; gauge.stopped(seat));
         assert!(rt; gauge.stopped(&mut other));
-        Ok(())
     }
 }
 
 #[test]
-fn who_asked_to_stop_knows_it(rt: HostRuntime) -> Result<(), Fail> {
-    run(&rt, rt.alloc(), 1_000, &AskedToStop)
+fn who_asked_to_stop_knows_it(rt: HostRuntime) {
+    run(&rt, rt.alloc(), 1_000, &AskedToStop);
 }

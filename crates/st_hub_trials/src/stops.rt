@@ -1,6 +1,6 @@
 //! Why workers end.
 use crate::ends::{Counting, stopped_clock};
-use crate::hubs::{Locked, Trial, offer, run, work_on};
+use crate::hubs::{Locked, Trial, offer, run, share_of, work_on};
 use st_desk::{Link, LinkFault};
 use st_hub::{CreditShare, HubLink, Ivs, WorkEnd, work};
 use st_oer::Counted;
@@ -8,7 +8,6 @@ use st_queues::{Gauge, GaugeSeat, HubName};
 use std::alloc::Global;
 use std::process::Abort;
 use std::sync::Wait;
-use std::test::Fail;
 use std::thread;
 use std::thread::Threads;
 use std::time::Duration;
@@ -89,15 +88,14 @@ pub(crate) fn two_stop<
     N: HubName<Global> + Send + Sync,
     M: HubName<Global> + Send + Sync,
     R: Threads + Wait + Abort + std::time::Clock + Sync,
->(rt: &R, hubs: &Locked<N, M>, seat: &mut GaugeSeat<N, Global>) -> Result<(), Fail> {
-    offer(rt, hubs, 20)?;
-    let mine = hubs.far.lock(rt).share()?;
-    let theirs = hubs.far.lock(rt).share()?;
+>(rt: &R, hubs: &Locked<N, M>, seat: &mut GaugeSeat<N, Global>) {
+    offer(rt, hubs, 20);
+    let mine = share_of(rt, &mut *hubs.far.lock(rt));
+    let theirs = share_of(rt, &mut *hubs.far.lock(rt));
     let mut watching = hubs.gauge.split(seat);
     let (told, is_paid) = all(rt, hubs, seat, &mut watching, mine, theirs);
     assert!(rt; is_paid);
     assert!(rt; told == (WorkEnd::Stopped, WorkEnd::Stopped));
-    Ok(())
 }
 
 /// IVs that a failing device gives none of.
@@ -176,23 +174,18 @@ impl<R: Wait + Abort + std::time::Clock> Trial<R> for Ends {
         alloc: Global,
         hubs: &Locked<N, M>,
         seat: &mut GaugeSeat<N, Global>,
-    ) -> Result<(), Fail> {
+    ) {
         let mut ivs = Counting { first: 1, next: 0 };
-        let told = ended(rt, alloc, hubs, seat, &mut ivs);
-        assert!(rt; told == WorkEnd::Turns);
-        offer(rt, hubs, 10)?;
-        let told = ended(rt, alloc, hubs, seat, &mut NoIvs);
-        assert!(rt; told == WorkEnd::IvFault);
-        let told = ended(rt, alloc, hubs, seat, &mut ivs);
-        assert!(rt; told == WorkEnd::Failed);
+        assert!(rt; ended(rt, alloc, hubs, seat, &mut ivs) == WorkEnd::Turns);
+        offer(rt, hubs, 10);
+        assert!(rt; ended(rt, alloc, hubs, seat, &mut NoIvs) == WorkEnd::IvFault);
+        assert!(rt; ended(rt, alloc, hubs, seat, &mut ivs) == WorkEnd::Failed);
         hubs.gauge.ask_stop(seat);
-        let told = ended(rt, alloc, hubs, seat, &mut ivs);
-        assert!(rt; told == WorkEnd::Stopped);
-        Ok(())
+        assert!(rt; ended(rt, alloc, hubs, seat, &mut ivs) == WorkEnd::Stopped);
     }
 }
 
 #[test]
-fn a_worker_tells_why_it_ended(rt: HostRuntime) -> Result<(), Fail> {
-    run(&rt, rt.alloc(), 1_000, &Ends)
+fn a_worker_tells_why_it_ended(rt: HostRuntime) {
+    run(&rt, rt.alloc(), 1_000, &Ends);
 }

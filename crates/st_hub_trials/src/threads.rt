@@ -5,7 +5,7 @@ ghost use Rattle.st_hub.specs.Hub.{IsNew};
 
 use crate::ends::{client, server};
 use crate::gates::two_workers;
-use crate::hubs::new_hubs;
+use crate::hubs::{new_hubs, new_rings};
 use crate::stops::two_stop;
 use st_end::EndState;
 use st_queues::{HubName, Rings};
@@ -14,7 +14,6 @@ use std::marker::Brand;
 use std::process::Abort;
 use std::sync::Wait;
 use std::sync::ledger::Blank;
-use std::test::Fail;
 use std::thread::Threads;
 
 /// What is tried with two workers.
@@ -38,7 +37,7 @@ fn run_named<
     far_rings: Rings<Global>,
     far_blank: Blank,
     workers: Workers,
-) -> Result<(), Fail>
+)
     requires near { IsNew near }
     requires near_gauge { near_rings.gauge ≡ N.gauge }
     requires near_writes { (k : ℕ) → N.write_ring k ≡ ring_at near_rings.writes k }
@@ -64,26 +63,26 @@ fn run<R: Threads + Wait + Abort + std::time::Clock + Sync>(
     rt: &R,
     alloc: Global,
     workers: Workers,
-) -> Result<(), Fail> {
+) {
     run_named::<Brand, Brand, R>(
         rt,
         alloc,
-        client(alloc, 10)?,
-        Rings::new(alloc)?,
+        client(rt, alloc, 10),
+        new_rings(rt, alloc),
         Blank::new(64),
-        server(alloc)?,
-        Rings::new(alloc)?,
+        server(rt, alloc),
+        new_rings(rt, alloc),
         Blank::new(64),
         workers,
-    )
+    );
 }
 
 #[test]
-fn two_workers_pass_the_gate(rt: HostRuntime) -> Result<(), Fail> {
-    run(&rt, rt.alloc(), Workers::PassTheGate)
+fn two_workers_pass_the_gate(rt: HostRuntime) {
+    run(&rt, rt.alloc(), Workers::PassTheGate);
 }
 
 #[test]
-fn no_worker_of_a_stopped_hub_lives_on(rt: HostRuntime) -> Result<(), Fail> {
-    run(&rt, rt.alloc(), Workers::Stop)
+fn no_worker_of_a_stopped_hub_lives_on(rt: HostRuntime) {
+    run(&rt, rt.alloc(), Workers::Stop);
 }

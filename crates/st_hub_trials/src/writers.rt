@@ -1,13 +1,21 @@
 //! Chunks that are pumped, from one writer and from several.
-use crate::hubs::{Locked, Trial, run};
-use crate::links::send_over;
+use crate::hubs::{Locked, Trial, further, open, pump, run, share_of};
+use crate::links::{send_over, write_two};
 use crate::readings::Reading;
-use st_hub::{HubError, HubState};
+use st_hub::HubState;
 use st_queues::{GaugeSeat, HubName, StreamWriter};
 use std::alloc::Global;
 use std::process::Abort;
 use std::sync::Wait;
-use std::test::Fail;
+
+/// Two bytes are written and pumped.
+fn write_one<N: HubName<Global>>(rt: &impl Abort, alloc: Global, hub: &mut HubState<N, Global>) {
+    let (_, mut writer) = open(rt, hub);
+    let chunk = b"ab".to_vec(alloc).expect(rt, "memory");
+    assert!(rt; writer.try_write(chunk).is_ok());
+    pump(rt, hub);
+    assert!(rt; hub.meet_writer(&mut writer) == 0);
+}
 
 /// What was written is what the gauge tells.
 #[derive(Drop)]
@@ -20,25 +28,20 @@ impl<R: Wait + Abort> Trial<R> for ReadsBack {
         alloc: Global,
         hubs: &Locked<N, M>,
         seat: &mut GaugeSeat<N, Global>,
-    ) -> Result<(), Fail> {
-        let hub = &mut *hubs.near.lock(rt);
-        let (_, mut writer, _reader) = hub.open_stream()?;
-        writer.try_write(b"ab".to_vec(alloc)?)?;
-        hub.pump()?;
-        assert!(rt; hub.meet_writer(&mut writer) == 0);
+    ) {
+        write_one(rt, alloc, &mut *hubs.near.lock(rt));
         assert!(rt; hubs.gauge.seen(seat).accepted == 2);
-        Ok(())
     }
 }
 
 #[test]
-fn reads_back(rt: HostRuntime) -> Result<(), Fail> {
-    run(&rt, rt.alloc(), 1_000, &ReadsBack)
+fn reads_back(rt: HostRuntime) {
+    run(&rt, rt.alloc(), 1_000, &ReadsBack);
 }
 
-/// The number of a refusal, 0 where there is none.
-fn refusal<T: Drop>(told: Result<T, HubError>) -> u8 {
-    match told {
+/// The number of a refusal of a further writer, 0 where there is none.
+fn refusal<N: HubName<Global>>(hub: &mut HubState<N, Global>, stream: u8) -> u8 {
+    match hub.add_writer(stream) {
         Ok(_) => 0,
         Err(refused) => refused.number(),
     }
@@ -51,36 +54,39 @@ fn end_two<N: HubName<Global>>(
     stream: u8,
     first: &mut StreamWriter<N, Global>,
     second: &mut StreamWriter<N, Global>,
-) -> Result<(), Fail> {
-    first.try_end()?;
-    hub.pump()?;
+) {
+    assert!(rt; first.try_end().is_ok());
+    pump(rt, hub);
     assert!(rt; hub.offer(stream, 0) == Ok(()));
-    second.try_end()?;
-    hub.pump()?;
+    assert!(rt; second.try_end().is_ok());
+    pump(rt, hub);
     assert!(rt; hub.offer(stream, 0).err().map(|e| e.number()) == Some(51));
-    assert!(rt; refusal(hub.add_writer(stream)) == 79);
-    Ok(())
+    assert!(rt; refusal(hub, stream) == 79);
 }
 
 /// One writer puts "aa" and "bb", the other one "cc", and both end.
-fn write_two<N: HubName<Global>>(
-    rt: &impl Abort,
-    alloc: Global,
-    hub: &mut HubState<N, Global>,
-) -> Result<(), Fail> {
-    assert!(rt; refusal(hub.add_writer(1)) == 50);
-    let (stream, mut first, _reader) = hub.open_stream()?;
-    let mut second = hub.add_writer(stream)?;
-    first.try_write(b"aa".to_vec(alloc)?)?;
-    first.try_write(b"bb".to_vec(alloc)?)?;
-    second.try_write(b"cc".to_vec(alloc)?)?;
-    hub.pump()?;
-    end_two(rt, hub, stream, &mut first, &mut second)
+fn write_all<N: HubName<Global>>(rt: &impl Abort, alloc: Global, hub: &mut HubState<N, Global>) {
+    assert!(rt; refusal(hub, 1) == 50);
+    let (stream, mut first) = open(rt, hub);
+    let mut second = further(rt, hub, stream);
+    write_two(rt, alloc, &mut first, b"aa", b"bb");
+    let chunk = b"cc".to_vec(alloc).expect(rt, "memory");
+    assert!(rt; second.try_write(chunk).is_ok());
+    pump(rt, hub);
+    end_two(rt, hub, stream, &mut first, &mut second);
 }
 
 /// Whether each writer's chunks are in their order and whole.
 fn is_merged(bytes: &[u8]) -> bool {
     bytes == b"aabbcc".as_slice() || bytes == b"aaccbb".as_slice() || bytes == b"ccaabb".as_slice()
+}
+
+/// What both wrote comes whole.
+fn read_merged<M: HubName<Global>>(rt: &impl Abort, alloc: Global, hub: &mut HubState<M, Global>) {
+    let mut reading = Reading::new(alloc);
+    reading.go_on(rt, hub);
+    assert!(rt; reading.is_over);
+    assert!(rt; is_merged(reading.read.as_slice()));
 }
 
 /// Two writers of one stream, whose bytes are read at the other hub.
@@ -94,25 +100,30 @@ impl<R: Wait + Abort + std::time::Clock> Trial<R> for TwoWriters {
         alloc: Global,
         hubs: &Locked<N, M>,
         seat: &mut GaugeSeat<N, Global>,
-    ) -> Result<(), Fail> {
-        write_two(rt, alloc, &mut *hubs.near.lock(rt))?;
+    ) {
+        write_all(rt, alloc, &mut *hubs.near.lock(rt));
         assert!(rt; hubs.gauge.seen(seat).accepted == 6);
-        let share = hubs.far.lock(rt).share()?;
+        let share = share_of(rt, &mut *hubs.far.lock(rt));
         let _share = send_over(rt, hubs, seat, share, 8);
-        let mut reading = Reading::new(alloc);
-        reading.go_on(&mut *hubs.far.lock(rt))?;
-        assert!(rt; reading.is_over);
-        assert!(rt; is_merged(reading.read.as_slice()));
-        Ok(())
+        read_merged(rt, alloc, &mut *hubs.far.lock(rt));
     }
 }
 
 #[test]
-fn two_writers_are_merged(rt: HostRuntime) -> Result<(), Fail> {
-    run(&rt, rt.alloc(), 1_000, &TwoWriters)
+fn two_writers_are_merged(rt: HostRuntime) {
+    run(&rt, rt.alloc(), 1_000, &TwoWriters);
 }
 
 /// Seven further writers are given, and the eighth is refused.
+fn add_nine<N: HubName<Global>>(rt: &impl Abort, hub: &mut HubState<N, Global>) {
+    let (stream, _writer) = open(rt, hub);
+    for _ in 0..7u8 {
+        assert!(rt; refusal(hub, stream) == 0);
+    }
+    assert!(rt; refusal(hub, stream) == 76);
+    assert!(rt; hub.take_stream().is_none());
+}
+
 #[derive(Drop)]
 struct NineWriters;
 
@@ -123,19 +134,12 @@ impl<R: Wait + Abort> Trial<R> for NineWriters {
         _alloc: Global,
         hubs: &Locked<N, M>,
         _seat: &mut GaugeSeat<N, Global>,
-    ) -> Result<(), Fail> {
-        let hub = &mut *hubs.near.lock(rt);
-        let (stream, _writer, _reader) = hub.open_stream()?;
-        for _ in 0..7u8 {
-            assert!(rt; refusal(hub.add_writer(stream)) == 0);
-        }
-        assert!(rt; refusal(hub.add_writer(stream)) == 76);
-        assert!(rt; hub.take_stream().is_none());
-        Ok(())
+    ) {
+        add_nine(rt, &mut *hubs.near.lock(rt));
     }
 }
 
 #[test]
-fn a_ninth_writer_is_refused(rt: HostRuntime) -> Result<(), Fail> {
-    run(&rt, rt.alloc(), 1_000, &NineWriters)
+fn a_ninth_writer_is_refused(rt: HostRuntime) {
+    run(&rt, rt.alloc(), 1_000, &NineWriters);
 }

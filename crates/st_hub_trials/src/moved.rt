@@ -1,0 +1,279 @@
+//! A server's hub while memory is refused: what it moved stands, a worker tells it, and the other calls ask for none.
+
+use crate::ends::{Counting, moment, stopped_clock};
+use crate::hubs::{pump, share_of};
+use crate::memory::{Refused, begin, came, prepare, run};
+use refusing::Refusing;
+use st_desk::{Link, LinkFault};
+use st_hop::Outcome;
+use st_hub::{HubError, HubLink, HubState, WorkEnd, work};
+use st_ilp::Moment;
+use st_queues::{Gauge, GaugeSeat, Got, HubName, StreamReader, StreamWriter};
+use std::alloc::{Allocator, Global};
+use std::process::Abort;
+use std::sync::{Mutex, Wait};
+
+/// Two chunks are pumped, where the request number n is refused: those moved stand, and the next is where it was.
+#[derive(Drop)]
+struct Pumped {
+    n: u64,
+}
+
+/// Pumps, while this request is refused: whether one was.
+fn pump_refused<N: HubName<A>, A: Allocator + Copy>(
+    heap: &Refusing<Global>,
+    hub: &mut HubState<N, A>,
+    n: u64,
+) -> bool {
+    heap.refuse_only(n);
+    let _told = hub.pump();
+    let was = heap.has_refused();
+    heap.refuse_none();
+    was
+}
+
+/// How many bytes of the two chunks are not in the writer's ring any more.
+fn moved<N: HubName<A>, A: Allocator + Copy>(
+    hub: &mut HubState<N, A>,
+    writer: &mut StreamWriter<N, A>,
+) -> u64 {
+    match hub.meet_writer(writer) {
+        0 => 4,
+        1 => 2,
+        _ => 0,
+    }
+}
+
+impl Pumped {
+    fn pump_at<N: HubName<A>, A: Allocator + Copy>(
+        &self,
+        rt: &impl Abort,
+        heap: &Refusing<Global>,
+        hub: &mut HubState<N, A>,
+        writer: &mut StreamWriter<N, A>,
+        gauge: &Gauge<N, A>,
+        seat: &mut GaugeSeat<N, A>,
+    ) -> bool {
+        let was = pump_refused(heap, hub, self.n);
+        assert!(rt; gauge.seen(seat).accepted == moved(hub, writer));
+        pump(rt, hub);
+        assert!(rt; gauge.seen(seat).accepted == 4);
+        assert!(rt; hub.meet_writer(writer) == 0);
+        was
+    }
+}
+
+impl<R: Wait + Abort> Refused<R> for Pumped {
+    fn run<N: HubName<A>, A: Allocator + Copy>(
+        &self,
+        rt: &R,
+        heap: &Refusing<Global>,
+        alloc: A,
+        hub: &Mutex<HubState<N, A>>,
+        gauge: &Gauge<N, A>,
+        seat: &mut GaugeSeat<N, A>,
+    ) -> bool {
+        let hub = &mut *hub.lock(rt);
+        let (mut writer, _reader) = begin(rt, alloc, hub);
+        self.pump_at(rt, heap, hub, &mut writer, gauge, seat)
+    }
+}
+
+#[test]
+fn what_was_moved_stands(rt: HostRuntime) {
+    let heap: Refusing<Global> = Refusing::new(rt.alloc());
+    for n in 1..1_000u64 {
+        if !run(&rt, &heap, &Pumped { n }) {
+            assert!(rt; 1 < n);
+            return;
+        }
+    }
+    panic!(rt; "no run met no refusal");
+}
+
+/// Calls on money, shares and streams that never want memory.
+fn call_streams<N: HubName<A>, A: Allocator + Copy>(rt: &impl Abort, hub: &mut HubState<N, A>) {
+    assert!(rt; hub.offer(1, 5) == Ok(()));
+    assert!(rt; hub.set_receive_max(1, 200) == Ok(()));
+    assert!(rt; hub.share().is_ok());
+    assert!(rt; hub.add_writer(1).is_ok());
+    assert!(rt; hub.take_stream().is_some());
+    assert!(rt; hub.take_stream().is_none());
+}
+
+/// The calls that never want memory, but for those that take a turn or shares.
+fn call_others<N: HubName<A>, A: Allocator + Copy>(
+    rt: &impl Abort,
+    hub: &mut HubState<N, A>,
+    writer: &mut StreamWriter<N, A>,
+    reader: &mut StreamReader<N, A>,
+) {
+    call_streams(rt, hub);
+    assert!(rt; hub.meet_writer(writer) == 2);
+    assert!(rt; hub.meet_reader(reader) == 0);
+    assert!(rt; matches!(reader.try_read(), Got::Nothing));
+    assert!(rt; !hub.settled(1) && !hub.is_failed() && !hub.t00().is_empty());
+}
+
+/// Ends a turn with a fault: how many requests for memory that made.
+fn finished<N: HubName<A>, A: Allocator + Copy>(
+    heap: &Refusing<Global>,
+    hub: &mut HubState<N, A>,
+    now: Moment,
+) -> Result<u64, HubError> {
+    match hub.take_turn([9; 12], now)? {
+        Some(turn) => {
+            heap.refuse_from(1);
+            hub.finish_turn(turn, Outcome::Fault)?;
+            Ok(heap.asked())
+        }
+        None => Err(HubError::NoStream),
+    }
+}
+
+/// The calls, at a hub whose peer opened stream 1.
+fn ask_none<N: HubName<A>, A: Allocator + Copy>(
+    rt: &impl Abort,
+    heap: &Refusing<Global>,
+    hub: &mut HubState<N, A>,
+    writer: &mut StreamWriter<N, A>,
+    reader: &mut StreamReader<N, A>,
+) {
+    heap.refuse_from(1);
+    call_others(rt, hub, writer, reader);
+    assert!(rt; heap.asked() == 0);
+    heap.refuse_none();
+    assert!(rt; finished(heap, hub, moment(rt)) == Ok(0));
+}
+
+/// A hub whose peer opened stream 1.
+#[derive(Drop)]
+struct AskNone<'a> {
+    prepare: &'a [u8],
+}
+
+impl AskNone<'_> {
+    fn ask_at<N: HubName<A>, A: Allocator + Copy>(
+        &self,
+        rt: &impl Abort,
+        heap: &Refusing<Global>,
+        alloc: A,
+        hub: &mut HubState<N, A>,
+    ) {
+        let mut share = share_of(rt, hub);
+        let (mut writer, mut reader) = begin(rt, alloc, hub);
+        assert!(rt; came(hub, &mut share, self.prepare, moment(rt)) == Ok(10));
+        ask_none(rt, heap, hub, &mut writer, &mut reader);
+    }
+}
+
+impl<R: Wait + Abort> Refused<R> for AskNone<'_> {
+    fn run<N: HubName<A>, A: Allocator + Copy>(
+        &self,
+        rt: &R,
+        heap: &Refusing<Global>,
+        alloc: A,
+        hub: &Mutex<HubState<N, A>>,
+        _gauge: &Gauge<N, A>,
+        _seat: &mut GaugeSeat<N, A>,
+    ) -> bool {
+        self.ask_at(rt, heap, alloc, &mut *hub.lock(rt));
+        heap.has_refused()
+    }
+}
+
+#[test]
+fn the_other_calls_ask_for_no_memory(rt: HostRuntime) {
+    let heap: Refusing<Global> = Refusing::new(rt.alloc());
+    let prepare = prepare(&rt, rt.alloc());
+    let prepare = prepare.as_slice();
+    assert!(rt; !run(&rt, &heap, &AskNone { prepare }));
+}
+
+/// A hub's shares come back.
+fn gather_all<N: HubName<A>, A: Allocator + Copy>(
+    rt: &impl Abort,
+    heap: &Refusing<Global>,
+    alloc: A,
+    hub: &mut HubState<N, A>,
+) {
+    let mut shares = Vec::new(alloc);
+    assert!(rt; shares.push(share_of(rt, hub)).is_ok());
+    heap.refuse_from(1);
+    assert!(rt; matches!(hub.gather(shares), Ok(0)));
+    assert!(rt; heap.asked() == 0);
+}
+
+/// A hub is made and its shares come back.
+#[derive(Drop)]
+struct Gathers;
+
+impl<R: Wait + Abort> Refused<R> for Gathers {
+    fn run<N: HubName<A>, A: Allocator + Copy>(
+        &self,
+        rt: &R,
+        heap: &Refusing<Global>,
+        alloc: A,
+        hub: &Mutex<HubState<N, A>>,
+        _gauge: &Gauge<N, A>,
+        _seat: &mut GaugeSeat<N, A>,
+    ) -> bool {
+        gather_all(rt, heap, alloc, &mut *hub.lock(rt));
+        false
+    }
+}
+
+#[test]
+fn shares_are_gathered_without_memory(rt: HostRuntime) {
+    let heap: Refusing<Global> = Refusing::new(rt.alloc());
+    assert!(rt; !run(&rt, &heap, &Gathers));
+}
+
+/// A worker and a link whose hub finds no memory.
+#[derive(Drop)]
+struct Starved<'a> {
+    prepare: &'a [u8],
+}
+
+/// A link, and then a worker over it, tell that there is no memory.
+fn starve<N: HubName<A>, A: Allocator + Copy, L: Link<A>, R: Wait + Abort + std::time::Clock>(
+    rt: &R,
+    hub: &Mutex<HubState<N, A>>,
+    gauge: &Gauge<N, A>,
+    seat: &mut GaugeSeat<N, A>,
+    link: &mut L,
+    prepare: &[u8],
+) {
+    assert!(rt; link.exchange(prepare).err() == Some(LinkFault::NoMemory));
+    let mut ivs = Counting { first: 1, next: 0 };
+    let mut clock = stopped_clock(rt);
+    let told = work(rt, hub, link, &mut ivs, &mut clock, gauge, seat, 1);
+    assert!(rt; told == WorkEnd::NoMemory);
+}
+
+impl<R: Wait + Abort + std::time::Clock> Refused<R> for Starved<'_> {
+    fn run<N: HubName<A>, A: Allocator + Copy>(
+        &self,
+        rt: &R,
+        heap: &Refusing<Global>,
+        alloc: A,
+        hub: &Mutex<HubState<N, A>>,
+        gauge: &Gauge<N, A>,
+        seat: &mut GaugeSeat<N, A>,
+    ) -> bool {
+        let share = share_of(rt, &mut *hub.lock(rt));
+        let _ends = begin(rt, alloc, &mut *hub.lock(rt));
+        let mut link = HubLink::new(rt, hub, share, stopped_clock(rt));
+        heap.refuse_from(1);
+        starve(rt, hub, gauge, seat, &mut link, self.prepare);
+        heap.has_refused()
+    }
+}
+
+#[test]
+fn a_worker_without_memory_tells_it(rt: HostRuntime) {
+    let heap: Refusing<Global> = Refusing::new(rt.alloc());
+    let prepare = prepare(&rt, rt.alloc());
+    let prepare = prepare.as_slice();
+    assert!(rt; run(&rt, &heap, &Starved { prepare }));
+}
