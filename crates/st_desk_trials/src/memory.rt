@@ -4,7 +4,7 @@ ghost use Rattle.st_desk.specs.Desk.{IsNew};
 
 use crate::desks::{FULFILL, Neighbour, PREPARE, T00, T01, new_hop, shares_of, stopped_clock};
 use refusing::Refusing;
-use st_desk::{DeskError, HopDesk, serve};
+use st_desk::{AccountShares, DeskError, HopDesk, serve};
 use st_hop::{HopError, HopState};
 use std::alloc::{Allocator, Global};
 use std::marker::Brand;
@@ -57,6 +57,17 @@ fn is_booked<C: Ledger, D: Ledger, A: Allocator + Copy>(
     hop.held(0) == Ok(0) && hop.claims(0) == Ok(amount) && hop.dues(1) == Ok(amount)
 }
 
+/// How a thread is answered over these links.
+fn ask<C: Ledger, D: Ledger, A: Allocator + Copy, R: Wait + Abort>(
+    rt: &R,
+    desk: &Mutex<HopDesk<C, D, A>>,
+    shares: &mut AccountShares<C, D>,
+    links: &mut [Neighbour<'_, A>],
+) -> Told {
+    let mut clock = stopped_clock(rt);
+    told_by(rt, serve(rt, desk, shares, 0, PREPARE, links, &mut clock))
+}
+
 /// How a thread was answered. Nothing is held afterwards, and what is owed was fulfilled.
 fn served<C: Ledger, D: Ledger, A: Allocator + Copy, R: Wait + Abort>(
     rt: &R,
@@ -73,15 +84,14 @@ fn served<C: Ledger, D: Ledger, A: Allocator + Copy, R: Wait + Abort>(
     let mut desk = HopDesk::<C, D, A>::new(alloc, hop, claims, dues);
     let mut shares = shares_of(rt, &mut desk);
     let desk = Mutex::new(desk);
-    let mut clock = stopped_clock(rt);
-    let answer = serve(rt, &desk, &mut shares, 0, PREPARE, links, &mut clock);
-    let told = told_by(rt, answer);
+    let told = ask(rt, &desk, &mut shares, links);
     let amount = if told == Told::Fulfilled { 5 } else { 0 };
-    assert!(rt; is_booked(&desk.into_inner(), amount));
+    let desk = desk.into_inner();
+    assert!(rt; is_booked(&desk, amount));
     told
 }
 
-/// How a thread was answered that asks two neighbours for whom memory is refused from now on as `refuse` says.
+/// How a thread was answered, where its request number n is refused, or that and each later one.
 fn run(
     rt: &(impl Wait + Abort),
     heap: &Refusing<Global>,
@@ -107,37 +117,40 @@ fn run(
     Ok(told)
 }
 
+/// Each request is refused in turn, or it and each later one: the first ones on arrival, which tells `first`, and the last at
+/// the neighbour. It gives the number of the run that met no refusal.
+fn refuse_each(
+    rt: &(impl Wait + Abort),
+    heap: &Refusing<Global>,
+    refuses_all: bool,
+    first: Told,
+) -> Result<u64, HopError> {
+    let mut before = first;
+    for n in 1..1000u64 {
+        let told = run(rt, heap, n, refuses_all)?;
+        if !heap.has_refused() {
+            assert!(rt; (before, told) == (Told::NoAnswerCame, Told::Fulfilled));
+            return Ok(n);
+        }
+        assert!(rt; before == first, "at {n}");
+        before = told;
+    }
+    panic!(rt; "no run met no refusal");
+}
+
 /// Each request is refused in turn. On arrival the Prepare is answered with T00, at the neighbour with T01.
 #[test]
 fn a_refused_request_is_answered(rt: HostRuntime) -> Result<(), Fail> {
     let heap: Refusing<Global> = Refusing::new(rt.alloc());
-    let mut before = Told::NoMemory;
-    for n in 1..1000u64 {
-        let told = run(&rt, &heap, n, false)?;
-        if !heap.has_refused() {
-            assert!(rt; (before, told) == (Told::NoAnswerCame, Told::Fulfilled));
-            assert!(rt; 3 < n);
-            return Ok(());
-        }
-        assert!(rt; before == Told::NoMemory, "at {n}");
-        before = told;
-    }
-    panic!(rt; "no run met no refusal");
+    let runs = refuse_each(&rt, &heap, false, Told::NoMemory)?;
+    assert!(rt; 3 < runs);
+    Ok(())
 }
 
 /// Where there is no memory for T00 either, nothing is told.
 #[test]
 fn no_memory_is_refused(rt: HostRuntime) -> Result<(), Fail> {
     let heap: Refusing<Global> = Refusing::new(rt.alloc());
-    let mut before = Told::Refused;
-    for n in 1..1000u64 {
-        let told = run(&rt, &heap, n, true)?;
-        if !heap.has_refused() {
-            assert!(rt; (before, told) == (Told::NoAnswerCame, Told::Fulfilled));
-            return Ok(());
-        }
-        assert!(rt; before == Told::Refused, "at {n}");
-        before = told;
-    }
-    panic!(rt; "no run met no refusal");
+    refuse_each(&rt, &heap, true, Told::Refused)?;
+    Ok(())
 }
