@@ -1,5 +1,5 @@
 -- What a fault's cause says of the devices' counts.
-use Rattle.std.proofs.Common.{◌≡◌, ℕ, ◌-◌, ◌≤◌, List, length, refl, ap, subst, ◌∙◌, arith, Result, Ok, Err}
+use Rattle.std.proofs.Common.{◌≡◌, ℕ, ◌-◌, ◌≤◌, List, length, refl, sym, ap, subst, ◌∙◌, ◌⊎◌, inl, inr, arith, Result, Ok, Err}
 use Rattle.std.specs.Prelude.{Option, Some, None, unwrap_or, OnOk, IfErr, IfSome}
 use Rattle.std.specs.Io.KnownBytes.{Appends}
 use Rattle.st_oer.specs.Tallies.{TakesTurns}
@@ -139,14 +139,37 @@ pub delivers_part : (input before after : Option (List ℕ)) (sent read : List �
 delivers_part None before after sent read is same part = tt
 delivers_part (Some bytes) before after sent read is same part = subst (λ (xs : List ℕ). WritesPart xs before after) (same ∙ is) part
 
-pub explains_write : {T : Type 0} (r : Result T LocalFault) (input : Option (List ℕ)) (left : ℕ) → IfErr r (StopsWrite left) → IfErr r (Explains input)
-explains_write (Ok x) input left h = tt
-explains_write (Err e) input left h = write_explains input left e h
+-- by the play, by the writing, or for want of memory
+abbrev IsCut : (left : ℕ) → LocalFault → Type 0
+IsCut left e = ((p : Played) × StopsPlay p e) ⊎ StopsWrite left e ⊎ (e ≡ fault.NoMemory)
 
-pub reads_write : {T : Type 0} (r : Result T LocalFault) (left n : ℕ) → IfErr r (StopsWrite left) → n ≡ reader_faults (fault_of r) n
-reads_write (Ok x) left n h = refl
-reads_write (Err e) left n h = write_reader left e n h
+pub cut_write : {T : Type 0} (r : Result T LocalFault) (left : ℕ) → IfErr r (StopsWrite left) → IfErr r (IsCut left)
+cut_write (Ok x) left h = tt
+cut_write (Err e) left h = inr (inl h)
 
-pub turns_write : {T : Type 0} (r : Result T LocalFault) (left : ℕ) → IfErr r (StopsWrite left) → IfErr r (λ e. e ≡ fault.Turns → left ≡ 0)
-turns_write (Ok x) left h = tt
-turns_write (Err e) left h = write_turns left e h
+cut_explains : (input : Option (List ℕ)) (left : ℕ) (e : LocalFault) → IsCut left e → Explains input e
+cut_explains input left e (inl h) = play_explains input h.0 e h.1
+cut_explains input left e (inr (inl h)) = write_explains input left e h
+cut_explains input left e (inr (inr h)) = subst (λ (x : LocalFault). Explains input x) (sym h) tt
+
+cut_reader : (left : ℕ) (e : LocalFault) (n : ℕ) → IsCut left e → n ≡ reader_faults (Some e) n
+cut_reader left e n (inl h) = play_reader h.0 e n h.1
+cut_reader left e n (inr (inl h)) = write_reader left e n h
+cut_reader left e n (inr (inr h)) = ap (λ (x : LocalFault). reader_faults (Some x) n) (sym h)
+
+cut_turns : (left : ℕ) (e : LocalFault) → IsCut left e → e ≡ fault.Turns → left ≡ 0
+cut_turns left e (inl h) is = play_turns h.0 e left h.1 is
+cut_turns left e (inr (inl h)) is = write_turns left e h is
+cut_turns left e (inr (inr h)) is = absurd (let no : ◌≡◌ {A = LocalFault} fault.NoMemory fault.Turns = sym h ∙ is in cc)
+
+pub explains_cut : {T : Type 0} (r : Result T LocalFault) (input : Option (List ℕ)) (left : ℕ) → IfErr r (IsCut left) → IfErr r (Explains input)
+explains_cut (Ok x) input left h = tt
+explains_cut (Err e) input left h = cut_explains input left e h
+
+pub reads_cut : {T : Type 0} (r : Result T LocalFault) (left n : ℕ) → IfErr r (IsCut left) → n ≡ reader_faults (fault_of r) n
+reads_cut (Ok x) left n h = refl
+reads_cut (Err e) left n h = cut_reader left e n h
+
+pub turns_cut : {T : Type 0} (r : Result T LocalFault) (left : ℕ) → IfErr r (IsCut left) → IfErr r (λ e. e ≡ fault.Turns → left ≡ 0)
+turns_cut (Ok x) left h = tt
+turns_cut (Err e) left h = cut_turns left e h

@@ -1,11 +1,11 @@
 //! The command `local`: the input goes over a chain in memory, and what was read at its end is written.
 
-ghost use Rattle.std.specs.Prelude.{◌≡◌, ◌<◌, ◌≤◌, ◌^◌, length, IfErr, IfSome, OnOk};
+ghost use Rattle.std.specs.Prelude.{◌≡◌, ◌⊎◌, ◌<◌, ◌≤◌, ◌^◌, ℕ, [], length, IfErr, IfSome, OnOk};
 ghost use Rattle.std.specs.Io.KnownBytes.{Appends};
 ghost use Rattle.st_oer.specs.Tallies.{TakesTurns, device_of, tally_of};
 ghost use Rattle.st_local.specs.Errors.{fault_of, reader_faults, writer_faults};
 ghost use Rattle.st_local.specs.Parts.{joined, stream_at};
-ghost use Rattle.st_local.specs.Playing.{read_on};
+ghost use Rattle.st_local.specs.Playing.{Played, StopsPlay, read_on, written_on};
 ghost use Rattle.st_local.specs.Endings.{Explains, HasEnded, RunsLocal, SpendsTurns, StaysFlushed, StopsWrite, WritesPart, most_bytes};
 
 use crate::fault::LocalFault;
@@ -40,6 +40,56 @@ fn put_parts<A: Allocator + Copy, W: Write>(
     Ok(())
 }
 
+/// Sends an input over a chain where nothing was written yet, and writes what was read at its end.
+fn carry_over<A: Allocator + Copy, W: Write>(
+    play: &mut Play<A>,
+    input: &[u8],
+    streams: usize,
+    lose: u64,
+    writer: &mut CountWrite<W>,
+    turns: &mut u64,
+) -> Result<(), LocalFault>
+    requires some { 0 < streams }
+    requires few { streams ≤ 32 }
+    requires blank { (k : ℕ) → written_on play.old.world k ≡ [] }
+    ensures whole { OnOk result (Appends (W.contents (device_of writer.old)) (W.contents (device_of writer.new)) input.now) }
+    ensures part { WritesPart input.now (W.contents (device_of writer.old)) (W.contents (device_of writer.new)) }
+    ensures faults { (tally_of writer.new).faults ≡ writer_faults (fault_of result) (tally_of writer.old).faults }
+    ensures flushed { OnOk result (StaysFlushed (tally_of writer.old) (tally_of writer.new)) }
+    ensures turns { TakesTurns (tally_of writer.old) (tally_of writer.new) turns.old turns.new }
+    ensures why { IfErr result (λ e. ((play : Played) × StopsPlay play e) ⊎ StopsWrite turns.new e ⊎ (e ≡ LocalFault.NoMemory)) }
+{
+    match send_parts(play, input, streams, lose) {
+        Ok(()) => put_parts(play, streams, writer, turns),
+        Err(fault) => Err(fault),
+    }
+}
+
+/// Sends an input over a chain of hops in memory, as the settings say, and writes what was read at its end.
+fn carry<A: Allocator + Copy, W: Write>(
+    alloc: A,
+    settings: &LocalSettings,
+    input: &[u8],
+    writer: &mut CountWrite<W>,
+    turns: &mut u64,
+) -> Result<(), LocalFault>
+    requires hops { settings.now.hops ≤ 8 }
+    requires some { 0 < settings.now.streams }
+    requires streams { settings.now.streams ≤ 32 }
+    ensures whole { OnOk result (Appends (W.contents (device_of writer.old)) (W.contents (device_of writer.new)) input.now) }
+    ensures part { WritesPart input.now (W.contents (device_of writer.old)) (W.contents (device_of writer.new)) }
+    ensures faults { (tally_of writer.new).faults ≡ writer_faults (fault_of result) (tally_of writer.old).faults }
+    ensures flushed { OnOk result (StaysFlushed (tally_of writer.old) (tally_of writer.new)) }
+    ensures turns { TakesTurns (tally_of writer.old) (tally_of writer.new) turns.old turns.new }
+    ensures why { IfErr result (λ e. ((play : Played) × StopsPlay play e) ⊎ StopsWrite turns.new e ⊎ (e ≡ LocalFault.NoMemory)) }
+{
+    let Ok(mut play) = Play::new(alloc, usize::from(settings.hops)) else {
+        return Err(LocalFault::NoMemory);
+    };
+    let streams = usize::from(settings.streams);
+    carry_over(&mut play, input, streams, settings.lose, writer, turns)
+}
+
 /// Sends the reader's bytes over a chain of hops in memory, and writes what was read at its end. They are cut into so many
 /// consecutive parts as the settings say streams, of sizes that are equal but for the last ones; each goes on a stream of
 /// its own. One of so many Prepares of the client is lost, as the settings say. Each call of a device takes one of `turns`.
@@ -66,14 +116,7 @@ pub fn play_local<A: Allocator + Copy, R: Read, W: Write>(
     ensures turns { SpendsTurns (tally_of reader.old) (tally_of reader.new) (tally_of writer.old) (tally_of writer.new) turns.old turns.new }
 {
     let input = read_input(alloc, reader, turns)?;
-    let Ok(mut play) = Play::new(alloc, usize::from(settings.hops)) else {
-        return Err(LocalFault::NoMemory);
-    };
-    let streams = usize::from(settings.streams);
-    match send_parts(&mut play, &input, streams, settings.lose) {
-        Ok(()) => put_parts(&play, streams, writer, turns),
-        Err(fault) => Err(fault),
-    }
+    carry(alloc, settings, &input, writer, turns)
 }
 
 /// The command `local`: `play_local`, whose fault is told to `errors` by its number. The status is 0 where all was written,
