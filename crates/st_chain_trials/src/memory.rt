@@ -237,6 +237,19 @@ fn hops(rt: &impl Abort, alloc: Global, limits: &[u64]) -> Vec<Account> {
     hops
 }
 
+/// That the trace is that of the schedule, and that an event was recorded or met no memory where a request was refused.
+fn check<A: Allocator + Copy>(
+    rt: &impl Abort,
+    player: &Player<A>,
+    schedule: Schedule,
+    met: bool,
+    n: u64,
+) {
+    assert!(rt; schedule.is_right(player.trace()), "at {n}");
+    assert!(rt; player.trace().refused() == (player.lacks() > 0), "at {n}");
+    assert!(rt; player.refusals() == u64::from(met), "at {n}");
+}
+
 /// The schedule, whose request `n` is refused: whether there was one.
 fn meets(
     rt: &impl Abort,
@@ -246,20 +259,19 @@ fn meets(
     n: u64,
 ) -> bool {
     heap.refuse_only(n);
-    let mut player = match Player::new(rt, heap, hops, config(rt)) {
-        Ok(player) => player,
+    match Player::new(rt, heap, hops, config(rt)) {
+        Ok(mut player) => {
+            schedule.play(rt, &mut player);
+            check(rt, &player, schedule, heap.has_refused(), n);
+            drop(player);
+        }
         Err(fault) => {
             assert!(rt; fault == Fault::NoMemory);
-            assert!(rt; Player::new(rt, heap, hops, config(rt)).is_ok());
-            return heap.has_refused();
+            let made = Player::new(rt, heap, hops, config(rt));
+            drop(made.expect(rt, "one request alone is refused"));
         }
-    };
-    schedule.play(rt, &mut player);
-    let met = heap.has_refused();
-    assert!(rt; schedule.is_right(player.trace()), "at {n}");
-    assert!(rt; player.trace().refused() == (player.lacks() > 0), "at {n}");
-    assert!(rt; player.refusals() == u64::from(met), "at {n}");
-    met
+    }
+    heap.has_refused()
 }
 
 /// Refuses each request in turn, until a run meets no refusal.

@@ -53,21 +53,34 @@ fn exchanging(rt: &impl Abort, alloc: Global) -> World<Global> {
     World::with_rates(alloc, &hops, least).expect(rt, "there is memory")
 }
 
+/// What happens to 100 units that go over them.
+fn happens(place: usize, now: Moment) -> Event<'static> {
+    match place {
+        0 => Event::OpenStream(Side::Client),
+        1 => Event::ReceiveMax(Side::Server, 1, 100),
+        2 => Event::Offer(Side::Client, 1, 100),
+        3 => Event::Send(Side::Client, IV, now),
+        4 => Event::Arrive(0, Way::ToServer, 1, now),
+        5 => Event::Arrive(1, Way::ToServer, 1, now),
+        6 => Event::Arrive(2, Way::ToServer, 1, now),
+        7 => Event::AnswerArrives(2, Way::ToServer, 1, now),
+        8 => Event::AnswerArrives(1, Way::ToServer, 1, now),
+        _ => Event::AnswerArrives(0, Way::ToServer, 1, now),
+    }
+}
+
+fn events(rt: &impl Abort, alloc: Global) -> Vec<Event<'static>> {
+    let now = moment(rt);
+    let mut events = Vec::new(alloc);
+    for place in 0..10 {
+        assert!(rt; events.push(happens(place, now)).is_ok());
+    }
+    events
+}
+
 /// The trace of 100 units that go over them.
 fn exchanged(rt: &impl Abort, alloc: Global) -> Trace<Global> {
-    let now = moment(rt);
-    let events = [
-        Event::OpenStream(Side::Client),
-        Event::ReceiveMax(Side::Server, 1, 100),
-        Event::Offer(Side::Client, 1, 100),
-        Event::Send(Side::Client, IV, now),
-        Event::Arrive(0, Way::ToServer, 1, now),
-        Event::Arrive(1, Way::ToServer, 1, now),
-        Event::Arrive(2, Way::ToServer, 1, now),
-        Event::AnswerArrives(2, Way::ToServer, 1, now),
-        Event::AnswerArrives(1, Way::ToServer, 1, now),
-        Event::AnswerArrives(0, Way::ToServer, 1, now),
-    ];
+    let events = events(rt, alloc);
     played(rt, exchanging(rt, alloc), &events)
 }
 
@@ -77,21 +90,24 @@ fn balances(trace: &Trace<Global>, place: usize) -> Option<(u64, u64)> {
     Some((hop.claims(0).ok()?, hop.dues(1).ok()?))
 }
 
-#[test]
-fn hops_exchange(rt: HostRuntime) {
-    let trace = exchanged(&rt, rt.alloc());
-    assert!(rt; balances(&trace, 0) == Some((100, 150)));
-    assert!(rt; balances(&trace, 1) == Some((150, 75)));
+fn check_exchange(rt: &impl Abort, trace: &Trace<Global>) {
+    assert!(rt; balances(trace, 0) == Some((100, 150)));
+    assert!(rt; balances(trace, 1) == Some((150, 75)));
     assert!(rt; trace.end(Side::Client).totals().paid == 100);
     assert!(rt; trace.end(Side::Server).totals().credited == 75);
 }
 
+#[test]
+fn hops_exchange(rt: HostRuntime) {
+    let trace = exchanged(&rt, rt.alloc());
+    check_exchange(&rt, &trace);
+    drop(trace);
+}
+
 /// Why a world could not be made.
 fn refusal(made: Result<World<Global>, Fault>) -> Option<u8> {
-    match made {
-        Ok(_) => None,
-        Err(fault) => Some(fault.number()),
-    }
+    let fault = made.err()?;
+    Some(fault.number())
 }
 
 #[test]

@@ -271,12 +271,19 @@ impl Run {
     }
 }
 
-/// Whether the schedule of a seed, which has to keep what was told, moves money and bytes.
+/// Whether it, which has to keep what was told, moved money and bytes.
+fn has_moved(rt: &impl Abort, run: &Run, seed: u64) -> bool {
+    assert!(rt; run.is_kept(), "seed {seed}");
+    run.credit() > 0 && run.read() > 0
+}
+
+/// Whether the schedule of a seed moves money and bytes.
 fn moves(rt: &impl Abort, alloc: Global, seed: u64) -> bool {
     let mut run = Run::new(rt, alloc, seed);
     run.go(rt);
-    assert!(rt; run.is_kept(), "seed {seed}");
-    run.credit() > 0 && run.read() > 0
+    let moved = has_moved(rt, &run, seed);
+    drop(run);
+    moved
 }
 
 /// Runs the schedules of a test: most of them move money and bytes.
