@@ -4,6 +4,7 @@ pub mod Rates
 pub mod Paying
 pub mod Planned
 pub mod Totals
+pub mod Changing
 pub mod Sums
 pub mod Lengths
 pub mod Readiness

@@ -2,7 +2,7 @@
 use Rattle.std.proofs.Common.{◌≡◌, ℕ, suc, drop, get_or, ◌+◌, ◌-◌, ◌*◌, ◌^◌, ◌<◌, ◌≤◌, Bool, true, false, cond, ◌||◌, List, [], ◌∷◌, ◌++◌, length, map, max, refl, sym, ap, ◌∙◌, arith, Option, None, Some, eqb}
 use Rattle.std.specs.List.{list_any, sum_by, count_by, AllByRecursion}
 use Rattle.std.proofs.lemmas.Bool.Decides.{nat_tests}
-use Rattle.std.proofs.lemmas.List.{map-append}
+use Rattle.std.proofs.lemmas.List.{map-append, drop_all}
 use Rattle.std.proofs.lemmas.List.Sums.{sum_by-cons, sum_by_push}
 use Rattle.std.proofs.Math.Seq.{drop-cons}
 use Rattle.st_frames.specs.Frames.{Known}
@@ -176,3 +176,15 @@ flown_with xs f ms e = map-append flown (framed xs f) (map paying ms) ∙ ap (λ
 pub part_fits : (k part more i : ℕ) (ms : List Payment) (d : Payment) → i < length ms → part + paid_to k (drop i ms) ≡ paid_to k ms → more ≡ amount_to k (get_or ms i d) → paid_to k ms < 2 ^ 64 → part + more < 2 ^ 64
 part_fits k part more i ms d lt e is small =
     omega (arith, e, is, small, ap (paid_to k) (drop-cons ms i d lt), paid_more k (get_or ms i d) (drop (suc i) ms))
+
+-- what is left of an amount without a sum over the flights: over one flight more, and at the end
+pub less_next : (f : Flight → ℕ) (ps : List Flight) (i : ℕ) (p : Flight) (part rest less whole : ℕ) → i < length ps → p ≡ get_or ps i p → part ≡ f p → less ≡ rest - part
+    → rest - sum_by f (drop i ps) ≡ whole → less - sum_by f (drop (i + 1) ps) ≡ whole
+less_next f ps i p part rest less whole lt is mine drawn before =
+    let one : suc i ≡ i + 1 = omega arith in
+    let first : sum_by f (drop i ps) ≡ f p + sum_by f (drop (i + 1) ps) =
+    ap (sum_by f) (drop-cons ps i p lt) ∙ sum_by-cons f (get_or ps i p) (drop (suc i) ps) ∙ (λ j. f (sym is j) + sum_by f (drop (one j) ps)) in
+    omega (arith, first, mine, drawn, before)
+
+pub less_done : (f : Flight → ℕ) (ps : List Flight) (i rest whole : ℕ) → length ps ≤ i → rest - sum_by f (drop i ps) ≡ whole → rest ≡ whole
+less_done f ps i rest whole past before = omega (arith, ap (sum_by f) (drop_all i ps past), before)

@@ -1,5 +1,5 @@
 -- One payment more, or none, at the next stream.
-use Rattle.std.proofs.Common.{◌≡◌, ◌≢◌, ℕ, ◌+◌, ◌-◌, ◌*◌, ◌/◌, ◌<◌, ◌≤◌, List, [], ◌∷◌, ◌++◌, length, map, min, sum, refl, sym, ap, subst, ◌∙◌, arith, Option, None, Some, inl, inr, length-append}
+use Rattle.std.proofs.Common.{◌≡◌, ◌≢◌, ℕ, ◌+◌, ◌-◌, ◌*◌, ◌/◌, ◌<◌, ◌≤◌, List, [], ◌∷◌, ◌++◌, length, get_or, map, min, sum, refl, sym, ap, subst, ◌∙◌, arith, Option, None, Some, inl, inr, length-append}
 use Rattle.std.specs.List.{AllByRecursion, range_with_len}
 use Rattle.std.proofs.lemmas.Bool.{cases_lt, cases_eq}
 use Rattle.std.proofs.lemmas.List.Sums.{sum_by_push}
@@ -11,8 +11,9 @@ use Rattle.st_sender.specs.Sending.{Flight}
 use Rattle.st_sender.specs.Lanes.{Lane}
 use Rattle.st_sender.specs.declared.bounds.Bounds.{Bounds}
 use Rattle.st_sender.specs.Allowed.{NoneUnit, least_for, unit_size}
-use Rattle.st_sender.specs.Paying.{total, paid_to, amount_to, payable_at, all_payable, IsPayment, Pays}
+use Rattle.st_sender.specs.Paying.{total, paid_to, amount_to, payable, payable_at, all_payable, IsPayment, Pays}
 use Rattle.st_sender.proofs.Money.{total_push, paid_push, own_amount, other_amount}
+use Rattle.st_sender.proofs.Totals.{found_at}
 
 all_push : (P : Payment → Type 0) (ms : List Payment) (p : Payment) → AllByRecursion P ms → P p → AllByRecursion P (ms ++ p ∷ [])
 all_push P [] p a h = (h, tt)
@@ -27,7 +28,7 @@ payable_more lanes r ps n = ap sum (map-range_with_len_more (payable_at lanes r 
 abbrev paid : ℕ → ℕ → Payment
 paid n most = record { stream = n; amount = most }
 
-pub pays_none : (lanes : Slots Lane) (r : Ratio) (ps : List Flight) (limit room : ℕ) → Pays lanes r ps limit room 0 []
+pays_none : (lanes : Slots Lane) (r : Ratio) (ps : List Flight) (limit room : ℕ) → Pays lanes r ps limit room 0 []
 pays_none lanes r ps limit room = record {
   each = tt;
   own = λ k. omega arith;
@@ -38,7 +39,7 @@ pays_none lanes r ps limit room = record {
   filled = λ h. omega arith;
 }
 
-pub pays_push : (lanes : Slots Lane) (r : Ratio) (ps : List Flight) (limit room n left most : ℕ) (ms : List Payment) → Pays lanes r ps limit room n ms → left + total ms ≡ limit
+pays_push : (lanes : Slots Lane) (r : Ratio) (ps : List Flight) (limit room n left most : ℕ) (ms : List Payment) → Pays lanes r ps limit room n ms → left + total ms ≡ limit
     → most ≡ min (payable_at lanes r ps n) left → 0 < most → length ms < room / 34 → Pays lanes r ps limit room (n + 1) (ms ++ paid n most ∷ [])
 pays_push lanes r ps limit room n left most ms p e m some fits =
     let long = length-append ms (paid n most ∷ []) in
@@ -80,3 +81,19 @@ none_unit_more lanes ps r limit b n before here k h some any = elim (cases_lt k 
 
 pub pays_all : (lanes : Slots Lane) (r : Ratio) (ps : List Flight) (limit room n : ℕ) (ms : List Payment) → n ≡ 65 → Pays lanes r ps limit room n ms → Pays lanes r ps limit room 65 ms
 pays_all lanes r ps limit room n ms e p = subst (λ i. Pays lanes r ps limit room i ms) e p
+
+-- how much may go and goes on a stream, by what stands at its place
+pub due_at : (lanes : Slots Lane) (r : Ratio) (ps : List Flight) (n : ℕ) (o : Option Lane) (due : ℕ) → n < length lanes → o ≡ get_or lanes n o → due ≡ payable r ps n o → due ≡ payable_at lanes r ps n
+due_at lanes r ps n o due lt at is = is ∙ ap (payable r ps n) (sym (found_at lanes n o lt at))
+
+pub most_at : (lanes : Slots Lane) (r : Ratio) (ps : List Flight) (n : ℕ) (o : Option Lane) (due left most : ℕ) → n < length lanes → o ≡ get_or lanes n o → due ≡ payable r ps n o → most ≡ min due left → most ≡ min (payable_at lanes r ps n) left
+most_at lanes r ps n o due left most lt at is m = m ∙ ap (λ (d : ℕ). min d left) (due_at lanes r ps n o due lt at is)
+
+pub pays_pushed : (lanes : Slots Lane) (r : Ratio) (ps : List Flight) (limit room n left most : ℕ) (ms all : List Payment) → all ≡ ms ++ paid n most ∷ [] → Pays lanes r ps limit room n ms → left + total ms ≡ limit
+    → most ≡ min (payable_at lanes r ps n) left → 0 < most → length ms < room / 34 → Pays lanes r ps limit room (n + 1) all × ((left - most) + total all ≡ limit)
+pays_pushed lanes r ps limit room n left most ms all pushed p e m some fits =
+    subst (λ (xs : List Payment). Pays lanes r ps limit room (n + 1) xs × ((left - most) + total xs ≡ limit)) (sym pushed)
+    (pays_push lanes r ps limit room n left most ms p e m some fits, omega (arith, total_push ms (paid n most), e, m))
+
+pub pays_first : (lanes : Slots Lane) (r : Ratio) (ps : List Flight) (limit room : ℕ) (ms : List Payment) → ms ≡ [] → Pays lanes r ps limit room 0 ms × (limit + total ms ≡ limit)
+pays_first lanes r ps limit room ms none = subst (λ (xs : List Payment). Pays lanes r ps limit room 0 xs × (limit + total xs ≡ limit)) (sym none) (pays_none lanes r ps limit room, omega arith)

@@ -1,5 +1,5 @@
 -- What goes, by what the parts of a plan found.
-use Rattle.std.proofs.Common.{◌≡◌, ◌≢◌, ℕ, Result, Ok, Err, ◌+◌, ◌-◌, ◌*◌, ◌^◌, ◌<◌, List, [], ◌∷◌, ◌++◌, None, Some, length, refl, sym, ap, subst, ◌∙◌, arith, Option, inl, inr}
+use Rattle.std.proofs.Common.{◌≡◌, ◌≢◌, ℕ, Result, Ok, Err, ◌+◌, ◌-◌, ◌*◌, ◌^◌, ◌<◌, ◌≤◌, List, [], ◌∷◌, ◌++◌, None, Some, length, refl, sym, ap, subst, ◌∙◌, arith, Option, inl, inr}
 use Rattle.std.specs.Prelude.{IfOk, IfSome, MatchOption}
 use Rattle.st_oer.specs.Ratios.{Ratio}
 use Rattle.st_tables.specs.Slots.{Slots}
@@ -19,8 +19,8 @@ no_payment : (ms : List Payment) → length ms ≡ 0 → ms ≡ []
 no_payment [] e = refl
 no_payment (p ∷ ms) e = absurd (omega (arith, e))
 
-pub unit_small : (ms all : List Payment) (p : Payment) → length ms ≡ 0 → all ≡ ms ++ p ∷ [] → p.amount ≡ 1 → total all < 2 ^ 64
-unit_small ms all p none pushed one = omega (arith, ap total pushed, total_push ms p, ap total (no_payment ms none), one)
+pub unit_small : (count : ℕ) (ms all : List Payment) (p : Payment) → count ≤ 0 → count ≡ length ms → all ≡ ms ++ p ∷ [] → p.amount ≡ 1 → total all < 2 ^ 64
+unit_small count ms all p none long pushed one = omega (arith, ap total pushed, total_push ms p, ap total (no_payment ms (omega (arith, none, long))), one)
 
 -- what an option has, by what it is
 pub by_some : {X : Type 0} (o : Option X) (P : Type 0) (Q : X → Type 0) (x : X) → o ≡ Some x → MatchOption o P Q → Q x
@@ -41,34 +41,45 @@ pub small_last : (l p : ℕ) → l < p → p < 2147483648 → l + 1 < 2 ^ 32
 small_last l p h k = omega (arith, h, k)
 
 module _ (lanes : Slots Lane) (flights : List Flight) (r : Ratio) (limit spare sequence room : ℕ) where
-  pub plan_frame : (beyond rest : ℕ) (ms : List Payment) (f : code.Flown) → beyond ≡ room - 15 → rest ≡ room - 34 * length ms → Pays lanes r flights limit beyond 65 ms → IsNext lanes flights (bound spare sequence rest) f → IsPlan lanes flights r limit (bound spare sequence room) (Some f) ms
-  plan_frame beyond rest ms f e h p n = (subst (λ i. Pays lanes r flights limit i 65 ms) e p, subst (λ i. IsNext lanes flights (bound spare sequence i) f) h n)
+  left : (count n : ℕ) → count ≡ n → room - count * 34 ≡ room - 34 * n
+  left count n e = omega (arith, e)
 
-  pub plan_money : (beyond rest : ℕ) (ms : List Payment) → 0 < length ms → beyond ≡ room - 15 → rest ≡ room - 34 * length ms → Pays lanes r flights limit beyond 65 ms → IsNone lanes flights (bound spare sequence rest) → IsPlan lanes flights r limit (bound spare sequence room) None ms
-  plan_money beyond rest [] some e h p n = absurd (omega (arith, some))
-  plan_money beyond rest (m ∷ ms) some e h p n = inl (subst (λ i. Pays lanes r flights limit i 65 (m ∷ ms)) e p, subst (λ i. IsNone lanes flights (bound spare sequence i)) h n)
+  pub plan_frame : (beyond count : ℕ) (ms : List Payment) (f : code.Flown) → beyond ≡ room - 15 → count ≡ length ms → Pays lanes r flights limit beyond 65 ms → IsNext lanes flights (bound spare sequence (room - count * 34)) f → IsPlan lanes flights r limit (bound spare sequence room) (Some f) ms
+  plan_frame beyond count ms f e h p n = (subst (λ i. Pays lanes r flights limit i 65 ms) e p, subst (λ i. IsNext lanes flights (bound spare sequence i) f) (left count (length ms) h) n)
 
-  whole_room : (rest : ℕ) (ms : List Payment) → length ms ≡ 0 → rest ≡ room - 34 * length ms → rest ≡ room
-  whole_room rest ms none h = omega (arith, h, none)
+  pub plan_money : (beyond count : ℕ) (ms : List Payment) → 0 < count → beyond ≡ room - 15 → count ≡ length ms → Pays lanes r flights limit beyond 65 ms → IsNone lanes flights (bound spare sequence (room - count * 34)) → IsPlan lanes flights r limit (bound spare sequence room) None ms
+  plan_money beyond count [] some e h p n = absurd (omega (arith, some, h))
+  plan_money beyond count (m ∷ ms) some e h p n = inl (subst (λ i. Pays lanes r flights limit i 65 (m ∷ ms)) e p, subst (λ i. IsNone lanes flights (bound spare sequence i)) (left count (length (m ∷ ms)) h) n)
 
-  no_pays : (beyond : ℕ) (ms : List Payment) → length ms ≡ 0 → beyond ≡ room - 15 → Pays lanes r flights limit beyond 65 ms → Pays lanes r flights limit (room - 15) 65 []
-  no_pays beyond ms none e pays = subst (λ i. Pays lanes r flights limit i 65 []) e (subst (λ (xs : List Payment). Pays lanes r flights limit beyond 65 xs) (no_payment ms none) pays)
+  -- there is no payment
+  none_left : (count : ℕ) (ms : List Payment) → count ≤ 0 → count ≡ length ms → ms ≡ []
+  none_left count ms none h = no_payment ms (omega (arith, none, h))
 
-  pub plan_rest : (beyond rest : ℕ) (ms : List Payment) → length ms ≡ 0 → beyond ≡ room - 15 → rest ≡ room - 34 * length ms → Pays lanes r flights limit beyond 65 ms → IsNone lanes flights (bound spare sequence rest) → NoneUnit lanes flights r limit (bound spare sequence room) 65
+  whole_room : (count : ℕ) → count ≤ 0 → room - count * 34 ≡ room
+  whole_room count none = omega (arith, none)
+
+  no_pays : (beyond : ℕ) (ms : List Payment) → ms ≡ [] → beyond ≡ room - 15 → Pays lanes r flights limit beyond 65 ms → Pays lanes r flights limit (room - 15) 65 []
+  no_pays beyond ms none e pays = subst (λ i. Pays lanes r flights limit i 65 []) e (subst (λ (xs : List Payment). Pays lanes r flights limit beyond 65 xs) none pays)
+
+  pub plan_rest : (beyond count : ℕ) (ms : List Payment) → count ≤ 0 → beyond ≡ room - 15 → count ≡ length ms → Pays lanes r flights limit beyond 65 ms → IsNone lanes flights (bound spare sequence (room - count * 34)) → NoneUnit lanes flights r limit (bound spare sequence room) 65
       → IsRest lanes flights r limit (bound spare sequence room)
-  plan_rest beyond rest ms none e h pays n u = (subst (λ i. IsNone lanes flights (bound spare sequence i)) (whole_room rest ms none h) n, u, no_pays beyond ms none e pays)
+  plan_rest beyond count ms none e h pays n u = (subst (λ i. IsNone lanes flights (bound spare sequence i)) (whole_room count none) n, u, no_pays beyond ms (none_left count ms none h) e pays)
 
-  pub plan_unit : (beyond rest : ℕ) (ms all : List Payment) (p : Payment) → length ms ≡ 0 → all ≡ ms ++ p ∷ [] → beyond ≡ room - 15 → rest ≡ room - 34 * length ms → Pays lanes r flights limit beyond 65 ms → IsNone lanes flights (bound spare sequence rest)
+  pub plan_unit : (beyond count : ℕ) (ms all : List Payment) (p : Payment) → count ≤ 0 → all ≡ ms ++ p ∷ [] → beyond ≡ room - 15 → count ≡ length ms → Pays lanes r flights limit beyond 65 ms → IsNone lanes flights (bound spare sequence (room - count * 34))
       → IsUnit lanes flights r limit (bound spare sequence room) p → IsPlan lanes flights r limit (bound spare sequence room) None all
-  plan_unit beyond rest ms all p none pushed e h pays n u =
-      let empty = no_payment ms none in
+  plan_unit beyond count ms all p none pushed e h pays n u =
+      let empty = none_left count ms none h in
       let one : all ≡ p ∷ [] = pushed ∙ ap (λ (xs : List Payment). xs ++ p ∷ []) empty in
       subst (λ (xs : List Payment). IsPlan lanes flights r limit (bound spare sequence room) None xs) (sym one) (inr (
-        no_pays beyond ms none e pays,
-        subst (λ i. IsNone lanes flights (bound spare sequence i)) (whole_room rest ms none h) n,
+        no_pays beyond ms empty e pays,
+        subst (λ i. IsNone lanes flights (bound spare sequence i)) (whole_room count none) n,
         refl,
         u,
       ))
+
+  -- payments within a limit are no more than it
+  pub small_plan : (beyond : ℕ) (ms : List Payment) → Pays lanes r flights limit beyond 65 ms → limit < 2 ^ 64 → total ms < 2 ^ 64
+  small_plan beyond ms pays small = omega (arith, pays.within, small)
 
 -- by what bounds are
 pub bounds_are : (b : Bounds) (spare sequence room : ℕ) → b.spare ≡ spare → b.sequence ≡ sequence → b.room ≡ room → ◌≡◌ {A = Bounds} b (bound spare sequence room)

@@ -17,3 +17,9 @@ returns-else-is_any_held g c = λ d.
     let h = w.held in
     let low = c.is_any_held.ensures.no c.if-is_any_held.false w.stream w.lane w.is_own w.is_open h.0 h.1 h.2 in
     absurd (omega (arith, low, h.3))
+
+pub returns-then-was_blocked : goal.returns-then-was_blocked
+returns-then-was_blocked g c = λ d. let e = sym c.if-was_blocked.true ∙ c.was_blocked.ensures ∙ d.first in absurd cc
+
+pub returns-then-notice_size-bounds : goal.returns-then-notice_size-bounds
+returns-then-notice_size-bounds g c = λ d. absurd (omega (arith, c.notice_size.ensures, c.if-notice_size-bounds.true, d.short))

@@ -1,26 +1,35 @@
-use Rattle.std.proofs.Common.{◌≡◌, arith, None, sym, ◌∙◌}
-use Rattle.std.proofs.lemmas.List.{get_or_read}
+use Rattle.std.proofs.Common.{◌<◌, arith, sym, subst, ◌∙◌}
+use Rattle.st_sender.proofs.Totals.{found_at}
+use Rattle.st_sender.proofs.Changing.{same_lane, no_lane}
 use Rattle.st_sender.proofs.Said.{held_more}
 use Rattle.st_sender.proofs.blocked.is_any_held.Goals as goal
 use Rattle.st_sender.proofs.blocked.is_any_held.Goals.{in-Some+else-is_held, in_default}
 
 pub loop-number-preserved : goal.loop-number-preserved
 loop-number-preserved g c =
-    let here = get_or_read c.args.streams.now c.loop-number.number c.index-streams-number.result (omega arith) c.index-streams-number.is None in
     held_more c.args.streams.now c.args.flights.now c.args.spare c.loop-number.number c.loop-number.invariant
     (λ l e. elim c.match-streams-number.branch [
-      | in-Some+else-is_held w ↦ (let a = w.in-Some.is in let same : w.in-Some.stream ≡ l = cc in rw same at w.is_held.ensures.no w.if-is_held.false)
-      | in_default w ↦ (let a = w.in_default.is in absurd cc)
+      | in-Some+else-is_held w ↦ (let same = same_lane c.args.streams.now c.loop-number.number c.index-streams-number.result w.in-Some.stream l (subst (λ n. c.loop-number.number < n) (sym c.requires.streams) c.loop-number-test.true) c.index-streams-number.is w.in-Some.is e in rw same at w.is_held.ensures.no w.if-is_held.false)
+      | in_default w ↦ absurd (no_lane c.args.streams.now c.loop-number.number c.index-streams-number.result l (subst (λ n. c.loop-number.number < n) (sym c.requires.streams) c.loop-number-test.true) c.index-streams-number.is w.in_default.is e)
     ])
 
 pub returns-clause-no : goal.returns-clause-no
-returns-clause-no g c = λ t k l h e. c.loop-number.invariant k l (omega arith) e
+returns-clause-no g c = λ t k l h e. c.loop-number.invariant k l (omega (arith, h, c.loop-number-test.false)) e
 
 pub returns-then-is_held-clause-yes : goal.returns-then-is_held-clause-yes
 returns-then-is_held-clause-yes g c = λ t. record {
   stream = c.loop-number.number;
   lane = c.in-Some.stream;
-  is_open = sym (get_or_read c.args.streams.now c.loop-number.number c.index-streams-number.result (omega arith) c.index-streams-number.is None) ∙ c.in-Some.is;
-  is_own = omega arith;
+  is_open = found_at c.args.streams.now c.loop-number.number c.index-streams-number.result (subst (λ n. c.loop-number.number < n) (sym c.requires.streams) c.loop-number-test.true) c.index-streams-number.is ∙ c.in-Some.is;
+  is_own = c.loop-number-test.true;
   held = c.is_held.ensures.yes c.if-is_held.true;
 }
+
+pub loop-number-init : goal.loop-number-init
+loop-number-init g c = λ k l h e o byte d. absurd (omega (arith, h))
+
+pub returns-then-is_held-clause-no : goal.returns-then-is_held-clause-no
+returns-then-is_held-clause-no g c = λ t. absurd cc
+
+pub returns-clause-yes : goal.returns-clause-yes
+returns-clause-yes g c = λ t. absurd cc

@@ -1,14 +1,11 @@
-use Rattle.std.proofs.Common.{◌<◌, arith, None, ap, ◌∙◌, refl}
-use Rattle.std.proofs.lemmas.List.{get_or_read}
-use Rattle.st_sender.specs.Paying.{payable}
-use Rattle.st_sender.proofs.Paying.{none_unit_more}
+use Rattle.std.proofs.Common.{◌<◌, arith, subst, sym, refl}
+use Rattle.st_sender.proofs.Paying.{due_at, none_unit_more}
 use Rattle.st_sender.proofs.payments.unit.Goals as goal
 use Rattle.st_sender.proofs.payments.unit.Goals.{then-payable_at-eq0-via-then-payable_at-eq0, then-payable_at-eq0-via-else-payable_at-eq0+then-bounds-unit_size}
 
 pub loop-number-preserved : goal.loop-number-preserved
 loop-number-preserved g c =
-    let here = get_or_read c.args.streams.now c.loop-number.number c.index-streams-number.result (omega arith) c.index-streams-number.is None in
-    let due = c.payable_at.ensures ∙ ap (λ x. payable c.args.least c.args.flights.now c.loop-number.number x) here in
+    let due = due_at c.args.streams.now c.args.least c.args.flights.now c.loop-number.number c.index-streams-number.result c.payable_at.result (subst (λ n. c.loop-number.number < n) (sym c.requires) c.loop-number-test.true) c.index-streams-number.is c.payable_at.ensures in
     none_unit_more c.args.streams.now c.args.flights.now c.args.least c.args.limit c.args.bounds c.loop-number.number c.loop-number.invariant
     (λ some. elim c.then-payable_at-eq0.branch [
       | then-payable_at-eq0-via-then-payable_at-eq0 w ↦ omega (arith, due, some, w.if-payable_at-eq0.true)
@@ -17,8 +14,7 @@ loop-number-preserved g c =
 
 pub returns-in-loop-number : goal.returns-in-loop-number
 returns-in-loop-number g c =
-    let here = get_or_read c.args.streams.now c.loop-number.number c.index-streams-number.result (omega arith) c.index-streams-number.is None in
-    let due = c.payable_at.ensures ∙ ap (λ x. payable c.args.least c.args.flights.now c.loop-number.number x) here in
+    let due = due_at c.args.streams.now c.args.least c.args.flights.now c.loop-number.number c.index-streams-number.result c.payable_at.result (subst (λ n. c.loop-number.number < n) (sym c.requires) c.loop-number-test.true) c.index-streams-number.is c.payable_at.ensures in
     let size = rw c.least_for-amount.ensures at c.unit_size.ensures in
     record {
       one = refl;
@@ -29,3 +25,9 @@ returns-in-loop-number g c =
 
 pub returns : goal.returns
 returns g c = λ k h. c.loop-number.invariant k (omega arith)
+
+pub loop-number-init : goal.loop-number-init
+loop-number-init g c = λ k h some any. absurd (omega (arith, h))
+
+pub returns-then-limit-eq0 : goal.returns-then-limit-eq0
+returns-then-limit-eq0 g c = λ k h some any. absurd (omega (arith, any, c.if-limit-eq0.true))

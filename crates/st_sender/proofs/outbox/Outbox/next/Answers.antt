@@ -21,6 +21,7 @@ use Rattle.st_sender.proofs.Going.{takeable, booked_length, tied_next}
 use Rattle.st_sender.proofs.Next.{work_idle, notice_sends, plan_sends, plan_filled, plan_full, notice_full}
 use Rattle.st_sender.proofs.Planned.{by_some, by_none, if_some, if_ok, some_is}
 use Rattle.st_sender.proofs.Said.{load_filled}
+use Rattle.std.proofs.lemmas.Result.{IfOk-from_err}
 use Rattle.st_sender.proofs.outbox.Outbox.next.Goals as goal
 
 pub returns-in_default-clause-sends : goal.returns-in_default-clause-sends
@@ -143,3 +144,24 @@ invariant_of-self g c =
 pub returns-in_err-load-clause-unchanged : goal.returns-in_err-load-clause-unchanged
 returns-in_err-load-clause-unchanged g c =
     err_of c.from_residual-in_err-load.result (seen_stays _ _ c.self.inside.streams.items c.launch.new.streams.items c.launch.new.flights.items c.self.view_is refl c.in_err-load.ensures.streams_stay c.in_err-load.ensures.flights_stay)
+
+pub returns-in_err-frame-clause-sends : goal.returns-in_err-frame-clause-sends
+returns-in_err-frame-clause-sends g c = IfOk-from_err c.from_residual.result _ c.from_residual.ensures.0
+
+pub returns-in_err-frame-clause-filled : goal.returns-in_err-frame-clause-filled
+returns-in_err-frame-clause-filled g c = IfOk-from_err c.from_residual.result _ c.from_residual.ensures.0
+
+pub returns-in_err-frame-clause-full : goal.returns-in_err-frame-clause-full
+returns-in_err-frame-clause-full g c = IfOk-from_err c.from_residual.result _ c.from_residual.ensures.0
+
+pub returns-in_err-load-clause-sends : goal.returns-in_err-load-clause-sends
+returns-in_err-load-clause-sends g c = IfOk-from_err c.from_residual-in_err-load.result _ c.from_residual-in_err-load.ensures.0
+
+pub returns-in_err-load-clause-filled : goal.returns-in_err-load-clause-filled
+returns-in_err-load-clause-filled g c = IfOk-from_err c.from_residual-in_err-load.result _ c.from_residual-in_err-load.ensures.0
+
+pub returns-in_err-load-clause-full : goal.returns-in_err-load-clause-full
+returns-in_err-load-clause-full g c = IfOk-from_err c.from_residual-in_err-load.result _ c.from_residual-in_err-load.ensures.0
+
+pub plan-requires-clause-streams : goal.plan-requires-clause-streams
+plan-requires-clause-streams g c = ap length c.deref.ensures.value ∙ c.self.invariant.0

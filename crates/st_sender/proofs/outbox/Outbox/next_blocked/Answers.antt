@@ -21,3 +21,9 @@ returns-in-Some g c = λ limits.
     let some = rw (c.deref.ensures.value, c.deref-2.ensures.value, c.least-least.ensures.value) at c.in-Some.ensures in
     let alone = no_flights c.self.inside.flights.items (ap length (sym c.deref-2.ensures.value) ∙ c.deref-2.ensures.len ∙ alone_is _ _ c.is_empty.ensures c.if-not-is_empty.false) in
     rw (← c.self.view_is) (first_due _ c.self.inside.streams.items c.args.bounds refl c.self.invariant.0 c.self.invariant.1.booked go alone limits (telling c.in-Some.notice) some)
+
+pub first_blocked-requires : goal.first_blocked-requires
+first_blocked-requires g c = ap length c.deref.ensures.value ∙ c.self.invariant.0
+
+pub connection_blocked-requires-clause-streams : goal.connection_blocked-requires-clause-streams
+connection_blocked-requires-clause-streams g c = ap length c.deref-in-None.ensures.value ∙ c.self.invariant.0

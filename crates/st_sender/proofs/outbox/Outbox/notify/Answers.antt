@@ -10,6 +10,7 @@ use Rattle.st_sender.specs.Paying.{total}
 use Rattle.st_sender.specs.Shown.{flight_with, telling}
 use Rattle.st_sender.proofs.Landing.{pushed_ordered}
 use Rattle.st_sender.proofs.Said.{said_sends, said_tied, said_fresh, said_flies, said_load}
+use Rattle.std.proofs.lemmas.Result.{IfOk-from_err}
 use Rattle.st_sender.proofs.outbox.Outbox.notify.Goals as goal
 
 pub invariant_of-self-2 : goal.invariant_of-self-2
@@ -44,3 +45,6 @@ returns-clause-sends g c =
           (said_sends _ lanes c.args.bounds refl c.self.invariant.0 c.self.invariant.1.booked go (map seen c.args.limits.now) notice due.0 due.1 c.in_ok-load.load load c.launch.new.flights.items flies c.launch.new.streams.items c.in_ok-load.ensures.books),
       (notice, ap (λ p. p.frames) load, ap (λ p. p.amount) load),
     )
+
+pub returns-in_err-load-clause-sends : goal.returns-in_err-load-clause-sends
+returns-in_err-load-clause-sends g c = IfOk-from_err c.from_residual.result _ c.from_residual.ensures.0

@@ -1,0 +1,15 @@
+use Rattle.std.proofs.Common.{arith}
+use Rattle.st_sender.specs.Answering.{acked_close}
+use Rattle.st_sender.specs.Lanes.{on_out}
+use Rattle.st_sender.proofs.Changing.{lane_changed, lane_none, lane_past}
+use Rattle.st_sender.proofs.flying.acknowledge_close.Goals as goal
+
+pub returns-in-Some : goal.returns-in-Some
+returns-in-Some g c =
+    lane_changed c.args.streams.now.items c.args.stream (on_out (acked_close c.args.code)) c.index_mut.result.now c.in-Some.found c.settle.new.self (omega (arith, c.if-stream-len.true, c.len.ensures)) c.index_mut.ensures.value c.in-Some.is c.settle.ensures
+
+pub returns-in_default : goal.returns-in_default
+returns-in_default g c = lane_none c.args.streams.now.items c.args.stream (on_out (acked_close c.args.code)) c.index_mut.result.now (omega (arith, c.if-stream-len.true, c.len.ensures)) c.index_mut.ensures.value c.in_default.is
+
+pub returns-else-stream-len : goal.returns-else-stream-len
+returns-else-stream-len g c = lane_past c.args.streams.now.items c.args.stream (on_out (acked_close c.args.code)) (omega (arith, c.if-stream-len.false, c.len.ensures))
