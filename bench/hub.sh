@@ -1,6 +1,7 @@
 #!/usr/bin/env bash
-# How many chunks of 1, 64 and 4,096 bytes go through one ring of a hub from thread to thread in a second of the clock, each the
-# best of the runs, and beside that the processor's seconds that they took. By hand, on a quiet machine of more than one core:
+# How many chunks of 1, 64 and 4,096 bytes go through one ring of a hub from thread to thread in a second of the clock, and how
+# many bytes go from a writer of one hub to a reader of another, both in memory, with 1, 2 and 4 workers of each; each the best
+# of the runs, and beside that the processor's seconds that they took. By hand, on a quiet machine of more than one core:
 # bench/hub.sh [RUNS]
 set -euo pipefail
 cd "$(dirname "$0")/../crates/bench_hub"
@@ -26,4 +27,9 @@ rate() { # amount, heading, words
 
 for length in 1 64 4096; do
     rate 4000000 "chunks of $length bytes" 4000000 "$length"
+done
+
+chunks=10000 # of 4,096 bytes
+for workers in 1 2 4; do
+    rate $((chunks * 4096)) "bytes, $workers workers" 0 0 "$chunks" "$workers"
 done

@@ -32,7 +32,7 @@ fn end<N: HubName<Global>>(writer: &mut StreamWriter<N, Global>) {
 }
 
 /// Writes so many chunks of so many bytes, and then an end.
-fn write_all<N: HubName<Global>>(
+pub(crate) fn write_all<N: HubName<Global>>(
     alloc: Global,
     writer: &mut StreamWriter<N, Global>,
     chunks: u64,
