@@ -7,9 +7,9 @@ use st_transfer::TransferError;
 use std::alloc::Global;
 use std::io::{ErrorKind, Read, Write};
 use std::net::{Net, OpenListener, OpenStream, SocketAddr, TcpListener, TcpStream};
+use std::process::Abort;
 use std::sync::Wait;
 use std::sync::atomic::{AtomicU64, Ordering};
-use std::test::Fail;
 use std::thread::Threads;
 use std::time::Duration;
 use std::{io, thread};
@@ -134,23 +134,29 @@ fn transfer_at<
     }
 }
 
+impl Came {
+    /// That these bytes came whole: whether the failure was met.
+    fn check(&self, rt: &impl Abort, bytes: &[u8], k: u64) -> bool {
+        assert!(rt; self.sent == Ok(100), "at {k}");
+        assert!(rt; self.told == Ok(100), "at {k}");
+        assert!(rt; self.bytes.as_slice() == bytes, "at {k}");
+        self.is_met
+    }
+}
+
 /// Each call of the receiver's first connection fails in turn, until a run meets no failure: that connection ends alone, and
 /// the transfer goes on with the next and comes whole.
 #[test]
-fn each_call_of_a_connection_fails_in_turn(rt: HostRuntime) -> Result<(), Fail> {
+fn each_call_of_a_connection_fails_in_turn(rt: HostRuntime) {
     let alloc = rt.alloc();
-    let bytes = pattern(alloc, 100)?;
+    let bytes = pattern(&rt, alloc, 100);
     let mut last = 0;
     for k in 1..=1_000u64 {
-        let came = transfer_at(&rt, alloc, listen(&rt, alloc)?, k, bytes.as_slice());
-        assert!(rt; came.sent == Ok(100), "at {k}");
-        assert!(rt; came.told == Ok(100), "at {k}");
-        assert!(rt; came.bytes.as_slice() == bytes.as_slice(), "at {k}");
-        if !came.is_met {
+        let came = transfer_at(&rt, alloc, listen(&rt, alloc), k, &bytes);
+        if !came.check(&rt, &bytes, k) {
             break;
         }
         last = k;
     }
     assert!(rt; 50 < last && last < 1_000);
-    Ok(())
 }

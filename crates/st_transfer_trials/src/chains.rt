@@ -7,8 +7,8 @@ use st_oer::Rate;
 use st_transfer::TransferError;
 use std::alloc::Global;
 use std::net::{Net, TcpListener, TcpStream};
+use std::process::Abort;
 use std::sync::Wait;
-use std::test::Fail;
 use std::thread;
 use std::thread::Threads;
 
@@ -58,17 +58,22 @@ fn pass<
 
 /// A transfer of these bytes through two connectors of these rates.
 fn pass_through<
-    R: Net<Listener = TcpListener, Stream = TcpStream> + Threads + Wait + std::time::Clock + Sync,
->(rt: &R, alloc: Global, rates: Rates, bytes: &[u8], terms: Terms) -> Result<Told, Fail> {
+    R: Net<Listener = TcpListener, Stream = TcpStream>
+        + Abort
+        + Threads
+        + Wait
+        + std::time::Clock
+        + Sync,
+>(rt: &R, alloc: Global, rates: Rates, bytes: &[u8], terms: Terms) -> Told {
     let Place {
         listener: first_listener,
         host: first,
-    } = listen(rt, alloc)?;
+    } = listen(rt, alloc);
     let Place {
         listener: second_listener,
         host: second,
-    } = listen(rt, alloc)?;
-    let Place { listener, host } = listen(rt, alloc)?;
+    } = listen(rt, alloc);
+    let Place { listener, host } = listen(rt, alloc);
     let hosts = Hosts {
         first: first.as_str(),
         second: second.as_str(),
@@ -88,11 +93,23 @@ fn pass_through<
             terms,
         ),
     );
-    Ok(Told {
+    Told {
         first: first_told,
         second: second_told,
         kept,
-    })
+    }
+}
+
+fn owed(amounts: (u64, u64)) -> Result<Owed, TransferError> {
+    let (claims, dues) = amounts;
+    Ok(Owed { claims, dues })
+}
+
+impl Told {
+    /// Whether the connectors are owed and owe so much.
+    fn owes(&self, first: (u64, u64), second: (u64, u64)) -> bool {
+        self.first == owed(first) && self.second == owed(second)
+    }
 }
 
 /// Three units for two, and then one for two.
@@ -107,63 +124,37 @@ fn three_fourths() -> Rates {
 /// the first, 750 to the second, 375 to the receiver. What the second owes the receiver is its credit, and what the first
 /// is owed was paid.
 #[test]
-fn money_is_exchanged_at_each_connector(rt: HostRuntime) -> Result<(), Fail> {
+fn money_is_exchanged_at_each_connector(rt: HostRuntime) {
     let alloc = rt.alloc();
-    let bytes = pattern(alloc, 70_000)?;
+    let bytes = pattern(&rt, alloc, 70_000);
     let terms = Terms {
         least: Rate::new(3, 4).unwrap(),
         receive_max: 375,
         ..with_money(500, 4)
     };
-    let Told {
-        first,
-        second,
-        kept,
-    } = pass_through(&rt, alloc, three_fourths(), bytes.as_slice(), terms)?;
-    let to_the_second = Owed {
-        claims: 500,
-        dues: 750,
-    };
-    let to_the_receiver = Owed {
-        claims: 750,
-        dues: 375,
-    };
-    assert!(rt; first == Ok(to_the_second));
-    assert!(rt; second == Ok(to_the_receiver));
-    assert!(rt; kept.sent == Ok(70_000));
-    assert!(rt; kept.told == Ok(70_000));
-    assert!(rt; kept.bytes.as_slice() == bytes.as_slice());
-    Ok(())
+    let told = pass_through(&rt, alloc, three_fourths(), &bytes, terms);
+    assert!(rt; told.owes((500, 750), (750, 375)));
+    assert!(rt; told.kept.is(Ok(70_000), Ok(70_000), &bytes));
 }
 
 /// All of the money has to arrive, and three fourths do: each packet with money is refused, until the connection fails. No
 /// connector books anything.
 #[test]
-fn too_little_that_arrives_is_refused(rt: HostRuntime) -> Result<(), Fail> {
-    let alloc = rt.alloc();
+fn too_little_that_arrives_is_refused(rt: HostRuntime) {
     let terms = Terms {
         connections: 2_000,
         ..with_money(500, 1)
     };
-    let Told {
-        first,
-        second,
-        kept,
-    } = pass_through(&rt, alloc, three_fourths(), b"abc".as_slice(), terms)?;
-    let nothing = Owed { claims: 0, dues: 0 };
-    assert!(rt; first == Ok(nothing));
-    assert!(rt; second == Ok(nothing));
-    assert!(rt; kept.sent == Err(TransferError::Failed));
-    assert!(rt; kept.told == Err(TransferError::Turns));
-    assert!(rt; kept.bytes.len() == 0);
-    Ok(())
+    let told = pass_through(&rt, rt.alloc(), three_fourths(), b"abc", terms);
+    let (turns, failed) = (Err(TransferError::Turns), Err(TransferError::Failed));
+    assert!(rt; told.owes((0, 0), (0, 0)));
+    assert!(rt; told.kept.is(turns, failed, b""));
 }
 
 /// The receiver takes 100 of 500 units and all bytes; then the sender idles until its turns are used up, and the receiver
 /// until it has no connection left. What the second connector owes the receiver is its credit.
 #[test]
-fn a_receive_max_is_kept(rt: HostRuntime) -> Result<(), Fail> {
-    let alloc = rt.alloc();
+fn a_receive_max_is_kept(rt: HostRuntime) {
     let same = Rate::new(1, 1).unwrap();
     let rates = Rates {
         first: same,
@@ -175,19 +166,8 @@ fn a_receive_max_is_kept(rt: HostRuntime) -> Result<(), Fail> {
         connections: 2_000,
         ..with_money(500, 1)
     };
-    let Told {
-        first,
-        second,
-        kept,
-    } = pass_through(&rt, alloc, rates, b"abc".as_slice(), terms)?;
-    let hundred = Owed {
-        claims: 100,
-        dues: 100,
-    };
-    assert!(rt; first == Ok(hundred));
-    assert!(rt; second == Ok(hundred));
-    assert!(rt; kept.sent == Err(TransferError::Turns));
-    assert!(rt; kept.told == Err(TransferError::Turns));
-    assert!(rt; kept.bytes.as_slice() == b"abc".as_slice());
-    Ok(())
+    let told = pass_through(&rt, rt.alloc(), rates, b"abc", terms);
+    let (turns, no_answer) = (Err(TransferError::Turns), Err(TransferError::Turns));
+    assert!(rt; told.owes((100, 100), (100, 100)));
+    assert!(rt; told.kept.is(turns, no_answer, b"abc"));
 }

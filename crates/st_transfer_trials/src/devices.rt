@@ -1,95 +1,125 @@
 //! Inputs, outputs and listeners that fail.
 
 use crate::sides::{Terms, connect, receive, with_money};
-use crate::transfers::{Place, listen, pattern, transfer, transfer_into};
+use crate::transfers::{Kept, Place, listen, pattern, transfer, transfer_into};
 use st_file::FileError;
 use st_oer::{Counting, FailAt, Rate};
 use st_transfer::TransferError;
-use std::net::Net;
-use std::test::Fail;
+use std::alloc::Global;
+use std::net::{Net, TcpListener, TcpStream};
+use std::process::Abort;
+use std::sync::Wait;
+use std::thread::Threads;
+
+/// That a sender met the fault after so many bytes, and that its receiver got no end, and no other byte.
+fn check_part(rt: &impl Abort, kept: &Kept, bytes: &[u8], k: u64, read: u64) {
+    assert!(rt;
+        kept.sent == Err(TransferError::File(FileError::ReadFault(read))),
+        "at {k}"
+    );
+    assert!(rt; kept.told == Err(TransferError::Turns), "at {k}");
+    assert!(rt; kept.bytes.len() as u64 <= read, "at {k}");
+    assert!(rt; bytes.starts_with(kept.bytes.as_slice()), "at {k}");
+}
+
+/// A transfer to a receiver of 500 connections, by an input whose read `k` fails.
+fn transfer_from<
+    R: Net<Listener = TcpListener, Stream = TcpStream>
+        + Abort
+        + Threads
+        + Wait
+        + std::time::Clock
+        + Sync,
+>(rt: &R, alloc: Global, bytes: &[u8], k: u64) -> Kept {
+    let Place { listener, host } = listen(rt, alloc);
+    let host = host.as_str();
+    let input = FailAt::new(bytes, k);
+    let terms = Terms {
+        connections: 500,
+        ..with_money(0, 1)
+    };
+    transfer(rt, alloc, listener, host, &[host], input, terms)
+}
 
 /// Each read of the input fails in turn: there are three that give bytes, 4,096 at most, and one that meets the end. The
-/// receiver, of 500 connections, gets no end then, and no other byte.
+/// receiver gets no end then, and no other byte.
 #[test]
-fn each_read_of_the_input_fails_in_turn(rt: HostRuntime) -> Result<(), Fail> {
-    let alloc = rt.alloc();
-    let bytes = pattern(alloc, 10_000)?;
+fn each_read_of_the_input_fails_in_turn(rt: HostRuntime) {
+    let bytes = pattern(&rt, rt.alloc(), 10_000);
     for (k, read) in [(1, 0), (2, 4_096), (3, 8_192), (4, 10_000)] {
-        let Place { listener, host } = listen(&rt, alloc)?;
-        let host = host.as_str();
-        let input = FailAt::new(bytes.as_slice(), k);
-        let terms = Terms {
-            connections: 500,
-            ..with_money(0, 1)
-        };
-        let kept = transfer(&rt, alloc, listener, host, &[host], input, terms);
-        assert!(rt;
-            kept.sent == Err(TransferError::File(FileError::ReadFault(read))),
-            "at {k}"
-        );
-        assert!(rt; kept.told == Err(TransferError::Turns), "at {k}");
-        assert!(rt; kept.bytes.len() as u64 <= read, "at {k}");
-        assert!(rt;
-            bytes.as_slice().starts_with(kept.bytes.as_slice()),
-            "at {k}"
-        );
+        let kept = transfer_from(&rt, rt.alloc(), &bytes, k);
+        check_part(&rt, &kept, &bytes, k, read);
     }
     assert!(rt; TransferError::File(FileError::ReadFault(0)).number() == 90);
-    Ok(())
+}
+
+/// That a receiver told what it wrote, a front of these bytes: whether that was all of them, and then both sides told so.
+fn check_written(rt: &impl Abort, came: &Kept, bytes: &[u8], k: u64) -> bool {
+    let written = came.bytes.len() as u64;
+    assert!(rt; bytes.starts_with(came.bytes.as_slice()), "at {k}");
+    if came.told == Ok(10_000) {
+        assert!(rt; came.sent == Ok(10_000), "at {k}");
+        assert!(rt; written == 10_000);
+        return true;
+    }
+    assert!(rt;
+        came.told == Err(TransferError::File(FileError::WriteFault(written))),
+        "at {k}"
+    );
+    false
+}
+
+/// A transfer to a receiver of whose output call `k` fails.
+fn transfer_to<
+    R: Net<Listener = TcpListener, Stream = TcpStream>
+        + Abort
+        + Threads
+        + Wait
+        + std::time::Clock
+        + Sync,
+>(rt: &R, alloc: Global, bytes: &[u8], k: u64) -> Kept {
+    let Place { listener, host } = listen(rt, alloc);
+    let host = host.as_str();
+    let mut writer = Counting::new(FailAt::new(Vec::new(alloc), k));
+    let terms = with_money(0, 1);
+    let (told, sent) = transfer_into(rt, alloc, listener, host, &[], bytes, &mut writer, terms);
+    Kept {
+        told,
+        bytes: writer.into_inner().into_inner(),
+        sent,
+    }
 }
 
 /// Each call of the output fails in turn, until one run meets no failure: what is told is what was written.
 #[test]
-fn each_call_of_the_output_fails_in_turn(rt: HostRuntime) -> Result<(), Fail> {
-    let alloc = rt.alloc();
-    let bytes = pattern(alloc, 10_000)?;
+fn each_call_of_the_output_fails_in_turn(rt: HostRuntime) {
+    let bytes = pattern(&rt, rt.alloc(), 10_000);
     let mut failed = 0;
     for k in 1..=100u64 {
-        let Place { listener, host } = listen(&rt, alloc)?;
-        let mut writer = Counting::new(FailAt::new(Vec::new(alloc), k));
-        let (told, sent) = transfer_into(
-            &rt,
-            alloc,
-            listener,
-            host.as_str(),
-            &[],
-            bytes.as_slice(),
-            &mut writer,
-            with_money(0, 1),
-        );
-        let written = writer.into_inner().into_inner();
-        assert!(rt; bytes.as_slice().starts_with(written.as_slice()), "at {k}");
-        if told == Ok(10_000) {
-            assert!(rt; sent == Ok(10_000), "at {k}");
-            assert!(rt; written.len() == 10_000);
+        let came = transfer_to(&rt, rt.alloc(), &bytes, k);
+        if check_written(&rt, &came, &bytes, k) {
             break;
         }
-        assert!(rt;
-            told == Err(TransferError::File(FileError::WriteFault(written.len() as u64))),
-            "at {k}"
-        );
         failed = k;
     }
     assert!(rt; 3 <= failed && failed < 100);
     assert!(rt; TransferError::File(FileError::WriteFault(0)).number() == 91);
-    Ok(())
 }
 
 /// A listener that does not wait has no connection to give: a receiver ends, and so do the workers of a connector.
 #[test]
-fn a_listener_that_gives_no_connection_is_a_fault(rt: HostRuntime) -> Result<(), Fail> {
+fn a_listener_that_gives_no_connection_is_a_fault(rt: HostRuntime) {
     let alloc = rt.alloc();
-    let Place { listener, host } = listen(&rt, alloc)?;
-    listener.set_nonblocking(true)?;
+    let Place { listener, host } = listen(&rt, alloc);
+    assert!(rt; listener.set_nonblocking(true).is_ok());
     let mut writer = Counting::new(Vec::new(alloc));
     let told = receive(&rt, alloc, listener, &mut writer, with_money(0, 1));
     assert!(rt; told == Err(TransferError::Accept));
     assert!(rt; told.err().map(|e| e.number()) == Some(80));
     assert!(rt; writer.into_inner().len() == 0);
-    let between = listen(&rt, alloc)?;
-    between.listener.set_nonblocking(true)?;
+    let between = listen(&rt, alloc);
+    assert!(rt; between.listener.set_nonblocking(true).is_ok());
     let same = Rate::new(1, 1).unwrap();
     let owed = connect(&rt, alloc, between.listener, host.as_str(), same);
     assert!(rt; owed == Err(TransferError::Accept));
-    Ok(())
 }

@@ -5,15 +5,14 @@ use crate::transfers::{Place, listen, pattern, transfer};
 use st_transfer::TransferError;
 use std::io::Write;
 use std::net::{Net, TcpStream};
-use std::test::Fail;
 
 /// Nobody listens at the connector's address: the connection fails after as many exchanges as it bears.
 #[test]
-fn a_connector_that_is_not_there_fails_the_connection(rt: HostRuntime) -> Result<(), Fail> {
+fn a_connector_that_is_not_there_fails_the_connection(rt: HostRuntime) {
     let alloc = rt.alloc();
-    let Place { listener, host } = listen(&rt, alloc)?;
+    let Place { listener, host } = listen(&rt, alloc);
     drop(listener);
-    let bytes = pattern(alloc, 1_000_000)?;
+    let bytes = pattern(&rt, alloc, 1_000_000);
     let sent = send(
         &rt,
         alloc,
@@ -24,14 +23,13 @@ fn a_connector_that_is_not_there_fails_the_connection(rt: HostRuntime) -> Result
     );
     assert!(rt; sent == Err(TransferError::Failed));
     assert!(rt; sent.err().map(|e| e.number()) == Some(58));
-    Ok(())
 }
 
 /// A token that the receiver, of 500 connections, does not know: nothing comes.
 #[test]
-fn a_wrong_token_fails_the_connection(rt: HostRuntime) -> Result<(), Fail> {
+fn a_wrong_token_fails_the_connection(rt: HostRuntime) {
     let alloc = rt.alloc();
-    let Place { listener, host } = listen(&rt, alloc)?;
+    let Place { listener, host } = listen(&rt, alloc);
     let host = host.as_str();
     let terms = Terms {
         is_known: false,
@@ -47,10 +45,8 @@ fn a_wrong_token_fails_the_connection(rt: HostRuntime) -> Result<(), Fail> {
         b"abc".as_slice(),
         terms,
     );
-    assert!(rt; kept.sent == Err(TransferError::Failed));
-    assert!(rt; kept.told == Err(TransferError::Turns));
-    assert!(rt; kept.bytes.len() == 0);
-    Ok(())
+    let (turns, failed) = (Err(TransferError::Turns), Err(TransferError::Failed));
+    assert!(rt; kept.is(turns, failed, b""));
 }
 
 /// Opens a connection, writes these bytes to it one by one, and drops it.
@@ -68,23 +64,21 @@ fn write_bytes<R: Net>(rt: &R, host: &str, bytes: &[u8]) {
 /// A peer that closes at once, one that sends no HTTP, and one that is cut off in its head, each before the transfer, end
 /// alone.
 #[test]
-fn bad_connections_end_alone(rt: HostRuntime) -> Result<(), Fail> {
+fn bad_connections_end_alone(rt: HostRuntime) {
     let alloc = rt.alloc();
-    let Place { listener, host } = listen(&rt, alloc)?;
+    let Place { listener, host } = listen(&rt, alloc);
     let host = host.as_str();
     write_bytes(&rt, host, b"");
     write_bytes(&rt, host, b"SSH-2.0-elsewhere\r\n\r\n");
     write_bytes(&rt, host, b"POST /ilp HTTP/1.1\r\nHost: here\r\n");
     let terms = with_money(0, 1);
     let kept = transfer(&rt, alloc, listener, host, &[], b"abc".as_slice(), terms);
-    assert!(rt; kept.sent == Ok(3));
-    assert!(rt; kept.told == Ok(3));
-    Ok(())
+    assert!(rt; kept.is(Ok(3), Ok(3), b"abc"));
 }
 
 /// A source of IVs that ends after the first.
 #[test]
-fn no_iv_is_a_fault(rt: HostRuntime) -> Result<(), Fail> {
+fn no_iv_is_a_fault(rt: HostRuntime) {
     let alloc = rt.alloc();
     let random = b"twelve bytes".as_slice();
     let sent = send(
@@ -96,5 +90,4 @@ fn no_iv_is_a_fault(rt: HostRuntime) -> Result<(), Fail> {
         with_money(0, 1),
     );
     assert!(rt; sent == Err(TransferError::IvFault));
-    Ok(())
 }

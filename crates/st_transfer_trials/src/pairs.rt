@@ -5,7 +5,6 @@ use crate::transfers::{Kept, Place, listen, pattern, transfer};
 use std::alloc::Global;
 use std::net::{Net, TcpListener, TcpStream};
 use std::sync::Wait;
-use std::test::Fail;
 use std::thread;
 use std::thread::Threads;
 
@@ -19,22 +18,17 @@ fn transfer_to<
 }
 
 #[test]
-fn two_files_come_at_once(rt: HostRuntime) -> Result<(), Fail> {
+fn two_files_come_at_once(rt: HostRuntime) {
     let alloc = rt.alloc();
-    let one = listen(&rt, alloc)?;
-    let other = listen(&rt, alloc)?;
-    let bytes = pattern(alloc, 70_000)?;
-    let others = pattern(alloc, 35_000)?;
+    let one = listen(&rt, alloc);
+    let other = listen(&rt, alloc);
+    let bytes = pattern(&rt, alloc, 70_000);
+    let others = pattern(&rt, alloc, 35_000);
     let (first, second) = thread::join(
         &rt,
         || transfer_to(&rt, alloc, one, bytes.as_slice()),
         || transfer_to(&rt, alloc, other, others.as_slice()),
     );
-    assert!(rt; first.sent == Ok(70_000));
-    assert!(rt; second.sent == Ok(35_000));
-    assert!(rt; first.told == Ok(70_000));
-    assert!(rt; second.told == Ok(35_000));
-    assert!(rt; first.bytes.as_slice() == bytes.as_slice());
-    assert!(rt; second.bytes.as_slice() == others.as_slice());
-    Ok(())
+    assert!(rt; first.is(Ok(70_000), Ok(70_000), &bytes));
+    assert!(rt; second.is(Ok(35_000), Ok(35_000), &others));
 }

@@ -6,18 +6,18 @@ use st_transfer::TransferError;
 use std::alloc::Global;
 use std::io::{Read, Write};
 use std::net::{Net, TcpListener, TcpStream};
+use std::process::Abort;
 use std::sync::Wait;
-use std::test::Fail;
 use std::thread;
 use std::thread::Threads;
 
 /// So many bytes that tell their places.
-pub(crate) fn pattern(alloc: Global, n: u64) -> Result<Vec<u8>, Fail> {
+pub(crate) fn pattern(rt: &impl Abort, alloc: Global, n: u64) -> Vec<u8> {
     let mut bytes = Vec::new(alloc);
     for i in 0..n {
-        bytes.push((i % 251) as u8)?;
+        assert!(rt; bytes.push((i % 251) as u8).is_ok());
     }
-    Ok(bytes)
+    bytes
 }
 
 /// A listener at a port that the kernel chose, and where it is reached.
@@ -28,13 +28,14 @@ pub(crate) struct Place {
 }
 
 /// Listens at a new place on loopback.
-pub(crate) fn listen<R: Net<Listener = TcpListener, Stream = TcpStream>>(
+pub(crate) fn listen<R: Net<Listener = TcpListener, Stream = TcpStream> + Abort>(
     rt: &R,
     alloc: Global,
-) -> Result<Place, Fail> {
-    let listener = TcpListener::bind(rt, "127.0.0.1:0")?;
-    let host = format!(in alloc; "{}", listener.local_addr()?)?;
-    Ok(Place { listener, host })
+) -> Place {
+    let listener = TcpListener::bind(rt, "127.0.0.1:0").expect(rt, "there is a port");
+    let address = listener.local_addr().expect(rt, "it has an address");
+    let host = format!(in alloc; "{address}").expect(rt, "there is memory");
+    Place { listener, host }
 }
 
 /// Opens and drops connections until one is refused.
@@ -115,5 +116,17 @@ pub(crate) fn transfer<
         told,
         bytes: writer.into_inner(),
         sent,
+    }
+}
+
+impl Kept {
+    /// Whether both sides came to this, and these bytes were written.
+    pub(crate) fn is(
+        &self,
+        told: Result<u64, TransferError>,
+        sent: Result<u64, TransferError>,
+        bytes: &[u8],
+    ) -> bool {
+        self.told == told && self.sent == sent && self.bytes.as_slice() == bytes
     }
 }
