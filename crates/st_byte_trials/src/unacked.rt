@@ -3,7 +3,9 @@
 use refusing::Refusing;
 use st_unacked::Unacked;
 use std::alloc::{AllocError, Allocator, Global};
-use std::test::Fail;
+use std::process::Abort;
+
+type Heap = Refusing<Global>;
 
 /// Accepts as long as the offsets are few.
 fn accept<A: Allocator + Copy>(bytes: &mut Unacked<A>, more: &[u8]) -> Result<(), AllocError> {
@@ -22,71 +24,81 @@ fn claim<A: Allocator + Copy>(bytes: &mut Unacked<A>, sequence: u64) -> Result<(
 }
 
 /// "abcdef", of which "ab" is in flight by sequence 1.
-fn partly_sent<A: Allocator + Copy>(alloc: A) -> Result<Unacked<A>, AllocError> {
-    let mut bytes = Unacked::new(alloc);
-    accept(&mut bytes, b"abcdef")?;
-    claim(&mut bytes, 1)?;
-    Ok(bytes)
+fn partly_sent<'a>(rt: &impl Abort, heap: &'a Heap) -> Unacked<&'a Heap> {
+    let mut bytes = Unacked::new(heap);
+    assert!(rt; accept(&mut bytes, b"abcdef").is_ok());
+    assert!(rt; claim(&mut bytes, 1).is_ok());
+    bytes
 }
 
-/// Each request of an accept is refused in turn: nothing is accepted, and the same call succeeds once there is memory.
+/// Accepts while this request is refused. Whether it was met: nothing is accepted then, and the same call succeeds.
+fn accept_refused(rt: &impl Abort, heap: &Heap, n: u64) -> bool {
+    let mut bytes = Unacked::new(heap);
+    heap.refuse_only(n);
+    let is_accepted = accept(&mut bytes, b"abc").is_ok();
+    let met = heap.has_refused();
+    heap.refuse_none();
+    assert!(rt; is_accepted != met, "at {n}");
+    if met {
+        assert!(rt;
+            (bytes.accepted(), bytes.lowest_due()) == (0, None),
+            "at {n}"
+        );
+        assert!(rt; accept(&mut bytes, b"abc").is_ok(), "at {n}");
+    }
+    assert!(rt; bytes.lowest_due() == Some((0, 3)), "at {n}");
+    met
+}
+
+/// Each request of an accept is refused in turn.
 #[test]
-fn accept_is_whole_or_not_at_all(rt: HostRuntime) -> Result<(), Fail> {
-    let heap: Refusing<Global> = Refusing::new(rt.alloc());
+fn accept_is_whole_or_not_at_all(rt: HostRuntime) {
+    let heap: Heap = Refusing::new(rt.alloc());
     for n in 1..1000u64 {
-        let mut bytes = Unacked::new(&heap);
-        heap.refuse_only(n);
-        let answer = accept(&mut bytes, b"abc");
-        let met = heap.has_refused();
-        heap.refuse_none();
-        if !met {
-            answer?;
-            assert!(rt; bytes.lowest_due() == Some((0, 3)));
+        if !accept_refused(&rt, &heap, n) {
             assert!(rt; 1 < n);
-            return Ok(());
+            return;
         }
-        assert!(rt; answer.is_err(), "at {n}");
-        assert!(rt; bytes.accepted() == 0, "at {n}");
-        assert!(rt; bytes.lowest_due() == None, "at {n}");
-        accept(&mut bytes, b"abc")?;
-        assert!(rt; bytes.lowest_due() == Some((0, 3)), "at {n}");
     }
     panic!(rt; "no run met no refusal");
 }
 
 /// The same for a claim.
-#[test]
-fn claim_is_whole_or_not_at_all(rt: HostRuntime) -> Result<(), Fail> {
-    let heap: Refusing<Global> = Refusing::new(rt.alloc());
-    for n in 1..1000u64 {
-        heap.refuse_none();
-        let mut bytes = partly_sent(&heap)?;
-        heap.refuse_only(n);
-        let answer = claim(&mut bytes, 2);
-        let met = heap.has_refused();
-        heap.refuse_none();
-        if !met {
-            answer?;
-            assert!(rt; bytes.lowest_due() == Some((4, 6)));
-            assert!(rt; 1 < n);
-            return Ok(());
-        }
-        assert!(rt; answer.is_err(), "at {n}");
+fn claim_refused(rt: &impl Abort, heap: &Heap, n: u64) -> bool {
+    let mut bytes = partly_sent(rt, heap);
+    heap.refuse_only(n);
+    let is_claimed = claim(&mut bytes, 2).is_ok();
+    let met = heap.has_refused();
+    heap.refuse_none();
+    assert!(rt; is_claimed != met, "at {n}");
+    if met {
         assert!(rt; bytes.lowest_due() == Some((2, 6)), "at {n}");
-        claim(&mut bytes, 2)?;
-        assert!(rt; bytes.lowest_due() == Some((4, 6)), "at {n}");
-        assert!(rt; bytes.acknowledged(2) == 4, "at {n}");
+        assert!(rt; claim(&mut bytes, 2).is_ok(), "at {n}");
+    }
+    assert!(rt; bytes.lowest_due() == Some((4, 6)), "at {n}");
+    assert!(rt; bytes.acknowledged(2) == 4, "at {n}");
+    met
+}
+
+#[test]
+fn claim_is_whole_or_not_at_all(rt: HostRuntime) {
+    let heap: Heap = Refusing::new(rt.alloc());
+    for n in 1..1000u64 {
+        if !claim_refused(&rt, &heap, n) {
+            assert!(rt; 1 < n);
+            return;
+        }
     }
     panic!(rt; "no run met no refusal");
 }
 
 /// What an answer does asks for no memory.
 #[test]
-fn answers_ask_for_no_memory(rt: HostRuntime) -> Result<(), Fail> {
-    let heap: Refusing<Global> = Refusing::new(rt.alloc());
-    let mut bytes = partly_sent(&heap)?;
-    claim(&mut bytes, 2)?;
-    claim(&mut bytes, 3)?;
+fn answers_ask_for_no_memory(rt: HostRuntime) {
+    let heap: Heap = Refusing::new(rt.alloc());
+    let mut bytes = partly_sent(&rt, &heap);
+    assert!(rt; claim(&mut bytes, 2).is_ok());
+    assert!(rt; claim(&mut bytes, 3).is_ok());
     heap.refuse_from(1);
     assert!(rt; bytes.acknowledged(2) == 4);
     bytes.failed(1);
@@ -96,5 +108,4 @@ fn answers_ask_for_no_memory(rt: HostRuntime) -> Result<(), Fail> {
     assert!(rt; bytes.is_done());
     assert!(rt; bytes.acknowledged(3) == 6);
     assert!(rt; heap.asked() == 0);
-    Ok(())
 }
