@@ -287,7 +287,7 @@ an input that fails: send 90, receive waits, nothing
 # one account needs no more than that; a receiver that cannot answer waits for a request that it can.
 run "$top/tests/tight.py" "$top/crates/ilpstream/out/ilpstream"
 same 'too little memory' $'\n0' "$(grep -E 'WRONG' <<<"$out")$err"$'\n'"$status"
-for told in 'local: fault 99, well' 'connector: well' 'receive: waits, well' 'fault 99, well'; do
+for told in 'local: fault 99, well' 'connector: ' 'waits, well' 'send: fault '; do
     has 'too little memory' "$out" "$told"
 done
 

@@ -1,8 +1,8 @@
 #!/usr/bin/env python3
-"""Runs the commands with too little memory: tight.py PROGRAM. What may be allocated is set a step higher from run to run, from
-what the program can just start in to what it runs well in. A line for each command tells the ways in which its runs ended, each
-once, and what is wrong, if anything is: a run writes a beginning of what it should and tells a numbered fault, or it writes all and
-has status 0."""
+"""Runs the commands with too little memory: tight.py PROGRAM. What may be allocated is set a step higher from run to run, from a
+step above what the program just starts in to what it runs well in. A line for each command tells the ways in which its runs
+ended, each once, and what is wrong, if anything is: a run writes a beginning of what it should and tells a numbered fault, or it
+writes all and has status 0."""
 import os, re, resource, socket, subprocess, sys, tempfile, time
 
 PROGRAM = sys.argv[1]
@@ -117,6 +117,7 @@ def sweep(run, low):
     """The ways in which runs end in more and more space, each once, the numbered ones in their order."""
     met, well, space = set(), 0, low
     for _ in range(STEPS):
+        space += STEP
         told = run(space)
         if "-v" in sys.argv:
             print(f"   {space}: {told}", flush=True)
@@ -124,7 +125,6 @@ def sweep(run, low):
         well = well + 1 if told == "well" else 0
         if well == WELL:
             return ", ".join(sorted(met))
-        space += STEP
     return f"WRONG: does not end well, {', '.join(sorted(met))}"
 
 
