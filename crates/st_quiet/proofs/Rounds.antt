@@ -19,6 +19,7 @@ use Rattle.st_quiet.specs.Rounds.{IsRefilled, IsWritten, Refilled, Round, Rounds
 use Rattle.st_quiet.proofs.Sums.{sum_same}
 use Rattle.st_quiet.proofs.Acknowledging.{all_acked_at, all_own_acked, is_same, none_stays}
 use Rattle.st_quiet.proofs.Lowering.{work_lowers}
+use Rattle.st_quiet.proofs.Money.{money_after}
 use Rattle.st_quiet.proofs.Keeping.{IsLeft, left_kept}
 use Rattle.st_quiet.proofs.Telling.{all_own_told, all_room, all_told_at, all_told_only, connection_told, none_stays_told, rest_all_acked, rest_all_told, window_told}
 
@@ -235,6 +236,28 @@ round_keeps n s t quiet round =
           let told : t.told ≡ w.told = ap (λ (z : Sending). z.told) round.writes.rest in omega (arith, a, b, ends, told));
       streams = λ k y here. stream_waits n s t round.limits p round.told k y quiet round.sends round.fills round.tells round.writes (outgoing_at s k) refl here;
     }
+
+-- and takes its money from what was left
+pub record Spends (s t : Sending) (p : Load) : Type 0 where
+  pub money : all_money_left t + p.amount ≡ all_money_left s
+  pub last : t.last ≡ s.last + 1
+  pub packet_limit : t.packet_limit ≡ s.packet_limit
+
+pub round_spends : (n : ℕ → ℕ) (s t : Sending) (limits : List Known) (p : Load) (told : List Known) → IsQuiet n s → Sends s limits max_packet p (with_flight s p) → IsWritten n (after_all_told (after_fulfilled (with_flight s p) (flight_of p)) told) t → Spends s t p
+round_spends n s t limits p told quiet sends writes =
+    let v = after_fulfilled (with_flight s p) (flight_of p) in
+    let acked = rest_all_acked n s (landed (with_flight s p) p.sequence) limits p.frames quiet sends.due in
+    let heard = rest_all_told v told in
+    let spent = money_after n s limits max_packet p (with_flight s p) quiet sends in
+    let same : all_money_left t ≡ all_money_left v = sum_same (λ k. money_left (outgoing_at t k)) (λ k. money_left (outgoing_at v k)) (λ k. same_money (outgoing_at v k) (outgoing_at t k) (alike n v t told writes k (outgoing_at v k) refl)) 0 65 in
+    record {
+      money = sums _ _ _ _ same spent;
+      last = ap (λ (z : Sending). z.last) writes.rest ∙ heard.last ∙ acked.last ∙ ap (λ (z : Load). z.sequence) sends.load;
+      packet_limit = ap (λ (z : Sending). z.packet_limit) writes.rest ∙ heard.packet_limit ∙ acked.packet_limit;
+    }
+  where
+    sums : (left middle amount before : ℕ) → left ≡ middle → middle + amount ≡ before → left + amount ≡ before
+    sums left middle amount before a b = omega arith
 
 -- so many Sends, and no more
 pub rounds_lower : (n : ℕ → ℕ) (m : ℕ) (s t : Sending) → IsQuiet n s → Rounds n m s t → (m + work_left n t ≤ work_left n s) × IsQuiet n t

@@ -9,9 +9,10 @@ use Rattle.std.proofs.lemmas.Grind.{common_steps}
 use Rattle.std.proofs.lemmas.Slice.Eq.{slice_eq-Decides}
 use Rattle.st_oer.specs.Address.{is_within}
 use Rattle.st_ilp.specs.Packets.{Fulfilled, PreparePacket}
-use Rattle.st_ilp.specs.Spelling.{answer_text, fulfill_kind, prepare_kind}
-use Rattle.st_ilp.specs.Reading.{answer_at, prepare_at}
-use Rattle.st_ilp.specs.Laws.{is_fulfill}
+use Rattle.st_ilp.specs.Spelling.{answer_text, fulfill_kind, prepare_kind, prepare_text}
+use Rattle.st_ilp.specs.Reading.{answer_at}
+use Rattle.st_ilp.specs.Expiry.{is_expiry}
+use Rattle.st_ilp.specs.Laws.{IsPrepare, is_fulfill}
 use Rattle.st_ilp.proofs.PacketReads.{answer_reads, prepare_reads}
 use Rattle.st_frames.specs.Frames.{Known, Packet, frames_of, max_packet}
 use Rattle.st_frames.specs.Written.{packet_text, packet_with}
@@ -46,7 +47,7 @@ use Rattle.st_quiet.proofs.Fulfilling.{load_fulfilled}
 use Rattle.st_quiet.proofs.Tellable.{Writes, reply_writes, writes_room}
 use Rattle.st_quiet.proofs.Abreast.{effect_max, effect_within, round_abreast}
 
-bytes_same : (xs : List ℕ) → bytes_eq xs xs ≡ true
+pub bytes_same : (xs : List ℕ) → bytes_eq xs xs ≡ true
 bytes_same xs = (slice_eq-Decides (λ a b. Decides-eqb a b) xs xs (pointwise nat_eq xs xs) refl).1 refl
 
 within_itself : (address : List ℕ) → is_within address address ≡ true
@@ -89,15 +90,22 @@ fulfills_by f q p later here early opens own fine =
     ∙ ap (λ b. cond b (judged_as p (effect f.receiving p q.amount) (fault_of f.receiving p q.amount)) (Rejects p 55)) own
     ∙ ap (judged_as p (effect f.receiving p q.amount)) fine
 
-pub goes_fulfilled : (n : ℕ → ℕ) (e f gone : EndState) (iv bytes : List ℕ) (now later : ℤ) (flight : Open) → length iv ≡ 12 → IsQuiet n e.sending → IsAbreast n e.sending f.receiving → AreJoined e f → int_le (now +ℤ answer_time) later ≡ false
+-- a Prepare that went, as it comes with some expiry
+abbrev pub prepare_due : EndState → (expiry : ℤ) → (amount : ℕ) → (payload : List ℕ) → PreparePacket
+prepare_due e expiry amount payload = record { amount = amount; expiry = expiry; condition = condition (fulfillment e.keys payload); destination = e.peer; payload = payload }
+
+pub goes_lawful : (e gone : EndState) (iv bytes : List ℕ) (now expiry : ℤ) (flight : Open) → is_expiry expiry ≡ true → (g : Goes e iv now flight bytes gone) → IsPrepare (prepare_due e expiry g.load.amount g.payload)
+goes_lawful e gone iv bytes now expiry flight is g = record { amount = g.lawful.amount; expiry = is; condition = g.lawful.condition; destination = g.lawful.destination; payload = g.lawful.payload }
+
+pub comes_fulfilled : (n : ℕ → ℕ) (e f gone : EndState) (iv bytes : List ℕ) (now expiry later : ℤ) (flight : Open) → length iv ≡ 12 → IsQuiet n e.sending → IsAbreast n e.sending f.receiving → AreJoined e f → is_expiry expiry ≡ true → int_le expiry later ≡ false
     → (g : Goes e iv now flight bytes gone)
-    → received f bytes later ≡ received_as f (prepare_for e now g.load.amount g.payload) (Fulfills (packet_of_load g.load) (effect f.receiving (packet_of_load g.load) g.load.amount))
-goes_fulfilled n e f gone iv bytes now later flight long quiet abreast joined early g =
-    received_read f bytes later q (ap prepare_at g.bytes_are ∙ prepare_reads.only q g.lawful)
+    → received f (prepare_text (prepare_due e expiry g.load.amount g.payload)) later ≡ received_as f (prepare_due e expiry g.load.amount g.payload) (Fulfills (packet_of_load g.load) (effect f.receiving (packet_of_load g.load) g.load.amount))
+comes_fulfilled n e f gone iv bytes now expiry later flight long quiet abreast joined is early g =
+    received_read f (prepare_text q) later q (prepare_reads.only q (goes_lawful e gone iv bytes now expiry flight is g))
     ∙ ap (received_as f q) (fulfills_by f q p later here early opens own (load_fulfilled n e.sending (limits e.receiving) g.load p f.receiving quiet (goes_sends e gone iv bytes now flight g) abreast (is_packet_of g.load)))
   where
     q : PreparePacket
-    q = prepare_for e now g.load.amount g.payload
+    q = prepare_due e expiry g.load.amount g.payload
 
     p : Packet
     p = packet_of_load g.load
@@ -111,6 +119,25 @@ goes_fulfilled n e f gone iv bytes now later flight long quiet abreast joined ea
     own : is_own_condition f q ≡ true
     own = ap (λ k. bytes_eq (condition (fulfillment k g.payload)) (condition (fulfillment e.keys g.payload))) joined.keys ∙ bytes_same (condition (fulfillment e.keys g.payload))
 
+pub goes_fulfilled : (n : ℕ → ℕ) (e f gone : EndState) (iv bytes : List ℕ) (now later : ℤ) (flight : Open) → length iv ≡ 12 → IsQuiet n e.sending → IsAbreast n e.sending f.receiving → AreJoined e f → int_le (now +ℤ answer_time) later ≡ false
+    → (g : Goes e iv now flight bytes gone)
+    → received f bytes later ≡ received_as f (prepare_for e now g.load.amount g.payload) (Fulfills (packet_of_load g.load) (effect f.receiving (packet_of_load g.load) g.load.amount))
+goes_fulfilled n e f gone iv bytes now later flight long quiet abreast joined early g =
+    ap (λ text. received f text later) g.bytes_are ∙ comes_fulfilled n e f gone iv bytes now (now +ℤ answer_time) later flight long quiet abreast joined g.lawful.expiry early g
+
+-- what is answered rests on no expiry
+same_answer : (e f : EndState) (expiry now : ℤ) (amount : ℕ) (payload : List ℕ) (p : Packet) (r : Receiving) → received_as f (prepare_due e expiry amount payload) (Fulfills p r) ≡ received_as f (prepare_for e now amount payload) (Fulfills p r)
+unfolding reply_payload
+same_answer e f expiry now amount payload p r = refl
+
+-- so it is as if the Prepare had come with the expiry that it went with
+pub comes_the_same : (n : ℕ → ℕ) (e f : EndState) (expiry : ℤ) → IsQuiet n e.sending → IsAbreast n e.sending f.receiving → AreJoined e f → (x : Passage e) → is_expiry expiry ≡ true → int_le expiry x.later ≡ false
+    → received f (prepare_text (prepare_due e expiry x.goes.load.amount x.goes.payload)) x.later ≡ received f x.bytes x.later
+comes_the_same n e f expiry quiet abreast joined x is early =
+    comes_fulfilled n e f x.gone x.iv x.bytes x.now expiry x.later x.flight x.long quiet abreast joined is early x.goes
+    ∙ same_answer e f expiry x.now x.goes.load.amount x.goes.payload _ _
+    ∙ sym (goes_fulfilled n e f x.gone x.iv x.bytes x.now x.later x.flight x.long quiet abreast joined x.in_time x.goes)
+
 -- ---- its answer
 
 reply_iv_long : (xs : List ℕ) → length (reply_iv xs) ≡ length xs
@@ -121,9 +148,9 @@ iv_long : (payload : List ℕ) → 12 ≤ length payload → length (reply_iv (i
 iv_long payload l = let a = reply_iv_long (take 12 payload) in let b = length-take 12 payload in omega (arith, a, b, l)
 
 -- a reply that was sealed opens, and its answer reads
-record Answered (keys : DerivedKeys) (bytes : List ℕ) (payload reply : List ℕ) (sequence : ℕ) (told : List Known) : Type 0 where
+pub record Answered (keys : DerivedKeys) (bytes : List ℕ) (payload reply : List ℕ) (sequence : ℕ) (told : List Known) : Type 0 where
   packet : Packet
-  reads : answer_at bytes ≡ Ok (Fulfilled (fulfillment keys payload) reply)
+  pub reads : answer_at bytes ≡ Ok (Fulfilled (fulfillment keys payload) reply)
   opens : opened keys fulfill_kind reply ≡ Ok packet
   sequence_is : packet.sequence ≡ sequence
   frames : frames_of packet ≡ told
@@ -213,6 +240,52 @@ pub record Came (e f : EndState) (load : Load) (once_here once_there : EndState)
   pub payload : List ℕ
   pub here : once_here ≡ answered_end e load payload (reply_frames (effect f.receiving (packet_of_load load) load.amount) (frames_of (packet_of_load load)))
 
+pub load_answers : (n : ℕ → ℕ) (e f : EndState) → IsQuiet n e.sending → IsAbreast n e.sending f.receiving → CanTell f.receiving → (x : Passage e)
+    → (let p = packet_of_load x.goes.load in let q = prepare_for e x.now x.goes.load.amount x.goes.payload in let after = effect f.receiving p x.goes.load.amount in
+    Answered f.keys (answer_text (answer_for f q (Fulfills p after))) x.goes.payload (reply_payload f.keys fulfill_kind q p after) x.goes.load.sequence (reply_frames after (frames_of p)))
+load_answers n e f quiet abreast tellable x = reply_answers f q p after (goes_long e x.gone x.iv x.bytes x.now x.flight x.long x.goes) x.goes.spells.sequence x.goes.lawful.amount (reply_writes after (frames_of p) few)
+  where
+    load : Load
+    load = x.goes.load
+
+    p : Packet
+    p = packet_of_load load
+
+    q : PreparePacket
+    q = prepare_for e x.now load.amount x.goes.payload
+
+    after : Receiving
+    after = effect f.receiving p load.amount
+
+    sends : Sends e.sending (limits e.receiving) max_packet load (with_flight e.sending load)
+    sends = goes_sends e x.gone x.iv x.bytes x.now x.flight x.goes
+
+    few : (k : ℕ) → k < 65 → ((incoming_at after k).receive_max < 2 ^ 64) × ((incoming_at after k).credited < 2 ^ 64)
+    few k l =
+        let same = effect_max n e.sending (limits e.receiving) load p f.receiving k quiet sends abreast (is_packet_of load) in
+        let most = effect_within n e.sending (limits e.receiving) load p f.receiving k quiet sends abreast (is_packet_of load) l in
+        let small = tellable k in
+        (omega (arith, same, small), omega (arith, most, small))
+
+-- the answer reads as a Fulfill with the fulfillment of this payload
+pub passage_answers : (n : ℕ → ℕ) (e f : EndState) → IsQuiet n e.sending → IsAbreast n e.sending f.receiving → AreJoined e f → CanTell f.receiving → (x : Passage e)
+    → (reply : List ℕ) × (answer_at (received f x.bytes x.later).0.bytes ≡ Ok (Fulfilled (fulfillment e.keys x.goes.payload) reply))
+passage_answers n e f quiet abreast joined tellable x = (
+  reply_payload f.keys fulfill_kind q p after,
+  ap (λ z. answer_at z.0.bytes) (goes_fulfilled n e f x.gone x.iv x.bytes x.now x.later x.flight x.long quiet abreast joined x.in_time x.goes)
+      ∙ (load_answers n e f quiet abreast tellable x).reads
+      ∙ ap (λ k. Ok (Fulfilled (fulfillment k x.goes.payload) (reply_payload f.keys fulfill_kind q p after))) joined.keys,
+)
+  where
+    p : Packet
+    p = packet_of_load x.goes.load
+
+    q : PreparePacket
+    q = prepare_for e x.now x.goes.load.amount x.goes.payload
+
+    after : Receiving
+    after = effect f.receiving p x.goes.load.amount
+
 pub both_came : (n : ℕ → ℕ) (e f : EndState) → IsQuiet n e.sending → IsAbreast n e.sending f.receiving → AreJoined e f → CanTell f.receiving → (x : Passage e)
     → Came e f x.goes.load (once_answered f x) (once_received f x)
 both_came n e f quiet abreast joined tellable x = record {
@@ -245,21 +318,11 @@ both_came n e f quiet abreast joined tellable x = record {
     reply : List ℕ
     reply = reply_payload f.keys fulfill_kind q p after
 
-    sends : Sends e.sending (limits e.receiving) max_packet load (with_flight e.sending load)
-    sends = goes_sends e x.gone x.iv x.bytes x.now x.flight x.goes
-
     fulfilled_by : received f x.bytes x.later ≡ received_as f q (Fulfills p after)
     fulfilled_by = goes_fulfilled n e f x.gone x.iv x.bytes x.now x.later x.flight x.long quiet abreast joined x.in_time x.goes
 
-    few : (k : ℕ) → k < 65 → ((incoming_at after k).receive_max < 2 ^ 64) × ((incoming_at after k).credited < 2 ^ 64)
-    few k l =
-        let same = effect_max n e.sending (limits e.receiving) load p f.receiving k quiet sends abreast (is_packet_of load) in
-        let most = effect_within n e.sending (limits e.receiving) load p f.receiving k quiet sends abreast (is_packet_of load) l in
-        let small = tellable k in
-        (omega (arith, same, small), omega (arith, most, small))
-
     answers : Answered f.keys bytes x.goes.payload reply load.sequence told
-    answers = reply_answers f q p after (goes_long e x.gone x.iv x.bytes x.now x.flight x.long x.goes) x.goes.spells.sequence x.goes.lawful.amount (reply_writes after (frames_of p) few)
+    answers = load_answers n e f quiet abreast tellable x
 
     gone : x.gone ≡ with_condition e (flight_for e load x.goes.payload) (with_flight e.sending load)
     gone = x.goes.after_is ∙ ap (λ o. with_condition e o x.goes.sending) x.goes.flight_is ∙ ap (with_condition e (flight_for e load x.goes.payload)) x.goes.sends.after
@@ -292,6 +355,11 @@ joined_still n e f g h quiet abreast joined tellable x =
       keys = ap (λ (z : EndState). z.keys) there ∙ joined.keys ∙ sym (ap (λ (z : EndState). z.keys) here);
       address = ap (λ (z : EndState). z.peer) here ∙ joined.address ∙ sym (ap (λ (z : EndState). z.own) there);
     }
+
+pub peer_still : (n : ℕ → ℕ) (e f g h : EndState) → IsQuiet n e.sending → IsAbreast n e.sending f.receiving → AreJoined e f → CanTell f.receiving → Trip n e f g h → g.peer ≡ e.peer
+peer_still n e f g h quiet abreast joined tellable x =
+    let came = both_came n e f quiet abreast joined tellable x.passage in
+    ap (λ (z : EndState). z.peer) (x.written_alone ∙ ap (λ (z : EndState). record z { sending = g.sending }) came.here)
 
 pub tells_still : (n : ℕ → ℕ) (e f g h : EndState) → IsQuiet n e.sending → IsAbreast n e.sending f.receiving → AreJoined e f → CanTell f.receiving → Trip n e f g h → CanTell h.receiving
 tells_still n e f g h quiet abreast joined tellable x k =

@@ -23,7 +23,7 @@ use Rattle.st_quiet.specs.Trips.{AreJoined, CanTell, Passage, Trip, Trips, Turn,
 use Rattle.st_quiet.proofs.Acknowledging.{all_acked_at, all_acked_end, all_kept, all_own_acked, none_stays}
 use Rattle.st_quiet.proofs.Telling.{IsToldOnly, all_own_told, all_told_at, all_told_only, none_stays_told, rest_all_acked, rest_all_told}
 use Rattle.st_quiet.proofs.Keeping.{IsLeft, left_kept}
-use Rattle.st_quiet.proofs.Rounds.{round_keeps}
+use Rattle.st_quiet.proofs.Rounds.{Spends, round_keeps, round_spends}
 use Rattle.st_quiet.proofs.Exchanging.{exchange_round}
 use Rattle.st_quiet.proofs.Abreast.{effect_slots_long, effect_stays_alive, round_abreast}
 use Rattle.st_quiet.proofs.ReadingOut.{each_read}
@@ -95,6 +95,25 @@ answered_writes n e own p payload told modest quiet unclosed held sends fills =
 
 -- ---- a turn
 
+turn_writes : (n : ℕ → ℕ) (e f : EndState) → IsModest n → IsQuiet n e.sending → IsAbreast n e.sending f.receiving → AreJoined e f → CanTell f.receiving → AreHeldBack n e.sending → (w : Passage e) → CanWrite n (once_answered f w)
+turn_writes n e f modest quiet abreast joined tellable held w =
+    let p = w.goes.load in
+    let came = both_came n e f quiet abreast joined tellable w in
+    subst (CanWrite n) (sym came.here)
+    (answered_writes n e (limits e.receiving) p came.payload (reply_frames (effect f.receiving (packet_of_load p) p.amount) (frames_of (packet_of_load p))) modest quiet w.goes.unclosed held (goes_sends e w.gone w.iv w.bytes w.now w.flight w.goes) (w.goes.filled.whole quiet.whole))
+
+-- it takes its money from what was left
+pub turn_spends : (input : ℕ → List ℕ) (limit : ℕ) (e f g h : EndState) → IsModest (lengths input) → IsQuiet (lengths input) e.sending → IsAbreast (lengths input) e.sending f.receiving → AreJoined e f → CanTell f.receiving → AreHeldBack (lengths input) e.sending
+    → (x : Turn input limit e f g h) → Spends e.sending g.sending x.passage.goes.load
+turn_spends input limit e f g h modest quiet abreast joined tellable held x =
+    let n = lengths input in
+    let w = x.passage in
+    let p = w.goes.load in
+    let came = both_came n e f quiet abreast joined tellable w in
+    let written = (each_written input (once_answered f w) (turn_writes n e f modest quiet abreast joined tellable held w)).0 in
+    round_spends n e.sending g.sending (limits e.receiving) p (reply_frames (effect f.receiving (packet_of_load p) p.amount) (frames_of (packet_of_load p))) quiet (goes_sends e w.gone w.iv w.bytes w.now w.flight w.goes)
+    (subst (λ (z : EndState). IsWritten n z.sending g.sending) came.here (subst (λ (z : EndState). IsWritten n (once_answered f w).sending z.sending) (sym x.writes) written))
+
 pub turn_trip : (input : ℕ → List ℕ) (limit : ℕ) (e f g h : EndState) → IsModest (lengths input) → IsQuiet (lengths input) e.sending → IsAbreast (lengths input) e.sending f.receiving → AreJoined e f → CanTell f.receiving → AreHeldBack (lengths input) e.sending
     → Turn input limit e f g h → Trip (lengths input) e f g h × AreHeldBack (lengths input) g.sending
 turn_trip input limit e f g h modest quiet abreast joined tellable held x = (
@@ -121,8 +140,7 @@ turn_trip input limit e f g h modest quiet abreast joined tellable held x = (
     came = both_came (lengths input) e f quiet abreast joined tellable w
 
     can : CanWrite (lengths input) (once_answered f w)
-    can = subst (CanWrite (lengths input)) (sym came.here)
-        (answered_writes (lengths input) e (limits e.receiving) p came.payload (reply_frames (effect f.receiving (packet_of_load p) p.amount) (frames_of (packet_of_load p))) modest quiet w.goes.unclosed held sends (w.goes.filled.whole quiet.whole))
+    can = turn_writes (lengths input) e f modest quiet abreast joined tellable held w
 
     written : (let z = write_each input 0 65 (once_answered f w) in IsWritten (lengths input) (once_answered f w).sending z.sending × (z ≡ record (once_answered f w) { sending = z.sending }))
     written = each_written input (once_answered f w) can

@@ -1,0 +1,4 @@
+pub mod Hops
+pub mod Chains
+pub mod Runs
+pub mod Opening

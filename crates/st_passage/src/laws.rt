@@ -1,0 +1,66 @@
+//! What holds of every quiet run over hops, over the definitions alone. These functions do nothing: the contract is the law.
+
+ghost use Rattle.std.specs.Prelude.{◌≡◌, ℕ, ◌+◌, ◌-ℤ◌, ◌<◌, ◌≤◌, ◌^◌, ℤ, true, false, int_le, int_lt, List, [], ◌∷◌, length, Ok};
+ghost use Rattle.std.specs.declared.option.Option.TheVariants.{Some};
+ghost use Rattle.st_ilp.specs.Packets.{Fulfilled, PreparePacket};
+ghost use Rattle.st_ilp.specs.Spelling.{prepare_text};
+ghost use Rattle.st_ilp.specs.Reading.{answer_at};
+ghost use Rattle.st_ilp.specs.Laws.{IsPrepare};
+ghost use Rattle.st_hop.specs.declared.account.Account.{Account};
+ghost use Rattle.st_hop.specs.Hop.{Hop, Way, holding};
+ghost use Rattle.st_hop.specs.Table.{new_hop};
+ghost use Rattle.st_hop.specs.Arriving.{Forwards, arrived, hop_time};
+ghost use Rattle.st_hop.specs.Settling.{fits, settled};
+ghost use Rattle.st_keys.specs.Keys.{DerivedKeys};
+ghost use Rattle.st_sender.specs.Sending.{Config, Outgoing, outgoing_at};
+ghost use Rattle.st_receiver.specs.Streams.{incoming_at};
+ghost use Rattle.st_end.specs.State.{EndState, new_end};
+ghost use Rattle.st_end.specs.declared.role.Role.{Role};
+ghost use Rattle.st_quiet.specs.Left.{bound, work_left};
+ghost use Rattle.st_quiet.specs.Exchanges.{IsModest};
+ghost use Rattle.st_quiet.specs.Calls.{MaySend, allow_each, begin_each, lengths, other};
+ghost use Rattle.st_quiet.specs.Trips.{Turn};
+ghost use Rattle.st_passage.specs.Calm.{AreCalm, HasRoom, IsCalm, LeadsOn, after_one, earlier, ticket_of};
+ghost use Rattle.st_passage.specs.Chains.{Crossing, Crossings, Stands};
+
+/// A Prepare that comes to a calm hop in time goes on as it came, but that it expires a second earlier. The Fulfill that
+/// fits goes back with the same bytes, and leaves the hop calm.
+pub fn a_calm_hop_passes_on()
+    ensures goes { (destination : List ℕ) (sent most left after : ℕ) (h : Hop) (p : PreparePacket) (now : ℤ) → IsCalm destination sent most left h → IsPrepare p → HasRoom destination sent most left after p → int_le (p.expiry -ℤ hop_time) now ≡ false
+        → arrived h 0 (prepare_text p) now ≡ (Forwards (ticket_of h p) 1 (prepare_text (earlier p)), holding h (ticket_of h p)) }
+    ensures back { (h : Hop) (p : PreparePacket) (bytes text payload : List ℕ) (now : ℤ) → answer_at bytes ≡ Ok (Fulfilled text payload) → fits text p.condition ≡ true → int_lt now (earlier p).expiry ≡ true
+        → settled (holding h (ticket_of h p)) (ticket_of h p) (Some bytes) now ≡ (bytes, after_one h p) }
+    ensures calm { (destination : List ℕ) (sent most left after : ℕ) (h : Hop) (p : PreparePacket) → IsCalm destination sent most left h → HasRoom destination sent most left after p → IsCalm destination (sent + 1) most after (after_one h p) }
+{}
+
+/// A new hop with an account towards each end is calm, where its route leads on and its terms towards the first have room.
+pub fn a_new_hop_is_calm()
+    ensures { (destination own : List ℕ) (client server : Account) (routes : List Way) (most left : ℕ) → LeadsOn (new_hop own (client ∷ server ∷ []) routes) destination → most ≤ client.max_packet → left ≤ client.limit → left < 2 ^ 63
+        → IsCalm destination 0 most left (new_hop own (client ∷ server ∷ []) routes) }
+{}
+
+/// To both ends a crossing of calm hops is a turn with nothing between them, and it leaves the hops calm.
+pub fn a_crossing_is_a_turn()
+    ensures turn { (input : ℕ → List ℕ) (limit : ℕ) (e f g h : EndState) (hops others : List Hop) → IsModest (lengths input) → Stands input e f → AreCalm e.peer e.sending hops → Crossing input limit e hops f g others h → Turn input limit e f g h }
+    ensures stands { (input : ℕ → List ℕ) (limit : ℕ) (e f g h : EndState) (hops others : List Hop) → IsModest (lengths input) → Stands input e f → AreCalm e.peer e.sending hops → Crossing input limit e hops f g others h → Stands input g h }
+    ensures calm { (input : ℕ → List ℕ) (limit : ℕ) (e f g h : EndState) (hops others : List Hop) → IsModest (lengths input) → Stands input e f → AreCalm e.peer e.sending hops → Crossing input limit e hops f g others h → AreCalm g.peer g.sending others }
+{}
+
+/// So a run over hops has no more Sends than one with nothing between its ends, with nothing assumed of what the hops answer:
+/// from the opening on, where each hop has room for all money that was offered. Where nothing is left, each stream's input was
+/// read whole, and its money was credited.
+pub fn a_run_over_hops_is_bounded()
+    ensures bounded { (role : Role) (keys : DerivedKeys) (own peer : List ℕ) (config its_config : Config) (input : ℕ → List ℕ) (money : ℕ → ℕ) (count limit m : ℕ) (hops others : List Hop) (g h : EndState)
+        → MaySend config → IsModest (lengths input) → IsModest money
+        → (let e = begin_each input money count (new_end role keys own peer config) in let f = allow_each money 0 65 (new_end (other role) keys peer own its_config) in
+        AreCalm peer e.sending hops → Crossings input limit m e hops f g others h → m + 1 ≤ bound (lengths input) e.sending) }
+    ensures sharper { (role : Role) (keys : DerivedKeys) (own peer : List ℕ) (config its_config : Config) (input : ℕ → List ℕ) (money : ℕ → ℕ) (count limit m : ℕ) (hops others : List Hop) (g h : EndState)
+        → MaySend config → IsModest (lengths input) → IsModest money
+        → (let e = begin_each input money count (new_end role keys own peer config) in let f = allow_each money 0 65 (new_end (other role) keys peer own its_config) in
+        AreCalm peer e.sending hops → Crossings input limit m e hops f g others h → m + work_left (lengths input) g.sending ≤ work_left (lengths input) e.sending) }
+    ensures delivered { (role : Role) (keys : DerivedKeys) (own peer : List ℕ) (config its_config : Config) (input : ℕ → List ℕ) (money : ℕ → ℕ) (count limit m k : ℕ) (hops others : List Hop) (g h : EndState) (x : Outgoing)
+        → MaySend config → IsModest (lengths input) → IsModest money
+        → (let e = begin_each input money count (new_end role keys own peer config) in let f = allow_each money 0 65 (new_end (other role) keys peer own its_config) in
+        AreCalm peer e.sending hops → Crossings input limit m e hops f g others h → work_left (lengths input) g.sending ≡ 0 → outgoing_at g.sending k ≡ Some x
+        → ((incoming_at h.receiving k).held.read ≡ length (input k)) × ((incoming_at h.receiving k).credited ≡ x.offered)) }
+{}

@@ -1,0 +1,12 @@
+//! How many Sends a run takes in which one end alone sends and nothing is lost, over a chain of hops.
+//!
+//! `specs/Crossing.antt` is a Prepare that goes over hops to an end, and its answer that comes back over them.
+//! `specs/Calm.antt` is a hop between two rounds of such a run, and `specs/Chains.antt` the run: st_quiet's, with hops
+//! between the ends. `a_run_over_hops_is_bounded` is the law.
+#![tactic(auto)]
+
+mod laws;
+
+pub use laws::{
+    a_calm_hop_passes_on, a_crossing_is_a_turn, a_new_hop_is_calm, a_run_over_hops_is_bounded,
+};
