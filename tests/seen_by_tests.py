@@ -1,0 +1,81 @@
+#!/usr/bin/env python3
+"""Tries the wrong bodies of tests/seen-by-tests, which no contract refuses, on a copy of the crates: each has to fail a test of
+the crate that its first line names. `seen_by_tests.py [WORD]` tries those whose name has WORD in it. Nothing is proved: `rt try`
+runs the tests as they stand. It is run by hand; the gate calls `seen_by_tests.py --look`, which says whether each can be made."""
+import os, re, shutil, subprocess, sys, tempfile
+
+TOP = os.path.join(os.path.dirname(os.path.realpath(__file__)), "..")
+EDITS = os.path.join(TOP, "tests", "seen-by-tests")
+# More seconds than the tests of a crate may take.
+BOUND = 900
+
+
+def read_edit(name):
+    """The crate of the tests, the file, and its lines before and after."""
+    with open(os.path.join(EDITS, name), encoding="utf-8") as file:
+        return [line.split(": ", 1)[1] for line in file.read().rstrip("\n").split("\n")]
+
+
+def tried(trials, room):
+    """What the tests of a crate said: the names of those that failed, or why none ran."""
+    try:
+        ran = subprocess.run(["rt", "try", "--test"], cwd=f"{room}/crates/{trials}", capture_output=True, text=True, timeout=BOUND)
+    except subprocess.TimeoutExpired:
+        return "seen: a test did not end"
+    said = ran.stdout + ran.stderr
+    failed = sorted(set(re.findall(r"^test (\S+) \.\.\. FAILED", said, re.M)))
+    if failed:
+        return f"seen by {', '.join(failed)}"
+    if re.search(r"^test result: ok\.", said, re.M):
+        return "NOT SEEN"
+    return f"BAD EDIT: {said.strip()[-300:]}"
+
+
+def made(name, room):
+    """The file that an edit changes, what it holds, and what it would; nothing where the old line does not stand there once."""
+    _, file, old, new = read_edit(name)
+    with open(f"{room}/{file}", encoding="utf-8") as source:
+        text = source.read()
+    return (f"{room}/{file}", text, text.replace(old, new)) if text.count(old) == 1 else None
+
+
+def look(names):
+    lost = [it for it in names if not made(it, TOP)]
+    for it in lost:
+        print(f"tests/seen-by-tests/{it}: its old line does not stand once in its file")
+    print(f"{len(names) - len(lost)} passed, {len(lost)} failed")
+    return 1 if lost or not names else 0
+
+
+def write(path, text):
+    with open(path, "w", encoding="utf-8") as file:
+        file.write(text)
+
+
+def main(words):
+    names = sorted(it for it in os.listdir(EDITS) if it.endswith(".edit"))
+    if words == ["--look"]:
+        return look(names)
+    names = [it for it in names if all(word in it for word in words)]
+    missed = 0
+    with tempfile.TemporaryDirectory() as room:
+        shutil.copytree(f"{TOP}/crates", f"{room}/crates", ignore=shutil.ignore_patterns("out"))
+        for file in ("crates.txt", "HANDLES"):
+            shutil.copy(f"{TOP}/{file}", room)
+        for name in names:
+            trials, *_ = read_edit(name)
+            change = made(name, room)
+            told = "BAD EDIT: its old line does not stand once in its file"
+            if change:
+                path, text, changed = change
+                write(path, changed)
+                told = tried(trials, room)
+                write(path, text)
+            missed += not told.startswith("seen")
+            print(f"{name.removesuffix('.edit')} ({trials}): {told}", flush=True)
+    print(f"{len(names) - missed} passed, {missed} failed")
+    return 1 if missed else 0
+
+
+if __name__ == "__main__":
+    sys.exit(main(sys.argv[1:]))
