@@ -1,22 +1,24 @@
 -- What each event of a play leaves.
-use Rattle.std.proofs.Common.{◌≡◌, ◌≢◌, ℕ, ◌+◌, ◌-◌, ◌*◌, ◌≤◌, true, Bool, List, [], ◌∷◌, ◌++◌, take, drop, sym, ap, subst, ◌∙◌, inl, inr, arith, length-append, Option, Some, None, Ok, Err, is_ok}
+use Rattle.std.proofs.Common.{◌≡◌, ℕ, ◌+◌, ◌-◌, ◌*◌, ◌<◌, ◌≤◌, true, Bool, List, [], ◌∷◌, ◌++◌, length, take, drop, refl, sym, ap, subst, ◌∙◌, inl, inr, arith, length-append, Option, Some, None, Ok, Err, is_ok}
 use Rattle.std.specs.Prelude.{MatchBool}
 use Rattle.std.specs.Ordering.{nat_cmp}
 use Rattle.std.specs.FinMap as fmap
 use Rattle.std.proofs.lemmas.Bool.{cases_eq}
+use Rattle.std.proofs.lemmas.List.Elements.{All-nil, All-push}
+use Rattle.st_settings.specs.declared.settings.LocalSettings.{LocalSettings}
 use Rattle.st_end.specs.Calls.{Answer}
 use Rattle.st_world.specs.Sides.{Client, Both, at}
 use Rattle.st_world.specs.Ledgers.{Ledger, ledger_or}
 use Rattle.st_world.specs.State.{World}
-use Rattle.st_world.specs.Events.{Event, Write, Told, Call}
+use Rattle.st_world.specs.Events.{Event, Write, Told, Call, NoMemory}
 use Rattle.st_world.specs.Steps.{Happens}
 use Rattle.st_world.specs.Runs.{Chain, opening}
 use Rattle.st_chain.specs.Left.{Left, left_of, HoldsOf}
 use Rattle.st_chain.proofs.Reached.{run_more}
-use Rattle.st_local.specs.Parts.{sent_of, stream_at}
-use Rattle.st_local.specs.Playing.{Continues, HasSent, Played, Plays, Writes, local_chain, read_on, written_on}
-use Rattle.st_local.proofs.Asides.{write_called, write_lacked}
-use Rattle.st_local.proofs.Cuts.{sent_apart, sent_more}
+use Rattle.st_local.specs.Parts.{part_at, sent_of, stream_at}
+use Rattle.st_local.specs.Playing.{Continues, Fits, HasSent, IsAllRead, Played, Plays, Sends, Writes, local_chain, read_on, written_on}
+use Rattle.st_local.proofs.Asides.{lacked_kept, write_called}
+use Rattle.st_local.proofs.Cuts.{all_sent, nothing_sent, sent_apart, sent_more}
 
 -- where nothing has happened nothing is written
 pub opened_blank : (c : Chain) (w : World) (k : ℕ) → w ≡ opening c → written_on w k ≡ []
@@ -24,10 +26,18 @@ opened_blank c w k is =
     let none : fmap.get {X = Ledger} {R = nat_cmp} fmap.empty k ≡ None = fmap.get-empty nat_cmp k in
     ap (λ (x : World). written_on x k) is ∙ ap (λ (o : Option Ledger). (ledger_or o).written) none
 
+-- no event yet
+pub plays_none : (asked : LocalSettings) (w : World) → w ≡ opening (local_chain asked.hops) → Plays asked 0 w
+plays_none asked w is = record { list = []; count = refl; losses = All-nil (Fits asked.lose); run = is }
+
 -- one event more
-pub plays_next : (hops n : ℕ) (w v : World) (event : Event) (told : Told) → Plays hops n w → Happens w event told v → Plays hops (n + 1) v
-plays_next hops n w v event told run next =
-    (run.0 ++ event ∷ [], length-append run.0 (event ∷ []) ∙ omega (arith, run.1), run_more run.0 (opening (local_chain hops)) w event told v run.2 next)
+pub plays_next : (asked : LocalSettings) (n : ℕ) (w v : World) (event : Event) (told : Told) → Plays asked n w → Fits asked.lose event → Happens w event told v → Plays asked (n + 1) v
+plays_next asked n w v event told p fits next = record {
+  list = p.list ++ event ∷ [];
+  count = length-append p.list (event ∷ []) ∙ omega (arith, p.count);
+  losses = All-push (Fits asked.lose) p.list event p.losses fits;
+  run = run_more p.list (opening (local_chain asked.hops)) w event told v p.run next;
+}
 
 -- the law of every run, where the reader of a stream was told its end
 pub ended_whole : (t : Left) (w : World) (k : ℕ) (l : Ledger) (told : Bool) → t ≡ left_of w → HoldsOf t → fmap.get (at t.ledgers Client) k ≡ Some l → told ≡ l.told_end → told ≡ true → read_on w k ≡ written_on w k
@@ -37,18 +47,61 @@ ended_whole t w k l told is holds found same ended =
     let whole : (ledger_or (fmap.get t.ledgers.client k)).read ≡ (ledger_or (fmap.get t.ledgers.client k)).written = (holds.1.ends Client k end).1 in
     subst (λ (m : Both (fmap.FinMap nat_cmp Ledger)). (ledger_or (fmap.get m.client k)).read ≡ (ledger_or (fmap.get m.client k)).written) kept whole
 
+-- an event that did not come about
+pub misses_event : (p q : Played) → q.asked ≡ p.asked → q.events ≡ p.events → q.world ≡ p.world → Continues p q
+misses_event p q asked none same = record { asked = asked; events = omega (arith, none); written = λ k. ap (λ (x : World). written_on x k) same }
+
+-- or that met no memory
+pub misses_memory : (p q : Played) (event : Event) → q.asked ≡ p.asked → q.events ≡ p.events + 1 → Happens p.world event NoMemory q.world → Continues p q
+misses_memory p q event asked one h = record { asked = asked; events = omega (arith, one); written = lacked_kept p.world event q.world h }
+
 -- a write at the client was accepted, or changed nothing
-pub writes_called : (p q : Played) (k : ℕ) (xs : List ℕ) (a : Answer) → q.hops ≡ p.hops → q.events ≡ p.events + 1 → Happens p.world (Write Client k xs) (Call a) q.world → MatchBool (is_ok a) (Writes k xs p q) (Continues p q)
-writes_called p q k xs (Ok done) hops one h = let w = write_called p.world q.world k xs (Ok done) h in record { hops = hops; events = omega (arith, one); here = w.0; apart = w.1 }
-writes_called p q k xs (Err why) hops one h = record { hops = hops; events = omega (arith, one); written = write_called p.world q.world k xs (Err why) h }
+pub writes_called : (p q : Played) (k : ℕ) (xs : List ℕ) (a : Answer) → q.asked ≡ p.asked → q.events ≡ p.events + 1 → Happens p.world (Write Client k xs) (Call a) q.world → MatchBool (is_ok a) (Writes k xs p q) (Continues p q)
+writes_called p q k xs (Ok done) asked one h = let w = write_called p.world q.world k xs (Ok done) h in record { asked = asked; events = omega (arith, one); here = w.0; apart = w.1 }
+writes_called p q k xs (Err why) asked one h = record { asked = asked; events = omega (arith, one); written = write_called p.world q.world k xs (Err why) h }
 
-pub writes_lacked : (p q : Played) (k : ℕ) (xs : List ℕ) (told : Told) → q.hops ≡ p.hops → q.events ≡ p.events + 1 → ((a : Answer) → told ≢ Call a) → Happens p.world (Write Client k xs) told q.world → Continues p q
-writes_lacked p q k xs told hops one none h = record { hops = hops; events = omega (arith, one); written = write_lacked p.world q.world k xs told none h }
+-- ---- what of the input is written
 
--- a piece of one part was written
-pub piece_sent : (size : ℕ) (input : List ℕ) (sent to place : ℕ) (piece : List ℕ) (p q : Played) → place * size ≤ sent → sent ≤ to → to ≤ place * size + size → piece ≡ take (to - sent) (drop sent input)
-    → Writes (stream_at place) piece p q → HasSent size input sent p.world → HasSent size input to q.world
-piece_sent size input sent to place piece p q from up within is wrote had other = elim (cases_eq other place) [
-  | inl same ↦ subst (λ (i : ℕ). written_on q.world (stream_at i) ≡ sent_of size input to i) (sym same) (wrote.here ∙ (ap (λ xs. xs ++ piece) (had place) ∙ (ap (λ xs. sent_of size input sent place ++ xs) is ∙ sym (sent_more size input sent to place from up within))))
-  | inr apart ↦ wrote.apart (stream_at other) (λ e. apart (omega (arith, e))) ∙ (had other ∙ sym (sent_apart size input sent to place other from up within apart))
+-- nothing yet
+pub sent_none : (size : ℕ) (input : List ℕ) (w : World) → ((k : ℕ) → written_on w k ≡ []) → HasSent size input 0 w
+sent_none size input w blank = record { parts = λ place. blank (stream_at place) ∙ sym (nothing_sent size input place); apart = λ k none. blank k }
+
+-- a piece of one part, which leaves each other part
+part_sent : (size : ℕ) (input : List ℕ) (sent to place other : ℕ) (piece : List ℕ) (p q : Played) → place * size ≤ sent → sent ≤ to → to ≤ place * size + size → piece ≡ take (to - sent) (drop sent input)
+    → Writes (stream_at place) piece p q → HasSent size input sent p.world → written_on q.world (stream_at other) ≡ sent_of size input to other
+part_sent size input sent to place other piece p q from up within is wrote had = elim (cases_eq other place) [
+  | inl same ↦ subst (λ (i : ℕ). written_on q.world (stream_at i) ≡ sent_of size input to i) (sym same)
+        (wrote.here ∙ (ap (λ xs. xs ++ piece) (had.parts place) ∙ (ap (λ xs. sent_of size input sent place ++ xs) is ∙ sym (sent_more size input sent to place from up within))))
+  | inr apart ↦ wrote.apart (stream_at other) (λ e. apart (omega (arith, e))) ∙ (had.parts other ∙ sym (sent_apart size input sent to place other from up within apart))
 ]
+
+pub sends_piece : (size : ℕ) (input : List ℕ) (sent to place : ℕ) (piece : List ℕ) (p q : Played) → place * size ≤ sent → sent ≤ to → to ≤ place * size + size → piece ≡ take (to - sent) (drop sent input)
+    → Writes (stream_at place) piece p q → Sends size input sent to p q
+sends_piece size input sent to place piece p q from up within is wrote = record {
+  asked = wrote.asked;
+  events = wrote.events;
+  sent = λ had. record {
+    parts = λ other. part_sent size input sent to place other piece p q from up within is wrote had;
+    apart = λ k none. wrote.apart k (none place) ∙ had.apart k none;
+  };
+}
+
+-- events by which nothing is written
+pub sends_none : (size : ℕ) (input : List ℕ) (sent : ℕ) (p q : Played) → Continues p q → Sends size input sent sent p q
+sends_none size input sent p q c = record {
+  asked = c.asked;
+  events = c.events;
+  sent = λ had. record { parts = λ place. c.written (stream_at place) ∙ had.parts place; apart = λ k none. c.written k ∙ had.apart k none };
+}
+
+pub sends_then : (size : ℕ) (input : List ℕ) (a b c : ℕ) (p q r : Played) → Sends size input a b p q → Sends size input b c q r → Sends size input a c p r
+sends_then size input a b c p q r s t = record { asked = t.asked ∙ s.asked; events = omega (arith, s.events, t.events); sent = λ had. t.sent (s.sent had) }
+
+pub sends_on : (size : ℕ) (input : List ℕ) (a b : ℕ) (p q r : Played) → Sends size input a b p q → Continues q r → Sends size input a b p r
+sends_on size input a b p q r s c = sends_then size input a b b p q r s (sends_none size input b q r c)
+
+-- all of it, and read
+pub parts_read : (size streams : ℕ) (input : List ℕ) (sent : ℕ) (w : World) → sent ≡ length input → HasSent size input sent w → IsAllRead streams w
+    → (place : ℕ) → place < streams → read_on w (stream_at place) ≡ part_at size input place
+parts_read size streams input sent w all had read =
+    λ place l. read place l ∙ (had.parts place ∙ (ap (λ n. sent_of size input n place) all ∙ all_sent size input place))

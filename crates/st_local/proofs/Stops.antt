@@ -1,5 +1,5 @@
 -- What a fault's cause says of the devices' counts.
-use Rattle.std.proofs.Common.{◌≡◌, ℕ, ◌-◌, ◌≤◌, List, length, refl, sym, ap, subst, ◌∙◌, ◌⊎◌, inl, inr, arith, Result, Ok, Err}
+use Rattle.std.proofs.Common.{◌≡◌, ℕ, ◌-◌, ◌<◌, ◌≤◌, List, length, refl, sym, ap, subst, ◌∙◌, ◌⊎◌, inl, inr, arith, Result, Ok, Err}
 use Rattle.std.specs.Prelude.{Option, Some, None, unwrap_or, OnOk, IfErr, IfSome}
 use Rattle.std.specs.Io.KnownBytes.{Appends}
 use Rattle.st_oer.specs.Tallies.{TakesTurns}
@@ -7,8 +7,11 @@ use Rattle.st_oer.specs.declared.tally.Tally.{Tally}
 use Rattle.st_local.specs.declared.fault.LocalFault.{LocalFault}
 use Rattle.st_local.specs.declared.fault.LocalFault.TheVariants as fault
 use Rattle.st_local.specs.Errors.{fault_of, reader_faults, writer_faults}
-use Rattle.st_local.specs.Playing.{Played, StopsPlay}
-use Rattle.st_local.specs.Endings.{Explains, HasEnded, SpendsTurns, StaysFlushed, StopsRead, StopsWrite, WritesPart, most_bytes, most_turns}
+use Rattle.st_settings.specs.declared.settings.LocalSettings.{LocalSettings}
+use Rattle.st_world.specs.State.{World}
+use Rattle.st_local.specs.Parts.{part_at, part_size, stream_at}
+use Rattle.st_local.specs.Playing.{Carries, HasSent, Played, Plays, StopsPlay, read_on}
+use Rattle.st_local.specs.Endings.{Explains, Fails, GoesOver, HasEnded, IsInput, SpendsTurns, StaysFlushed, StopsCarry, StopsRead, StopsWrite, TakesTooLong, WritesPart, most_bytes, most_turns}
 
 -- where reading stopped no write failed
 pub read_writer : (input : Option (List ℕ)) (left : ℕ) (e : LocalFault) (n : ℕ) → StopsRead input left e → n ≡ writer_faults (Some e) n
@@ -29,79 +32,113 @@ read_turns input left fault.Failed h is = absurd h
 read_turns input left fault.Output h is = absurd h
 read_turns input left fault.Events h is = absurd h
 
-pub read_explains : (input : Option (List ℕ)) (left : ℕ) (e : LocalFault) → StopsRead input left e → Explains input e
-read_explains input left fault.TooLong h = h
-read_explains input left fault.Input h = tt
-read_explains input left fault.Turns h = tt
-read_explains input left fault.NoMemory h = tt
-read_explains input left fault.Failed h = absurd h
-read_explains input left fault.Output h = absurd h
-read_explains input left fault.Events h = absurd h
+pub read_explains : (asked : LocalSettings) (input : Option (List ℕ)) (left : ℕ) (e : LocalFault) → StopsRead input left e → Explains asked input e
+read_explains asked input left fault.TooLong h = h
+read_explains asked input left fault.Input h = tt
+read_explains asked input left fault.Turns h = tt
+read_explains asked input left fault.NoMemory h = tt
+read_explains asked input left fault.Failed h = absurd h
+read_explains asked input left fault.Output h = absurd h
+read_explains asked input left fault.Events h = absurd h
 
--- where playing stopped no device failed
-pub play_reader : (p : Played) (e : LocalFault) (n : ℕ) → StopsPlay p e → n ≡ reader_faults (Some e) n
-play_reader p fault.Failed n h = refl
-play_reader p fault.Events n h = refl
-play_reader p fault.NoMemory n h = refl
-play_reader p fault.TooLong n h = absurd h
-play_reader p fault.Input n h = absurd h
-play_reader p fault.Output n h = absurd h
-play_reader p fault.Turns n h = absurd h
+-- ---- what was played
 
-pub play_writer : (p : Played) (e : LocalFault) (n : ℕ) → StopsPlay p e → n ≡ writer_faults (Some e) n
-play_writer p fault.Failed n h = refl
-play_writer p fault.Events n h = refl
-play_writer p fault.NoMemory n h = refl
-play_writer p fault.TooLong n h = absurd h
-play_writer p fault.Input n h = absurd h
-play_writer p fault.Output n h = absurd h
-play_writer p fault.Turns n h = absurd h
+-- it was what is asked for
+carries : (asked had : LocalSettings) (streams : ℕ) (input : List ℕ) (events : ℕ) (w : World) → had ≡ asked → streams ≡ asked.streams → Plays had events w
+    → (sent : ℕ) × HasSent (part_size (length input) streams) input sent w → Carries asked input events w
+carries asked had streams input events w same is plays sent = record {
+  run = subst (λ (a : LocalSettings). Plays a events w) same plays;
+  sent = sent.0;
+  written = subst (λ (n : ℕ). HasSent (part_size (length input) n) input sent.0 w) is sent.1;
+}
 
-pub play_turns : (p : Played) (e : LocalFault) (left : ℕ) → StopsPlay p e → e ≡ fault.Turns → left ≡ 0
-play_turns p fault.Failed left h is = absurd (cc)
-play_turns p fault.Events left h is = absurd (cc)
-play_turns p fault.NoMemory left h is = absurd (cc)
-play_turns p fault.TooLong left h is = absurd h
-play_turns p fault.Input left h is = absurd h
-play_turns p fault.Output left h is = absurd h
-play_turns p fault.Turns left h is = absurd h
+pub goes_over : (asked : LocalSettings) (streams : ℕ) (input : List ℕ) (p : Played) → p.asked ≡ asked → streams ≡ asked.streams → Plays p.asked p.events p.world
+    → (sent : ℕ) × HasSent (part_size (length input) streams) input sent p.world
+    → ((place : ℕ) → place < streams → read_on p.world (stream_at place) ≡ part_at (part_size (length input) streams) input place) → GoesOver asked (Some input)
+goes_over asked streams input p same is plays sent read = (
+  input,
+  p.events,
+  p.world,
+  refl,
+  carries asked p.asked streams input p.events p.world same is plays sent,
+  subst (λ (n : ℕ). (place : ℕ) → place < n → read_on p.world (stream_at place) ≡ part_at (part_size (length input) n) input place) is read,
+)
 
-pub play_explains : (input : Option (List ℕ)) (p : Played) (e : LocalFault) → StopsPlay p e → Explains input e
-play_explains input p fault.Failed h = (p.hops, p.events, p.world, h.0, h.1)
-play_explains input p fault.Events h = (p.hops, p.world, h)
-play_explains input p fault.NoMemory h = tt
-play_explains input p fault.TooLong h = absurd h
-play_explains input p fault.Input h = absurd h
-play_explains input p fault.Output h = absurd h
-play_explains input p fault.Turns h = absurd h
+pub play_stops : (asked : LocalSettings) (streams : ℕ) (input : List ℕ) (left : ℕ) (p : Played) (e : LocalFault) → p.asked ≡ asked → streams ≡ asked.streams
+    → (sent : ℕ) × HasSent (part_size (length input) streams) input sent p.world → StopsPlay p e → StopsCarry asked (Some input) left e
+play_stops asked streams input left p fault.Failed same is sent h = (input, p.events, p.world, refl, carries asked p.asked streams input p.events p.world same is h.0 sent, h.1)
+play_stops asked streams input left p fault.Events same is sent h = (input, p.world, refl, carries asked p.asked streams input _ p.world same is h sent)
+play_stops asked streams input left p fault.NoMemory same is sent h = tt
+play_stops asked streams input left p fault.TooLong same is sent h = absurd h
+play_stops asked streams input left p fault.Input same is sent h = absurd h
+play_stops asked streams input left p fault.Output same is sent h = absurd h
+play_stops asked streams input left p fault.Turns same is sent h = absurd h
 
--- where writing stopped no read failed
-pub write_reader : (left : ℕ) (e : LocalFault) (n : ℕ) → StopsWrite left e → n ≡ reader_faults (Some e) n
-write_reader left fault.Output n h = refl
-write_reader left fault.Turns n h = refl
-write_reader left fault.TooLong n h = absurd h
-write_reader left fault.Input n h = absurd h
-write_reader left fault.NoMemory n h = absurd h
-write_reader left fault.Failed n h = absurd h
-write_reader left fault.Events n h = absurd h
+write_stops : (asked : LocalSettings) (input : Option (List ℕ)) (left : ℕ) (e : LocalFault) → StopsWrite left e → StopsCarry asked input left e
+write_stops asked input left fault.Output h = tt
+write_stops asked input left fault.Turns h = h
+write_stops asked input left fault.TooLong h = absurd h
+write_stops asked input left fault.Input h = absurd h
+write_stops asked input left fault.NoMemory h = absurd h
+write_stops asked input left fault.Failed h = absurd h
+write_stops asked input left fault.Events h = absurd h
 
-pub write_turns : (left : ℕ) (e : LocalFault) → StopsWrite left e → e ≡ fault.Turns → left ≡ 0
-write_turns left fault.Output h is = absurd (cc)
-write_turns left fault.Turns h is = h
-write_turns left fault.TooLong h is = absurd h
-write_turns left fault.Input h is = absurd h
-write_turns left fault.NoMemory h is = absurd h
-write_turns left fault.Failed h is = absurd h
-write_turns left fault.Events h is = absurd h
+pub stops_write : {T : Type 0} (r : Result T LocalFault) (asked : LocalSettings) (input : Option (List ℕ)) (left : ℕ) → IfErr r (StopsWrite left) → IfErr r (StopsCarry asked input left)
+stops_write (Ok x) asked input left h = tt
+stops_write (Err e) asked input left h = write_stops asked input left e h
 
-pub write_explains : (input : Option (List ℕ)) (left : ℕ) (e : LocalFault) → StopsWrite left e → Explains input e
-write_explains input left fault.Output h = tt
-write_explains input left fault.Turns h = tt
-write_explains input left fault.TooLong h = absurd h
-write_explains input left fault.Input h = absurd h
-write_explains input left fault.NoMemory h = absurd h
-write_explains input left fault.Failed h = absurd h
-write_explains input left fault.Events h = absurd h
+-- no reader failed
+carry_reader : (asked : LocalSettings) (input : Option (List ℕ)) (left : ℕ) (e : LocalFault) (n : ℕ) → StopsCarry asked input left e → n ≡ reader_faults (Some e) n
+carry_reader asked input left fault.Failed n h = refl
+carry_reader asked input left fault.TooLong n h = refl
+carry_reader asked input left fault.Input n h = absurd h
+carry_reader asked input left fault.Output n h = refl
+carry_reader asked input left fault.Turns n h = refl
+carry_reader asked input left fault.Events n h = refl
+carry_reader asked input left fault.NoMemory n h = refl
+
+carry_turns : (asked : LocalSettings) (input : Option (List ℕ)) (left : ℕ) (e : LocalFault) → StopsCarry asked input left e → e ≡ fault.Turns → left ≡ 0
+carry_turns asked input left fault.Turns h is = h
+carry_turns asked input left fault.Failed h is = absurd (cc)
+carry_turns asked input left fault.TooLong h is = absurd h
+carry_turns asked input left fault.Input h is = absurd h
+carry_turns asked input left fault.Output h is = absurd (cc)
+carry_turns asked input left fault.Events h is = absurd (cc)
+carry_turns asked input left fault.NoMemory h is = absurd (cc)
+
+-- what went over was the input, where it is known
+pub input_known : (input : Option (List ℕ)) (sent bytes : List ℕ) → IsInput input sent → bytes ≡ sent → IsInput input bytes
+input_known None sent bytes known same = tt
+input_known (Some all) sent bytes known same = same ∙ known
+
+over_known : (asked : LocalSettings) (input : Option (List ℕ)) (sent : List ℕ) → IsInput input sent → GoesOver asked (Some sent) → GoesOver asked input
+over_known asked input sent known h = (h.0, h.1, h.2, input_known input sent h.0 known h.3, h.4, h.5)
+
+carry_explains : (asked : LocalSettings) (input : Option (List ℕ)) (sent : List ℕ) (left : ℕ) (e : LocalFault) → IsInput input sent → StopsCarry asked (Some sent) left e → Explains asked input e
+carry_explains asked input sent left fault.Failed known h = (h.0, h.1, h.2, input_known input sent h.0 known h.3, h.4, h.5)
+carry_explains asked input sent left fault.Events known h = (h.0, h.1, input_known input sent h.0 known h.2, h.3)
+carry_explains asked input sent left fault.TooLong known h = absurd h
+carry_explains asked input sent left fault.Input known h = absurd h
+carry_explains asked input sent left fault.Output known h = tt
+carry_explains asked input sent left fault.Turns known h = tt
+carry_explains asked input sent left fault.NoMemory known h = tt
+
+pub over_carry : {T : Type 0} (r : Result T LocalFault) (asked : LocalSettings) (input : Option (List ℕ)) (sent : List ℕ) → IsInput input sent → OnOk r (GoesOver asked (Some sent)) → OnOk r (GoesOver asked input)
+over_carry (Ok x) asked input sent known h = over_known asked input sent known h
+over_carry (Err e) asked input sent known h = tt
+
+pub explains_carry : {T : Type 0} (r : Result T LocalFault) (asked : LocalSettings) (input : Option (List ℕ)) (sent : List ℕ) (left : ℕ) → IsInput input sent → IfErr r (StopsCarry asked (Some sent) left)
+    → IfErr r (Explains asked input)
+explains_carry (Ok x) asked input sent left known h = tt
+explains_carry (Err e) asked input sent left known h = carry_explains asked input sent left e known h
+
+pub reads_carry : {T : Type 0} (r : Result T LocalFault) (asked : LocalSettings) (input : Option (List ℕ)) (left n : ℕ) → IfErr r (StopsCarry asked input left) → n ≡ reader_faults (fault_of r) n
+reads_carry (Ok x) asked input left n h = refl
+reads_carry (Err e) asked input left n h = carry_reader asked input left e n h
+
+pub turns_carry : {T : Type 0} (r : Result T LocalFault) (asked : LocalSettings) (input : Option (List ℕ)) (left : ℕ) → IfErr r (StopsCarry asked input left) → IfErr r (λ e. e ≡ fault.Turns → left ≡ 0)
+turns_carry (Ok x) asked input left h = tt
+turns_carry (Err e) asked input left h = carry_turns asked input left e h
 
 -- ---- turns
 
@@ -138,38 +175,3 @@ delivers (Some bytes) before after sent read is short same done = (subst (Append
 pub delivers_part : (input before after : Option (List ℕ)) (sent read : List ℕ) → IfSome input (λ bytes. sent ≡ bytes) → read ≡ sent → WritesPart read before after → IfSome input (λ bytes. WritesPart bytes before after)
 delivers_part None before after sent read is same part = tt
 delivers_part (Some bytes) before after sent read is same part = subst (λ (xs : List ℕ). WritesPart xs before after) (same ∙ is) part
-
--- by the play, by the writing, or for want of memory
-abbrev IsCut : (left : ℕ) → LocalFault → Type 0
-IsCut left e = ((p : Played) × StopsPlay p e) ⊎ StopsWrite left e ⊎ (e ≡ fault.NoMemory)
-
-pub cut_write : {T : Type 0} (r : Result T LocalFault) (left : ℕ) → IfErr r (StopsWrite left) → IfErr r (IsCut left)
-cut_write (Ok x) left h = tt
-cut_write (Err e) left h = inr (inl h)
-
-cut_explains : (input : Option (List ℕ)) (left : ℕ) (e : LocalFault) → IsCut left e → Explains input e
-cut_explains input left e (inl h) = play_explains input h.0 e h.1
-cut_explains input left e (inr (inl h)) = write_explains input left e h
-cut_explains input left e (inr (inr h)) = subst (λ (x : LocalFault). Explains input x) (sym h) tt
-
-cut_reader : (left : ℕ) (e : LocalFault) (n : ℕ) → IsCut left e → n ≡ reader_faults (Some e) n
-cut_reader left e n (inl h) = play_reader h.0 e n h.1
-cut_reader left e n (inr (inl h)) = write_reader left e n h
-cut_reader left e n (inr (inr h)) = ap (λ (x : LocalFault). reader_faults (Some x) n) (sym h)
-
-cut_turns : (left : ℕ) (e : LocalFault) → IsCut left e → e ≡ fault.Turns → left ≡ 0
-cut_turns left e (inl h) is = play_turns h.0 e left h.1 is
-cut_turns left e (inr (inl h)) is = write_turns left e h is
-cut_turns left e (inr (inr h)) is = absurd (let no : ◌≡◌ {A = LocalFault} fault.NoMemory fault.Turns = sym h ∙ is in cc)
-
-pub explains_cut : {T : Type 0} (r : Result T LocalFault) (input : Option (List ℕ)) (left : ℕ) → IfErr r (IsCut left) → IfErr r (Explains input)
-explains_cut (Ok x) input left h = tt
-explains_cut (Err e) input left h = cut_explains input left e h
-
-pub reads_cut : {T : Type 0} (r : Result T LocalFault) (left n : ℕ) → IfErr r (IsCut left) → n ≡ reader_faults (fault_of r) n
-reads_cut (Ok x) left n h = refl
-reads_cut (Err e) left n h = cut_reader left e n h
-
-pub turns_cut : {T : Type 0} (r : Result T LocalFault) (left : ℕ) → IfErr r (IsCut left) → IfErr r (λ e. e ≡ fault.Turns → left ≡ 0)
-turns_cut (Ok x) left h = tt
-turns_cut (Err e) left h = cut_turns left e h

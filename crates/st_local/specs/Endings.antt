@@ -9,8 +9,9 @@ use Rattle.st_local.specs.declared.fault.LocalFault.{LocalFault}
 use Rattle.st_local.specs.declared.fault.LocalFault.TheVariants as fault
 use Rattle.st_local.specs.Errors.{fault_number, reader_faults, writer_faults}
 use Rattle.st_local.specs.Texts.{fault_text}
+use Rattle.st_settings.specs.declared.settings.LocalSettings.{LocalSettings}
 use Rattle.st_world.specs.State.{World}
-use Rattle.st_local.specs.Playing.{HasFailed, Plays, most_events}
+use Rattle.st_local.specs.Playing.{AreRead, Carries, HasFailed, most_events}
 
 -- how many bytes an input has at most
 abbrev pub most_bytes : ℕ
@@ -72,16 +73,42 @@ Says text said e f = (Appends (said (device_of e)) (said (device_of f)) text × 
 abbrev pub TellsFault : {E : Type 0} → LocalFault → (E → Option (List ℕ)) → Counting E → Counting E → ℕ → Type 0
 TellsFault x said e f status = (status ≡ 1) × Says (fault_text (fault_number x)) said e f
 
+-- these bytes are the input, where it is known
+abbrev pub IsInput : Option (List ℕ) → List ℕ → Type 0
+IsInput input bytes = IfSome input (λ all. bytes ≡ all)
+
+-- the input went over, as it is asked for
+abbrev pub GoesOver : LocalSettings → Option (List ℕ) → Type 0
+GoesOver asked input = (bytes : List ℕ) × (events : ℕ) × (w : World) × IsInput input bytes × Carries asked bytes events w × AreRead asked bytes w
+
+-- the input did not go over, as it is asked for, since the connection failed
+abbrev pub Fails : LocalSettings → Option (List ℕ) → Type 0
+Fails asked input = (bytes : List ℕ) × (events : ℕ) × (w : World) × IsInput input bytes × Carries asked bytes events w × HasFailed w
+
+-- or since there were too many events
+abbrev pub TakesTooLong : LocalSettings → Option (List ℕ) → Type 0
+TakesTooLong asked input = (bytes : List ℕ) × (w : World) × IsInput input bytes × Carries asked bytes most_events w
+
+-- why bytes did not go over or were not written: so many turns are left
+abbrev pub StopsCarry : LocalSettings → Option (List ℕ) → (left : ℕ) → LocalFault → Type 0
+StopsCarry asked input left fault.Failed = Fails asked input
+StopsCarry asked input left fault.TooLong = ⊥
+StopsCarry asked input left fault.Input = ⊥
+StopsCarry asked input left fault.Output = ⊤
+StopsCarry asked input left fault.Turns = left ≡ 0
+StopsCarry asked input left fault.Events = TakesTooLong asked input
+StopsCarry asked input left fault.NoMemory = ⊤
+
 -- why not all was done: by what was played, or by the input where it is known
-abbrev pub Explains : Option (List ℕ) → LocalFault → Type 0
-Explains input fault.Failed = (hops events : ℕ) × (w : World) × Plays hops events w × HasFailed w
-Explains input fault.TooLong = IfSome input (λ bytes. most_bytes < length bytes)
-Explains input fault.Events = (hops : ℕ) × (w : World) × Plays hops most_events w
-Explains input e = ⊤
+abbrev pub Explains : LocalSettings → Option (List ℕ) → LocalFault → Type 0
+Explains asked input fault.Failed = Fails asked input
+Explains asked input fault.TooLong = IfSome input (λ bytes. most_bytes < length bytes)
+Explains asked input fault.Events = TakesTooLong asked input
+Explains asked input e = ⊤
 
 -- a run: e and f are the writer for errors at the start and now
-pub record RunsLocal {E : Type 0} (input before now : Option (List ℕ)) (ended : Option LocalFault → Type 0) (said : E → Option (List ℕ)) (e f : Counting E) (status : ℕ) : Type 0 where
-  pub done : status ≡ 0 → (f ≡ e) × ended None × IfSome input (λ bytes. Appends before now bytes × (length bytes ≤ most_bytes))
-  pub refused : status ≡ 1 → (x : LocalFault) × ended (Some x) × Explains input x × TellsFault x said e f status
+pub record RunsLocal {E : Type 0} (asked : LocalSettings) (input before now : Option (List ℕ)) (ended : Option LocalFault → Type 0) (said : E → Option (List ℕ)) (e f : Counting E) (status : ℕ) : Type 0 where
+  pub done : status ≡ 0 → (f ≡ e) × ended None × IfSome input (λ bytes. Appends before now bytes × (length bytes ≤ most_bytes)) × GoesOver asked input
+  pub refused : status ≡ 1 → (x : LocalFault) × ended (Some x) × Explains asked input x × TellsFault x said e f status
   pub part : IfSome input (λ bytes. WritesPart bytes before now)
   pub bound : status ≤ 1

@@ -1,7 +1,9 @@
 //! Prepares that go over a chain, one at a time, and their answers.
 
-ghost use Rattle.std.specs.Prelude.{◌≡◌, ◌<◌, OnOk, IfErr};
-ghost use Rattle.st_local.specs.Playing.{Continues, StopsPlay, most_events};
+ghost use Rattle.std.specs.Prelude.{◌≡◌, ◌<◌, ◌↔◌, IsTrue, OnOk, IfErr};
+ghost use Rattle.st_world.specs.Sides.{Client};
+ghost use Rattle.st_nodes.specs.Seen.{way_seen};
+ghost use Rattle.st_local.specs.Playing.{Continues, IsLost, StopsPlay, most_events};
 
 use crate::fault::LocalFault;
 use crate::play::Play;
@@ -31,27 +33,33 @@ impl Counts {
     }
 
     /// Whether the client's last Prepare is one that is lost: its number is a multiple of this one, where that is not 0.
-    fn is_lost(&self, lose: u64) -> bool {
-        (self.sent as u64).checked_rem(lose) == Some(0)
+    fn is_lost(&self, lose: u64) -> bool
+        ensures { IsTrue result ↔ IsLost lose self.now.sent }
+    {
+        lose > 0 && (self.sent as u64).is_multiple_of(lose)
     }
 }
 
 /// A link of a chain by how many come before it on a way.
-fn link_on(way: Way, hops: usize, before: usize) -> usize {
+fn link_on(way: Way, hops: usize, before: usize) -> usize
+    ensures { way_seen way ≡ Client → result ≡ before }
+{
     match way {
         Way::ToServer => before,
         Way::ToClient => hops.saturating_sub(before),
     }
 }
 
-/// A Prepare goes over all links of a way: it has one number on the first of them, and another on those after it.
+/// A Prepare that is not lost goes over all links of a way: it has one number on the first of them, and another on those
+/// after it.
 fn go_across<A: Allocator + Copy>(
     play: &mut Play<A>,
     way: Way,
     first: usize,
     number: usize,
 ) -> Result<(), LocalFault>
-    ensures kept { OnOk result (Continues play.old play.new) }
+    requires { way_seen way ≡ Client → IsLost play.old.asked.lose first → ⊥ }
+    ensures kept { Continues play.old play.new }
     ensures why { IfErr result (StopsPlay play.new) }
 {
     let hops = play.hops();
@@ -69,7 +77,7 @@ fn come_back<A: Allocator + Copy>(
     way: Way,
     number: usize,
 ) -> Result<(), LocalFault>
-    ensures kept { OnOk result (Continues play.old play.new) }
+    ensures kept { Continues play.old play.new }
     ensures why { IfErr result (StopsPlay play.new) }
 {
     let hops = play.hops();
@@ -80,14 +88,13 @@ fn come_back<A: Allocator + Copy>(
     Ok(())
 }
 
-/// The client sends, where there is something to send. One Prepare in so many is lost, where that is not 0; else it goes to
-/// the server, and its answer comes back.
+/// The client sends, where there is something to send. The Prepare is lost, where that is asked for; else it goes to the
+/// server, and its answer comes back.
 pub(crate) fn send_client<A: Allocator + Copy>(
     play: &mut Play<A>,
     counts: &mut Counts,
-    lose: u64,
 ) -> Result<(), LocalFault>
-    ensures kept { OnOk result (Continues play.old play.new) }
+    ensures kept { Continues play.old play.new }
     ensures some { OnOk result (play.old.events < play.new.events) }
     ensures room { OnOk result (play.old.events < most_events) }
     ensures why { IfErr result (StopsPlay play.new) }
@@ -96,7 +103,7 @@ pub(crate) fn send_client<A: Allocator + Copy>(
         return Ok(());
     }
     counts.sent = counts.sent.saturating_add(1);
-    if counts.is_lost(lose) {
+    if counts.is_lost(play.lose()) {
         let event = Event::Fault(0, Way::ToServer, counts.sent, Play::<A>::now());
         let _told = play.pass(&event)?;
         return Ok(());
@@ -111,7 +118,7 @@ pub(crate) fn send_server<A: Allocator + Copy>(
     play: &mut Play<A>,
     counts: &mut Counts,
 ) -> Result<(), LocalFault>
-    ensures kept { OnOk result (Continues play.old play.new) }
+    ensures kept { Continues play.old play.new }
     ensures why { IfErr result (StopsPlay play.new) }
 {
     if !play.send(Side::Server)? {

@@ -1,12 +1,12 @@
 //! The command `local`: the input goes over a chain in memory, and what was read at its end is written.
 
-ghost use Rattle.std.specs.Prelude.{◌≡◌, ◌⊎◌, ◌<◌, ◌≤◌, ◌^◌, ℕ, [], length, IfErr, IfSome, OnOk};
+ghost use Rattle.std.specs.Prelude.{◌≡◌, ◌⊎◌, ◌<◌, ◌≤◌, ◌^◌, ℕ, [], length, Some, IfErr, IfSome, OnOk};
 ghost use Rattle.std.specs.Io.KnownBytes.{Appends};
 ghost use Rattle.st_oer.specs.Tallies.{TakesTurns, device_of, tally_of};
 ghost use Rattle.st_local.specs.Errors.{fault_of, reader_faults, writer_faults};
 ghost use Rattle.st_local.specs.Parts.{joined, stream_at};
-ghost use Rattle.st_local.specs.Playing.{Played, StopsPlay, read_on, written_on};
-ghost use Rattle.st_local.specs.Endings.{Explains, HasEnded, RunsLocal, SpendsTurns, StaysFlushed, StopsWrite, WritesPart, most_bytes};
+ghost use Rattle.st_local.specs.Playing.{read_on, written_on};
+ghost use Rattle.st_local.specs.Endings.{Explains, GoesOver, HasEnded, RunsLocal, SpendsTurns, StaysFlushed, StopsCarry, StopsWrite, WritesPart, most_bytes};
 
 use crate::fault::LocalFault;
 use crate::input::read_input;
@@ -44,22 +44,22 @@ fn put_parts<A: Allocator + Copy, W: Write>(
 fn carry_over<A: Allocator + Copy, W: Write>(
     play: &mut Play<A>,
     input: &[u8],
-    streams: usize,
-    lose: u64,
     writer: &mut CountWrite<W>,
     turns: &mut u64,
 ) -> Result<(), LocalFault>
-    requires some { 0 < streams }
-    requires few { streams ≤ 32 }
+    requires some { 0 < play.old.asked.streams }
+    requires few { play.old.asked.streams ≤ 32 }
     requires blank { (k : ℕ) → written_on play.old.world k ≡ [] }
+    ensures over { OnOk result (GoesOver play.old.asked (Some input.now)) }
     ensures whole { OnOk result (Appends (W.contents (device_of writer.old)) (W.contents (device_of writer.new)) input.now) }
     ensures part { WritesPart input.now (W.contents (device_of writer.old)) (W.contents (device_of writer.new)) }
     ensures faults { (tally_of writer.new).faults ≡ writer_faults (fault_of result) (tally_of writer.old).faults }
     ensures flushed { OnOk result (StaysFlushed (tally_of writer.old) (tally_of writer.new)) }
     ensures turns { TakesTurns (tally_of writer.old) (tally_of writer.new) turns.old turns.new }
-    ensures why { IfErr result (λ e. ((play : Played) × StopsPlay play e) ⊎ StopsWrite turns.new e ⊎ (e ≡ LocalFault.NoMemory)) }
+    ensures why { IfErr result (StopsCarry play.old.asked (Some input.now) turns.new) }
 {
-    match send_parts(play, input, streams, lose) {
+    let streams = play.streams();
+    match send_parts(play, input, streams) {
         Ok(()) => put_parts(play, streams, writer, turns),
         Err(fault) => Err(fault),
     }
@@ -76,18 +76,18 @@ fn carry<A: Allocator + Copy, W: Write>(
     requires hops { settings.now.hops ≤ 8 }
     requires some { 0 < settings.now.streams }
     requires streams { settings.now.streams ≤ 32 }
+    ensures over { OnOk result (GoesOver settings.now (Some input.now)) }
     ensures whole { OnOk result (Appends (W.contents (device_of writer.old)) (W.contents (device_of writer.new)) input.now) }
     ensures part { WritesPart input.now (W.contents (device_of writer.old)) (W.contents (device_of writer.new)) }
     ensures faults { (tally_of writer.new).faults ≡ writer_faults (fault_of result) (tally_of writer.old).faults }
     ensures flushed { OnOk result (StaysFlushed (tally_of writer.old) (tally_of writer.new)) }
     ensures turns { TakesTurns (tally_of writer.old) (tally_of writer.new) turns.old turns.new }
-    ensures why { IfErr result (λ e. ((play : Played) × StopsPlay play e) ⊎ StopsWrite turns.new e ⊎ (e ≡ LocalFault.NoMemory)) }
+    ensures why { IfErr result (StopsCarry settings.now (Some input.now) turns.new) }
 {
-    let Ok(mut play) = Play::new(alloc, usize::from(settings.hops)) else {
+    let Ok(mut play) = Play::new(alloc, settings) else {
         return Err(LocalFault::NoMemory);
     };
-    let streams = usize::from(settings.streams);
-    carry_over(&mut play, input, streams, settings.lose, writer, turns)
+    carry_over(&mut play, input, writer, turns)
 }
 
 /// Sends the reader's bytes over a chain of hops in memory, and writes what was read at its end. They are cut into so many
@@ -108,7 +108,8 @@ pub fn play_local<A: Allocator + Copy, R: Read, W: Write>(
     requires streams { settings.now.streams ≤ 32 }
     ensures whole { OnOk result (IfSome (R.remaining (device_of reader.old)) (λ bytes. Appends (W.contents (device_of writer.old)) (W.contents (device_of writer.new)) bytes × (length bytes ≤ most_bytes))) }
     ensures part { IfSome (R.remaining (device_of reader.old)) (λ bytes. WritesPart bytes (W.contents (device_of writer.old)) (W.contents (device_of writer.new))) }
-    ensures why { IfErr result (Explains (R.remaining (device_of reader.old))) }
+    ensures over { OnOk result (GoesOver settings.now (R.remaining (device_of reader.old))) }
+    ensures why { IfErr result (Explains settings.now (R.remaining (device_of reader.old))) }
     ensures reader_faults { (tally_of reader.new).faults ≡ reader_faults (fault_of result) (tally_of reader.old).faults }
     ensures writer_faults { (tally_of writer.new).faults ≡ writer_faults (fault_of result) (tally_of writer.old).faults }
     ensures flushed { OnOk result (StaysFlushed (tally_of writer.old) (tally_of writer.new)) }
@@ -132,7 +133,7 @@ pub fn run_local<A: Allocator + Copy, R: Read, W: Write, E: Write>(
     requires hops { settings.now.hops ≤ 8 }
     requires some { 0 < settings.now.streams }
     requires streams { settings.now.streams ≤ 32 }
-    ensures { RunsLocal (R.remaining (device_of reader.old)) (W.contents (device_of writer.old)) (W.contents (device_of writer.new))
+    ensures { RunsLocal settings.now (R.remaining (device_of reader.old)) (W.contents (device_of writer.old)) (W.contents (device_of writer.new))
         (HasEnded (tally_of reader.old) (tally_of reader.new) (tally_of writer.old) (tally_of writer.new))
         E.contents errors.old errors.new result }
 {

@@ -1,29 +1,30 @@
 //! A world that is played, event by event.
 
-ghost use Rattle.std.specs.Prelude.{◌≡◌, ◌≢◌, ◌+◌, ◌<◌, ◌≤◌, ℕ, [], MatchBool, true, length, IfOk, IfErr, IsOkUnless, OnOk};
+ghost use Rattle.std.specs.Prelude.{◌≡◌, ◌≢◌, ◌+◌, ◌<◌, ◌≤◌, ℕ, [], MatchBool, true, length, IfOk, IfErr, IsOkUnless, OnErr, OnOk};
 ghost use Rattle.st_world.specs.Sides.{Client};
 ghost use Rattle.st_world.specs.State.{ledger_at};
 ghost use Rattle.st_world.specs.Steps.{Happens};
 ghost use Rattle.st_nodes.specs.Seen.{told_seen};
 ghost use Rattle.st_chain.specs.Seen.{event_seen};
-ghost use Rattle.st_local.specs.Playing.{Continues, HasFailed, IsAside, Plays, StopsPlay, Writes, local_config, most_events, written_on, read_on};
+ghost use Rattle.st_local.specs.Playing.{Continues, Fits, HasFailed, IsAside, Plays, StopsPlay, Writes, local_config, most_events, written_on, read_on};
 
 use crate::fault::LocalFault;
 use st_chain::{Event, World};
 use st_ilp::Moment;
 use st_nodes::{Side, Told};
 use st_sender::{EndConfig, MAX_PACKET_LIMIT, MAX_PACKETS};
+use st_settings::LocalSettings;
 use std::alloc::Allocator;
 use std::marker::Model;
 
 /// The most events of a run.
 pub const MAX_EVENTS: u64 = 1_000_000;
 
-/// A world, and how many events it met.
+/// A world, what is asked of it, and how many events it met.
 #[derive(Drop)]
 pub(crate) struct Play<A: Allocator + Copy> {
     world: World<A>,
-    hops: usize,
+    settings: LocalSettings,
     events: u64,
 }
 
@@ -37,9 +38,9 @@ impl<A: Allocator + Copy> Model for Play<A> {
 
     ghost coded = { Prim.hlevel (codes, map.code) };
 
-    ghost view = { λ a. record { world = a.world; hops = a.hops; events = a.events } };
+    ghost view = { λ a. record { world = a.world; asked = a.settings; events = a.events } };
 
-    ghost invariant = { λ a. (a.hops ≤ 8) × (a.events ≤ most_events) × Plays a.hops a.events a.world };
+    ghost invariant = { λ a. (a.settings.hops ≤ 8) × (a.events ≤ most_events) × Plays a.settings a.events a.world };
 }
 
 /// One Prepare at a time, as many as a connection may send, of amounts without a limit.
@@ -50,29 +51,43 @@ fn config() -> EndConfig
 }
 
 impl<A: Allocator + Copy> Play<A> {
-    /// A world of so many hops where nothing has happened.
-    pub(crate) fn new(alloc: A, hops: usize) -> Result<Play<A>, LocalFault>
-        requires { hops ≤ 8 }
-        ensures hops { IfOk result (λ p. p.hops ≡ hops) }
+    /// A world of as many hops as are asked for, where nothing has happened.
+    pub(crate) fn new(alloc: A, settings: &LocalSettings) -> Result<Play<A>, LocalFault>
+        requires { settings.now.hops ≤ 8 }
+        ensures asked { IfOk result (λ p. p.asked ≡ settings.now) }
         ensures blank { IfOk result (λ p. (k : ℕ) → written_on p.world k ≡ []) }
         ensures only_memory { IsOkUnless result LocalFault.NoMemory }
     {
-        let Ok(world) = World::new(alloc, hops, config()) else {
+        let Ok(world) = World::new(alloc, usize::from(settings.hops), config()) else {
             return Err(LocalFault::NoMemory);
         };
         Ok(Play {
             world,
-            hops,
+            settings: *settings,
             events: 0,
         })
     }
 
     /// How many hops there are.
     pub(crate) fn hops(&self) -> usize
-        ensures count { result ≡ self.now.hops }
+        ensures count { result ≡ self.now.asked.hops }
         ensures few { result ≤ 8 }
     {
-        self.hops
+        usize::from(self.settings.hops)
+    }
+
+    /// Of how many Prepares of the client one is lost: 0 for none.
+    pub(crate) fn lose(&self) -> u64
+        ensures { result ≡ self.now.asked.lose }
+    {
+        self.settings.lose
+    }
+
+    /// How many streams the input is cut into.
+    pub(crate) fn streams(&self) -> usize
+        ensures { result ≡ self.now.asked.streams }
+    {
+        usize::from(self.settings.streams)
     }
 
     /// The one moment at which all happens.
@@ -89,10 +104,12 @@ impl<A: Allocator + Copy> Play<A> {
 
     /// One event. Refused is the one that would be one too many, and want of memory.
     pub(crate) fn take(&mut self, event: &Event<'_>) -> Result<Told<A>, LocalFault>
+        requires { Fits self.old.asked.lose (event_seen event.now) }
         ensures happens { IfOk result (λ told. Happens self.old.world (event_seen event.now) (told_seen told) self.new.world) }
         ensures one { OnOk result (self.new.events ≡ self.old.events + 1) }
         ensures room { OnOk result (self.old.events < most_events) }
-        ensures hops { self.new.hops ≡ self.old.hops }
+        ensures asked { self.new.asked ≡ self.old.asked }
+        ensures missed { OnErr result (Continues self.old self.new) }
         ensures why { IfErr result (StopsPlay self.new) }
     {
         if self.events >= MAX_EVENTS {
@@ -110,8 +127,9 @@ impl<A: Allocator + Copy> Play<A> {
 
     /// An event by which nothing is written at the client. What it told.
     pub(crate) fn pass(&mut self, event: &Event<'_>) -> Result<Told<A>, LocalFault>
-        requires { IsAside (event_seen event.now) }
-        ensures kept { OnOk result (Continues self.old self.new) }
+        requires aside { IsAside (event_seen event.now) }
+        requires fits { Fits self.old.asked.lose (event_seen event.now) }
+        ensures kept { Continues self.old self.new }
         ensures one { OnOk result (self.new.events ≡ self.old.events + 1) }
         ensures room { OnOk result (self.old.events < most_events) }
         ensures why { IfErr result (StopsPlay self.new) }
@@ -122,7 +140,7 @@ impl<A: Allocator + Copy> Play<A> {
 
     /// An end sends. Whether a Prepare went.
     pub(crate) fn send(&mut self, side: Side) -> Result<bool, LocalFault>
-        ensures kept { OnOk result (Continues self.old self.new) }
+        ensures kept { Continues self.old self.new }
         ensures one { OnOk result (self.new.events ≡ self.old.events + 1) }
         ensures room { OnOk result (self.old.events < most_events) }
         ensures why { IfErr result (StopsPlay self.new) }
@@ -135,6 +153,7 @@ impl<A: Allocator + Copy> Play<A> {
     /// Writes bytes on a stream of the client. Whether it took them.
     pub(crate) fn write(&mut self, stream: u8, bytes: &[u8]) -> Result<bool, LocalFault>
         ensures taken { IfOk result (λ taken. MatchBool taken (Writes stream bytes.now self.old self.new) (Continues self.old self.new)) }
+        ensures missed { OnErr result (Continues self.old self.new) }
         ensures why { IfErr result (StopsPlay self.new) }
     {
         let told = self.take(&Event::Write(Side::Client, stream, bytes))?;
@@ -158,6 +177,7 @@ impl<A: Allocator + Copy> Play<A> {
     pub(crate) fn has_ended(&self, stream: u8) -> bool
         ensures told { result ≡ (ledger_at self.now.world Client stream).told_end }
         ensures whole { result ≡ true → read_on self.now.world stream ≡ written_on self.now.world stream }
+        ensures run { Plays self.now.asked self.now.events self.now.world }
     {
         match self.world.trace().ledger(Side::Client, stream) {
             Some(ledger) => ledger.told_end(),
@@ -168,7 +188,7 @@ impl<A: Allocator + Copy> Play<A> {
     /// Whether the connection failed at an end.
     pub(crate) fn has_failed(&self) -> bool
         ensures failed { result ≡ true → HasFailed self.now.world }
-        ensures run { Plays self.now.hops self.now.events self.now.world }
+        ensures run { Plays self.now.asked self.now.events self.now.world }
     {
         self.world.is_failed(Side::Client) || self.world.is_failed(Side::Server)
     }

@@ -2,7 +2,7 @@
 
 ghost use Rattle.std.specs.Prelude.{◌≡◌, ◌<◌, ◌≤◌, ℕ, [], length, true, OnOk, IfOk, IfErr};
 ghost use Rattle.st_local.specs.Parts.{part_at, part_size, stream_at};
-ghost use Rattle.st_local.specs.Playing.{Continues, HasSent, IsAllRead, StopsPlay, most_events, read_on, written_on};
+ghost use Rattle.st_local.specs.Playing.{Continues, HasSent, IsAllRead, Plays, Sends, StopsPlay, most_events, read_on, written_on};
 
 use crate::chain::{Counts, send_client, send_server};
 use crate::fault::LocalFault;
@@ -20,7 +20,7 @@ const MAX_READ: usize = 65_536;
 
 /// The client opens so many streams.
 fn open_streams<A: Allocator + Copy>(play: &mut Play<A>, streams: usize) -> Result<(), LocalFault>
-    ensures kept { OnOk result (Continues play.old play.new) }
+    ensures kept { Continues play.old play.new }
     ensures why { IfErr result (StopsPlay play.new) }
 {
     for place in 0..streams {
@@ -40,12 +40,9 @@ fn write_piece<A: Allocator + Copy>(
     requires some { 0 < streams }
     requires few { streams ≤ 32 }
     requires left { sent.old < length input.now }
-    ensures sent { HasSent (part_size (length input.now) streams) input.now sent.old play.old.world
-        → OnOk result (HasSent (part_size (length input.now) streams) input.now sent.new play.new.world) }
+    ensures sent { Sends (part_size (length input.now) streams) input.now sent.old sent.new play.old play.new }
     ensures within { sent.new ≤ length input.now }
     ensures some { IfOk result (λ taken. taken ≡ true → sent.old < sent.new) }
-    ensures hops { OnOk result (play.new.hops ≡ play.old.hops) }
-    ensures events { OnOk result (play.old.events ≤ play.new.events) }
     ensures why { IfErr result (StopsPlay play.new) }
 {
     let size = part_size(input.len(), streams);
@@ -67,10 +64,7 @@ fn write_all<A: Allocator + Copy>(
 ) -> Result<(), LocalFault>
     requires some { 0 < streams }
     requires few { streams ≤ 32 }
-    ensures sent { HasSent (part_size (length input.now) streams) input.now sent.old play.old.world
-        → OnOk result (HasSent (part_size (length input.now) streams) input.now sent.new play.new.world) }
-    ensures hops { OnOk result (play.new.hops ≡ play.old.hops) }
-    ensures events { OnOk result (play.old.events ≤ play.new.events) }
+    ensures sent { Sends (part_size (length input.now) streams) input.now sent.old sent.new play.old play.new }
     ensures why { IfErr result (StopsPlay play.new) }
 {
     while *sent < input.len() {
@@ -91,7 +85,7 @@ fn close_written<A: Allocator + Copy>(
 ) -> Result<usize, LocalFault>
     requires some { 0 < streams }
     requires few { streams ≤ 32 }
-    ensures kept { OnOk result (Continues play.old play.new) }
+    ensures kept { Continues play.old play.new }
     ensures why { IfErr result (StopsPlay play.new) }
 {
     let size = part_size(bytes, streams);
@@ -106,7 +100,7 @@ fn close_written<A: Allocator + Copy>(
 /// Reads at the server what can be read of each stream that has not ended.
 fn read_streams<A: Allocator + Copy>(play: &mut Play<A>, streams: usize) -> Result<(), LocalFault>
     requires { streams ≤ 32 }
-    ensures kept { OnOk result (Continues play.old play.new) }
+    ensures kept { Continues play.old play.new }
     ensures why { IfErr result (StopsPlay play.new) }
 {
     for place in 0..streams {
@@ -120,8 +114,10 @@ fn read_streams<A: Allocator + Copy>(play: &mut Play<A>, streams: usize) -> Resu
 
 /// Whether the server was told the end of each stream.
 fn have_ended<A: Allocator + Copy>(play: &Play<A>, streams: usize) -> bool
-    requires { streams ≤ 32 }
-    ensures { result ≡ true → IsAllRead streams play.now.world }
+    requires some { 0 < streams }
+    requires few { streams ≤ 32 }
+    ensures whole { result ≡ true → IsAllRead streams play.now.world }
+    ensures run { Plays play.now.asked play.now.events play.now.world }
 {
     for place in 0..streams {
         if !play.has_ended(stream_at(place)) {
@@ -147,38 +143,37 @@ fn take_turns<A: Allocator + Copy>(
     play: &mut Play<A>,
     input: &[u8],
     streams: usize,
-    lose: u64,
     progress: &mut Progress,
 ) -> Result<bool, LocalFault>
     requires some { 0 < streams }
     requires few { streams ≤ 32 }
-    ensures sent { HasSent (part_size (length input.now) streams) input.now progress.old.sent play.old.world
-        → OnOk result (HasSent (part_size (length input.now) streams) input.now progress.new.sent play.new.world) }
+    ensures sent { Sends (part_size (length input.now) streams) input.now progress.old.sent progress.new.sent play.old play.new }
     ensures done { IfOk result (λ done. done ≡ true → (progress.new.sent ≡ length input.now) × IsAllRead streams play.new.world) }
-    ensures hops { OnOk result (play.new.hops ≡ play.old.hops) }
+    ensures run { IfOk result (λ done. done ≡ true → Plays play.new.asked play.new.events play.new.world) }
     ensures more { OnOk result (play.old.events < play.new.events) }
     ensures room { OnOk result (play.old.events < most_events) }
     ensures why { IfErr result (StopsPlay play.new) }
 {
     write_all(play, input, streams, &mut progress.sent)?;
     progress.closed = close_written(play, input.len(), streams, progress.sent, progress.closed)?;
-    send_client(play, &mut progress.counts, lose)?;
+    send_client(play, &mut progress.counts)?;
     read_streams(play, streams)?;
     send_server(play, &mut progress.counts)?;
     Ok(progress.sent == input.len() && have_ended(play, streams))
 }
 
-/// Sends each part of the input on a stream of its own, until every stream has ended at the server. One of so many Prepares
-/// of the client is lost, where that is not 0.
+/// Sends each part of the input on a stream of its own, until every stream has ended at the server.
 pub(crate) fn send_parts<A: Allocator + Copy>(
     play: &mut Play<A>,
     input: &[u8],
     streams: usize,
-    lose: u64,
 ) -> Result<(), LocalFault>
     requires some { 0 < streams }
     requires few { streams ≤ 32 }
     requires blank { (k : ℕ) → written_on play.old.world k ≡ [] }
+    ensures asked { play.new.asked ≡ play.old.asked }
+    ensures sent { (sent : ℕ) × HasSent (part_size (length input.now) streams) input.now sent play.new.world }
+    ensures run { OnOk result (Plays play.new.asked play.new.events play.new.world) }
     ensures delivered { OnOk result ((place : ℕ) → place < streams → read_on play.new.world (stream_at place) ≡ part_at (part_size (length input.now) streams) input.now place) }
     ensures why { IfErr result (StopsPlay play.new) }
 {
@@ -189,7 +184,7 @@ pub(crate) fn send_parts<A: Allocator + Copy>(
         counts: Counts::none(),
     };
     'playing: loop {
-        if take_turns(play, input, streams, lose, &mut progress)? {
+        if take_turns(play, input, streams, &mut progress)? {
             return Ok(());
         }
         if play.has_failed() {

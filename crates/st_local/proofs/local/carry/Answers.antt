@@ -1,5 +1,11 @@
-use Rattle.std.proofs.Common.{refl, inr}
+use Rattle.std.proofs.Common.{Some, subst}
+use Rattle.std.specs.Prelude.{IfErr, OnOk}
+use Rattle.st_settings.specs.declared.settings.LocalSettings.{LocalSettings}
+use Rattle.st_local.specs.Endings.{GoesOver, StopsCarry}
 use Rattle.st_local.proofs.local.carry.Goals as goal
 
-pub returns-in_default-clause-why : goal.returns-in_default-clause-why
-returns-in_default-clause-why g c = inr (inr refl)
+pub returns-clause-over : goal.returns-clause-over
+returns-clause-over g c = subst (λ (a : LocalSettings). OnOk c.carry_over.result (GoesOver a (Some c.args.input.now))) c.in-Ok.ensures.asked c.carry_over.ensures.over
+
+pub returns-clause-why : goal.returns-clause-why
+returns-clause-why g c = subst (λ (a : LocalSettings). IfErr c.carry_over.result (StopsCarry a (Some c.args.input.now) c.carry_over.new.turns)) c.in-Ok.ensures.asked c.carry_over.ensures.why

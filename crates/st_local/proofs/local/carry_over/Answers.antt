@@ -1,4 +1,4 @@
-use Rattle.std.proofs.Common.{◌≡◌, ◌∙◌, List, ℕ, subst, inl, length}
+use Rattle.std.proofs.Common.{◌≡◌, ◌<◌, ◌∙◌, List, ℕ, Some, sym, subst, length}
 use Rattle.std.specs.Io.KnownBytes.{Appends}
 use Rattle.st_oer.specs.Tallies.{device_of}
 use Rattle.st_local.specs.Parts.{joined, part_at, part_size, stream_at}
@@ -6,27 +6,34 @@ use Rattle.st_local.specs.Playing.{read_on}
 use Rattle.st_local.specs.Endings.{WritesPart}
 use Rattle.st_local.proofs.Cuts.{parts_whole}
 use Rattle.st_local.proofs.Joined.{joined_same}
-use Rattle.st_local.proofs.Stops.{cut_write, on_ok}
+use Rattle.st_local.proofs.Stops.{goes_over, on_ok, play_stops, stops_write}
 use Rattle.st_local.proofs.local.carry_over.Goals as goal
 
 pub returns-in-Ok-clause-whole : goal.returns-in-Ok-clause-whole
 returns-in-Ok-clause-whole g c =
     let input = c.args.input.now in
-    let streams = c.args.streams in
+    let streams = c.streams-streams.result in
     let read : ℕ → List ℕ = λ place. read_on c.send_parts.new.play.world (stream_at place) in
-    let all : joined read streams ≡ input = joined_same read (part_at (part_size (length input) streams) input) streams c.in-Ok.ensures.delivered ∙ parts_whole input streams c.requires.some in
+    let all : joined read streams ≡ input = joined_same read (part_at (part_size (length input) streams) input) streams c.in-Ok.ensures.delivered ∙ parts_whole input streams (subst (λ (n : ℕ). 0 < n) (sym c.streams-streams.ensures) c.requires.some) in
     on_ok c.put_parts.result _ _ (λ done. subst (Appends (g.W.Write.contents (device_of c.args.writer.now)) (g.W.Write.contents (device_of c.put_parts.new.writer))) all done) c.put_parts.ensures.whole
 
 pub returns-in-Ok-clause-part : goal.returns-in-Ok-clause-part
 returns-in-Ok-clause-part g c =
     let input = c.args.input.now in
-    let streams = c.args.streams in
+    let streams = c.streams-streams.result in
     let read : ℕ → List ℕ = λ place. read_on c.send_parts.new.play.world (stream_at place) in
-    let all : joined read streams ≡ input = joined_same read (part_at (part_size (length input) streams) input) streams c.in-Ok.ensures.delivered ∙ parts_whole input streams c.requires.some in
+    let all : joined read streams ≡ input = joined_same read (part_at (part_size (length input) streams) input) streams c.in-Ok.ensures.delivered ∙ parts_whole input streams (subst (λ (n : ℕ). 0 < n) (sym c.streams-streams.ensures) c.requires.some) in
     subst (λ (xs : List ℕ). WritesPart xs (g.W.Write.contents (device_of c.args.writer.now)) (g.W.Write.contents (device_of c.put_parts.new.writer))) all c.put_parts.ensures.part
 
+pub returns-in-Ok-clause-over : goal.returns-in-Ok-clause-over
+returns-in-Ok-clause-over g c =
+    on_ok c.put_parts.result _ _
+    (λ done. goes_over c.args.play.now.asked c.streams-streams.result c.args.input.now c.send_parts.new.play c.send_parts.ensures.asked c.streams-streams.ensures c.in-Ok.ensures.run c.send_parts.ensures.sent c.in-Ok.ensures.delivered)
+    c.put_parts.ensures.whole
+
 pub returns-in-Ok-clause-why : goal.returns-in-Ok-clause-why
-returns-in-Ok-clause-why g c = cut_write c.put_parts.result c.put_parts.new.turns c.put_parts.ensures.why
+returns-in-Ok-clause-why g c = stops_write c.put_parts.result c.args.play.now.asked (Some c.args.input.now) c.put_parts.new.turns c.put_parts.ensures.why
 
 pub returns-in-Err-clause-why : goal.returns-in-Err-clause-why
-returns-in-Err-clause-why g c = inl (c.send_parts.new.play, c.in-Err.ensures.why)
+returns-in-Err-clause-why g c =
+    play_stops c.args.play.now.asked c.streams-streams.result c.args.input.now c.args.turns.now c.send_parts.new.play c.in-Err.fault c.send_parts.ensures.asked c.streams-streams.ensures c.send_parts.ensures.sent c.in-Err.ensures.why

@@ -1,6 +1,6 @@
-use Rattle.std.proofs.Common.{◌∙◌}
+use Rattle.std.proofs.Common.{◌∙◌, Some}
 use Rattle.st_oer.specs.Tallies.{device_of, tally_of}
-use Rattle.st_local.proofs.Stops.{delivers, delivers_part, explains_cut, on_ok, reads_and_writes, reads_cut, turns_cut}
+use Rattle.st_local.proofs.Stops.{delivers, delivers_part, explains_carry, input_known, on_ok, over_carry, reads_and_writes, reads_carry, turns_carry}
 use Rattle.st_local.proofs.local.play_local.Goals as goal
 
 pub returns-clause-whole : goal.returns-clause-whole
@@ -14,14 +14,22 @@ returns-clause-part g c =
     delivers_part (g.R.Read.remaining (device_of c.args.reader.now)) (g.W.Write.contents (device_of c.args.writer.now)) (g.W.Write.contents (device_of c.carry.new.writer)) c.in_ok-input.input.items c.deref.result.now
     c.in_ok-input.ensures.read c.deref.ensures.value c.carry.ensures.part
 
+pub returns-clause-over : goal.returns-clause-over
+returns-clause-over g c =
+    over_carry c.carry.result c.args.settings.now (g.R.Read.remaining (device_of c.args.reader.now)) c.deref.result.now
+    (input_known (g.R.Read.remaining (device_of c.args.reader.now)) c.in_ok-input.input.items c.deref.result.now c.in_ok-input.ensures.read c.deref.ensures.value) c.carry.ensures.over
+
 pub returns-clause-why : goal.returns-clause-why
-returns-clause-why g c = explains_cut c.carry.result (g.R.Read.remaining (device_of c.args.reader.now)) c.carry.new.turns c.carry.ensures.why
+returns-clause-why g c =
+    explains_carry c.carry.result c.args.settings.now (g.R.Read.remaining (device_of c.args.reader.now)) c.deref.result.now c.carry.new.turns
+    (input_known (g.R.Read.remaining (device_of c.args.reader.now)) c.in_ok-input.input.items c.deref.result.now c.in_ok-input.ensures.read c.deref.ensures.value) c.carry.ensures.why
 
 pub returns-clause-reader_faults : goal.returns-clause-reader_faults
-returns-clause-reader_faults g c = c.in_ok-input.ensures.faults ∙ reads_cut c.carry.result c.carry.new.turns (tally_of c.args.reader.now).faults c.carry.ensures.why
+returns-clause-reader_faults g c =
+    c.in_ok-input.ensures.faults ∙ reads_carry c.carry.result c.args.settings.now (Some c.deref.result.now) c.carry.new.turns (tally_of c.args.reader.now).faults c.carry.ensures.why
 
 pub returns-clause-out_of_turns : goal.returns-clause-out_of_turns
-returns-clause-out_of_turns g c = turns_cut c.carry.result c.carry.new.turns c.carry.ensures.why
+returns-clause-out_of_turns g c = turns_carry c.carry.result c.args.settings.now (Some c.deref.result.now) c.carry.new.turns c.carry.ensures.why
 
 pub returns-clause-turns : goal.returns-clause-turns
 returns-clause-turns g c =

@@ -1,5 +1,9 @@
-use Rattle.st_local.specs.Playing.{IsAllRead}
+use Rattle.std.proofs.Common.{◌<◌}
+use Rattle.st_local.specs.Playing.{IsAllRead, Plays}
 use Rattle.st_local.proofs.streams.have_ended.Given as goal
 
 abbrev pub invariant-loop-place : goal.invariant-loop-place
-invariant-loop-place g l = IsAllRead l.place l.play.world
+invariant-loop-place g l = record {
+  read : IsAllRead l.place l.play.world;
+  run : 0 < l.place → Plays l.play.asked l.play.events l.play.world;
+}

@@ -8,6 +8,6 @@ decreases-playing g l = most_events - l.play.events
 
 abbrev pub invariant-playing : goal.invariant-playing
 invariant-playing g l = record {
+  asked : l.play.asked ≡ l.fn.play.asked;
   sent : HasSent (part_size (length l.input) l.streams) l.input l.progress.sent l.play.world;
-  hops : l.play.hops ≡ l.fn.play.hops;
 }

@@ -1,12 +1,12 @@
 use Rattle.std.proofs.Common.{◌<◌, ◌≤◌, ◌+◌, ◌-◌, ◌/◌, ◌%◌, ℕ, length, take, drop, refl, sym, subst, arith, div-mul-le_self}
 use Rattle.st_local.specs.Parts.{stream_at}
-use Rattle.st_local.specs.Playing.{HasSent, Writes}
+use Rattle.st_local.specs.Playing.{Sends, Writes}
 use Rattle.st_local.proofs.Cuts.{has_size, stays_within}
-use Rattle.st_local.proofs.Plays.{piece_sent}
+use Rattle.st_local.proofs.Plays.{sends_piece}
 use Rattle.st_local.proofs.streams.write_piece.Goals as goal
 
 pub returns-then-taken-clause-sent : goal.returns-then-taken-clause-sent
-returns-then-taken-clause-sent g c = λ had.
+returns-then-taken-clause-sent g c =
     let size = c.part_size-size.result in
     let input = c.args.input.now in
     let sent = c.args.sent.now in
@@ -16,6 +16,5 @@ returns-then-taken-clause-sent g c = λ had.
     let taken = rw c.if-taken.true at c.in_ok-taken.ensures.taken in
     let wrote : Writes (stream_at (sent / size)) (take (to - sent) (drop sent input)) c.args.play.now c.write.new.self =
     subst (λ (k : ℕ). Writes k (take (to - sent) (drop sent input)) c.args.play.now c.write.new.self) c.stream_at.ensures taken in
-    let all = subst (λ (n : ℕ). HasSent n input sent c.args.play.now.world) (sym c.part_size-size.ensures) had in
-    subst (λ (n : ℕ). HasSent n input to c.write.new.self.world) c.part_size-size.ensures
-    (piece_sent size input sent to (sent / size) (take (to - sent) (drop sent input)) c.args.play.now c.write.new.self (div-mul-le_self sent size) (omega arith) (stays_within sent size c.min-count.result some few) refl wrote all)
+    subst (λ (n : ℕ). Sends n input sent to c.args.play.now c.write.new.self) c.part_size-size.ensures
+    (sends_piece size input sent to (sent / size) (take (to - sent) (drop sent input)) c.args.play.now c.write.new.self (div-mul-le_self sent size) (omega arith) (stays_within sent size c.min-count.result some few) refl wrote)

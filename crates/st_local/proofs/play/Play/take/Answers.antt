@@ -1,6 +1,7 @@
-use Rattle.std.proofs.Common.{arith}
+use Rattle.std.proofs.Common.{sym, subst, arith}
 use Rattle.st_nodes.specs.Seen.{told_seen}
 use Rattle.st_chain.specs.Seen.{event_seen}
+use Rattle.st_local.specs.Playing.{Fits, Played}
 use Rattle.st_local.proofs.Plays.{plays_next}
 use Rattle.st_local.proofs.play.Play.take.Goals as goal
 
@@ -8,12 +9,14 @@ pub invariant_of-self-then-matches : goal.invariant_of-self-then-matches
 invariant_of-self-then-matches g c = (
   c.self.invariant.0,
   omega (arith, c.if-self-ge-MAX_EVENTS.false),
-  plays_next c.self.inside.hops c.self.inside.events c.self.inside.world c.step.new.self (event_seen c.args.event.now) (told_seen c.in-Ok.told) c.self.invariant.2 c.in-Ok.ensures.happens,
+  plays_next c.self.inside.settings c.self.inside.events c.self.inside.world c.step.new.self (event_seen c.args.event.now) (told_seen c.in-Ok.told) c.self.invariant.2
+      (subst (λ (p : Played). Fits p.asked.lose (event_seen c.args.event.now)) (sym c.self.view_is) c.requires) c.in-Ok.ensures.happens,
 )
 
 pub invariant_of-self-2 : goal.invariant_of-self-2
 invariant_of-self-2 g c = (
   c.self.invariant.0,
   omega (arith, c.if-self-ge-MAX_EVENTS.false),
-  plays_next c.self.inside.hops c.self.inside.events c.self.inside.world c.step.new.self (event_seen c.args.event.now) (told_seen c.in-Ok.told) c.self.invariant.2 c.in-Ok.ensures.happens,
+  plays_next c.self.inside.settings c.self.inside.events c.self.inside.world c.step.new.self (event_seen c.args.event.now) (told_seen c.in-Ok.told) c.self.invariant.2
+      (subst (λ (p : Played). Fits p.asked.lose (event_seen c.args.event.now)) (sym c.self.view_is) c.requires) c.in-Ok.ensures.happens,
 )

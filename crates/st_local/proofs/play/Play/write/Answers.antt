@@ -8,4 +8,4 @@ pub returns-clause-taken : goal.returns-clause-taken
 returns-clause-taken g c =
     let happened = rw c.in-Call.is at c.in_ok-told.ensures.happens in
     subst (λ (b : Bool). MatchBool b (Writes c.args.stream c.args.bytes.now c.args.self.now c.take.new.self) (Continues c.args.self.now c.take.new.self)) (sym c.is_ok.ensures.value)
-    (writes_called c.args.self.now c.take.new.self c.args.stream c.args.bytes.now c.in-Call.answer c.in_ok-told.ensures.hops c.in_ok-told.ensures.one happened)
+    (writes_called c.args.self.now c.take.new.self c.args.stream c.args.bytes.now c.in-Call.answer c.take.ensures.asked c.in_ok-told.ensures.one happened)
