@@ -2,3 +2,4 @@ pub mod Hops
 pub mod Chains
 pub mod Runs
 pub mod Opening
+pub mod Worlds

@@ -1,3 +1,4 @@
 pub mod Crossing
 pub mod Calm
 pub mod Chains
+pub mod Worlds

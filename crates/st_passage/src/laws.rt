@@ -21,7 +21,14 @@ ghost use Rattle.st_quiet.specs.Exchanges.{IsModest};
 ghost use Rattle.st_quiet.specs.Calls.{MaySend, allow_each, begin_each, lengths, other};
 ghost use Rattle.st_quiet.specs.Trips.{Turn};
 ghost use Rattle.st_passage.specs.Calm.{AreCalm, HasRoom, IsCalm, LeadsOn, after_one, earlier, ticket_of};
+ghost use Rattle.st_end.specs.declared.flight.Open as flights;
+ghost use Rattle.st_end.specs.Sending.{Goes};
+ghost use Rattle.st_world.specs.Sides.{Client};
+ghost use Rattle.st_world.specs.State.{World};
+ghost use Rattle.st_world.specs.Events.{Send, Sent};
+ghost use Rattle.st_world.specs.Steps.{Step};
 ghost use Rattle.st_passage.specs.Chains.{Crossing, Crossings, Stands};
+ghost use Rattle.st_passage.specs.Worlds.{AllForward, HasCrossed, IsAtRest, Met, passing};
 
 /// A Prepare that comes to a calm hop in time goes on as it came, but that it expires a second earlier. The Fulfill that
 /// fits goes back with the same bytes, and leaves the hop calm.
@@ -63,4 +70,12 @@ pub fn a_run_over_hops_is_bounded()
         → (let e = begin_each input money count (new_end role keys own peer config) in let f = allow_each money 0 65 (new_end (other role) keys peer own its_config) in
         AreCalm peer e.sending hops → Crossings input limit m e hops f g others h → work_left (lengths input) g.sending ≡ 0 → outgoing_at g.sending k ≡ Some x
         → ((incoming_at h.receiving k).held.read ≡ length (input k)) × ((incoming_at h.receiving k).credited ≡ x.offered)) }
+{}
+
+/// In a world at rest a Send whose Prepare each hop sends on, its arrivals over all links, and those of its answer back, are a
+/// crossing, and leave the world at rest.
+pub fn a_prepare_crosses_a_world()
+    ensures { (w mid v : World) (e f : EndState) (hops : List Hop) (count : ℕ) (iv : List ℕ) (now : ℤ) → IsAtRest w e hops f count
+        → ((flight : flights.Open) (bytes : List ℕ) (gone : EndState) → Goes e iv now flight bytes gone → AllForward hops bytes now)
+        → Step w (Send Client iv now) Sent mid → Met mid (passing (length hops) (count + 1) now) v → HasCrossed e hops f count iv now v }
 {}

@@ -8,5 +8,6 @@
 mod laws;
 
 pub use laws::{
-    a_calm_hop_passes_on, a_crossing_is_a_turn, a_new_hop_is_calm, a_run_over_hops_is_bounded,
+    a_calm_hop_passes_on, a_crossing_is_a_turn, a_new_hop_is_calm, a_prepare_crosses_a_world,
+    a_run_over_hops_is_bounded,
 };
