@@ -22,7 +22,7 @@ time_falls : (hops : List Hop) (expiry : ℤ) → less_time hops expiry ≤ℤ e
 time_falls [] expiry = omega (arith, ints)
 time_falls (h ∷ others) expiry = let l = time_falls others (expiry -ℤ hop_time) in omega (arith, ints, l)
 
-still_time : (hops : List Hop) (expiry now : ℤ) → int_le (less_time hops expiry) now ≡ false → int_le expiry now ≡ false
+pub still_time : (hops : List Hop) (expiry now : ℤ) → int_le (less_time hops expiry) now ≡ false → int_le expiry now ≡ false
 still_time hops expiry now late = let l = not_le_is (less_time hops expiry) now late in let f = time_falls hops expiry in is_not_le expiry now (omega (arith, ints, l, f))
 
 -- an end gives this answer to a Prepare whatever expiry it comes with, in time

@@ -3,3 +3,5 @@ pub mod Chains
 pub mod Runs
 pub mod Opening
 pub mod Worlds
+pub mod Rounds
+pub mod WorldRuns

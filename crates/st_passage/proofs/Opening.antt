@@ -5,9 +5,9 @@ use Rattle.st_hop.specs.Hop.{Way}
 use Rattle.st_hop.specs.Table.{new_hop}
 use Rattle.st_passage.specs.Calm.{IsCalm, LeadsOn}
 
-pub new_calm : (destination own : List ℕ) (client server : Account) (routes : List Way) (most left : ℕ) → LeadsOn (new_hop own (client ∷ server ∷ []) routes) destination → most ≤ client.max_packet → left ≤ client.limit → left < 2 ^ 63
-    → IsCalm destination 0 most left (new_hop own (client ∷ server ∷ []) routes)
-new_calm destination own client server routes most left leads small within few = record {
+pub new_calm : (destination : List ℕ) (sent : ℕ) (own : List ℕ) (client server : Account) (routes : List Way) (most left : ℕ) → LeadsOn (new_hop own (client ∷ server ∷ []) routes) destination → most ≤ client.max_packet → left ≤ client.limit → left < 2 ^ 63
+    → IsCalm destination sent most left (new_hop own (client ∷ server ∷ []) routes)
+new_calm destination sent own client server routes most left leads small within few = record {
   alone = refl;
   leads = leads;
   claims_kept = refl;

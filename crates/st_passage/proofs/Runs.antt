@@ -1,5 +1,5 @@
 -- A run over calm hops is a run of two ends with nothing between them, so it is as short, and delivers as much.
-use Rattle.std.proofs.Common.{◌≡◌, ℕ, zero, suc, ◌+◌, ◌≤◌, true, List, length, refl, sym, ap, subst, ◌∙◌, arith, Some, Ok}
+use Rattle.std.proofs.Common.{◌≡◌, ℕ, zero, suc, ◌+◌, ◌≤◌, true, List, refl, sym, ap, subst, ◌∙◌, arith, Some, Ok}
 use Rattle.std.specs.List.{AllByRecursion}
 use Rattle.st_ilp.specs.Packets.{Fulfilled, PreparePacket}
 use Rattle.st_ilp.specs.Reading.{answer_at}
@@ -10,7 +10,6 @@ use Rattle.st_hop.specs.Settling.{fits}
 use Rattle.st_keys.specs.Keys.{DerivedKeys, condition, fulfillment}
 use Rattle.st_sender.specs.Sending.{Config, Load}
 use Rattle.st_sender.specs.Loads.{Sends, with_flight}
-use Rattle.st_receiver.specs.Streams.{incoming_at}
 use Rattle.st_receiver.specs.Limits.{limits}
 use Rattle.st_end.specs.declared.role.Role.{Role}
 use Rattle.st_end.specs.State.{EndState, new_end, parity}
@@ -32,6 +31,7 @@ use Rattle.st_quiet.proofs.SameEnds.{begin_same}
 use Rattle.st_quiet.proofs.Allowing.{allowed_tells, begun_abreast, calls_allow}
 use Rattle.st_quiet.proofs.Running.{calls_joined}
 use Rattle.st_quiet.proofs.Trips.{bytes_same, comes_the_same, goes_sends, joined_still, passage_answers, peer_still, tells_still, trip_exchange, trips_exchanges}
+use Rattle.st_quiet.proofs.Short.{passage_short}
 use Rattle.st_quiet.proofs.Turns.{turn_spends, turn_trip, turns_trips}
 use Rattle.st_passage.specs.Crossing.{crossed}
 use Rattle.st_passage.specs.Calm.{AreCalm, HasRoom, IsCalm}
@@ -44,7 +44,7 @@ own_fits : (keys : DerivedKeys) (payload : List ℕ) → fits (fulfillment keys 
 unfolding fits
 own_fits keys payload = bytes_same (condition (fulfillment keys payload))
 
-load_has_room : (input : ℕ → List ℕ) (e f : EndState) → Stands input e f → (w : Passage e)
+pub load_has_room : (input : ℕ → List ℕ) (e f : EndState) → Stands input e f → (w : Passage e)
     → HasRoom e.peer e.sending.last e.sending.packet_limit (all_money_left e.sending) (all_money_left (once_fulfilled e.sending w.goes.load)) (prepare_for e w.now w.goes.load.amount w.goes.payload)
 load_has_room input e f s w =
     let p = w.goes.load in
@@ -72,12 +72,12 @@ passage_comes input limit e hops f g others h s calm x =
     answer : (reply : List ℕ) × (answer_at (received f w.bytes w.later).0.bytes ≡ Ok (Fulfilled (fulfillment e.keys w.goes.payload) reply))
     answer = passage_answers (lengths input) e f s.quiet s.abreast s.joined s.tellable w
 
-pub crossing_turn : (input : ℕ → List ℕ) (limit : ℕ) (e : EndState) (hops : List Hop) (f g : EndState) (others : List Hop) (h : EndState) → Stands input e f → AreCalm e.peer e.sending hops → Crossing input limit e hops f g others h → Turn input limit e f g h
-crossing_turn input limit e hops f g others h s calm x =
+pub crossing_turn : (input : ℕ → List ℕ) (limit : ℕ) (e : EndState) (hops : List Hop) (f g : EndState) (others : List Hop) (h : EndState) → 32739 ≤ limit → Stands input e f → AreCalm e.peer e.sending hops → Crossing input limit e hops f g others h → Turn input limit e f g h
+crossing_turn input limit e hops f g others h room s calm x =
     let c = passage_comes input limit e hops f g others h s calm x in
     record {
       passage = x.passage;
-      room = subst (λ (z : EndState). (k : ℕ) → length (run (incoming_at z.receiving k).held) ≤ limit) c.end x.room;
+      room = λ k. (let few = passage_short (lengths input) e f s.quiet s.abreast s.joined s.tellable x.passage k in omega (arith, few, room));
       reads = x.reads ∙ ap (take_each limit 0 65) c.end;
       writes = x.writes ∙ ap (λ bytes. write_each input 0 65 (ended x.passage.gone x.passage.flight (Some bytes))) c.answer;
     }
@@ -114,12 +114,12 @@ calm_as destination there sent last most limit after left amount before hops oth
     (subst (λ x. AllByRecursion (IsCalm destination sent x left) hops) (sym c)
     (subst (λ x. AllByRecursion (IsCalm destination sent most x) hops) money calm))))
 
-pub crossing_calm : (input : ℕ → List ℕ) (limit : ℕ) (e : EndState) (hops : List Hop) (f g : EndState) (others : List Hop) (h : EndState) → IsModest (lengths input) → Stands input e f → AreCalm e.peer e.sending hops → Crossing input limit e hops f g others h
+pub crossing_calm : (input : ℕ → List ℕ) (limit : ℕ) (e : EndState) (hops : List Hop) (f g : EndState) (others : List Hop) (h : EndState) → 32739 ≤ limit → IsModest (lengths input) → Stands input e f → AreCalm e.peer e.sending hops → Crossing input limit e hops f g others h
     → AreCalm g.peer g.sending others
 unfolding crossing_turn
-crossing_calm input limit e hops f g others h modest s calm x =
+crossing_calm input limit e hops f g others h room modest s calm x =
     let c = passage_comes input limit e hops f g others h s calm x in
-    let turn = crossing_turn input limit e hops f g others h s calm x in
+    let turn = crossing_turn input limit e hops f g others h room s calm x in
     let spends = turn_spends input limit e f g h modest s.quiet s.abreast s.joined s.tellable s.held_back turn in
     let room = load_has_room input e f s x.passage in
     calm_as e.peer g.peer (e.sending.last + 1) g.sending.last e.sending.packet_limit g.sending.packet_limit _ (all_money_left g.sending) x.passage.goes.load.amount (all_money_left e.sending) (over hops f x.passage).hops others
@@ -127,19 +127,19 @@ crossing_calm input limit e hops f g others h modest s calm x =
 
 -- ---- so many of them
 
-pub crossings_turns : (input : ℕ → List ℕ) (limit m : ℕ) (e : EndState) (hops : List Hop) (f g : EndState) (others : List Hop) (h : EndState) → IsModest (lengths input) → Stands input e f → AreCalm e.peer e.sending hops
+pub crossings_turns : (input : ℕ → List ℕ) (limit m : ℕ) (e : EndState) (hops : List Hop) (f g : EndState) (others : List Hop) (h : EndState) → 32739 ≤ limit → IsModest (lengths input) → Stands input e f → AreCalm e.peer e.sending hops
     → Crossings input limit m e hops f g others h → Turns input limit m e f g h × AreCalm g.peer g.sending others
-crossings_turns input limit zero e hops f g others h modest s calm run = (
+crossings_turns input limit zero e hops f g others h room modest s calm run = (
   (run.0, run.2),
   subst (λ (z : EndState). AreCalm z.peer z.sending others) (sym run.0) (subst (AreCalm e.peer e.sending) (sym run.1) calm),
 )
-crossings_turns input limit (suc m) e hops f g others h modest s calm run =
+crossings_turns input limit (suc m) e hops f g others h room modest s calm run =
     let mid = run.0 in
     let between = run.1 in
     let beyond = run.2 in
     let x = run.3 in
-    let turn = crossing_turn input limit e hops f mid between beyond s calm x in
-    let rest = crossings_turns input limit m mid between beyond g others h modest (turn_stands input limit e f mid beyond modest s turn) (crossing_calm input limit e hops f mid between beyond modest s calm x) run.4 in
+    let turn = crossing_turn input limit e hops f mid between beyond room s calm x in
+    let rest = crossings_turns input limit m mid between beyond g others h room modest (turn_stands input limit e f mid beyond modest s turn) (crossing_calm input limit e hops f mid between beyond room modest s calm x) run.4 in
     ((mid, beyond, turn, rest.0), rest.1)
 
 -- ---- from the opening on
@@ -163,15 +163,15 @@ opening_stands role keys own peer config its_config input money count may modest
       opening,
     )
 
-pub run_turns : (role : Role) (keys : DerivedKeys) (own peer : List ℕ) (config its_config : Config) (input : ℕ → List ℕ) (money : ℕ → ℕ) (count limit m : ℕ) (hops others : List Hop) (g h : EndState) → MaySend config → IsModest (lengths input) → IsModest money
+pub run_turns : (role : Role) (keys : DerivedKeys) (own peer : List ℕ) (config its_config : Config) (input : ℕ → List ℕ) (money : ℕ → ℕ) (count limit m : ℕ) (hops others : List Hop) (g h : EndState) → 32739 ≤ limit → MaySend config → IsModest (lengths input) → IsModest money
     → (let e = begin_each input money count (new_end role keys own peer config) in let f = allow_each money 0 65 (new_end (other role) keys peer own its_config) in
     AreCalm peer e.sending hops → Crossings input limit m e hops f g others h → Turns input limit m e f g h × AreCalm g.peer g.sending others)
-run_turns role keys own peer config its_config input money count limit m hops others g h may modest modest_money calm run =
+run_turns role keys own peer config its_config input money count limit m hops others g h room may modest modest_money calm run =
     let e = begin_each input money count (new_end role keys own peer config) in
     let f = allow_each money 0 65 (new_end (other role) keys peer own its_config) in
     let stands = opening_stands role keys own peer config its_config input money count may modest modest_money in
     let same = (begin_same input money count (new_end role keys own peer config)).peer in
-    crossings_turns input limit m e hops f g others h modest stands.0 (subst (λ x. AreCalm x e.sending hops) (sym same) calm) run
+    crossings_turns input limit m e hops f g others h room modest stands.0 (subst (λ x. AreCalm x e.sending hops) (sym same) calm) run
 
 pub turns_lower : (input : ℕ → List ℕ) (limit m : ℕ) (e f g h : EndState) → IsModest (lengths input) → Stands input e f → Turns input limit m e f g h → m + work_left (lengths input) g.sending ≤ work_left (lengths input) e.sending
 turns_lower input limit m e f g h modest s run =

@@ -114,7 +114,7 @@ met_both : (events more : List Event) (w v : World) → Met w (events ++ more) v
 met_both [] more w v run = (w, refl, run)
 met_both (event ∷ events) more w v run = let rest = met_both events more run.0 v run.4 in (rest.0, (run.0, run.1, run.2, run.3, rest.1), rest.2)
 
-met_one : (event : Event) (w v : World) → Met w (event ∷ []) v → (told : Told) × Step w event told v
+pub met_one : (event : Event) (w v : World) → Met w (event ∷ []) v → (told : Told) × Step w event told v
 met_one event w v run = (run.1, subst (λ (z : World). Step w event run.1 z) (sym run.4) run.3)
 
 is_here : (m n : ℕ) → m ≡ n → nat_eq m n ≡ true

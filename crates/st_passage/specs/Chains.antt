@@ -1,8 +1,6 @@
 -- A quiet run of two ends with hops between them.
-use Rattle.std.specs.Prelude.{◌≡◌, ℕ, zero, suc, ◌≤◌, pos, ◌≤ℤ◌, ◌+ℤ◌, int_le, false, List, length}
+use Rattle.std.specs.Prelude.{◌≡◌, ℕ, zero, suc, pos, ◌≤ℤ◌, ◌+ℤ◌, int_le, false, List}
 use Rattle.std.specs.declared.option.Option.TheVariants.{Some}
-use Rattle.st_reassembly.specs.Run.{run}
-use Rattle.st_receiver.specs.Streams.{incoming_at}
 use Rattle.st_hop.specs.Hop.{Hop}
 use Rattle.st_end.specs.State.{EndState}
 use Rattle.st_end.specs.Sending.{answer_time}
@@ -25,13 +23,12 @@ pub record Stands (input : ℕ → List ℕ) (e f : EndState) : Type 0 where
 abbrev pub over : {e : EndState} → List Hop → (f : EndState) → Passage e → Crossed
 over hops f w = crossed hops f w.bytes w.later
 
--- a trip over hops by calls: a Prepare that comes before it expires and its answer, a read of each stream that has room for
--- all that is held in a row, and a write on each of what fits
+-- a trip over hops by calls: a Prepare that comes before it expires and its answer, a read of each stream, and a write on
+-- each of what fits
 pub record Crossing (input : ℕ → List ℕ) (limit : ℕ) (e : EndState) (hops : List Hop) (f : EndState) (g : EndState) (others : List Hop) (h : EndState) : Type 0 where
   pub passage : Passage e
   pub moment : pos 0 ≤ℤ passage.later
   pub in_time : int_le (less_time hops (passage.now +ℤ answer_time)) passage.later ≡ false
-  pub room : (k : ℕ) → length (run (incoming_at (over hops f passage).end.receiving k).held) ≤ limit
   pub passed : others ≡ (over hops f passage).hops
   pub reads : h ≡ take_each limit 0 65 (over hops f passage).end
   pub writes : g ≡ write_each input 0 65 (ended passage.gone passage.flight (Some (over hops f passage).answer))

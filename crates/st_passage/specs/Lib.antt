@@ -2,3 +2,4 @@ pub mod Crossing
 pub mod Calm
 pub mod Chains
 pub mod Worlds
+pub mod Rounds

@@ -28,6 +28,11 @@ ghost use Rattle.st_world.specs.State.{World};
 ghost use Rattle.st_world.specs.Events.{Send, Sent};
 ghost use Rattle.st_world.specs.Steps.{Step};
 ghost use Rattle.st_passage.specs.Chains.{Crossing, Crossings, Stands};
+ghost use Rattle.st_world.specs.Sides.{Server};
+ghost use Rattle.st_world.specs.State.{end_at, lane_at};
+ghost use Rattle.st_world.specs.Runs.{Chain};
+ghost use Rattle.st_end.specs.Sending.{GoesNone};
+ghost use Rattle.st_passage.specs.Rounds.{MayRun, QuietRun, opening_client};
 ghost use Rattle.st_passage.specs.Worlds.{AllForward, HasCrossed, IsAtRest, Met, passing};
 
 /// A Prepare that comes to a calm hop in time goes on as it came, but that it expires a second earlier. The Fulfill that
@@ -48,25 +53,25 @@ pub fn a_new_hop_is_calm()
 
 /// To both ends a crossing of calm hops is a turn with nothing between them, and it leaves the hops calm.
 pub fn a_crossing_is_a_turn()
-    ensures turn { (input : ℕ → List ℕ) (limit : ℕ) (e f g h : EndState) (hops others : List Hop) → IsModest (lengths input) → Stands input e f → AreCalm e.peer e.sending hops → Crossing input limit e hops f g others h → Turn input limit e f g h }
-    ensures stands { (input : ℕ → List ℕ) (limit : ℕ) (e f g h : EndState) (hops others : List Hop) → IsModest (lengths input) → Stands input e f → AreCalm e.peer e.sending hops → Crossing input limit e hops f g others h → Stands input g h }
-    ensures calm { (input : ℕ → List ℕ) (limit : ℕ) (e f g h : EndState) (hops others : List Hop) → IsModest (lengths input) → Stands input e f → AreCalm e.peer e.sending hops → Crossing input limit e hops f g others h → AreCalm g.peer g.sending others }
+    ensures turn { (input : ℕ → List ℕ) (limit : ℕ) (e f g h : EndState) (hops others : List Hop) → 32739 ≤ limit → IsModest (lengths input) → Stands input e f → AreCalm e.peer e.sending hops → Crossing input limit e hops f g others h → Turn input limit e f g h }
+    ensures stands { (input : ℕ → List ℕ) (limit : ℕ) (e f g h : EndState) (hops others : List Hop) → 32739 ≤ limit → IsModest (lengths input) → Stands input e f → AreCalm e.peer e.sending hops → Crossing input limit e hops f g others h → Stands input g h }
+    ensures calm { (input : ℕ → List ℕ) (limit : ℕ) (e f g h : EndState) (hops others : List Hop) → 32739 ≤ limit → IsModest (lengths input) → Stands input e f → AreCalm e.peer e.sending hops → Crossing input limit e hops f g others h → AreCalm g.peer g.sending others }
 {}
 
 /// So a run over hops has no more Sends than one with nothing between its ends, with nothing assumed of what the hops answer:
-/// from the opening on, where each hop has room for all money that was offered. Where nothing is left, each stream's input was
+/// from the opening on, where each hop has room for all money that was offered, and a read for what one packet brings. Where nothing is left, each stream's input was
 /// read whole, and its money was credited.
 pub fn a_run_over_hops_is_bounded()
     ensures bounded { (role : Role) (keys : DerivedKeys) (own peer : List ℕ) (config its_config : Config) (input : ℕ → List ℕ) (money : ℕ → ℕ) (count limit m : ℕ) (hops others : List Hop) (g h : EndState)
-        → MaySend config → IsModest (lengths input) → IsModest money
+        → 32739 ≤ limit → MaySend config → IsModest (lengths input) → IsModest money
         → (let e = begin_each input money count (new_end role keys own peer config) in let f = allow_each money 0 65 (new_end (other role) keys peer own its_config) in
         AreCalm peer e.sending hops → Crossings input limit m e hops f g others h → m + 1 ≤ bound (lengths input) e.sending) }
     ensures sharper { (role : Role) (keys : DerivedKeys) (own peer : List ℕ) (config its_config : Config) (input : ℕ → List ℕ) (money : ℕ → ℕ) (count limit m : ℕ) (hops others : List Hop) (g h : EndState)
-        → MaySend config → IsModest (lengths input) → IsModest money
+        → 32739 ≤ limit → MaySend config → IsModest (lengths input) → IsModest money
         → (let e = begin_each input money count (new_end role keys own peer config) in let f = allow_each money 0 65 (new_end (other role) keys peer own its_config) in
         AreCalm peer e.sending hops → Crossings input limit m e hops f g others h → m + work_left (lengths input) g.sending ≤ work_left (lengths input) e.sending) }
     ensures delivered { (role : Role) (keys : DerivedKeys) (own peer : List ℕ) (config its_config : Config) (input : ℕ → List ℕ) (money : ℕ → ℕ) (count limit m k : ℕ) (hops others : List Hop) (g h : EndState) (x : Outgoing)
-        → MaySend config → IsModest (lengths input) → IsModest money
+        → 32739 ≤ limit → MaySend config → IsModest (lengths input) → IsModest money
         → (let e = begin_each input money count (new_end role keys own peer config) in let f = allow_each money 0 65 (new_end (other role) keys peer own its_config) in
         AreCalm peer e.sending hops → Crossings input limit m e hops f g others h → work_left (lengths input) g.sending ≡ 0 → outgoing_at g.sending k ≡ Some x
         → ((incoming_at h.receiving k).held.read ≡ length (input k)) × ((incoming_at h.receiving k).credited ≡ x.offered)) }
@@ -78,4 +83,18 @@ pub fn a_prepare_crosses_a_world()
     ensures { (w mid v : World) (e f : EndState) (hops : List Hop) (count : ℕ) (iv : List ℕ) (now : ℤ) → IsAtRest w e hops f count
         → ((flight : flights.Open) (bytes : List ℕ) (gone : EndState) → Goes e iv now flight bytes gone → AllForward hops bytes now)
         → Step w (Send Client iv now) Sent mid → Met mid (passing (length hops) (count + 1) now) v → HasCrossed e hops f count iv now v }
+{}
+
+/// So a quiet run of a world, by its events from where nothing has happened, has no more Sends than the bound. Where then none
+/// goes, each stream's input was read whole, and its money was credited.
+pub fn a_quiet_run_of_a_world_is_bounded()
+    ensures bounded { (c : Chain) (input : ℕ → List ℕ) (money : ℕ → ℕ) (count limit m : ℕ) (v : World) → MayRun c input money count limit → QuietRun c input money count limit m v
+        → m + 1 ≤ bound (lengths input) (opening_client c input money count).sending }
+    ensures sharper { (c : Chain) (input : ℕ → List ℕ) (money : ℕ → ℕ) (count limit m : ℕ) (v : World) → MayRun c input money count limit → QuietRun c input money count limit m v
+        → m + work_left (lengths input) (end_at v Client).sending ≤ work_left (lengths input) (opening_client c input money count).sending }
+    ensures sends { (c : Chain) (input : ℕ → List ℕ) (money : ℕ → ℕ) (count limit m : ℕ) (v : World) → MayRun c input money count limit → QuietRun c input money count limit m v
+        → length (lane_at v 0 Client).puts ≡ m }
+    ensures delivered { (c : Chain) (input : ℕ → List ℕ) (money : ℕ → ℕ) (count limit m k : ℕ) (v : World) (x : Outgoing) → MayRun c input money count limit → QuietRun c input money count limit m v
+        → GoesNone (end_at v Client) → outgoing_at (end_at v Client).sending k ≡ Some x
+        → ((incoming_at (end_at v Server).receiving k).held.read ≡ length (input k)) × ((incoming_at (end_at v Server).receiving k).credited ≡ x.offered) }
 {}

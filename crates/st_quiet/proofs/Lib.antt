@@ -33,6 +33,7 @@ pub mod SameEnds
 pub mod Allowing
 pub mod Tellable
 pub mod Trips
+pub mod Short
 pub mod Turns
 pub mod Running
 pub mod Closing

@@ -242,6 +242,7 @@ pub record Spends (s t : Sending) (p : Load) : Type 0 where
   pub money : all_money_left t + p.amount ≡ all_money_left s
   pub last : t.last ≡ s.last + 1
   pub packet_limit : t.packet_limit ≡ s.packet_limit
+  pub config : t.config ≡ s.config
 
 pub round_spends : (n : ℕ → ℕ) (s t : Sending) (limits : List Known) (p : Load) (told : List Known) → IsQuiet n s → Sends s limits max_packet p (with_flight s p) → IsWritten n (after_all_told (after_fulfilled (with_flight s p) (flight_of p)) told) t → Spends s t p
 round_spends n s t limits p told quiet sends writes =
@@ -254,6 +255,7 @@ round_spends n s t limits p told quiet sends writes =
       money = sums _ _ _ _ same spent;
       last = ap (λ (z : Sending). z.last) writes.rest ∙ heard.last ∙ acked.last ∙ ap (λ (z : Load). z.sequence) sends.load;
       packet_limit = ap (λ (z : Sending). z.packet_limit) writes.rest ∙ heard.packet_limit ∙ acked.packet_limit;
+      config = ap (λ (z : Sending). z.config) writes.rest ∙ heard.config ∙ acked.config;
     }
   where
     sums : (left middle amount before : ℕ) → left ≡ middle → middle + amount ≡ before → left + amount ≡ before

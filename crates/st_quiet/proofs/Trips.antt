@@ -361,6 +361,11 @@ peer_still n e f g h quiet abreast joined tellable x =
     let came = both_came n e f quiet abreast joined tellable x.passage in
     ap (λ (z : EndState). z.peer) (x.written_alone ∙ ap (λ (z : EndState). record z { sending = g.sending }) came.here)
 
+pub receiving_still : (n : ℕ → ℕ) (e f g h : EndState) → IsQuiet n e.sending → IsAbreast n e.sending f.receiving → AreJoined e f → CanTell f.receiving → Trip n e f g h → g.receiving ≡ e.receiving
+receiving_still n e f g h quiet abreast joined tellable x =
+    let came = both_came n e f quiet abreast joined tellable x.passage in
+    ap (λ (z : EndState). z.receiving) (x.written_alone ∙ ap (λ (z : EndState). record z { sending = g.sending }) came.here)
+
 pub tells_still : (n : ℕ → ℕ) (e f g h : EndState) → IsQuiet n e.sending → IsAbreast n e.sending f.receiving → AreJoined e f → CanTell f.receiving → Trip n e f g h → CanTell h.receiving
 tells_still n e f g h quiet abreast joined tellable x k =
     let y = trip_exchange n e f g h quiet abreast joined tellable x in

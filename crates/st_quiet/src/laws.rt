@@ -99,6 +99,13 @@ pub fn a_load_is_read()
         → outgoing_at (once_fulfilled s p) k ≡ Some y → (let h = (incoming_at (effect r q p.amount) k).held in h.read + length (run h) ≡ y.acked_end) }
 {}
 
+/// And no stream then holds more in a row than a packet has room for.
+pub fn a_load_is_short()
+    ensures { (n : ℕ → ℕ) (s : Sending) (limits : List Known) (p : Load) (q : Packet) (r : Receiving) (k : ℕ)
+        → IsQuiet n s → Sends s limits max_packet p (with_flight s p) → Fills s limits max_packet p → IsAbreast n s r → IsPacketOf p q
+        → length (run (incoming_at (effect r q p.amount) k).held) ≤ 32739 }
+{}
+
 /// A receiver whose reader takes what it can is abreast again after each round.
 pub fn a_round_keeps_abreast()
     ensures { (n : ℕ → ℕ) (s t : Sending) (limits : List Known) (p : Load) (q : Packet) (r u : Receiving)

@@ -1,0 +1,307 @@
+-- A quiet run of a world from its opening on is a run of crossings, so it is as short, and delivers as much.
+use Rattle.std.proofs.Common.{◌≡◌, ℕ, Bool, zero, suc, ◌+◌, ◌^◌, ◌<◌, ◌≤◌, true, false, List, [], ◌∷◌, length, map, replicate, refl, sym, ap, subst, ◌∙◌, arith, ℤ, Option, None, Some, Result, Ok, inl, inr}
+use Rattle.std.specs.List.{AllByRecursion}
+use Rattle.std.proofs.lemmas.Bool.{cases_lt}
+use Rattle.st_hop.specs.Hop.{Hop}
+use Rattle.st_keys.specs.Keys.{keys_of}
+use Rattle.st_sender.specs.Sending.{Config, Outgoing, Sending, new_outgoing, outgoing_at}
+use Rattle.st_receiver.specs.Streams.{incoming_at}
+use Rattle.st_receiver.specs.Limits.{limits}
+use Rattle.st_end.specs.declared.error.EndError.{EndError}
+use Rattle.st_end.specs.declared.role.Role.TheVariants as roles
+use Rattle.st_end.specs.State.{EndState, new_end}
+use Rattle.st_end.specs.Calls.{offer, open_stream, set_receive_max}
+use Rattle.st_end.specs.Sending.{Goes, GoesNone}
+use Rattle.st_world.specs.Sides.{Client, Server, at}
+use Rattle.st_world.specs.State.{World, end_at, lane_at, no_lanes}
+use Rattle.st_world.specs.Events.{Opened, Send, Sent, Silent, Told}
+use Rattle.st_world.specs.Steps.{Step}
+use Rattle.st_world.specs.Runs.{Chain, Table, new_node, opening}
+use Rattle.st_world.proofs.Lanes.{no_lane}
+use Rattle.st_quiet.specs.Quiet.{IsQuiet}
+use Rattle.st_quiet.specs.Left.{all_money_left, bound, money_left, work_left}
+use Rattle.st_quiet.specs.Rounds.{IsRefilled}
+use Rattle.st_quiet.specs.Exchanges.{IsModest}
+use Rattle.st_quiet.specs.Calls.{allow_each, begin_each, begun, lengths, written_at}
+use Rattle.st_quiet.specs.Trips.{Turns}
+use Rattle.st_quiet.proofs.Sums.{sum_below}
+use Rattle.st_quiet.proofs.Lowering.{none_goes, some_goes}
+use Rattle.st_quiet.proofs.Bound.{within_bound}
+use Rattle.st_quiet.proofs.Beginning.{IsBegun, calls_begun}
+use Rattle.st_quiet.proofs.SameEnds.{begin_same}
+use Rattle.st_quiet.proofs.Rounds.{rounds_lower}
+use Rattle.st_quiet.proofs.Exchanging.{exchanges_rounds}
+use Rattle.st_quiet.proofs.Running.{run_delivered}
+use Rattle.st_quiet.proofs.Trips.{goes_sends, receiving_still, trips_exchanges}
+use Rattle.st_quiet.proofs.Turns.{turn_spends, turn_trip, turns_trips}
+use Rattle.st_passage.specs.Calm.{AreCalm, IsCalm}
+use Rattle.st_passage.specs.Chains.{Crossing, Crossings, Stands}
+use Rattle.st_passage.specs.Worlds.{IsAtRest, Met, state_of}
+use Rattle.st_passage.specs.Rounds.{Begins, BeginsEach, HasRoomFor, MayRun, QuietRun, Rounds, all_of, allows, opening_client}
+use Rattle.st_passage.proofs.Opening.{new_calm}
+use Rattle.st_passage.proofs.Runs.{crossing_calm, crossing_turn, crossings_turns, opening_stands, passage_comes, turn_stands, turns_lower}
+use Rattle.st_passage.proofs.Rounds.{client_calls, rest_moved, round_crosses, write_rest}
+
+-- ---- rounds
+
+-- what a Send that went says of what was left
+sent_leaves : (input : ℕ → List ℕ) (e : EndState) (hops : List Hop) (f : EndState) (n : ℕ) (w v : World) (iv : List ℕ) (now : ℤ) → Stands input e f → IsAtRest w e hops f n → Step w (Send Client iv now) Sent v → 0 < work_left (lengths input) e.sending
+sent_leaves input e hops f n w v iv now stands rest (inl none) = absurd (let no : ◌≡◌ {A = Told} Sent Silent = none.1 in cc)
+sent_leaves input e hops f n w v iv now stands rest (inr sent) =
+    let goes : Goes e iv now sent.0 sent.1 sent.2 = subst (λ z. Goes z iv now sent.0 sent.1 sent.2) rest.client sent.3 in
+    elim (cases_lt 0 (work_left (lengths input) e.sending)) [
+      | inl some ↦ some
+      | inr none ↦ absurd (none_goes (lengths input) e.sending (limits e.receiving) goes.load stands.quiet (zero_is _ none) (goes_sends e sent.2 iv sent.1 now sent.0 goes))
+    ]
+  where
+    zero_is : (m : ℕ) → m ≤ 0 → m ≡ 0
+    zero_is m l = omega arith
+
+-- what the rounds leave
+pub record AreCrossed (input : ℕ → List ℕ) (limit m : ℕ) (e : EndState) (hops : List Hop) (f : EndState) (n : ℕ) (v : World) : Type 0 where
+  pub client : EndState
+  pub others : List Hop
+  pub server : EndState
+  pub crosses : Crossings input limit m e hops f client others server
+  pub rests : IsAtRest v client others server n
+  pub unclosed : client.receiving.closed ≡ false
+
+-- the Prepares of the connection suffice for the rest
+abbrev HasPackets : (ℕ → List ℕ) → EndState → Type 0
+HasPackets input e = e.sending.last + work_left (lengths input) e.sending < e.sending.config.packets
+
+crossing_packets : (input : ℕ → List ℕ) (limit : ℕ) (e : EndState) (hops : List Hop) (f g : EndState) (others : List Hop) (h : EndState) → 32739 ≤ limit → IsModest (lengths input) → Stands input e f → AreCalm e.peer e.sending hops → HasPackets input e → Crossing input limit e hops f g others h
+    → HasPackets input g
+crossing_packets input limit e hops f g others h room modest s calm packets x =
+    let turn = crossing_turn input limit e hops f g others h room s calm x in
+    let spends = turn_spends input limit e f g h modest s.quiet s.abreast s.joined s.tellable s.held_back turn in
+    let lowers = turns_lower input limit 1 e f g h modest s (g, h, turn, (refl, refl)) in
+    let same = ap (λ (c : Config). c.packets) spends.config in
+    numbers _ _ _ _ _ _ packets spends.last lowers same
+  where
+    numbers : (last left packets new_last new_left new_packets : ℕ) → last + left < packets → new_last ≡ last + 1 → 1 + new_left ≤ left → new_packets ≡ packets → new_last + new_left < new_packets
+    numbers last left packets new_last new_left new_packets a b c d = omega arith
+
+crossing_unclosed : (input : ℕ → List ℕ) (limit : ℕ) (e : EndState) (hops : List Hop) (f g : EndState) (others : List Hop) (h : EndState) → 32739 ≤ limit → IsModest (lengths input) → Stands input e f → AreCalm e.peer e.sending hops → e.receiving.closed ≡ false → Crossing input limit e hops f g others h
+    → g.receiving.closed ≡ false
+crossing_unclosed input limit e hops f g others h room modest s calm unclosed x =
+    let turn = crossing_turn input limit e hops f g others h room s calm x in
+    ap (λ r. r.closed) (receiving_still (lengths input) e f g h s.quiet s.abreast s.joined s.tellable (turn_trip input limit e f g h modest s.quiet s.abreast s.joined s.tellable s.held_back turn).0) ∙ unclosed
+
+pub rounds_cross : (input : ℕ → List ℕ) (limit m : ℕ) (e : EndState) (hops : List Hop) (f : EndState) (n : ℕ) (w v : World) → 32739 ≤ limit → IsModest (lengths input) → Stands input e f → AreCalm e.peer e.sending hops → length hops ≤ 8 → HasPackets input e → e.receiving.closed ≡ false
+    → IsAtRest w e hops f n → Rounds input limit (length hops) n m w v → AreCrossed input limit m e hops f (n + m) v
+rounds_cross input limit zero e hops f n w v room modest s calm few packets unclosed rest run = record {
+  client = e;
+  others = hops;
+  server = f;
+  crosses = (refl, refl, refl);
+  rests = subst (λ z. IsAtRest z e hops f (n + 0)) (sym run) (subst (IsAtRest w e hops f) (let same : n ≡ n + 0 = omega arith in same) rest);
+  unclosed = unclosed;
+}
+rounds_cross input limit (suc m) e hops f n w v room modest s calm few packets unclosed rest run =
+    let mid = run.0 in
+    let some = sent_leaves input e hops f n w run.1.sent run.1.iv run.1.now s rest run.1.goes in
+    let one = round_crosses input limit e hops f n w mid (omega (arith, room)) s calm few (next _ _ _ some packets) rest run.1 in
+    let turn = crossing_turn input limit e hops f one.client one.others one.server room s calm one.crosses in
+    let count : length one.others ≡ length hops = ap length one.crosses.passed ∙ (passage_comes input limit e hops f one.client one.others one.server s calm one.crosses).count in
+    let all = rounds_cross input limit m one.client one.others one.server (suc n) mid v room modest (turn_stands input limit e f one.client one.server modest s turn)
+    (crossing_calm input limit e hops f one.client one.others one.server room modest s calm one.crosses) (omega (arith, count, few))
+    (crossing_packets input limit e hops f one.client one.others one.server room modest s calm packets one.crosses)
+    (crossing_unclosed input limit e hops f one.client one.others one.server room modest s calm unclosed one.crosses) one.rests
+    (subst (λ k. Rounds input limit k (suc n) m mid v) (sym count) run.2) in
+    record {
+      client = all.client;
+      others = all.others;
+      server = all.server;
+      crosses = (one.client, one.others, one.server, one.crosses, all.crosses);
+      rests = subst (IsAtRest v all.client all.others all.server) (let same : suc n + m ≡ n + suc m = omega arith in same) all.rests;
+      unclosed = all.unclosed;
+    }
+  where
+    next : (last left packets : ℕ) → 0 < left → last + left < packets → last + 1 < packets
+    next last left packets some few = omega arith
+
+-- ---- the opening
+
+allows_rest : (money : ℕ → ℕ) (first count : ℕ) (w v : World) (e : EndState) (hops : List Hop) (f : EndState) (n : ℕ) → IsAtRest w e hops f n → Met w (allows money first count) v → IsAtRest v e hops (allow_each money first count f) n
+unfolding allows allow_each
+allows_rest money first zero w v e hops f n rest run = subst (λ z. IsAtRest z e hops f n) (sym run) rest
+allows_rest money first (suc m) w v e hops f n rest run =
+    let mid = run.0 in
+    let is = run.3.1 in
+    let one : IsAtRest mid e hops (set_receive_max (end_at w Server) first (money first)).1 n = rest_moved w mid e f e _ hops n rest (record {
+      client_is = ap (λ z. end_at z Client) is ∙ rest.client;
+      server_is = ap (λ z. end_at z Server) is;
+      nodes = ap (λ (z : World). z.nodes) is;
+      links = ap (λ (z : World). z.links) is;
+    }) in
+    allows_rest money (first + 1) m mid v e hops (set_receive_max f first (money first)).1 n (subst (λ z. IsAtRest mid e hops (set_receive_max z first (money first)).1 n) rest.server one) run.4
+
+begins_rest : (input : ℕ → List ℕ) (money : ℕ → ℕ) (w v : World) (e : EndState) (hops : List Hop) (f : EndState) (n : ℕ) → IsAtRest w e hops f n → Begins input money w v → IsAtRest v (begun input money (open_stream e)) hops f n
+begins_rest input money w v e hops f n rest x =
+    let k = x.stream in
+    let r = open_stream (end_at w Client) in
+    let told : ◌≡◌ {A = Told} (Opened (Ok k)) (Opened r.0) = x.opens.0 in
+    let number : ◌≡◌ {A = Result ℕ EndError} (Ok k) r.0 = cc in
+    let is = x.opens.1 in
+    let open_rest : IsAtRest x.opened r.1 hops f n = rest_moved w x.opened e f r.1 f hops n rest (record {
+      client_is = ap (λ z. end_at z Client) is;
+      server_is = ap (λ z. end_at z Server) is ∙ rest.server;
+      nodes = ap (λ (z : World). z.nodes) is;
+      links = ap (λ (z : World). z.links) is;
+    }) in
+    let offer_rest : IsAtRest x.offered (offer r.1 k (money k)).1 hops f n = client_calls (λ z. offer z k (money k)) x.opened x.offered r.1 hops f n k _ open_rest (x.offers.4 ∙ x.offers.3.1) in
+    let write_is = write_rest (input k) k (outgoing_at (end_at x.offered Client).sending k) x.offered v (offer r.1 k (money k)).1 hops f n offer_rest x.writes_first in
+    let at : outgoing_at (end_at x.offered Client).sending k ≡ outgoing_at (offer r.1 k (money k)).1.sending k = ap (λ (z : EndState). outgoing_at z.sending k) offer_rest.client in
+    let done : IsAtRest v (begun input money (Ok k, r.1)) hops f n = subst (λ o. IsAtRest v (written_at (input k) (offer r.1 k (money k)).1 k o) hops f n) at write_is in
+    subst (λ z. IsAtRest v (begun input money (open_stream z)) hops f n) rest.client (subst (λ z. IsAtRest v (begun input money (z, r.1)) hops f n) number done)
+
+begins_all : (input : ℕ → List ℕ) (money : ℕ → ℕ) (count : ℕ) (w v : World) (e : EndState) (hops : List Hop) (f : EndState) (n : ℕ) → IsAtRest w e hops f n → BeginsEach input money count w v → IsAtRest v (begin_each input money count e) hops f n
+unfolding begin_each
+begins_all input money zero w v e hops f n rest run = subst (λ z. IsAtRest z e hops f n) (sym run) rest
+begins_all input money (suc m) w v e hops f n rest run = begins_all input money m run.0 v (begun input money (open_stream e)) hops f n (begins_rest input money w run.0 e hops f n rest run.1) run.2
+
+long_replicate : {A : Type 0} (n : ℕ) (x : A) → length (replicate n x) ≡ n
+long_replicate zero x = refl
+long_replicate (suc n) x = let e = long_replicate n x in omega (arith, e)
+
+long_map : (ts : List Table) → length (map new_node ts) ≡ length ts
+long_map [] = refl
+long_map (t ∷ ts) = let e = long_map ts in omega (arith, e)
+
+opening_rests : (c : Chain) → IsAtRest (opening c) (new_end roles.Client (keys_of c.secret) c.client c.server c.config) (map state_of (map new_node c.hops)) (new_end roles.Server (keys_of c.secret) c.server c.client c.config) 0
+opening_rests c = record {
+  client = refl;
+  server = refl;
+  hops_are = refl;
+  links = long_replicate (length c.hops + 1) no_lanes ∙ ap (λ m. m + 1) (sym (long_map c.hops));
+  lanes = λ j l. (let none = no_lane (length c.hops + 1) j Client in record { puts = ap length none.0; given = ap length none.1 });
+}
+
+-- ---- the money that is offered at the opening
+
+offered_most : (money : ℕ) (n : ℕ) (y : Outgoing) → IsRefilled n (record new_outgoing { offered = 0 + money }) y → money_left (Some y) ≤ money
+offered_most money n y x = let is : y.offered ≡ 0 + money = ap (λ (z : Outgoing). z.offered) x.is in omega (arith, is)
+
+one_most : (money : ℕ) (n : ℕ) (o : Option Outgoing) → ((y : Outgoing) → o ≡ Some y → IsRefilled n (record new_outgoing { offered = 0 + money }) y) → money_left o ≤ money
+one_most money n None h = omega arith
+one_most money n (Some y) h = offered_most money n y (h y refl)
+
+money_most : (p : ℕ) (n money : ℕ → ℕ) (config : Config) (e : EndState) → IsBegun p n money config e → all_money_left e.sending ≤ all_of money
+money_most p n money config e b = sum_below (λ k. money_left (outgoing_at e.sending k)) money (λ k. one_most (money k) (n k) (outgoing_at e.sending k) (λ y at. b.streams k y at)) 0 65
+
+calm_tables : (destination : List ℕ) (sent most left all : ℕ) (ts : List Table) → left ≤ all → all < 2 ^ 63 → AllByRecursion (HasRoomFor destination most all) ts → AllByRecursion (IsCalm destination sent most left) (map state_of (map new_node ts))
+calm_tables destination sent most left all [] few modest room = tt
+calm_tables destination sent most left all (t ∷ ts) few modest room = (
+  new_calm destination sent t.own t.client t.server t.routes most left room.0.leads room.0.max_packet (let l = room.0.limit in omega (arith, l, few)) (omega (arith, few, modest)),
+  calm_tables destination sent most left all ts few modest room.1,
+)
+
+-- ---- the run
+
+pub run_crosses : (c : Chain) (input : ℕ → List ℕ) (money : ℕ → ℕ) (count limit m : ℕ) (v : World) → MayRun c input money count limit → QuietRun c input money count limit m v
+    → (let e = opening_client c input money count in let f = allow_each money 0 65 (new_end roles.Server (keys_of c.secret) c.server c.client c.config) in
+    Stands input e f × AreCalm e.peer e.sending (map state_of (map new_node c.hops)) × AreCrossed input limit m e (map state_of (map new_node c.hops)) f m v)
+run_crosses c input money count limit m v may run = (stands, calm, subst (λ k. AreCrossed input limit m e hops f k v) (let same : 0 + m ≡ m = omega arith in same) all)
+  where
+    n : ℕ → ℕ
+    n = lengths input
+
+    hops : List Hop
+    hops = map state_of (map new_node c.hops)
+
+    e : EndState
+    e = opening_client c input money count
+
+    f : EndState
+    f = allow_each money 0 65 (new_end roles.Server (keys_of c.secret) c.server c.client c.config)
+
+    begun_is : IsBegun 1 n money c.config e
+    begun_is = calls_begun roles.Client (keys_of c.secret) c.client c.server c.config input money count may.input_fits may.money_fits
+
+    stands : Stands input e f
+    stands = (opening_stands roles.Client (keys_of c.secret) c.client c.server c.config c.config input money count may.may_send may.input_fits may.money_fits).0
+
+    peer : e.peer ≡ c.server
+    peer = (begin_same input money count (new_end roles.Client (keys_of c.secret) c.client c.server c.config)).peer
+
+    pays : e.sending.packet_limit ≡ c.config.packet_limit
+    pays = ap (λ (z : Sending). z.packet_limit) begun_is.rest
+
+    calm : AreCalm e.peer e.sending hops
+    calm = subst (λ d. AreCalm d e.sending hops) (sym peer) (subst (λ most. AllByRecursion (IsCalm c.server e.sending.last most (all_money_left e.sending)) hops) (sym pays)
+        (calm_tables c.server e.sending.last c.config.packet_limit (all_money_left e.sending) (all_of money) c.hops (money_most 1 n money c.config e begun_is) may.money_fits may.room))
+
+    numbers : (last left packets all : ℕ) → last ≡ 0 → packets ≡ all → left < all → last + left < packets
+    numbers last left packets all a b l = omega arith
+
+    packets : HasPackets input e
+    packets = let last : e.sending.last ≡ 0 = ap (λ (z : Sending). z.last) begun_is.rest in let same : e.sending.config ≡ c.config = ap (λ (z : Sending). z.config) begun_is.rest in
+        let many = ap (λ (z : Config). z.packets) same in numbers _ _ _ _ last many may.packets
+
+    map_long : (ts : List Table) → length (map state_of (map new_node ts)) ≡ length ts
+    map_long [] = refl
+    map_long (t ∷ ts) = let is = map_long ts in omega (arith, is)
+
+    long : length hops ≡ length c.hops
+    long = map_long c.hops
+
+    all : AreCrossed input limit m e hops f (0 + m) v
+    all = rounds_cross input limit m e hops f 0 run.begun v may.reads may.input_fits stands calm (let few = may.few_hops in omega (arith, few, long)) packets begun_is.unclosed
+        (begins_all input money count run.allowed run.begun _ hops f 0 (allows_rest money 0 65 (opening c) run.allowed _ hops _ 0 (opening_rests c) run.allows_each) run.begins_each)
+        (subst (λ k. Rounds input limit k 0 m run.begun v) (sym long) run.rounds)
+
+-- ---- what it leaves
+
+turns_quiet : (input : ℕ → List ℕ) (limit m : ℕ) (e f g h : EndState) → IsModest (lengths input) → Stands input e f → Turns input limit m e f g h → IsQuiet (lengths input) g.sending
+turns_quiet input limit m e f g h modest s run =
+    let n = lengths input in
+    let trips = turns_trips input limit m e f g h modest s.quiet s.abreast s.joined s.tellable s.held_back run in
+    let exchanges = trips_exchanges n m e f g h modest s.quiet s.abreast s.joined s.tellable trips in
+    (rounds_lower n m e.sending g.sending s.quiet (exchanges_rounds n m e.sending f.receiving g.sending h.receiving modest s.quiet s.abreast exchanges).0).1
+
+nothing_left : (n : ℕ → ℕ) (g : EndState) → IsQuiet n g.sending → g.receiving.closed ≡ false → GoesNone g → work_left n g.sending ≡ 0
+nothing_left n g quiet unclosed (inl closed) = absurd (let clash : ◌≡◌ {A = Bool} false true = sym unclosed ∙ closed in cc)
+nothing_left n g quiet unclosed (inr idle) = elim (cases_lt 0 (work_left n g.sending)) [
+  | inl some ↦ absurd (some_goes n g.sending (limits g.receiving) quiet some idle)
+  | inr none ↦ zero_is _ none
+]
+  where
+    zero_is : (m : ℕ) → m ≤ 0 → m ≡ 0
+    zero_is m l = omega arith
+
+module _ (c : Chain) (input : ℕ → List ℕ) (money : ℕ → ℕ) (count limit m : ℕ) (v : World) (may : MayRun c input money count limit) (run : QuietRun c input money count limit m v) where
+  abbrev first : EndState
+  first = opening_client c input money count
+
+  abbrev far_end : EndState
+  far_end = allow_each money 0 65 (new_end roles.Server (keys_of c.secret) c.server c.client c.config)
+
+  stands : Stands input first far_end
+  stands = (run_crosses c input money count limit m v may run).0
+
+  crossed : AreCrossed input limit m first (map state_of (map new_node c.hops)) far_end m v
+  crossed = (run_crosses c input money count limit m v may run).2
+
+  turns : Turns input limit m first far_end crossed.client crossed.server
+  turns = (crossings_turns input limit m first (map state_of (map new_node c.hops)) far_end crossed.client crossed.others crossed.server may.reads may.input_fits stands (run_crosses c input money count limit m v may run).1 crossed.crosses).0
+
+  pub run_sharper : m + work_left (lengths input) (end_at v Client).sending ≤ work_left (lengths input) (opening_client c input money count).sending
+  run_sharper = subst (λ (z : EndState). m + work_left (lengths input) z.sending ≤ work_left (lengths input) first.sending) (sym crossed.rests.client) (turns_lower input limit m first far_end crossed.client crossed.server may.input_fits stands turns)
+
+  pub run_is_bounded : m + 1 ≤ bound (lengths input) (opening_client c input money count).sending
+  run_is_bounded = counts _ _ _ _ run_sharper (within_bound (lengths input) (opening_client c input money count).sending)
+    where
+      counts : (m last first most : ℕ) → m + last ≤ first → first + 1 ≤ most → m + 1 ≤ most
+      counts m last first most l b = omega arith
+
+  pub run_puts : length (lane_at v 0 Client).puts ≡ m
+  run_puts = (crossed.rests.lanes 0 (omega arith)).puts
+
+  pub run_delivers : (k : ℕ) (x : Outgoing) → GoesNone (end_at v Client) → outgoing_at (end_at v Client).sending k ≡ Some x
+      → ((incoming_at (end_at v Server).receiving k).held.read ≡ length (input k)) × ((incoming_at (end_at v Server).receiving k).credited ≡ x.offered)
+  run_delivers k x none at =
+      let quiet = turns_quiet input limit m first far_end crossed.client crossed.server may.input_fits stands turns in
+      let done = nothing_left (lengths input) crossed.client quiet crossed.unclosed (subst GoesNone crossed.rests.client none) in
+      subst (λ (z : EndState). ((incoming_at z.receiving k).held.read ≡ length (input k)) × ((incoming_at z.receiving k).credited ≡ x.offered)) (sym crossed.rests.server)
+      (run_delivered roles.Client (keys_of c.secret) c.client c.server c.config c.config input money count limit m k crossed.client crossed.server x may.may_send may.input_fits may.money_fits turns done (subst (λ (z : EndState). outgoing_at z.sending k ≡ Some x) crossed.rests.client at))

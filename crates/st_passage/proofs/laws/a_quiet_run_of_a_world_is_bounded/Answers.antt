@@ -1,0 +1,14 @@
+use Rattle.st_passage.proofs.laws.a_quiet_run_of_a_world_is_bounded.Goals as goal
+use Rattle.st_passage.proofs.WorldRuns.{run_delivers, run_is_bounded, run_puts, run_sharper}
+
+pub returns-clause-bounded : goal.returns-clause-bounded
+returns-clause-bounded g = λ c input money count limit m v may run. run_is_bounded c input money count limit m v may run
+
+pub returns-clause-sharper : goal.returns-clause-sharper
+returns-clause-sharper g = λ c input money count limit m v may run. run_sharper c input money count limit m v may run
+
+pub returns-clause-sends : goal.returns-clause-sends
+returns-clause-sends g = λ c input money count limit m v may run. run_puts c input money count limit m v may run
+
+pub returns-clause-delivered : goal.returns-clause-delivered
+returns-clause-delivered g = λ c input money count limit m k v x may run none at. run_delivers c input money count limit m v may run k x none at
