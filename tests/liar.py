@@ -1,11 +1,16 @@
 #!/usr/bin/env python3
-"""Runs `send` and `receive` with a peer between them that lies: liar.py PROGRAM. For each lie, told at each third exchange and
-at every one, a line says how both ended, how much of the input came, and what is wrong with that, if anything is."""
+"""Runs `send` and `receive` with money, and with a peer between them that lies: liar.py PROGRAM. For each lie, told at each third
+exchange and at every one, and at each third beside a connector, a line says how both ended, how much of the input came, and
+what is wrong with that or with the sums that they told in the end, if anything is."""
 import os, re, socket, subprocess, sys, tempfile, threading, time
 
 PROGRAM = sys.argv[1]
 SECRET = "000102030405060708090a0b0c0d0e0f101112131415161718191a1b1c1d1e1f"
 INPUT = bytes(n % 251 for n in range(70_000))
+WORDS = ["--token=t", f"--secret={SECRET}"]
+# What is offered; the most that is taken, of which a Prepare whose answer is lost takes a part again; the most that a connector
+# takes in one Prepare, and how many requests.
+MONEY, MOST, PIECE, REQUESTS = 500, 1_000_000, 100, 600
 # More seconds than any run may take.
 BOUND = 60
 
@@ -58,8 +63,8 @@ def asked(host, request):
 
 
 class Liar:
-    """Stands at a port of its own, and passes each request on to the receiver. At each exchange that `every` divides it
-    lies in this way."""
+    """Stands at a port of its own, and passes each request on to the receiver. It lies in this way at the first exchange, in which
+    a sender offers its money, and at each one that is so many behind."""
 
     def __init__(self, lie, every, host):
         self.lie, self.every, self.host = lie, every, host
@@ -82,7 +87,7 @@ class Liar:
 
     def exchange(self, stream):
         self.exchanges += 1
-        lie = self.lie if self.exchanges % self.every == 0 else ""
+        lie = self.lie if self.exchanges % self.every == 1 % self.every else ""
         if lie == "drop at once":
             return
         if lie == "drop in the request":
@@ -153,40 +158,117 @@ def wait_for(port):
             time.sleep(0.02)
 
 
-def run(lie, every, room, out=None, given=None):
+def totals(path):
+    """What a command told in its file of totals, by its words: `paid 500`, or `account 0 claims 500 dues 0 held 0`."""
+    try:
+        with open(path, encoding="ascii") as file:
+            lines = file.read().split("\n")[:-1]
+    except OSError:
+        return {}
+    found = {}
+    for words in map(str.split, lines):
+        front, words = ("", words) if len(words) == 2 else (" ".join(words[:2]) + " ", words[2:])
+        found.update({front + name: int(number) for name, number in zip(words[::2], words[1::2])})
+    return found
+
+
+class Transfer:
+    """A receiver, a connector before it where one is wanted, and a liar: before the receiver (`before`) or before the connector."""
+
+    def __init__(self, lie, every, room, hub=False, before="receive", out=None):
+        self.room, self.hub, self.out = room, None, out or f"{room}/out"
+        for name in os.listdir(room):
+            if name.startswith("totals"):
+                os.remove(f"{room}/{name}")
+        port = free_port()
+        words = [*WORDS, "--address=test.b", "--peer=test.a", f"--receive-max={MOST}"]
+        with open(self.out, "wb") as output:
+            self.receive = self.start("receive", [f"--listen=127.0.0.1:{port}", *words], subprocess.DEVNULL, output)
+        wait_for(port)
+        if hub and before == "receive":
+            port = self.liar(lie, every, port)
+        if hub:
+            port = self.connector(port)
+        self.to = port if hub and before == "receive" else self.liar(lie, every, port)
+
+    def start(self, command, words, given, output=subprocess.DEVNULL):
+        words = [PROGRAM, command, *words, f"--totals={self.room}/totals_{command}"]
+        return subprocess.Popen(words, stdin=given, stdout=output, stderr=subprocess.PIPE)
+
+    def liar(self, lie, every, port):
+        self.lying = Liar(lie, every, ("127.0.0.1", port))
+        return self.lying.listener.getsockname()[1]
+
+    def connector(self, port):
+        self.hub_port = free_port()
+        with open(f"{self.room}/table", "w") as table:
+            table.write(f"account {MOST} {PIECE} t - -\naccount 0 0 u 127.0.0.1:{port} t\nroute test.b 1\n")
+        with open(f"{self.room}/table", "rb") as table:
+            self.hub = self.start("connector", [f"--listen=127.0.0.1:{self.hub_port}", "--own=test.h", f"--requests={REQUESTS}"], table)
+        wait_for(self.hub_port)
+        return self.hub_port
+
+    def send(self, given):
+        file = os.open(given, os.O_RDONLY)
+        try:
+            words = [f"--to=127.0.0.1:{self.to}", *WORDS, "--address=test.a", "--peer=test.b", "--workers=1", f"--money={MONEY}"]
+            send = self.start("send", words, file)
+        finally:
+            os.close(file)
+        sent = ended(send, BOUND)
+        received = ended(self.receive, BOUND if sent == "0" else 1)
+        return sent, received, self.ended_hub()
+
+    def ended_hub(self):
+        """How the connector ended once the requests that it was to take are used up; 0 where there is none."""
+        while self.hub and self.hub.poll() is None:
+            try:
+                socket.create_connection(("127.0.0.1", self.hub_port)).close()
+            except OSError:
+                break
+        self.lying.listener.close()
+        return ended(self.hub, BOUND) if self.hub else "0"
+
+    def came(self):
+        if not os.path.isfile(self.out):
+            return b""
+        with open(self.out, "rb") as output:
+            return output.read()
+
+    def sums(self, before):
+        """What is wrong with what the commands told in the end: nobody paid for what was not fulfilled, a connector owes what it
+        is owed, and on a link without lies both sides tell the same. Who was stopped told nothing."""
+        send, receive, hub = (totals(f"{self.room}/totals_{it}") for it in ("send", "receive", "connector"))
+        paid, credited = send.get("paid", 0), receive.get("credited")
+        claims, dues = hub.get("account 0 claims", paid), hub.get("account 1 dues", paid)
+        wrong = {
+            "no totals": not send or (self.hub and not hub),
+            "more paid than offered": paid > MONEY,
+            "paid and not claimed": paid > claims or (before == "receive" and paid != claims),
+            "claimed and not owed": claims != dues,
+            "owed and not credited": credited is not None and (dues > credited or (before == "hub" and self.hub and dues != credited)),
+            "something is held": any(number for name, number in hub.items() if name.endswith("held")),
+        }
+        return ", ".join(it for it, is_so in wrong.items() if is_so), paid
+
+
+def run(lie, every, room, hub=False, before="receive", out=None, given=None):
     """How `send` and `receive` ended, and what came to a file, or to `out`, of what a file has, or of nothing from `given`."""
-    port = free_port()
-    words = ["--token=t", f"--secret={SECRET}"]
-    out = out or f"{room}/out"
-    with open(out, "wb") as output:
-        receive = subprocess.Popen(
-            [PROGRAM, "receive", f"--listen=127.0.0.1:{port}", *words, "--address=test.b", "--peer=test.a", "--receive-max=500"],
-            stdin=subprocess.DEVNULL, stdout=output, stderr=subprocess.PIPE)
-    wait_for(port)
-    liar = Liar(lie, every, ("127.0.0.1", port))
-    to = liar.listener.getsockname()[1]
     # Where no answer's payload opens the sender learns no higher limit, and waits for one behind the first 16,384 bytes.
     whole = INPUT[:16_000] if (lie, every) == ("answer with a turned bit", 1) else INPUT
     with open(f"{room}/in", "wb") as file:
         file.write(whole)
-    file = os.open(given or f"{room}/in", os.O_RDONLY)
-    try:
-        send = subprocess.Popen(
-            [PROGRAM, "send", f"--to=127.0.0.1:{to}", *words, "--address=test.a", "--peer=test.b", "--workers=1"],
-            stdin=file, stdout=subprocess.DEVNULL, stderr=subprocess.PIPE)
-    finally:
-        os.close(file)
-    sent = ended(send, BOUND)
-    received = ended(receive, BOUND if sent == "0" else 1)
-    liar.listener.close()
-    came = b""
-    if os.path.isfile(out):
-        with open(out, "rb") as output:
-            came = output.read()
-    if len(set(liar.ivs)) != len(liar.ivs):
-        return f"WRONG: of {len(liar.ivs)} IVs {len(set(liar.ivs))} are different"
-    if not whole.startswith(came) or (received == "0" and came != whole):
-        return f"WRONG: send {sent}, receive {received}, {len(came)} bytes"
+    it = Transfer(lie, every, room, hub, before, out)
+    sent, received, connected = it.send(given or f"{room}/in")
+    came = it.came()
+    wrong, paid = it.sums(before if hub else "")
+    ivs = it.lying.ivs
+    if len(set(ivs)) != len(ivs):
+        return f"WRONG: of {len(ivs)} IVs {len(set(ivs))} are different"
+    if wrong or connected != "0":
+        return f"WRONG: connector {connected}, {wrong}"
+    if not whole.startswith(came) or (received == "0" and came != whole) or (sent == "0" and paid != MONEY):
+        return f"WRONG: send {sent}, receive {received}, {len(came)} bytes, {paid} units paid"
     # Where the answer to the close is lost, the receiver is gone, and the sender knows no more than that.
     if received == "0" and (sent == "0" or (sent == "58" and lie in OF_ANSWERS)):
         return "whole"
@@ -218,5 +300,8 @@ with tempfile.TemporaryDirectory() as room:
         for every in (3, 1):
             told = "each third" if every == 3 else "every one"
             print(f"{lie}, {told}: {run(lie, every, room)}", flush=True)
+    for before, told in (("hub", "before a connector"), ("receive", "behind a connector")):
+        for lie in LIES:
+            print(f"{lie}, each third, {told}: {run(lie, 3, room, True, before)}", flush=True)
     print(f"a full disk as output: {run('', 3, room, out='/dev/full')}")
     print(f"an input that fails: {run('', 3, room, given=room)}")

@@ -243,9 +243,10 @@ for words in 'local --hops 9' 'local --streams 0' 'local --lose x'; do
     same "$words" $'\n2' "$out"$'\n'"$status"
 done
 
-# A peer between a sender and a receiver that lies, at each third exchange and at every one; and devices that fail. What comes
-# is a beginning of what was sent. A Fulfill acknowledges whatever its payload is; F06, the answer to a payload that does
-# not open, fails the connection at once, and so do 200 failures in a row.
+# A peer between a sender and a receiver that lies, at each third exchange and at every one, and at each third beside a connector;
+# and devices that fail. What comes is a beginning of what was sent, and what each side tells in the end fits. A Fulfill
+# acknowledges whatever its payload is; F06, the answer to a payload that does not open, fails the connection at once, and so do
+# F05, a connector's answer to a Fulfill that does not fit, and 200 failures in a row.
 program=python3
 run "$top/tests/liar.py" "$top/ilpstream"
 same 'a peer that lies' "wrong fulfillment, each third: whole
@@ -272,10 +273,38 @@ drop before the receiver, each third: whole
 drop before the receiver, every one: send 58, receive waits, nothing
 wrong condition, each third: whole
 wrong condition, every one: send 58, receive waits, nothing
-request with a turned bit, each third: send 58, receive waits, a part
+request with a turned bit, each third: send 58, receive waits, nothing
 request with a turned bit, every one: send 58, receive waits, nothing
 another's request again, each third: whole
 another's request again, every one: whole
+wrong fulfillment, each third, before a connector: whole
+another's fulfillment, each third, before a connector: whole
+answer with a turned bit, each third, before a connector: whole
+answer of 70,000 bytes, each third, before a connector: whole
+drop before the answer, each third, before a connector: whole
+drop in the head, each third, before a connector: whole
+drop in the answer, each third, before a connector: whole
+head byte by byte, each third, before a connector: whole
+drop at once, each third, before a connector: whole
+drop in the request, each third, before a connector: whole
+drop before the receiver, each third, before a connector: whole
+wrong condition, each third, before a connector: whole
+request with a turned bit, each third, before a connector: send 58, receive waits, a part
+another's request again, each third, before a connector: whole
+wrong fulfillment, each third, behind a connector: send 58, receive waits, a part
+another's fulfillment, each third, behind a connector: send 58, receive waits, a part
+answer with a turned bit, each third, behind a connector: whole
+answer of 70,000 bytes, each third, behind a connector: whole
+drop before the answer, each third, behind a connector: whole
+drop in the head, each third, behind a connector: whole
+drop in the answer, each third, behind a connector: whole
+head byte by byte, each third, behind a connector: whole
+drop at once, each third, behind a connector: whole
+drop in the request, each third, behind a connector: whole
+drop before the receiver, each third, behind a connector: whole
+wrong condition, each third, behind a connector: whole
+request with a turned bit, each third, behind a connector: send 58, receive waits, nothing
+another's request again, each third, behind a connector: whole
 a full disk as output: send 58, receive 91, nothing
 an input that fails: send 90, receive waits, nothing
 --
