@@ -197,8 +197,3 @@ write_lacked w v k xs told none h = elim h.1 [
   | inl met ↦ absurd (none _ met.0)
   | inr lacks ↦ kept_by w v (same_at w _ v lacks.3 (refuses_same w (Write Client k xs) lacks.0 lacks.2))
 ]
-
--- no event that met no memory wrote anything
-pub lacked_kept : (w : World) (event : Event) (v : World) → Happens w event NoMemory v → (k : ℕ) → written_on v k ≡ written_on w k
-lacked_kept w (Write Client k xs) v h = write_lacked w v k xs NoMemory (λ (a : Answer) (no : NoMemory ≡ Call a). cc) h
-lacked_kept w event v h = aside_kept w event NoMemory v tt h

@@ -10,15 +10,15 @@ use Rattle.st_end.specs.Calls.{Answer}
 use Rattle.st_world.specs.Sides.{Client, Both, at}
 use Rattle.st_world.specs.Ledgers.{Ledger, ledger_or}
 use Rattle.st_world.specs.State.{World}
-use Rattle.st_world.specs.Events.{Event, Write, Told, Call, NoMemory}
+use Rattle.st_world.specs.Events.{Event, Write, Told, Call}
 use Rattle.st_world.specs.Steps.{Happens}
 use Rattle.st_world.specs.Runs.{Chain, opening}
 use Rattle.st_chain.specs.Left.{Left, left_of, HoldsOf}
 use Rattle.st_chain.proofs.Reached.{run_more}
 use Rattle.st_local.specs.Parts.{part_at, sent_of, stream_at}
 use Rattle.st_local.specs.Playing.{Continues, Fits, HasSent, IsAllRead, Played, Plays, Sends, Writes, local_chain, read_on, written_on}
-use Rattle.st_local.proofs.Asides.{lacked_kept, write_called}
-use Rattle.st_local.proofs.Cuts.{all_sent, nothing_sent, sent_apart, sent_more}
+use Rattle.st_local.proofs.Asides.{write_called}
+use Rattle.st_local.proofs.Cuts.{all_sent, sent_apart, sent_more}
 
 -- where nothing has happened nothing is written
 pub opened_blank : (c : Chain) (w : World) (k : ℕ) → w ≡ opening c → written_on w k ≡ []
@@ -47,14 +47,6 @@ ended_whole t w k l told is holds found same ended =
     let whole : (ledger_or (fmap.get t.ledgers.client k)).read ≡ (ledger_or (fmap.get t.ledgers.client k)).written = (holds.1.ends Client k end).1 in
     subst (λ (m : Both (fmap.FinMap nat_cmp Ledger)). (ledger_or (fmap.get m.client k)).read ≡ (ledger_or (fmap.get m.client k)).written) kept whole
 
--- an event that did not come about
-pub misses_event : (p q : Played) → q.asked ≡ p.asked → q.events ≡ p.events → q.world ≡ p.world → Continues p q
-misses_event p q asked none same = record { asked = asked; events = omega (arith, none); written = λ k. ap (λ (x : World). written_on x k) same }
-
--- or that met no memory
-pub misses_memory : (p q : Played) (event : Event) → q.asked ≡ p.asked → q.events ≡ p.events + 1 → Happens p.world event NoMemory q.world → Continues p q
-misses_memory p q event asked one h = record { asked = asked; events = omega (arith, one); written = lacked_kept p.world event q.world h }
-
 -- a write at the client was accepted, or changed nothing
 pub writes_called : (p q : Played) (k : ℕ) (xs : List ℕ) (a : Answer) → q.asked ≡ p.asked → q.events ≡ p.events + 1 → Happens p.world (Write Client k xs) (Call a) q.world → MatchBool (is_ok a) (Writes k xs p q) (Continues p q)
 writes_called p q k xs (Ok done) asked one h = let w = write_called p.world q.world k xs (Ok done) h in record { asked = asked; events = omega (arith, one); here = w.0; apart = w.1 }
@@ -62,16 +54,12 @@ writes_called p q k xs (Err why) asked one h = record { asked = asked; events = 
 
 -- ---- what of the input is written
 
--- nothing yet
-pub sent_none : (size : ℕ) (input : List ℕ) (w : World) → ((k : ℕ) → written_on w k ≡ []) → HasSent size input 0 w
-sent_none size input w blank = record { parts = λ place. blank (stream_at place) ∙ sym (nothing_sent size input place); apart = λ k none. blank k }
-
 -- a piece of one part, which leaves each other part
 part_sent : (size : ℕ) (input : List ℕ) (sent to place other : ℕ) (piece : List ℕ) (p q : Played) → place * size ≤ sent → sent ≤ to → to ≤ place * size + size → piece ≡ take (to - sent) (drop sent input)
     → Writes (stream_at place) piece p q → HasSent size input sent p.world → written_on q.world (stream_at other) ≡ sent_of size input to other
 part_sent size input sent to place other piece p q from up within is wrote had = elim (cases_eq other place) [
   | inl same ↦ subst (λ (i : ℕ). written_on q.world (stream_at i) ≡ sent_of size input to i) (sym same)
-        (wrote.here ∙ (ap (λ xs. xs ++ piece) (had.parts place) ∙ (ap (λ xs. sent_of size input sent place ++ xs) is ∙ sym (sent_more size input sent to place from up within))))
+      (wrote.here ∙ (ap (λ xs. xs ++ piece) (had.parts place) ∙ (ap (λ xs. sent_of size input sent place ++ xs) is ∙ sym (sent_more size input sent to place from up within))))
   | inr apart ↦ wrote.apart (stream_at other) (λ e. apart (omega (arith, e))) ∙ (had.parts other ∙ sym (sent_apart size input sent to place other from up within apart))
 ]
 

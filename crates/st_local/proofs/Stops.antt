@@ -1,5 +1,5 @@
--- What a fault's cause says of the devices' counts.
-use Rattle.std.proofs.Common.{◌≡◌, ℕ, ◌-◌, ◌<◌, ◌≤◌, List, length, refl, sym, ap, subst, ◌∙◌, ◌⊎◌, inl, inr, arith, Result, Ok, Err}
+-- What was played and written at a fault, and what that says of the devices' counts.
+use Rattle.std.proofs.Common.{◌≡◌, ℕ, ◌-◌, ◌<◌, ◌≤◌, List, length, refl, ap, subst, ◌∙◌, arith, Result, Ok, Err}
 use Rattle.std.specs.Prelude.{Option, Some, None, unwrap_or, OnOk, IfErr, IfSome}
 use Rattle.std.specs.Io.KnownBytes.{Appends}
 use Rattle.st_oer.specs.Tallies.{TakesTurns}
@@ -11,35 +11,7 @@ use Rattle.st_settings.specs.declared.settings.LocalSettings.{LocalSettings}
 use Rattle.st_world.specs.State.{World}
 use Rattle.st_local.specs.Parts.{part_at, part_size, stream_at}
 use Rattle.st_local.specs.Playing.{Carries, HasSent, Played, Plays, StopsPlay, read_on}
-use Rattle.st_local.specs.Endings.{Explains, Fails, GoesOver, HasEnded, IsInput, SpendsTurns, StaysFlushed, StopsCarry, StopsRead, StopsWrite, TakesTooLong, WritesPart, most_bytes, most_turns}
-
--- where reading stopped no write failed
-pub read_writer : (input : Option (List ℕ)) (left : ℕ) (e : LocalFault) (n : ℕ) → StopsRead input left e → n ≡ writer_faults (Some e) n
-read_writer input left fault.TooLong n h = refl
-read_writer input left fault.Input n h = refl
-read_writer input left fault.Turns n h = refl
-read_writer input left fault.NoMemory n h = refl
-read_writer input left fault.Failed n h = absurd h
-read_writer input left fault.Output n h = absurd h
-read_writer input left fault.Events n h = absurd h
-
-pub read_turns : (input : Option (List ℕ)) (left : ℕ) (e : LocalFault) → StopsRead input left e → e ≡ fault.Turns → left ≡ 0
-read_turns input left fault.TooLong h is = absurd (cc)
-read_turns input left fault.Input h is = absurd (cc)
-read_turns input left fault.Turns h is = h
-read_turns input left fault.NoMemory h is = absurd (cc)
-read_turns input left fault.Failed h is = absurd h
-read_turns input left fault.Output h is = absurd h
-read_turns input left fault.Events h is = absurd h
-
-pub read_explains : (asked : LocalSettings) (input : Option (List ℕ)) (left : ℕ) (e : LocalFault) → StopsRead input left e → Explains asked input e
-read_explains asked input left fault.TooLong h = h
-read_explains asked input left fault.Input h = tt
-read_explains asked input left fault.Turns h = tt
-read_explains asked input left fault.NoMemory h = tt
-read_explains asked input left fault.Failed h = absurd h
-read_explains asked input left fault.Output h = absurd h
-read_explains asked input left fault.Events h = absurd h
+use Rattle.st_local.specs.Endings.{Explains, GoesOver, HasEnded, IsInput, SpendsTurns, StaysFlushed, StopsCarry, StopsWrite, WritesPart, most_bytes, most_turns}
 
 -- ---- what was played
 

@@ -77,19 +77,19 @@ TellsFault x said e f status = (status ≡ 1) × Says (fault_text (fault_number 
 abbrev pub IsInput : Option (List ℕ) → List ℕ → Type 0
 IsInput input bytes = IfSome input (λ all. bytes ≡ all)
 
--- the input went over, as it is asked for
+-- a run as it is asked for, in which each part of the input was read
 abbrev pub GoesOver : LocalSettings → Option (List ℕ) → Type 0
 GoesOver asked input = (bytes : List ℕ) × (events : ℕ) × (w : World) × IsInput input bytes × Carries asked bytes events w × AreRead asked bytes w
 
--- the input did not go over, as it is asked for, since the connection failed
+-- one in which the connection of an end failed
 abbrev pub Fails : LocalSettings → Option (List ℕ) → Type 0
 Fails asked input = (bytes : List ℕ) × (events : ℕ) × (w : World) × IsInput input bytes × Carries asked bytes events w × HasFailed w
 
--- or since there were too many events
+-- one of as many events as there may be
 abbrev pub TakesTooLong : LocalSettings → Option (List ℕ) → Type 0
 TakesTooLong asked input = (bytes : List ℕ) × (w : World) × IsInput input bytes × Carries asked bytes most_events w
 
--- why bytes did not go over or were not written: so many turns are left
+-- why the input did not go over or was not written: so many turns are left
 abbrev pub StopsCarry : LocalSettings → Option (List ℕ) → (left : ℕ) → LocalFault → Type 0
 StopsCarry asked input left fault.Failed = Fails asked input
 StopsCarry asked input left fault.TooLong = ⊥
@@ -99,7 +99,7 @@ StopsCarry asked input left fault.Turns = left ≡ 0
 StopsCarry asked input left fault.Events = TakesTooLong asked input
 StopsCarry asked input left fault.NoMemory = ⊤
 
--- why not all was done: by what was played, or by the input where it is known
+-- why not all was done: by what was played, or by the input, where it is known
 abbrev pub Explains : LocalSettings → Option (List ℕ) → LocalFault → Type 0
 Explains asked input fault.Failed = Fails asked input
 Explains asked input fault.TooLong = IfSome input (λ bytes. most_bytes < length bytes)

@@ -104,12 +104,12 @@ IsAllRead streams w = (place : ℕ) → place < streams → read_on w (stream_at
 
 -- ---- what was asked for
 
--- a run as it is asked for, of these bytes: the first of them are written, each part on its stream
+-- a run as it is asked for, by which some first of these bytes are written, each part on its stream
 pub record Carries (asked : LocalSettings) (bytes : List ℕ) (events : ℕ) (w : World) : Type 0 where
   pub run : Plays asked events w
   pub sent : ℕ
   pub written : HasSent (part_size (length bytes) asked.streams) bytes sent w
 
--- and each part is read
+-- each part of them is read
 abbrev pub AreRead : (asked : LocalSettings) → List ℕ → World → Type 0
 AreRead asked bytes w = (place : ℕ) → place < asked.streams → read_on w (stream_at place) ≡ part_at (part_size (length bytes) asked.streams) bytes place

@@ -44,7 +44,7 @@ Ends said e f status = (end : Result (Unit {0}) RunError) × TellsEnd end said e
 abbrev pub Does : {R W E : Type 0} → Request → (R → Option (List ℕ)) → (W → Option (List ℕ)) → (E → Option (List ℕ)) → (Option Fault → Type 0)
     → Counting R → Counting R → Counting W → Counting W → Counting E → Counting E → ℕ → Type 0
 Does request.Frames remaining contents said ended r s w v e f status = RunsFrames (remaining (device_of r)) (contents (device_of w)) (contents (device_of v)) ended said e f status
-Does (request.Local x) remaining contents said ended r s w v e f status = local.RunsLocal (remaining (device_of r)) (contents (device_of w)) (contents (device_of v))
+Does (request.Local x) remaining contents said ended r s w v e f status = local.RunsLocal x (remaining (device_of r)) (contents (device_of w)) (contents (device_of v))
     (local.HasEnded (tally_of r) (tally_of s) (tally_of w) (tally_of v)) said e f status
 Does (request.Send x) remaining contents said ended r s w v e f status = (v ≡ w) × Ends said e f status
 Does (request.Receive x) remaining contents said ended r s w v e f status = (s ≡ r) × Ends said e f status

@@ -1,6 +1,5 @@
-use Rattle.std.proofs.Common.{List, ℕ, length}
+use Rattle.std.proofs.Common.{length}
 use Rattle.st_local.specs.Parts.{part_size}
-use Rattle.st_local.specs.Playing.{Sends}
 use Rattle.st_local.proofs.Plays.{sends_on}
 use Rattle.st_local.proofs.streams.take_turns.Goals as goal
 
