@@ -1,5 +1,6 @@
 -- The settings that the texts of a command's options say.
-use Rattle.std.specs.Prelude.{◌≡◌, ℕ, ◌≤◌, ◌^◌, ◌-◌, true, List, Ok}
+use Rattle.std.specs.Prelude.{◌≡◌, ℕ, ◌≤◌, ◌^◌, ◌-◌, true, List, Option, Ok, option_map}
+use Rattle.std.specs.Borrow.{Bor}
 use Rattle.hex.specs.Hex.{decode_sized}
 use Rattle.st_oer.specs.Address.{is_address}
 use Rattle.st_http.specs.Texts.{is_field_text}
@@ -29,6 +30,10 @@ most_money = 2 ^ 63 - 1
 abbrev pub most_workers : ℕ
 most_workers = 16
 
+-- the text of an option that may be left out
+abbrev pub said : Option (Bor (List ℕ)) → Option (List ℕ)
+said o = option_map (λ s. s.now) o
+
 -- the texts of `local`
 pub record LocalTexts : Type 0 where
   pub hops : List ℕ
@@ -53,6 +58,7 @@ pub record SendTexts : Type 0 where
   pub workers : List ℕ
   pub random : List ℕ
   pub least : List ℕ
+  pub totals : Option (List ℕ)
 
 abbrev pub send_texts : SendOptions → SendTexts
 send_texts o = record {
@@ -65,6 +71,7 @@ send_texts o = record {
   workers = o.workers.now;
   random = o.random.now;
   least = o.least.now;
+  totals = said o.totals;
 }
 
 -- the texts of `receive`
@@ -75,6 +82,7 @@ pub record ReceiveTexts : Type 0 where
   pub address : List ℕ
   pub peer : List ℕ
   pub receive_max : List ℕ
+  pub totals : Option (List ℕ)
 
 abbrev pub receive_texts : ReceiveOptions → ReceiveTexts
 receive_texts o = record {
@@ -84,6 +92,7 @@ receive_texts o = record {
   address = o.address.now;
   peer = o.peer.now;
   receive_max = o.receive_max.now;
+  totals = said o.totals;
 }
 
 -- the texts of `connector`
@@ -92,6 +101,7 @@ pub record ConnectorTexts : Type 0 where
   pub own : List ℕ
   pub requests : List ℕ
   pub workers : List ℕ
+  pub totals : Option (List ℕ)
 
 abbrev pub connector_texts : ConnectorOptions → ConnectorTexts
 connector_texts o = record {
@@ -99,6 +109,7 @@ connector_texts o = record {
   own = o.own.now;
   requests = o.requests.now;
   workers = o.workers.now;
+  totals = said o.totals;
 }
 
 -- the texts ask `local` for this
@@ -118,6 +129,7 @@ pub record IsSend (o : SendTexts) (s : SendSettings) : Type 0 where
   pub workers : IsWithin 1 most_workers o.workers s.workers
   pub random : s.random.now ≡ o.random
   pub least : IsRate o.least s.least
+  pub totals : said s.totals ≡ o.totals
 
 -- the texts ask `receive` for this
 pub record IsReceive (o : ReceiveTexts) (s : ReceiveSettings) : Type 0 where
@@ -127,6 +139,7 @@ pub record IsReceive (o : ReceiveTexts) (s : ReceiveSettings) : Type 0 where
   pub address : (s.address.now ≡ o.address) × (is_address o.address ≡ true)
   pub peer : (s.peer.now ≡ o.peer) × (is_address o.peer ≡ true)
   pub receive_max : IsWithin 0 most_money o.receive_max s.receive_max
+  pub totals : said s.totals ≡ o.totals
 
 -- the texts ask `connector` for this
 pub record IsConnector (o : ConnectorTexts) (s : ConnectorSettings) : Type 0 where
@@ -134,3 +147,4 @@ pub record IsConnector (o : ConnectorTexts) (s : ConnectorSettings) : Type 0 whe
   pub own : (s.own.now ≡ o.own) × (is_address o.own ≡ true)
   pub requests : IsWithin 1 (2 ^ 31 - 1) o.requests s.requests
   pub workers : IsWithin 1 most_workers o.workers s.workers
+  pub totals : said s.totals ≡ o.totals

@@ -32,6 +32,8 @@ pub struct SendOptions<'a> {
     pub random: &'a str,
     /// `--least`
     pub least: &'a str,
+    /// `--totals`, where it is given.
+    pub totals: Option<&'a str>,
 }
 
 /// The texts of `receive`.
@@ -49,6 +51,8 @@ pub struct ReceiveOptions<'a> {
     pub peer: &'a str,
     /// `--receive-max`
     pub receive_max: &'a str,
+    /// `--totals`, where it is given.
+    pub totals: Option<&'a str>,
 }
 
 /// The texts of `connector`.
@@ -62,4 +66,6 @@ pub struct ConnectorOptions<'a> {
     pub requests: &'a str,
     /// `--workers`
     pub workers: &'a str,
+    /// `--totals`, where it is given.
+    pub totals: Option<&'a str>,
 }

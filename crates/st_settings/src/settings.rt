@@ -61,6 +61,8 @@ pub struct SendSettings<'a> {
     pub random: &'a str,
     /// The least that has to arrive for what is sent, rounded down: by default 1 to 1.
     pub least: Rate,
+    /// The file that totals are told in, if one was asked for.
+    pub totals: Option<&'a str>,
 }
 
 /// What `receive` is asked to do.
@@ -78,6 +80,8 @@ pub struct ReceiveSettings<'a> {
     pub peer: &'a str,
     /// The most money that is taken on the stream, in units: 0, the default, to 2^63 - 1.
     pub receive_max: u64,
+    /// The file that totals are told in, if one was asked for.
+    pub totals: Option<&'a str>,
 }
 
 /// What `connector` is asked to do.
@@ -91,6 +95,8 @@ pub struct ConnectorSettings<'a> {
     pub requests: u64,
     /// Threads that serve: 1 to 16, by default 4.
     pub workers: u8,
+    /// The file that totals are told in, if one was asked for.
+    pub totals: Option<&'a str>,
 }
 
 /// The number that a text writes, from `least` to `most`.
@@ -157,6 +163,7 @@ impl<'a> SendSettings<'a> {
             workers: number(options.workers, 1, MAX_WORKERS)? as u8,
             random: options.random,
             least: read_rate(options.least)?,
+            totals: options.totals,
         })
     }
 }
@@ -173,6 +180,7 @@ impl<'a> ReceiveSettings<'a> {
             address: address(options.address)?,
             peer: address(options.peer)?,
             receive_max: number(options.receive_max, 0, MAX_MONEY)?,
+            totals: options.totals,
         })
     }
 }
@@ -187,6 +195,7 @@ impl<'a> ConnectorSettings<'a> {
             own: address(options.own)?,
             requests: number(options.requests, 1, MAX_REQUESTS)?,
             workers: number(options.workers, 1, MAX_WORKERS)? as u8,
+            totals: options.totals,
         })
     }
 }

@@ -1,5 +1,5 @@
 -- What plain words ask for, whatever the texts in them are.
-use Rattle.std.specs.Prelude.{◌≡◌, List, [], ◌∷◌, ◌++◌, codes, Some}
+use Rattle.std.specs.Prelude.{◌≡◌, List, [], ◌∷◌, ◌++◌, codes, Some, None}
 use Rattle.clap.specs.Words.{Row, Text}
 use Rattle.st_words.specs.Words.{command_of, connector_texts, receive_texts, refusals, send_texts}
 
@@ -21,6 +21,7 @@ SendSaysItsTexts = (to token secret address peer : Text) → (refusals (send_wor
       workers = codes "4";
       random = codes "/dev/urandom";
       least = codes "1:1";
+      totals = None;
     }))
 
 -- the words of `receive` with these texts
@@ -38,6 +39,7 @@ ReceiveSaysItsTexts = (listen token secret address peer : Text) → (refusals (r
       address = address;
       peer = peer;
       receive_max = codes "0";
+      totals = None;
     }))
 
 -- the words of `connector` with these texts, for a thousand requests
@@ -51,4 +53,5 @@ ConnectorSaysItsTexts = (listen own : Text) → (refusals (connector_words liste
       own = own;
       requests = codes "1000";
       workers = codes "4";
+      totals = None;
     }))

@@ -41,6 +41,10 @@ abbrev pub with_ends : Shape → Shape
 with_ends s = with_rule (with_rule (with_rule (with_rule s (required_rule (codes "token"))) (required_rule (codes "secret")))
     (required_rule (codes "address"))) (required_rule (codes "peer"))
 
+-- where totals are told
+abbrev pub totals_rule : Rule
+totals_rule = option_rule (codes "totals")
+
 abbrev pub frames : Shape
 frames = new_shape (codes "frames")
 
@@ -61,7 +65,8 @@ send = record (new_shape (codes "send")) {
       ∷ with_default (codes "0") (number_rule (codes "money") 0 most_money)
       ∷ with_default (codes "4") (number_rule (codes "workers") 1 most_workers)
       ∷ with_default (codes "/dev/urandom") (option_rule (codes "random"))
-      ∷ with_default (codes "1:1") (option_rule (codes "least")) ∷ [];
+      ∷ with_default (codes "1:1") (option_rule (codes "least"))
+      ∷ totals_rule ∷ [];
 }
 
 abbrev pub receive : Shape
@@ -71,7 +76,8 @@ receive = record (new_shape (codes "receive")) {
       ∷ required_rule (codes "secret")
       ∷ required_rule (codes "address")
       ∷ required_rule (codes "peer")
-      ∷ with_default (codes "0") (number_rule (codes "receive-max") 0 most_money) ∷ [];
+      ∷ with_default (codes "0") (number_rule (codes "receive-max") 0 most_money)
+      ∷ totals_rule ∷ [];
 }
 
 abbrev pub connector : Shape
@@ -79,7 +85,8 @@ connector = record (new_shape (codes "connector")) {
   rules = required_rule (codes "listen")
       ∷ required_rule (codes "own")
       ∷ with_required (number_rule (codes "requests") 1 (2 ^ 31 - 1))
-      ∷ with_default (codes "4") (number_rule (codes "workers") 1 most_workers) ∷ [];
+      ∷ with_default (codes "4") (number_rule (codes "workers") 1 most_workers)
+      ∷ totals_rule ∷ [];
 }
 
 -- the program without a command: it has a version

@@ -30,6 +30,7 @@ send_texts rows = record {
   workers = value_of (codes "workers") rows;
   random = value_of (codes "random") rows;
   least = value_of (codes "least") rows;
+  totals = first_of (codes "totals") rows;
 }
 
 abbrev pub receive_texts : List Row → settings.ReceiveTexts
@@ -40,6 +41,7 @@ receive_texts rows = record {
   address = value_of (codes "address") rows;
   peer = value_of (codes "peer") rows;
   receive_max = value_of (codes "receive-max") rows;
+  totals = first_of (codes "totals") rows;
 }
 
 abbrev pub connector_texts : List Row → settings.ConnectorTexts
@@ -48,6 +50,7 @@ connector_texts rows = record {
   own = value_of (codes "own") rows;
   requests = value_of (codes "requests") rows;
   workers = value_of (codes "workers") rows;
+  totals = first_of (codes "totals") rows;
 }
 
 -- a command of this name, with these values of its options, asks for this

@@ -8,8 +8,8 @@ ghost use Rattle.st_words.specs.Program.{HasShape, has_globals};
 
 use crate::options::{number, option, or, required, with, with_command};
 use crate::texts::{
-    AFTER_CONNECTOR_HELP, AFTER_FRAMES_HELP, AFTER_HELP, AFTER_LOCAL_HELP, AFTER_RECEIVE_HELP,
-    AFTER_SEND_HELP, LEAST_HELP, SECRET_HELP, TOKEN_HELP,
+    ACCOUNTS_HELP, AFTER_CONNECTOR_HELP, AFTER_FRAMES_HELP, AFTER_HELP, AFTER_LOCAL_HELP,
+    AFTER_RECEIVE_HELP, AFTER_SEND_HELP, LEAST_HELP, SECRET_HELP, TOKEN_HELP, TOTALS_HELP,
 };
 use clap::Command;
 use st_settings::{MAX_HOPS, MAX_LOSE, MAX_MONEY, MAX_REQUESTS, MAX_STREAMS, MAX_WORKERS};
@@ -140,7 +140,9 @@ fn send<'a>(alloc: Global) -> Result<Command<'a>, AllocError>
     );
     let command = with(command, or(random, "/dev/urandom"))?;
     let least = option(alloc, "least", "NUM:DEN", LEAST_HELP);
-    with(command, or(least, "1:1"))
+    let command = with(command, or(least, "1:1"))?;
+    let totals = option(alloc, "totals", "FILE", TOTALS_HELP);
+    with(command, totals)
 }
 
 fn receive<'a>(alloc: Global) -> Result<Command<'a>, AllocError>
@@ -171,7 +173,9 @@ fn receive<'a>(alloc: Global) -> Result<Command<'a>, AllocError>
         0,
         MAX_MONEY,
     );
-    with(command, or(receive_max, "0"))
+    let command = with(command, or(receive_max, "0"))?;
+    let totals = option(alloc, "totals", "FILE", TOTALS_HELP);
+    with(command, totals)
 }
 
 fn connector<'a>(alloc: Global) -> Result<Command<'a>, AllocError>
@@ -212,7 +216,9 @@ fn connector<'a>(alloc: Global) -> Result<Command<'a>, AllocError>
         1,
         MAX_WORKERS,
     );
-    with(command, or(workers, "4"))
+    let command = with(command, or(workers, "4"))?;
+    let totals = option(alloc, "totals", "FILE", ACCOUNTS_HELP);
+    with(command, totals)
 }
 
 /// The program, as clap reads words for it.

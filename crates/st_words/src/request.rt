@@ -1,7 +1,7 @@
 //! What the words of the command line ask for.
 
 ghost use Rattle.std.specs.Prelude.{◌≡◌, IfOk, MatchOption, map};
-ghost use Rattle.clap.specs.Words.{FailsBy, found_of, rows_of, subcommand_rows_of};
+ghost use Rattle.clap.specs.Words.{FailsBy, first_of, found_of, rows_of, subcommand_rows_of};
 ghost use Rattle.st_settings.specs.Settings as settings;
 ghost use Rattle.st_words.specs.Words as spec;
 ghost use Rattle.st_words.specs.declared.request.Request.{Request};
@@ -39,6 +39,13 @@ fn value<'a>(matches: &ArgMatches<'a>, name: &str) -> &'a str
     matches.get_str(name).unwrap_or("")
 }
 
+/// The value of an option, where it has one.
+fn chosen<'a>(matches: &ArgMatches<'a>, name: &str) -> Option<&'a str>
+    ensures { settings.said result ≡ first_of name.now (rows_of (found_of matches.now)) }
+{
+    matches.get_str(name)
+}
+
 fn local<'a>(matches: &ArgMatches<'a>) -> LocalOptions<'a>
     ensures { settings.local_texts result ≡ spec.local_texts (rows_of (found_of matches.now)) }
 {
@@ -62,6 +69,7 @@ fn send<'a>(matches: &ArgMatches<'a>) -> SendOptions<'a>
         workers: value(matches, "workers"),
         random: value(matches, "random"),
         least: value(matches, "least"),
+        totals: chosen(matches, "totals"),
     }
 }
 
@@ -75,6 +83,7 @@ fn receive<'a>(matches: &ArgMatches<'a>) -> ReceiveOptions<'a>
         address: value(matches, "address"),
         peer: value(matches, "peer"),
         receive_max: value(matches, "receive-max"),
+        totals: chosen(matches, "totals"),
     }
 }
 
@@ -86,6 +95,7 @@ fn connector<'a>(matches: &ArgMatches<'a>) -> ConnectorOptions<'a>
         own: value(matches, "own"),
         requests: value(matches, "requests"),
         workers: value(matches, "workers"),
+        totals: chosen(matches, "totals"),
     }
 }
 

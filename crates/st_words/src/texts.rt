@@ -80,3 +80,11 @@ pub const SECRET_HELP: &str =
 /// What help says of `--least`.
 pub const LEAST_HELP: &str =
     "NUM units have to arrive for DEN that are sent, rounded down, each from 1 to 4294967295";
+
+/// What help says of `--totals` where one end has them.
+pub const TOTALS_HELP: &str =
+    "Where this end's totals are told, in bytes and units; none are, if it is left out";
+
+/// What help says of `--totals` where each account has its own.
+pub const ACCOUNTS_HELP: &str =
+    "Where each account's claims, dues and holds are told, in units; none are, if it is left out";

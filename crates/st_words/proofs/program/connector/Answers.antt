@@ -15,4 +15,6 @@ returns c =
     let o2 = c.in_ok-command-2.ensures.1 ∙ o1 in
     let s3 = c.in_ok-command-3.ensures.0 ∙ ap₂ with_rule s2 r3 in
     let o3 = c.in_ok-command-3.ensures.1 ∙ o2 in
-    IfOk-weaker c.with-4.result _ _ (λ m h. (h.0 ∙ ap₂ with_rule s3 r4, h.1 ∙ o3)) c.with-4.ensures
+    let s4 = c.in_ok-command-4.ensures.0 ∙ ap₂ with_rule s3 r4 in
+    let o4 = c.in_ok-command-4.ensures.1 ∙ o3 in
+    IfOk-weaker c.with-5.result _ _ (λ m h. (h.0 ∙ ap₂ with_rule s4 c.option-totals.ensures.rule, h.1 ∙ o4)) c.with-5.ensures

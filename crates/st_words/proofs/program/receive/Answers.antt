@@ -10,4 +10,6 @@ returns c =
     let s1 = c.in_ok-command.ensures.0 ∙ ap₂ with_rule c.named-command.ensures.0 r1 in
     let s2 = c.in_ok-command-2.ensures.0 ∙ ap with_ends s1 in
     let o2 = c.in_ok-command-2.ensures.1 in
-    IfOk-weaker c.with-2.result _ _ (λ m h. (h.0 ∙ ap₂ with_rule s2 r2, h.1 ∙ o2)) c.with-2.ensures
+    let s3 = c.in_ok-command-3.ensures.0 ∙ ap₂ with_rule s2 r2 in
+    let o3 = c.in_ok-command-3.ensures.1 ∙ o2 in
+    IfOk-weaker c.with-3.result _ _ (λ m h. (h.0 ∙ ap₂ with_rule s3 c.option-totals.ensures.rule, h.1 ∙ o3)) c.with-3.ensures

@@ -18,4 +18,6 @@ returns c =
     let o4 = c.in_ok-command-4.ensures.1 ∙ o3 in
     let s5 = c.in_ok-command-5.ensures.0 ∙ ap₂ with_rule s4 r4 in
     let o5 = c.in_ok-command-5.ensures.1 ∙ o4 in
-    IfOk-weaker c.with-5.result _ _ (λ m h. (h.0 ∙ ap₂ with_rule s5 r5, h.1 ∙ o5)) c.with-5.ensures
+    let s6 = c.in_ok-command-6.ensures.0 ∙ ap₂ with_rule s5 r5 in
+    let o6 = c.in_ok-command-6.ensures.1 ∙ o5 in
+    IfOk-weaker c.with-6.result _ _ (λ m h. (h.0 ∙ ap₂ with_rule s6 c.option-totals.ensures.rule, h.1 ∙ o6)) c.with-6.ensures
