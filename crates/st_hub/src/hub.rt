@@ -4,6 +4,7 @@ ghost use Rattle.std.specs.Prelude.{◌≡◌, ℕ, ◌++◌, List, length, OnEr
 ghost use Rattle.st_end.specs.Calls as calls;
 ghost use Rattle.st_end.specs.Calls.{OrWants};
 ghost use Rattle.st_end.specs.Receiving.{t00_text};
+ghost use Rattle.st_end.specs.Seen.{totals_seen};
 ghost use Rattle.st_end.specs.Totals as totals;
 ghost use Rattle.st_queues.specs.Lanes.{ring_at};
 ghost use Rattle.st_queues.specs.Watching.{IsUpTo, nothing_seen};
@@ -17,7 +18,7 @@ ghost use Rattle.st_hub.specs.declared.error.HubError.TheVariants.{NoMemory};
 use crate::error::HubError;
 use crate::pumping::Pumped;
 use crate::streams::Streams;
-use st_end::{EndError, EndState};
+use st_end::{EndError, EndState, Totals};
 use st_queues::{Gauge, GaugeSeat, HubName, HubSeat, Named, Rings, StreamReader, StreamWriter};
 use std::alloc::Allocator;
 use std::marker::Model;
@@ -226,6 +227,13 @@ impl<N: HubName<A>, A: Allocator + Copy> HubState<N, A> {
         ensures whole { reader.old.items ++ reader.new.known ≡ (outlet_at self.old.flow.outlets reader.old.stream).put }
     {
         self.streams.meet_reader(reader)
+    }
+
+    /// What the end did so far. It takes no memory.
+    pub fn totals(&self) -> Totals
+        ensures { totals_seen result ≡ totals.totals self.now.flow.core }
+    {
+        self.streams.core().totals()
     }
 
     /// Whether this end's own close of a stream was fulfilled. It takes no memory.
