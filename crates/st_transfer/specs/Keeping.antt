@@ -6,6 +6,7 @@ use Rattle.st_receiver.specs.Reading as reading
 use Rattle.st_end.specs.State.{EndState}
 use Rattle.st_end.specs.Calls.{Answer}
 use Rattle.st_end.specs.Reading.{read}
+use Rattle.st_end.specs.Totals.{Totals, totals}
 use Rattle.st_end.specs.Receiving.{Received}
 use Rattle.st_end.specs.declared.error.EndError.TheVariants as refusals
 use Rattle.st_file.specs.Sources.{Given}
@@ -96,15 +97,19 @@ Delivers start before now after n (Ok More) = Kept start before now after n
 Delivers start before now after n (Ok Whole) = KeptTo start before now after n reading.End
 Delivers start before now after n (Err e) = Explains start before now after e
 
--- what a receiver wrote, from the end with its receive max set: all, where the stream told a clean end
-abbrev pub Receives : EndState → (before after : Option (List ℕ)) → Result ℕ TransferError → Type 0
-Receives start before after (Ok n) = (now : EndState) × KeptTo start before now after n reading.End
-Receives start before after (Err e) = (now : EndState) × Explains start before now after e
+-- what a receiver wrote, from the end with its receive max set to the end now: all, where the stream told a clean end
+abbrev pub Receives : (start now : EndState) → (before after : Option (List ℕ)) → Result ℕ TransferError → Type 0
+Receives start now before after (Ok n) = KeptTo start before now after n reading.End
+Receives start now before after (Err e) = Explains start before now after e
 
 -- the same, or the receive max was refused and nothing was written
-abbrev pub ReceivesFrom : Answer × EndState → (before after : Option (List ℕ)) → Result ℕ TransferError → Type 0
-ReceivesFrom (Ok x, start) before after result = Receives start before after result
-ReceivesFrom (Err why, start) before after result = (result ≡ Err (End why)) × Keeps before after
+abbrev pub ReceivesFrom : Answer × EndState → (now : EndState) → (before after : Option (List ℕ)) → Result ℕ TransferError → Type 0
+ReceivesFrom (Ok x, start) now before after result = Receives start now before after result
+ReceivesFrom (Err why, start) now before after result = (result ≡ Err (End why)) × (now ≡ start) × Keeps before after
+
+-- the same, and these totals are those of the end then
+abbrev pub TellsTotals : Answer × EndState → (before after : Option (List ℕ)) → Totals → Result ℕ TransferError → Type 0
+TellsTotals opened before after told result = (now : EndState) × ReceivesFrom opened now before after result × (told ≡ totals now)
 
 -- the end of a receiver
 abbrev pub end_in : {K : Type 0} → Receiver K → EndState

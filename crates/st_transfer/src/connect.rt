@@ -2,7 +2,9 @@
 
 ghost use Rattle.std.specs.Prelude.{◌≡◌, ◌≤◌};
 ghost use Rattle.st_desk.specs.Desk.{IsNew};
+ghost use Rattle.st_transfer.specs.Accounts.{AreTotalsOf};
 
+use crate::accounts::{AccountTotals, note};
 use crate::claims::{Claims, claim, claim_all};
 use crate::clock::RuntimeClock;
 use crate::error::TransferError;
@@ -139,17 +141,43 @@ fn shares_back<C: Ledger, D: Ledger>(
     Ok(all)
 }
 
-/// What the workers came to: what is owed, or the first fault.
+/// What the workers came to: what is owed, or the first fault. What the desk has of each account is noted in any case.
 fn gathered<C: Ledger, D: Ledger>(
     alloc: Global,
     desk: &mut HopDesk<C, D, Global>,
-    ends: Vec<Ended<C, D>>,
-) -> Result<Owed, TransferError> {
-    let shares = shares_back(alloc, ends)?;
+    ends: Result<Vec<Ended<C, D>>, TransferError>,
+    accounts: &mut [AccountTotals],
+) -> Result<Owed, TransferError>
+    ensures noted { AreTotalsOf desk.old.hop accounts.new }
+{
+    note(desk.hop(), accounts);
+    let shares = shares_back(alloc, ends?)?;
     match desk.gather(shares) {
         Ok(owed) => Ok(owed),
         Err((error, _)) => Err(TransferError::Desk(error)),
     }
+}
+
+/// Has the workers serve from a desk: how each of them ended.
+fn serve_from<
+    C: Ledger + Send + Sync,
+    D: Ledger + Send + Sync,
+    R: Net<Listener = TcpListener, Stream = TcpStream> + Threads + Wait + std::time::Clock + Sync,
+>(
+    rt: &R,
+    alloc: Global,
+    listener: &TcpListener,
+    desk: &Mutex<HopDesk<C, D, Global>>,
+    terms: ConnectTerms<'_>,
+) -> Result<Vec<Ended<C, D>>, TransferError> {
+    let left = Mutex::new(Claims::new(terms.requests));
+    let jobs = servers(rt, alloc, desk, terms)?;
+    let ends = thread::map_vec(
+        rt,
+        jobs,
+        &|server| { serve_all(rt, alloc, listener, &left, terms, server) },
+    )?;
+    Ok(ends)
 }
 
 /// A connector under the names that were picked for its ledgers.
@@ -165,20 +193,15 @@ fn run<
     claims: Blank,
     dues: Blank,
     terms: ConnectTerms<'_>,
+    accounts: &mut [AccountTotals],
 ) -> Result<Owed, TransferError>
     requires fresh { IsNew hop }
     requires claims { (claims.name ≡ C.name) × (claims.parts ≡ C.parts) × (claims.parts ≡ 64) }
     requires dues { (dues.name ≡ D.name) × (dues.parts ≡ D.parts) × (dues.parts ≡ 64) }
 {
     let desk = Mutex::new(HopDesk::<C, D, Global>::new(alloc, hop, claims, dues));
-    let left = Mutex::new(Claims::new(terms.requests));
-    let jobs = servers(rt, alloc, &desk, terms)?;
-    let ends = thread::map_vec(
-        rt,
-        jobs,
-        &|server| { serve_all(rt, alloc, listener, &left, terms, server) },
-    )?;
-    gathered(alloc, &mut desk.into_inner(), ends)
+    let ends = serve_from(rt, alloc, listener, &desk, terms);
+    gathered(alloc, &mut desk.into_inner(), ends, accounts)
 }
 
 /// Answers so many requests that come to a listener from a hop at which nothing is owed and nothing is open. A request's
@@ -190,7 +213,8 @@ fn run<
 /// owe the hop then, and what the hop owes them.
 ///
 /// Refuses with `Accept` where the listener gives no connection, and then no further request is claimed; with `Desk`
-/// where there are more than 63 workers; and with `NoMemory`. It waits for its workers.
+/// where there are more than 63 workers; and with `NoMemory`. It waits for its workers. What the hop has of each account
+/// that has a place in `accounts` stands there then, whatever the answer is.
 pub fn connector_on<
     R: Net<Listener = TcpListener, Stream = TcpStream> + Threads + Wait + std::time::Clock + Sync,
 >(
@@ -203,6 +227,7 @@ pub fn connector_on<
     requests: u64,
     workers: u8,
     turns: u64,
+    accounts: &mut [AccountTotals],
 ) -> Result<Owed, TransferError>
     requires fresh { IsNew hop }
 {
@@ -221,5 +246,6 @@ pub fn connector_on<
         Blank::new(64),
         Blank::new(64),
         terms,
+        accounts,
     )
 }

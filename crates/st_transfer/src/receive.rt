@@ -3,14 +3,15 @@
 ghost use Rattle.std.specs.Prelude.{◌≡◌, true, OnOk};
 ghost use Rattle.st_oer.specs.Tallies.{device_of, tally_of};
 ghost use Rattle.st_end.specs.Calls as calls;
-ghost use Rattle.st_transfer.specs.Keeping.{Receives, ReceivesFrom, faults_told, file_stream};
+ghost use Rattle.st_end.specs.Seen.{totals_seen};
+ghost use Rattle.st_transfer.specs.Keeping.{Receives, ReceivesFrom, TellsTotals, faults_told, file_stream};
 
 use crate::delivery::{Delivered, STREAM, deliver};
 use crate::error::TransferError;
 use crate::receiver::Receiver;
 use crate::serving::serve_next;
 use st_desk::Clock;
-use st_end::EndState;
+use st_end::{EndState, Totals};
 use st_oer::Counting;
 use std::alloc::Global;
 use std::io::{Read, Write};
@@ -26,7 +27,7 @@ fn receive_all<L: OpenListener, W: Write, K: Clock>(
 ) -> Result<u64, TransferError>
 where
     L::Stream: Read + Write + OpenStream,
-    ensures told { Receives receiver.old.end (W.contents (device_of writer.old)) (W.contents (device_of writer.new)) result }
+    ensures told { Receives receiver.old.end receiver.new.end (W.contents (device_of writer.old)) (W.contents (device_of writer.new)) result }
     ensures flushed { OnOk result ((tally_of writer.new).flushed ≡ true) }
     ensures faults { (tally_of writer.new).faults ≡ faults_told result (tally_of writer.old).faults }
 {
@@ -56,7 +57,7 @@ fn receive_from<L: OpenListener, W: Write, K: Clock>(
 ) -> Result<u64, TransferError>
 where
     L::Stream: Read + Write + OpenStream,
-    ensures told { ReceivesFrom (calls.set_receive_max receiver.old.end file_stream receive_max) (W.contents (device_of writer.old)) (W.contents (device_of writer.new)) result }
+    ensures told { ReceivesFrom (calls.set_receive_max receiver.old.end file_stream receive_max) receiver.new.end (W.contents (device_of writer.old)) (W.contents (device_of writer.new)) result }
     ensures flushed { OnOk result ((tally_of writer.new).flushed ≡ true) }
     ensures faults { (tally_of writer.new).faults ≡ faults_told result (tally_of writer.old).faults }
 {
@@ -76,7 +77,7 @@ where
 ///
 /// Refuses with `Accept` where the listener gives no connection, with `Turns` after the last of the connections, with
 /// `File` where the output fails or its turns are used up, and where the peer aborted the stream, and with `End` where
-/// there was no memory to read the stream.
+/// there was no memory to read the stream. `totals` are then those of the end, whatever the answer is.
 pub fn receive_on<L: OpenListener + Drop, W: Write, K: Clock + Drop>(
     alloc: Global,
     listener: L,
@@ -86,13 +87,16 @@ pub fn receive_on<L: OpenListener + Drop, W: Write, K: Clock + Drop>(
     writer: &mut Counting<W>,
     clock: K,
     turns: u64,
+    totals: &mut Totals,
 ) -> Result<u64, TransferError>
 where
     L::Stream: Read + Write + OpenStream,
-    ensures told { ReceivesFrom (calls.set_receive_max end file_stream receive_max) (W.contents (device_of writer.old)) (W.contents (device_of writer.new)) result }
+    ensures told { TellsTotals (calls.set_receive_max end file_stream receive_max) (W.contents (device_of writer.old)) (W.contents (device_of writer.new)) (totals_seen totals.new) result }
     ensures flushed { OnOk result ((tally_of writer.new).flushed ≡ true) }
     ensures faults { (tally_of writer.new).faults ≡ faults_told result (tally_of writer.old).faults }
 {
     let mut receiver = Receiver { end, clock, alloc };
-    receive_from(&listener, token, &mut receiver, receive_max, writer, turns)
+    let result = receive_from(&listener, token, &mut receiver, receive_max, writer, turns);
+    *totals = receiver.end.totals();
+    result
 }

@@ -15,7 +15,7 @@ use crate::ivs::ReaderIvs;
 use crate::neighbour::Neighbour;
 use crate::terms::SendTerms;
 use crate::workers::work_alone;
-use st_end::EndState;
+use st_end::{EndState, Totals};
 use st_file::{FileError, send_all};
 use st_hub::{HubState, Ivs, WorkEnd};
 use st_oer::Counting;
@@ -216,7 +216,7 @@ fn feed_beside<
     )
 }
 
-/// Sends over an opened hub.
+/// Sends over an opened hub, and tells its totals then.
 #[tactic(auto, using(crate::proofs::Outcomes::sent_whole))]
 fn transfer<
     N: HubName<Global> + Send + Sync,
@@ -230,6 +230,7 @@ fn transfer<
     input: I,
     random: G,
     terms: SendTerms<'_>,
+    totals: &mut Totals,
 ) -> Result<u64, TransferError>
     ensures { IfOk result (λ n. IfSome (I.remaining input) (λ bytes. n ≡ counted (length bytes))) }
 {
@@ -243,8 +244,10 @@ fn transfer<
     let (ends, fed) = feed_beside(
         rt, alloc, &hub, writer, &gauge, &mut seat, input, random, terms,
     );
+    let hub = hub.into_inner();
+    *totals = hub.totals();
     match ends {
-        Ok(ends) => told(&hub.into_inner(), fed, &ends),
+        Ok(ends) => told(&hub, fed, &ends),
         Err(_) => Err(TransferError::NoMemory),
     }
 }
@@ -264,6 +267,7 @@ fn run<
     input: I,
     random: G,
     terms: SendTerms<'_>,
+    totals: &mut Totals,
 ) -> Result<u64, TransferError>
     requires fresh { IsNew end }
     requires gauge { rings.gauge ≡ N.gauge }
@@ -273,7 +277,7 @@ fn run<
     ensures { IfOk result (λ n. IfSome (I.remaining input) (λ bytes. n ≡ counted (length bytes))) }
 {
     match open::<N>(end, rings, blank, terms.money) {
-        Ok(opened) => transfer(rt, alloc, opened, input, random, terms),
+        Ok(opened) => transfer(rt, alloc, opened, input, random, terms, totals),
         Err(error) => Err(error),
     }
 }
@@ -285,7 +289,8 @@ fn run<
 /// The workers take at most `turns` turns each, an exchange takes at most so many calls of its stream, and so does the
 /// input. Refuses with `Failed` where the connection failed, with `IvFault` where `random` failed or ended, with `File`
 /// where the input could not be read whole, with `Turns`, and with `NoMemory`; with `End` where the end refuses the
-/// stream or the money. It waits for its workers.
+/// stream or the money. It waits for its workers. Once the stream was open, `totals` are then those of the end, whatever
+/// the answer is.
 pub fn send_on<
     I: Read + Drop,
     G: Read + Drop + Send,
@@ -300,6 +305,7 @@ pub fn send_on<
     money: u64,
     count: u8,
     turns: u64,
+    totals: &mut Totals,
 ) -> Result<u64, TransferError>
     requires fresh { IsNew end }
     ensures whole { IfOk result (λ n. IfSome (I.remaining input) (λ bytes. n ≡ counted (length bytes))) }
@@ -313,5 +319,15 @@ pub fn send_on<
         workers: count,
         turns,
     };
-    run::<Brand, I, G, R>(rt, alloc, end, rings, Blank::new(64), input, random, terms)
+    run::<Brand, I, G, R>(
+        rt,
+        alloc,
+        end,
+        rings,
+        Blank::new(64),
+        input,
+        random,
+        terms,
+        totals,
+    )
 }

@@ -2,11 +2,9 @@
 use Rattle.std.proofs.Common.{◌≡◌, ◌≢◌, true, false, Option, Some, None, List, [], Bor, codes, refl, sym, ap, ◌∙◌}
 use Rattle.std.specs.Prelude.{bytes_eq, option_map, unwrap_or}
 use Rattle.std.proofs.lemmas.Slice.Eq.{bytes_eq-Decides}
-use Rattle.clap.specs.Words.{Row, Text, first_value, rows_of}
+use Rattle.clap.specs.Words.{Row, Text, first_of}
 use Rattle.clap.specs.Faults.{is_simple_and_free}
 use Rattle.clap.specs.Simple.{is_simple}
-use Rattle.clap.specs.declared.parser.matches.Found.{Found}
-use Rattle.clap.proofs.WalkLemmas.{first_value-rows}
 use Rattle.st_settings.specs.Settings as settings
 use Rattle.st_settings.specs.declared.settings.LocalSettings.{LocalSettings}
 use Rattle.st_settings.specs.declared.settings.SendSettings.{SendSettings}
@@ -26,11 +24,10 @@ or_empty : (o : Option (Bor Text)) (d : Bor Text) → d.now ≡ [] → (unwrap_o
 or_empty None d is = is
 or_empty (Some s) d is = refl
 
--- the value that a getter gives, and no text in its place
-pub value_said : (f : Found) (name : Text) (o : Option (Bor Text)) (d r : Bor Text) → option_map (λ s. s.now) o ≡ first_value f name → r ≡ unwrap_or o d → d.now ≡ []
-    → r.now ≡ value_of name (rows_of f)
-value_said f name o d r given is empty =
-    ap (λ (s : Bor Text). s.now) is ∙ or_empty o d empty ∙ ap (λ (x : Option Text). unwrap_or x []) (given ∙ first_value-rows f name)
+-- the value that an option has, and no text in its place
+pub value_said : (rows : List Row) (name : Text) (o : Option (Bor Text)) (d r : Bor Text) → settings.said o ≡ first_of name rows → r ≡ unwrap_or o d → d.now ≡ []
+    → r.now ≡ value_of name rows
+value_said rows name o d r given is empty = ap (λ (s : Bor Text). s.now) is ∙ or_empty o d empty ∙ ap (λ (x : Option Text). unwrap_or x []) given
 
 unlike : (s t : Text) → bytes_eq s t ≡ false → s ≢ t
 unlike s t differs e =

@@ -32,18 +32,18 @@ pub enum Request<'a> {
     Connector(ConnectorSettings<'a>),
 }
 
-/// The value of an option, and no text where it has none.
-fn value<'a>(matches: &ArgMatches<'a>, name: &str) -> &'a str
-    ensures { result.now ≡ value_of name.now (rows_of (found_of matches.now)) }
-{
-    matches.get_str(name).unwrap_or("")
-}
-
 /// The value of an option, where it has one.
 fn chosen<'a>(matches: &ArgMatches<'a>, name: &str) -> Option<&'a str>
     ensures { settings.said result ≡ first_of name.now (rows_of (found_of matches.now)) }
 {
     matches.get_str(name)
+}
+
+/// The value of an option, and no text where it has none.
+fn value<'a>(matches: &ArgMatches<'a>, name: &str) -> &'a str
+    ensures { result.now ≡ value_of name.now (rows_of (found_of matches.now)) }
+{
+    chosen(matches, name).unwrap_or("")
 }
 
 fn local<'a>(matches: &ArgMatches<'a>) -> LocalOptions<'a>
