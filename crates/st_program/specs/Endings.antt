@@ -11,6 +11,7 @@ use Rattle.st_local.specs.Endings as local
 use Rattle.st_words.specs.declared.request.Request.{Request}
 use Rattle.st_words.specs.declared.request.Request.TheVariants as request
 use Rattle.st_program.specs.declared.error.RunError.{RunError}
+use Rattle.st_program.specs.declared.error.RunError.TheVariants as run
 use Rattle.st_program.specs.Errors.{number}
 use Rattle.st_program.specs.Table.{EndsBy}
 use Rattle.st_program.specs.Words.{MayRefuse, MayShow}
@@ -36,9 +37,9 @@ abbrev pub TellsEnd : {T E : Type 0} → Result T RunError → (E → Option (Li
 TellsEnd (Ok x) said e f status = (status ≡ 0) × (f ≡ e)
 TellsEnd (Err x) said e f status = TellsNumber (number x) said e f status
 
--- it ended in some way
-abbrev pub Ends : {E : Type 0} → (E → Option (List ℕ)) → Counting E → Counting E → ℕ → Type 0
-Ends said e f status = (end : Result (Unit {0}) RunError) × TellsEnd end said e f status
+-- it ended in some way: where the file for its totals could not be opened, nothing else was done
+abbrev pub Ends : {E : Type 0} → (untouched : Type 0) → (E → Option (List ℕ)) → Counting E → Counting E → ℕ → Type 0
+Ends untouched said e f status = (end : Result (Unit {0}) RunError) × (end ≡ Err run.BadOption → untouched) × TellsEnd end said e f status
 
 -- what was asked for was done: r, w and e are the reader, the writer and the writer for errors at the start, s, v and f now
 abbrev pub Does : {R W E : Type 0} → Request → (R → Option (List ℕ)) → (W → Option (List ℕ)) → (E → Option (List ℕ)) → (Option Fault → Type 0)
@@ -46,10 +47,10 @@ abbrev pub Does : {R W E : Type 0} → Request → (R → Option (List ℕ)) →
 Does request.Frames remaining contents said ended r s w v e f status = RunsFrames (remaining (device_of r)) (contents (device_of w)) (contents (device_of v)) ended said e f status
 Does (request.Local x) remaining contents said ended r s w v e f status = local.RunsLocal x (remaining (device_of r)) (contents (device_of w)) (contents (device_of v))
     (local.HasEnded (tally_of r) (tally_of s) (tally_of w) (tally_of v)) said e f status
-Does (request.Send x) remaining contents said ended r s w v e f status = (v ≡ w) × Ends said e f status
-Does (request.Receive x) remaining contents said ended r s w v e f status = (s ≡ r) × Ends said e f status
+Does (request.Send x) remaining contents said ended r s w v e f status = (v ≡ w) × Ends (s ≡ r) said e f status
+Does (request.Receive x) remaining contents said ended r s w v e f status = (s ≡ r) × Ends (v ≡ w) said e f status
 Does (request.Connector x) remaining contents said ended r s w v e f status =
-    (v ≡ w) × ((end : Result (Unit {0}) RunError) × EndsBy x.own.now (remaining (device_of r)) end × TellsEnd end said e f status)
+    (v ≡ w) × ((end : Result (Unit {0}) RunError) × (EndsBy x.own.now (remaining (device_of r)) end ⊎ ((end ≡ Err run.BadOption) × (s ≡ r))) × TellsEnd end said e f status)
 
 -- an option's text was told to be bad, or there was no memory for the words; nothing else was done
 abbrev pub TellsBadOption : {R W E : Type 0} → R → R → W → W → (E → Option (List ℕ)) → Counting E → Counting E → ℕ → Type 0

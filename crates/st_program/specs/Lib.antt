@@ -4,5 +4,6 @@ pub mod Words
 pub mod Settings
 pub mod Input
 pub mod Table
+pub mod Totals
 pub mod Endings
 pub mod Process

@@ -1,19 +1,22 @@
 //! The command `connector`.
 
-ghost use Rattle.std.specs.Prelude.{◌≡◌, true, IfErr, IfOk};
+ghost use Rattle.std.specs.Prelude.{◌≡◌, ◌⊎◌, true, Err, IfErr, IfOk};
 ghost use Rattle.st_oer.specs.Tallies.{device_of};
 ghost use Rattle.st_program.specs.Table.{EndsBy, SaysTable, Serves, WhyNoTable, is_hop};
 ghost use Rattle.st_desk.specs.Desk.{IsNew};
+ghost use Rattle.st_program.specs.declared.error.RunError.TheVariants.{BadOption};
 
 use crate::error::RunError;
 use crate::hop::{hop_of, neighbours_of};
 use crate::input::read_whole;
+use crate::totals::{places, tell_accounts, totals_file};
 use st_commands::{Fault, TURNS};
 use st_hop::HopState;
 use st_oer::{CountRead, utf8};
 use st_settings::{ConnectorSettings, Table, TableError, read_table};
-use st_transfer::connector_on;
+use st_transfer::{AccountTotals, connector_on};
 use std::alloc::Global;
+use std::fs::{File, Files};
 use std::io::Read;
 use std::net::{Net, TcpListener, TcpStream};
 use std::sync::Wait;
@@ -34,7 +37,7 @@ fn table_in<'a>(alloc: Global, bytes: &'a [u8]) -> Result<Table<'a, Global>, Run
     }
 }
 
-/// Serves by a table, of which the hop was made.
+/// Serves by a table, of which the hop was made, and sets what it has of each account, where totals are asked for.
 fn serve_by<
     N: Net<Listener = TcpListener, Stream = TcpStream> + Threads + Wait + std::time::Clock + Sync,
 >(
@@ -43,6 +46,7 @@ fn serve_by<
     settings: &ConnectorSettings<'_>,
     table: &Table<'_, Global>,
     hop: HopState<Global>,
+    accounts: &mut Vec<AccountTotals>,
 ) -> Result<(), RunError>
     requires new { IsNew hop }
     requires made { is_hop settings.now.own.now table.now.accounts.items table.now.routes.items ≡ true }
@@ -50,6 +54,9 @@ fn serve_by<
 {
     let tokens = table.tokens(alloc)?;
     let neighbours = neighbours_of(alloc, &table.accounts)?;
+    if settings.totals.is_some() {
+        *accounts = places(alloc, table.accounts.len())?;
+    }
     let Ok(listener) = TcpListener::bind(rt, settings.listen) else {
         return Err(RunError::NoListener);
     };
@@ -63,6 +70,7 @@ fn serve_by<
         settings.requests,
         settings.workers,
         TURNS,
+        accounts.as_mut_slice(),
     ) {
         Ok(_) => Ok(()),
         Err(error) => Err(RunError::Transfer(error)),
@@ -77,17 +85,18 @@ fn serve<
     alloc: Global,
     settings: &ConnectorSettings<'_>,
     table: &Table<'_, Global>,
+    accounts: &mut Vec<AccountTotals>,
 ) -> Result<(), RunError>
     ensures { Serves settings.now.own.now table.now.accounts.items table.now.routes.items result }
 {
     match hop_of(alloc, settings.own, table) {
-        Ok(hop) => serve_by(rt, alloc, settings, table, hop),
+        Ok(hop) => serve_by(rt, alloc, settings, table, hop, accounts),
         Err(error) => Err(error),
     }
 }
 
 /// Reads the table, and serves so many requests by it.
-pub(crate) fn connector<
+fn serve_input<
     R: Read,
     N: Net<Listener = TcpListener, Stream = TcpStream> + Threads + Wait + std::time::Clock + Sync,
 >(
@@ -95,12 +104,41 @@ pub(crate) fn connector<
     alloc: Global,
     settings: &ConnectorSettings<'_>,
     reader: &mut CountRead<R>,
+    accounts: &mut Vec<AccountTotals>,
 ) -> Result<(), RunError>
     ensures { EndsBy settings.now.own.now (R.remaining (device_of reader.old)) result }
 {
     let bytes = read_whole(alloc, reader)?;
     match table_in(alloc, &bytes) {
-        Ok(table) => serve(rt, alloc, settings, &table),
+        Ok(table) => serve(rt, alloc, settings, &table, accounts),
+        Err(error) => Err(error),
+    }
+}
+
+/// Reads the table, serves so many requests by it, and tells what it has of each account where that is asked for. Where the
+/// file for it cannot be opened, nothing else is done.
+pub(crate) fn connector<
+    R: Read,
+    N: Net<Listener = TcpListener, Stream = TcpStream>
+        + Files<File = File>
+        + Threads
+        + Wait
+        + std::time::Clock
+        + Sync,
+>(
+    rt: &N,
+    alloc: Global,
+    settings: &ConnectorSettings<'_>,
+    reader: &mut CountRead<R>,
+) -> Result<(), RunError>
+    ensures { EndsBy settings.now.own.now (R.remaining (device_of reader.old)) result ⊎ ((result ≡ Err BadOption) × (reader.new ≡ reader.old)) }
+{
+    match totals_file(rt, settings.totals) {
+        Ok(file) => {
+            let mut accounts = Vec::new(alloc);
+            let ended = serve_input(rt, alloc, settings, reader, &mut accounts);
+            tell_accounts(alloc, file, &accounts, ended)
+        }
         Err(error) => Err(error),
     }
 }

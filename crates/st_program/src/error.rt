@@ -23,7 +23,7 @@ pub enum RunError {
     /// The table of a connector is bad.
     #[error("the table is bad")]
     BadTable,
-    /// The text of an option is bad.
+    /// The text of an option is bad, or the file for totals that it names cannot be opened.
     #[error("an option is bad")]
     BadOption,
     /// The transfer ended short.

@@ -15,6 +15,7 @@ mod program;
 mod receive;
 mod send;
 mod tell;
+mod totals;
 
 pub use error::RunError;
 pub use laws::frames_needs_no_word;

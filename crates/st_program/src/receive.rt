@@ -1,29 +1,32 @@
 //! The command `receive`.
 
-ghost use Rattle.std.specs.Prelude.{◌≡◌};
+ghost use Rattle.std.specs.Prelude.{◌≡◌, ◌≢◌, Err};
 ghost use Rattle.st_program.specs.Settings.{IsReceiver};
+ghost use Rattle.st_program.specs.declared.error.RunError.TheVariants.{BadOption};
 
 use crate::error::RunError;
 use crate::send::widest;
+use crate::totals::{nothing_yet, tell_totals, totals_file};
 use st_commands::TURNS;
+use st_end::Totals;
 use st_oer::CountWrite;
 use st_settings::ReceiveSettings;
 use st_transfer::{RuntimeClock, TransferError, receive_on, server_end};
 use std::alloc::Global;
+use std::fs::{File, Files};
 use std::io::Write;
 use std::net::{Net, TcpListener, TcpStream};
 
-/// Takes what one sender sends, and writes it to the output.
-pub(crate) fn receive<
-    W: Write,
-    N: Net<Listener = TcpListener, Stream = TcpStream> + std::time::Clock,
->(
+/// Takes what one sender sends, writes it to the output, and sets the totals of its end, if there was one.
+fn transfer<W: Write, N: Net<Listener = TcpListener, Stream = TcpStream> + std::time::Clock>(
     rt: &N,
     alloc: Global,
     settings: &ReceiveSettings<'_>,
     writer: &mut CountWrite<W>,
+    totals: &mut Totals,
 ) -> Result<(), RunError>
     requires { IsReceiver settings.now }
+    ensures { result ≢ Err BadOption }
 {
     let Ok(listener) = TcpListener::bind(rt, settings.listen) else {
         return Err(RunError::NoListener);
@@ -45,9 +48,34 @@ pub(crate) fn receive<
                 writer,
                 RuntimeClock::new(rt),
                 TURNS,
+                totals,
             )?;
             Ok(())
         }
         Err(error) => Err(RunError::Transfer(TransferError::End(error))),
+    }
+}
+
+/// Takes what one sender sends, writes it to the output, and tells its end's totals where they are asked for. Where their file
+/// cannot be opened, nothing else is done.
+pub(crate) fn receive<
+    W: Write,
+    N: Net<Listener = TcpListener, Stream = TcpStream> + Files<File = File> + std::time::Clock,
+>(
+    rt: &N,
+    alloc: Global,
+    settings: &ReceiveSettings<'_>,
+    writer: &mut CountWrite<W>,
+) -> Result<(), RunError>
+    requires { IsReceiver settings.now }
+    ensures { result ≡ Err BadOption → writer.new ≡ writer.old }
+{
+    match totals_file(rt, settings.totals) {
+        Ok(file) => {
+            let mut totals = nothing_yet();
+            let ended = transfer(rt, alloc, settings, writer, &mut totals);
+            tell_totals(alloc, file, &totals, ended)
+        }
+        Err(error) => Err(error),
     }
 }

@@ -1,10 +1,13 @@
 //! The command `send`.
 
-ghost use Rattle.std.specs.Prelude.{◌≡◌};
+ghost use Rattle.std.specs.Prelude.{◌≡◌, ◌≢◌, Err};
 ghost use Rattle.st_program.specs.Settings.{IsSender};
+ghost use Rattle.st_program.specs.declared.error.RunError.TheVariants.{BadOption};
 
 use crate::error::RunError;
+use crate::totals::{nothing_yet, tell_totals, totals_file};
 use st_commands::TURNS;
+use st_end::Totals;
 use st_oer::CountRead;
 use st_sender::{EndConfig, MAX_IN_FLIGHT, MAX_PACKET_LIMIT, MAX_PACKETS};
 use st_settings::SendSettings;
@@ -24,8 +27,8 @@ pub(crate) fn widest() -> EndConfig {
     config
 }
 
-/// Sends the input and money to a receiver.
-pub(crate) fn send<
+/// Sends the input and money to a receiver, and sets the totals of its end, if there was one.
+fn transfer<
     R: Read,
     N: Net<Listener = TcpListener, Stream = TcpStream>
         + Files<File = File>
@@ -38,8 +41,10 @@ pub(crate) fn send<
     alloc: Global,
     settings: &SendSettings<'_>,
     reader: &mut CountRead<R>,
+    totals: &mut Totals,
 ) -> Result<(), RunError>
     requires { IsSender settings.now }
+    ensures { result ≢ Err BadOption }
 {
     let Some(neighbour) = Neighbour::new(settings.to, settings.token) else {
         unreachable!();
@@ -66,9 +71,39 @@ pub(crate) fn send<
                 settings.money,
                 settings.workers,
                 TURNS,
+                totals,
             )?;
             Ok(())
         }
         Err(error) => Err(RunError::Transfer(TransferError::End(error))),
+    }
+}
+
+/// Sends the input and money to a receiver, and tells its end's totals where they are asked for. Where their file cannot be
+/// opened, nothing else is done.
+pub(crate) fn send<
+    R: Read,
+    N: Net<Listener = TcpListener, Stream = TcpStream>
+        + Files<File = File>
+        + Threads
+        + Wait
+        + std::time::Clock
+        + Sync,
+>(
+    rt: &N,
+    alloc: Global,
+    settings: &SendSettings<'_>,
+    reader: &mut CountRead<R>,
+) -> Result<(), RunError>
+    requires { IsSender settings.now }
+    ensures { result ≡ Err BadOption → reader.new ≡ reader.old }
+{
+    match totals_file(rt, settings.totals) {
+        Ok(file) => {
+            let mut totals = nothing_yet();
+            let ended = transfer(rt, alloc, settings, reader, &mut totals);
+            tell_totals(alloc, file, &totals, ended)
+        }
+        Err(error) => Err(error),
     }
 }

@@ -1,0 +1,166 @@
+//! The file in which a command tells its totals.
+
+ghost use Rattle.std.specs.Prelude.{◌≡◌, IfErr, IfOk, IsNone, IsSome, OnOk, Result, string_bytes, vec_len};
+ghost use Rattle.std.specs.Io.KnownBytes.{Appends};
+ghost use Rattle.st_oer.specs.Tallies.{device_of};
+ghost use Rattle.st_end.specs.Seen.{totals_seen};
+ghost use Rattle.st_program.specs.Totals as spec;
+ghost use Rattle.st_program.specs.declared.error.RunError.TheVariants.{BadOption};
+
+use crate::error::RunError;
+use st_commands::{Fault, TURNS, put};
+use st_end::Totals;
+use st_oer::CountWrite;
+use st_transfer::AccountTotals;
+use std::alloc::{AllocError, Global};
+use std::fs::{File, Files};
+use std::io::Write;
+
+/// The file of this name, made or emptied, where one was asked for. Refuses with `BadOption` where it cannot be opened.
+pub(crate) fn totals_file<N: Files<File = File>>(
+    rt: &N,
+    name: Option<&str>,
+) -> Result<Option<CountWrite<File>>, RunError>
+    ensures none { IsNone name.entry → IfOk result (λ file. IsNone file) }
+    ensures some { IsSome name.entry → IfOk result (λ file. IsSome file) }
+    ensures refused { IfErr result (λ e. e ≡ BadOption) }
+{
+    let Some(name) = name else {
+        return Ok(None);
+    };
+    match File::create(rt, name) {
+        Ok(file) => Ok(Some(CountWrite::new(file))),
+        Err(_) => Err(RunError::BadOption),
+    }
+}
+
+/// The totals of an end that did nothing yet.
+pub(crate) fn nothing_yet() -> Totals {
+    Totals {
+        accepted: 0,
+        delivered: 0,
+        credited: 0,
+        paid: 0,
+    }
+}
+
+/// Places for the totals of so many accounts.
+pub(crate) fn places(alloc: Global, count: usize) -> Result<Vec<AccountTotals>, AllocError>
+    ensures { IfOk result (λ places. vec_len places ≡ count) }
+{
+    let mut places = Vec::new(alloc);
+    for _ in 0..count {
+        places.push(AccountTotals {
+            claims: 0,
+            dues: 0,
+            held: 0,
+        })?;
+    }
+    Ok(places)
+}
+
+/// What an end's totals print.
+#[tactic(auto, using(crate::proofs::Pieces::pieces))]
+fn totals_text(alloc: Global, totals: &Totals) -> Result<String, AllocError>
+    ensures { IfOk result (λ text. string_bytes text ≡ spec.totals_text (totals_seen totals.now)) }
+{
+    let Totals {
+        accepted,
+        delivered,
+        credited,
+        paid,
+    } = *totals;
+    let text = format!(in alloc;
+        "accepted {accepted}\ndelivered {delivered}\ncredited {credited}\npaid {paid}\n"
+    )?;
+    Ok(text)
+}
+
+/// What the totals of the account of this number print.
+#[tactic(auto, using(crate::proofs::Pieces::pieces), unfolding(crate::specs::Totals::account_text))]
+fn account_text(alloc: Global, number: usize, account: AccountTotals) -> Result<String, AllocError>
+    ensures { IfOk result (λ text. string_bytes text ≡ spec.account_text number account) }
+{
+    let AccountTotals { claims, dues, held } = account;
+    let text = format!(in alloc; "account {number} claims {claims} dues {dues} held {held}\n")?;
+    Ok(text)
+}
+
+/// What the totals of these accounts print, numbered from 0.
+fn accounts_text(alloc: Global, accounts: &[AccountTotals]) -> Result<String, AllocError>
+    ensures { IfOk result (λ text. string_bytes text ≡ spec.accounts_text 0 accounts.now) }
+{
+    let mut text = String::new(alloc);
+    for number in 0..accounts.len() {
+        let line = account_text(alloc, number, accounts[number])?;
+        text.push_str(line.as_str())?;
+    }
+    Ok(text)
+}
+
+/// Writes an end's totals whole.
+fn put_totals<W: Write>(
+    alloc: Global,
+    file: &mut CountWrite<W>,
+    totals: &Totals,
+) -> Result<(), Fault>
+    ensures { OnOk result (Appends (W.contents (device_of file.old)) (W.contents (device_of file.new)) (spec.totals_text (totals_seen totals.now))) }
+{
+    let text = totals_text(alloc, totals)?;
+    let mut turns = TURNS;
+    put(file, text.as_bytes(), &mut turns)
+}
+
+/// Writes the totals of accounts whole.
+fn put_accounts<W: Write>(
+    alloc: Global,
+    file: &mut CountWrite<W>,
+    accounts: &[AccountTotals],
+) -> Result<(), Fault>
+    ensures { OnOk result (Appends (W.contents (device_of file.old)) (W.contents (device_of file.new)) (spec.accounts_text 0 accounts.now)) }
+{
+    let text = accounts_text(alloc, accounts)?;
+    let mut turns = TURNS;
+    put(file, text.as_bytes(), &mut turns)
+}
+
+/// How a command ends whose totals were told so.
+fn ended_with(ended: Result<(), RunError>, told: Result<(), Fault>) -> Result<(), RunError>
+    ensures { result ≡ spec.ended_with ended told }
+{
+    ended?;
+    told?;
+    Ok(())
+}
+
+/// Tells an end's totals where a file was asked for, however the command ended: how it ends then.
+pub(crate) fn tell_totals<W: Write + Drop>(
+    alloc: Global,
+    file: Option<CountWrite<W>>,
+    totals: &Totals,
+    ended: Result<(), RunError>,
+) -> Result<(), RunError>
+    ensures none { IsNone file → result ≡ ended }
+    ensures told { (told : Result (Unit {0}) Fault) × (result ≡ spec.ended_with ended told) }
+{
+    match file {
+        Some(mut file) => ended_with(ended, put_totals(alloc, &mut file, totals)),
+        None => ended,
+    }
+}
+
+/// Tells the totals of accounts where a file was asked for, however the command ended: how it ends then.
+pub(crate) fn tell_accounts<W: Write + Drop>(
+    alloc: Global,
+    file: Option<CountWrite<W>>,
+    accounts: &[AccountTotals],
+    ended: Result<(), RunError>,
+) -> Result<(), RunError>
+    ensures none { IsNone file → result ≡ ended }
+    ensures told { (told : Result (Unit {0}) Fault) × (result ≡ spec.ended_with ended told) }
+{
+    match file {
+        Some(mut file) => ended_with(ended, put_accounts(alloc, &mut file, accounts)),
+        None => ended,
+    }
+}
