@@ -109,10 +109,10 @@ names() {
 }
 names local '--hops <N>' '--streams <N>' '--lose <N>'
 names send '--to <HOST:PORT>' '--token <TOKEN>' '--secret <HEX>' '--address <ADDRESS>' '--peer <ADDRESS>' '--money <N>' \
-    '--workers <N>' '--random <FILE>' '--least <NUM:DEN>'
+    '--workers <N>' '--random <FILE>' '--least <NUM:DEN>' '--totals <FILE>'
 names receive '--listen <HOST:PORT>' '--token <TOKEN>' '--secret <HEX>' '--address <ADDRESS>' '--peer <ADDRESS>' \
-    '--receive-max <N>'
-names connector '--listen <HOST:PORT>' '--own <ADDRESS>' '--requests <N>' '--workers <N>'
+    '--receive-max <N>' '--totals <FILE>'
+names connector '--listen <HOST:PORT>' '--own <ADDRESS>' '--requests <N>' '--workers <N>' '--totals <FILE>'
 
 for words in fames 'frames frames' '--frames' send; do
     # shellcheck disable=SC2086
@@ -179,6 +179,12 @@ with 4 --address= "${receive[@]}" && bad_option
 with 5 --peer=.b "${receive[@]}" && bad_option
 with 1 --listen=here "${connector[@]}" && bad_option
 with 2 '--own=test hub' "${connector[@]}" && bad_option
+# (a file for totals that cannot be opened, before the file of random bytes, the listener or the table is looked at)
+for totals in --totals=/nowhere/totals --totals=; do
+    words=("${send[@]}" "$totals") && bad_option
+    words=("${receive[@]}" "$totals") && bad_option
+    words=("${connector[@]}" "$totals") && bad_option
+done
 
 # Numbers out of their bounds, and options that are missing or unknown.
 refused_words() {
@@ -217,12 +223,51 @@ same 'no table' $'\n--\nfault 90\n--\n1' "$(told)"
 "$program" "${connector[@]}" <<<"$table" 2>/dev/full >"$room/out"
 same 'a full output for errors' $'1\n' "$?"$'\n'"$(cat "$room/out")"
 
-# A file and money from a sender through a connector to a receiver, by the example, on ports of its own.
+# Totals of a run that ends with a fault, in a file that has something in it already; and where they cannot be told.
+nothing=$'accepted 0\ndelivered 0\ncredited 0\npaid 0'
+totals_of() {
+    seq 100 >"$room/totals"
+    run "$@" --totals="$room/totals" <<<"$table"
+    printf '%s\n%s' "$err" "$(cat "$room/totals")"
+}
+same 'totals: no random bytes' $'fault 90\n'"$nothing" "$(totals_of "${send[@]}")"
+same 'totals: no listener' $'fault 80\n'"$nothing" "$(totals_of "${receive[@]}")"
+same 'totals: no listener for a connector' $'fault 80\naccount 0 claims 0 dues 0 held 0\naccount 1 claims 0 dues 0 held 0' \
+    "$(totals_of "${connector[@]}")"
+same 'totals: no table' 'fault 96' "$(table=account && totals_of "${connector[@]}")"
+left_by "${send[@]}" --totals=/dev/full <<<abc
+same 'a full file for totals, and a fault' $'\n--\nfault 90\n--\n1\nabc' "$(told)"$'\n'"$left"
+
+# A connector that is asked for one request and gets an empty connection, and cannot tell its totals.
+"$program" connector --listen=127.0.0.1:17772 --own=test.hub --requests=1 --totals=/dev/full <<<"$table" 2>"$room/err" &
+for _ in {1..100}; do
+    if (exec 3<>/dev/tcp/127.0.0.1/17772) 2>/dev/null; then break; fi
+    sleep 0.1
+done
+wait $!
+same 'a full file for totals' $'1\nfault 91' "$?"$'\n'"$(cat "$room/err")"
+
+# A file and money from a sender through a connector to a receiver, by the example, on ports of its own. What the sender paid
+# the connector claims from its account, and what it owes the receiver's is the receiver's credit.
 program=$top/examples/transfer/run
 export BYTES=70000 MONEY=500 END=17771 HUB=17770
 run </dev/null
 unset BYTES MONEY END HUB
-same 'a transfer' $'70000 bytes and 500 units came whole\n--\n\n--\n0' "${out% in *}"$'\n--\n'"$err"$'\n--\n'"$status"
+same 'a transfer' 'sender: accepted 70000
+sender: delivered 0
+sender: credited 0
+sender: paid 500
+connector: account 0 claims 500 dues 0 held 0
+connector: account 1 claims 0 dues 500 held 0
+receiver: accepted 0
+receiver: delivered 70000
+receiver: credited 500
+receiver: paid 0
+70000 bytes and 500 units came whole
+--
+
+--
+0' "${out% in *}"$'\n--\n'"$err"$'\n--\n'"$status"
 
 # Bytes over a chain in memory: none, 70,000 over two hops that lose each third Prepare, four on three streams, and one where
 # each Prepare is lost.

@@ -101,6 +101,7 @@ fn send_says_its_settings(rt: HostRuntime) {
     assert!(rt; settings.address == "example.alice" && settings.peer == "example.bob");
     assert!(rt; settings.money == 0 && settings.workers == 4 && settings.random == "/dev/urandom");
     assert!(rt; settings.least.num() == 1 && settings.least.den() == 1);
+    assert!(rt; settings.totals.is_none());
     for (i, byte) in settings.secret.as_slice().iter().enumerate() {
         assert!(rt; usize::from(*byte) == i);
     }
@@ -115,6 +116,7 @@ fn receive_says_its_settings(rt: HostRuntime) {
     assert!(rt; settings.listen == "[::1]:65535" && settings.token == "t2");
     assert!(rt; settings.address == "example.bob" && settings.peer == "example.alice");
     assert!(rt; settings.receive_max == 9_223_372_036_854_775_807 && settings.secret[31] == 31);
+    assert!(rt; settings.totals.is_none());
 }
 
 #[test]
@@ -125,6 +127,22 @@ fn connector_says_its_settings(rt: HostRuntime) {
     };
     assert!(rt; settings.listen == "localhost:0" && settings.own == "example.hub");
     assert!(rt; settings.requests == 2_147_483_647 && settings.workers == 4);
+    assert!(rt; settings.totals.is_none());
+}
+
+/// A file for totals is said as it is, an empty name too.
+#[test]
+fn a_file_for_totals_is_said(rt: HostRuntime) {
+    for name in ["totals", "/dev/full", ""] {
+        let mut words = LONGER;
+        words[12] = "--totals";
+        words[13] = name;
+        let Ok(Request::Send(settings)) = read_words(rt.alloc(), words.as_slice()) else {
+            assert!(rt; false, "the words are taken");
+            return;
+        };
+        assert!(rt; settings.totals == Some(name));
+    }
 }
 
 #[test]

@@ -6,6 +6,8 @@ use st_file::FileError;
 use st_oer::{Counting, FailAt, Rate};
 use st_transfer::TransferError;
 use std::alloc::Global;
+use std::io;
+use std::io::{ErrorKind, Write};
 use std::net::{Net, TcpListener, TcpStream};
 use std::process::Abort;
 use std::sync::Wait;
@@ -104,6 +106,38 @@ fn each_call_of_the_output_fails_in_turn(rt: HostRuntime) {
     }
     assert!(rt; 3 <= failed && failed < 100);
     assert!(rt; TransferError::File(FileError::WriteFault(0)).number() == 91);
+}
+
+/// An output that takes nothing: each call of it is interrupted.
+#[derive(Drop)]
+struct Busy;
+
+impl Write for Busy {
+    fn write(&mut self, _buf: &[u8]) -> io::Result<usize> {
+        Err(io::Error::from(ErrorKind::Interrupted))
+    }
+
+    fn flush(&mut self) -> io::Result<()> {
+        Err(io::Error::from(ErrorKind::Interrupted))
+    }
+}
+
+/// A receiver that calls its output 500 times after a request has used up its turns then, and nobody listens any more.
+#[test]
+fn an_output_that_is_always_interrupted_uses_up_the_turns(rt: HostRuntime) {
+    let alloc = rt.alloc();
+    let Place { listener, host } = listen(&rt, alloc);
+    let host = host.as_str();
+    let terms = Terms {
+        connections: 500,
+        ..with_money(0, 1)
+    };
+    let mut writer = Counting::new(Busy);
+    let input = b"abc".as_slice();
+    let (told, sent) = transfer_into(&rt, alloc, listener, host, &[], input, &mut writer, terms);
+    assert!(rt; told == Err(TransferError::File(FileError::Turns(0))));
+    assert!(rt; told.err().map(|e| e.number()) == Some(93));
+    assert!(rt; sent == Err(TransferError::Failed));
 }
 
 /// A listener that does not wait has no connection to give: a receiver ends, and so do the workers of a connector.

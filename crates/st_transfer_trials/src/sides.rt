@@ -4,7 +4,7 @@ ghost use Rattle.st_desk.specs.Desk as desk;
 ghost use Rattle.st_hub.specs.Hub as hub;
 
 use st_desk::Owed;
-use st_end::EndState;
+use st_end::{EndState, Totals};
 use st_hop::{Account, HopError, HopState, Route};
 use st_oer::{Counting, Rate, is_address};
 use st_sender::EndConfig;
@@ -78,6 +78,16 @@ impl Read for Counter {
     }
 }
 
+/// The totals of an end that did nothing.
+fn nothing_yet() -> Totals {
+    Totals {
+        accepted: 0,
+        delivered: 0,
+        credited: 0,
+        paid: 0,
+    }
+}
+
 /// The receiver `test.b`, at this listener and into this writer.
 pub(crate) fn receive<L: OpenListener + Drop, W: Write, R: std::time::Clock>(
     rt: &R,
@@ -112,6 +122,7 @@ where
                 writer,
                 clock,
                 connections,
+                &mut nothing_yet(),
             )
         }
         Err(error) => Err(TransferError::End(error)),
@@ -159,6 +170,7 @@ pub(crate) fn connect<
         1_000,
         4,
         TURNS,
+        &mut [],
     )
 }
 
@@ -205,6 +217,15 @@ pub(crate) fn send<
     };
     let end = sender(alloc, least)?;
     send_on(
-        rt, alloc, end, neighbour, input, random, money, workers, turns,
+        rt,
+        alloc,
+        end,
+        neighbour,
+        input,
+        random,
+        money,
+        workers,
+        turns,
+        &mut nothing_yet(),
     )
 }
