@@ -1,5 +1,25 @@
 -- A round of events in a world at rest is a crossing, reads and writes.
-use Rattle.std.proofs.Common.{◌≡◌, ℕ, zero, suc, ◌+◌, ◌-◌, ◌*◌, ◌<◌, ◌≤◌, Bool, true, false, List, [], ◌∷◌, ◌++◌, length, map, get_or, refl, sym, ap, subst, ◌∙◌, arith, ℤ, Option, None, Some, Result, Ok, Err}
+use Rattle.st_sender.specs.declared.error.OutboxError.{OutboxError}
+use Rattle.st_sender.specs.Sending.{Sending, changed, changed_at, with_outgoing}
+use Rattle.st_sender.specs.Accepting.{after_clean, after_write}
+use Rattle.st_sender.specs.Flights.{sent_end}
+use Rattle.st_sender.specs.Refusals.{close_refusal, write_refusal}
+use Rattle.st_receiver.specs.Streams.{incoming_at}
+use Rattle.st_tables.proofs.SlotLemmas.{slot_cases}
+use Rattle.st_end.specs.Calls.{done, refusal, refusal_at}
+use Rattle.st_world.specs.State.{ledger_at}
+use Rattle.st_world.specs.Events.{Event, Send, Sent}
+use Rattle.st_world.specs.Runs.{Chain, Run, opening}
+use Rattle.st_world.specs.Sides.{IsPrefixOf}
+use Rattle.st_world.proofs.DataSent.{OutFine}
+use Rattle.st_world.proofs.EveryRun.{reached}
+use Rattle.st_quiet.specs.Exchanges.{IsModest}
+use Rattle.st_quiet.specs.Calls.{lengths}
+use Rattle.st_quiet.proofs.Replies.{acked_is_sent}
+use Rattle.st_passage.specs.Worlds.{passing}
+use Rattle.st_passage.specs.Rounds.{fits}
+use Rattle.st_passage.proofs.Runs.{crossing_turn, turn_stands}
+use Rattle.std.proofs.Common.{nat_eq, inl, inr, ◌≡◌, ℕ, zero, suc, ◌+◌, ◌-◌, ◌*◌, ◌<◌, ◌≤◌, Bool, true, false, List, [], ◌∷◌, ◌++◌, length, map, get_or, refl, sym, ap, subst, ◌∙◌, arith, ℤ, Option, None, Some, Result, Ok, Err}
 use Rattle.std.specs.Prelude.{int_le, pos, ◌+ℤ◌, ◌-ℤ◌, ◌≤ℤ◌, ◌<ℤ◌}
 use Rattle.std.specs.List.{AllByRecursion}
 use Rattle.std.proofs.lemmas.Int.{ints}
@@ -141,18 +161,129 @@ close_rest : (b : Bool) (k : ℕ) (w v : World) (e : EndState) (hops : List Hop)
 close_rest false k w v e hops f n rest run = subst (λ z. IsAtRest z e hops f n) (sym run) rest
 close_rest true k w v e hops f n rest run = let last = met_one (Close Client k) w v run in client_calls (λ z. close z k) w v e hops f n k _ rest last.1.1
 
-pub write_rest : (xs : List ℕ) (k : ℕ) (o : Option Outgoing) (w v : World) (e : EndState) (hops : List Hop) (f : EndState) (n : ℕ) → IsAtRest w e hops f n → Met w (writes xs k o) v → IsAtRest v (written_at xs e k o) hops f n
-write_rest xs k None w v e hops f n rest run = subst (λ z. IsAtRest z e hops f n) (sym run) rest
-write_rest xs k (Some x) w v e hops f n rest run =
-    close_rest _ k run.0 v (write e k (fitting xs x)).1 hops f n (client_calls (λ z. write z k (fitting xs x)) w run.0 e hops f n k _ rest run.3.1) run.4
+-- ---- what fits, by the ledgers of a world that is reached
 
-writes_rest : (input : ℕ → List ℕ) (first count : ℕ) (w v : World) (e : EndState) (hops : List Hop) (f : EndState) (n : ℕ) → IsAtRest w e hops f n → Writes input first count w v → IsAtRest v (write_each input first count e) hops f n
+pub IsReachedBy : Chain → World → Type 0
+IsReachedBy c w = (events : List Event) × Run (opening c) events w
+
+run_on : (xs ys : List Event) (w v u : World) → Run w xs v → Run v ys u → Run w (xs ++ ys) u
+run_on [] ys w v u first second = subst (λ z. Run z ys u) first second
+run_on (x ∷ xs) ys w v u first second = (first.0, first.1, first.2, run_on xs ys first.0 v u first.3 second)
+
+met_runs : (events : List Event) (w v : World) → Met w events v → Run w events v
+met_runs [] w v run = run
+met_runs (event ∷ events) w v run = (run.0, run.1, (run.2, inl run.3), met_runs events run.0 v run.4)
+
+pub reached_met : (c : Chain) (events : List Event) (w v : World) → IsReachedBy c w → Met w events v → IsReachedBy c v
+unfolding IsReachedBy
+reached_met c events w v r run = (r.0 ++ events, run_on r.0 events (opening c) w v r.1 (met_runs events w v run))
+
+pub reached_first : (c : Chain) → IsReachedBy c (opening c)
+unfolding IsReachedBy
+reached_first c = ([], refl)
+
+abbrev pub acked_of : Option Outgoing → ℕ
+acked_of None = 0
+acked_of (Some x) = x.acked_end
+
+-- what its ledgers say of a stream
+pub record Ledgered (w : World) (e f : EndState) (k : ℕ) : Type 0 where
+  pub written : OutFine (ledger_at w Client k).written (outgoing_at e.sending k)
+  pub read : length (ledger_at w Client k).read ≡ (incoming_at f.receiving k).held.read
+
+pub ledgered : (c : Chain) (w : World) (e : EndState) (hops : List Hop) (f : EndState) (n k : ℕ) → IsReachedBy c w → IsAtRest w e hops f n → Ledgered w e f k
+unfolding IsReachedBy
+ledgered c w e hops f n k r rest =
+    let ways = (reached c r.0 w r.1).in_order.ways Client in
+    record {
+      written = subst (λ (z : EndState). OutFine (ledger_at w Client k).written (outgoing_at z.sending k)) rest.client (ways.send k);
+      read = (ways.recv k).count ∙ ap (λ (z : EndState). (incoming_at z.receiving k).held.read) rest.server;
+    }
+
+pub ledger_prefix : (c : Chain) (w : World) (k : ℕ) → IsReachedBy c w → IsPrefixOf (ledger_at w Client k).read (ledger_at w Client k).written
+unfolding IsReachedBy
+ledger_prefix c w k r = (((reached c r.0 w r.1).in_order.ways Client).recv k).is_prefix
+
+none_called : (e : EndState) (k : ℕ) (why : Option OutboxError) (s : Sending) → outgoing_at e.sending k ≡ None → (done e (refusal e k why) s).1 ≡ e
+none_called e k why s none = ap (λ o. (done e (refusal_at e o why) s).1) none
+
+none_closed : (b : Bool) (e : EndState) (k : ℕ) → outgoing_at e.sending k ≡ None → closed_if b e k ≡ e
+none_closed true e k none = none_called e k _ _ none
+none_closed false e k none = refl
+
+fits_the_same : (xs : List ℕ) (l : Ledger) (x : Outgoing) → length l.written ≡ x.accepted → length l.read ≡ x.acked_end → fits xs l ≡ fitting xs x
+fits_the_same xs l x written read = rw (written, read) refl
+
+write_at : (xs : List ℕ) (k : ℕ) (o : Option Outgoing) (l : Ledger) (w v : World) (e : EndState) (hops : List Hop) (f : EndState) (n : ℕ) → outgoing_at e.sending k ≡ o → OutFine l.written o → length l.read ≡ acked_of o → IsAtRest w e hops f n → Met w (writes xs k l) v
+    → IsAtRest v (written_at xs e k o) hops f n
+write_at xs k None l w v e hops f n at written read rest run =
+    let b = nat_eq (length l.written + length (fits xs l)) (length xs) in
+    let one : IsAtRest run.0 (write e k (fits xs l)).1 hops f n = client_calls (λ z. write z k (fits xs l)) w run.0 e hops f n k _ rest run.3.1 in
+    let same : (write e k (fits xs l)).1 ≡ e = none_called e k _ _ at in
+    subst (λ z. IsAtRest v z hops f n) (none_closed b e k at) (close_rest b k run.0 v e hops f n (subst (λ z. IsAtRest run.0 z hops f n) same one) run.4)
+write_at xs k (Some x) l w v e hops f n at written read rest run =
+    let part = fits_the_same xs l x (sym written.0) read in
+    let b = nat_eq (length l.written + length (fits xs l)) (length xs) in
+    let one : IsAtRest run.0 (write e k (fits xs l)).1 hops f n = client_calls (λ z. write z k (fits xs l)) w run.0 e hops f n k _ rest run.3.1 in
+    let both : IsAtRest v (closed_if b (write e k (fits xs l)).1 k) hops f n = close_rest b k run.0 v (write e k (fits xs l)).1 hops f n one run.4 in
+    let P : ℕ → List ℕ → Type 0 = λ m ys. IsAtRest v (closed_if (nat_eq (m + length ys) (length xs)) (write e k ys).1 k) hops f n in
+    subst (λ ys. P x.accepted ys) part (subst (λ m. P m (fits xs l)) (sym written.0) both)
+
+pub write_rest : (c : Chain) (xs : List ℕ) (k : ℕ) (w v : World) (e : EndState) (hops : List Hop) (f : EndState) (n : ℕ) → IsReachedBy c w → IsAtRest w e hops f n → acked_of (outgoing_at e.sending k) ≡ (incoming_at f.receiving k).held.read
+    → Met w (writes xs k (ledger_at w Client k)) v → IsAtRest v (written_on xs e k) hops f n
+write_rest c xs k w v e hops f n r rest acked run =
+    let told = ledgered c w e hops f n k r rest in
+    write_at xs k (outgoing_at e.sending k) (ledger_at w Client k) w v e hops f n refl told.written (told.read ∙ sym acked) rest run
+
+-- ---- writes and closes change no acknowledged end
+
+abbrev pub SameAcks : EndState → EndState → Type 0
+SameAcks e f = (j : ℕ) → acked_of (outgoing_at f.sending j) ≡ acked_of (outgoing_at e.sending j)
+
+pub acks_changed : (s : Sending) (k : ℕ) (g : Outgoing → Outgoing) (o : Option Outgoing) → ((x : Outgoing) → (g x).acked_end ≡ x.acked_end) → outgoing_at s k ≡ o → (j : ℕ) → acked_of (outgoing_at (changed_at s k g o) j) ≡ acked_of (outgoing_at s j)
+acks_changed s k g None keeps at j = refl
+acks_changed s k g (Some x) keeps at j = elim (slot_cases s.streams k (g x) j) [
+  | inl same ↦ subst (λ i. acked_of (outgoing_at (with_outgoing s k (g x)) i) ≡ acked_of (outgoing_at s i)) (sym same.0) (ap acked_of same.1 ∙ keeps x ∙ sym (ap acked_of at))
+  | inr apart ↦ ap acked_of apart
+]
+
+pub acks_done : (e : EndState) (why : Option EndError) (s : Sending) → ((j : ℕ) → acked_of (outgoing_at s j) ≡ acked_of (outgoing_at e.sending j)) → SameAcks e (done e why s).1
+acks_done e None s same j = same j
+acks_done e (Some why) s same j = refl
+
+acks_close : (b : Bool) (e : EndState) (k : ℕ) → SameAcks e (closed_if b e k)
+acks_close false e k j = refl
+acks_close true e k j = acks_done e (refusal e k (close_refusal e.sending k)) (changed e.sending k after_clean) (acks_changed e.sending k after_clean (outgoing_at e.sending k) (λ x. refl) refl) j
+
+pub acks_written_at : (xs : List ℕ) (e : EndState) (k : ℕ) (o : Option Outgoing) → SameAcks e (written_at xs e k o)
+acks_written_at xs e k None j = refl
+acks_written_at xs e k (Some x) j =
+    let one = acks_done e (refusal e k (write_refusal e.sending k (length (fitting xs x)))) (changed e.sending k (after_write (fitting xs x))) (acks_changed e.sending k (after_write (fitting xs x)) (outgoing_at e.sending k) (λ y. refl) refl) j in
+    acks_close (nat_eq (x.accepted + length (fitting xs x)) (length xs)) (write e k (fitting xs x)).1 k j ∙ one
+
+acks_written : (input : ℕ → List ℕ) (first count : ℕ) (e : EndState) → SameAcks e (write_each input first count e)
 unfolding write_each
-writes_rest input first zero w v e hops f n rest run = subst (λ z. IsAtRest z e hops f n) (sym run) rest
-writes_rest input first (suc m) w v e hops f n rest run =
-    let at : outgoing_at (end_at w Client).sending first ≡ outgoing_at e.sending first = ap (λ (z : EndState). outgoing_at z.sending first) rest.client in
-    let one = subst (λ o. IsAtRest run.0 (written_at (input first) e first o) hops f n) at (write_rest (input first) first (outgoing_at (end_at w Client).sending first) w run.0 e hops f n rest run.1) in
-    writes_rest input (first + 1) m run.0 v (written_on (input first) e first) hops f n one run.2
+acks_written input first zero e j = refl
+acks_written input first (suc m) e j = acks_written input (first + 1) m (written_on (input first) e first) j ∙ acks_written_at (input first) e first (outgoing_at e.sending first) j
+
+abbrev pub AreAcked : EndState → EndState → Type 0
+AreAcked e f = (k : ℕ) → acked_of (outgoing_at e.sending k) ≡ (incoming_at f.receiving k).held.read
+
+writes_rest : (c : Chain) (input : ℕ → List ℕ) (first count : ℕ) (w v : World) (e : EndState) (hops : List Hop) (f : EndState) (n : ℕ) → IsReachedBy c w → IsAtRest w e hops f n → AreAcked e f → Writes input first count w v
+    → IsAtRest v (write_each input first count e) hops f n × IsReachedBy c v
+unfolding write_each
+writes_rest c input first zero w v e hops f n r rest acked run = (subst (λ z. IsAtRest z e hops f n) (sym run) rest, subst (IsReachedBy c) (sym run) r)
+writes_rest c input first (suc m) w v e hops f n r rest acked run =
+    writes_rest c input (first + 1) m run.0 v (written_on (input first) e first) hops f n (reached_met c (writes (input first) first (ledger_at w Client first)) w run.0 r run.1)
+    (write_rest c (input first) first w run.0 e hops f n r rest (acked first) run.1)
+    (λ k. acks_written_at (input first) e first (outgoing_at e.sending first) k ∙ acked k) run.2
+
+pub acked_from : (input : ℕ → List ℕ) (e f : EndState) → Stands input e f → AreAcked e f
+acked_from input e f s k = sym (s.abreast.read k ∙ sent_is (outgoing_at e.sending k) refl)
+  where
+    sent_is : (o : Option Outgoing) → outgoing_at e.sending k ≡ o → sent_end e.sending k (outgoing_at e.sending k) ≡ acked_of (outgoing_at e.sending k)
+    sent_is None at = ap (sent_end e.sending k) at ∙ sym (ap acked_of at)
+    sent_is (Some x) at = acked_is_sent e.sending k x s.quiet.alone at ∙ sym (ap acked_of at)
 
 -- ---- a round
 
@@ -180,35 +311,46 @@ all_forward input e hops f iv now stands calm long moment early left flight byte
     (calm_forwards e.peer e.sending.last e.sending.packet_limit (all_money_left e.sending) _ hops (prepare_for e now goes.load.amount goes.payload) now calm goes.lawful (load_has_room input e f stands (goes_passage e iv now flight bytes gone long goes left)) moment early)
 
 -- the ends and hops after a round
-pub record IsCrossed (input : ℕ → List ℕ) (limit : ℕ) (e : EndState) (hops : List Hop) (f : EndState) (n : ℕ) (v : World) : Type 0 where
+pub record IsCrossed (c : Chain) (input : ℕ → List ℕ) (limit : ℕ) (e : EndState) (hops : List Hop) (f : EndState) (n : ℕ) (v : World) : Type 0 where
   pub client : EndState
   pub others : List Hop
   pub server : EndState
   pub crosses : Crossing input limit e hops f client others server
   pub rests : IsAtRest v client others server n
+  pub is_reached : IsReachedBy c v
 
-pub round_crosses : (input : ℕ → List ℕ) (limit : ℕ) (e : EndState) (hops : List Hop) (f : EndState) (n : ℕ) (w v : World) → 1 ≤ limit → Stands input e f → AreCalm e.peer e.sending hops → length hops ≤ 8 → e.sending.last + 1 < e.sending.config.packets → IsAtRest w e hops f n
-    → Round input limit (length hops) n w v → IsCrossed input limit e hops f (suc n) v
+back_acked : (input : ℕ → List ℕ) (back h : EndState) → Stands input (write_each input 0 65 back) h → AreAcked back h
+back_acked input back h s k = sym (acks_written input 0 65 back k) ∙ acked_from input (write_each input 0 65 back) h s k
+
+pub round_crosses : (c : Chain) (input : ℕ → List ℕ) (limit : ℕ) (e : EndState) (hops : List Hop) (f : EndState) (n : ℕ) (w v : World) → 32739 ≤ limit → IsModest (lengths input) → Stands input e f → AreCalm e.peer e.sending hops → length hops ≤ 8 → e.sending.last + 1 < e.sending.config.packets
+    → IsReachedBy c w → IsAtRest w e hops f n → Round input limit (length hops) n w v → IsCrossed c input limit e hops f (suc n) v
 unfolding goes_passage
-round_crosses input limit e hops f n w v some stands calm few left rest x =
+round_crosses chain input limit e hops f n w v room modest stands calm few left is_reached rest x =
     let moment = x.lawful.1.0 in
     let early = in_time hops x.now few in
     let forward = all_forward input e hops f x.iv x.now stands calm x.lawful.0 moment early left in
     let crossed_is = crossing_rests w x.sent x.passed e hops f n x.iv x.now rest forward x.goes x.passes in
     let c = crossed hops f crossed_is.bytes x.now in
     let back = ended crossed_is.gone crossed_is.flight (Some c.answer) in
-    let read_rest = reads_rest limit 0 65 x.passed x.read back c.hops c.end (suc n) some crossed_is.rests x.reads_each in
+    let read_rest = reads_rest limit 0 65 x.passed x.read back c.hops c.end (suc n) (omega (arith, room)) crossed_is.rests x.reads_each in
+    let crosses : Crossing input limit e hops f (write_each input 0 65 back) c.hops (take_each limit 0 65 c.end) = record {
+      passage = goes_passage e x.iv x.now crossed_is.flight crossed_is.bytes crossed_is.gone x.lawful.0 crossed_is.goes left;
+      moment = moment;
+      in_time = early;
+      passed = refl;
+      reads = refl;
+      writes = refl;
+    } in
+    let after = turn_stands input limit e f (write_each input 0 65 back) (take_each limit 0 65 c.end) modest stands (crossing_turn input limit e hops f (write_each input 0 65 back) c.hops (take_each limit 0 65 c.end) room stands calm crosses) in
+    let sent_reached = reached_met chain (Send Client x.iv x.now ∷ []) w x.sent is_reached (x.sent, Sent, x.lawful, x.goes, refl) in
+    let passed_reached = reached_met chain (passing (length hops) (suc n) x.now) x.sent x.passed sent_reached x.passes in
+    let read_reached = reached_met chain (reads limit 0 65) x.passed x.read passed_reached x.reads_each in
+    let done = writes_rest chain input 0 65 x.read v back c.hops (take_each limit 0 65 c.end) (suc n) read_reached read_rest (back_acked input back (take_each limit 0 65 c.end) after) x.writes_each in
     record {
       client = write_each input 0 65 back;
       others = c.hops;
       server = take_each limit 0 65 c.end;
-      crosses = record {
-        passage = goes_passage e x.iv x.now crossed_is.flight crossed_is.bytes crossed_is.gone x.lawful.0 crossed_is.goes left;
-        moment = moment;
-        in_time = early;
-        passed = refl;
-        reads = refl;
-        writes = refl;
-      };
-      rests = writes_rest input 0 65 x.read v back c.hops (take_each limit 0 65 c.end) (suc n) read_rest x.writes_each;
+      crosses = crosses;
+      rests = done.0;
+      is_reached = done.1;
     }

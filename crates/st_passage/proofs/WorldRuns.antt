@@ -1,5 +1,5 @@
 -- A quiet run of a world from its opening on is a run of crossings, so it is as short, and delivers as much.
-use Rattle.std.proofs.Common.{◌≡◌, ℕ, Bool, zero, suc, ◌+◌, ◌^◌, ◌<◌, ◌≤◌, true, false, List, [], ◌∷◌, length, map, replicate, refl, sym, ap, subst, ◌∙◌, arith, ℤ, Option, None, Some, Result, Ok, inl, inr}
+use Rattle.std.proofs.Common.{◌++◌, append-nil, length-append, ◌≡◌, ℕ, Bool, zero, suc, ◌+◌, ◌^◌, ◌<◌, ◌≤◌, true, false, List, [], ◌∷◌, length, map, replicate, refl, sym, ap, subst, ◌∙◌, arith, ℤ, Option, None, Some, Result, Ok, inl, inr}
 use Rattle.std.specs.List.{AllByRecursion}
 use Rattle.std.proofs.lemmas.Bool.{cases_lt}
 use Rattle.st_hop.specs.Hop.{Hop}
@@ -22,11 +22,13 @@ use Rattle.st_quiet.specs.Quiet.{IsQuiet}
 use Rattle.st_quiet.specs.Left.{all_money_left, bound, money_left, work_left}
 use Rattle.st_quiet.specs.Rounds.{IsRefilled}
 use Rattle.st_quiet.specs.Exchanges.{IsModest}
-use Rattle.st_quiet.specs.Calls.{allow_each, begin_each, begun, lengths, written_at}
+use Rattle.st_quiet.specs.Calls.{allow_each, begin_each, begun, lengths}
 use Rattle.st_quiet.specs.Trips.{Turns}
 use Rattle.st_quiet.proofs.Sums.{sum_below}
 use Rattle.st_quiet.proofs.Lowering.{none_goes, some_goes}
-use Rattle.st_quiet.proofs.Bound.{within_bound}
+use Rattle.st_world.specs.Sides.{IsPrefixOf}
+use Rattle.st_world.proofs.DataSent.{OutFine}
+use Rattle.st_quiet.proofs.Bound.{all_done, within_bound}
 use Rattle.st_quiet.proofs.Beginning.{IsBegun, calls_begun}
 use Rattle.st_quiet.proofs.SameEnds.{begin_same}
 use Rattle.st_quiet.proofs.Rounds.{rounds_lower}
@@ -40,7 +42,18 @@ use Rattle.st_passage.specs.Worlds.{IsAtRest, Met, state_of}
 use Rattle.st_passage.specs.Rounds.{Begins, BeginsEach, HasRoomFor, MayRun, QuietRun, Rounds, all_of, allows, opening_client}
 use Rattle.st_passage.proofs.Opening.{new_calm}
 use Rattle.st_passage.proofs.Runs.{crossing_calm, crossing_turn, crossings_turns, opening_stands, passage_comes, turn_stands, turns_lower}
-use Rattle.st_passage.proofs.Rounds.{client_calls, rest_moved, round_crosses, write_rest}
+use Rattle.st_passage.specs.Rounds.{writes}
+use Rattle.st_tables.specs.Slots.{slot}
+use Rattle.st_tables.proofs.SlotLemmas.{slot_cases}
+use Rattle.st_keys.specs.Keys.{DerivedKeys}
+use Rattle.st_sender.specs.Sending.{changed, with_outgoing}
+use Rattle.st_sender.specs.Accepting.{after_offer}
+use Rattle.st_sender.specs.Refusals.{offer_refusal}
+use Rattle.st_end.specs.declared.role.Role.{Role}
+use Rattle.st_end.specs.Calls.{connection_refusal, opened_unless, opening_as, own_number, refusal}
+use Rattle.st_world.specs.State.{ledger_at}
+use Rattle.st_world.specs.Events.{Offer, OpenStream}
+use Rattle.st_passage.proofs.Rounds.{IsReachedBy, ledger_prefix, ledgered, acked_from, acked_of, acks_changed, acks_done, acks_written_at, client_calls, reached_first, reached_met, rest_moved, round_crosses, write_rest}
 
 -- ---- rounds
 
@@ -58,13 +71,14 @@ sent_leaves input e hops f n w v iv now stands rest (inr sent) =
     zero_is m l = omega arith
 
 -- what the rounds leave
-pub record AreCrossed (input : ℕ → List ℕ) (limit m : ℕ) (e : EndState) (hops : List Hop) (f : EndState) (n : ℕ) (v : World) : Type 0 where
+pub record AreCrossed (c : Chain) (input : ℕ → List ℕ) (limit m : ℕ) (e : EndState) (hops : List Hop) (f : EndState) (n : ℕ) (v : World) : Type 0 where
   pub client : EndState
   pub others : List Hop
   pub server : EndState
   pub crosses : Crossings input limit m e hops f client others server
   pub rests : IsAtRest v client others server n
   pub unclosed : client.receiving.closed ≡ false
+  pub is_reached : IsReachedBy c v
 
 -- the Prepares of the connection suffice for the rest
 abbrev HasPackets : (ℕ → List ℕ) → EndState → Type 0
@@ -88,26 +102,27 @@ crossing_unclosed input limit e hops f g others h room modest s calm unclosed x 
     let turn = crossing_turn input limit e hops f g others h room s calm x in
     ap (λ r. r.closed) (receiving_still (lengths input) e f g h s.quiet s.abreast s.joined s.tellable (turn_trip input limit e f g h modest s.quiet s.abreast s.joined s.tellable s.held_back turn).0) ∙ unclosed
 
-pub rounds_cross : (input : ℕ → List ℕ) (limit m : ℕ) (e : EndState) (hops : List Hop) (f : EndState) (n : ℕ) (w v : World) → 32739 ≤ limit → IsModest (lengths input) → Stands input e f → AreCalm e.peer e.sending hops → length hops ≤ 8 → HasPackets input e → e.receiving.closed ≡ false
-    → IsAtRest w e hops f n → Rounds input limit (length hops) n m w v → AreCrossed input limit m e hops f (n + m) v
-rounds_cross input limit zero e hops f n w v room modest s calm few packets unclosed rest run = record {
+pub rounds_cross : (c : Chain) (input : ℕ → List ℕ) (limit m : ℕ) (e : EndState) (hops : List Hop) (f : EndState) (n : ℕ) (w v : World) → 32739 ≤ limit → IsModest (lengths input) → Stands input e f → AreCalm e.peer e.sending hops → length hops ≤ 8 → HasPackets input e → e.receiving.closed ≡ false
+    → IsReachedBy c w → IsAtRest w e hops f n → Rounds input limit (length hops) n m w v → AreCrossed c input limit m e hops f (n + m) v
+rounds_cross c input limit zero e hops f n w v room modest s calm few packets unclosed is_reached rest run = record {
   client = e;
   others = hops;
   server = f;
   crosses = (refl, refl, refl);
   rests = subst (λ z. IsAtRest z e hops f (n + 0)) (sym run) (subst (IsAtRest w e hops f) (let same : n ≡ n + 0 = omega arith in same) rest);
   unclosed = unclosed;
+  is_reached = subst (IsReachedBy c) (sym run) is_reached;
 }
-rounds_cross input limit (suc m) e hops f n w v room modest s calm few packets unclosed rest run =
+rounds_cross c input limit (suc m) e hops f n w v room modest s calm few packets unclosed is_reached rest run =
     let mid = run.0 in
     let some = sent_leaves input e hops f n w run.1.sent run.1.iv run.1.now s rest run.1.goes in
-    let one = round_crosses input limit e hops f n w mid (omega (arith, room)) s calm few (next _ _ _ some packets) rest run.1 in
+    let one = round_crosses c input limit e hops f n w mid room modest s calm few (next _ _ _ some packets) is_reached rest run.1 in
     let turn = crossing_turn input limit e hops f one.client one.others one.server room s calm one.crosses in
     let count : length one.others ≡ length hops = ap length one.crosses.passed ∙ (passage_comes input limit e hops f one.client one.others one.server s calm one.crosses).count in
-    let all = rounds_cross input limit m one.client one.others one.server (suc n) mid v room modest (turn_stands input limit e f one.client one.server modest s turn)
+    let all = rounds_cross c input limit m one.client one.others one.server (suc n) mid v room modest (turn_stands input limit e f one.client one.server modest s turn)
     (crossing_calm input limit e hops f one.client one.others one.server room modest s calm one.crosses) (omega (arith, count, few))
     (crossing_packets input limit e hops f one.client one.others one.server room modest s calm packets one.crosses)
-    (crossing_unclosed input limit e hops f one.client one.others one.server room modest s calm unclosed one.crosses) one.rests
+    (crossing_unclosed input limit e hops f one.client one.others one.server room modest s calm unclosed one.crosses) one.is_reached one.rests
     (subst (λ k. Rounds input limit k (suc n) m mid v) (sym count) run.2) in
     record {
       client = all.client;
@@ -116,6 +131,7 @@ rounds_cross input limit (suc m) e hops f n w v room modest s calm few packets u
       crosses = (one.client, one.others, one.server, one.crosses, all.crosses);
       rests = subst (IsAtRest v all.client all.others all.server) (let same : suc n + m ≡ n + suc m = omega arith in same) all.rests;
       unclosed = all.unclosed;
+      is_reached = all.is_reached;
     }
   where
     next : (last left packets : ℕ) → 0 < left → last + left < packets → last + 1 < packets
@@ -137,29 +153,89 @@ allows_rest money first (suc m) w v e hops f n rest run =
     }) in
     allows_rest money (first + 1) m mid v e hops (set_receive_max f first (money first)).1 n (subst (λ z. IsAtRest mid e hops (set_receive_max z first (money first)).1 n) rest.server one) run.4
 
-begins_rest : (input : ℕ → List ℕ) (money : ℕ → ℕ) (w v : World) (e : EndState) (hops : List Hop) (f : EndState) (n : ℕ) → IsAtRest w e hops f n → Begins input money w v → IsAtRest v (begun input money (open_stream e)) hops f n
-begins_rest input money w v e hops f n rest x =
+-- nothing is acknowledged of a stream
+abbrev NoAcks : EndState → Type 0
+NoAcks e = (j : ℕ) → acked_of (outgoing_at e.sending j) ≡ 0
+
+no_slot : (n j : ℕ) → slot {A = Outgoing} (replicate n None) j ≡ None
+no_slot zero j = refl
+no_slot (suc n) zero = refl
+no_slot (suc n) (suc j) = no_slot n j
+
+no_acks_first : (role : Role) (keys : DerivedKeys) (own peer : List ℕ) (config : Config) → NoAcks (new_end role keys own peer config)
+no_acks_first role keys own peer config j = ap acked_of (no_slot 65 j)
+
+acks_opened : (e : EndState) (o : Option ℕ) → NoAcks e → NoAcks (opening_as e o).1
+acks_opened e None none = none
+acks_opened e (Some k) none = by (connection_refusal e)
+  where
+    by : (why : Option EndError) (j : ℕ) → acked_of (outgoing_at (opened_unless e k why).1.sending j) ≡ 0
+    by (Some why) j = none j
+    by None j = elim (slot_cases e.sending.streams k new_outgoing j) [
+      | inl same ↦ subst (λ i. acked_of (outgoing_at (with_outgoing e.sending k new_outgoing) i) ≡ 0) (sym same.0) (ap acked_of same.1)
+      | inr apart ↦ ap acked_of apart ∙ none j
+    ]
+
+acks_offered : (e : EndState) (k amount : ℕ) → NoAcks e → NoAcks (offer e k amount).1
+acks_offered e k amount none j = acks_done e (refusal e k (offer_refusal e.sending k amount)) (changed e.sending k (after_offer amount)) (acks_changed e.sending k (after_offer amount) (outgoing_at e.sending k) (λ x. refl) refl) j ∙ none j
+
+acks_begun : (input : ℕ → List ℕ) (money : ℕ → ℕ) (e : EndState) (o : Option ℕ) → NoAcks e → NoAcks (begun input money (opening_as e o))
+acks_begun input money e None none = none
+acks_begun input money e (Some k) none = by (connection_refusal e)
+  where
+    by : (why : Option EndError) (j : ℕ) → acked_of (outgoing_at (begun input money (opened_unless e k why)).sending j) ≡ 0
+    by (Some why) j = none j
+    by None j =
+        let one = (opened_unless e k None).1 in
+        let two = (offer one k (money k)).1 in
+        acks_written_at (input k) two k (outgoing_at two.sending k) j ∙ acks_offered one k (money k) (opened_acks j) j
+      where
+        opened_acks : (i : ℕ) → NoAcks (opened_unless e k None).1
+        opened_acks i l = elim (slot_cases e.sending.streams k new_outgoing l) [
+          | inl same ↦ subst (λ z. acked_of (outgoing_at (with_outgoing e.sending k new_outgoing) z) ≡ 0) (sym same.0) (ap acked_of same.1)
+          | inr apart ↦ ap acked_of apart ∙ none l
+        ]
+
+acks_begun_each : (input : ℕ → List ℕ) (money : ℕ → ℕ) (count : ℕ) (e : EndState) → NoAcks e → NoAcks (begin_each input money count e)
+unfolding begin_each
+acks_begun_each input money zero e none = none
+acks_begun_each input money (suc m) e none = acks_begun_each input money m (begun input money (open_stream e)) (acks_begun input money e (own_number e) none)
+
+-- and nothing of it is read
+abbrev NoReads : EndState → Type 0
+NoReads f = (k : ℕ) → (incoming_at f.receiving k).held.read ≡ 0
+
+begins_rest : (c : Chain) (input : ℕ → List ℕ) (money : ℕ → ℕ) (w v : World) (e : EndState) (hops : List Hop) (f : EndState) (n : ℕ) → IsReachedBy c w → IsAtRest w e hops f n → NoAcks e → NoReads f → Begins input money w v
+    → IsAtRest v (begun input money (open_stream e)) hops f n × IsReachedBy c v
+begins_rest c input money w v e hops f n r rest none unread x =
     let k = x.stream in
-    let r = open_stream (end_at w Client) in
-    let told : ◌≡◌ {A = Told} (Opened (Ok k)) (Opened r.0) = x.opens.0 in
-    let number : ◌≡◌ {A = Result ℕ EndError} (Ok k) r.0 = cc in
+    let o = open_stream (end_at w Client) in
+    let told : ◌≡◌ {A = Told} (Opened (Ok k)) (Opened o.0) = x.opens.0 in
+    let number : ◌≡◌ {A = Result ℕ EndError} (Ok k) o.0 = cc in
     let is = x.opens.1 in
-    let open_rest : IsAtRest x.opened r.1 hops f n = rest_moved w x.opened e f r.1 f hops n rest (record {
+    let open_rest : IsAtRest x.opened o.1 hops f n = rest_moved w x.opened e f o.1 f hops n rest (record {
       client_is = ap (λ z. end_at z Client) is;
       server_is = ap (λ z. end_at z Server) is ∙ rest.server;
       nodes = ap (λ (z : World). z.nodes) is;
       links = ap (λ (z : World). z.links) is;
     }) in
-    let offer_rest : IsAtRest x.offered (offer r.1 k (money k)).1 hops f n = client_calls (λ z. offer z k (money k)) x.opened x.offered r.1 hops f n k _ open_rest (x.offers.4 ∙ x.offers.3.1) in
-    let write_is = write_rest (input k) k (outgoing_at (end_at x.offered Client).sending k) x.offered v (offer r.1 k (money k)).1 hops f n offer_rest x.writes_first in
-    let at : outgoing_at (end_at x.offered Client).sending k ≡ outgoing_at (offer r.1 k (money k)).1.sending k = ap (λ (z : EndState). outgoing_at z.sending k) offer_rest.client in
-    let done : IsAtRest v (begun input money (Ok k, r.1)) hops f n = subst (λ o. IsAtRest v (written_at (input k) (offer r.1 k (money k)).1 k o) hops f n) at write_is in
-    subst (λ z. IsAtRest v (begun input money (open_stream z)) hops f n) rest.client (subst (λ z. IsAtRest v (begun input money (z, r.1)) hops f n) number done)
+    let none_open : NoAcks o.1 = acks_opened (end_at w Client) (own_number (end_at w Client)) (λ j. ap (λ (z : EndState). acked_of (outgoing_at z.sending j)) rest.client ∙ none j) in
+    let offer_rest : IsAtRest x.offered (offer o.1 k (money k)).1 hops f n = client_calls (λ z. offer z k (money k)) x.opened x.offered o.1 hops f n k _ open_rest (x.offers.4 ∙ x.offers.3.1) in
+    let opened_reached = reached_met c (OpenStream Client ∷ []) w x.opened r (x.opened, Opened (Ok k), tt, x.opens, refl) in
+    let offered_reached = reached_met c (Offer Client k (money k) ∷ []) x.opened x.offered opened_reached x.offers in
+    let acked = acks_offered o.1 k (money k) none_open k ∙ sym (unread k) in
+    let write_is : IsAtRest v (begun input money (Ok k, o.1)) hops f n = write_rest c (input k) k x.offered v (offer o.1 k (money k)).1 hops f n offered_reached offer_rest acked x.writes_first in (
+      subst (λ z. IsAtRest v (begun input money (open_stream z)) hops f n) rest.client (subst (λ z. IsAtRest v (begun input money (z, o.1)) hops f n) number write_is),
+      reached_met c (writes (input k) k (ledger_at x.offered Client k)) x.offered v offered_reached x.writes_first,
+    )
 
-begins_all : (input : ℕ → List ℕ) (money : ℕ → ℕ) (count : ℕ) (w v : World) (e : EndState) (hops : List Hop) (f : EndState) (n : ℕ) → IsAtRest w e hops f n → BeginsEach input money count w v → IsAtRest v (begin_each input money count e) hops f n
+begins_all : (c : Chain) (input : ℕ → List ℕ) (money : ℕ → ℕ) (count : ℕ) (w v : World) (e : EndState) (hops : List Hop) (f : EndState) (n : ℕ) → IsReachedBy c w → IsAtRest w e hops f n → NoAcks e → NoReads f → BeginsEach input money count w v
+    → IsAtRest v (begin_each input money count e) hops f n × IsReachedBy c v
 unfolding begin_each
-begins_all input money zero w v e hops f n rest run = subst (λ z. IsAtRest z e hops f n) (sym run) rest
-begins_all input money (suc m) w v e hops f n rest run = begins_all input money m run.0 v (begun input money (open_stream e)) hops f n (begins_rest input money w run.0 e hops f n rest run.1) run.2
+begins_all c input money zero w v e hops f n r rest none unread run = (subst (λ z. IsAtRest z e hops f n) (sym run) rest, subst (IsReachedBy c) (sym run) r)
+begins_all c input money (suc m) w v e hops f n r rest none unread run =
+    let one = begins_rest c input money w run.0 e hops f n r rest none unread run.1 in
+    begins_all c input money m run.0 v (begun input money (open_stream e)) hops f n one.1 one.0 (acks_begun input money e (own_number e) none) unread run.2
 
 long_replicate : {A : Type 0} (n : ℕ) (x : A) → length (replicate n x) ≡ n
 long_replicate zero x = refl
@@ -199,10 +275,13 @@ calm_tables destination sent most left all (t ∷ ts) few modest room = (
 
 -- ---- the run
 
+no_reads : (input : ℕ → List ℕ) (e f : EndState) → Stands input e f → NoAcks e → NoReads f
+no_reads input e f s none k = sym (acked_from input e f s k) ∙ none k
+
 pub run_crosses : (c : Chain) (input : ℕ → List ℕ) (money : ℕ → ℕ) (count limit m : ℕ) (v : World) → MayRun c input money count limit → QuietRun c input money count limit m v
     → (let e = opening_client c input money count in let f = allow_each money 0 65 (new_end roles.Server (keys_of c.secret) c.server c.client c.config) in
-    Stands input e f × AreCalm e.peer e.sending (map state_of (map new_node c.hops)) × AreCrossed input limit m e (map state_of (map new_node c.hops)) f m v)
-run_crosses c input money count limit m v may run = (stands, calm, subst (λ k. AreCrossed input limit m e hops f k v) (let same : 0 + m ≡ m = omega arith in same) all)
+    Stands input e f × AreCalm e.peer e.sending (map state_of (map new_node c.hops)) × AreCrossed c input limit m e (map state_of (map new_node c.hops)) f m v)
+run_crosses c input money count limit m v may run = (stands, calm, subst (λ k. AreCrossed c input limit m e hops f k v) (let same : 0 + m ≡ m = omega arith in same) all)
   where
     n : ℕ → ℕ
     n = lengths input
@@ -246,9 +325,15 @@ run_crosses c input money count limit m v may run = (stands, calm, subst (λ k. 
     long : length hops ≡ length c.hops
     long = map_long c.hops
 
-    all : AreCrossed input limit m e hops f (0 + m) v
-    all = rounds_cross input limit m e hops f 0 run.begun v may.reads may.input_fits stands calm (let few = may.few_hops in omega (arith, few, long)) packets begun_is.unclosed
-        (begins_all input money count run.allowed run.begun _ hops f 0 (allows_rest money 0 65 (opening c) run.allowed _ hops _ 0 (opening_rests c) run.allows_each) run.begins_each)
+    unread : NoReads f
+    unread = no_reads input e f stands (acks_begun_each input money count (new_end roles.Client (keys_of c.secret) c.client c.server c.config) (no_acks_first roles.Client (keys_of c.secret) c.client c.server c.config))
+
+    begun_rest : IsAtRest run.begun e hops f 0 × IsReachedBy c run.begun
+    begun_rest = begins_all c input money count run.allowed run.begun _ hops f 0 (reached_met c (allows money 0 65) (opening c) run.allowed (reached_first c) run.allows_each)
+        (allows_rest money 0 65 (opening c) run.allowed _ hops _ 0 (opening_rests c) run.allows_each) (no_acks_first roles.Client (keys_of c.secret) c.client c.server c.config) unread run.begins_each
+
+    all : AreCrossed c input limit m e hops f (0 + m) v
+    all = rounds_cross c input limit m e hops f 0 run.begun v may.reads may.input_fits stands calm (let few = may.few_hops in omega (arith, few, long)) packets begun_is.unclosed begun_rest.1 begun_rest.0
         (subst (λ k. Rounds input limit k 0 m run.begun v) (sym long) run.rounds)
 
 -- ---- what it leaves
@@ -280,7 +365,7 @@ module _ (c : Chain) (input : ℕ → List ℕ) (money : ℕ → ℕ) (count lim
   stands : Stands input first far_end
   stands = (run_crosses c input money count limit m v may run).0
 
-  crossed : AreCrossed input limit m first (map state_of (map new_node c.hops)) far_end m v
+  crossed : AreCrossed c input limit m first (map state_of (map new_node c.hops)) far_end m v
   crossed = (run_crosses c input money count limit m v may run).2
 
   turns : Turns input limit m first far_end crossed.client crossed.server
@@ -305,3 +390,22 @@ module _ (c : Chain) (input : ℕ → List ℕ) (money : ℕ → ℕ) (count lim
       let done = nothing_left (lengths input) crossed.client quiet crossed.unclosed (subst GoesNone crossed.rests.client none) in
       subst (λ (z : EndState). ((incoming_at z.receiving k).held.read ≡ length (input k)) × ((incoming_at z.receiving k).credited ≡ x.offered)) (sym crossed.rests.server)
       (run_delivered roles.Client (keys_of c.secret) c.client c.server c.config c.config input money count limit m k crossed.client crossed.server x may.may_send may.input_fits may.money_fits turns done (subst (λ (z : EndState). outgoing_at z.sending k ≡ Some x) crossed.rests.client at))
+
+  same_list : (xs ys : List ℕ) → IsPrefixOf xs ys → length xs ≡ length ys → xs ≡ ys
+  same_list xs ys (rest, is) long = by rest is
+    where
+      by : (rest : List ℕ) → xs ++ rest ≡ ys → xs ≡ ys
+      by [] is = sym (append-nil xs) ∙ is
+      by (b ∷ bs) is = absurd (let all : length (xs ++ b ∷ bs) ≡ length ys = ap length is in let sum = length-append xs (b ∷ bs) in omega (arith, all, sum, long))
+
+  pub run_reads_whole : (k : ℕ) (x : Outgoing) → GoesNone (end_at v Client) → outgoing_at (end_at v Client).sending k ≡ Some x → ((ledger_at v Client k).read ≡ (ledger_at v Client k).written) × (length (ledger_at v Client k).read ≡ length (input k))
+  run_reads_whole k x none at =
+      let quiet = turns_quiet input limit m first far_end crossed.client crossed.server may.input_fits stands turns in
+      let done = nothing_left (lengths input) crossed.client quiet crossed.unclosed (subst GoesNone crossed.rests.client none) in
+      let here : outgoing_at crossed.client.sending k ≡ Some x = subst (λ (z : EndState). outgoing_at z.sending k ≡ Some x) crossed.rests.client at in
+      let all = all_done (lengths input) crossed.client.sending k x quiet done here in
+      let told = ledgered c v crossed.client crossed.others crossed.server m k crossed.is_reached crossed.rests in
+      let written = subst (OutFine (ledger_at v Client k).written) here told.written in
+      let read = (run_delivers k x none at).0 in
+      let count : length (ledger_at v Client k).read ≡ length (input k) = told.read ∙ ap (λ (z : EndState). (incoming_at z.receiving k).held.read) (sym crossed.rests.server) ∙ read in
+      (same_list (ledger_at v Client k).read (ledger_at v Client k).written (ledger_prefix c v k crossed.is_reached) (count ∙ sym all.all_bytes ∙ written.0), count)

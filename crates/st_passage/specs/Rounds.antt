@@ -1,20 +1,18 @@
 -- A quiet run in a world of st_world, by its events: the opening, and round by round a Send, its passing, reads and writes.
-use Rattle.std.specs.Prelude.{◌≡◌, ℕ, zero, suc, ◌+◌, ◌<◌, ◌≤◌, Bool, ℤ, List, [], ◌∷◌, length, map, sum, nat_eq, if◌then◌else◌, Ok}
+use Rattle.std.specs.Prelude.{◌≡◌, ℕ, zero, suc, ◌+◌, ◌-◌, ◌<◌, ◌≤◌, Bool, ℤ, List, [], ◌∷◌, length, map, take, drop, sum, nat_eq, if◌then◌else◌, Ok}
 use Rattle.std.specs.List.{AllByRecursion, range_with_len}
-use Rattle.std.specs.declared.option.Option.{Option}
-use Rattle.std.specs.declared.option.Option.TheVariants.{None, Some}
 use Rattle.st_keys.specs.Keys.{keys_of}
-use Rattle.st_sender.specs.Sending.{Outgoing, outgoing_at}
 use Rattle.st_end.specs.declared.role.Role.TheVariants as roles
 use Rattle.st_end.specs.State.{EndState, new_end}
 use Rattle.st_world.specs.Sides.{Client, Server}
-use Rattle.st_world.specs.State.{World, end_at}
+use Rattle.st_world.specs.State.{World, ledger_at}
+use Rattle.st_world.specs.Ledgers.{Ledger}
 use Rattle.st_world.specs.Events.{Close, Event, IsEvent, Offer, OpenStream, Opened, Read, ReceiveMax, Send, Sent, Write}
 use Rattle.st_world.specs.Steps.{Step}
 use Rattle.st_world.specs.Runs.{Chain, Table, new_node, opening}
 use Rattle.st_quiet.specs.Left.{work_left}
 use Rattle.st_quiet.specs.Exchanges.{IsModest}
-use Rattle.st_quiet.specs.Calls.{MaySend, begin_each, fitting, lengths}
+use Rattle.st_quiet.specs.Calls.{MaySend, begin_each, lengths}
 use Rattle.st_passage.specs.Calm.{LeadsOn}
 use Rattle.st_passage.specs.Worlds.{Met, passing}
 
@@ -23,18 +21,21 @@ unfoldable pub reads : (limit first count : ℕ) → List Event
 reads limit first zero = []
 reads limit first (suc m) = Read Server first limit ∷ reads limit (first + 1) m
 
--- a write of what fits of a stream's input, and a close where that was its end
+-- as much of the rest of a stream's input as fits, by what was written and read of it so far
+abbrev pub fits : List ℕ → Ledger → List ℕ
+fits xs l = take (length l.read + 262144 - length l.written) (drop (length l.written) xs)
+
+-- a write of it, and a close where that is its end
 abbrev pub close_if : Bool → (stream : ℕ) → List Event
 close_if b k = if b then Close Client k ∷ [] else []
 
-abbrev pub writes : List ℕ → (stream : ℕ) → Option Outgoing → List Event
-writes xs k None = []
-writes xs k (Some x) = Write Client k (fitting xs x) ∷ close_if (nat_eq (x.accepted + length (fitting xs x)) (length xs)) k
+abbrev pub writes : List ℕ → (stream : ℕ) → Ledger → List Event
+writes xs k l = Write Client k (fits xs l) ∷ close_if (nat_eq (length l.written + length (fits xs l)) (length xs)) k
 
 -- of each stream at the client
 abbrev pub Writes : (input : ℕ → List ℕ) → (first count : ℕ) → World → World → Type 0
 Writes input first zero w v = v ≡ w
-Writes input first (suc m) w v = (mid : World) × Met w (writes (input first) first (outgoing_at (end_at w Client).sending first)) mid × Writes input (first + 1) m mid v
+Writes input first (suc m) w v = (mid : World) × Met w (writes (input first) first (ledger_at w Client first)) mid × Writes input (first + 1) m mid v
 
 -- what goes over so many hops, all at one moment
 pub record Round (input : ℕ → List ℕ) (limit hops count : ℕ) (w v : World) : Type 0 where
@@ -68,7 +69,7 @@ pub record Begins (input : ℕ → List ℕ) (money : ℕ → ℕ) (w v : World)
   pub offered : World
   pub opens : Step w (OpenStream Client) (Opened (Ok stream)) opened
   pub offers : Met opened (Offer Client stream (money stream) ∷ []) offered
-  pub writes_first : Met offered (writes (input stream) stream (outgoing_at (end_at offered Client).sending stream)) v
+  pub writes_first : Met offered (writes (input stream) stream (ledger_at offered Client stream)) v
 
 -- so many of them
 abbrev pub BeginsEach : (ℕ → List ℕ) → (ℕ → ℕ) → (count : ℕ) → World → World → Type 0

@@ -29,7 +29,7 @@ ghost use Rattle.st_world.specs.Events.{Send, Sent};
 ghost use Rattle.st_world.specs.Steps.{Step};
 ghost use Rattle.st_passage.specs.Chains.{Crossing, Crossings, Stands};
 ghost use Rattle.st_world.specs.Sides.{Server};
-ghost use Rattle.st_world.specs.State.{end_at, lane_at};
+ghost use Rattle.st_world.specs.State.{end_at, lane_at, ledger_at};
 ghost use Rattle.st_world.specs.Runs.{Chain};
 ghost use Rattle.st_end.specs.Sending.{GoesNone};
 ghost use Rattle.st_passage.specs.Rounds.{MayRun, QuietRun, opening_client};
@@ -86,7 +86,7 @@ pub fn a_prepare_crosses_a_world()
 {}
 
 /// So a quiet run of a world, by its events from where nothing has happened, has no more Sends than the bound. Where then none
-/// goes, each stream's input was read whole, and its money was credited.
+/// goes, each stream's input was read whole, all that was written of it, and its money was credited.
 pub fn a_quiet_run_of_a_world_is_bounded()
     ensures bounded { (c : Chain) (input : ℕ → List ℕ) (money : ℕ → ℕ) (count limit m : ℕ) (v : World) → MayRun c input money count limit → QuietRun c input money count limit m v
         → m + 1 ≤ bound (lengths input) (opening_client c input money count).sending }
@@ -97,4 +97,7 @@ pub fn a_quiet_run_of_a_world_is_bounded()
     ensures delivered { (c : Chain) (input : ℕ → List ℕ) (money : ℕ → ℕ) (count limit m k : ℕ) (v : World) (x : Outgoing) → MayRun c input money count limit → QuietRun c input money count limit m v
         → GoesNone (end_at v Client) → outgoing_at (end_at v Client).sending k ≡ Some x
         → ((incoming_at (end_at v Server).receiving k).held.read ≡ length (input k)) × ((incoming_at (end_at v Server).receiving k).credited ≡ x.offered) }
+    ensures whole { (c : Chain) (input : ℕ → List ℕ) (money : ℕ → ℕ) (count limit m k : ℕ) (v : World) (x : Outgoing) → MayRun c input money count limit → QuietRun c input money count limit m v
+        → GoesNone (end_at v Client) → outgoing_at (end_at v Client).sending k ≡ Some x
+        → ((ledger_at v Client k).read ≡ (ledger_at v Client k).written) × (length (ledger_at v Client k).read ≡ length (input k)) }
 {}
