@@ -1,13 +1,11 @@
-//! Worked packets.
+//! Worked STREAM packets.
 
-use st_frames::{Frame, FrameError, MAX_PACKET, put_packet, read_packet, write_packet};
-use std::test::Fail;
+use crate::messages::is_behind;
+use st_frames::{Frame, FrameError, MAX_PACKET, read_packet, write_packet};
+use std::alloc::Global;
 
 /// Kind 12, sequence 1, amount 0, one frame: StreamData, stream 1, offset 0, "hi".
-const HI: [u8; 17] = [
-    0x01, 0x0c, 0x01, 0x01, 0x01, 0x00, 0x01, 0x01, 0x14, 0x07, 0x01, 0x01, 0x01, 0x00, 0x02, 0x68,
-    0x69,
-];
+const HI: &[u8; 17] = b"\x01\x0c\x01\x01\x01\0\x01\x01\x14\x07\x01\x01\x01\0\x02hi";
 
 /// Kind 12, sequence 1, amount 0, one frame.
 const HEAD: [u8; 8] = [0x01, 0x0c, 0x01, 0x01, 0x01, 0x00, 0x01, 0x01];
@@ -18,30 +16,51 @@ fn refusal(bytes: &[u8]) -> Option<(u8, Option<u64>)> {
     Some((error.number(), error.inner()))
 }
 
-/// Whether bytes are a packet of kind 12, sequence 1 and amount 0 with "hi" of stream 1 at this index and no other known frame.
-fn says_hi(bytes: &[u8], index: u64) -> bool {
+/// Whether bytes are a packet of kind 12, sequence 1 and amount 0 with this frame at this index and no other known frame.
+fn says(bytes: &[u8], index: u64, frame: Frame<'_>) -> bool {
+    let Ok(packet) = read_packet(bytes, 12) else {
+        return false;
+    };
+    let mut frames = packet.frames;
+    frames.next() == Some((index, frame))
+        && frames.next() == None
+        && (packet.sequence, packet.amount) == (1, 0)
+}
+
+#[test]
+fn packets_are_read(rt: HostRuntime) {
     let hi = Frame::StreamData {
         stream: 1,
         offset: 0,
         bytes: b"hi",
     };
-    let Ok(packet) = read_packet(bytes, 12) else {
-        return false;
+    let greatest = Frame::ConnectionMaxData {
+        max_offset: u64::MAX,
     };
-    let mut frames = packet.frames;
-    frames.next() == Some((index, hi))
-        && frames.next() == None
-        && packet.sequence == 1
-        && packet.amount == 0
-}
-
-#[test]
-fn packets_read(rt: HostRuntime) {
-    assert!(rt; says_hi(&HI, 0));
-    let trailing = b"\x01\x0c\x01\x01\x01\0\x01\x01\x14\x07\x01\x01\x01\0\x02\x68\x69\xff\xff";
-    assert!(rt; says_hi(trailing, 0));
-    let skipped = b"\x01\x0c\x01\x01\x01\0\x01\x02\x99\x01\0\x14\x07\x01\x01\x01\0\x02\x68\x69";
-    assert!(rt; says_hi(skipped, 1));
+    let rows: [(&[u8], u64, Frame<'_>); 4] = [
+        (HI, 0, hi),
+        // bytes behind the last frame
+        (
+            b"\x01\x0c\x01\x01\x01\0\x01\x01\x14\x07\x01\x01\x01\0\x02hi\xff\xff",
+            0,
+            hi,
+        ),
+        // an unknown frame in front
+        (
+            b"\x01\x0c\x01\x01\x01\0\x01\x02\x99\x01\0\x14\x07\x01\x01\x01\0\x02hi",
+            1,
+            hi,
+        ),
+        // a limit of nine bytes
+        (
+            b"\x01\x0c\x01\x01\x01\0\x01\x01\x03\x0a\x09\x01\0\0\0\0\0\0\0\0",
+            0,
+            greatest,
+        ),
+    ];
+    for (bytes, index, frame) in rows {
+        assert!(rt; says(bytes, index, frame), "{bytes:?}");
+    }
 }
 
 /// Bytes that are no packet of kind 12, each with the number of its refusal and the one inside.
@@ -79,18 +98,12 @@ const REFUSED: [(&[u8], (u8, Option<u64>)); 9] = [
 ];
 
 #[test]
-fn packets_refused(rt: HostRuntime) {
+fn packets_are_refused(rt: HostRuntime) {
     for (bytes, want) in REFUSED {
         assert!(rt; refusal(bytes) == Some(want), "{bytes:?}");
     }
-    assert!(rt; read_packet(&HI, 13).err() == Some(FrameError::Kind));
-}
-
-#[test]
-fn longer_packets_are_refused(rt: HostRuntime) -> Result<(), Fail> {
-    let long = vec![in rt.alloc(); 1u8; MAX_PACKET + 1]?;
-    assert!(rt; refusal(&long) == Some((24, None)));
-    Ok(())
+    sure!(&rt; read_packet(HI, 13).err() == Some(FrameError::Kind));
+    sure!(&rt; refusal(&[1; MAX_PACKET + 1]) == Some((24, None)));
 }
 
 /// Each frame type, and its bytes by RFC 0029, section 5.3.
@@ -180,97 +193,58 @@ fn samples() -> [(&'static [u8], Frame<'static>); 13] {
     ]
 }
 
+/// Whether a packet with one frame is written so, and read again.
+fn is_both_ways(alloc: Global, bytes: &[u8], frame: Frame<'_>) -> bool {
+    match write_packet(alloc, 12, 1, 0, &[frame]) {
+        Ok(packet) => is_behind(&packet, &HEAD, bytes) && says(&packet, 0, frame),
+        Err(_) => false,
+    }
+}
+
 #[test]
-fn each_frame_both_ways(rt: HostRuntime) -> Result<(), Fail> {
+fn each_frame_both_ways(rt: HostRuntime) {
     for (bytes, frame) in samples() {
-        let mut packet = HEAD.to_vec(rt.alloc())?;
-        packet.extend_from_slice(bytes)?;
-        let read = read_packet(&packet, 12)?;
-        let mut frames = read.frames.again();
-        assert!(rt; frames.next() == Some((0, frame)));
-        assert!(rt; frames.next() == None);
-        assert!(rt; write_packet(rt.alloc(), 12, 1, 0, &[frame])?.as_slice() == packet.as_slice());
+        assert!(rt; is_both_ways(rt.alloc(), bytes, frame), "{bytes:?}");
     }
-    Ok(())
 }
 
-#[test]
-fn a_limit_of_nine_bytes(rt: HostRuntime) -> Result<(), Fail> {
-    let bytes = b"\x01\x0c\x01\x01\x01\0\x01\x01\x03\x0a\x09\x01\0\0\0\0\0\0\0\0";
-    let mut frames = read_packet(bytes, 12)?.frames;
-    assert!(rt;
-        frames.next()
-            == Some((
-                0,
-                Frame::ConnectionMaxData {
-                    max_offset: u64::MAX
-                }
-            ))
-    );
-    Ok(())
-}
-
-#[test]
-fn packets_written(rt: HostRuntime) -> Result<(), Fail> {
-    let hi = [Frame::StreamData {
-        stream: 1,
-        offset: 0,
-        bytes: b"hi",
-    }];
-    assert!(rt; write_packet(rt.alloc(), 12, 1, 0, &hi)?.as_slice() == HI.as_slice());
-    let empty = write_packet(rt.alloc(), 14, 256, 1, &[])?;
-    assert!(rt; empty.as_slice() == b"\x01\x0e\x02\x01\0\x01\x01\x01\0".as_slice());
-    let many = [Frame::ConnectionMaxData { max_offset: 0 }; 300];
-    let text = write_packet(rt.alloc(), 12, 1, 0, &many)?;
-    assert!(rt; text.len() == 1_209);
-    let mut read = 0u64;
-    for (_, frame) in read_packet(&text, 12)?.frames {
-        assert!(rt; frame == Frame::ConnectionMaxData { max_offset: 0 });
-        read = read.saturating_add(1);
+/// Whether a packet of another kind and without frames is written so.
+fn is_written(alloc: Global, bytes: &[u8]) -> bool {
+    match write_packet(alloc, 14, 256, 1, &[]) {
+        Ok(packet) => packet.as_slice() == bytes,
+        Err(_) => false,
     }
-    assert!(rt; read == 300);
-    Ok(())
 }
 
-#[test]
-fn a_packet_is_appended(rt: HostRuntime) -> Result<(), Fail> {
-    let hi = Frame::StreamData {
-        stream: 1,
-        offset: 0,
-        bytes: b"hi",
-    };
-    let mut out = b"ab".to_vec(rt.alloc())?;
-    put_packet(&mut out, 12, 1, 0, &[hi])?;
-    let mut want = b"ab".to_vec(rt.alloc())?;
-    want.extend_from_slice(&HI)?;
-    assert!(rt; out.as_slice() == want.as_slice());
-    let nowhere = Frame::ConnectionNewAddress { address: "a..b" };
-    let refused = put_packet(&mut out, 12, 1, 0, &[hi, nowhere]);
-    assert!(rt; refused == Err(FrameError::FrameFormat(1)));
-    assert!(rt; out.as_slice() == want.as_slice());
-    Ok(())
+/// How many frames a packet has that all allow nothing.
+fn count(bytes: &[u8]) -> Option<u64> {
+    let mut count = 0u64;
+    for (_, frame) in read_packet(bytes, 12).ok()?.frames {
+        if frame != (Frame::ConnectionMaxData { max_offset: 0 }) {
+            return None;
+        }
+        count = count.saturating_add(1);
+    }
+    Some(count)
 }
 
-#[test]
-fn packets_not_written(rt: HostRuntime) -> Result<(), Fail> {
-    // the longest data of a packet with one frame, and one byte more
-    let data = vec![in rt.alloc(); 7u8; 32_721]?;
-    let fits = [Frame::StreamData {
-        stream: 1,
-        offset: 0,
-        bytes: &data[..32_720],
-    }];
-    assert!(rt; write_packet(rt.alloc(), 12, 1, 0, &fits)?.len() == MAX_PACKET);
-    let long = Frame::StreamData {
-        stream: 1,
-        offset: 0,
-        bytes: &data,
-    };
-    assert!(rt; write_packet(rt.alloc(), 12, 1, 0, &[long]).err() == Some(FrameError::TooLong));
-    let nowhere = Frame::ConnectionNewAddress { address: "a..b" };
-    assert!(rt;
-        write_packet(rt.alloc(), 12, 1, 0, &[long, nowhere]).err()
-            == Some(FrameError::FrameFormat(1))
+/// The length and the frames of a packet of 300.
+fn many(alloc: Global) -> Option<(usize, u64)> {
+    let packet = write_packet(
+        alloc,
+        12,
+        1,
+        0,
+        &[Frame::ConnectionMaxData { max_offset: 0 }; 300],
     );
-    Ok(())
+    match packet {
+        Ok(bytes) => Some((bytes.len(), count(&bytes)?)),
+        Err(_) => None,
+    }
+}
+
+#[test]
+fn packets_are_written(rt: HostRuntime) {
+    sure!(&rt; is_written(rt.alloc(), b"\x01\x0e\x02\x01\0\x01\x01\x01\0"));
+    sure!(&rt; many(rt.alloc()) == Some((1_209, 300)));
 }

@@ -20,10 +20,9 @@ fn read_back(bytes: &[u8]) -> Result<(u64, &[u8], &[u8]), OerError> {
 }
 
 #[test]
-fn fields_are_written_and_read(rt: HostRuntime) -> Result<(), std::test::Fail> {
-    let out = spelled(rt.alloc(), 256, b"hi")?;
-    assert!(rt; out.as_slice() == b"\x02\x01\0\x02hi".as_slice());
+fn fields_are_written_and_read(rt: HostRuntime) {
+    let out = spelled(rt.alloc(), 256, b"hi").expect(&rt, "there is memory");
+    sure!(&rt; out.as_slice() == b"\x02\x01\0\x02hi".as_slice());
     let want = (256, b"hi".as_slice(), b"!".as_slice());
-    assert!(rt; read_back(b"\x02\x01\0\x02hi!") == Ok(want));
-    Ok(())
+    sure!(&rt; read_back(b"\x02\x01\0\x02hi!") == Ok(want));
 }

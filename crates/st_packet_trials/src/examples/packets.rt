@@ -15,6 +15,6 @@ fn first_data(packet: &[u8]) -> Result<Option<(u64, &[u8])>, FrameError> {
 #[test]
 fn a_packet_is_read(rt: HostRuntime) {
     let packet = b"\x01\x0c\x01\x01\x01\0\x01\x01\x14\x07\x01\x01\x01\0\x02hi";
-    assert!(rt; first_data(packet) == Ok(Some((0, b"hi".as_slice()))));
-    assert!(rt; first_data(b"\x02") == Err(FrameError::Version));
+    sure!(&rt; first_data(packet) == Ok(Some((0, b"hi".as_slice()))));
+    sure!(&rt; first_data(b"\x02") == Err(FrameError::Version));
 }

@@ -15,12 +15,17 @@ fn offer<A: Allocator>(alloc: A, payload: &[u8]) -> Result<Vec<u8, A>, IlpError>
     write_prepare(alloc, &prepare)
 }
 
+/// Whether bytes are a Prepare of five units with this data.
+fn is_read(bytes: &[u8], payload: &[u8]) -> bool {
+    match st_ilp::read_prepare(bytes) {
+        Ok(prepare) => prepare.amount == 5 && prepare.payload == payload,
+        Err(_) => false,
+    }
+}
+
 #[test]
-fn a_prepare_is_written_and_read(rt: HostRuntime) -> Result<(), std::test::Fail> {
-    let bytes = offer(rt.alloc(), b"hi")?;
-    assert!(rt; bytes.len() == 72);
-    let prepare = st_ilp::read_prepare(&bytes)?;
-    assert!(rt; prepare.amount == 5);
-    assert!(rt; prepare.payload == b"hi".as_slice());
-    Ok(())
+fn a_prepare_is_written_and_read(rt: HostRuntime) {
+    let bytes = offer(rt.alloc(), b"hi").expect(&rt, "there is memory");
+    sure!(&rt; bytes.len() == 72);
+    sure!(&rt; is_read(&bytes, b"hi"));
 }
