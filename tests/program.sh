@@ -247,6 +247,20 @@ done
 wait $!
 same 'a full file for totals' $'1\nfault 91' "$?"$'\n'"$(cat "$room/err")"
 
+# A good table of which the read behind its last line fails: it stands at a terminal that goes away.
+cat >"$room/cut.py" <<'PYTHON'
+import os, pty, subprocess, sys, tty
+above, below = pty.openpty()
+tty.setraw(below)
+os.write(below, sys.stdin.buffer.read())
+os.close(below)
+sys.exit(subprocess.run(sys.argv[1:], stdin=above).returncode)
+PYTHON
+program=python3
+run "$room/cut.py" "$top/ilpstream" "${connector[@]}" <<<"$table"
+same 'a table that breaks off' $'\n--\nfault 90\n--\n1' "$(told)"
+program=$top/ilpstream
+
 # A file and money from a sender through a connector to a receiver, by the example, on ports of its own. What the sender paid
 # the connector claims from its account, and what it owes the receiver's is the receiver's credit.
 program=$top/examples/transfer/run
@@ -361,7 +375,7 @@ an input that fails: send 90, receive waits, nothing
 # one account needs no more than that; a receiver that cannot answer waits for a request that it can.
 run "$top/tests/tight.py" "$top/crates/ilpstream/out/ilpstream"
 same 'too little memory' $'\n0' "$(grep -E 'WRONG' <<<"$out")$err"$'\n'"$status"
-for told in 'local: fault 99, well' 'connector: ' 'waits, well' 'send: fault '; do
+for told in 'words: fault 99, well' 'local: fault 99, well' 'connector: ' 'waits, well' 'send: fault '; do
     has 'too little memory' "$out" "$told"
 done
 

@@ -81,6 +81,11 @@ def local(given):
     return lambda space: Run(["local", "--hops=2"], space, given).ending(INPUT)
 
 
+def words():
+    """The version, asked for with words that want 500 kB."""
+    return lambda space: Run(["--version", *["x" * 100_000] * 5], space).ending(b"ilpstream 0.1.0\n")
+
+
 def connector(table):
     def run(space):
         port = free_port()
@@ -136,6 +141,7 @@ def main():
                 file.write(held)
         low = least()
         for name, run in (
+            ("words", words()),
             ("local", local(bytes_)),
             ("connector", connector(table)),
             ("receive", transfer(bytes_, "receive")),
