@@ -31,7 +31,7 @@ use Rattle.st_world.proofs.DataSent.{OutFine}
 use Rattle.st_quiet.proofs.Bound.{all_done, within_bound}
 use Rattle.st_quiet.proofs.Beginning.{IsBegun, calls_begun}
 use Rattle.st_quiet.proofs.SameEnds.{begin_same}
-use Rattle.st_quiet.proofs.Rounds.{rounds_lower}
+use Rattle.st_quiet.proofs.Rounds.{offer_of, rounds_lower}
 use Rattle.st_quiet.proofs.Exchanging.{exchanges_rounds}
 use Rattle.st_quiet.proofs.Running.{run_delivered}
 use Rattle.st_quiet.proofs.Trips.{goes_sends, receiving_still, trips_exchanges}
@@ -79,6 +79,7 @@ pub record AreCrossed (c : Chain) (input : ℕ → List ℕ) (limit m : ℕ) (e 
   pub rests : IsAtRest v client others server n
   pub unclosed : client.receiving.closed ≡ false
   pub is_reached : IsReachedBy c v
+  pub offers : (k : ℕ) → offer_of (outgoing_at client.sending k) ≡ offer_of (outgoing_at e.sending k)
 
 -- the Prepares of the connection suffice for the rest
 abbrev HasPackets : (ℕ → List ℕ) → EndState → Type 0
@@ -112,6 +113,7 @@ rounds_cross c input limit zero e hops f n w v room modest s calm few packets un
   rests = subst (λ z. IsAtRest z e hops f (n + 0)) (sym run) (subst (IsAtRest w e hops f) (let same : n ≡ n + 0 = omega arith in same) rest);
   unclosed = unclosed;
   is_reached = subst (IsReachedBy c) (sym run) is_reached;
+  offers = λ k. refl;
 }
 rounds_cross c input limit (suc m) e hops f n w v room modest s calm few packets unclosed is_reached rest run =
     let mid = run.0 in
@@ -132,6 +134,7 @@ rounds_cross c input limit (suc m) e hops f n w v room modest s calm few packets
       rests = subst (IsAtRest v all.client all.others all.server) (let same : suc n + m ≡ n + suc m = omega arith in same) all.rests;
       unclosed = all.unclosed;
       is_reached = all.is_reached;
+      offers = λ k. all.offers k ∙ (turn_spends input limit e f one.client one.server modest s.quiet s.abreast s.joined s.tellable s.held_back turn).offers k;
     }
   where
     next : (last left packets : ℕ) → 0 < left → last + left < packets → last + 1 < packets
@@ -382,6 +385,21 @@ module _ (c : Chain) (input : ℕ → List ℕ) (money : ℕ → ℕ) (count lim
 
   pub run_puts : length (lane_at v 0 Client).puts ≡ m
   run_puts = (crossed.rests.lanes 0 (omega arith)).puts
+
+  -- a stream that is open at the opening, and only that, is open at the end, with its money offered
+  pub run_offers : (k : ℕ) → offer_of (outgoing_at (end_at v Client).sending k) ≡ offer_of (outgoing_at (opening_client c input money count).sending k)
+  run_offers k = subst (λ (z : EndState). offer_of (outgoing_at z.sending k) ≡ offer_of (outgoing_at first.sending k)) (sym crossed.rests.client) (crossed.offers k)
+
+  offered_is : (k : ℕ) (x : Outgoing) (o : Option Outgoing) → outgoing_at first.sending k ≡ o → ◌≡◌ {A = Option ℕ} (Some x.offered) (offer_of o) → x.offered ≡ money k
+  offered_is k x None at same = absurd (cc)
+  offered_is k x (Some y) at same =
+      let is : x.offered ≡ y.offered = cc in
+      let begun_is = calls_begun roles.Client (keys_of c.secret) c.client c.server c.config input money count may.input_fits may.money_fits in
+      let first_is : y.offered ≡ 0 + money k = ap (λ (z : Outgoing). z.offered) (begun_is.streams k y at).is in
+      omega (arith, is, first_is)
+
+  pub run_money : (k : ℕ) (x : Outgoing) → outgoing_at (end_at v Client).sending k ≡ Some x → x.offered ≡ money k
+  run_money k x at = offered_is k x (outgoing_at first.sending k) refl (sym (ap offer_of at) ∙ run_offers k)
 
   pub run_delivers : (k : ℕ) (x : Outgoing) → GoesNone (end_at v Client) → outgoing_at (end_at v Client).sending k ≡ Some x
       → ((incoming_at (end_at v Server).receiving k).held.read ≡ length (input k)) × ((incoming_at (end_at v Server).receiving k).credited ≡ x.offered)

@@ -96,7 +96,7 @@ pub fn a_quiet_run_of_a_world_is_bounded()
         → length (lane_at v 0 Client).puts ≡ m }
     ensures delivered { (c : Chain) (input : ℕ → List ℕ) (money : ℕ → ℕ) (count limit m k : ℕ) (v : World) (x : Outgoing) → MayRun c input money count limit → QuietRun c input money count limit m v
         → GoesNone (end_at v Client) → outgoing_at (end_at v Client).sending k ≡ Some x
-        → ((incoming_at (end_at v Server).receiving k).held.read ≡ length (input k)) × ((incoming_at (end_at v Server).receiving k).credited ≡ x.offered) }
+        → ((incoming_at (end_at v Server).receiving k).held.read ≡ length (input k)) × ((incoming_at (end_at v Server).receiving k).credited ≡ money k) }
     ensures whole { (c : Chain) (input : ℕ → List ℕ) (money : ℕ → ℕ) (count limit m k : ℕ) (v : World) (x : Outgoing) → MayRun c input money count limit → QuietRun c input money count limit m v
         → GoesNone (end_at v Client) → outgoing_at (end_at v Client).sending k ≡ Some x
         → ((ledger_at v Client k).read ≡ (ledger_at v Client k).written) × (length (ledger_at v Client k).read ≡ length (input k)) }

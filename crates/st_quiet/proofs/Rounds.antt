@@ -17,7 +17,7 @@ use Rattle.st_quiet.specs.Quiet.{IsQuiet, IsWaiting}
 use Rattle.st_quiet.specs.Left.{all_closes_left, all_frames_left, all_money_left, closes_left, frames_left, money_left, work_left}
 use Rattle.st_quiet.specs.Rounds.{IsRefilled, IsWritten, Refilled, Round, Rounds, TellsEnough}
 use Rattle.st_quiet.proofs.Sums.{sum_same}
-use Rattle.st_quiet.proofs.Acknowledging.{all_acked_at, all_own_acked, is_same, none_stays}
+use Rattle.st_quiet.proofs.Acknowledging.{all_acked_at, all_kept, all_own_acked, is_same, none_stays}
 use Rattle.st_quiet.proofs.Lowering.{work_lowers}
 use Rattle.st_quiet.proofs.Money.{money_after}
 use Rattle.st_quiet.proofs.Keeping.{IsLeft, left_kept}
@@ -237,12 +237,25 @@ round_keeps n s t quiet round =
       streams = λ k y here. stream_waits n s t round.limits p round.told k y quiet round.sends round.fills round.tells round.writes (outgoing_at s k) refl here;
     }
 
--- and takes its money from what was left
+-- which streams are open, and what was offered on each
+abbrev pub offer_of : Option Outgoing → Option ℕ
+offer_of None = None
+offer_of (Some x) = Some x.offered
+
+same_offer : (n : ℕ → ℕ) (s t : Sending) (p : Load) (told : List Known) (k : ℕ) (o : Option Outgoing) → outgoing_at s k ≡ o → IsWritten n (after_all_told (after_fulfilled (with_flight s p) (flight_of p)) told) t → offer_of (outgoing_at t k) ≡ offer_of o
+same_offer n s t p told k None e writes =
+    ap offer_of (alike n (after_fulfilled (with_flight s p) (flight_of p)) t told writes k None (none_stays (landed (with_flight s p) p.sequence) k p.frames e))
+same_offer n s t p told k (Some x) e writes =
+    let r = alike n (after_fulfilled (with_flight s p) (flight_of p)) t told writes k (Some (all_own_acked k p.frames x)) (all_acked_at (landed (with_flight s p) p.sequence) k p.frames x e) in
+    ap offer_of r.1 ∙ ap {B = Option ℕ} Some (r.2.offered ∙ (all_kept k p.frames x).offered)
+
+-- a round takes its money from what was left
 pub record Spends (s t : Sending) (p : Load) : Type 0 where
   pub money : all_money_left t + p.amount ≡ all_money_left s
   pub last : t.last ≡ s.last + 1
   pub packet_limit : t.packet_limit ≡ s.packet_limit
   pub config : t.config ≡ s.config
+  pub offers : (k : ℕ) → offer_of (outgoing_at t k) ≡ offer_of (outgoing_at s k)
 
 pub round_spends : (n : ℕ → ℕ) (s t : Sending) (limits : List Known) (p : Load) (told : List Known) → IsQuiet n s → Sends s limits max_packet p (with_flight s p) → IsWritten n (after_all_told (after_fulfilled (with_flight s p) (flight_of p)) told) t → Spends s t p
 round_spends n s t limits p told quiet sends writes =
@@ -256,6 +269,7 @@ round_spends n s t limits p told quiet sends writes =
       last = ap (λ (z : Sending). z.last) writes.rest ∙ heard.last ∙ acked.last ∙ ap (λ (z : Load). z.sequence) sends.load;
       packet_limit = ap (λ (z : Sending). z.packet_limit) writes.rest ∙ heard.packet_limit ∙ acked.packet_limit;
       config = ap (λ (z : Sending). z.config) writes.rest ∙ heard.config ∙ acked.config;
+      offers = λ k. same_offer n s t p told k (outgoing_at s k) refl writes;
     }
   where
     sums : (left middle amount before : ℕ) → left ≡ middle → middle + amount ≡ before → left + amount ≡ before

@@ -1,5 +1,6 @@
+use Rattle.std.proofs.Common.{◌∙◌}
 use Rattle.st_passage.proofs.laws.a_quiet_run_of_a_world_is_bounded.Goals as goal
-use Rattle.st_passage.proofs.WorldRuns.{run_delivers, run_is_bounded, run_puts, run_reads_whole, run_sharper}
+use Rattle.st_passage.proofs.WorldRuns.{run_delivers, run_is_bounded, run_money, run_puts, run_reads_whole, run_sharper}
 
 pub returns-clause-bounded : goal.returns-clause-bounded
 returns-clause-bounded g = λ c input money count limit m v may run. run_is_bounded c input money count limit m v may run
@@ -11,7 +12,8 @@ pub returns-clause-sends : goal.returns-clause-sends
 returns-clause-sends g = λ c input money count limit m v may run. run_puts c input money count limit m v may run
 
 pub returns-clause-delivered : goal.returns-clause-delivered
-returns-clause-delivered g = λ c input money count limit m k v x may run none at. run_delivers c input money count limit m v may run k x none at
+returns-clause-delivered g = λ c input money count limit m k v x may run none at.
+    (let both = run_delivers c input money count limit m v may run k x none at in (both.0, both.1 ∙ run_money c input money count limit m v may run k x at))
 
 pub returns-clause-whole : goal.returns-clause-whole
 returns-clause-whole g = λ c input money count limit m k v x may run none at. run_reads_whole c input money count limit m v may run k x none at
