@@ -5,3 +5,4 @@ pub mod Opening
 pub mod Worlds
 pub mod Rounds
 pub mod WorldRuns
+pub mod Opened

@@ -1,5 +1,5 @@
 -- A quiet run of a world from its opening on is a run of crossings, so it is as short, and delivers as much.
-use Rattle.std.proofs.Common.{◌++◌, append-nil, length-append, ◌≡◌, ℕ, Bool, zero, suc, ◌+◌, ◌^◌, ◌<◌, ◌≤◌, true, false, List, [], ◌∷◌, length, map, replicate, refl, sym, ap, subst, ◌∙◌, arith, ℤ, Option, None, Some, Result, Ok, inl, inr}
+use Rattle.std.proofs.Common.{is_some, ◌*◌, ◌++◌, append-nil, length-append, ◌≡◌, ℕ, Bool, zero, suc, ◌+◌, ◌^◌, ◌<◌, ◌≤◌, true, false, List, [], ◌∷◌, length, map, replicate, refl, sym, ap, subst, ◌∙◌, arith, ℤ, Option, None, Some, Result, Ok, inl, inr}
 use Rattle.std.specs.List.{AllByRecursion}
 use Rattle.std.proofs.lemmas.Bool.{cases_lt}
 use Rattle.st_hop.specs.Hop.{Hop}
@@ -36,6 +36,7 @@ use Rattle.st_quiet.proofs.Exchanging.{exchanges_rounds}
 use Rattle.st_quiet.proofs.Running.{run_delivered}
 use Rattle.st_quiet.proofs.Trips.{goes_sends, receiving_still, trips_exchanges}
 use Rattle.st_quiet.proofs.Turns.{turn_spends, turn_trip, turns_trips}
+use Rattle.st_passage.proofs.Opened.{OpenTo, opens_next, place_of}
 use Rattle.st_passage.specs.Calm.{AreCalm, IsCalm}
 use Rattle.st_passage.specs.Chains.{Crossing, Crossings, Stands}
 use Rattle.st_passage.specs.Worlds.{IsAtRest, Met, state_of}
@@ -208,8 +209,8 @@ acks_begun_each input money (suc m) e none = acks_begun_each input money m (begu
 abbrev NoReads : EndState → Type 0
 NoReads f = (k : ℕ) → (incoming_at f.receiving k).held.read ≡ 0
 
-begins_rest : (c : Chain) (input : ℕ → List ℕ) (money : ℕ → ℕ) (w v : World) (e : EndState) (hops : List Hop) (f : EndState) (n : ℕ) → IsReachedBy c w → IsAtRest w e hops f n → NoAcks e → NoReads f → Begins input money w v
-    → IsAtRest v (begun input money (open_stream e)) hops f n × IsReachedBy c v
+begins_rest : (c : Chain) (input : ℕ → List ℕ) (money : ℕ → ℕ) (w v : World) (e : EndState) (hops : List Hop) (f : EndState) (n : ℕ) → IsReachedBy c w → IsAtRest w e hops f n → NoAcks e → NoReads f → (x : Begins input money w v)
+    → IsAtRest v (begun input money (open_stream e)) hops f n × IsReachedBy c v × (◌≡◌ {A = Result ℕ EndError} (open_stream e).0 (Ok x.stream))
 begins_rest c input money w v e hops f n r rest none unread x =
     let k = x.stream in
     let o = open_stream (end_at w Client) in
@@ -230,15 +231,25 @@ begins_rest c input money w v e hops f n r rest none unread x =
     let write_is : IsAtRest v (begun input money (Ok k, o.1)) hops f n = write_rest c (input k) k x.offered v (offer o.1 k (money k)).1 hops f n offered_reached offer_rest acked x.writes_first in (
       subst (λ z. IsAtRest v (begun input money (open_stream z)) hops f n) rest.client (subst (λ z. IsAtRest v (begun input money (z, o.1)) hops f n) number write_is),
       reached_met c (writes (input k) k (ledger_at x.offered Client k)) x.offered v offered_reached x.writes_first,
+      ap (λ z. (open_stream z).0) (sym rest.client) ∙ sym number,
     )
 
-begins_all : (c : Chain) (input : ℕ → List ℕ) (money : ℕ → ℕ) (count : ℕ) (w v : World) (e : EndState) (hops : List Hop) (f : EndState) (n : ℕ) → IsReachedBy c w → IsAtRest w e hops f n → NoAcks e → NoReads f → BeginsEach input money count w v
-    → IsAtRest v (begin_each input money count e) hops f n × IsReachedBy c v
+begins_all : (c : Chain) (input : ℕ → List ℕ) (money : ℕ → ℕ) (count j : ℕ) (w v : World) (e : EndState) (hops : List Hop) (f : EndState) (n : ℕ) → IsReachedBy c w → IsAtRest w e hops f n → NoAcks e → NoReads f → OpenTo j e → BeginsEach input money count w v
+    → IsAtRest v (begin_each input money count e) hops f n × IsReachedBy c v × OpenTo (j + count) (begin_each input money count e)
 unfolding begin_each
-begins_all c input money zero w v e hops f n r rest none unread run = (subst (λ z. IsAtRest z e hops f n) (sym run) rest, subst (IsReachedBy c) (sym run) r)
-begins_all c input money (suc m) w v e hops f n r rest none unread run =
+begins_all c input money zero j w v e hops f n r rest none unread opened run = (subst (λ z. IsAtRest z e hops f n) (sym run) rest, subst (IsReachedBy c) (sym run) r, subst (λ m. OpenTo m e) (let same : j ≡ j + 0 = omega arith in same) opened)
+begins_all c input money (suc m) j w v e hops f n r rest none unread opened run =
     let one = begins_rest c input money w run.0 e hops f n r rest none unread run.1 in
-    begins_all c input money m run.0 v (begun input money (open_stream e)) hops f n one.1 one.0 (acks_begun input money e (own_number e) none) unread run.2
+    let all = begins_all c input money m (j + 1) run.0 v (begun input money (open_stream e)) hops f n one.1 one.0 (acks_begun input money e (own_number e) none) unread (opens_next input money j run.1.stream e opened one.2) run.2 in
+    (all.0, all.1, subst (λ l. OpenTo l (begin_each input money m (begun input money (open_stream e)))) (let same : j + 1 + m ≡ j + suc m = omega arith in same) all.2)
+
+nothing_open : (config : Config) (keys : DerivedKeys) (own peer : List ℕ) → OpenTo 0 (new_end roles.Client keys own peer config)
+nothing_open config keys own peer = record {
+  opened = λ i l. absurd (omega (arith, l));
+  left = λ i l m. ap is_some (no_slot 65 (place_of i));
+  slots = refl;
+  parity = refl;
+}
 
 long_replicate : {A : Type 0} (n : ℕ) (x : A) → length (replicate n x) ≡ n
 long_replicate zero x = refl
@@ -283,8 +294,8 @@ no_reads input e f s none k = sym (acked_from input e f s k) ∙ none k
 
 pub run_crosses : (c : Chain) (input : ℕ → List ℕ) (money : ℕ → ℕ) (count limit m : ℕ) (v : World) → MayRun c input money count limit → QuietRun c input money count limit m v
     → (let e = opening_client c input money count in let f = allow_each money 0 65 (new_end roles.Server (keys_of c.secret) c.server c.client c.config) in
-    Stands input e f × AreCalm e.peer e.sending (map state_of (map new_node c.hops)) × AreCrossed c input limit m e (map state_of (map new_node c.hops)) f m v)
-run_crosses c input money count limit m v may run = (stands, calm, subst (λ k. AreCrossed c input limit m e hops f k v) (let same : 0 + m ≡ m = omega arith in same) all)
+    Stands input e f × AreCalm e.peer e.sending (map state_of (map new_node c.hops)) × AreCrossed c input limit m e (map state_of (map new_node c.hops)) f m v × OpenTo count e)
+run_crosses c input money count limit m v may run = (stands, calm, subst (λ k. AreCrossed c input limit m e hops f k v) (let same : 0 + m ≡ m = omega arith in same) all, subst (λ l. OpenTo l e) (let same : 0 + count ≡ count = omega arith in same) begun_rest.2)
   where
     n : ℕ → ℕ
     n = lengths input
@@ -331,9 +342,9 @@ run_crosses c input money count limit m v may run = (stands, calm, subst (λ k. 
     unread : NoReads f
     unread = no_reads input e f stands (acks_begun_each input money count (new_end roles.Client (keys_of c.secret) c.client c.server c.config) (no_acks_first roles.Client (keys_of c.secret) c.client c.server c.config))
 
-    begun_rest : IsAtRest run.begun e hops f 0 × IsReachedBy c run.begun
-    begun_rest = begins_all c input money count run.allowed run.begun _ hops f 0 (reached_met c (allows money 0 65) (opening c) run.allowed (reached_first c) run.allows_each)
-        (allows_rest money 0 65 (opening c) run.allowed _ hops _ 0 (opening_rests c) run.allows_each) (no_acks_first roles.Client (keys_of c.secret) c.client c.server c.config) unread run.begins_each
+    begun_rest : IsAtRest run.begun e hops f 0 × IsReachedBy c run.begun × OpenTo (0 + count) e
+    begun_rest = begins_all c input money count 0 run.allowed run.begun _ hops f 0 (reached_met c (allows money 0 65) (opening c) run.allowed (reached_first c) run.allows_each)
+        (allows_rest money 0 65 (opening c) run.allowed _ hops _ 0 (opening_rests c) run.allows_each) (no_acks_first roles.Client (keys_of c.secret) c.client c.server c.config) unread (nothing_open c.config (keys_of c.secret) c.client c.server) run.begins_each
 
     all : AreCrossed c input limit m e hops f (0 + m) v
     all = rounds_cross c input limit m e hops f 0 run.begun v may.reads may.input_fits stands calm (let few = may.few_hops in omega (arith, few, long)) packets begun_is.unclosed begun_rest.1 begun_rest.0
@@ -389,6 +400,15 @@ module _ (c : Chain) (input : ℕ → List ℕ) (money : ℕ → ℕ) (count lim
   -- a stream that is open at the opening, and only that, is open at the end, with its money offered
   pub run_offers : (k : ℕ) → offer_of (outgoing_at (end_at v Client).sending k) ≡ offer_of (outgoing_at (opening_client c input money count).sending k)
   run_offers k = subst (λ (z : EndState). offer_of (outgoing_at z.sending k) ≡ offer_of (outgoing_at first.sending k)) (sym crossed.rests.client) (crossed.offers k)
+
+  open_still : (o p : Option Outgoing) → ◌≡◌ {A = Option ℕ} (offer_of p) (offer_of o) → is_some o ≡ true → (x : Outgoing) × (p ≡ Some x)
+  open_still o (Some x) same here = (x, refl)
+  open_still None None same here = absurd (cc)
+  open_still (Some y) None same here = absurd (cc)
+
+  -- as many streams are open as were opened
+  pub run_opens : (i : ℕ) → i < count → (x : Outgoing) × (outgoing_at (end_at v Client).sending (2 * i + 1) ≡ Some x)
+  run_opens i l = open_still (outgoing_at first.sending (2 * i + 1)) (outgoing_at (end_at v Client).sending (2 * i + 1)) (run_offers (2 * i + 1)) ((run_crosses c input money count limit m v may run).3.opened i l)
 
   offered_is : (k : ℕ) (x : Outgoing) (o : Option Outgoing) → outgoing_at first.sending k ≡ o → ◌≡◌ {A = Option ℕ} (Some x.offered) (offer_of o) → x.offered ≡ money k
   offered_is k x None at same = absurd (cc)

@@ -1,6 +1,6 @@
 //! What holds of every quiet run over hops, over the definitions alone. These functions do nothing: the contract is the law.
 
-ghost use Rattle.std.specs.Prelude.{◌≡◌, ℕ, ◌+◌, ◌-ℤ◌, ◌<◌, ◌≤◌, ◌^◌, ℤ, true, false, int_le, int_lt, List, [], ◌∷◌, length, Ok};
+ghost use Rattle.std.specs.Prelude.{◌≡◌, ℕ, ◌+◌, ◌*◌, ◌-ℤ◌, ◌<◌, ◌≤◌, ◌^◌, ℤ, true, false, int_le, int_lt, List, [], ◌∷◌, length, Ok};
 ghost use Rattle.std.specs.declared.option.Option.TheVariants.{Some};
 ghost use Rattle.st_ilp.specs.Packets.{Fulfilled, PreparePacket};
 ghost use Rattle.st_ilp.specs.Spelling.{prepare_text};
@@ -94,6 +94,8 @@ pub fn a_quiet_run_of_a_world_is_bounded()
         → m + work_left (lengths input) (end_at v Client).sending ≤ work_left (lengths input) (opening_client c input money count).sending }
     ensures sends { (c : Chain) (input : ℕ → List ℕ) (money : ℕ → ℕ) (count limit m : ℕ) (v : World) → MayRun c input money count limit → QuietRun c input money count limit m v
         → length (lane_at v 0 Client).puts ≡ m }
+    ensures opens { (c : Chain) (input : ℕ → List ℕ) (money : ℕ → ℕ) (count limit m i : ℕ) (v : World) → MayRun c input money count limit → QuietRun c input money count limit m v
+        → i < count → (x : Outgoing) × (outgoing_at (end_at v Client).sending (2 * i + 1) ≡ Some x) }
     ensures delivered { (c : Chain) (input : ℕ → List ℕ) (money : ℕ → ℕ) (count limit m k : ℕ) (v : World) (x : Outgoing) → MayRun c input money count limit → QuietRun c input money count limit m v
         → GoesNone (end_at v Client) → outgoing_at (end_at v Client).sending k ≡ Some x
         → ((incoming_at (end_at v Server).receiving k).held.read ≡ length (input k)) × ((incoming_at (end_at v Server).receiving k).credited ≡ money k) }

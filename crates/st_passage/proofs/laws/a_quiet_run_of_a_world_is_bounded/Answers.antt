@@ -1,6 +1,6 @@
 use Rattle.std.proofs.Common.{◌∙◌}
 use Rattle.st_passage.proofs.laws.a_quiet_run_of_a_world_is_bounded.Goals as goal
-use Rattle.st_passage.proofs.WorldRuns.{run_delivers, run_is_bounded, run_money, run_puts, run_reads_whole, run_sharper}
+use Rattle.st_passage.proofs.WorldRuns.{run_delivers, run_is_bounded, run_money, run_opens, run_puts, run_reads_whole, run_sharper}
 
 pub returns-clause-bounded : goal.returns-clause-bounded
 returns-clause-bounded g = λ c input money count limit m v may run. run_is_bounded c input money count limit m v may run
@@ -17,3 +17,6 @@ returns-clause-delivered g = λ c input money count limit m k v x may run none a
 
 pub returns-clause-whole : goal.returns-clause-whole
 returns-clause-whole g = λ c input money count limit m k v x may run none at. run_reads_whole c input money count limit m v may run k x none at
+
+pub returns-clause-opens : goal.returns-clause-opens
+returns-clause-opens g = λ c input money count limit m i v may run low. run_opens c input money count limit m v may run i low
