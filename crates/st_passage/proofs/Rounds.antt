@@ -1,4 +1,15 @@
 -- A round of events in a world at rest is a crossing, reads and writes.
+use Rattle.std.proofs.Common.{append_assoc, take, drop}
+use Rattle.std.proofs.Math.Seq.{drop-append_seam}
+use Rattle.std.proofs.lemmas.List.{take-append-drop}
+use Rattle.std.proofs.lemmas.Bool.{cases_eq}
+use Rattle.std.specs.Ordering.{nat_cmp}
+use Rattle.std.specs.FinMap as fmap
+use Rattle.st_receiver.specs.Reading.{Aborted, Bytes, End, Nothing}
+use Rattle.st_world.specs.Sides.{Both}
+use Rattle.st_world.specs.State.{with_ledger}
+use Rattle.st_world.specs.Ledgers.{got, ledger_or}
+use Rattle.st_world.proofs.Maps.{get_apart, get_here}
 use Rattle.st_sender.specs.declared.error.OutboxError.{OutboxError}
 use Rattle.st_sender.specs.Sending.{Sending, changed, changed_at, with_outgoing}
 use Rattle.st_sender.specs.Accepting.{after_clean, after_write}
@@ -235,6 +246,68 @@ write_rest c xs k w v e hops f n r rest acked run =
     let told = ledgered c w e hops f n k r rest in
     write_at xs k (outgoing_at e.sending k) (ledger_at w Client k) w v e hops f n refl told.written (told.read ∙ sym acked) rest run
 
+-- ---- what was written is a front of the input
+
+abbrev pub Copies : (ℕ → List ℕ) → World → Type 0
+Copies input w = (k : ℕ) → IsPrefixOf (ledger_at w Client k).written (input k)
+
+pub copies_same : (input : ℕ → List ℕ) (w v : World) → v.ledgers ≡ w.ledgers → Copies input w → Copies input v
+copies_same input w v same copies k = subst (λ (ls : Both (fmap.FinMap nat_cmp Ledger)). IsPrefixOf (ledger_or (fmap.get (at ls Client) k)).written (input k)) (sym same) (copies k)
+
+-- one ledger of the client's is another
+copies_with : (input : ℕ → List ℕ) (w v : World) (k : ℕ) (x : Ledger) → v.ledgers ≡ (with_ledger w Client k x).ledgers → IsPrefixOf x.written (input k) → Copies input w → Copies input v
+copies_with input w v k x is here copies =
+    copies_same input (with_ledger w Client k x) v is (λ j. elim (cases_eq j k) [
+      | inl same ↦ subst (λ i. IsPrefixOf (ledger_at (with_ledger w Client k x) Client i).written (input i)) (sym same)
+          (subst (λ o. IsPrefixOf (ledger_or o).written (input k)) (sym (get_here (at w.ledgers Client) k x)) here)
+      | inr apart ↦ subst (λ o. IsPrefixOf (ledger_or o).written (input j)) (sym (get_apart (at w.ledgers Client) k x j apart)) (copies j)
+    ])
+
+pub copies_accepted : (input : ℕ → List ℕ) (a : Answer) (w v : World) (g : EndState) (k : ℕ) (x : Ledger) → v ≡ accepted_at a (with_end w Client g) Client k x → IsPrefixOf x.written (input k) → Copies input w → Copies input v
+copies_accepted input (Ok done) w v g k x is here copies = copies_with input w v k x (ap (λ (z : World). z.ledgers) is) here copies
+copies_accepted input (Err why) w v g k x is here copies = copies_same input w v (ap (λ (z : World). z.ledgers) is) copies
+
+got_written : (g : Got) (x : Ledger) → (got g x).written ≡ x.written
+got_written (Bytes xs) x = refl
+got_written Nothing x = refl
+got_written End x = refl
+got_written (Aborted code) x = refl
+
+copies_read : (input : ℕ → List ℕ) (r : Result Got EndError) (w v : World) (h : EndState) (k : ℕ) → v ≡ read_at r (with_end w Server h) Client k → Copies input w → Copies input v
+copies_read input (Ok g) w v h k is copies = copies_with input w v k (got g (ledger_at w Client k)) (ap (λ (z : World). z.ledgers) is) (subst (λ xs. IsPrefixOf xs (input k)) (sym (got_written g (ledger_at w Client k))) (copies k)) copies
+copies_read input (Err why) w v h k is copies = copies_same input w v (ap (λ (z : World). z.ledgers) is) copies
+
+copies_reads : (input : ℕ → List ℕ) (limit first count : ℕ) (w v : World) → 1 ≤ limit → Met w (reads limit first count) v → Copies input w → Copies input v
+unfolding reads
+copies_reads input limit first zero w v some run copies = subst (Copies input) (sym run) copies
+copies_reads input zero first (suc m) w v some run copies = absurd (omega (arith, some))
+copies_reads input (suc l) first (suc m) w v some run copies =
+    copies_reads input (suc l) (first + 1) m run.0 v some run.4 (copies_read input (read (end_at w Server) first (suc l)).0 w run.0 (read (end_at w Server) first (suc l)).1 first run.3.1 copies)
+
+copy_more : (xs ys : List ℕ) (r : ℕ) → IsPrefixOf ys xs → IsPrefixOf (ys ++ take r (drop (length ys) xs)) xs
+copy_more xs ys r (rest, is) =
+    let left : drop (length ys) xs ≡ rest = ap (drop (length ys)) (sym is) ∙ drop-append_seam ys rest in (
+      drop r rest,
+      ap (λ zs. (ys ++ take r zs) ++ drop r rest) left ∙ append_assoc ys (take r rest) (drop r rest) ∙ ap (λ zs. ys ++ zs) (take-append-drop r rest) ∙ is,
+    )
+
+copies_close : (input : ℕ → List ℕ) (b : Bool) (k : ℕ) (w v : World) → Met w (close_if b k) v → Copies input w → Copies input v
+copies_close input false k w v run copies = subst (Copies input) (sym run) copies
+copies_close input true k w v run copies =
+    let last = met_one (Close Client k) w v run in
+    copies_accepted input (close (end_at w Client) k).0 w v (close (end_at w Client) k).1 k _ last.1.1 (copies k) copies
+
+pub copies_write : (input : ℕ → List ℕ) (k : ℕ) (w v : World) → Met w (writes (input k) k (ledger_at w Client k)) v → Copies input w → Copies input v
+copies_write input k w v run copies =
+    let l = ledger_at w Client k in
+    let part = fits (input k) l in
+    copies_close input (nat_eq (length l.written + length part) (length (input k))) k run.0 v run.4
+    (copies_accepted input (write (end_at w Client) k part).0 w run.0 (write (end_at w Client) k part).1 k _ run.3.1 (copy_more (input k) l.written (length l.read + 262144 - length l.written) (copies k)) copies)
+
+copies_writes : (input : ℕ → List ℕ) (first count : ℕ) (w v : World) → Writes input first count w v → Copies input w → Copies input v
+copies_writes input first zero w v run copies = subst (Copies input) (sym run) copies
+copies_writes input first (suc m) w v run copies = copies_writes input (first + 1) m run.0 v run.2 (copies_write input first w run.0 run.1 copies)
+
 -- ---- writes and closes change no acknowledged end
 
 abbrev pub SameAcks : EndState → EndState → Type 0
@@ -311,19 +384,20 @@ all_forward input e hops f iv now stands calm long moment early left flight byte
     (calm_forwards e.peer e.sending.last e.sending.packet_limit (all_money_left e.sending) _ hops (prepare_for e now goes.load.amount goes.payload) now calm goes.lawful (load_has_room input e f stands (goes_passage e iv now flight bytes gone long goes left)) moment early)
 
 -- the ends and hops after a round
-pub record IsCrossed (c : Chain) (input : ℕ → List ℕ) (limit : ℕ) (e : EndState) (hops : List Hop) (f : EndState) (n : ℕ) (v : World) : Type 0 where
+pub record IsCrossed (c : Chain) (input : ℕ → List ℕ) (limit : ℕ) (e : EndState) (hops : List Hop) (f : EndState) (n : ℕ) (w v : World) : Type 0 where
   pub client : EndState
   pub others : List Hop
   pub server : EndState
   pub crosses : Crossing input limit e hops f client others server
   pub rests : IsAtRest v client others server n
   pub is_reached : IsReachedBy c v
+  pub copies : Copies input w → Copies input v
 
 back_acked : (input : ℕ → List ℕ) (back h : EndState) → Stands input (write_each input 0 65 back) h → AreAcked back h
 back_acked input back h s k = sym (acks_written input 0 65 back k) ∙ acked_from input (write_each input 0 65 back) h s k
 
 pub round_crosses : (c : Chain) (input : ℕ → List ℕ) (limit : ℕ) (e : EndState) (hops : List Hop) (f : EndState) (n : ℕ) (w v : World) → 32739 ≤ limit → IsModest (lengths input) → Stands input e f → AreCalm e.peer e.sending hops → length hops ≤ 8 → e.sending.last + 1 < e.sending.config.packets
-    → IsReachedBy c w → IsAtRest w e hops f n → Round input limit (length hops) n w v → IsCrossed c input limit e hops f (suc n) v
+    → IsReachedBy c w → IsAtRest w e hops f n → Round input limit (length hops) n w v → IsCrossed c input limit e hops f (suc n) w v
 unfolding goes_passage
 round_crosses chain input limit e hops f n w v room modest stands calm few left is_reached rest x =
     let moment = x.lawful.1.0 in
@@ -353,4 +427,5 @@ round_crosses chain input limit e hops f n w v room modest stands calm few left 
       crosses = crosses;
       rests = done.0;
       is_reached = done.1;
+      copies = λ old. copies_writes input 0 65 x.read v x.writes_each (copies_reads input limit 0 65 x.passed x.read (omega (arith, room)) x.reads_each (copies_same input w x.passed crossed_is.ledgers old));
     }

@@ -36,6 +36,9 @@ use Rattle.st_quiet.proofs.Exchanging.{exchanges_rounds}
 use Rattle.st_quiet.proofs.Running.{run_delivered}
 use Rattle.st_quiet.proofs.Trips.{goes_sends, receiving_still, trips_exchanges}
 use Rattle.st_quiet.proofs.Turns.{turn_spends, turn_trip, turns_trips}
+use Rattle.std.specs.Ordering.{nat_cmp}
+use Rattle.std.specs.FinMap as fmap
+use Rattle.st_world.specs.Ledgers.{ledger_or}
 use Rattle.st_passage.proofs.Opened.{OpenTo, opens_next, place_of}
 use Rattle.st_passage.specs.Calm.{AreCalm, IsCalm}
 use Rattle.st_passage.specs.Chains.{Crossing, Crossings, Stands}
@@ -54,7 +57,7 @@ use Rattle.st_end.specs.declared.role.Role.{Role}
 use Rattle.st_end.specs.Calls.{connection_refusal, opened_unless, opening_as, own_number, refusal}
 use Rattle.st_world.specs.State.{ledger_at}
 use Rattle.st_world.specs.Events.{Offer, OpenStream}
-use Rattle.st_passage.proofs.Rounds.{IsReachedBy, ledger_prefix, ledgered, acked_from, acked_of, acks_changed, acks_done, acks_written_at, client_calls, reached_first, reached_met, rest_moved, round_crosses, write_rest}
+use Rattle.st_passage.proofs.Rounds.{Copies, copies_accepted, copies_same, copies_write, IsReachedBy, ledger_prefix, ledgered, acked_from, acked_of, acks_changed, acks_done, acks_written_at, client_calls, reached_first, reached_met, rest_moved, round_crosses, write_rest}
 
 -- ---- rounds
 
@@ -80,6 +83,7 @@ pub record AreCrossed (c : Chain) (input : ℕ → List ℕ) (limit m : ℕ) (e 
   pub rests : IsAtRest v client others server n
   pub unclosed : client.receiving.closed ≡ false
   pub is_reached : IsReachedBy c v
+  pub copies : Copies input v
   pub offers : (k : ℕ) → offer_of (outgoing_at client.sending k) ≡ offer_of (outgoing_at e.sending k)
 
 -- the Prepares of the connection suffice for the rest
@@ -105,8 +109,8 @@ crossing_unclosed input limit e hops f g others h room modest s calm unclosed x 
     ap (λ r. r.closed) (receiving_still (lengths input) e f g h s.quiet s.abreast s.joined s.tellable (turn_trip input limit e f g h modest s.quiet s.abreast s.joined s.tellable s.held_back turn).0) ∙ unclosed
 
 pub rounds_cross : (c : Chain) (input : ℕ → List ℕ) (limit m : ℕ) (e : EndState) (hops : List Hop) (f : EndState) (n : ℕ) (w v : World) → 32739 ≤ limit → IsModest (lengths input) → Stands input e f → AreCalm e.peer e.sending hops → length hops ≤ 8 → HasPackets input e → e.receiving.closed ≡ false
-    → IsReachedBy c w → IsAtRest w e hops f n → Rounds input limit (length hops) n m w v → AreCrossed c input limit m e hops f (n + m) v
-rounds_cross c input limit zero e hops f n w v room modest s calm few packets unclosed is_reached rest run = record {
+    → Copies input w → IsReachedBy c w → IsAtRest w e hops f n → Rounds input limit (length hops) n m w v → AreCrossed c input limit m e hops f (n + m) v
+rounds_cross c input limit zero e hops f n w v room modest s calm few packets unclosed copies is_reached rest run = record {
   client = e;
   others = hops;
   server = f;
@@ -114,9 +118,10 @@ rounds_cross c input limit zero e hops f n w v room modest s calm few packets un
   rests = subst (λ z. IsAtRest z e hops f (n + 0)) (sym run) (subst (IsAtRest w e hops f) (let same : n ≡ n + 0 = omega arith in same) rest);
   unclosed = unclosed;
   is_reached = subst (IsReachedBy c) (sym run) is_reached;
+  copies = subst (Copies input) (sym run) copies;
   offers = λ k. refl;
 }
-rounds_cross c input limit (suc m) e hops f n w v room modest s calm few packets unclosed is_reached rest run =
+rounds_cross c input limit (suc m) e hops f n w v room modest s calm few packets unclosed copies is_reached rest run =
     let mid = run.0 in
     let some = sent_leaves input e hops f n w run.1.sent run.1.iv run.1.now s rest run.1.goes in
     let one = round_crosses c input limit e hops f n w mid room modest s calm few (next _ _ _ some packets) is_reached rest run.1 in
@@ -125,7 +130,7 @@ rounds_cross c input limit (suc m) e hops f n w v room modest s calm few packets
     let all = rounds_cross c input limit m one.client one.others one.server (suc n) mid v room modest (turn_stands input limit e f one.client one.server modest s turn)
     (crossing_calm input limit e hops f one.client one.others one.server room modest s calm one.crosses) (omega (arith, count, few))
     (crossing_packets input limit e hops f one.client one.others one.server room modest s calm packets one.crosses)
-    (crossing_unclosed input limit e hops f one.client one.others one.server room modest s calm unclosed one.crosses) one.is_reached one.rests
+    (crossing_unclosed input limit e hops f one.client one.others one.server room modest s calm unclosed one.crosses) (one.copies copies) one.is_reached one.rests
     (subst (λ k. Rounds input limit k (suc n) m mid v) (sym count) run.2) in
     record {
       client = all.client;
@@ -135,6 +140,7 @@ rounds_cross c input limit (suc m) e hops f n w v room modest s calm few packets
       rests = subst (IsAtRest v all.client all.others all.server) (let same : suc n + m ≡ n + suc m = omega arith in same) all.rests;
       unclosed = all.unclosed;
       is_reached = all.is_reached;
+      copies = all.copies;
       offers = λ k. all.offers k ∙ (turn_spends input limit e f one.client one.server modest s.quiet s.abreast s.joined s.tellable s.held_back turn).offers k;
     }
   where
@@ -243,6 +249,25 @@ begins_all c input money (suc m) j w v e hops f n r rest none unread opened run 
     let all = begins_all c input money m (j + 1) run.0 v (begun input money (open_stream e)) hops f n one.1 one.0 (acks_begun input money e (own_number e) none) unread (opens_next input money j run.1.stream e opened one.2) run.2 in
     (all.0, all.1, subst (λ l. OpenTo l (begin_each input money m (begun input money (open_stream e)))) (let same : j + 1 + m ≡ j + suc m = omega arith in same) all.2)
 
+copies_allows : (input : ℕ → List ℕ) (money : ℕ → ℕ) (first count : ℕ) (w v : World) → Met w (allows money first count) v → Copies input w → Copies input v
+unfolding allows
+copies_allows input money first zero w v run copies = subst (Copies input) (sym run) copies
+copies_allows input money first (suc m) w v run copies = copies_allows input money (first + 1) m run.0 v run.4 (copies_same input w run.0 (ap (λ (z : World). z.ledgers) run.3.1) copies)
+
+copies_begins : (input : ℕ → List ℕ) (money : ℕ → ℕ) (w v : World) → Begins input money w v → Copies input w → Copies input v
+copies_begins input money w v x copies =
+    let k = x.stream in
+    let first = copies_same input w x.opened (ap (λ (z : World). z.ledgers) x.opens.1) copies in
+    let call = offer (end_at x.opened Client) k (money k) in
+    copies_write input k x.offered v x.writes_first (copies_accepted input call.0 x.opened x.offered call.1 k _ (x.offers.4 ∙ x.offers.3.1) (first k) first)
+
+copies_begins_each : (input : ℕ → List ℕ) (money : ℕ → ℕ) (count : ℕ) (w v : World) → BeginsEach input money count w v → Copies input w → Copies input v
+copies_begins_each input money zero w v run copies = subst (Copies input) (sym run) copies
+copies_begins_each input money (suc m) w v run copies = copies_begins_each input money m run.0 v run.2 (copies_begins input money w run.0 run.1 copies)
+
+copies_first : (c : Chain) (input : ℕ → List ℕ) → Copies input (opening c)
+copies_first c input k = subst (λ o. IsPrefixOf (ledger_or o).written (input k)) (sym (fmap.get-empty nat_cmp k)) (input k, refl)
+
 nothing_open : (config : Config) (keys : DerivedKeys) (own peer : List ℕ) → OpenTo 0 (new_end roles.Client keys own peer config)
 nothing_open config keys own peer = record {
   opened = λ i l. absurd (omega (arith, l));
@@ -346,8 +371,11 @@ run_crosses c input money count limit m v may run = (stands, calm, subst (λ k. 
     begun_rest = begins_all c input money count 0 run.allowed run.begun _ hops f 0 (reached_met c (allows money 0 65) (opening c) run.allowed (reached_first c) run.allows_each)
         (allows_rest money 0 65 (opening c) run.allowed _ hops _ 0 (opening_rests c) run.allows_each) (no_acks_first roles.Client (keys_of c.secret) c.client c.server c.config) unread (nothing_open c.config (keys_of c.secret) c.client c.server) run.begins_each
 
+    begun_copies : Copies input run.begun
+    begun_copies = copies_begins_each input money count run.allowed run.begun run.begins_each (copies_allows input money 0 65 (opening c) run.allowed run.allows_each (copies_first c input))
+
     all : AreCrossed c input limit m e hops f (0 + m) v
-    all = rounds_cross c input limit m e hops f 0 run.begun v may.reads may.input_fits stands calm (let few = may.few_hops in omega (arith, few, long)) packets begun_is.unclosed begun_rest.1 begun_rest.0
+    all = rounds_cross c input limit m e hops f 0 run.begun v may.reads may.input_fits stands calm (let few = may.few_hops in omega (arith, few, long)) packets begun_is.unclosed begun_copies begun_rest.1 begun_rest.0
         (subst (λ k. Rounds input limit k 0 m run.begun v) (sym long) run.rounds)
 
 -- ---- what it leaves
@@ -436,7 +464,7 @@ module _ (c : Chain) (input : ℕ → List ℕ) (money : ℕ → ℕ) (count lim
       by [] is = sym (append-nil xs) ∙ is
       by (b ∷ bs) is = absurd (let all : length (xs ++ b ∷ bs) ≡ length ys = ap length is in let sum = length-append xs (b ∷ bs) in omega (arith, all, sum, long))
 
-  pub run_reads_whole : (k : ℕ) (x : Outgoing) → GoesNone (end_at v Client) → outgoing_at (end_at v Client).sending k ≡ Some x → ((ledger_at v Client k).read ≡ (ledger_at v Client k).written) × (length (ledger_at v Client k).read ≡ length (input k))
+  pub run_reads_whole : (k : ℕ) (x : Outgoing) → GoesNone (end_at v Client) → outgoing_at (end_at v Client).sending k ≡ Some x → ((ledger_at v Client k).read ≡ input k) × ((ledger_at v Client k).written ≡ input k)
   run_reads_whole k x none at =
       let quiet = turns_quiet input limit m first far_end crossed.client crossed.server may.input_fits stands turns in
       let done = nothing_left (lengths input) crossed.client quiet crossed.unclosed (subst GoesNone crossed.rests.client none) in
@@ -446,4 +474,5 @@ module _ (c : Chain) (input : ℕ → List ℕ) (money : ℕ → ℕ) (count lim
       let written = subst (OutFine (ledger_at v Client k).written) here told.written in
       let read = (run_delivers k x none at).0 in
       let count : length (ledger_at v Client k).read ≡ length (input k) = told.read ∙ ap (λ (z : EndState). (incoming_at z.receiving k).held.read) (sym crossed.rests.server) ∙ read in
-      (same_list (ledger_at v Client k).read (ledger_at v Client k).written (ledger_prefix c v k crossed.is_reached) (count ∙ sym all.all_bytes ∙ written.0), count)
+      let whole = same_list (ledger_at v Client k).written (input k) (crossed.copies k) (sym written.0 ∙ all.all_bytes) in
+      (same_list (ledger_at v Client k).read (ledger_at v Client k).written (ledger_prefix c v k crossed.is_reached) (count ∙ sym all.all_bytes ∙ written.0) ∙ whole, whole)

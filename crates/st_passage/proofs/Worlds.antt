@@ -95,6 +95,7 @@ record IsOn (i : ℕ) (w : World) (hops : List Hop) (f : EndState) (n : ℕ) (te
 -- its answer was given on that link
 record IsBack (i : ℕ) (w v : World) (n : ℕ) (c : Crossed) : Type 0 where
   client : end_at v Client ≡ end_at w Client
+  ledgers : v.ledgers ≡ w.ledgers
   server : end_at v Server ≡ c.end
   nodes : map state_of (drop i v.nodes) ≡ c.hops
   count : length v.nodes ≡ length w.nodes
@@ -140,6 +141,7 @@ at_server i w v f n text now told on step =
     let lanes : (j : ℕ) → j ≢ i → lane_at v j Client ≡ lane_at w j Client = (λ j apart. ap (λ z. lane_at z j Client) after ∙ lane_there middle i Client lane j Client (λ e. apart e.0)) in
     record {
       client = ap (λ z. end_at z Client) after;
+      ledgers = ap (λ (z : World). z.ledgers) after;
       server = ap (λ z. end_at z Server) after ∙ ap (λ z. z.1) same;
       nodes = ap (λ (z : World). map state_of (drop i z.nodes)) after ∙ on.nodes;
       count = ap (λ (z : World). length z.nodes) after;
@@ -164,6 +166,7 @@ record WentOn (i : ℕ) (w v : World) (after : Hop) (others : List Hop) (f : End
   before : (j : ℕ) → j < i → slice_get v.nodes j ≡ slice_get w.nodes j
   count : length v.nodes ≡ length w.nodes
   client : end_at v Client ≡ end_at w Client
+  ledgers : v.ledgers ≡ w.ledgers
   links : length v.links ≡ length w.links
   earlier : (j : ℕ) → j < suc i → lane_at v j Client ≡ lane_at w j Client
   put : slice_get (lane_at v (suc i) Client).puts n ≡ Some (put_on t onward (suc n))
@@ -200,6 +203,7 @@ at_hop i w v h after others f n text onward t account now told on forwards step 
       before = λ j l. ap (λ ns. slice_get ns j) nodes_are ∙ get_set_apart w.nodes i node j (omega (arith, l));
       count = many;
       client = ap (λ z. end_at z Client) after_is;
+      ledgers = ap (λ (z : World). z.ledgers) after_is;
       links = links_same;
       earlier = λ j l. lanes j (omega (arith, l));
       put = has_put;
@@ -220,6 +224,7 @@ at_hop i w v h after others f n text onward t account now told on forwards step 
 -- an answer that is taken changes no other lane, and no length
 record Takes (w v : World) (l : ℕ) : Type 0 where
   ends : v.ends ≡ w.ends
+  ledgers : v.ledgers ≡ w.ledgers
   nodes : v.nodes ≡ w.nodes
   links : length v.links ≡ length w.links
   others : (j : ℕ) → j ≢ l → lane_at v j Client ≡ lane_at w j Client
@@ -227,12 +232,13 @@ record Takes (w v : World) (l : ℕ) : Type 0 where
   given : length (lane_at v l Client).given ≡ length (lane_at w l Client).given
 
 taken : (b : Bool) (w : World) (l n : ℕ) → l < length w.links → Takes w (taken_if b w l Client (suc n)) l
-taken false w l n inside = record { ends = refl; nodes = refl; links = refl; others = λ j apart. refl; puts = refl; given = refl }
+taken false w l n inside = record { ends = refl; ledgers = refl; nodes = refl; links = refl; others = λ j apart. refl; puts = refl; given = refl }
 taken true w l n inside =
     let lane : Lane = record { puts = (lane_at w l Client).puts; given = set (lane_at w l Client).given n (took (get_or (lane_at w l Client).given n (given_by 0 []))) } in
     let is : lane_at (with_lane w l Client lane) l Client ≡ lane = lane_here w l Client lane inside in
     record {
       ends = refl;
+      ledgers = refl;
       nodes = refl;
       links = length-set w.links l _;
       others = λ j apart. lane_there w l Client lane j Client (λ e. apart e.0);
@@ -279,6 +285,7 @@ back_at_hop i w v u x after others f t n text onward hops c now told on went tic
     let many_more = went.count in
     record {
       client = ap (λ z. end_at z Client) after_is ∙ ap (λ (es : Both Party). (at es Client).state) takes.ends ∙ back.client ∙ went.client;
+      ledgers = ap (λ (z : World). z.ledgers) after_is ∙ takes.ledgers ∙ back.ledgers ∙ went.ledgers;
       server = ap (λ z. end_at z Server) after_is ∙ ap (λ (es : Both Party). (at es Server).state) takes.ends ∙ back.server;
       nodes = ap (λ ns. map state_of (drop i ns)) nodes_are
           ∙ ap (map state_of) (drop_at (set u.nodes i new) i new (get_set u.nodes i new node has_node) ∙ ap (λ ns. new ∷ ns) (drop_set u.nodes i new))
@@ -318,6 +325,7 @@ over_links (h ∷ others) i w v f n text now on forward run =
 
 record Ends (w v : World) (e : EndState) : Type 0 where
   client : end_at v Client ≡ e
+  ledgers : v.ledgers ≡ w.ledgers
   server : end_at v Server ≡ end_at w Server
   nodes : v.nodes ≡ w.nodes
   links : length v.links ≡ length w.links
@@ -327,6 +335,7 @@ ends_as : (w v : World) (gone : EndState) (flight : flights.Open) (n : ℕ) (p :
     → Ends w v (ended_with gone flight o (Some answer))
 ends_as w v gone flight n p answer told None client same inside back = record {
   client = ap (λ z. end_at z Client) back.1 ∙ client;
+  ledgers = ap (λ (z : World). z.ledgers) back.1;
   server = ap (λ z. end_at z Server) back.1;
   nodes = ap (λ (z : World). z.nodes) back.1;
   links = ap (λ (z : World). length z.links) back.1;
@@ -339,6 +348,7 @@ ends_as w v gone flight n p answer told (Some flown) client same inside back =
     let is = back.1 in
     record {
       client = ap (λ z. end_at z Client) is ∙ ap (λ (es : Both Party). (at es Client).state) takes.ends ∙ ap (λ z. after_outcome z (flight_of p) flown (Some answer)) client ∙ ap (λ x. after_outcome gone x flown (Some answer)) same;
+      ledgers = ap (λ (z : World). z.ledgers) is ∙ takes.ledgers;
       server = ap (λ z. end_at z Server) is ∙ ap (λ (es : Both Party). (at es Server).state) takes.ends;
       nodes = ap (λ (z : World). z.nodes) is ∙ takes.nodes;
       links = ap (λ (z : World). length z.links) is ∙ takes.links;
@@ -389,7 +399,7 @@ sent_on_link w v e hops f gone n flight bytes rest is =
     }
 
 pub crossing_rests : (w mid v : World) (e : EndState) (hops : List Hop) (f : EndState) (n : ℕ) (iv : List ℕ) (now : ℤ) → IsAtRest w e hops f n → ((flight : flights.Open) (bytes : List ℕ) (gone : EndState) → Goes e iv now flight bytes gone → AllForward hops bytes now)
-    → Step w (Send Client iv now) Sent mid → Met mid (passing (length hops) (suc n) now) v → HasCrossed e hops f n iv now v
+    → Step w (Send Client iv now) Sent mid → Met mid (passing (length hops) (suc n) now) v → HasCrossed w e hops f n iv now v
 crossing_rests w mid v e hops f n iv now rest forward (inl none) run = absurd (let no : ◌≡◌ {A = Told} Sent Silent = none.1 in cc)
 crossing_rests w mid v e hops f n iv now rest forward (inr sent) run =
     let flight = sent.0 in
@@ -418,6 +428,7 @@ crossing_rests w mid v e hops f n iv now rest forward (inr sent) run =
       bytes = bytes;
       gone = gone;
       goes = goes;
+      ledgers = ends.ledgers ∙ back.ledgers ∙ ap (λ (z : World). z.ledgers) is;
       rests = record {
         client = ends.client ∙ ap (λ b. ended gone flight (Some b)) back.bytes;
         server = ends.server ∙ back.server;

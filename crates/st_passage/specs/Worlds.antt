@@ -55,10 +55,12 @@ AllForward [] text now = Unit {0}
 AllForward (h ∷ others) text now =
     (t : Open) × (account : ℕ) × (onward : List ℕ) × (after : Hop) × (arrived h 0 text now ≡ (Forwards t account onward, after)) × (ticket_at after.tickets t.number ≡ Some t) × AllForward others onward now
 
--- the client sent, and what went came over all hops to the server, and its answer back
-pub record HasCrossed (e : EndState) (hops : List Hop) (f : EndState) (count : ℕ) (iv : List ℕ) (now : ℤ) (v : World) : Type 0 where
+-- from this world the client sent, and what went came over all hops to the server, and its answer back; nothing was written
+-- or read
+pub record HasCrossed (w : World) (e : EndState) (hops : List Hop) (f : EndState) (count : ℕ) (iv : List ℕ) (now : ℤ) (v : World) : Type 0 where
   pub flight : flights.Open
   pub bytes : List ℕ
   pub gone : EndState
   pub goes : Goes e iv now flight bytes gone
+  pub ledgers : v.ledgers ≡ w.ledgers
   pub rests : IsAtRest v (ended gone flight (Some (crossed hops f bytes now).answer)) (crossed hops f bytes now).hops (crossed hops f bytes now).end (suc count)

@@ -82,11 +82,11 @@ pub fn a_run_over_hops_is_bounded()
 pub fn a_prepare_crosses_a_world()
     ensures { (w mid v : World) (e f : EndState) (hops : List Hop) (count : ℕ) (iv : List ℕ) (now : ℤ) → IsAtRest w e hops f count
         → ((flight : flights.Open) (bytes : List ℕ) (gone : EndState) → Goes e iv now flight bytes gone → AllForward hops bytes now)
-        → Step w (Send Client iv now) Sent mid → Met mid (passing (length hops) (count + 1) now) v → HasCrossed e hops f count iv now v }
+        → Step w (Send Client iv now) Sent mid → Met mid (passing (length hops) (count + 1) now) v → HasCrossed w e hops f count iv now v }
 {}
 
 /// So a quiet run of a world, by its events from where nothing has happened, has no more Sends than the bound. Where then none
-/// goes, each stream's input was read whole, all that was written of it, and its money was credited.
+/// goes, all of each stream's input was written and read, and its money was credited.
 pub fn a_quiet_run_of_a_world_is_bounded()
     ensures bounded { (c : Chain) (input : ℕ → List ℕ) (money : ℕ → ℕ) (count limit m : ℕ) (v : World) → MayRun c input money count limit → QuietRun c input money count limit m v
         → m + 1 ≤ bound (lengths input) (opening_client c input money count).sending }
@@ -101,5 +101,5 @@ pub fn a_quiet_run_of_a_world_is_bounded()
         → ((incoming_at (end_at v Server).receiving k).held.read ≡ length (input k)) × ((incoming_at (end_at v Server).receiving k).credited ≡ money k) }
     ensures whole { (c : Chain) (input : ℕ → List ℕ) (money : ℕ → ℕ) (count limit m k : ℕ) (v : World) (x : Outgoing) → MayRun c input money count limit → QuietRun c input money count limit m v
         → GoesNone (end_at v Client) → outgoing_at (end_at v Client).sending k ≡ Some x
-        → ((ledger_at v Client k).read ≡ (ledger_at v Client k).written) × (length (ledger_at v Client k).read ≡ length (input k)) }
+        → ((ledger_at v Client k).read ≡ input k) × ((ledger_at v Client k).written ≡ input k) }
 {}
