@@ -43,10 +43,10 @@ impl<A: Allocator + Copy> Ends<A> {
 fn begin<A: Allocator + Copy>(rt: &impl Abort, ends: &mut Ends<A>) {
     ends.client.open(rt, 1);
     ends.server.open(rt, 2);
-    assert!(rt; ends.server.end.set_receive_max(1, 100) == Ok(()));
-    assert!(rt; ends.client.end.set_receive_max(2, 100) == Ok(()));
-    assert!(rt; ends.client.end.offer(1, 30) == Ok(()));
-    assert!(rt; ends.server.end.offer(2, 20) == Ok(()));
+    sure!(rt; ends.server.end.set_receive_max(1, 100) == Ok(()));
+    sure!(rt; ends.client.end.set_receive_max(2, 100) == Ok(()));
+    sure!(rt; ends.client.end.offer(1, 30) == Ok(()));
+    sure!(rt; ends.server.end.offer(2, 20) == Ok(()));
     write_both(rt, ends, TEXT.get(..FRONT).unwrap_or(&[]));
 }
 
@@ -90,8 +90,8 @@ fn talk<A: Allocator + Copy>(rt: &impl Abort, ends: &mut Ends<A>) {
     pass(rt, ends, 2, false);
     write_both(rt, ends, TEXT.get(FRONT..).unwrap_or(&[]));
     pass(rt, ends, 3, false);
-    assert!(rt; ends.client.end.close(1) == Ok(()));
-    assert!(rt; ends.server.end.close(2) == Ok(()));
+    sure!(rt; ends.client.end.close(1) == Ok(()));
+    sure!(rt; ends.server.end.close(2) == Ok(()));
     pass(rt, ends, 4, false);
     ends.server.read_all(rt, 1, TEXT);
     ends.client.read_all(rt, 2, TEXT);
@@ -117,10 +117,10 @@ fn check<A: Allocator + Copy>(
     met: bool,
     n: u64,
 ) {
-    assert!(rt; is_done(&ends.client, 1, 20, 30), "at {n}");
-    assert!(rt; is_done(&ends.server, 2, 60, 20), "at {n}");
-    assert!(rt; ends.digests() == want, "at {n}");
-    assert!(rt; ends.lacks() == u64::from(met), "at {n}");
+    sure!(rt; is_done(&ends.client, 1, 20, 30), n);
+    sure!(rt; is_done(&ends.server, 2, 60, 20), n);
+    sure!(rt; ends.digests() == want, n);
+    sure!(rt; ends.lacks() == u64::from(met), n);
 }
 
 /// Makes two ends and lets them talk while request `n` is refused: whether there was one.
@@ -132,8 +132,8 @@ fn meets(rt: &impl Abort, heap: &Refusing<Global>, want: (u64, u64), n: u64) -> 
             check(rt, &ends, want, heap.has_refused(), n);
         }
         Err(error) => {
-            assert!(rt; error == EndError::NoMemory);
-            assert!(rt; Ends::new(rt, heap).is_ok());
+            sure!(rt; error == EndError::NoMemory);
+            sure!(rt; Ends::new(rt, heap).is_ok());
         }
     }
     heap.has_refused()

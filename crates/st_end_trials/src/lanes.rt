@@ -57,7 +57,7 @@ impl Lane {
     /// Offers so much of what is left, where the stream is open.
     fn offer(&mut self, rt: &impl Abort, end: &mut EndState<Global>, most: u64) {
         let amount = most.min(self.money.saturating_sub(self.offered));
-        assert!(rt; end.offer(self.stream, amount).is_ok());
+        sure!(rt; end.offer(self.stream, amount).is_ok());
         self.offered = self.offered.saturating_add(amount);
     }
 
@@ -66,9 +66,9 @@ impl Lane {
         let until = self.total.min(self.written.saturating_add(most));
         let mut piece = Vec::new(alloc);
         for offset in self.written..until {
-            assert!(rt; piece.push(byte_at(self.own_mark, offset)).is_ok());
+            sure!(rt; piece.push(byte_at(self.own_mark, offset)).is_ok());
         }
-        assert!(rt; end.write(self.stream, &piece).is_ok());
+        sure!(rt; end.write(self.stream, &piece).is_ok());
         self.written = until;
     }
 
@@ -88,7 +88,7 @@ impl Lane {
         } else if self.offered < self.money {
             self.offer(rt, end, most);
         } else {
-            assert!(rt; end.close(self.stream).is_ok());
+            sure!(rt; end.close(self.stream).is_ok());
             self.closed = true;
         }
     }
@@ -113,7 +113,7 @@ impl Lane {
     ) -> bool {
         match end.read(self.stream, most.max(1)) {
             Ok(Got::Bytes(bytes)) => {
-                assert!(rt; !self.ended && self.takes(&bytes));
+                sure!(rt; !self.ended && self.takes(&bytes));
                 true
             }
             Ok(Got::End) => {
@@ -123,7 +123,7 @@ impl Lane {
             Ok(Got::Nothing) => false,
             Ok(Got::Aborted(_)) => panic!(rt; "nothing was aborted"),
             Err(error) => {
-                assert!(rt; error == EndError::NoStream);
+                sure!(rt; error == EndError::NoStream);
                 false
             }
         }

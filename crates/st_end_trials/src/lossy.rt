@@ -31,11 +31,11 @@ fn total(numbers: &mut Numbers) -> u64 {
 /// Opens the stream at the side that may, where this is it, and gives the side its lane.
 fn add_lane(rt: &impl Abort, numbers: &mut Numbers, side: &mut Side, mark: u8, stream: u8) {
     if stream % 2 != mark {
-        assert!(rt; side.end.open_stream() == Ok(stream));
+        sure!(rt; side.end.open_stream() == Ok(stream));
     }
     let lane = Lane::new(stream, mark, total(numbers), numbers.below(400));
-    assert!(rt; side.lanes.push(lane).is_ok());
-    assert!(rt; side.end.set_receive_max(stream, RECEIVE_MAX).is_ok());
+    sure!(rt; side.lanes.push(lane).is_ok());
+    sure!(rt; side.end.set_receive_max(stream, RECEIVE_MAX).is_ok());
 }
 
 /// A side with up to four lanes.

@@ -49,9 +49,9 @@ fn made<A: Allocator + Copy>(rt: &impl Abort, alloc: A, role: Role) -> EndState<
 /// A client with bytes and money on its stream 1.
 fn writing<A: Allocator + Copy>(rt: &impl Abort, alloc: A) -> EndState<A> {
     let mut client = made(rt, alloc, Role::Client);
-    assert!(rt; client.open_stream() == Ok(1));
-    assert!(rt; client.write(1, b"there is more than one word of it") == Ok(()));
-    assert!(rt; client.offer(1, 30) == Ok(()));
+    sure!(rt; client.open_stream() == Ok(1));
+    sure!(rt; client.write(1, b"there is more than one word of it") == Ok(()));
+    sure!(rt; client.offer(1, 30) == Ok(()));
     client
 }
 
@@ -75,14 +75,14 @@ fn prepare(rt: &impl Abort, global: Global) -> Vec<u8> {
 /// A server that may receive 100 units on stream 1.
 fn listening<A: Allocator + Copy>(rt: &impl Abort, alloc: A) -> EndState<A> {
     let mut server = made(rt, alloc, Role::Server);
-    assert!(rt; server.set_receive_max(1, 100) == Ok(()));
+    sure!(rt; server.set_receive_max(1, 100) == Ok(()));
     server
 }
 
 /// The same, once what the client sends first arrived.
 fn reading<A: Allocator + Copy>(rt: &impl Abort, alloc: A, prepare: &[u8]) -> EndState<A> {
     let mut server = listening(rt, alloc);
-    assert!(rt; receive(&mut server, prepare).is_ok());
+    sure!(rt; receive(&mut server, prepare).is_ok());
     server
 }
 
@@ -274,20 +274,20 @@ pub(crate) fn land<A: Allocator + Copy>(
         panic!(rt; "the flight is not open");
     }
     match answer {
-        Some(bytes) => assert!(rt; client.answer(flight, bytes)),
+        Some(bytes) => sure!(rt; client.answer(flight, bytes)),
         None => client.fault(flight),
     }
 }
 
 /// The calls that never want memory, but for those that take a flight.
 fn call_others<A: Allocator + Copy>(rt: &impl Abort, end: &mut EndState<A>) {
-    assert!(rt; end.has_stream(1) && !end.settled(1) && !end.is_failed());
-    assert!(rt; end.offer(1, 7) == Ok(()));
-    assert!(rt; end.set_receive_max(1, 7) == Ok(()));
-    assert!(rt; end.close(1) == Ok(()));
-    assert!(rt; end.abort(1, 9) == Ok(()));
-    assert!(rt; end.totals().paid == 30);
-    assert!(rt; !end.t00().is_empty());
+    sure!(rt; end.has_stream(1) && !end.settled(1) && !end.is_failed());
+    sure!(rt; end.offer(1, 7) == Ok(()));
+    sure!(rt; end.set_receive_max(1, 7) == Ok(()));
+    sure!(rt; end.close(1) == Ok(()));
+    sure!(rt; end.abort(1, 9) == Ok(()));
+    sure!(rt; end.totals().paid == 30);
+    sure!(rt; !end.t00().is_empty());
 }
 
 /// A client with two flights, and the answer to the first.
@@ -303,7 +303,7 @@ fn fly_twice<A: Allocator + Copy>(rt: &impl Abort, alloc: A) -> TwoFlights<A> {
     let mut client = writing(rt, alloc);
     let mut server = listening(rt, alloc);
     let (first, answer) = flown(rt, &mut client, &mut server, [1; 12]);
-    assert!(rt; client.write(1, b"more") == Ok(()));
+    sure!(rt; client.write(1, b"more") == Ok(()));
     let (second, _lost) = flown(rt, &mut client, &mut server, [2; 12]);
     TwoFlights {
         client,
@@ -332,5 +332,5 @@ fn the_other_calls_ask_for_no_memory(rt: HostRuntime) {
     let flights = fly_twice(&rt, &heap);
     heap.refuse_from(1);
     land_both(&rt, flights);
-    assert!(rt; heap.asked() == 0);
+    sure!(&rt; heap.asked() == 0);
 }

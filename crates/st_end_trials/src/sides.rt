@@ -60,7 +60,7 @@ impl Side {
     }
 
     fn keep(&mut self, rt: &impl Abort, shipment: Shipment) {
-        assert!(rt; self.way.push(shipment).is_ok());
+        sure!(rt; self.way.push(shipment).is_ok());
     }
 
     /// The next Prepare goes on its way: whether there was one.
@@ -170,7 +170,7 @@ impl Side {
             answer: _,
         } = shipment;
         self.end_flight(rt, waiting, None);
-        assert!(rt; self.late.push(prepare).is_ok());
+        sure!(rt; self.late.push(prepare).is_ok());
     }
 
     /// One of the Prepares that were given up arrives; its answer comes to nobody.

@@ -37,8 +37,8 @@ impl<A: Allocator + Copy> Steady<A> {
 
     /// That a call found no memory and left all as it was before.
     fn lacked(&mut self, rt: &impl Abort, error: EndError, before: Totals) {
-        assert!(rt; error == EndError::NoMemory);
-        assert!(rt; self.end.totals() == before);
+        sure!(rt; error == EndError::NoMemory);
+        sure!(rt; self.end.totals() == before);
         self.lacks = self.lacks.saturating_add(1);
     }
 
@@ -51,16 +51,16 @@ impl<A: Allocator + Copy> Steady<A> {
         let before = self.end.totals();
         if let Err(error) = self.end.open_stream() {
             self.lacked(rt, error, before);
-            assert!(rt; self.end.open_stream() == Ok(stream));
+            sure!(rt; self.end.open_stream() == Ok(stream));
         }
-        assert!(rt; self.end.has_stream(stream));
+        sure!(rt; self.end.has_stream(stream));
     }
 
     pub(crate) fn write(&mut self, rt: &impl Abort, stream: u8, bytes: &[u8]) {
         let before = self.end.totals();
         if let Err(error) = self.end.write(stream, bytes) {
             self.lacked(rt, error, before);
-            assert!(rt; self.end.write(stream, bytes) == Ok(()));
+            sure!(rt; self.end.write(stream, bytes) == Ok(()));
         }
     }
 
@@ -94,7 +94,7 @@ impl<A: Allocator + Copy> Steady<A> {
                 again.expect(rt, "one request alone is refused")
             }
         };
-        assert!(rt; received.reason == reason);
+        sure!(rt; received.reason == reason);
         self.note(&received.bytes);
         received.bytes
     }
@@ -115,9 +115,9 @@ impl<A: Allocator + Copy> Steady<A> {
     /// Reads these bytes, and then the end.
     pub(crate) fn read_all(&mut self, rt: &impl Abort, stream: u8, want: &[u8]) {
         match self.read(rt, stream) {
-            Got::Bytes(bytes) => assert!(rt; bytes.as_slice() == want),
+            Got::Bytes(bytes) => sure!(rt; bytes.as_slice() == want),
             _ => panic!(rt; "there are bytes"),
         }
-        assert!(rt; matches!(self.read(rt, stream), Got::End));
+        sure!(rt; matches!(self.read(rt, stream), Got::End));
     }
 }

@@ -120,7 +120,7 @@ fn opened(rt: &impl Abort, alloc: Global, bytes: &[u8]) -> Vec<u8> {
         Answer::Reject { payload, .. } => payload,
     };
     let mut plain = Vec::from_slice(alloc, payload).expect(rt, "there is memory");
-    assert!(rt; Keys::of(SECRET).unseal_payload(&mut plain).is_ok());
+    sure!(rt; Keys::of(SECRET).unseal_payload(&mut plain).is_ok());
     plain
 }
 
@@ -143,10 +143,10 @@ fn reason_of_hi(
     kind: u8,
 ) -> u8 {
     let received = receive(rt, end, bytes);
-    assert!(rt; received.sequence == Some(1));
-    assert!(rt; received.bytes.first() == Some(&kind));
+    sure!(rt; received.sequence == Some(1));
+    sure!(rt; received.bytes.first() == Some(&kind));
     let plain = opened(rt, alloc, &received.bytes);
-    assert!(rt; tells_hi(&plain, kind));
+    sure!(rt; tells_hi(&plain, kind));
     received.reason
 }
 
@@ -179,21 +179,21 @@ fn hi_is_fulfilled_and_read(rt: HostRuntime) {
     let alloc = rt.alloc();
     let mut server = end(&rt, alloc, Role::Server);
     let hi = prepare_hi(&rt, alloc, 1);
-    assert!(rt; reason_of_hi(&rt, alloc, &mut server, &hi, 13) == 0);
-    assert!(rt; reads(&rt, &mut server, b"hi"));
-    assert!(rt; reason(&rt, &mut server, &hi) == 60);
-    assert!(rt; server.totals().delivered == 2);
+    sure!(&rt; reason_of_hi(&rt, alloc, &mut server, &hi, 13) == 0);
+    sure!(&rt; reads(&rt, &mut server, b"hi"));
+    sure!(&rt; reason(&rt, &mut server, &hi) == 60);
+    sure!(&rt; server.totals().delivered == 2);
 }
 
 #[test]
 fn closed_connection_is_read_and_not_written(rt: HostRuntime) {
     let alloc = rt.alloc();
     let mut server = end(&rt, alloc, Role::Server);
-    assert!(rt; reason(&rt, &mut server, &prepare_hi(&rt, alloc, 1)) == 0);
-    assert!(rt; reason(&rt, &mut server, &prepare_close(&rt, alloc, 5)) == 0);
-    assert!(rt; reads_abort(&rt, &mut server));
-    assert!(rt; server.write(1, b"x") == Err(EndError::Closed));
-    assert!(rt; reason(&rt, &mut server, &prepare_hi(&rt, alloc, 6)) == 66);
+    sure!(&rt; reason(&rt, &mut server, &prepare_hi(&rt, alloc, 1)) == 0);
+    sure!(&rt; reason(&rt, &mut server, &prepare_close(&rt, alloc, 5)) == 0);
+    sure!(&rt; reads_abort(&rt, &mut server));
+    sure!(&rt; server.write(1, b"x") == Err(EndError::Closed));
+    sure!(&rt; reason(&rt, &mut server, &prepare_hi(&rt, alloc, 6)) == 66);
 }
 
 #[test]
@@ -201,27 +201,27 @@ fn rate_probe_is_answered_and_delivers_nothing(rt: HostRuntime) {
     let alloc = rt.alloc();
     let mut server = end(&rt, alloc, Role::Server);
     let probe = probe_hi(&rt, alloc);
-    assert!(rt; reason_of_hi(&rt, alloc, &mut server, &probe, 14) == 55);
-    assert!(rt; !server.has_stream(1));
+    sure!(&rt; reason_of_hi(&rt, alloc, &mut server, &probe, 14) == 55);
+    sure!(&rt; !server.has_stream(1));
 }
 
 /// A client whose stream 1 has "hi".
 fn client_of_hi(rt: &impl Abort, alloc: Global) -> EndState<Global> {
     let mut client = end(rt, alloc, Role::Client);
-    assert!(rt; client.open_stream() == Ok(1));
-    assert!(rt; client.write(1, b"hi") == Ok(()));
+    sure!(rt; client.open_stream() == Ok(1));
+    sure!(rt; client.write(1, b"hi") == Ok(()));
     client
 }
 
 /// The first Prepare is rejected, since no receive max was told yet; its reply tells one, and the second goes by it.
 fn pay_twice(rt: &impl Abort, client: &mut EndState<Global>, server: &mut EndState<Global>) {
-    assert!(rt; client.offer(1, 30) == Ok(()));
-    assert!(rt; server.set_receive_max(1, 10) == Ok(()));
-    assert!(rt; pass(rt, client, server, 0));
-    assert!(rt; pass(rt, client, server, 1));
-    assert!(rt; client.totals().paid == 10);
-    assert!(rt; server.totals().credited == 10);
-    assert!(rt; reads(rt, server, b"hi"));
+    sure!(rt; client.offer(1, 30) == Ok(()));
+    sure!(rt; server.set_receive_max(1, 10) == Ok(()));
+    sure!(rt; pass(rt, client, server, 0));
+    sure!(rt; pass(rt, client, server, 1));
+    sure!(rt; client.totals().paid == 10);
+    sure!(rt; server.totals().credited == 10);
+    sure!(rt; reads(rt, server, b"hi"));
 }
 
 #[test]
@@ -233,14 +233,14 @@ fn money_goes_up_to_the_receive_max(rt: HostRuntime) {
 
 /// A stream is closed, and its end comes with the second Prepare.
 fn go_to_the_end(rt: &impl Abort, client: &mut EndState<Global>, server: &mut EndState<Global>) {
-    assert!(rt; client.close(1) == Ok(()));
-    assert!(rt; pass(rt, client, server, 0));
-    assert!(rt; !client.settled(1));
-    assert!(rt; pass(rt, client, server, 1));
-    assert!(rt; client.settled(1));
-    assert!(rt; !pass(rt, client, server, 2));
-    assert!(rt; reads(rt, server, b"hi"));
-    assert!(rt; reads_end(rt, server));
+    sure!(rt; client.close(1) == Ok(()));
+    sure!(rt; pass(rt, client, server, 0));
+    sure!(rt; !client.settled(1));
+    sure!(rt; pass(rt, client, server, 1));
+    sure!(rt; client.settled(1));
+    sure!(rt; !pass(rt, client, server, 2));
+    sure!(rt; reads(rt, server, b"hi"));
+    sure!(rt; reads_end(rt, server));
 }
 
 #[test]
