@@ -19,12 +19,9 @@ fn rising<const N: usize>(first: u8, step: u8) -> [u8; N] {
 #[test]
 fn block_of_the_standard(rt: HostRuntime) {
     let key = Key::new(rising(0, 1));
-    assert!(rt;
+    sure!(&rt;
         block(&key, rising(0x00, 0x11))
-            == [
-                0x8e, 0xa2, 0xb7, 0xca, 0x51, 0x67, 0x45, 0xbf, 0xea, 0xfc, 0x49, 0x90, 0x4b, 0x49,
-                0x60, 0x89,
-            ]
+            == [ 0x8e, 0xa2, 0xb7, 0xca, 0x51, 0x67, 0x45, 0xbf, 0xea, 0xfc, 0x49, 0x90, 0x4b, 0x49, 0x60, 0x89, ]
     );
 }
 
@@ -33,28 +30,22 @@ fn block_of_the_standard(rt: HostRuntime) {
 fn zero_key(rt: HostRuntime) {
     let key = Key::new([0; 32]);
     let tag = seal(&key, [0; 12], &mut []);
-    assert!(rt;
-        tag == [
-            0x53, 0x0f, 0x8a, 0xfb, 0xc7, 0x45, 0x36, 0xb9, 0xa9, 0x63, 0xb4, 0xf1, 0xc4, 0xcb,
-            0x73, 0x8b,
-        ]
+    sure!(&rt;
+        tag
+            == [ 0x53, 0x0f, 0x8a, 0xfb, 0xc7, 0x45, 0x36, 0xb9, 0xa9, 0x63, 0xb4, 0xf1, 0xc4, 0xcb, 0x73, 0x8b, ]
     );
     let mut text = [0u8; 16];
     let tag = seal(&key, [0; 12], &mut text);
-    assert!(rt;
-        text == [
-            0xce, 0xa7, 0x40, 0x3d, 0x4d, 0x60, 0x6b, 0x6e, 0x07, 0x4e, 0xc5, 0xd3, 0xba, 0xf3,
-            0x9d, 0x18,
-        ]
+    sure!(&rt;
+        text
+            == [ 0xce, 0xa7, 0x40, 0x3d, 0x4d, 0x60, 0x6b, 0x6e, 0x07, 0x4e, 0xc5, 0xd3, 0xba, 0xf3, 0x9d, 0x18, ]
     );
-    assert!(rt;
-        tag == [
-            0xd0, 0xd1, 0xc8, 0xa7, 0x99, 0x99, 0x6b, 0xf0, 0x26, 0x5b, 0x98, 0xb5, 0xd4, 0x8a,
-            0xb9, 0x19,
-        ]
+    sure!(&rt;
+        tag
+            == [ 0xd0, 0xd1, 0xc8, 0xa7, 0x99, 0x99, 0x6b, 0xf0, 0x26, 0x5b, 0x98, 0xb5, 0xd4, 0x8a, 0xb9, 0x19, ]
     );
-    assert!(rt; unseal(&key, [0; 12], tag, &mut text));
-    assert!(rt; text == [0u8; 16]);
+    sure!(&rt; unseal(&key, [0; 12], tag, &mut text));
+    sure!(&rt; text == [0u8; 16]);
 }
 
 /// A tag that is wrong in its last byte alone leaves the bytes, also where there are none.
@@ -62,16 +53,16 @@ fn zero_key(rt: HostRuntime) {
 fn wrong_tag(rt: HostRuntime) {
     let key = Key::new([0; 32]);
     let mut tag = seal(&key, [0; 12], &mut []);
-    assert!(rt; tag[15] == 0x8b);
+    sure!(&rt; tag[15] == 0x8b);
     tag[15] = 0x8a;
-    assert!(rt; !unseal(&key, [0; 12], tag, &mut []));
+    sure!(&rt; !unseal(&key, [0; 12], tag, &mut []));
 
     let mut text = [0u8; 16];
     let mut tag = seal(&key, [0; 12], &mut text);
     let sealed = text;
     tag[15] ^= 1;
-    assert!(rt; !unseal(&key, [0; 12], tag, &mut text));
-    assert!(rt; text == sealed);
+    sure!(&rt; !unseal(&key, [0; 12], tag, &mut text));
+    sure!(&rt; text == sealed);
 }
 
 #[test]
@@ -79,30 +70,36 @@ fn case_of_the_submission(rt: HostRuntime) {
     let key = Key::new(case_15::KEY);
     let mut text = case_15::TEXT;
     let tag = seal(&key, case_15::IV, &mut text);
-    assert!(rt; text == case_15::CIPHERTEXT);
-    assert!(rt; tag == case_15::TAG);
+    sure!(&rt; text == case_15::CIPHERTEXT);
+    sure!(&rt; tag == case_15::TAG);
+}
+
+/// Seals the front of a text of this length, where the text is long enough, and opens it again: the tag, and whether the rest
+/// stayed, the front became these bytes, and then was as before.
+fn there_and_back<const N: usize>(
+    key: &Key,
+    text: &[u8; N],
+    length: usize,
+    want: &[u8],
+) -> Option<[u8; 16]> {
+    let iv = rising(0xa0, 1);
+    let mut sealed = *text;
+    let (front, rest) = sealed.split_at_mut_checked(length)?;
+    let tag = seal(key, iv, front);
+    let is_sealed = *front == *want.get(..length)? && Some(&*rest) == text.get(length..);
+    if is_sealed && unseal(key, iv, tag, front) && sealed == *text {
+        Some(tag)
+    } else {
+        None
+    }
 }
 
 #[test]
 fn lengths(rt: HostRuntime) {
     let key = Key::new(rising(0, 1));
-    let iv = rising(0xa0, 1);
     let text: [u8; 33] = rising(3, 7);
     for (length, tag) in TAGS {
-        assert!(rt; length <= 33);
-        let mut sealed = text;
-        let part = &mut sealed[..length];
-        assert!(rt; seal(&key, iv, part) == tag, "at {length} bytes");
-        assert!(rt;
-            sealed[..length] == CIPHERTEXT[..length],
-            "at {length} bytes"
-        );
-        assert!(rt; sealed[length..] == text[length..], "at {length} bytes");
-        assert!(rt;
-            unseal(&key, iv, tag, &mut sealed[..length]),
-            "at {length} bytes"
-        );
-        assert!(rt; sealed == text, "at {length} bytes");
+        sure!(&rt; there_and_back(&key, &text, length, &CIPHERTEXT) == Some(tag), length as u64);
     }
 }
 
@@ -111,25 +108,15 @@ fn lengths(rt: HostRuntime) {
 #[test]
 fn each_length(rt: HostRuntime) {
     let key = Key::new(rising(0, 1));
-    let iv = rising(0xa0, 1);
     let text: [u8; 130] = rising(3, 7);
     let mut tags = [0u8; 2096];
     for length in 0..131usize {
-        let mut sealed = text;
-        let tag = seal(&key, iv, &mut sealed[..length]);
-        assert!(rt;
-            sealed[..length] == CIPHERTEXT[..length],
-            "at {length} bytes"
-        );
-        assert!(rt; sealed[length..] == text[length..], "at {length} bytes");
-        assert!(rt;
-            unseal(&key, iv, tag, &mut sealed[..length]),
-            "at {length} bytes"
-        );
-        assert!(rt; sealed == text, "at {length} bytes");
+        let Some(tag) = there_and_back(&key, &text, length, &CIPHERTEXT) else {
+            panic!(rt; "at {length} bytes");
+        };
         tags[16 * length..16 * length + 16].copy_from_slice(&tag);
     }
-    assert!(rt; seal(&key, [0; 12], &mut tags) == TAG_OF_TAGS);
+    sure!(&rt; seal(&key, [0; 12], &mut tags) == TAG_OF_TAGS);
 }
 
 #[test]
@@ -139,9 +126,9 @@ fn long_text(rt: HostRuntime) {
     let text: [u8; 16384] = rising(3, 7);
     let mut sealed = text;
     let tag = seal(&key, iv, &mut sealed);
-    assert!(rt; tag == LONG_TAG);
-    assert!(rt; sealed.starts_with(&LONG_FIRST));
-    assert!(rt; sealed.ends_with(&LONG_LAST));
-    assert!(rt; unseal(&key, iv, tag, &mut sealed));
-    assert!(rt; sealed == text);
+    sure!(&rt; tag == LONG_TAG);
+    sure!(&rt; sealed.starts_with(&LONG_FIRST));
+    sure!(&rt; sealed.ends_with(&LONG_LAST));
+    sure!(&rt; unseal(&key, iv, tag, &mut sealed));
+    sure!(&rt; sealed == text);
 }

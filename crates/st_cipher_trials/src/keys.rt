@@ -14,94 +14,88 @@ const IV: [u8; 12] = [0, 1, 2, 3, 4, 5, 6, 7, 8, 9, 10, 11];
 
 #[test]
 fn keyed_hashes(rt: HostRuntime) {
-    assert!(rt; hmac(b"Jefe", b"what do ya want for nothing?") == JEFE);
-    assert!(rt; hmac(&[0x0b; 20], b"Hi There") == HI_THERE);
+    sure!(&rt; hmac(b"Jefe", b"what do ya want for nothing?") == JEFE);
+    sure!(&rt; hmac(&[0x0b; 20], b"Hi There") == HI_THERE);
     let larger = [0xaa; 131];
-    assert!(rt;
-        hmac(
+    sure!(&rt; hmac(
             &larger,
             b"Test Using Larger Than Block-Size Key - Hash Key First"
-        ) == LARGER_KEY
-    );
-    assert!(rt;
-        hmac(
+        ) == LARGER_KEY);
+    sure!(&rt; hmac(
             &larger,
             b"This is a test using a larger than block-size key and a larger than block-size data. The key needs to be hashed before being used by the HMAC algorithm."
-        ) == LARGER_TEXT
-    );
-    assert!(rt; hmac(&[0xaa; 64], b"Hi There") == KEY_OF_64);
-    assert!(rt; hmac(&[0xaa; 65], b"Hi There") == KEY_OF_65);
+        ) == LARGER_TEXT);
+    sure!(&rt; hmac(&[0xaa; 64], b"Hi There") == KEY_OF_64);
+    sure!(&rt; hmac(&[0xaa; 65], b"Hi There") == KEY_OF_65);
 }
 
 #[test]
 fn fulfillment_of_a_payload(rt: HostRuntime) {
     let fulfillment = Keys::of(SECRET).fulfillment(&PAYLOAD);
-    assert!(rt; fulfillment == FULFILLMENT);
-    assert!(rt; condition(fulfillment) == CONDITION);
+    sure!(&rt; fulfillment == FULFILLMENT);
+    sure!(&rt; condition(fulfillment) == CONDITION);
+}
+
+/// Whether a payload opens to a packet of sequence 1 and amount 0 with this frame alone.
+fn says(keys: &Keys, payload: &mut [u8], frame: Frame<'_>) -> bool {
+    let Ok(packet) = keys.open_packet(payload, 12) else {
+        return false;
+    };
+    let mut frames = packet.frames.again();
+    (packet.kind, packet.sequence, packet.amount) == (12, 1, 0)
+        && frames.next() == Some((0, frame))
+        && frames.next().is_none()
 }
 
 #[test]
-fn packet_seals_and_opens(rt: HostRuntime) -> Result<(), Fail> {
+fn packet_seals_and_opens(rt: HostRuntime) {
     let keys = Keys::of(SECRET);
     let hi = Frame::StreamData {
         stream: 1,
         offset: 0,
         bytes: b"hi",
     };
-    let mut payload = keys.seal_packet(rt.alloc(), IV, 12, 1, 0, &[hi])?;
-    assert!(rt; payload.as_slice() == PAYLOAD.as_slice());
+    let sealed = keys.seal_packet(rt.alloc(), IV, 12, 1, 0, &[hi]);
+    let mut payload = sealed.expect(&rt, "it is sealed");
+    sure!(&rt; payload.as_slice() == PAYLOAD.as_slice());
+    sure!(&rt; says(&keys, &mut payload, hi));
+}
 
-    let packet = keys.open_packet(&mut payload, 12)?;
-    assert!(rt; packet.kind == 12);
-    assert!(rt; packet.sequence == 1);
-    assert!(rt; packet.amount == 0);
-    let mut frames = packet.frames.again();
-    let Some((index, frame)) = frames.next() else {
-        panic!(rt; "the packet has no frame")
-    };
-    assert!(rt; index == 0);
-    assert!(rt; frame == hi);
-    assert!(rt; frames.next().is_none());
-    Ok(())
+/// Whether a payload is refused so by both calls, and left as it was.
+fn is_left<const N: usize>(payload: [u8; N], want: KeyError) -> bool {
+    let keys = Keys::of(SECRET);
+    let mut bytes = payload;
+    keys.unseal_payload(&mut bytes) == Err(want)
+        && bytes == payload
+        && keys.open_packet(&mut bytes, 12).err() == Some(want)
+        && bytes == payload
 }
 
 #[test]
 fn payloads_that_do_not_open(rt: HostRuntime) {
-    let keys = Keys::of(SECRET);
-
-    let mut short = [7u8; 27];
-    assert!(rt; keys.unseal_payload(&mut short) == Err(KeyError::Short));
-    assert!(rt; short == [7u8; 27]);
-    assert!(rt; keys.open_packet(&mut short, 12).err() == Some(KeyError::Short));
-    assert!(rt; short == [7u8; 27]);
-    assert!(rt; KeyError::Short.number() == 30);
-    assert!(rt; KeyError::Short.inner() == None);
-
     let mut wrong = PAYLOAD;
     wrong[27] ^= 1;
-    let before = wrong;
-    assert!(rt; keys.unseal_payload(&mut wrong) == Err(KeyError::Tag));
-    assert!(rt; wrong == before);
-    assert!(rt; keys.open_packet(&mut wrong, 12).err() == Some(KeyError::Tag));
-    assert!(rt; wrong == before);
-    assert!(rt; KeyError::Tag.number() == 31);
+    sure!(&rt; is_left([7u8; 27], KeyError::Short));
+    sure!(&rt; is_left(wrong, KeyError::Tag));
+    sure!(&rt; (KeyError::Short.number(), KeyError::Short.inner()) == (30, None));
+    sure!(&rt; KeyError::Tag.number() == 31);
+}
 
+/// The empty text is none, and a packet of another kind is left open.
+#[test]
+fn payloads_that_are_no_packet(rt: HostRuntime) {
+    let keys = Keys::of(SECRET);
     let mut empty = EMPTY;
-    let Some(no_packet) = keys.open_packet(&mut empty, 12).err() else {
-        panic!(rt; "the empty text is a packet")
+    let Some(KeyError::Packet(fault)) = keys.open_packet(&mut empty, 12).err() else {
+        panic!(rt; "the empty text is a packet");
     };
-    assert!(rt; no_packet.number() == 32);
-    assert!(rt; no_packet.inner() == Some(22));
-    let KeyError::Packet(fault) = no_packet else {
-        panic!(rt; "the fault is none of the packet")
-    };
-    assert!(rt; fault.inner() == Some(1));
-
+    let refusal = KeyError::Packet(fault);
+    sure!(&rt; (refusal.number(), refusal.inner()) == (32, Some(22)));
+    sure!(&rt; fault.inner() == Some(1));
     let mut other_kind = PAYLOAD;
-    assert!(rt;
-        keys.open_packet(&mut other_kind, 13).err() == Some(KeyError::Packet(FrameError::Kind))
-    );
-    assert!(rt; other_kind[OVERHEAD..] == PACKET[..]);
+    let kind = KeyError::Packet(FrameError::Kind);
+    sure!(&rt; keys.open_packet(&mut other_kind, 13).err() == Some(kind));
+    sure!(&rt; other_kind[OVERHEAD..] == PACKET[..]);
 }
 
 #[test]
@@ -114,8 +108,8 @@ fn packet_too_long(rt: HostRuntime) -> Result<(), Fail> {
         bytes: &bytes,
     };
     let refused = keys.seal_packet(rt.alloc(), IV, 12, 1, 0, &[long]).err();
-    assert!(rt; refused == Some(KeyError::Packet(FrameError::TooLong)));
-    assert!(rt; KeyError::Packet(FrameError::TooLong).inner() == Some(24));
-    assert!(rt; KeyError::NoMemory.number() == 33);
+    sure!(&rt; refused == Some(KeyError::Packet(FrameError::TooLong)));
+    sure!(&rt; KeyError::Packet(FrameError::TooLong).inner() == Some(24));
+    sure!(&rt; KeyError::NoMemory.number() == 33);
     Ok(())
 }

@@ -46,54 +46,71 @@ const FULL_FULFILLMENT: [u8; 32] = [
     0x15, 0xdc, 0x79, 0xf8, 0x88, 0xf3, 0x54, 0x67, 0x54, 0xc9, 0x52, 0x69, 0xfc, 0xe6, 0x22, 0x3e,
 ];
 
+/// How sealing these frames is refused, if it is.
+fn refusal(heap: &Refusing<Global>, keys: &Keys, frames: &[Frame<'_>]) -> Option<KeyError> {
+    keys.seal_packet(heap, IV, 12, 1, 0, frames).err()
+}
+
 /// The one request that sealing makes is refused, and then not.
 #[test]
-fn a_packet_is_sealed_or_not(rt: HostRuntime) -> Result<(), Fail> {
+fn a_packet_is_sealed_or_not(rt: HostRuntime) {
     let heap: Refusing<Global> = Refusing::new(rt.alloc());
     let keys = Keys::of([0; 32]);
     heap.refuse_only(1);
-    let refused = keys.seal_packet(&heap, IV, 12, 1, 0, &[HI]).err();
-    assert!(rt; refused == Some(KeyError::NoMemory));
-    assert!(rt; KeyError::NoMemory.number() == 33);
+    sure!(&rt; refusal(&heap, &keys, &[HI]) == Some(KeyError::NoMemory));
+    sure!(&rt; KeyError::NoMemory.number() == 33);
     heap.refuse_from(2);
-    let payload = keys.seal_packet(&heap, IV, 12, 1, 0, &[HI])?;
-    assert!(rt; heap.asked() == 1);
-    assert!(rt; payload.capacity() == 45);
-    assert!(rt; payload.as_slice() == SEALED.as_slice());
-    Ok(())
+    let sealed = keys.seal_packet(&heap, IV, 12, 1, 0, &[HI]);
+    let payload = sealed.expect(&rt, "it is sealed");
+    sure!(&rt; (heap.asked(), payload.capacity()) == (1, 45));
+    sure!(&rt; payload.as_slice() == SEALED.as_slice());
 }
 
-/// The greatest plain packet, of 32,739 bytes, makes a payload of 32,767 and one request. One byte more is refused, and
-/// so is an address that is none, and neither asks for memory.
-#[test]
-fn the_greatest_packet(rt: HostRuntime) -> Result<(), Fail> {
-    let heap: Refusing<Global> = Refusing::new(rt.alloc());
-    let keys = Keys::of([0; 32]);
-    let data = vec![in rt.alloc(); 7u8; FULL + 1]?;
-    let full = &data[..FULL];
-    let frame = |bytes| Frame::StreamData {
+/// Bytes of stream 1 from offset 0 on.
+fn data(bytes: &[u8]) -> Frame<'_> {
+    Frame::StreamData {
         stream: 1,
         offset: 0,
         bytes,
-    };
-    heap.refuse_from(2);
-    let mut payload = keys.seal_packet(&heap, IV, 12, 1, 0, &[frame(full)])?;
-    assert!(rt; heap.asked() == 1);
-    assert!(rt; payload.len() == 32_767);
-    assert!(rt; payload.capacity() == 32_767);
-    assert!(rt; keys.fulfillment(&payload) == FULL_FULFILLMENT);
-    let mut frames = keys.open_packet(&mut payload, 12)?.frames;
-    assert!(rt; frames.next() == Some((0, frame(full))));
-    assert!(rt; payload.starts_with(&IV));
+    }
+}
 
+/// Whether a payload's packet is these bytes of stream 1, and its IV stays in front.
+fn opens(keys: &Keys, payload: &mut [u8], bytes: &[u8]) -> bool {
+    let first = match keys.open_packet(payload, 12) {
+        Ok(packet) => packet.frames.again().next() == Some((0, data(bytes))),
+        Err(_) => false,
+    };
+    first && payload.starts_with(&IV)
+}
+
+/// The greatest plain packet, of 32,739 bytes, makes a payload of 32,767 and one request.
+#[test]
+fn the_greatest_packet(rt: HostRuntime) {
+    let heap: Refusing<Global> = Refusing::new(rt.alloc());
+    let keys = Keys::of([0; 32]);
+    let full = [7u8; FULL];
+    heap.refuse_from(2);
+    let sealed = keys.seal_packet(&heap, IV, 12, 1, 0, &[data(&full)]);
+    let mut payload = sealed.expect(&rt, "it is sealed");
+    sure!(&rt; heap.asked() == 1);
+    sure!(&rt; (payload.len(), payload.capacity()) == (32_767, 32_767));
+    sure!(&rt; keys.fulfillment(&payload) == FULL_FULFILLMENT);
+    sure!(&rt; opens(&keys, &mut payload, &full));
+}
+
+/// One byte more is refused, and so is an address that is none, and neither asks for memory.
+#[test]
+fn what_is_not_sealed_asks_for_no_memory(rt: HostRuntime) {
+    let heap: Refusing<Global> = Refusing::new(rt.alloc());
+    let keys = Keys::of([0; 32]);
     heap.refuse_from(1);
-    let large = keys.seal_packet(&heap, IV, 12, 1, 0, &[frame(&data)]).err();
-    assert!(rt; large == Some(KeyError::Packet(FrameError::TooLong)));
+    let large = refusal(&heap, &keys, &[data(&[7; FULL + 1])]);
+    sure!(&rt; large == Some(KeyError::Packet(FrameError::TooLong)));
     let stranger = Frame::ConnectionNewAddress { address: "a..b" };
-    let unwritable = keys.seal_packet(&heap, IV, 12, 1, 0, &[HI, stranger]).err();
-    assert!(rt; unwritable == Some(KeyError::Packet(FrameError::FrameFormat(1))));
-    assert!(rt; heap.asked() == 0);
-    Ok(())
+    let unwritable = refusal(&heap, &keys, &[HI, stranger]);
+    sure!(&rt; unwritable == Some(KeyError::Packet(FrameError::FrameFormat(1))));
+    sure!(&rt; heap.asked() == 0);
 }
 
 /// Opening leaves IV and tag as they were, and the text behind them.
@@ -101,8 +118,8 @@ fn the_greatest_packet(rt: HostRuntime) -> Result<(), Fail> {
 fn what_opening_leaves(rt: HostRuntime) -> Result<(), Fail> {
     let keys = Keys::of([0; 32]);
     let mut payload = SEALED;
-    assert!(rt; keys.open_packet(&mut payload, 12)?.sequence == 1);
-    assert!(rt; payload == OPENED);
+    sure!(&rt; keys.open_packet(&mut payload, 12)?.sequence == 1);
+    sure!(&rt; payload == OPENED);
     Ok(())
 }
 
@@ -112,12 +129,12 @@ fn what_a_refused_packet_leaves(rt: HostRuntime) {
     let keys = Keys::of([0; 32]);
     let mut payload = SEALED;
     let refused = keys.open_packet(&mut payload, 13).err();
-    assert!(rt; refused == Some(KeyError::Packet(FrameError::Kind)));
-    assert!(rt; payload == OPENED);
+    sure!(&rt; refused == Some(KeyError::Packet(FrameError::Kind)));
+    sure!(&rt; payload == OPENED);
     let mut empty = EMPTY;
     let refused = keys.open_packet(&mut empty, 12).err();
-    assert!(rt; refused.map(|e| (e.number(), e.inner())) == Some((32, Some(22))));
-    assert!(rt; empty == EMPTY);
+    sure!(&rt; refused.map(|e| (e.number(), e.inner())) == Some((32, Some(22))));
+    sure!(&rt; empty == EMPTY);
 }
 
 /// A payload that is too short keeps every byte.

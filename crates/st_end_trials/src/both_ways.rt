@@ -123,18 +123,29 @@ fn check<A: Allocator + Copy>(
     sure!(rt; ends.lacks() == u64::from(met), n);
 }
 
+/// Two ends talk while a request is refused.
+fn talk_on<A: Allocator + Copy>(
+    rt: &impl Abort,
+    heap: &Refusing<Global>,
+    mut ends: Ends<A>,
+    want: (u64, u64),
+    n: u64,
+) {
+    talk(rt, &mut ends);
+    check(rt, &ends, want, heap.has_refused(), n);
+}
+
+/// That two ends were not made for want of memory, and are made now.
+fn is_made_now(rt: &impl Abort, heap: &Refusing<Global>, error: EndError) -> bool {
+    error == EndError::NoMemory && Ends::new(rt, heap).is_ok()
+}
+
 /// Makes two ends and lets them talk while request `n` is refused: whether there was one.
 fn meets(rt: &impl Abort, heap: &Refusing<Global>, want: (u64, u64), n: u64) -> bool {
     heap.refuse_only(n);
     match Ends::new(rt, heap) {
-        Ok(mut ends) => {
-            talk(rt, &mut ends);
-            check(rt, &ends, want, heap.has_refused(), n);
-        }
-        Err(error) => {
-            sure!(rt; error == EndError::NoMemory);
-            sure!(rt; Ends::new(rt, heap).is_ok());
-        }
+        Ok(ends) => talk_on(rt, heap, ends, want, n),
+        Err(error) => sure!(rt; is_made_now(rt, heap, error)),
     }
     heap.has_refused()
 }

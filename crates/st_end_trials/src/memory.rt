@@ -167,6 +167,11 @@ fn given<A: Allocator + Copy>(
     Ok((first, left(alloc, end)?))
 }
 
+/// Ends the test where this does not hold of a call of which request `n` is refused.
+fn sure_of(rt: &impl Abort, call: Call, n: u64, holds: bool) {
+    assert!(rt; holds, "{call:?} at {n}");
+}
+
 /// Whether a call meets the refusal of request `n`. If so it wants memory and nothing has changed, and then it gives and leaves
 /// what it should.
 fn meets_on<'a>(
@@ -184,15 +189,12 @@ fn meets_on<'a>(
     let met = heap.has_refused();
     heap.refuse_none();
     if met {
-        assert!(rt; answer == Err(EndError::NoMemory), "{call:?} at {n}");
-        assert!(rt; end.totals() == before, "{call:?} at {n}");
-        assert!(rt;
-            given(heap, end, call, prepare) == Ok(want),
-            "{call:?} at {n}"
-        );
+        sure_of(rt, call, n, answer == Err(EndError::NoMemory));
+        sure_of(rt, call, n, end.totals() == before);
+        sure_of(rt, call, n, given(heap, end, call, prepare) == Ok(want));
     } else {
-        assert!(rt; answer == Ok(want.0), "{call:?}");
-        assert!(rt; left(heap, end) == Ok(want.1), "{call:?}");
+        sure_of(rt, call, n, answer == Ok(want.0));
+        sure_of(rt, call, n, left(heap, end) == Ok(want.1));
     }
     met
 }

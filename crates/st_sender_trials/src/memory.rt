@@ -106,68 +106,81 @@ fn load_for<A: Allocator + Copy>(
     }
 }
 
-/// Whether a call on a fresh outbox meets the refusal of request `n`. If so it wants memory and nothing has changed, and then
-/// it gives and leaves what it should.
-fn meets(
+/// Ends the test where this does not hold of a call of which request `n` is refused.
+fn sure_of(rt: &impl Abort, call: Call, n: u64, holds: bool) {
+    assert!(rt; holds, "{call:?} at {n}");
+}
+
+/// Whether a call meets the refusal of request `n`. If so it wants memory and nothing has changed, and then it gives and leaves
+/// what it should.
+fn meets_on<A: Allocator + Copy>(
     rt: &impl Abort,
-    heap: &Refusing<Global>,
+    (heap, alloc): (&Refusing<Global>, A),
+    outbox: &mut Outbox<A>,
+    load: &Option<Load<A>>,
     call: Call,
     want: (u64, u64),
     n: u64,
-) -> Result<bool, OutboxError> {
-    heap.refuse_none();
-    let mut outbox = ready(heap)?;
-    let load = load_for(&mut outbox, call)?;
+) -> bool {
     heap.refuse_only(n);
-    let answer = called(heap, &mut outbox, &load, call);
+    let answer = called(alloc, outbox, load, call);
     let met = heap.has_refused();
     heap.refuse_none();
     if met {
-        assert_eq!(rt; answer, Err(OutboxError::NoMemory), "{call:?} at {n}");
-        assert!(rt;
-            given(heap, &mut outbox, &load, call)? == want,
-            "{call:?} at {n}"
-        );
+        sure_of(rt, call, n, answer == Err(OutboxError::NoMemory));
+        sure_of(rt, call, n, given(alloc, outbox, load, call) == Ok(want));
     } else {
-        assert_eq!(rt; answer, Ok(want.0), "{call:?}");
-        assert_eq!(rt; next_sum(&mut outbox), Ok(want.1), "{call:?}");
+        sure_of(rt, call, n, answer == Ok(want.0));
+        sure_of(rt, call, n, next_sum(outbox) == Ok(want.1));
     }
-    Ok(met)
+    met
+}
+
+/// The same on a fresh outbox.
+fn meets(rt: &impl Abort, heap: &Refusing<Global>, call: Call, want: (u64, u64), n: u64) -> bool {
+    heap.refuse_none();
+    let mut outbox = ready(heap).expect(rt, "there is memory");
+    let load = load_for(&mut outbox, call).expect(rt, "there is memory");
+    meets_on(rt, (heap, heap), &mut outbox, &load, call, want, n)
+}
+
+/// What a call gives and leaves where no memory is refused.
+fn wanted(rt: &impl Abort, global: Global, call: Call) -> (u64, u64) {
+    let mut outbox = ready(global).expect(rt, "there is memory");
+    let load = load_for(&mut outbox, call).expect(rt, "there is memory");
+    given(global, &mut outbox, &load, call).expect(rt, "there is memory")
 }
 
 /// Each request of a call is refused in turn, until a run meets no refusal.
-fn refuse_each(rt: &impl Abort, global: Global, call: Call) -> Result<(), OutboxError> {
+fn refuse_each(rt: &impl Abort, global: Global, call: Call) {
     let heap: Refusing<Global> = Refusing::new(global);
-    let mut outbox = ready(global)?;
-    let load = load_for(&mut outbox, call)?;
-    let want = given(global, &mut outbox, &load, call)?;
+    let want = wanted(rt, global, call);
     for n in 1..1000_u64 {
-        if !meets(rt, &heap, call, want, n)? {
-            assert!(rt; 1 < n, "{call:?} asks for none");
-            return Ok(());
+        if !meets(rt, &heap, call, want, n) {
+            sure_of(rt, call, n, 1 < n);
+            return;
         }
     }
     panic!(rt; "no run met no refusal");
 }
 
 #[test]
-fn each_call_wants_memory_or_succeeds(rt: HostRuntime) -> Result<(), OutboxError> {
+fn each_call_wants_memory_or_succeeds(rt: HostRuntime) {
     for call in CALLS {
-        refuse_each(&rt, rt.alloc(), call)?;
+        refuse_each(&rt, rt.alloc(), call);
     }
-    Ok(())
 }
 
 /// Three loads go; the first is acknowledged, the second fails, the third is taken back.
 #[test]
-fn the_other_calls_ask_for_no_memory(rt: HostRuntime) -> Result<(), OutboxError> {
+fn the_other_calls_ask_for_no_memory(rt: HostRuntime) {
     let heap: Refusing<Global> = Refusing::new(rt.alloc());
-    let mut outbox = ready(&heap)?;
-    assert!(rt; outbox.next(ROOM, &[])?.is_some());
-    outbox.accept(1, b"more")?;
-    assert!(rt; outbox.next(ROOM, &[])?.is_some());
-    outbox.offer(1, 5)?;
-    let third = outbox.next(ROOM, &[])?;
+    let mut outbox = ready(&heap).expect(&rt, "it succeeds");
+    sure!(&rt; outbox.next(ROOM, &[]).expect(&rt, "it succeeds").is_some());
+    outbox.accept(1, b"more").expect(&rt, "it succeeds");
+    sure!(&rt; outbox.next(ROOM, &[]).expect(&rt, "it succeeds").is_some());
+    outbox.offer(1, 5).expect(&rt, "it succeeds");
+    let third = outbox.next(ROOM, &[]).expect(&rt, "it succeeds");
     heap.refuse_from(1);
     outbox.acknowledged(1);
     outbox.failed(2, *b"T00");
@@ -175,23 +188,22 @@ fn the_other_calls_ask_for_no_memory(rt: HostRuntime) -> Result<(), OutboxError>
         outbox.take_back(load);
     }
     call_others(&rt, &mut outbox);
-    assert_eq!(rt; heap.asked(), 0);
-    Ok(())
+    sure!(&rt; heap.asked() == 0);
 }
 
 /// The calls on a stream that never want memory, and what is told of it.
 fn call_others<A: Allocator + Copy>(rt: &impl Abort, outbox: &mut Outbox<A>) {
-    assert_eq!(rt; outbox.paid(), 30);
-    assert_eq!(rt; outbox.accepted(), 37);
-    assert!(rt; outbox.has_stream(1) && !outbox.is_settled(1) && !outbox.is_failed());
+    sure!(rt; outbox.paid() == 30);
+    sure!(rt; outbox.accepted() == 37);
+    sure!(rt; outbox.has_stream(1) && !outbox.is_settled(1) && !outbox.is_failed());
     outbox.raise_limits(&Frame::ConnectionMaxData {
         max_offset: 1_000_000,
     });
     outbox.mark(&Frame::ConnectionMaxData {
         max_offset: 1_000_000,
     });
-    assert_eq!(rt; outbox.offer(1, 7), Ok(()));
-    assert_eq!(rt; outbox.close(1), Ok(()));
-    assert_eq!(rt; outbox.abort(1, 9), Ok(()));
+    sure!(rt; outbox.offer(1, 7) == Ok(()));
+    sure!(rt; outbox.close(1) == Ok(()));
+    sure!(rt; outbox.abort(1, 9) == Ok(()));
     outbox.too_large(9, None);
 }

@@ -48,71 +48,81 @@ fn sent_all<A: Allocator + Copy>(outbox: &mut Outbox<A>) -> Result<u64, OutboxEr
 }
 
 #[test]
-fn tells_once_that_a_stream_is_blocked(rt: HostRuntime) -> Result<(), OutboxError> {
+fn tells_once_that_a_stream_is_blocked(rt: HostRuntime) {
     let alloc = rt.alloc();
-    let mut outbox = opened(alloc)?;
-    let bytes = vec![in alloc; 7; 16_386]?;
-    outbox.accept(3, bytes.as_slice())?;
-    assert_eq!(rt; sent_all(&mut outbox)?, 2);
+    let mut outbox = opened(alloc).expect(&rt, "it succeeds");
+    let bytes = vec![in alloc; 7; 16_386].expect(&rt, "it succeeds");
+    outbox
+        .accept(3, bytes.as_slice())
+        .expect(&rt, "it succeeds");
+    sure!(&rt; sent_all(&mut outbox) == Ok(2));
     let at = Frame::StreamDataBlocked {
         stream: 3,
         max_offset: 16_384,
     };
-    assert!(rt; is_just(&outbox.next(ROOM, &[])?, at)?);
-    assert!(rt; outbox.next(ROOM, &[])?.is_none());
+    sure!(&rt;
+        is_just(&outbox.next(ROOM, &[]).expect(&rt, "it succeeds"), at).expect(&rt, "it succeeds")
+    );
+    sure!(&rt; outbox.next(ROOM, &[]).expect(&rt, "it succeeds").is_none());
     outbox.failed(3, *b"T00");
-    assert!(rt; is_just(&outbox.next(ROOM, &[])?, at)?);
+    sure!(&rt;
+        is_just(&outbox.next(ROOM, &[]).expect(&rt, "it succeeds"), at).expect(&rt, "it succeeds")
+    );
     outbox.acknowledged(4);
-    assert!(rt; outbox.next(ROOM, &[])?.is_none());
+    sure!(&rt; outbox.next(ROOM, &[]).expect(&rt, "it succeeds").is_none());
     outbox.raise_limits(&Frame::StreamMaxData {
         stream: 3,
         max_offset: 16_385,
     });
-    assert_eq!(rt;
-        outbox.next(ROOM, &[])?.map(|load| load.sequence()),
-        Some(5)
+    sure!(&rt;
+        outbox.next(ROOM, &[]).expect(&rt, "it succeeds").map(|load| load.sequence()) == Some(5)
     );
     outbox.acknowledged(5);
     let further = Frame::StreamDataBlocked {
         stream: 3,
         max_offset: 16_385,
     };
-    assert!(rt; is_just(&outbox.next(ROOM, &[])?, further)?);
-    Ok(())
-}
-
-#[test]
-fn tells_once_that_the_connection_is_blocked(rt: HostRuntime) -> Result<(), OutboxError> {
-    let alloc = rt.alloc();
-    let mut outbox = opened(alloc)?;
-    let bytes = vec![in alloc; 7; 16_384]?;
-    for stream in [1, 3, 5, 7] {
-        outbox.accept(stream, bytes.as_slice())?;
-    }
-    outbox.accept(9, b"a")?;
-    assert_eq!(rt; sent_all(&mut outbox)?, 8);
-    let at = Frame::ConnectionDataBlocked { max_offset: 65_536 };
-    assert!(rt; is_just(&outbox.next(ROOM, &[])?, at)?);
-    outbox.acknowledged(9);
-    assert!(rt; outbox.next(ROOM, &[])?.is_none());
-    outbox.raise_limits(&Frame::ConnectionMaxData { max_offset: 65_537 });
-    assert_eq!(rt;
-        outbox.next(ROOM, &[])?.map(|load| load.sequence()),
-        Some(10)
+    sure!(&rt;
+        is_just(&outbox.next(ROOM, &[]).expect(&rt, "it succeeds"), further).expect(&rt, "it succeeds")
     );
-    Ok(())
 }
 
 #[test]
-fn tells_once_that_money_is_blocked(rt: HostRuntime) -> Result<(), OutboxError> {
-    let mut outbox = opened(rt.alloc())?;
+fn tells_once_that_the_connection_is_blocked(rt: HostRuntime) {
+    let alloc = rt.alloc();
+    let mut outbox = opened(alloc).expect(&rt, "it succeeds");
+    let bytes = vec![in alloc; 7; 16_384].expect(&rt, "it succeeds");
+    for stream in [1, 3, 5, 7] {
+        outbox
+            .accept(stream, bytes.as_slice())
+            .expect(&rt, "it succeeds");
+    }
+    outbox.accept(9, b"a").expect(&rt, "it succeeds");
+    sure!(&rt; sent_all(&mut outbox) == Ok(8));
+    let at = Frame::ConnectionDataBlocked { max_offset: 65_536 };
+    sure!(&rt;
+        is_just(&outbox.next(ROOM, &[]).expect(&rt, "it succeeds"), at).expect(&rt, "it succeeds")
+    );
+    outbox.acknowledged(9);
+    sure!(&rt; outbox.next(ROOM, &[]).expect(&rt, "it succeeds").is_none());
+    outbox.raise_limits(&Frame::ConnectionMaxData { max_offset: 65_537 });
+    sure!(&rt;
+        outbox.next(ROOM, &[]).expect(&rt, "it succeeds").map(|load| load.sequence()) == Some(10)
+    );
+}
+
+#[test]
+fn tells_once_that_money_is_blocked(rt: HostRuntime) {
+    let mut outbox = opened(rt.alloc()).expect(&rt, "it succeeds");
     outbox.raise_limits(&Frame::StreamMaxMoney {
         stream: 5,
         receive_max: 10,
         total_received: 4,
     });
-    outbox.offer(5, 9)?;
-    assert_eq!(rt; outbox.next(ROOM, &[])?.map(|load| load.amount()), Some(6));
+    outbox.offer(5, 9).expect(&rt, "it succeeds");
+    sure!(&rt;
+        outbox.next(ROOM, &[]).expect(&rt, "it succeeds").map(|load| load.amount()) == Some(6)
+    );
     outbox.raise_limits(&Frame::StreamMaxMoney {
         stream: 5,
         receive_max: 10,
@@ -124,15 +134,16 @@ fn tells_once_that_money_is_blocked(rt: HostRuntime) -> Result<(), OutboxError> 
         send_max: 10,
         total_sent: 6,
     };
-    assert!(rt; is_just(&outbox.next(ROOM, &[])?, at)?);
+    sure!(&rt;
+        is_just(&outbox.next(ROOM, &[]).expect(&rt, "it succeeds"), at).expect(&rt, "it succeeds")
+    );
     outbox.acknowledged(2);
-    assert!(rt; outbox.next(ROOM, &[])?.is_none());
-    Ok(())
+    sure!(&rt; outbox.next(ROOM, &[]).expect(&rt, "it succeeds").is_none());
 }
 
 #[test]
-fn tells_limits_at_which_the_peer_waits(rt: HostRuntime) -> Result<(), OutboxError> {
-    let mut outbox = opened(rt.alloc())?;
+fn tells_limits_at_which_the_peer_waits(rt: HostRuntime) {
+    let mut outbox = opened(rt.alloc()).expect(&rt, "it succeeds");
     let money = Frame::StreamMaxMoney {
         stream: 2,
         receive_max: 51,
@@ -146,7 +157,7 @@ fn tells_limits_at_which_the_peer_waits(rt: HostRuntime) -> Result<(), OutboxErr
         },
         money,
     ];
-    assert!(rt; outbox.next(ROOM, &limits)?.is_none());
+    sure!(&rt; outbox.next(ROOM, &limits).expect(&rt, "it succeeds").is_none());
     outbox.mark(&Frame::ConnectionMaxData { max_offset: 8 });
     outbox.mark(&Frame::StreamMaxData {
         stream: 2,
@@ -157,29 +168,37 @@ fn tells_limits_at_which_the_peer_waits(rt: HostRuntime) -> Result<(), OutboxErr
         receive_max: 50,
         total_received: 0,
     });
-    assert!(rt; is_just(&outbox.next(ROOM, &limits)?, limits[1])?);
-    assert!(rt; is_just(&outbox.next(ROOM, &limits)?, money)?);
-    assert!(rt; outbox.next(ROOM, &limits)?.is_none());
+    sure!(&rt;
+        is_just(&outbox.next(ROOM, &limits).expect(&rt, "it succeeds"), limits[1]).expect(&rt, "it succeeds")
+    );
+    sure!(&rt;
+        is_just(&outbox.next(ROOM, &limits).expect(&rt, "it succeeds"), money).expect(&rt, "it succeeds")
+    );
+    sure!(&rt; outbox.next(ROOM, &limits).expect(&rt, "it succeeds").is_none());
     outbox.failed(1, *b"T00");
     outbox.acknowledged(2);
-    assert!(rt; is_just(&outbox.next(ROOM, &limits)?, limits[1])?);
+    sure!(&rt;
+        is_just(&outbox.next(ROOM, &limits).expect(&rt, "it succeeds"), limits[1]).expect(&rt, "it succeeds")
+    );
     outbox.acknowledged(3);
-    assert!(rt; outbox.next(ROOM, &limits)?.is_none());
-    Ok(())
+    sure!(&rt; outbox.next(ROOM, &limits).expect(&rt, "it succeeds").is_none());
 }
 
 #[test]
-fn sends_bytes_before_a_limit(rt: HostRuntime) -> Result<(), OutboxError> {
-    let mut outbox = opened(rt.alloc())?;
+fn sends_bytes_before_a_limit(rt: HostRuntime) {
+    let mut outbox = opened(rt.alloc()).expect(&rt, "it succeeds");
     let limit = Frame::ConnectionMaxData { max_offset: 9 };
     outbox.mark(&Frame::ConnectionMaxData { max_offset: 8 });
-    outbox.accept(1, b"ab")?;
+    outbox.accept(1, b"ab").expect(&rt, "it succeeds");
     let data = Frame::StreamData {
         stream: 1,
         offset: 0,
         bytes: b"ab",
     };
-    assert!(rt; is_just(&outbox.next(ROOM, &[limit])?, data)?);
-    assert!(rt; is_just(&outbox.next(ROOM, &[limit])?, limit)?);
-    Ok(())
+    sure!(&rt;
+        is_just(&outbox.next(ROOM, &[limit]).expect(&rt, "it succeeds"), data).expect(&rt, "it succeeds")
+    );
+    sure!(&rt;
+        is_just(&outbox.next(ROOM, &[limit]).expect(&rt, "it succeeds"), limit).expect(&rt, "it succeeds")
+    );
 }

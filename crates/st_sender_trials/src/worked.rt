@@ -60,77 +60,80 @@ fn code_of<A: Allocator + Copy>(load: &Option<Load<A>>) -> Result<Option<u8>, Ou
 }
 
 #[test]
-fn keeps_262_144_bytes_of_a_stream(rt: HostRuntime) -> Result<(), OutboxError> {
+fn keeps_262_144_bytes_of_a_stream(rt: HostRuntime) {
     let alloc = rt.alloc();
-    let mut outbox = opened(alloc, 16)?;
-    let bytes = vec![in alloc; 7; 262_144]?;
-    assert_eq!(rt; outbox.accept(1, bytes.as_slice()), Ok(()));
-    assert_eq!(rt; outbox.accept(1, b"a"), Err(OutboxError::Full));
-    assert_eq!(rt; outbox.accept(1, b""), Ok(()));
-    assert_eq!(rt; outbox.accept(3, b"a"), Err(OutboxError::NoStream));
-    Ok(())
+    let mut outbox = opened(alloc, 16).expect(&rt, "it succeeds");
+    let bytes = vec![in alloc; 7; 262_144].expect(&rt, "it succeeds");
+    sure!(&rt; outbox.accept(1, bytes.as_slice()) == Ok(()));
+    sure!(&rt; outbox.accept(1, b"a") == Err(OutboxError::Full));
+    sure!(&rt; outbox.accept(1, b"") == Ok(()));
+    sure!(&rt; outbox.accept(3, b"a") == Err(OutboxError::NoStream));
 }
 
 #[test]
-fn refuses_after_a_close_and_after_an_abort(rt: HostRuntime) -> Result<(), OutboxError> {
-    let mut outbox = opened(rt.alloc(), 16)?;
-    assert_eq!(rt; outbox.accept(1, b"ab"), Ok(()));
-    assert_eq!(rt; outbox.close(1), Ok(()));
-    assert_eq!(rt; outbox.close(1), Err(OutboxError::Closed));
-    assert_eq!(rt; outbox.accept(1, b"cd"), Err(OutboxError::Closed));
-    assert_eq!(rt; outbox.abort(1, 9), Ok(()));
-    assert_eq!(rt; outbox.abort(1, 9), Err(OutboxError::Closed));
-    let load = outbox.next(ROOM, &[])?;
-    assert_eq!(rt; code_of(&load)?, Some(9));
-    assert!(rt; outbox.next(ROOM, &[])?.is_none());
-    Ok(())
+fn refuses_after_a_close_and_after_an_abort(rt: HostRuntime) {
+    let mut outbox = opened(rt.alloc(), 16).expect(&rt, "it succeeds");
+    sure!(&rt; outbox.accept(1, b"ab") == Ok(()));
+    sure!(&rt; outbox.close(1) == Ok(()));
+    sure!(&rt; outbox.close(1) == Err(OutboxError::Closed));
+    sure!(&rt; outbox.accept(1, b"cd") == Err(OutboxError::Closed));
+    sure!(&rt; outbox.abort(1, 9) == Ok(()));
+    sure!(&rt; outbox.abort(1, 9) == Err(OutboxError::Closed));
+    let load = outbox.next(ROOM, &[]).expect(&rt, "it succeeds");
+    sure!(&rt; code_of(&load) == Ok(Some(9)));
+    sure!(&rt; outbox.next(ROOM, &[]).expect(&rt, "it succeeds").is_none());
 }
 
 #[test]
-fn counts_all_offers(rt: HostRuntime) -> Result<(), OutboxError> {
-    let mut outbox = opened(rt.alloc(), 16)?;
+fn counts_all_offers(rt: HostRuntime) {
+    let mut outbox = opened(rt.alloc(), 16).expect(&rt, "it succeeds");
     open(&mut outbox, 3);
-    assert!(rt; outbox.has_stream(3));
-    assert_eq!(rt; outbox.offer(1, 9_223_372_036_854_775_807), Ok(()));
-    assert_eq!(rt; outbox.offer(3, 1), Err(OutboxError::AmountTooLarge));
-    assert_eq!(rt; outbox.offer(3, 0), Ok(()));
-    assert_eq!(rt; outbox.offer(5, 1), Err(OutboxError::NoStream));
-    Ok(())
+    sure!(&rt; outbox.has_stream(3));
+    sure!(&rt; outbox.offer(1, 9_223_372_036_854_775_807) == Ok(()));
+    sure!(&rt; outbox.offer(3, 1) == Err(OutboxError::AmountTooLarge));
+    sure!(&rt; outbox.offer(3, 0) == Ok(()));
+    sure!(&rt; outbox.offer(5, 1) == Err(OutboxError::NoStream));
 }
 
 #[test]
-fn sends_no_byte_past_the_assumed_limit(rt: HostRuntime) -> Result<(), OutboxError> {
+fn sends_no_byte_past_the_assumed_limit(rt: HostRuntime) {
     let alloc = rt.alloc();
-    let mut outbox = opened(alloc, 16)?;
-    let bytes = vec![in alloc; 7; 20_000]?;
-    outbox.accept(1, bytes.as_slice())?;
-    assert_eq!(rt; data_of(&outbox.next(ROOM, &[])?)?, Some((0, 16_000)));
-    assert_eq!(rt; data_of(&outbox.next(ROOM, &[])?)?, Some((16_000, 384)));
-    assert!(rt; outbox.next(ROOM, &[])?.is_none());
+    let mut outbox = opened(alloc, 16).expect(&rt, "it succeeds");
+    let bytes = vec![in alloc; 7; 20_000].expect(&rt, "it succeeds");
+    outbox
+        .accept(1, bytes.as_slice())
+        .expect(&rt, "it succeeds");
+    sure!(&rt;
+        data_of(&outbox.next(ROOM, &[]).expect(&rt, "it succeeds")) == Ok(Some((0, 16_000)))
+    );
+    sure!(&rt;
+        data_of(&outbox.next(ROOM, &[]).expect(&rt, "it succeeds")) == Ok(Some((16_000, 384)))
+    );
+    sure!(&rt; outbox.next(ROOM, &[]).expect(&rt, "it succeeds").is_none());
     outbox.raise_limits(&Frame::StreamMaxData {
         stream: 1,
         max_offset: 16_385,
     });
-    assert_eq!(rt; data_of(&outbox.next(ROOM, &[])?)?, Some((16_384, 1)));
-    assert!(rt; outbox.next(ROOM, &[])?.is_none());
-    Ok(())
+    sure!(&rt;
+        data_of(&outbox.next(ROOM, &[]).expect(&rt, "it succeeds")) == Ok(Some((16_384, 1)))
+    );
+    sure!(&rt; outbox.next(ROOM, &[]).expect(&rt, "it succeeds").is_none());
 }
 
 #[test]
-fn sends_what_the_room_takes(rt: HostRuntime) -> Result<(), OutboxError> {
-    let mut outbox = opened(rt.alloc(), 1)?;
-    outbox.accept(1, b"hi")?;
-    assert!(rt; outbox.next(15, &[])?.is_none());
-    let load = outbox.next(17, &[])?;
-    assert_eq!(rt; data_of(&load)?, Some((0, 2)));
+fn sends_what_the_room_takes(rt: HostRuntime) {
+    let mut outbox = opened(rt.alloc(), 1).expect(&rt, "it succeeds");
+    outbox.accept(1, b"hi").expect(&rt, "it succeeds");
+    sure!(&rt; outbox.next(15, &[]).expect(&rt, "it succeeds").is_none());
+    let load = outbox.next(17, &[]).expect(&rt, "it succeeds");
+    sure!(&rt; data_of(&load) == Ok(Some((0, 2))));
     if let Some(load) = load {
-        assert_eq!(rt; load.sequence(), 1);
-        assert_eq!(rt; load.amount(), 0);
-        assert_eq!(rt; load.least(), 0);
+        sure!(&rt; load.sequence() == 1);
+        sure!(&rt; load.amount() == 0);
+        sure!(&rt; load.least() == 0);
     }
-    assert!(rt; outbox.next(ROOM, &[])?.is_none());
+    sure!(&rt; outbox.next(ROOM, &[]).expect(&rt, "it succeeds").is_none());
     outbox.mark(&Frame::ConnectionMaxData { max_offset: 7 });
-    Ok(())
 }
 
 #[test]
@@ -140,42 +143,40 @@ fn sends_what_failed_again_and_closes_what_is_acknowledged(
     let mut outbox = opened(rt.alloc(), 16)?;
     outbox.accept(1, b"ab")?;
     outbox.close(1)?;
-    assert_eq!(rt; data_of(&outbox.next(ROOM, &[])?)?, Some((0, 2)));
-    assert!(rt; outbox.next(ROOM, &[])?.is_none());
+    sure!(&rt; data_of(&outbox.next(ROOM, &[])?)? == Some((0, 2)));
+    sure!(&rt; outbox.next(ROOM, &[])?.is_none());
     outbox.failed(1, *b"T01");
     let again = outbox.next(ROOM, &[])?;
-    assert_eq!(rt; data_of(&again)?, Some((0, 2)));
+    sure!(&rt; data_of(&again)? == Some((0, 2)));
     outbox.acknowledged(1);
-    assert!(rt; outbox.next(ROOM, &[])?.is_none());
+    sure!(&rt; outbox.next(ROOM, &[])?.is_none());
     outbox.acknowledged(2);
-    assert_eq!(rt; code_of(&outbox.next(ROOM, &[])?)?, Some(1));
+    sure!(&rt; code_of(&outbox.next(ROOM, &[])?)? == Some(1));
     outbox.acknowledged(3);
-    assert!(rt; outbox.next(ROOM, &[])?.is_none());
+    sure!(&rt; outbox.next(ROOM, &[])?.is_none());
     Ok(())
 }
 
 #[test]
-fn fails_after_200_failures_in_a_row(rt: HostRuntime) -> Result<(), OutboxError> {
-    let mut outbox = opened(rt.alloc(), 1)?;
-    outbox.accept(1, b"a")?;
+fn fails_after_200_failures_in_a_row(rt: HostRuntime) {
+    let mut outbox = opened(rt.alloc(), 1).expect(&rt, "it succeeds");
+    outbox.accept(1, b"a").expect(&rt, "it succeeds");
     for sequence in 1..=200_u64 {
-        assert_eq!(rt; data_of(&outbox.next(ROOM, &[])?)?, Some((0, 1)));
+        sure!(&rt; data_of(&outbox.next(ROOM, &[]).expect(&rt, "it succeeds")) == Ok(Some((0, 1))));
         outbox.failed(sequence, *b"F99");
     }
-    assert!(rt; outbox.next(ROOM, &[])?.is_none());
-    Ok(())
+    sure!(&rt; outbox.next(ROOM, &[]).expect(&rt, "it succeeds").is_none());
 }
 
 #[test]
-fn fails_at_a_final_code(rt: HostRuntime) -> Result<(), OutboxError> {
-    let mut outbox = opened(rt.alloc(), 1)?;
-    outbox.accept(1, b"a")?;
-    assert_eq!(rt; data_of(&outbox.next(ROOM, &[])?)?, Some((0, 1)));
+fn fails_at_a_final_code(rt: HostRuntime) {
+    let mut outbox = opened(rt.alloc(), 1).expect(&rt, "it succeeds");
+    outbox.accept(1, b"a").expect(&rt, "it succeeds");
+    sure!(&rt; data_of(&outbox.next(ROOM, &[]).expect(&rt, "it succeeds")) == Ok(Some((0, 1))));
     outbox.too_large(1, Some((3, 1)));
-    assert_eq!(rt; data_of(&outbox.next(ROOM, &[])?)?, Some((0, 1)));
+    sure!(&rt; data_of(&outbox.next(ROOM, &[]).expect(&rt, "it succeeds")) == Ok(Some((0, 1))));
     outbox.failed(2, *b"F02");
-    assert!(rt; outbox.next(ROOM, &[])?.is_none());
-    Ok(())
+    sure!(&rt; outbox.next(ROOM, &[]).expect(&rt, "it succeeds").is_none());
 }
 
 /// The amount that goes once F08 answered a Prepare of so much, with a received and a maximum amount where it told them.
@@ -218,98 +219,92 @@ fn lowers_the_packet_limit(rt: HostRuntime) {
 }
 
 #[test]
-fn shares_the_packet_limit_among_streams(rt: HostRuntime) -> Result<(), OutboxError> {
+fn shares_the_packet_limit_among_streams(rt: HostRuntime) {
     let Some(config) = EndConfig::new(4, 1_000, 100) else {
-        return Err(OutboxError::NoStream);
+        panic!(rt; "these are lawful");
     };
-    let mut outbox = Outbox::new(rt.alloc(), config)?;
+    let mut outbox = Outbox::new(rt.alloc(), config).expect(&rt, "it succeeds");
     open(&mut outbox, 1);
     open(&mut outbox, 3);
     open(&mut outbox, 5);
-    outbox.offer(1, 60)?;
-    outbox.offer(3, 50)?;
-    outbox.offer(5, 30)?;
-    assert_eq!(rt; amount_of(&outbox.next(ROOM, &[])?), Some(100));
-    assert_eq!(rt; amount_of(&outbox.next(ROOM, &[])?), Some(40));
-    assert!(rt; outbox.next(ROOM, &[])?.is_none());
+    outbox.offer(1, 60).expect(&rt, "it succeeds");
+    outbox.offer(3, 50).expect(&rt, "it succeeds");
+    outbox.offer(5, 30).expect(&rt, "it succeeds");
+    sure!(&rt; amount_of(&outbox.next(ROOM, &[]).expect(&rt, "it succeeds")) == Some(100));
+    sure!(&rt; amount_of(&outbox.next(ROOM, &[]).expect(&rt, "it succeeds")) == Some(40));
+    sure!(&rt; outbox.next(ROOM, &[]).expect(&rt, "it succeeds").is_none());
     outbox.acknowledged(1);
     outbox.failed(2, *b"T04");
-    assert_eq!(rt; outbox.paid(), 100);
-    assert_eq!(rt; amount_of(&outbox.next(ROOM, &[])?), Some(40));
-    Ok(())
+    sure!(&rt; outbox.paid() == 100);
+    sure!(&rt; amount_of(&outbox.next(ROOM, &[]).expect(&rt, "it succeeds")) == Some(40));
 }
 
 #[test]
-fn sends_no_money_past_the_receive_max(rt: HostRuntime) -> Result<(), OutboxError> {
-    let mut outbox = opened(rt.alloc(), 16)?;
+fn sends_no_money_past_the_receive_max(rt: HostRuntime) {
+    let mut outbox = opened(rt.alloc(), 16).expect(&rt, "it succeeds");
     outbox.raise_limits(&Frame::StreamMaxMoney {
         stream: 1,
         receive_max: 10,
         total_received: 4,
     });
-    outbox.offer(1, 9)?;
-    assert_eq!(rt; amount_of(&outbox.next(ROOM, &[])?), Some(6));
-    assert!(rt; outbox.next(ROOM, &[])?.is_none());
-    Ok(())
+    outbox.offer(1, 9).expect(&rt, "it succeeds");
+    sure!(&rt; amount_of(&outbox.next(ROOM, &[]).expect(&rt, "it succeeds")) == Some(6));
+    sure!(&rt; outbox.next(ROOM, &[]).expect(&rt, "it succeeds").is_none());
 }
 
 #[test]
-fn sends_less_after_f08(rt: HostRuntime) -> Result<(), OutboxError> {
-    let mut outbox = opened(rt.alloc(), 1)?;
-    outbox.offer(1, 7)?;
-    assert_eq!(rt; amount_of(&outbox.next(ROOM, &[])?), Some(7));
+fn sends_less_after_f08(rt: HostRuntime) {
+    let mut outbox = opened(rt.alloc(), 1).expect(&rt, "it succeeds");
+    outbox.offer(1, 7).expect(&rt, "it succeeds");
+    sure!(&rt; amount_of(&outbox.next(ROOM, &[]).expect(&rt, "it succeeds")) == Some(7));
     outbox.too_large(1, Some((3, 1)));
-    assert_eq!(rt; amount_of(&outbox.next(ROOM, &[])?), Some(2));
+    sure!(&rt; amount_of(&outbox.next(ROOM, &[]).expect(&rt, "it succeeds")) == Some(2));
     outbox.failed(2, *b"F08");
-    assert_eq!(rt; amount_of(&outbox.next(ROOM, &[])?), Some(1));
-    Ok(())
+    sure!(&rt; amount_of(&outbox.next(ROOM, &[]).expect(&rt, "it succeeds")) == Some(1));
 }
 
 #[test]
-fn takes_a_load_back(rt: HostRuntime) -> Result<(), OutboxError> {
-    let mut outbox = opened(rt.alloc(), 1)?;
-    outbox.accept(1, b"ab")?;
-    let first = outbox.next(ROOM, &[])?;
-    assert!(rt; outbox.next(ROOM, &[])?.is_none());
+fn takes_a_load_back(rt: HostRuntime) {
+    let mut outbox = opened(rt.alloc(), 1).expect(&rt, "it succeeds");
+    outbox.accept(1, b"ab").expect(&rt, "it succeeds");
+    let first = outbox.next(ROOM, &[]).expect(&rt, "it succeeds");
+    sure!(&rt; outbox.next(ROOM, &[]).expect(&rt, "it succeeds").is_none());
     if let Some(load) = first {
         outbox.take_back(load);
     }
-    let again = outbox.next(ROOM, &[])?;
-    assert_eq!(rt; data_of(&again)?, Some((0, 2)));
+    let again = outbox.next(ROOM, &[]).expect(&rt, "it succeeds");
+    sure!(&rt; data_of(&again) == Ok(Some((0, 2))));
     if let Some(load) = again {
-        assert_eq!(rt; load.sequence(), 1);
+        sure!(&rt; load.sequence() == 1);
     }
-    Ok(())
 }
 
 #[test]
-fn tells_its_refusals_by_number(rt: HostRuntime) -> Result<(), OutboxError> {
-    assert_eq!(rt; OutboxError::NoStream.number(), 50);
-    assert_eq!(rt; OutboxError::Closed.number(), 51);
-    assert_eq!(rt; OutboxError::Full.number(), 52);
-    assert_eq!(rt; OutboxError::AmountTooLarge.number(), 53);
-    assert_eq!(rt; OutboxError::NoMemory.number(), 54);
-    assert_eq!(rt; OutboxError::NoMemory.inner(), None);
-    Ok(())
+fn tells_its_refusals_by_number(rt: HostRuntime) {
+    sure!(&rt; OutboxError::NoStream.number() == 50);
+    sure!(&rt; OutboxError::Closed.number() == 51);
+    sure!(&rt; OutboxError::Full.number() == 52);
+    sure!(&rt; OutboxError::AmountTooLarge.number() == 53);
+    sure!(&rt; OutboxError::NoMemory.number() == 54);
+    sure!(&rt; OutboxError::NoMemory.inner() == None);
 }
 
 #[test]
-fn sets_what_a_connection_may_send(rt: HostRuntime) -> Result<(), OutboxError> {
-    assert!(rt; EndConfig::new(0, 1, 1).is_none());
-    assert!(rt; EndConfig::new(65, 1, 1).is_none());
-    assert!(rt; EndConfig::new(64, 0, 1).is_none());
-    assert!(rt; EndConfig::new(64, 2_147_483_648, 1).is_none());
-    assert!(rt; EndConfig::new(64, 2_147_483_647, 0).is_none());
-    assert!(rt; EndConfig::new(64, 2_147_483_647, 9_223_372_036_854_775_808).is_none());
+fn sets_what_a_connection_may_send(rt: HostRuntime) {
+    sure!(&rt; EndConfig::new(0, 1, 1).is_none());
+    sure!(&rt; EndConfig::new(65, 1, 1).is_none());
+    sure!(&rt; EndConfig::new(64, 0, 1).is_none());
+    sure!(&rt; EndConfig::new(64, 2_147_483_648, 1).is_none());
+    sure!(&rt; EndConfig::new(64, 2_147_483_647, 0).is_none());
+    sure!(&rt; EndConfig::new(64, 2_147_483_647, 9_223_372_036_854_775_808).is_none());
     let config = EndConfig::new(64, 2_147_483_647, 9_223_372_036_854_775_807);
     let (Some(config), Some(rate)) = (config, Rate::new(3, 4)) else {
-        return Err(OutboxError::NoStream);
+        panic!(rt; "these are lawful");
     };
-    assert_eq!(rt; config.least().of(101), 101);
+    sure!(&rt; config.least().of(101) == 101);
     let config = config.with_least(rate);
-    assert_eq!(rt; config.least().of(101), 75);
-    assert_eq!(rt; config.in_flight(), 64);
-    assert_eq!(rt; config.packets(), 2_147_483_647);
-    assert_eq!(rt; config.packet_limit(), 9_223_372_036_854_775_807);
-    Ok(())
+    sure!(&rt; config.least().of(101) == 75);
+    sure!(&rt; config.in_flight() == 64);
+    sure!(&rt; config.packets() == 2_147_483_647);
+    sure!(&rt; config.packet_limit() == 9_223_372_036_854_775_807);
 }

@@ -18,6 +18,6 @@ fn is_heard(secret: [u8; 32], iv: [u8; 12], alloc: Global) -> Result<bool, KeyEr
 
 #[test]
 fn a_packet_is_sealed_and_opened(rt: HostRuntime) -> Result<(), std::test::Fail> {
-    assert!(rt; is_heard([7; 32], [0; 12], rt.alloc())?);
+    sure!(&rt; is_heard([7; 32], [0; 12], rt.alloc())?);
     Ok(())
 }

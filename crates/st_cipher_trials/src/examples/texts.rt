@@ -12,6 +12,6 @@ fn there_and_back(text: &mut [u8]) -> bool {
 #[test]
 fn a_text_is_encrypted_and_decrypted(rt: HostRuntime) {
     let mut text = *b"a text of any length";
-    assert!(rt; there_and_back(&mut text));
-    assert!(rt; text == *b"a text of any length");
+    sure!(&rt; there_and_back(&mut text));
+    sure!(&rt; text == *b"a text of any length");
 }
