@@ -1,36 +1,33 @@
 -- A round of events in a world at rest is a crossing, reads and writes.
-use Rattle.std.proofs.Common.{append_assoc, take, drop}
+use Rattle.std.proofs.Common.{append_assoc, take, drop, nat_eq, inl, inr, ◌≡◌, ℕ, zero, suc, ◌+◌, ◌-◌, ◌*◌, ◌<◌, ◌≤◌, Bool, true, false, List, [], ◌∷◌, ◌++◌, length, map, get_or, refl, sym, ap, subst, ◌∙◌, arith, ℤ, Option, None, Some, Result, Ok, Err}
 use Rattle.std.proofs.Math.Seq.{drop-append_seam}
 use Rattle.std.proofs.lemmas.List.{take-append-drop}
 use Rattle.std.proofs.lemmas.Bool.{cases_eq}
 use Rattle.std.specs.Ordering.{nat_cmp}
 use Rattle.std.specs.FinMap as fmap
-use Rattle.st_receiver.specs.Reading.{Aborted, Bytes, End, Nothing}
-use Rattle.st_world.specs.Sides.{Both}
-use Rattle.st_world.specs.State.{with_ledger}
-use Rattle.st_world.specs.Ledgers.{got, ledger_or}
+use Rattle.st_receiver.specs.Reading.{Aborted, Bytes, End, Nothing, Got}
+use Rattle.st_world.specs.Sides.{Both, IsPrefixOf, Client, Server, at}
+use Rattle.st_world.specs.State.{with_ledger, ledger_at, World, end_at, no_lanes, with_end}
+use Rattle.st_world.specs.Ledgers.{got, ledger_or, Ledger}
 use Rattle.st_world.proofs.Maps.{get_apart, get_here}
 use Rattle.st_sender.specs.declared.error.OutboxError.{OutboxError}
-use Rattle.st_sender.specs.Sending.{Sending, changed, changed_at, with_outgoing}
+use Rattle.st_sender.specs.Sending.{Sending, changed, changed_at, with_outgoing, Outgoing, outgoing_at}
 use Rattle.st_sender.specs.Accepting.{after_clean, after_write}
 use Rattle.st_sender.specs.Flights.{sent_end}
 use Rattle.st_sender.specs.Refusals.{close_refusal, write_refusal}
 use Rattle.st_receiver.specs.Streams.{incoming_at}
 use Rattle.st_tables.proofs.SlotLemmas.{slot_cases}
-use Rattle.st_end.specs.Calls.{done, refusal, refusal_at}
-use Rattle.st_world.specs.State.{ledger_at}
-use Rattle.st_world.specs.Events.{Event, Send, Sent}
+use Rattle.st_end.specs.Calls.{done, refusal, refusal_at, Answer, close, write}
+use Rattle.st_world.specs.Events.{Event, Send, Sent, Close}
 use Rattle.st_world.specs.Runs.{Chain, Run, opening}
-use Rattle.st_world.specs.Sides.{IsPrefixOf}
 use Rattle.st_world.proofs.DataSent.{OutFine}
 use Rattle.st_world.proofs.EveryRun.{reached}
 use Rattle.st_quiet.specs.Exchanges.{IsModest}
-use Rattle.st_quiet.specs.Calls.{lengths}
+use Rattle.st_quiet.specs.Calls.{lengths, closed_if, fitting, take_each, write_each, written_at, written_on}
 use Rattle.st_quiet.proofs.Replies.{acked_is_sent}
-use Rattle.st_passage.specs.Worlds.{passing}
-use Rattle.st_passage.specs.Rounds.{fits}
-use Rattle.st_passage.proofs.Runs.{crossing_turn, turn_stands}
-use Rattle.std.proofs.Common.{nat_eq, inl, inr, ◌≡◌, ℕ, zero, suc, ◌+◌, ◌-◌, ◌*◌, ◌<◌, ◌≤◌, Bool, true, false, List, [], ◌∷◌, ◌++◌, length, map, get_or, refl, sym, ap, subst, ◌∙◌, arith, ℤ, Option, None, Some, Result, Ok, Err}
+use Rattle.st_passage.specs.Worlds.{passing, AllForward, HasPassed, IsAtRest, Met, state_of}
+use Rattle.st_passage.specs.Rounds.{fits, Round, Writes, close_if, reads, writes}
+use Rattle.st_passage.proofs.Runs.{crossing_turn, turn_stands, load_has_room}
 use Rattle.std.specs.Prelude.{int_le, pos, ◌+ℤ◌, ◌-ℤ◌, ◌≤ℤ◌, ◌<ℤ◌}
 use Rattle.std.specs.List.{AllByRecursion}
 use Rattle.std.proofs.lemmas.Int.{ints}
@@ -42,32 +39,20 @@ use Rattle.st_hop.specs.Hop.{Hop}
 use Rattle.st_hop.specs.Tickets.{ticket_at}
 use Rattle.st_hop.specs.Arriving.{hop_time}
 use Rattle.st_hop.proofs.Sums.{same_test}
-use Rattle.st_sender.specs.Sending.{Outgoing, outgoing_at}
-use Rattle.st_receiver.specs.Reading.{Got}
 use Rattle.st_end.specs.declared.error.EndError.{EndError}
 use Rattle.st_end.specs.State.{EndState}
 use Rattle.st_end.specs.declared.flight.Open as flights
-use Rattle.st_end.specs.Calls.{Answer}
 use Rattle.st_end.specs.Sending.{Goes, answer_time, prepare_for}
-use Rattle.st_end.specs.Calls.{close, write}
 use Rattle.st_end.specs.Answers.{ended}
 use Rattle.st_end.specs.Reading.{read}
-use Rattle.st_world.specs.Sides.{Client, Server, at}
-use Rattle.st_world.specs.State.{World, end_at, no_lanes, with_end}
-use Rattle.st_world.specs.Events.{Close}
 use Rattle.st_world.specs.Ends.{accepted_at, read_at}
-use Rattle.st_world.specs.Ledgers.{Ledger}
 use Rattle.st_quiet.specs.Left.{all_money_left}
-use Rattle.st_quiet.specs.Calls.{closed_if, fitting, take_each, write_each, written_at, written_on}
 use Rattle.st_quiet.specs.Trips.{Passage}
 use Rattle.st_passage.specs.Crossing.{crossed, less_time}
 use Rattle.st_passage.specs.Calm.{AreCalm, HasRoom, IsCalm, earlier, ticket_of}
 use Rattle.st_passage.specs.Chains.{Crossing, Stands}
-use Rattle.st_passage.specs.Worlds.{AllForward, HasPassed, IsAtRest, Met, state_of}
-use Rattle.st_passage.specs.Rounds.{Round, Writes, close_if, reads, writes}
 use Rattle.st_passage.proofs.Hops.{earlier_lawful, goes_on}
 use Rattle.st_passage.proofs.Chains.{still_time}
-use Rattle.st_passage.proofs.Runs.{load_has_room}
 use Rattle.st_passage.proofs.Worlds.{crossing_rests, met_one}
 
 -- ---- calm hops send on
@@ -210,6 +195,11 @@ ledgered c w e hops f n k r rest =
       written = subst (λ (z : EndState). OutFine (ledger_at w Client k).written (outgoing_at z.sending k)) rest.client (ways.send k);
       read = (ways.recv k).count ∙ ap (λ (z : EndState). (incoming_at z.receiving k).held.read) rest.server;
     }
+
+-- an end that the server knows is where the client's writes ended
+pub ledger_end : (c : Chain) (w : World) (k m : ℕ) → IsReachedBy c w → (incoming_at (end_at w Server).receiving k).held.end ≡ Some m → m ≡ length (ledger_at w Client k).written
+unfolding IsReachedBy
+ledger_end c w k m r e = let all = (((reached c r.0 w r.1).whole.states Client).recv k).ends m e in all.0
 
 pub ledger_prefix : (c : Chain) (w : World) (k : ℕ) → IsReachedBy c w → IsPrefixOf (ledger_at w Client k).read (ledger_at w Client k).written
 unfolding IsReachedBy

@@ -84,7 +84,7 @@ crossing_turn input limit e hops f g others h room s calm x =
 
 -- ---- a round leaves all that stood
 
-turn_exchange : (input : ℕ → List ℕ) (limit : ℕ) (e f g h : EndState) → IsModest (lengths input) → Stands input e f → Turn input limit e f g h → Exchange (lengths input) e.sending f.receiving g.sending h.receiving
+pub turn_exchange : (input : ℕ → List ℕ) (limit : ℕ) (e f g h : EndState) → IsModest (lengths input) → Stands input e f → Turn input limit e f g h → Exchange (lengths input) e.sending f.receiving g.sending h.receiving
 turn_exchange input limit e f g h modest s x = trip_exchange (lengths input) e f g h s.quiet s.abreast s.joined s.tellable (turn_trip input limit e f g h modest s.quiet s.abreast s.joined s.tellable s.held_back x).0
 
 pub turn_stands : (input : ℕ → List ℕ) (limit : ℕ) (e f g h : EndState) → IsModest (lengths input) → Stands input e f → Turn input limit e f g h → Stands input g h

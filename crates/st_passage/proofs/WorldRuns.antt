@@ -1,20 +1,20 @@
 -- A quiet run of a world from its opening on is a run of crossings, so it is as short, and delivers as much.
-use Rattle.std.proofs.Common.{is_some, ◌*◌, ◌++◌, append-nil, length-append, ◌≡◌, ℕ, Bool, zero, suc, ◌+◌, ◌^◌, ◌<◌, ◌≤◌, true, false, List, [], ◌∷◌, length, map, replicate, refl, sym, ap, subst, ◌∙◌, arith, ℤ, Option, None, Some, Result, Ok, inl, inr}
+use Rattle.std.proofs.Common.{is_some, ◌*◌, ◌++◌, append-nil, length-append, ◌≡◌, ℕ, Bool, zero, suc, ◌+◌, ◌^◌, ◌<◌, ◌≤◌, true, false, List, [], ◌∷◌, length, map, replicate, refl, sym, ap, subst, ◌∙◌, arith, ℤ, Option, None, Some, Result, Ok, inl, inr, take, cond, nat_eq}
 use Rattle.std.specs.List.{AllByRecursion}
 use Rattle.std.proofs.lemmas.Bool.{cases_lt}
 use Rattle.st_hop.specs.Hop.{Hop}
-use Rattle.st_keys.specs.Keys.{keys_of}
-use Rattle.st_sender.specs.Sending.{Config, Outgoing, Sending, new_outgoing, outgoing_at}
+use Rattle.st_keys.specs.Keys.{keys_of, DerivedKeys}
+use Rattle.st_sender.specs.Sending.{Config, Outgoing, Sending, new_outgoing, outgoing_at, changed, with_outgoing}
 use Rattle.st_receiver.specs.Streams.{incoming_at}
 use Rattle.st_receiver.specs.Limits.{limits}
 use Rattle.st_end.specs.declared.error.EndError.{EndError}
 use Rattle.st_end.specs.declared.role.Role.TheVariants as roles
 use Rattle.st_end.specs.State.{EndState, new_end}
-use Rattle.st_end.specs.Calls.{offer, open_stream, set_receive_max}
+use Rattle.st_end.specs.Calls.{offer, open_stream, set_receive_max, connection_refusal, opened_unless, opening_as, own_number, refusal}
 use Rattle.st_end.specs.Sending.{Goes, GoesNone}
-use Rattle.st_world.specs.Sides.{Client, Server, at}
-use Rattle.st_world.specs.State.{World, end_at, lane_at, no_lanes}
-use Rattle.st_world.specs.Events.{Opened, Send, Sent, Silent, Told}
+use Rattle.st_world.specs.Sides.{Client, Server, at, IsPrefixOf}
+use Rattle.st_world.specs.State.{World, end_at, lane_at, no_lanes, ledger_at}
+use Rattle.st_world.specs.Events.{Opened, Send, Sent, Silent, Told, Offer, OpenStream}
 use Rattle.st_world.specs.Steps.{Step}
 use Rattle.st_world.specs.Runs.{Chain, Table, new_node, opening}
 use Rattle.st_world.proofs.Lanes.{no_lane}
@@ -26,7 +26,6 @@ use Rattle.st_quiet.specs.Calls.{allow_each, begin_each, begun, lengths}
 use Rattle.st_quiet.specs.Trips.{Turns}
 use Rattle.st_quiet.proofs.Sums.{sum_below}
 use Rattle.st_quiet.proofs.Lowering.{none_goes, some_goes}
-use Rattle.st_world.specs.Sides.{IsPrefixOf}
 use Rattle.st_world.proofs.DataSent.{OutFine}
 use Rattle.st_quiet.proofs.Bound.{all_done, within_bound}
 use Rattle.st_quiet.proofs.Beginning.{IsBegun, calls_begun}
@@ -39,25 +38,27 @@ use Rattle.st_quiet.proofs.Turns.{turn_spends, turn_trip, turns_trips}
 use Rattle.std.specs.Ordering.{nat_cmp}
 use Rattle.std.specs.FinMap as fmap
 use Rattle.st_world.specs.Ledgers.{ledger_or}
+use Rattle.std.proofs.lemmas.Bool.Decides.{nat_tests}
+use Rattle.st_reassembly.specs.Held.{Held}
+use Rattle.st_reassembly.specs.Run.{run}
+use Rattle.st_receiver.specs.Reading.{End, Nothing, got, got_by, got_bytes, is_read}
+use Rattle.st_quiet.specs.Mirrored.{IsAbreast}
+use Rattle.st_quiet.proofs.Reading.{run_is_all}
+use Rattle.st_reassembly.proofs.Runs.{is_run}
+use Rattle.st_quiet.proofs.Ended.{AreEnded, exchange_ended}
 use Rattle.st_passage.proofs.Opened.{OpenTo, opens_next, place_of}
 use Rattle.st_passage.specs.Calm.{AreCalm, IsCalm}
 use Rattle.st_passage.specs.Chains.{Crossing, Crossings, Stands}
 use Rattle.st_passage.specs.Worlds.{IsAtRest, Met, state_of}
-use Rattle.st_passage.specs.Rounds.{Begins, BeginsEach, HasRoomFor, MayRun, QuietRun, Rounds, all_of, allows, opening_client}
+use Rattle.st_passage.specs.Rounds.{Begins, BeginsEach, HasRoomFor, MayRun, QuietRun, Rounds, all_of, allows, opening_client, writes}
 use Rattle.st_passage.proofs.Opening.{new_calm}
-use Rattle.st_passage.proofs.Runs.{crossing_calm, crossing_turn, crossings_turns, opening_stands, passage_comes, turn_stands, turns_lower}
-use Rattle.st_passage.specs.Rounds.{writes}
+use Rattle.st_passage.proofs.Runs.{turn_exchange, crossing_calm, crossing_turn, crossings_turns, opening_stands, passage_comes, turn_stands, turns_lower}
 use Rattle.st_tables.specs.Slots.{slot}
 use Rattle.st_tables.proofs.SlotLemmas.{slot_cases}
-use Rattle.st_keys.specs.Keys.{DerivedKeys}
-use Rattle.st_sender.specs.Sending.{changed, with_outgoing}
 use Rattle.st_sender.specs.Accepting.{after_offer}
 use Rattle.st_sender.specs.Refusals.{offer_refusal}
 use Rattle.st_end.specs.declared.role.Role.{Role}
-use Rattle.st_end.specs.Calls.{connection_refusal, opened_unless, opening_as, own_number, refusal}
-use Rattle.st_world.specs.State.{ledger_at}
-use Rattle.st_world.specs.Events.{Offer, OpenStream}
-use Rattle.st_passage.proofs.Rounds.{Copies, copies_accepted, copies_same, copies_write, IsReachedBy, ledger_prefix, ledgered, acked_from, acked_of, acks_changed, acks_done, acks_written_at, client_calls, reached_first, reached_met, rest_moved, round_crosses, write_rest}
+use Rattle.st_passage.proofs.Rounds.{Copies, ledger_end, copies_accepted, copies_same, copies_write, IsReachedBy, ledger_prefix, ledgered, acked_from, acked_of, acks_changed, acks_done, acks_written_at, client_calls, reached_first, reached_met, rest_moved, round_crosses, write_rest}
 
 -- ---- rounds
 
@@ -84,6 +85,7 @@ pub record AreCrossed (c : Chain) (input : ℕ → List ℕ) (limit m : ℕ) (e 
   pub unclosed : client.receiving.closed ≡ false
   pub is_reached : IsReachedBy c v
   pub copies : Copies input v
+  pub ended : AreEnded client.sending server.receiving
   pub offers : (k : ℕ) → offer_of (outgoing_at client.sending k) ≡ offer_of (outgoing_at e.sending k)
 
 -- the Prepares of the connection suffice for the rest
@@ -109,8 +111,8 @@ crossing_unclosed input limit e hops f g others h room modest s calm unclosed x 
     ap (λ r. r.closed) (receiving_still (lengths input) e f g h s.quiet s.abreast s.joined s.tellable (turn_trip input limit e f g h modest s.quiet s.abreast s.joined s.tellable s.held_back turn).0) ∙ unclosed
 
 pub rounds_cross : (c : Chain) (input : ℕ → List ℕ) (limit m : ℕ) (e : EndState) (hops : List Hop) (f : EndState) (n : ℕ) (w v : World) → 32739 ≤ limit → IsModest (lengths input) → Stands input e f → AreCalm e.peer e.sending hops → length hops ≤ 8 → HasPackets input e → e.receiving.closed ≡ false
-    → Copies input w → IsReachedBy c w → IsAtRest w e hops f n → Rounds input limit (length hops) n m w v → AreCrossed c input limit m e hops f (n + m) v
-rounds_cross c input limit zero e hops f n w v room modest s calm few packets unclosed copies is_reached rest run = record {
+    → AreEnded e.sending f.receiving → Copies input w → IsReachedBy c w → IsAtRest w e hops f n → Rounds input limit (length hops) n m w v → AreCrossed c input limit m e hops f (n + m) v
+rounds_cross c input limit zero e hops f n w v room modest s calm few packets unclosed ended copies is_reached rest run = record {
   client = e;
   others = hops;
   server = f;
@@ -119,9 +121,10 @@ rounds_cross c input limit zero e hops f n w v room modest s calm few packets un
   unclosed = unclosed;
   is_reached = subst (IsReachedBy c) (sym run) is_reached;
   copies = subst (Copies input) (sym run) copies;
+  ended = ended;
   offers = λ k. refl;
 }
-rounds_cross c input limit (suc m) e hops f n w v room modest s calm few packets unclosed copies is_reached rest run =
+rounds_cross c input limit (suc m) e hops f n w v room modest s calm few packets unclosed ended copies is_reached rest run =
     let mid = run.0 in
     let some = sent_leaves input e hops f n w run.1.sent run.1.iv run.1.now s rest run.1.goes in
     let one = round_crosses c input limit e hops f n w mid room modest s calm few (next _ _ _ some packets) is_reached rest run.1 in
@@ -130,7 +133,8 @@ rounds_cross c input limit (suc m) e hops f n w v room modest s calm few packets
     let all = rounds_cross c input limit m one.client one.others one.server (suc n) mid v room modest (turn_stands input limit e f one.client one.server modest s turn)
     (crossing_calm input limit e hops f one.client one.others one.server room modest s calm one.crosses) (omega (arith, count, few))
     (crossing_packets input limit e hops f one.client one.others one.server room modest s calm packets one.crosses)
-    (crossing_unclosed input limit e hops f one.client one.others one.server room modest s calm unclosed one.crosses) (one.copies copies) one.is_reached one.rests
+    (crossing_unclosed input limit e hops f one.client one.others one.server room modest s calm unclosed one.crosses)
+    (exchange_ended (lengths input) e.sending f.receiving one.client.sending one.server.receiving s.quiet s.abreast ended (turn_exchange input limit e f one.client one.server modest s turn)) (one.copies copies) one.is_reached one.rests
     (subst (λ k. Rounds input limit k (suc n) m mid v) (sym count) run.2) in
     record {
       client = all.client;
@@ -141,6 +145,7 @@ rounds_cross c input limit (suc m) e hops f n w v room modest s calm few packets
       unclosed = all.unclosed;
       is_reached = all.is_reached;
       copies = all.copies;
+      ended = all.ended;
       offers = λ k. all.offers k ∙ (turn_spends input limit e f one.client one.server modest s.quiet s.abreast s.joined s.tellable s.held_back turn).offers k;
     }
   where
@@ -371,11 +376,14 @@ run_crosses c input money count limit m v may run = (stands, calm, subst (λ k. 
     begun_rest = begins_all c input money count 0 run.allowed run.begun _ hops f 0 (reached_met c (allows money 0 65) (opening c) run.allowed (reached_first c) run.allows_each)
         (allows_rest money 0 65 (opening c) run.allowed _ hops _ 0 (opening_rests c) run.allows_each) (no_acks_first roles.Client (keys_of c.secret) c.client c.server c.config) unread (nothing_open c.config (keys_of c.secret) c.client c.server) run.begins_each
 
+    begun_ended : AreEnded e.sending f.receiving
+    begun_ended k x at settled = absurd (let open_still : x.clean_settled ≡ false = ap (λ (z : Outgoing). z.clean_settled) (begun_is.streams k x at).is in let clash : ◌≡◌ {A = Bool} true false = sym settled ∙ open_still in cc)
+
     begun_copies : Copies input run.begun
     begun_copies = copies_begins_each input money count run.allowed run.begun run.begins_each (copies_allows input money 0 65 (opening c) run.allowed run.allows_each (copies_first c input))
 
     all : AreCrossed c input limit m e hops f (0 + m) v
-    all = rounds_cross c input limit m e hops f 0 run.begun v may.reads may.input_fits stands calm (let few = may.few_hops in omega (arith, few, long)) packets begun_is.unclosed begun_copies begun_rest.1 begun_rest.0
+    all = rounds_cross c input limit m e hops f 0 run.begun v may.reads may.input_fits stands calm (let few = may.few_hops in omega (arith, few, long)) packets begun_is.unclosed begun_ended begun_copies begun_rest.1 begun_rest.0
         (subst (λ k. Rounds input limit k 0 m run.begun v) (sym long) run.rounds)
 
 -- ---- what it leaves
@@ -386,6 +394,38 @@ turns_quiet input limit m e f g h modest s run =
     let trips = turns_trips input limit m e f g h modest s.quiet s.abreast s.joined s.tellable s.held_back run in
     let exchanges = trips_exchanges n m e f g h modest s.quiet s.abreast s.joined s.tellable trips in
     (rounds_lower n m e.sending g.sending s.quiet (exchanges_rounds n m e.sending f.receiving g.sending h.receiving modest s.quiet s.abreast exchanges).0).1
+
+turns_abreast : (input : ℕ → List ℕ) (limit m : ℕ) (e f g h : EndState) → IsModest (lengths input) → Stands input e f → Turns input limit m e f g h → IsAbreast (lengths input) g.sending h.receiving
+turns_abreast input limit m e f g h modest s run =
+    let n = lengths input in
+    let trips = turns_trips input limit m e f g h modest s.quiet s.abreast s.joined s.tellable s.held_back run in
+    let exchanges = trips_exchanges n m e f g h modest s.quiet s.abreast s.joined s.tellable trips in
+    (exchanges_rounds n m e.sending f.receiving g.sending h.receiving modest s.quiet s.abreast exchanges).1
+
+-- a read of a direction that was read to its end tells the end
+nothing_long : (xs : List ℕ) → length xs ≡ 0 → xs ≡ []
+nothing_long [] e = refl
+nothing_long (x ∷ xs) e = absurd (omega (arith, e))
+
+take_nothing : (most : ℕ) → take {A = ℕ} most [] ≡ []
+take_nothing zero = refl
+take_nothing (suc n) = refl
+
+known_end : (o : Option ℕ) → is_some o ≡ true → (m : ℕ) × (o ≡ Some m)
+known_end None e = absurd (cc)
+known_end (Some m) e = (m, refl)
+
+abbrev held_row : Held → List ℕ
+held_row h = run h
+
+ends_by : (h : Held) (m most : ℕ) → h.aborted ≡ None → run h ≡ [] → h.end ≡ Some m → m ≡ h.read → got most h ≡ End
+ends_by h m most alive empty_run end is =
+    let here : nat_eq m h.read ≡ true = grind (arith, nat_tests) in
+    ap (λ o. got_by o most h) alive
+    ∙ ap (λ xs. got_bytes h (take most xs)) empty_run
+    ∙ ap (got_bytes h) (take_nothing most)
+    ∙ ap (λ o. cond (is_read h.read o) End Nothing) end
+    ∙ ap (λ b. cond b End Nothing) here
 
 nothing_left : (n : ℕ → ℕ) (g : EndState) → IsQuiet n g.sending → g.receiving.closed ≡ false → GoesNone g → work_left n g.sending ≡ 0
 nothing_left n g quiet unclosed (inl closed) = absurd (let clash : ◌≡◌ {A = Bool} false true = sym unclosed ∙ closed in cc)
@@ -476,3 +516,21 @@ module _ (c : Chain) (input : ℕ → List ℕ) (money : ℕ → ℕ) (count lim
       let count : length (ledger_at v Client k).read ≡ length (input k) = told.read ∙ ap (λ (z : EndState). (incoming_at z.receiving k).held.read) (sym crossed.rests.server) ∙ read in
       let whole = same_list (ledger_at v Client k).written (input k) (crossed.copies k) (sym written.0 ∙ all.all_bytes) in
       (same_list (ledger_at v Client k).read (ledger_at v Client k).written (ledger_prefix c v k crossed.is_reached) (count ∙ sym all.all_bytes ∙ written.0) ∙ whole, whole)
+
+  pub run_ends : (k most : ℕ) (x : Outgoing) → GoesNone (end_at v Client) → outgoing_at (end_at v Client).sending k ≡ Some x → got most (incoming_at (end_at v Server).receiving k).held ≡ End
+  run_ends k most x none at =
+      let quiet = turns_quiet input limit m first far_end crossed.client crossed.server may.input_fits stands turns in
+      let abreast = turns_abreast input limit m first far_end crossed.client crossed.server may.input_fits stands turns in
+      let done = nothing_left (lengths input) crossed.client quiet crossed.unclosed (subst GoesNone crossed.rests.client none) in
+      let here : outgoing_at crossed.client.sending k ≡ Some x = subst (λ (z : EndState). outgoing_at z.sending k ≡ Some x) crossed.rests.client at in
+      let all = all_done (lengths input) crossed.client.sending k x quiet done here in
+      let h = (incoming_at crossed.server.receiving k).held in
+      let end = known_end h.end (crossed.ended k x here all.close) in
+      let server_end : (incoming_at (end_at v Server).receiving k).held.end ≡ Some end.0 = ap (λ (z : EndState). (incoming_at z.receiving k).held.end) crossed.rests.server ∙ end.1 in
+      let written = ledger_end c v k end.0 crossed.is_reached server_end in
+      let whole = ap length (run_reads_whole k x none at).1 in
+      let read : h.read ≡ length (input k) = ap (λ (z : EndState). (incoming_at z.receiving k).held.read) (sym crossed.rests.server) ∙ (run_delivers k x none at).0 in
+      let long = run_is_all h (held_row h) h.read (is_run h) (omega arith) (λ q from till. absurd (omega (arith, from, till))) (λ q past. abreast.emptied k q past) in
+      let empty_run = nothing_long (held_row h) (omega (arith, long)) in
+      subst (λ (z : EndState). got most (incoming_at z.receiving k).held ≡ End) (sym crossed.rests.server)
+      (ends_by h end.0 most (abreast.mirrored.alive k) empty_run end.1 (written ∙ whole ∙ sym read))

@@ -14,6 +14,7 @@ ghost use Rattle.st_hop.specs.Settling.{fits, settled};
 ghost use Rattle.st_keys.specs.Keys.{DerivedKeys};
 ghost use Rattle.st_sender.specs.Sending.{Config, Outgoing, outgoing_at};
 ghost use Rattle.st_receiver.specs.Streams.{incoming_at};
+ghost use Rattle.st_receiver.specs.Reading.{End, got};
 ghost use Rattle.st_end.specs.State.{EndState, new_end};
 ghost use Rattle.st_end.specs.declared.role.Role.{Role};
 ghost use Rattle.st_quiet.specs.Left.{bound, work_left};
@@ -86,7 +87,8 @@ pub fn a_prepare_crosses_a_world()
 {}
 
 /// So a quiet run of a world, by its events from where nothing has happened, has no more Sends than the bound. Where then none
-/// goes, all of each stream's input was written and read, and its money was credited.
+/// goes, all of each stream's input was written and read, a read of it tells the end,
+/// and its money was credited.
 pub fn a_quiet_run_of_a_world_is_bounded()
     ensures bounded { (c : Chain) (input : ℕ → List ℕ) (money : ℕ → ℕ) (count limit m : ℕ) (v : World) → MayRun c input money count limit → QuietRun c input money count limit m v
         → m + 1 ≤ bound (lengths input) (opening_client c input money count).sending }
@@ -102,4 +104,6 @@ pub fn a_quiet_run_of_a_world_is_bounded()
     ensures whole { (c : Chain) (input : ℕ → List ℕ) (money : ℕ → ℕ) (count limit m k : ℕ) (v : World) (x : Outgoing) → MayRun c input money count limit → QuietRun c input money count limit m v
         → GoesNone (end_at v Client) → outgoing_at (end_at v Client).sending k ≡ Some x
         → ((ledger_at v Client k).read ≡ input k) × ((ledger_at v Client k).written ≡ input k) }
+    ensures ends { (c : Chain) (input : ℕ → List ℕ) (money : ℕ → ℕ) (count limit m k most : ℕ) (v : World) (x : Outgoing) → MayRun c input money count limit → QuietRun c input money count limit m v
+        → GoesNone (end_at v Client) → outgoing_at (end_at v Client).sending k ≡ Some x → got most (incoming_at (end_at v Server).receiving k).held ≡ End }
 {}

@@ -59,7 +59,7 @@ closes_read r [] k = refl
 closes_read r (f ∷ fs) k = closes_read (after_close r f) fs k ∙ one_close_reads r f k
 
 -- a close of a quiet run is clean
-one_close_keeps : {A : Type 0} (g : Held → A) → ((h : Held) → g (after_finish h) ≡ g h) → (n : ℕ → ℕ) (s : Sending) (limits : List Known) (r : Receiving) (f : Known) (k : ℕ) → IsQuiet n s → IsDue s limits f
+pub one_close_keeps : {A : Type 0} (g : Held → A) → ((h : Held) → g (after_finish h) ≡ g h) → (n : ℕ → ℕ) (s : Sending) (limits : List Known) (r : Receiving) (f : Known) (k : ℕ) → IsQuiet n s → IsDue s limits f
     → g (incoming_at (after_close r f) k).held ≡ g (incoming_at r k).held
 one_close_keeps g keeps n s limits r (StreamClose j code message) k quiet due =
     let d = due.0 in
@@ -74,11 +74,11 @@ unfolding after_closes
 closes_keep g keeps n s limits r [] k quiet due = refl
 closes_keep g keeps n s limits r (f ∷ fs) k quiet due = closes_keep g keeps n s limits (after_close r f) fs k quiet due.1 ∙ one_close_keeps g keeps n s limits r f k quiet due.0
 
-one_close_slots : (r : Receiving) (f : Known) → length (after_close r f).streams ≡ length r.streams
+pub one_close_slots : (r : Receiving) (f : Known) → length (after_close r f).streams ≡ length r.streams
 one_close_slots r (StreamClose j code message) = length-set r.streams j (Some (with_close code (incoming_at r j)))
 one_close_slots r f = refl
 
-closes_slots : (r : Receiving) (fs : List Known) → length (after_closes r fs).streams ≡ length r.streams
+pub closes_slots : (r : Receiving) (fs : List Known) → length (after_closes r fs).streams ≡ length r.streams
 unfolding after_closes
 closes_slots r [] = refl
 closes_slots r (f ∷ fs) = closes_slots (after_close r f) fs ∙ one_close_slots r f

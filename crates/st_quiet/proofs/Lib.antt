@@ -34,6 +34,7 @@ pub mod Allowing
 pub mod Tellable
 pub mod Trips
 pub mod Short
+pub mod Ended
 pub mod Turns
 pub mod Running
 pub mod Closing

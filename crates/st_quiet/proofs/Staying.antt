@@ -150,7 +150,7 @@ closes_end n s limits r (f ∷ fs) k x quiet due e left = closes_end n s limits 
     ]
     one f due = refl
 
-frames_end : (r : Receiving) (fs : List Known) (k : ℕ) → (incoming_at (after_frames r fs) k).held.end ≡ (incoming_at r k).held.end
+pub frames_end : (r : Receiving) (fs : List Known) (k : ℕ) → (incoming_at (after_frames r fs) k).held.end ≡ (incoming_at r k).held.end
 unfolding after_frames
 frames_end r [] k = refl
 frames_end r (f ∷ fs) k = frames_end (after_frame r f) fs k ∙ frame_at (λ h. h.end) (λ o xs h. (joins_after o xs h).end) r f k

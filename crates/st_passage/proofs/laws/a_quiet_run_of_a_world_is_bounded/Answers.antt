@@ -1,6 +1,6 @@
 use Rattle.std.proofs.Common.{◌∙◌}
 use Rattle.st_passage.proofs.laws.a_quiet_run_of_a_world_is_bounded.Goals as goal
-use Rattle.st_passage.proofs.WorldRuns.{run_delivers, run_is_bounded, run_money, run_opens, run_puts, run_reads_whole, run_sharper}
+use Rattle.st_passage.proofs.WorldRuns.{run_delivers, run_ends, run_is_bounded, run_money, run_opens, run_puts, run_reads_whole, run_sharper}
 
 pub returns-clause-bounded : goal.returns-clause-bounded
 returns-clause-bounded g = λ c input money count limit m v may run. run_is_bounded c input money count limit m v may run
@@ -20,3 +20,6 @@ returns-clause-whole g = λ c input money count limit m k v x may run none at. r
 
 pub returns-clause-opens : goal.returns-clause-opens
 returns-clause-opens g = λ c input money count limit m i v may run low. run_opens c input money count limit m v may run i low
+
+pub returns-clause-ends : goal.returns-clause-ends
+returns-clause-ends g = λ c input money count limit m k most v x may run none at. run_ends c input money count limit m v may run k most x none at
