@@ -1,6 +1,6 @@
 -- The program and its commands, as clap reads words for them.
 use Rattle.std.specs.Prelude.{◌≡◌, ℕ, Bool, ◌^◌, ◌-◌, true, false, [], ◌∷◌, ◌++◌, codes, Some}
-use Rattle.clap.specs.Words.{App, Rule, Shape, Text, shape_of}
+use Rattle.clap.specs.Words.{App, Rule, Shape, Text, shape_of, with_subcommand}
 use Rattle.clap.specs.Simple.{new_rule, new_shape}
 use Rattle.clap.specs.declared.builder.action.ArgAction.TheVariants.{Set}
 use Rattle.clap.specs.declared.builder.command.Command.{Command}
@@ -44,6 +44,29 @@ with_ends s = with_rule (with_rule (with_rule (with_rule s (required_rule (codes
 -- where totals are told
 abbrev pub totals_rule : Rule
 totals_rule = option_rule (codes "totals")
+
+-- where requests are taken
+abbrev pub with_listen : Shape → Shape
+with_listen s = with_rule s (required_rule (codes "listen"))
+
+-- how much money goes over it
+abbrev pub with_money : Text → Shape → Shape
+with_money name s = with_rule s (with_default (codes "0") (number_rule name 0 most_money))
+
+abbrev pub with_workers : Shape → Shape
+with_workers s = with_rule s (with_default (codes "4") (number_rule (codes "workers") 1 most_workers))
+
+-- whom a sender sends to
+abbrev pub with_peers : Shape → Shape
+with_peers s = with_ends (with_rule s (required_rule (codes "to")))
+
+-- where its random bytes come from, and what should arrive at least
+abbrev pub with_sources : Shape → Shape
+with_sources s = with_rule (with_rule s (with_default (codes "/dev/urandom") (option_rule (codes "random")))) (with_default (codes "1:1") (option_rule (codes "least")))
+
+-- how many a connector takes
+abbrev pub with_requests : Shape → Shape
+with_requests s = with_rule s (with_required (number_rule (codes "requests") 1 (2 ^ 31 - 1)))
 
 abbrev pub frames : Shape
 frames = new_shape (codes "frames")
@@ -92,6 +115,10 @@ connector = record (new_shape (codes "connector")) {
 -- the program without a command: it has a version
 abbrev pub alone : App
 alone = record { top = record (new_shape (codes "ilpstream")) { has_version = true }; subs = [] }
+
+-- with the commands between machines
+abbrev pub with_transfers : App → App
+with_transfers a = with_subcommand (with_subcommand (with_subcommand a send) receive) connector
 
 -- the program and its commands
 abbrev pub program : App

@@ -2,7 +2,8 @@
 
 ghost use Rattle.std.specs.Prelude.{◌≡◌, ◌≤◌, ◌<◌, ◌^◌, ℕ, List, [], ◌∷◌, false, IfOk};
 ghost use Rattle.clap.specs.Words.{app_of, rule_of, shape_of, with_subcommand};
-ghost use Rattle.st_words.specs.Program.{has_globals, number_rule, option_rule, with_default, with_required, with_rule};
+ghost use Rattle.st_words.specs.Program as spec;
+ghost use Rattle.st_words.specs.Program.{HasShape, has_globals, number_rule, option_rule, required_rule, with_rule};
 
 use clap::{Arg, ArgAction, Command, value_parser};
 use std::alloc::{AllocError, Global};
@@ -21,15 +22,15 @@ pub(crate) fn option<'a>(alloc: Global, name: &'a str, value: &'a str, help: &'a
 
 /// The option has to be there.
 pub(crate) fn required<'a>(option: Arg<'a>) -> Arg<'a>
-    ensures rule { rule_of result ≡ with_required (rule_of option.entry) }
+    ensures rule { rule_of result ≡ spec.with_required (rule_of option.entry) }
     ensures own { result.global ≡ option.entry.global }
 {
     option.required(true)
 }
 
 /// The option has this value where it is left out.
-pub(crate) fn or<'a>(option: Arg<'a>, default: &'a str) -> Arg<'a>
-    ensures rule { rule_of result ≡ with_default default.now (rule_of option.entry) }
+fn or<'a>(option: Arg<'a>, default: &'a str) -> Arg<'a>
+    ensures rule { rule_of result ≡ spec.with_default default.now (rule_of option.entry) }
     ensures own { result.global ≡ option.entry.global }
 {
     option.default_value(default)
@@ -58,6 +59,33 @@ pub(crate) fn with<'a>(command: Command<'a>, option: Arg<'a>) -> Result<Command<
     ensures { IfOk result (λ c. (shape_of c ≡ with_rule (shape_of command.entry) (rule_of option.entry)) × (has_globals c ≡ has_globals command.entry)) }
 {
     command.arg(option)
+}
+
+/// The command with one more, which has to be there.
+pub(crate) fn with_required<'a>(
+    alloc: Global,
+    command: Command<'a>,
+    name: &'a str,
+    value: &'a str,
+    help: &'a str,
+) -> Result<Command<'a>, AllocError>
+    requires { has_globals command ≡ false }
+    ensures { IfOk result (HasShape (with_rule (shape_of command.entry) (required_rule name.now))) }
+{
+    with(command, required(option(alloc, name, value, help)))
+}
+
+/// The command with one more, which has this value where it is left out.
+pub(crate) fn with_default<'a>(
+    command: Command<'a>,
+    option: Arg<'a>,
+    default: &'a str,
+) -> Result<Command<'a>, AllocError>
+    requires own { option.global ≡ false }
+    requires alone { has_globals command ≡ false }
+    ensures { IfOk result (HasShape (with_rule (shape_of command.entry) (spec.with_default default.now (rule_of option.entry)))) }
+{
+    with(command, or(option, default))
 }
 
 /// The program with one command more.

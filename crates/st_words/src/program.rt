@@ -4,9 +4,9 @@ ghost use Rattle.std.specs.Prelude.{◌≡◌, false, IfOk};
 ghost use Rattle.clap.specs.Words.{app_of, shape_of};
 ghost use Rattle.clap.specs.Simple.{new_shape};
 ghost use Rattle.st_words.specs.Program as spec;
-ghost use Rattle.st_words.specs.Program.{HasShape, has_globals};
+ghost use Rattle.st_words.specs.Program.{HasShape, has_globals, totals_rule, with_rule};
 
-use crate::options::{number, option, or, required, with, with_command};
+use crate::options::{number, option, required, with, with_command, with_default, with_required};
 use crate::texts::{
     ACCOUNTS_HELP, AFTER_CONNECTOR_HELP, AFTER_FRAMES_HELP, AFTER_HELP, AFTER_LOCAL_HELP,
     AFTER_RECEIVE_HELP, AFTER_SEND_HELP, LEAST_HELP, SECRET_HELP, TOKEN_HELP, TOTALS_HELP,
@@ -45,30 +45,15 @@ fn local<'a>(alloc: Global) -> Result<Command<'a>, AllocError>
         "Sends standard input through a connection in memory, to standard output",
         AFTER_LOCAL_HELP,
     );
-    let hops = number(
-        alloc,
-        "hops",
-        "Connectors between the two ends, 0 to 8",
-        0,
-        MAX_HOPS,
-    );
-    let command = with(command, or(hops, "1"))?;
-    let lose = number(
-        alloc,
-        "lose",
-        "Each N-th Prepare that the client sends is lost, N from 0 to 1000000; 0 loses none",
-        0,
-        MAX_LOSE,
-    );
-    let command = with(command, or(lose, "0"))?;
-    let streams = number(
-        alloc,
-        "streams",
-        "Streams that the input is cut into, 1 to 32",
-        1,
-        MAX_STREAMS,
-    );
-    with(command, or(streams, "1"))
+    let hops = "Connectors between the two ends, 0 to 8";
+    let hops = number(alloc, "hops", hops, 0, MAX_HOPS);
+    let command = with_default(command, hops, "1")?;
+    let lose = "Each N-th Prepare that the client sends is lost, N from 0 to 1000000; 0 loses none";
+    let lose = number(alloc, "lose", lose, 0, MAX_LOSE);
+    let command = with_default(command, lose, "0")?;
+    let streams = "Streams that the input is cut into, 1 to 32";
+    let streams = number(alloc, "streams", streams, 1, MAX_STREAMS);
+    with_default(command, streams, "1")
 }
 
 /// The command with what both ends of a transfer have to be told: the neighbour's token, the secret, and their addresses.
@@ -80,145 +65,140 @@ fn with_ends<'a>(
     requires { has_globals command ≡ false }
     ensures { IfOk result (HasShape (spec.with_ends (shape_of command.entry))) }
 {
-    let token = option(alloc, "token", "TOKEN", TOKEN_HELP);
-    let command = with(command, required(token))?;
-    let secret = option(alloc, "secret", "HEX", SECRET_HELP);
-    let command = with(command, required(secret))?;
-    let address = option(
-        alloc,
-        "address",
-        "ADDRESS",
-        "This end's ILP address, up to 1023 characters",
-    );
-    let command = with(command, required(address))?;
-    let peer = option(alloc, "peer", "ADDRESS", peer_help);
-    with(command, required(peer))
+    let command = with_required(alloc, command, "token", "TOKEN", TOKEN_HELP)?;
+    let command = with_required(alloc, command, "secret", "HEX", SECRET_HELP)?;
+    let address = "This end's ILP address, up to 1023 characters";
+    let command = with_required(alloc, command, "address", "ADDRESS", address)?;
+    with_required(alloc, command, "peer", "ADDRESS", peer_help)
+}
+
+/// The command with where requests are taken.
+fn with_listen<'a>(alloc: Global, command: Command<'a>) -> Result<Command<'a>, AllocError>
+    requires { has_globals command ≡ false }
+    ensures { IfOk result (HasShape (spec.with_listen (shape_of command.entry))) }
+{
+    let help = "Where requests are taken, a port up to 65535";
+    with_required(alloc, command, "listen", "HOST:PORT", help)
+}
+
+/// The command with how much money goes over it, where it does not say so.
+fn with_money<'a>(
+    alloc: Global,
+    command: Command<'a>,
+    name: &'a str,
+    help: &'a str,
+) -> Result<Command<'a>, AllocError>
+    requires { has_globals command ≡ false }
+    ensures { IfOk result (HasShape (spec.with_money name.now (shape_of command.entry))) }
+{
+    with_default(command, number(alloc, name, help, 0, MAX_MONEY), "0")
+}
+
+/// The command with how many threads work for it.
+fn with_workers<'a>(
+    alloc: Global,
+    command: Command<'a>,
+    help: &'a str,
+) -> Result<Command<'a>, AllocError>
+    requires { has_globals command ≡ false }
+    ensures { IfOk result (HasShape (spec.with_workers (shape_of command.entry))) }
+{
+    with_default(command, number(alloc, "workers", help, 1, MAX_WORKERS), "4")
+}
+
+/// The command with where totals are told.
+fn with_totals<'a>(
+    alloc: Global,
+    command: Command<'a>,
+    help: &'a str,
+) -> Result<Command<'a>, AllocError>
+    requires { has_globals command ≡ false }
+    ensures { IfOk result (HasShape (with_rule (shape_of command.entry) totals_rule)) }
+{
+    with(command, option(alloc, "totals", "FILE", help))
+}
+
+/// The command with whom a sender sends to.
+fn with_peers<'a>(alloc: Global, command: Command<'a>) -> Result<Command<'a>, AllocError>
+    requires { has_globals command ≡ false }
+    ensures { IfOk result (HasShape (spec.with_peers (shape_of command.entry))) }
+{
+    let to = "The neighbour that requests go to, its port up to 65535";
+    let command = with_required(alloc, command, "to", "HOST:PORT", to)?;
+    let peer = "The receiver's ILP address, up to 1023 characters";
+    with_ends(alloc, command, peer)
+}
+
+/// The command with where a sender's random bytes come from, and what should arrive at least.
+fn with_sources<'a>(alloc: Global, command: Command<'a>) -> Result<Command<'a>, AllocError>
+    requires { has_globals command ≡ false }
+    ensures { IfOk result (HasShape (spec.with_sources (shape_of command.entry))) }
+{
+    let random = "Where random bytes are read from, twelve a packet";
+    let random = option(alloc, "random", "FILE", random);
+    let command = with_default(command, random, "/dev/urandom")?;
+    let least = option(alloc, "least", "NUM:DEN", LEAST_HELP);
+    with_default(command, least, "1:1")
 }
 
 fn send<'a>(alloc: Global) -> Result<Command<'a>, AllocError>
     ensures { IfOk result (HasShape spec.send) }
 {
-    let command = named(
-        alloc,
-        "send",
-        "Sends standard input and money to a receiver",
-        AFTER_SEND_HELP,
-    );
-    let to = option(
-        alloc,
-        "to",
-        "HOST:PORT",
-        "The neighbour that requests go to, its port up to 65535",
-    );
-    let command = with(command, required(to))?;
-    let command = with_ends(
-        alloc,
-        command,
-        "The receiver's ILP address, up to 1023 characters",
-    )?;
-    let money = number(
-        alloc,
-        "money",
-        "Money that is offered, in units, 0 to 2^63 - 1",
-        0,
-        MAX_MONEY,
-    );
-    let command = with(command, or(money, "0"))?;
-    let workers = number(
-        alloc,
-        "workers",
-        "Threads that send, 1 to 16",
-        1,
-        MAX_WORKERS,
-    );
-    let command = with(command, or(workers, "4"))?;
-    let random = option(
-        alloc,
-        "random",
-        "FILE",
-        "Where random bytes are read from, twelve a packet",
-    );
-    let command = with(command, or(random, "/dev/urandom"))?;
-    let least = option(alloc, "least", "NUM:DEN", LEAST_HELP);
-    let command = with(command, or(least, "1:1"))?;
-    let totals = option(alloc, "totals", "FILE", TOTALS_HELP);
-    with(command, totals)
+    let about = "Sends standard input and money to a receiver";
+    let command = named(alloc, "send", about, AFTER_SEND_HELP);
+    let command = with_peers(alloc, command)?;
+    let money = "Money that is offered, in units, 0 to 2^63 - 1";
+    let command = with_money(alloc, command, "money", money)?;
+    let command = with_workers(alloc, command, "Threads that send, 1 to 16")?;
+    let command = with_sources(alloc, command)?;
+    with_totals(alloc, command, TOTALS_HELP)
 }
 
 fn receive<'a>(alloc: Global) -> Result<Command<'a>, AllocError>
     ensures { IfOk result (HasShape spec.receive) }
 {
-    let command = named(
-        alloc,
-        "receive",
-        "Takes what one sender sends, and writes it to standard output",
-        AFTER_RECEIVE_HELP,
-    );
-    let listen = option(
-        alloc,
-        "listen",
-        "HOST:PORT",
-        "Where requests are taken, a port up to 65535",
-    );
-    let command = with(command, required(listen))?;
-    let command = with_ends(
-        alloc,
+    let about = "Takes what one sender sends, and writes it to standard output";
+    let command = named(alloc, "receive", about, AFTER_RECEIVE_HELP);
+    let command = with_listen(alloc, command)?;
+    let peer = "The sender's ILP address, up to 1023 characters";
+    let command = with_ends(alloc, command, peer)?;
+    let most = "The most money that is taken, in units, 0 to 2^63 - 1";
+    let command = with_money(alloc, command, "receive-max", most)?;
+    with_totals(alloc, command, TOTALS_HELP)
+}
+
+/// The command with how many requests a connector takes.
+fn with_requests<'a>(alloc: Global, command: Command<'a>) -> Result<Command<'a>, AllocError>
+    requires { has_globals command ≡ false }
+    ensures { IfOk result (HasShape (spec.with_requests (shape_of command.entry))) }
+{
+    let help = "Requests that are taken before it ends, 1 to 2147483647";
+    with(
         command,
-        "The sender's ILP address, up to 1023 characters",
-    )?;
-    let receive_max = number(
-        alloc,
-        "receive-max",
-        "The most money that is taken, in units, 0 to 2^63 - 1",
-        0,
-        MAX_MONEY,
-    );
-    let command = with(command, or(receive_max, "0"))?;
-    let totals = option(alloc, "totals", "FILE", TOTALS_HELP);
-    with(command, totals)
+        required(number(alloc, "requests", help, 1, MAX_REQUESTS)),
+    )
 }
 
 fn connector<'a>(alloc: Global) -> Result<Command<'a>, AllocError>
     ensures { IfOk result (HasShape spec.connector) }
 {
-    let command = named(
-        alloc,
-        "connector",
-        "Takes packets from neighbours and passes them on, by the table on standard input",
-        AFTER_CONNECTOR_HELP,
-    );
-    let listen = option(
-        alloc,
-        "listen",
-        "HOST:PORT",
-        "Where requests are taken, a port up to 65535",
-    );
-    let command = with(command, required(listen))?;
-    let own = option(
-        alloc,
-        "own",
-        "ADDRESS",
-        "The connector's own ILP address, up to 1023 characters",
-    );
-    let command = with(command, required(own))?;
-    let requests = number(
-        alloc,
-        "requests",
-        "Requests that are taken before it ends, 1 to 2147483647",
-        1,
-        MAX_REQUESTS,
-    );
-    let command = with(command, required(requests))?;
-    let workers = number(
-        alloc,
-        "workers",
-        "Threads that serve, 1 to 16",
-        1,
-        MAX_WORKERS,
-    );
-    let command = with(command, or(workers, "4"))?;
-    let totals = option(alloc, "totals", "FILE", ACCOUNTS_HELP);
-    with(command, totals)
+    let about = "Takes packets from neighbours and passes them on, by the table on standard input";
+    let command = named(alloc, "connector", about, AFTER_CONNECTOR_HELP);
+    let command = with_listen(alloc, command)?;
+    let own = "The connector's own ILP address, up to 1023 characters";
+    let command = with_required(alloc, command, "own", "ADDRESS", own)?;
+    let command = with_requests(alloc, command)?;
+    let command = with_workers(alloc, command, "Threads that serve, 1 to 16")?;
+    with_totals(alloc, command, ACCOUNTS_HELP)
+}
+
+/// The program with the commands between machines.
+fn with_transfers<'a>(alloc: Global, program: Command<'a>) -> Result<Command<'a>, AllocError>
+    ensures { IfOk result (λ c. app_of c ≡ spec.with_transfers (app_of program.entry)) }
+{
+    let program = with_command(program, send(alloc)?)?;
+    let program = with_command(program, receive(alloc)?)?;
+    with_command(program, connector(alloc)?)
 }
 
 /// The program, as clap reads words for it.
@@ -231,7 +211,5 @@ pub(crate) fn program<'a>(alloc: Global) -> Result<Command<'a>, AllocError>
         .after_help(AFTER_HELP);
     let program = with_command(program, frames(alloc))?;
     let program = with_command(program, local(alloc)?)?;
-    let program = with_command(program, send(alloc)?)?;
-    let program = with_command(program, receive(alloc)?)?;
-    with_command(program, connector(alloc)?)
+    with_transfers(alloc, program)
 }
