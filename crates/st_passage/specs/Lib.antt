@@ -3,3 +3,4 @@ pub mod Calm
 pub mod Chains
 pub mod Worlds
 pub mod Rounds
+pub mod Plays
