@@ -1,8 +1,13 @@
 pub mod Hops
 pub mod Chains
+pub mod Credits
 pub mod Runs
 pub mod Opening
 pub mod Worlds
 pub mod Rounds
 pub mod WorldRuns
 pub mod Opened
+pub mod Streams
+pub mod Begun
+pub mod Telling
+pub mod Plays

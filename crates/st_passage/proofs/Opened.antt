@@ -94,7 +94,7 @@ none_free s a (suc m) before =
     taken_is (outgoing_at s (place_of a)) (place_of a) (first_free s (map place_of (range_with_len (a + 1) m))) (before a (omega arith))
     ∙ none_free s (a + 1) m (λ i l. before i (omega (arith, l)))
 
-number_next : (j : ℕ) (e : EndState) → OpenTo j e → j < 32 → own_number e ≡ Some (place_of j)
+pub number_next : (j : ℕ) (e : EndState) → OpenTo j e → j < 32 → own_number e ≡ Some (place_of j)
 unfolding own_number
 number_next j e o l = ap (λ p. first_free e.sending (own_numbers p)) o.parity ∙ next_free e.sending j 0 32 (omega arith) (omega (arith, l)) o.opened (o.left j (omega arith) l)
 

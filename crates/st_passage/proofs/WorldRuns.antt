@@ -1,5 +1,5 @@
 -- A quiet run of a world from its opening on is a run of crossings, so it is as short, and delivers as much.
-use Rattle.std.proofs.Common.{is_some, ◌*◌, ◌++◌, append-nil, length-append, ◌≡◌, ℕ, Bool, zero, suc, ◌+◌, ◌^◌, ◌<◌, ◌≤◌, true, false, List, [], ◌∷◌, length, map, replicate, refl, sym, ap, subst, ◌∙◌, arith, ℤ, Option, None, Some, Result, Ok, inl, inr, take, cond, nat_eq}
+use Rattle.std.proofs.Common.{max, is_some, ◌*◌, ◌++◌, append-nil, length-append, ◌≡◌, ℕ, Bool, zero, suc, ◌+◌, ◌^◌, ◌<◌, ◌≤◌, true, false, List, [], ◌∷◌, length, map, replicate, refl, sym, ap, subst, ◌∙◌, arith, ℤ, Option, None, Some, Result, Ok, inl, inr, take, cond, nat_eq}
 use Rattle.std.specs.List.{AllByRecursion}
 use Rattle.std.proofs.lemmas.Bool.{cases_lt}
 use Rattle.st_hop.specs.Hop.{Hop}
@@ -25,7 +25,8 @@ use Rattle.st_quiet.specs.Exchanges.{IsModest}
 use Rattle.st_quiet.specs.Calls.{allow_each, begin_each, begun, lengths}
 use Rattle.st_quiet.specs.Trips.{Turns}
 use Rattle.st_quiet.proofs.Sums.{sum_below}
-use Rattle.st_quiet.proofs.Lowering.{none_goes, some_goes}
+use Rattle.st_quiet.proofs.Lowering.{none_goes, some_goes, zero_prepares}
+use Rattle.st_quiet.proofs.Allowing.{calls_allow}
 use Rattle.st_world.proofs.DataSent.{OutFine}
 use Rattle.st_quiet.proofs.Bound.{all_done, within_bound}
 use Rattle.st_quiet.proofs.Beginning.{IsBegun, calls_begun}
@@ -52,6 +53,7 @@ use Rattle.st_passage.specs.Chains.{Crossing, Crossings, Stands}
 use Rattle.st_passage.specs.Worlds.{IsAtRest, Met, state_of}
 use Rattle.st_passage.specs.Rounds.{Begins, BeginsEach, HasRoomFor, MayRun, QuietRun, Rounds, all_of, allows, opening_client, writes}
 use Rattle.st_passage.proofs.Opening.{new_calm}
+use Rattle.st_passage.proofs.Credits.{turns_credit}
 use Rattle.st_passage.proofs.Runs.{turn_exchange, crossing_calm, crossing_turn, crossings_turns, opening_stands, passage_comes, turn_stands, turns_lower}
 use Rattle.st_tables.specs.Slots.{slot}
 use Rattle.st_tables.proofs.SlotLemmas.{slot_cases}
@@ -273,7 +275,7 @@ copies_begins_each input money (suc m) w v run copies = copies_begins_each input
 copies_first : (c : Chain) (input : ℕ → List ℕ) → Copies input (opening c)
 copies_first c input k = subst (λ o. IsPrefixOf (ledger_or o).written (input k)) (sym (fmap.get-empty nat_cmp k)) (input k, refl)
 
-nothing_open : (config : Config) (keys : DerivedKeys) (own peer : List ℕ) → OpenTo 0 (new_end roles.Client keys own peer config)
+pub nothing_open : (config : Config) (keys : DerivedKeys) (own peer : List ℕ) → OpenTo 0 (new_end roles.Client keys own peer config)
 nothing_open config keys own peer = record {
   opened = λ i l. absurd (omega (arith, l));
   left = λ i l m. ap is_some (no_slot 65 (place_of i));
@@ -534,3 +536,16 @@ module _ (c : Chain) (input : ℕ → List ℕ) (money : ℕ → ℕ) (count lim
       let empty_run = nothing_long (held_row h) (omega (arith, long)) in
       subst (λ (z : EndState). got most (incoming_at z.receiving k).held ≡ End) (sym crossed.rests.server)
       (ends_by h end.0 most (abreast.mirrored.alive k) empty_run end.1 (written ∙ whole ∙ sym read))
+
+  -- all that was offered is credited
+  pub run_credits : GoesNone (end_at v Client) → (end_at v Server).receiving.credit ≡ all_money_left (opening_client c input money count).sending
+  run_credits none =
+      let quiet = turns_quiet input limit m first far_end crossed.client crossed.server may.input_fits stands turns in
+      let done = nothing_left (lengths input) crossed.client quiet crossed.unclosed (subst GoesNone crossed.rests.client none) in
+      let poor = zero_prepares crossed.client.sending.packet_limit (all_money_left crossed.client.sending) quiet.pays (second _ _ _ done) in
+      let sums = turns_credit input limit m first far_end crossed.client crossed.server may.input_fits stands turns in
+      let nothing : far_end.receiving.credit ≡ 0 = ap (λ r. r.credit) (calls_allow roles.Server (keys_of c.secret) c.server c.client c.config money).is in
+      ap (λ (z : EndState). z.receiving.credit) crossed.rests.server ∙ (let is : crossed.server.receiving.credit ≡ all_money_left first.sending = omega (arith, poor, sums, nothing) in is)
+    where
+      second : (a b c : ℕ) → max a b + c ≡ 0 → b ≡ 0
+      second a b c e = omega arith

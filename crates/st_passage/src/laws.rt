@@ -1,6 +1,6 @@
 //! What holds of every quiet run over hops, over the definitions alone. These functions do nothing: the contract is the law.
 
-ghost use Rattle.std.specs.Prelude.{◌≡◌, ℕ, ◌+◌, ◌*◌, ◌-ℤ◌, ◌<◌, ◌≤◌, ◌^◌, ℤ, true, false, int_le, int_lt, List, [], ◌∷◌, length, Ok};
+ghost use Rattle.std.specs.Prelude.{◌≡◌, ℕ, ◌+◌, ◌*◌, ◌-ℤ◌, ◌<◌, ◌≤◌, ◌^◌, ℤ, true, false, int_le, int_lt, List, [], ◌∷◌, length, sum, Ok};
 ghost use Rattle.std.specs.declared.option.Option.TheVariants.{Some};
 ghost use Rattle.st_ilp.specs.Packets.{Fulfilled, PreparePacket};
 ghost use Rattle.st_ilp.specs.Spelling.{prepare_text};
@@ -33,8 +33,9 @@ ghost use Rattle.st_world.specs.Sides.{Server};
 ghost use Rattle.st_world.specs.State.{end_at, lane_at, ledger_at};
 ghost use Rattle.st_world.specs.Runs.{Chain};
 ghost use Rattle.st_end.specs.Sending.{GoesNone};
-ghost use Rattle.st_passage.specs.Rounds.{MayRun, QuietRun, opening_client};
+ghost use Rattle.st_passage.specs.Rounds.{MayRun, QuietRun, opening_client, reads};
 ghost use Rattle.st_passage.specs.Worlds.{AllForward, HasCrossed, IsAtRest, Met, passing};
+ghost use Rattle.st_passage.specs.Plays.{IsDelivered, MayPlay, are_lawful, input_of, money_of, most_sends, sends_needed};
 
 /// A Prepare that comes to a calm hop in time goes on as it came, but that it expires a second earlier. The Fulfill that
 /// fits goes back with the same bytes, and leaves the hop calm.
@@ -106,4 +107,18 @@ pub fn a_quiet_run_of_a_world_is_bounded()
         → ((ledger_at v Client k).read ≡ input k) × ((ledger_at v Client k).written ≡ input k) }
     ensures ends { (c : Chain) (input : ℕ → List ℕ) (money : ℕ → ℕ) (count limit m k most : ℕ) (v : World) (x : Outgoing) → MayRun c input money count limit → QuietRun c input money count limit m v
         → GoesNone (end_at v Client) → outgoing_at (end_at v Client).sending k ≡ Some x → got most (incoming_at (end_at v Server).receiving k).held ≡ End }
+{}
+
+/// So with a list of inputs and one of amounts, for the client's streams 1, 3, 5 and on, there are no more Sends than these lists
+/// tell. Where then none goes, and each stream is read once more, each entry was written, read, told its end and credited, and
+/// the server's credit is the sum of the amounts.
+pub fn a_played_run_delivers()
+    ensures bounded { (c : Chain) (xs : List (List ℕ)) (ms : List ℕ) (limit m : ℕ) (v : World) → are_lawful xs ms ≡ true → MayPlay c xs ms → 32739 ≤ limit → QuietRun c (input_of xs) (money_of ms) (length xs) limit m v
+        → m + 1 ≤ most_sends c.config.packet_limit xs ms }
+    ensures sharper { (c : Chain) (xs : List (List ℕ)) (ms : List ℕ) (limit m : ℕ) (v : World) → are_lawful xs ms ≡ true → MayPlay c xs ms → 32739 ≤ limit → QuietRun c (input_of xs) (money_of ms) (length xs) limit m v
+        → m ≤ sends_needed c.config.packet_limit xs ms }
+    ensures delivered { (c : Chain) (xs : List (List ℕ)) (ms : List ℕ) (limit m : ℕ) (v w : World) → are_lawful xs ms ≡ true → MayPlay c xs ms → 32739 ≤ limit → QuietRun c (input_of xs) (money_of ms) (length xs) limit m v
+        → GoesNone (end_at v Client) → Met v (reads limit 0 65) w → IsDelivered xs ms w }
+    ensures credit { (c : Chain) (xs : List (List ℕ)) (ms : List ℕ) (limit m : ℕ) (v w : World) → are_lawful xs ms ≡ true → MayPlay c xs ms → 32739 ≤ limit → QuietRun c (input_of xs) (money_of ms) (length xs) limit m v
+        → GoesNone (end_at v Client) → Met v (reads limit 0 65) w → (end_at w Server).receiving.credit ≡ sum ms }
 {}
