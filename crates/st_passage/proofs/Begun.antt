@@ -28,11 +28,14 @@ begin_last input money (suc j) e = begin_last input money j (begun input money (
 opens_as : (j : ℕ) (e : EndState) → OpenTo j e → j < 32 → connection_refusal e ≡ None → (open_stream e).0 ≡ Ok (place_of j)
 opens_as j e opened low fine = ap (λ o. (opening_as e o).0) (number_next j e opened low) ∙ ap (λ why. (opened_unless e (place_of j) why).0) fine
 
-one_opens : (config : Config) (input : ℕ → List ℕ) (money : ℕ → ℕ) (j : ℕ) (e : EndState) → j < 32 → IsBegun 1 (lengths input) money config e → OpenTo j e → OpenTo (j + 1) (begun input money (open_stream e))
-one_opens config input money j e low is opened = opens_next input money j (place_of j) e opened (opens_as j e opened low fine)
+pub opens_here : (config : Config) (input : ℕ → List ℕ) (money : ℕ → ℕ) (j : ℕ) (e : EndState) → j < 32 → IsBegun 1 (lengths input) money config e → OpenTo j e → (open_stream e).0 ≡ Ok (place_of j)
+opens_here config input money j e low is opened = opens_as j e opened low fine
   where
     fine : connection_refusal e ≡ None
     fine = let alive : e.sending.failed ≡ false = ap (λ (z : Sending). z.failed) is.rest in let unclosed : e.receiving.closed ≡ false = is.unclosed in rw (alive, unclosed) refl
+
+one_opens : (config : Config) (input : ℕ → List ℕ) (money : ℕ → ℕ) (j : ℕ) (e : EndState) → j < 32 → IsBegun 1 (lengths input) money config e → OpenTo j e → OpenTo (j + 1) (begun input money (open_stream e))
+one_opens config input money j e low is opened = opens_next input money j (place_of j) e opened (opens_here config input money j e low is opened)
 
 pub opens_all : (keys : DerivedKeys) (own peer : List ℕ) (config : Config) (input : ℕ → List ℕ) (money : ℕ → ℕ) (j : ℕ) → j ≤ 32 → IsModest (lengths input) → IsModest money → OpenTo j (begin_each input money j (new_end roles.Client keys own peer config))
 unfolding begin_each

@@ -1,5 +1,5 @@
 -- A played run is a quiet run, so it is as short, and delivers as much.
-use Rattle.std.proofs.Common.{◌≡◌, ℕ, ◌+◌, ◌-◌, ◌*◌, ◌/◌, ◌^◌, ◌<◌, ◌≤◌, true, ◌&&◌, List, [], length, max, sum, refl, sym, ap, subst, ◌∙◌, arith, nat_eq, nat_le}
+use Rattle.std.proofs.Common.{◌≡◌, ℕ, ◌+◌, ◌-◌, ◌*◌, ◌/◌, ◌^◌, ◌<◌, ◌≤◌, true, ◌&&◌, List, [], length, is_ok, max, sum, refl, sym, ap, subst, ◌∙◌, arith, nat_eq, nat_le}
 use Rattle.std.specs.List.{AllByRecursion}
 use Rattle.std.proofs.lemmas.Bool.{and_parts}
 use Rattle.std.proofs.lemmas.Bool.Decides.{nat_tests}
@@ -7,22 +7,23 @@ use Rattle.st_keys.specs.Keys.{keys_of}
 use Rattle.st_sender.specs.Sending.{Sending}
 use Rattle.st_end.specs.declared.role.Role.TheVariants as roles
 use Rattle.st_end.specs.State.{EndState}
+use Rattle.st_end.specs.Calls.{open_stream}
 use Rattle.st_end.specs.Sending.{GoesNone}
 use Rattle.st_world.specs.Sides.{Client, Server}
-use Rattle.st_world.specs.State.{World, end_at}
-use Rattle.st_world.specs.Runs.{Chain}
+use Rattle.st_world.specs.State.{World, end_at, lane_at}
+use Rattle.st_world.specs.Runs.{Chain, opening}
 use Rattle.st_quiet.specs.Left.{all_money_left, bound, prepares_left, work_left}
 use Rattle.st_quiet.specs.Exchanges.{IsModest}
 use Rattle.st_quiet.specs.Calls.{lengths}
 use Rattle.st_quiet.proofs.Beginning.{IsBegun, calls_begun}
 use Rattle.st_passage.specs.Worlds.{Met}
-use Rattle.st_passage.specs.Rounds.{HasRoomFor, MayRun, QuietRun, all_of, opening_client, reads}
+use Rattle.st_passage.specs.Rounds.{BeginsEach, HasRoomFor, MayRun, QuietRun, all_of, allows, opening_client, reads}
 use Rattle.st_passage.specs.Plays.{IsDelivered, MayPlay, are_lawful, input_of, money_of, most_sends, prepares_for, sends_needed}
 use Rattle.st_passage.proofs.Streams.{all_amounts, all_streams, at_odd}
 use Rattle.st_passage.proofs.Opened.{OpenTo}
-use Rattle.st_passage.proofs.Begun.{all_frames_most, closes_most, money_is, opens_all, opens_most}
-use Rattle.st_passage.proofs.Telling.{TellsEnd, reads_leave}
-use Rattle.st_passage.proofs.WorldRuns.{run_credits, run_delivers, run_ends, run_is_bounded, run_money, run_opens, run_reads_whole, run_sharper}
+use Rattle.st_passage.proofs.Begun.{all_frames_most, closes_most, money_is, opens_all, opens_here, opens_most}
+use Rattle.st_passage.proofs.Telling.{TellsEnd, reads_leave, reads_leave_links}
+use Rattle.st_passage.proofs.WorldRuns.{begun_rests, run_credits, run_delivers, run_ends, run_is_bounded, run_money, run_opens, run_puts, run_reads_whole, run_sharper}
 
 record Counts (xs : List (List ℕ)) (ms : List ℕ) : Type 0 where
   as_many : length ms ≡ length xs
@@ -98,6 +99,15 @@ module _ (c : Chain) (xs : List (List ℕ)) (ms : List ℕ) (lawful : are_lawful
       below : (a b d : ℕ) → a ≤ b → b < d → a < d
       below a b d l m = omega arith
 
+  -- a stream opens where fewer than these are open
+  pub played_opens : (opened : ℕ) (allowed begun : World) → Met (opening c) (allows (money_of ms) 0 65) allowed → BeginsEach (input_of xs) (money_of ms) opened allowed begun → opened < length xs → is_ok (open_stream (end_at begun Client)).0 ≡ true
+  played_opens opened allowed begun allows_each begins_each fewer =
+      let e = opening_client c (input_of xs) (money_of ms) opened in
+      let rests = begun_rests c (input_of xs) (money_of ms) opened allowed begun may.may_send modest modest_money allows_each begins_each in
+      let is = calls_begun roles.Client (keys_of c.secret) c.client c.server c.config (input_of xs) (money_of ms) opened modest modest_money in
+      let low : opened < 32 = (let few = counts.few in omega (arith, few, fewer)) in
+      ap (λ z. is_ok (open_stream z).0) rests.0.client ∙ ap is_ok (opens_here c.config (input_of xs) (money_of ms) opened e low is (opens_all (keys_of c.secret) c.client c.server c.config (input_of xs) (money_of ms) opened (omega (arith, low)) modest modest_money))
+
 -- ---- a run of it
 
 module _ (c : Chain) (xs : List (List ℕ)) (ms : List ℕ) (limit m : ℕ) (v : World) (lawful : are_lawful xs ms ≡ true) (may : MayPlay c xs ms) (room : 32739 ≤ limit) (run : QuietRun c (input_of xs) (money_of ms) (length xs) limit m v) where
@@ -115,6 +125,10 @@ module _ (c : Chain) (xs : List (List ℕ)) (ms : List ℕ) (limit m : ℕ) (v :
     where
       within : (a left b d : ℕ) → a + left ≤ b → b ≤ d → a ≤ d
       within a left b d x y = omega arith
+
+  -- reads put nothing on a link
+  pub played_sends : (w : World) → Met v (reads limit 0 65) w → length (lane_at w 0 Client).puts ≡ m
+  played_sends w each = ap (λ links. length (lane_at (record v { links = links }) 0 Client).puts) (reads_leave_links limit 0 65 v w each) ∙ run_puts c (input_of xs) (money_of ms) (length xs) limit m v may_go run
 
   ends_at : GoesNone (end_at v Client) → (i : ℕ) → i < length xs → TellsEnd (2 * i + 1) v
   ends_at none i low most = let x = run_opens c (input_of xs) (money_of ms) (length xs) limit m v may_go run i low in run_ends c (input_of xs) (money_of ms) (length xs) limit m v may_go run (2 * i + 1) most x.0 none x.1

@@ -8,10 +8,13 @@ use Rattle.st_receiver.specs.Reading.{Bytes, End, Got, Nothing, after_bytes, aft
 use Rattle.st_end.specs.declared.error.EndError.{EndError}
 use Rattle.st_end.specs.declared.error.EndError.TheVariants.{NoStream}
 use Rattle.st_end.specs.State.{EndState}
+use Rattle.st_end.specs.Reading.{read}
 use Rattle.st_world.specs.Sides.{Client, Server}
 use Rattle.st_world.specs.State.{World, end_at, ledger_at, with_end}
 use Rattle.st_world.specs.Ledgers as ledgers
+use Rattle.st_world.specs.Events.{Read, Told}
 use Rattle.st_world.specs.Ends.{read_at}
+use Rattle.st_world.specs.Steps.{Step}
 use Rattle.st_world.proofs.Maps.{get_apart, get_here}
 use Rattle.st_quiet.proofs.Receiving.{replaced_here}
 use Rattle.st_passage.specs.Worlds.{Met}
@@ -140,3 +143,20 @@ reads_leave (suc l) first (suc m) w v k some tells run =
         | inr apart ↦ rest.1 (omega (arith, from, apart)) (omega (arith, till))
       ],
     )
+
+-- ---- and they leave the links, whatever is read
+
+told_leaves : (r : Result Got EndError) (w : World) (k : ℕ) → (read_at r w Client k).links ≡ w.links
+told_leaves (Ok g) w k = refl
+told_leaves (Err why) w k = refl
+
+one_leaves : (limit first : ℕ) (w v : World) (told : Told) → Step w (Read Server first limit) told v → v.links ≡ w.links
+one_leaves zero first w v told step = ap (λ (z : World). z.links) step.1
+one_leaves (suc l) first w v told step =
+    let r = read (end_at w Server) first (suc l) in
+    ap (λ (z : World). z.links) step.1 ∙ told_leaves r.0 (with_end w Server r.1) first
+
+pub reads_leave_links : (limit first count : ℕ) (w v : World) → Met w (reads limit first count) v → v.links ≡ w.links
+unfolding reads
+reads_leave_links limit first zero w v run = ap (λ (z : World). z.links) run
+reads_leave_links limit first (suc m) w v run = reads_leave_links limit (first + 1) m run.0 v run.4 ∙ one_leaves limit first w run.0 run.1 run.3

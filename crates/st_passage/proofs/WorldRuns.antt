@@ -22,7 +22,7 @@ use Rattle.st_quiet.specs.Quiet.{IsQuiet}
 use Rattle.st_quiet.specs.Left.{all_money_left, bound, money_left, work_left}
 use Rattle.st_quiet.specs.Rounds.{IsRefilled}
 use Rattle.st_quiet.specs.Exchanges.{IsModest}
-use Rattle.st_quiet.specs.Calls.{allow_each, begin_each, begun, lengths}
+use Rattle.st_quiet.specs.Calls.{MaySend, allow_each, begin_each, begun, lengths}
 use Rattle.st_quiet.specs.Trips.{Turns}
 use Rattle.st_quiet.proofs.Sums.{sum_below}
 use Rattle.st_quiet.proofs.Lowering.{none_goes, some_goes, zero_prepares}
@@ -324,6 +324,20 @@ calm_tables destination sent most left all (t ∷ ts) few modest room = (
 no_reads : (input : ℕ → List ℕ) (e f : EndState) → Stands input e f → NoAcks e → NoReads f
 no_reads input e f s none k = sym (acked_from input e f s k) ∙ none k
 
+-- where so many streams were opened
+pub begun_rests : (c : Chain) (input : ℕ → List ℕ) (money : ℕ → ℕ) (count : ℕ) (allowed begun : World) → MaySend c.config → IsModest (lengths input) → IsModest money → Met (opening c) (allows money 0 65) allowed → BeginsEach input money count allowed begun
+    → (let e = opening_client c input money count in let f = allow_each money 0 65 (new_end roles.Server (keys_of c.secret) c.server c.client c.config) in
+    IsAtRest begun e (map state_of (map new_node c.hops)) f 0 × IsReachedBy c begun × OpenTo (0 + count) e)
+begun_rests c input money count allowed begun may modest modest_money allows_each begins_each =
+    let new = new_end roles.Client (keys_of c.secret) c.client c.server c.config in
+    let hops = map state_of (map new_node c.hops) in
+    let f = allow_each money 0 65 (new_end roles.Server (keys_of c.secret) c.server c.client c.config) in
+    let stands = (opening_stands roles.Client (keys_of c.secret) c.client c.server c.config c.config input money count may modest modest_money).0 in
+    let none = no_acks_first roles.Client (keys_of c.secret) c.client c.server c.config in
+    let unread = no_reads input (opening_client c input money count) f stands (acks_begun_each input money count new none) in
+    begins_all c input money count 0 allowed begun new hops f 0 (reached_met c (allows money 0 65) (opening c) allowed (reached_first c) allows_each)
+    (allows_rest money 0 65 (opening c) allowed new hops _ 0 (opening_rests c) allows_each) none unread (nothing_open c.config (keys_of c.secret) c.client c.server) begins_each
+
 pub run_crosses : (c : Chain) (input : ℕ → List ℕ) (money : ℕ → ℕ) (count limit m : ℕ) (v : World) → MayRun c input money count limit → QuietRun c input money count limit m v
     → (let e = opening_client c input money count in let f = allow_each money 0 65 (new_end roles.Server (keys_of c.secret) c.server c.client c.config) in
     Stands input e f × AreCalm e.peer e.sending (map state_of (map new_node c.hops)) × AreCrossed c input limit m e (map state_of (map new_node c.hops)) f m v × OpenTo count e)
@@ -371,12 +385,8 @@ run_crosses c input money count limit m v may run = (stands, calm, subst (λ k. 
     long : length hops ≡ length c.hops
     long = map_long c.hops
 
-    unread : NoReads f
-    unread = no_reads input e f stands (acks_begun_each input money count (new_end roles.Client (keys_of c.secret) c.client c.server c.config) (no_acks_first roles.Client (keys_of c.secret) c.client c.server c.config))
-
     begun_rest : IsAtRest run.begun e hops f 0 × IsReachedBy c run.begun × OpenTo (0 + count) e
-    begun_rest = begins_all c input money count 0 run.allowed run.begun _ hops f 0 (reached_met c (allows money 0 65) (opening c) run.allowed (reached_first c) run.allows_each)
-        (allows_rest money 0 65 (opening c) run.allowed _ hops _ 0 (opening_rests c) run.allows_each) (no_acks_first roles.Client (keys_of c.secret) c.client c.server c.config) unread (nothing_open c.config (keys_of c.secret) c.client c.server) run.begins_each
+    begun_rest = begun_rests c input money count run.allowed run.begun may.may_send may.input_fits may.money_fits run.allows_each run.begins_each
 
     begun_ended : AreEnded e.sending f.receiving
     begun_ended k x at settled = absurd (let open_still : x.clean_settled ≡ false = ap (λ (z : Outgoing). z.clean_settled) (begun_is.streams k x at).is in let clash : ◌≡◌ {A = Bool} true false = sym settled ∙ open_still in cc)

@@ -1,6 +1,6 @@
 //! What holds of every quiet run over hops, over the definitions alone. These functions do nothing: the contract is the law.
 
-ghost use Rattle.std.specs.Prelude.{◌≡◌, ℕ, ◌+◌, ◌*◌, ◌-ℤ◌, ◌<◌, ◌≤◌, ◌^◌, ℤ, true, false, int_le, int_lt, List, [], ◌∷◌, length, sum, Ok};
+ghost use Rattle.std.specs.Prelude.{◌≡◌, ℕ, ◌+◌, ◌*◌, ◌-ℤ◌, ◌<◌, ◌≤◌, ◌^◌, ℤ, true, false, int_le, int_lt, List, [], ◌∷◌, length, sum, is_ok, Ok};
 ghost use Rattle.std.specs.declared.option.Option.TheVariants.{Some};
 ghost use Rattle.st_ilp.specs.Packets.{Fulfilled, PreparePacket};
 ghost use Rattle.st_ilp.specs.Spelling.{prepare_text};
@@ -31,9 +31,10 @@ ghost use Rattle.st_world.specs.Steps.{Step};
 ghost use Rattle.st_passage.specs.Chains.{Crossing, Crossings, Stands};
 ghost use Rattle.st_world.specs.Sides.{Server};
 ghost use Rattle.st_world.specs.State.{end_at, lane_at, ledger_at};
-ghost use Rattle.st_world.specs.Runs.{Chain};
+ghost use Rattle.st_world.specs.Runs.{Chain, opening};
 ghost use Rattle.st_end.specs.Sending.{GoesNone};
-ghost use Rattle.st_passage.specs.Rounds.{MayRun, QuietRun, opening_client, reads};
+ghost use Rattle.st_end.specs.Calls.{open_stream};
+ghost use Rattle.st_passage.specs.Rounds.{BeginsEach, MayRun, QuietRun, allows, opening_client, reads};
 ghost use Rattle.st_passage.specs.Worlds.{AllForward, HasCrossed, IsAtRest, Met, passing};
 ghost use Rattle.st_passage.specs.Plays.{IsDelivered, MayPlay, are_lawful, input_of, money_of, most_sends, sends_needed};
 
@@ -109,9 +110,10 @@ pub fn a_quiet_run_of_a_world_is_bounded()
         → GoesNone (end_at v Client) → outgoing_at (end_at v Client).sending k ≡ Some x → got most (incoming_at (end_at v Server).receiving k).held ≡ End }
 {}
 
-/// So with a list of inputs and one of amounts, for the client's streams 1, 3, 5 and on, there are no more Sends than these lists
-/// tell. Where then none goes, and each stream is read once more, each entry was written, read, told its end and credited, and
-/// the server's credit is the sum of the amounts.
+/// So with a list of inputs and one of amounts, for the client's streams 1, 3, 5 and on, each of these streams opens, and there
+/// are no more Sends than these lists tell. Where then none goes, and each stream is read once more, each entry was written,
+/// read, told its end and credited, the server's credit is the sum of the amounts, and still as many Prepares were put on the
+/// first link as Sends went.
 pub fn a_played_run_delivers()
     ensures bounded { (c : Chain) (xs : List (List ℕ)) (ms : List ℕ) (limit m : ℕ) (v : World) → are_lawful xs ms ≡ true → MayPlay c xs ms → 32739 ≤ limit → QuietRun c (input_of xs) (money_of ms) (length xs) limit m v
         → m + 1 ≤ most_sends c.config.packet_limit xs ms }
@@ -121,4 +123,8 @@ pub fn a_played_run_delivers()
         → GoesNone (end_at v Client) → Met v (reads limit 0 65) w → IsDelivered xs ms w }
     ensures credit { (c : Chain) (xs : List (List ℕ)) (ms : List ℕ) (limit m : ℕ) (v w : World) → are_lawful xs ms ≡ true → MayPlay c xs ms → 32739 ≤ limit → QuietRun c (input_of xs) (money_of ms) (length xs) limit m v
         → GoesNone (end_at v Client) → Met v (reads limit 0 65) w → (end_at w Server).receiving.credit ≡ sum ms }
+    ensures sends { (c : Chain) (xs : List (List ℕ)) (ms : List ℕ) (limit m : ℕ) (v w : World) → are_lawful xs ms ≡ true → MayPlay c xs ms → 32739 ≤ limit → QuietRun c (input_of xs) (money_of ms) (length xs) limit m v
+        → Met v (reads limit 0 65) w → length (lane_at w 0 Client).puts ≡ m }
+    ensures opens { (c : Chain) (xs : List (List ℕ)) (ms : List ℕ) (opened : ℕ) (allowed begun : World) → are_lawful xs ms ≡ true → MayPlay c xs ms → Met (opening c) (allows (money_of ms) 0 65) allowed → BeginsEach (input_of xs) (money_of ms) opened allowed begun
+        → opened < length xs → is_ok (open_stream (end_at begun Client)).0 ≡ true }
 {}
