@@ -1,0 +1,89 @@
+-- Lists of events one after the other, and the parts of a run by one more at their end.
+use Rattle.std.proofs.Common.{◌≡◌, ◌≢◌, ℕ, zero, suc, ◌+◌, ◌-◌, List, [], ◌∷◌, ◌++◌, refl, sym, ap, subst, ◌∙◌, arith, ℤ}
+use Rattle.st_world.specs.Sides.{Client, Server}
+use Rattle.st_world.specs.State.{World, ledger_at}
+use Rattle.st_world.specs.Events.{AnswerArrives, Arrive, Event, Read, ReceiveMax}
+use Rattle.st_passage.specs.Worlds.{Met, going_over, passing}
+use Rattle.st_passage.specs.Rounds.{Begins, BeginsEach, Round, Rounds, Writes, allows, reads, writes}
+
+pub met_join : (xs ys : List Event) (w v u : World) → Met w xs v → Met v ys u → Met w (xs ++ ys) u
+met_join [] ys w v u first second = subst (λ z. Met z ys u) first second
+met_join (x ∷ xs) ys w v u first second = (first.0, first.1, first.2, first.3, met_join xs ys first.0 v u first.4 second)
+
+-- ---- over hops
+
+-- a count that is not 0
+one_more : (n : ℕ) → n ≢ 0 → n ≡ suc (n - 1)
+one_more n some = omega (arith, some)
+
+pub go_last : (link hops which : ℕ) (now : ℤ) (w v : World) → hops ≡ 0 → Met w (Arrive link Client which now ∷ []) v → Met w (going_over link hops which now) v
+unfolding going_over
+go_last link hops which now w v none run = subst (λ n. Met w (going_over link n which now) v) (sym none) run
+
+pub go_more : (link hops which : ℕ) (now : ℤ) (w a b v : World) → hops ≢ 0 → Met w (Arrive link Client which now ∷ []) a → Met a (going_over (link + 1) (hops - 1) which now) b → Met b (AnswerArrives (link + 1) Client which now ∷ []) v
+    → Met w (going_over link hops which now) v
+unfolding going_over
+go_more link hops which now w a b v some first rest last =
+    let next : link + 1 ≡ suc link = omega arith in
+    let P : ℕ → Type 0 = λ l. Met w (Arrive link Client which now ∷ going_over l (hops - 1) which now ++ AnswerArrives l Client which now ∷ []) v in
+    let all : Met w (Arrive link Client which now ∷ going_over (link + 1) (hops - 1) which now ++ AnswerArrives (link + 1) Client which now ∷ []) v =
+    met_join (Arrive link Client which now ∷ []) (going_over (link + 1) (hops - 1) which now ++ AnswerArrives (link + 1) Client which now ∷ []) w a v first
+    (met_join (going_over (link + 1) (hops - 1) which now) (AnswerArrives (link + 1) Client which now ∷ []) a b v rest last) in
+    subst (λ n. Met w (going_over link n which now) v) (sym (one_more hops some)) (subst P next all)
+
+-- ---- one more
+
+reads_push : (limit first count k : ℕ) (w a v : World) → k ≡ first + count → Met w (reads limit first count) a → Met a (Read Server k limit ∷ []) v → Met w (reads limit first (suc count)) v
+unfolding reads
+reads_push limit first zero k w a v at run one =
+    let here : k ≡ first = omega (arith, at) in
+    subst (λ j. Met w (Read Server j limit ∷ []) v) here (subst (λ z. Met z (Read Server k limit ∷ []) v) run one)
+reads_push limit first (suc m) k w a v at run one = (run.0, run.1, run.2, run.3, reads_push limit (first + 1) m k run.0 a v (omega (arith, at)) run.4 one)
+
+pub reads_more : (limit k : ℕ) (w a v : World) → Met w (reads limit 0 k) a → Met a (Read Server k limit ∷ []) v → Met w (reads limit 0 (k + 1)) v
+reads_more limit k w a v run one = subst (λ n. Met w (reads limit 0 n) v) (let next : suc k ≡ k + 1 = omega arith in next) (reads_push limit 0 k k w a v (omega arith) run one)
+
+pub reads_none : (limit : ℕ) (w : World) → Met w (reads limit 0 0) w
+unfolding reads
+reads_none limit w = refl
+
+allows_push : (money : ℕ → ℕ) (first count k : ℕ) (w a v : World) → k ≡ first + count → Met w (allows money first count) a → Met a (ReceiveMax Server k (money k) ∷ []) v → Met w (allows money first (suc count)) v
+unfolding allows
+allows_push money first zero k w a v at run one =
+    let here : k ≡ first = omega (arith, at) in
+    subst (λ j. Met w (ReceiveMax Server j (money j) ∷ []) v) here (subst (λ z. Met z (ReceiveMax Server k (money k) ∷ []) v) run one)
+allows_push money first (suc m) k w a v at run one = (run.0, run.1, run.2, run.3, allows_push money (first + 1) m k run.0 a v (omega (arith, at)) run.4 one)
+
+pub allows_more : (money : ℕ → ℕ) (k : ℕ) (w a v : World) → Met w (allows money 0 k) a → Met a (ReceiveMax Server k (money k) ∷ []) v → Met w (allows money 0 (k + 1)) v
+allows_more money k w a v run one = subst (λ n. Met w (allows money 0 n) v) (let next : suc k ≡ k + 1 = omega arith in next) (allows_push money 0 k k w a v (omega arith) run one)
+
+pub allows_none : (money : ℕ → ℕ) (w : World) → Met w (allows money 0 0) w
+unfolding allows
+allows_none money w = refl
+
+writes_push : (input : ℕ → List ℕ) (first count k : ℕ) (w a v : World) → k ≡ first + count → Writes input first count w a → Met a (writes (input k) k (ledger_at a Client k)) v → Writes input first (suc count) w v
+writes_push input first zero k w a v at run one =
+    let here : k ≡ first = omega (arith, at) in
+    let P : World → ℕ → Type 0 = λ z j. Met z (writes (input j) j (ledger_at z Client j)) v in
+    (v, subst (P w) here (subst (λ z. P z k) run one), refl)
+writes_push input first (suc m) k w a v at run one = (run.0, run.1, writes_push input (first + 1) m k run.0 a v (omega (arith, at)) run.2 one)
+
+pub writes_more : (input : ℕ → List ℕ) (k : ℕ) (w a v : World) → Writes input 0 k w a → Met a (writes (input k) k (ledger_at a Client k)) v → Writes input 0 (k + 1) w v
+writes_more input k w a v run one = subst (λ n. Writes input 0 n w v) (let next : suc k ≡ k + 1 = omega arith in next) (writes_push input 0 k k w a v (omega arith) run one)
+
+begins_push : (input : ℕ → List ℕ) (money : ℕ → ℕ) (count : ℕ) (w a v : World) → BeginsEach input money count w a → Begins input money a v → BeginsEach input money (suc count) w v
+begins_push input money zero w a v run one = (v, subst (λ z. Begins input money z v) run one, refl)
+begins_push input money (suc m) w a v run one = (run.0, run.1, begins_push input money m run.0 a v run.2 one)
+
+pub begins_more : (input : ℕ → List ℕ) (money : ℕ → ℕ) (count : ℕ) (w a v : World) → BeginsEach input money count w a → Begins input money a v → BeginsEach input money (count + 1) w v
+begins_more input money count w a v run one = subst (λ n. BeginsEach input money n w v) (let next : suc count ≡ count + 1 = omega arith in next) (begins_push input money count w a v run one)
+
+rounds_push : (input : ℕ → List ℕ) (limit hops first count k : ℕ) (w a v : World) → k ≡ first + count → Rounds input limit hops first count w a → Round input limit hops k a v → Rounds input limit hops first (suc count) w v
+rounds_push input limit hops first zero k w a v at run one =
+    let here : k ≡ first = omega (arith, at) in
+    (v, subst (λ j. Round input limit hops j w v) here (subst (λ z. Round input limit hops k z v) run one), refl)
+rounds_push input limit hops first (suc m) k w a v at run one = (run.0, run.1, rounds_push input limit hops (suc first) m k run.0 a v (omega (arith, at)) run.2 one)
+
+pub rounds_more : (input : ℕ → List ℕ) (limit hops before after : ℕ) (w a v : World) → after ≡ suc before → Rounds input limit hops 0 before w a → Round input limit hops before a v → Rounds input limit hops 0 after w v
+rounds_more input limit hops before after w a v next run one =
+    subst (λ n. Rounds input limit hops 0 n w v) (sym next) (rounds_push input limit hops 0 before before w a v (omega arith) run one)

@@ -1,0 +1,5 @@
+pub mod Bounds
+pub mod Joins
+pub mod Runs
+pub mod Tolds
+pub mod Parts

@@ -1,0 +1,110 @@
+//! Rounds: a Send, its Prepare and the answer over all hops, reads and writes.
+
+ghost use Rattle.std.specs.Prelude.{◌≡◌, suc, ◌+◌, ◌<◌, ◌^◌, MatchBool, IfErr, IfOk, OnOk};
+ghost use Rattle.st_passage.specs.Worlds.{Met, going_over, passing};
+ghost use Rattle.st_passage.specs.Rounds.{Round, Rounds, reads};
+ghost use Rattle.st_passage.specs.Plays.{input_of};
+ghost use Rattle.st_bounded.specs.Playing.{GoesOn, IsEndless, IsOver, SendsNone, Stops, bytes_of, read_limit};
+
+use crate::steps::{send, take};
+use crate::stop::Stop;
+use crate::writes::{NUMBERS, write_each};
+use st_chain::{Event, World};
+use st_ilp::Moment;
+use st_nodes::{Side, Way};
+use std::alloc::Allocator;
+
+/// How many bytes are read at once: more than one Prepare brings.
+const READ_LIMIT: usize = 65_536;
+
+/// A Prepare goes over a link and so many hops after it, and its answer comes back to the first of them.
+fn go_over<A: Allocator + Copy>(
+    world: &mut World<A>,
+    link: usize,
+    hops: usize,
+    which: usize,
+    now: Moment,
+) -> Result<(), Stop>
+    requires { link + hops < 2 ^ 64 }
+    ensures met { OnOk result (Met world.old (going_over link hops which now) world.new) }
+    ensures stops { IfErr result (λ e. Stops ⊥ ⊥ e world.old world.new) }
+{
+    take(world, &Event::Arrive(link, Way::ToServer, which, now))?;
+    if hops == 0 {
+        return Ok(());
+    }
+    go_over(world, link + 1, hops - 1, which, now)?;
+    take(
+        world,
+        &Event::AnswerArrives(link + 1, Way::ToServer, which, now),
+    )
+}
+
+/// A Prepare goes over all hops, and its answer comes back over all of them.
+fn pass<A: Allocator + Copy>(
+    world: &mut World<A>,
+    hops: usize,
+    which: usize,
+    now: Moment,
+) -> Result<(), Stop>
+    ensures met { OnOk result (Met world.old (passing hops which now) world.new) }
+    ensures stops { IfErr result (λ e. Stops ⊥ ⊥ e world.old world.new) }
+{
+    go_over(world, 0, hops, which, now)?;
+    take(world, &Event::AnswerArrives(0, Way::ToServer, which, now))
+}
+
+/// A read of each stream at the server.
+pub(crate) fn read_each<A: Allocator + Copy>(world: &mut World<A>) -> Result<(), Stop>
+    ensures met { OnOk result (Met world.old (reads read_limit 0 65) world.new) }
+    ensures stops { IfErr result (λ e. Stops ⊥ ⊥ e world.old world.new) }
+{
+    for stream in 0..NUMBERS {
+        take(world, &Event::Read(Side::Server, stream, READ_LIMIT))?;
+    }
+    Ok(())
+}
+
+/// One round, after so many Sends. Whether a Prepare went.
+fn go_round<A: Allocator + Copy>(
+    world: &mut World<A>,
+    input: &[&[u8]],
+    hops: usize,
+    sends: &mut u64,
+) -> Result<bool, Stop>
+    requires { sends.old + 1 < 2 ^ 64 }
+    ensures round { IfOk result (λ went. MatchBool went (GoesOn (input_of (bytes_of input.now)) hops sends.old sends.new world.old world.new) (IsOver sends.old sends.new world.old world.new)) }
+    ensures stops { IfErr result (λ e. Stops ⊥ ⊥ e world.old world.new) }
+{
+    let now = Moment::new(0).unwrap();
+    let number = *sends + 1;
+    if !send(world, number, now)? {
+        return Ok(false);
+    }
+    *sends = number;
+    pass(world, hops, number as usize, now)?;
+    read_each(world)?;
+    write_each(world, input)?;
+    Ok(true)
+}
+
+/// Rounds until no Prepare goes, but fewer than so many: how many there were.
+pub(crate) fn go_rounds<A: Allocator + Copy>(
+    world: &mut World<A>,
+    input: &[&[u8]],
+    hops: usize,
+    most: u64,
+    sends: &mut u64,
+) -> Result<(), Stop>
+    requires { sends.old ≡ 0 }
+    ensures rounds { OnOk result (Rounds (input_of (bytes_of input.now)) read_limit hops 0 sends.new world.old world.new) }
+    ensures none { OnOk result (SendsNone world.new world.new) }
+    ensures stops { IfErr result (λ e. Stops ⊥ (IsEndless (input_of (bytes_of input.now)) hops most world.old) e world.old world.new) }
+{
+    while *sends < most {
+        if !go_round(world, input, hops, sends)? {
+            return Ok(());
+        }
+    }
+    Err(Stop::Endless)
+}

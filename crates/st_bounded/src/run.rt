@@ -1,0 +1,120 @@
+//! A quiet run, played whole.
+
+ghost use Rattle.std.specs.Prelude.{◌≡◌, ◌<◌, ◌≤◌, ◌+◌, ℕ, true, false, length, IfErr, IfOk, OnOk};
+ghost use Rattle.std.specs.Result.{IsErrAnd};
+ghost use Rattle.st_world.specs.State as state;
+ghost use Rattle.st_world.specs.Runs.{Chain, opening};
+ghost use Rattle.st_chain.specs.Left.{left_of};
+ghost use Rattle.st_passage.specs.Plays.{MayPlay, are_lawful, input_of, money_of, most_sends, sends_needed};
+ghost use Rattle.st_bounded.specs.Playing.{Continues, IsEndlessAfter, IsPlayed, IsStuckAfter, Stops, bytes_of};
+ghost use Rattle.st_bounded.specs.Promised.{Delivers};
+
+use crate::fault::Fault;
+use crate::most::{are_lawful, most_rounds};
+use crate::opening::{allow_each, begin_each};
+use crate::rounds::{go_rounds, read_each};
+use crate::stop::Stop;
+use st_chain::{Trace, World};
+use st_passage::a_played_run_delivers;
+use std::alloc::Allocator;
+use std::marker::Model;
+
+/// What a quiet run leaves, and how many Prepares the client sent.
+#[derive(Drop)]
+pub struct Played<A: Allocator + Copy> {
+    trace: Trace<A>,
+    sends: u64,
+}
+
+impl<A: Allocator + Copy> Model for Played<A> {
+    ghost use Rattle.std.specs.Coded.{codes};
+    ghost use Rattle.std.specs.FinMap as map;
+    ghost use Rattle.st_bounded.specs.Playing.{Outcome};
+
+    ghost Value = { Outcome };
+
+    ghost coded = { Prim.hlevel (codes, map.code) };
+
+    ghost view = { λ a. record { trace = a.trace; sends = a.sends } };
+}
+
+impl<A: Allocator + Copy> Played<A> {
+    /// What the run left. No memory.
+    pub fn trace(&self) -> &Trace<A>
+        ensures { result.now ≡ self.now.trace }
+    {
+        &self.trace
+    }
+
+    /// How many Prepares the client sent. No memory.
+    pub fn sends(&self) -> u64
+        ensures { result ≡ self.now.sends }
+    {
+        self.sends
+    }
+}
+
+/// What a world has left.
+fn trace_of<A: Allocator + Copy>(world: World<A>) -> Trace<A>
+    ensures { result ≡ left_of world }
+{
+    match world.play(&[]) {
+        Ok(trace) => trace,
+        Err((_fault, trace)) => trace,
+    }
+}
+
+/// Plays a run of fewer rounds than `most`, and counts its Sends.
+fn play<A: Allocator + Copy>(
+    world: &mut World<A>,
+    input: &[&[u8]],
+    money: &[u64],
+    most: u64,
+    sends: &mut u64,
+) -> Result<(), Stop>
+    requires { sends.old ≡ 0 }
+    ensures played { OnOk result (IsPlayed (input_of (bytes_of input.now)) (money_of money.now) (length input.now) (length world.old.nodes) sends.new world.old world.new) }
+    ensures stops { IfErr result (λ e. Stops (IsStuckAfter (input_of (bytes_of input.now)) (money_of money.now) (length input.now) world.old)
+        (IsEndlessAfter (input_of (bytes_of input.now)) (money_of money.now) (length input.now) (length world.old.nodes) most world.old) e world.old world.new) }
+{
+    let hops = world.trace().hops();
+    allow_each(world, money)?;
+    begin_each(world, input, money)?;
+    go_rounds(world, input, hops, most, sends)?;
+    read_each(world)
+}
+
+/// Plays a quiet run of a world where nothing has happened, with these bytes and this amount on each stream: the server lets
+/// the amounts come; the client opens the streams, offers and writes; then, at moment 0, it sends, its Prepare goes over all
+/// hops and the answer comes back, the server reads all there is, and the client writes on, until no Prepare goes. A last
+/// read of each stream tells its end.
+///
+/// Refused is `BadInput` unless there are 1 to 32 streams and as many amounts, and `NoMemory` where the world could not
+/// record an event: the trace is then that of the events before it. Where a call found no memory the run ends there, and its
+/// trace says so. Else, under the premises of st_passage's `MayPlay`, all was delivered, by no more Sends than the bound.
+pub fn quiet<A: Allocator + Copy>(
+    mut world: World<A>,
+    input: &[&[u8]],
+    money: &[u64],
+) -> Result<Played<A>, (Fault, Trace<A>)>
+    ensures bad_input { are_lawful (bytes_of input.now) money.now ≡ false → IsErrAnd result (λ e. (e.0 ≡ Fault.BadInput) × (e.1 ≡ left_of world)) }
+    ensures only_memory { are_lawful (bytes_of input.now) money.now ≡ true → IfErr result (λ e. e.0 ≡ Fault.NoMemory) }
+    ensures run { IfOk result (λ q. (w : state.World) × Continues world w × (q.trace ≡ left_of w)) }
+    ensures part { IfErr result (λ e. (w : state.World) × Continues world w × (e.1 ≡ left_of w)) }
+    ensures delivered { IfOk result (λ q. (c : Chain) → world ≡ opening c → MayPlay c (bytes_of input.now) money.now → q.trace.refused ≡ false → Delivers (bytes_of input.now) money.now q) }
+    ensures bounded { IfOk result (λ q. (c : Chain) → world ≡ opening c → MayPlay c (bytes_of input.now) money.now → q.trace.refused ≡ false → q.sends + 1 ≤ most_sends c.config.packet_limit (bytes_of input.now) money.now) }
+    ensures sharper { IfOk result (λ q. (c : Chain) → world ≡ opening c → MayPlay c (bytes_of input.now) money.now → q.trace.refused ≡ false → q.sends ≤ sends_needed c.config.packet_limit (bytes_of input.now) money.now) }
+{
+    if !are_lawful(input, money) {
+        return Err((Fault::BadInput, trace_of(world)));
+    }
+    a_played_run_delivers();
+    let most = most_rounds(input, money);
+    let mut sends = 0;
+    let ended = play(&mut world, input, money, most, &mut sends);
+    let trace = trace_of(world);
+    if matches!(ended, Err(Stop::NoMemory)) {
+        return Err((Fault::NoMemory, trace));
+    }
+    Ok(Played { trace, sends })
+}
