@@ -1,9 +1,9 @@
 -- Lists of events one after the other, and the parts of a run by one more at their end.
-use Rattle.std.proofs.Common.{◌≡◌, ◌≢◌, ℕ, zero, suc, ◌+◌, ◌-◌, List, [], ◌∷◌, ◌++◌, refl, sym, ap, subst, ◌∙◌, arith, ℤ}
+use Rattle.std.proofs.Common.{◌≡◌, ◌≢◌, ℕ, zero, suc, ◌+◌, ◌-◌, List, [], ◌∷◌, ◌++◌, refl, sym, subst, ◌≤◌, arith, ℤ}
 use Rattle.st_world.specs.Sides.{Client, Server}
 use Rattle.st_world.specs.State.{World, ledger_at}
 use Rattle.st_world.specs.Events.{AnswerArrives, Arrive, Event, Read, ReceiveMax}
-use Rattle.st_passage.specs.Worlds.{Met, going_over, passing}
+use Rattle.st_passage.specs.Worlds.{Met, going_over}
 use Rattle.st_passage.specs.Rounds.{Begins, BeginsEach, Round, Rounds, Writes, allows, reads, writes}
 
 pub met_join : (xs ys : List Event) (w v u : World) → Met w xs v → Met v ys u → Met w (xs ++ ys) u
@@ -87,3 +87,9 @@ rounds_push input limit hops first (suc m) k w a v at run one = (run.0, run.1, r
 pub rounds_more : (input : ℕ → List ℕ) (limit hops before after : ℕ) (w a v : World) → after ≡ suc before → Rounds input limit hops 0 before w a → Round input limit hops before a v → Rounds input limit hops 0 after w v
 rounds_more input limit hops before after w a v next run one =
     subst (λ n. Rounds input limit hops 0 n w v) (sym next) (rounds_push input limit hops 0 before before w a v (omega arith) run one)
+
+-- fewer of the same rounds
+pub rounds_front : (input : ℕ → List ℕ) (limit hops first few count : ℕ) (w v : World) → few ≤ count → Rounds input limit hops first count w v → (mid : World) × Rounds input limit hops first few w mid
+rounds_front input limit hops first zero count w v below run = (w, refl)
+rounds_front input limit hops first (suc k) zero w v below run = absurd (omega (arith, below))
+rounds_front input limit hops first (suc k) (suc m) w v below run = let rest = rounds_front input limit hops (suc first) k m run.0 v (omega (arith, below)) run.2 in (rest.0, (run.0, run.1, rest.1))

@@ -3,3 +3,5 @@ pub mod Joins
 pub mod Runs
 pub mod Tolds
 pub mod Parts
+pub mod Room
+pub mod Wholes

@@ -1,14 +1,14 @@
 -- The parts of a round and of an opening, by the calls that play them.
-use Rattle.std.proofs.Common.{◌≡◌, ◌≢◌, ℕ, suc, ◌+◌, ◌-◌, Bool, true, false, List, [], ◌∷◌, length, take, drop, refl, sym, ap, subst, ◌∙◌, arith, ℤ, nat_eq, Ok}
+use Rattle.std.proofs.Common.{◌≡◌, ◌≢◌, ℕ, suc, ◌+◌, ◌-◌, true, false, List, [], ◌∷◌, length, take, drop, refl, sym, ap, subst, ◌∙◌, arith, ℤ, nat_eq, Ok}
 use Rattle.std.proofs.lemmas.Bool.Decides.{nat_tests}
-use Rattle.st_world.specs.Sides.{Client, Server}
+use Rattle.st_world.specs.Sides.{Client}
 use Rattle.st_world.specs.State.{World, ledger_at}
 use Rattle.st_world.specs.Ledgers.{Ledger}
-use Rattle.st_world.specs.Events.{Close, Event, Offer, OpenStream, Opened, Send, Sent, Write}
+use Rattle.st_world.specs.Events.{Close, Offer, OpenStream, Opened, Send, Sent, Write}
 use Rattle.st_world.specs.Steps.{Step}
 use Rattle.st_passage.specs.Worlds.{Met, passing}
-use Rattle.st_passage.specs.Rounds.{Begins, Round, Writes, close_if, fits, reads, writes}
-use Rattle.st_bounded.specs.Playing.{Continues, GoesOn, IsOver, Sends, SendsNone, WritesAll, read_limit}
+use Rattle.st_passage.specs.Rounds.{Begins, Writes, close_if, fits, reads, writes}
+use Rattle.st_bounded.specs.Playing.{Continues, GoesOn, Sends, WritesAll, read_limit}
 use Rattle.st_bounded.proofs.Joins.{met_join}
 use Rattle.st_bounded.proofs.Runs.{met_on}
 

@@ -1,12 +1,13 @@
 -- Events that were met are a run, and parts of runs one after the other are one.
-use Rattle.std.proofs.Common.{◌≡◌, ℕ, zero, suc, ◌+◌, Bool, true, List, [], ◌∷◌, ◌++◌, refl, sym, ap, subst, ◌∙◌, inl, Ok, Err, Result}
+use Rattle.std.proofs.Common.{◌≡◌, ℕ, zero, suc, ◌+◌, List, [], ◌∷◌, ◌++◌, refl, sym, subst, inl, Ok, Err, Result}
 use Rattle.std.specs.Prelude.{IfErr, OnOk}
+use Rattle.std.specs.Result.{IsErrAnd}
 use Rattle.st_world.specs.Sides.{Client}
 use Rattle.st_world.specs.State.{World, ledger_at}
 use Rattle.st_world.specs.Events.{Event, Offer, OpenStream, Opened, Send, Sent}
 use Rattle.st_world.specs.Runs.{Run}
 use Rattle.st_passage.specs.Worlds.{Met, passing}
-use Rattle.st_passage.specs.Rounds.{Begins, BeginsEach, Round, Rounds, Writes, allows, reads, writes}
+use Rattle.st_passage.specs.Rounds.{Begins, BeginsEach, Round, Rounds, Writes, reads, writes}
 use Rattle.st_bounded.specs.declared.stop.Stop.{Stop}
 use Rattle.st_bounded.specs.declared.stop.Stop.TheVariants.{NoMemory, Refused, NoStream, Endless}
 use Rattle.st_bounded.specs.Playing.{Continues, Stops, Why}
@@ -78,3 +79,8 @@ err_as p q r s (Err e) w v f g stops = stops_as p q r s e w v f g stops
 pub ok_as : {X E : Type 0} (r : Result X E) (P Q : Type 0) → (P → Q) → OnOk r P → OnOk r Q
 ok_as (Ok x) P Q f h = f h
 ok_as (Err e) P Q f h = tt
+
+-- the error that a call hands on
+pub err_end : {X : Type 0} (P : Stop → Type 0) (r : Result X Stop) (e : Stop) → IsErrAnd r (λ d. d ≡ e) → P e → IfErr r P
+err_end P (Ok x) e h p = tt
+err_end P (Err d) e h p = subst P (sym h) p

@@ -1,14 +1,12 @@
 -- What an event told, and what of it was met.
-use Rattle.std.proofs.Common.{◌≡◌, ℕ, Bool, true, false, cond, List, [], ◌∷◌, refl, sym, ap, subst, ◌∙◌, ℤ, inl, inr, Option, None, Some, Result, Ok, Err, is_ok}
-use Rattle.std.specs.Prelude.{MatchBool, MatchOption}
+use Rattle.std.proofs.Common.{◌≡◌, ℕ, Bool, true, false, List, [], ◌∷◌, refl, sym, ap, subst, ◌∙◌, ℤ, inl, inr, Option, None, Some, Result, Ok, Err, is_ok}
+use Rattle.std.specs.Prelude.{MatchBool}
 use Rattle.st_end.specs.declared.error.EndError.{EndError}
-use Rattle.st_end.specs.State.{EndState}
 use Rattle.st_end.specs.Calls.{open_stream}
 use Rattle.st_world.specs.Sides.{Client}
 use Rattle.st_world.specs.State.{World, end_at}
-use Rattle.st_world.specs.Events.{Event, OpenStream, Opened, Send, Sent, Silent, Told}
+use Rattle.st_world.specs.Events.{Event, OpenStream, Opened, Send, Told}
 use Rattle.st_world.specs.Steps.{Happens, Step}
-use Rattle.st_chain.specs.Left.{Left, left_of}
 use Rattle.st_bounded.specs.declared.stop.Stop.TheVariants.{Refused}
 use Rattle.st_bounded.specs.Playing.{OpensNone, Sends, SendsNone, Stops, Tells, is_sent, opened_in}
 

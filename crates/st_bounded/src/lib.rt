@@ -6,6 +6,7 @@
 #![tactic(auto)]
 
 mod fault;
+mod laws;
 mod most;
 mod opening;
 mod rounds;
@@ -15,4 +16,5 @@ mod stop;
 mod writes;
 
 pub use fault::Fault;
-pub use run::{Played, quiet};
+pub use laws::a_chain_with_room_may_play;
+pub use run::{Delivery, quiet};

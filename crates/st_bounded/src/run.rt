@@ -7,7 +7,7 @@ ghost use Rattle.st_world.specs.Runs.{Chain, opening};
 ghost use Rattle.st_chain.specs.Left.{left_of};
 ghost use Rattle.st_passage.specs.Plays.{MayPlay, are_lawful, input_of, money_of, most_sends, sends_needed};
 ghost use Rattle.st_bounded.specs.Playing.{Continues, IsEndlessAfter, IsPlayed, IsStuckAfter, Stops, bytes_of};
-ghost use Rattle.st_bounded.specs.Promised.{Delivers};
+ghost use Rattle.st_bounded.specs.Promised.{Delivers, is_unrecorded};
 
 use crate::fault::Fault;
 use crate::most::{are_lawful, most_rounds};
@@ -15,18 +15,17 @@ use crate::opening::{allow_each, begin_each};
 use crate::rounds::{go_rounds, read_each};
 use crate::stop::Stop;
 use st_chain::{Trace, World};
-use st_passage::a_played_run_delivers;
 use std::alloc::Allocator;
 use std::marker::Model;
 
 /// What a quiet run leaves, and how many Prepares the client sent.
 #[derive(Drop)]
-pub struct Played<A: Allocator + Copy> {
+pub struct Delivery<A: Allocator + Copy> {
     trace: Trace<A>,
     sends: u64,
 }
 
-impl<A: Allocator + Copy> Model for Played<A> {
+impl<A: Allocator + Copy> Model for Delivery<A> {
     ghost use Rattle.std.specs.Coded.{codes};
     ghost use Rattle.std.specs.FinMap as map;
     ghost use Rattle.st_bounded.specs.Playing.{Outcome};
@@ -38,7 +37,7 @@ impl<A: Allocator + Copy> Model for Played<A> {
     ghost view = { λ a. record { trace = a.trace; sends = a.sends } };
 }
 
-impl<A: Allocator + Copy> Played<A> {
+impl<A: Allocator + Copy> Delivery<A> {
     /// What the run left. No memory.
     pub fn trace(&self) -> &Trace<A>
         ensures { result.now ≡ self.now.trace }
@@ -84,6 +83,37 @@ fn play<A: Allocator + Copy>(
     read_each(world)
 }
 
+/// Whether the world could not record an event.
+fn is_unrecorded(ended: &Result<(), Stop>) -> bool
+    ensures { result ≡ is_unrecorded ended.now }
+{
+    matches!(ended, Err(Stop::NoMemory))
+}
+
+/// Plays a quiet run with 1 to 32 streams and an amount for each.
+fn play_lawful<A: Allocator + Copy>(
+    mut world: World<A>,
+    input: &[&[u8]],
+    money: &[u64],
+) -> Result<Delivery<A>, (Fault, Trace<A>)>
+    requires { are_lawful (bytes_of input.now) money.now ≡ true }
+    ensures only_memory { IfErr result (λ e. e.0 ≡ Fault.NoMemory) }
+    ensures run { IfOk result (λ q. (w : state.World) × Continues world w × (q.trace ≡ left_of w)) }
+    ensures part { IfErr result (λ e. (w : state.World) × Continues world w × (e.1 ≡ left_of w)) }
+    ensures delivered { IfOk result (λ q. (c : Chain) → world ≡ opening c → MayPlay c (bytes_of input.now) money.now → q.trace.refused ≡ false → Delivers (bytes_of input.now) money.now q) }
+    ensures bounded { IfOk result (λ q. (c : Chain) → world ≡ opening c → MayPlay c (bytes_of input.now) money.now → q.trace.refused ≡ false → q.sends + 1 ≤ most_sends c.config.packet_limit (bytes_of input.now) money.now) }
+    ensures sharper { IfOk result (λ q. (c : Chain) → world ≡ opening c → MayPlay c (bytes_of input.now) money.now → q.trace.refused ≡ false → q.sends ≤ sends_needed c.config.packet_limit (bytes_of input.now) money.now) }
+{
+    let most = most_rounds(input, money);
+    let mut sends = 0;
+    let ended = play(&mut world, input, money, most, &mut sends);
+    let trace = trace_of(world);
+    if is_unrecorded(&ended) {
+        return Err((Fault::NoMemory, trace));
+    }
+    Ok(Delivery { trace, sends })
+}
+
 /// Plays a quiet run of a world where nothing has happened, with these bytes and this amount on each stream: the server lets
 /// the amounts come; the client opens the streams, offers and writes; then, at moment 0, it sends, its Prepare goes over all
 /// hops and the answer comes back, the server reads all there is, and the client writes on, until no Prepare goes. A last
@@ -93,10 +123,10 @@ fn play<A: Allocator + Copy>(
 /// record an event: the trace is then that of the events before it. Where a call found no memory the run ends there, and its
 /// trace says so. Else, under the premises of st_passage's `MayPlay`, all was delivered, by no more Sends than the bound.
 pub fn quiet<A: Allocator + Copy>(
-    mut world: World<A>,
+    world: World<A>,
     input: &[&[u8]],
     money: &[u64],
-) -> Result<Played<A>, (Fault, Trace<A>)>
+) -> Result<Delivery<A>, (Fault, Trace<A>)>
     ensures bad_input { are_lawful (bytes_of input.now) money.now ≡ false → IsErrAnd result (λ e. (e.0 ≡ Fault.BadInput) × (e.1 ≡ left_of world)) }
     ensures only_memory { are_lawful (bytes_of input.now) money.now ≡ true → IfErr result (λ e. e.0 ≡ Fault.NoMemory) }
     ensures run { IfOk result (λ q. (w : state.World) × Continues world w × (q.trace ≡ left_of w)) }
@@ -105,16 +135,8 @@ pub fn quiet<A: Allocator + Copy>(
     ensures bounded { IfOk result (λ q. (c : Chain) → world ≡ opening c → MayPlay c (bytes_of input.now) money.now → q.trace.refused ≡ false → q.sends + 1 ≤ most_sends c.config.packet_limit (bytes_of input.now) money.now) }
     ensures sharper { IfOk result (λ q. (c : Chain) → world ≡ opening c → MayPlay c (bytes_of input.now) money.now → q.trace.refused ≡ false → q.sends ≤ sends_needed c.config.packet_limit (bytes_of input.now) money.now) }
 {
-    if !are_lawful(input, money) {
-        return Err((Fault::BadInput, trace_of(world)));
+    if are_lawful(input, money) {
+        return play_lawful(world, input, money);
     }
-    a_played_run_delivers();
-    let most = most_rounds(input, money);
-    let mut sends = 0;
-    let ended = play(&mut world, input, money, most, &mut sends);
-    let trace = trace_of(world);
-    if matches!(ended, Err(Stop::NoMemory)) {
-        return Err((Fault::NoMemory, trace));
-    }
-    Ok(Played { trace, sends })
+    Err((Fault::BadInput, trace_of(world)))
 }

@@ -1,4 +1,4 @@
-use Rattle.std.proofs.Common.{arith, length, map, ap}
+use Rattle.std.proofs.Common.{arith}
 use Rattle.std.proofs.lemmas.List.{length-map}
 use Rattle.st_bounded.specs.Playing.{bytes_of}
 use Rattle.st_bounded.proofs.Bounds.{needed_below}

@@ -1,0 +1,25 @@
+use Rattle.std.proofs.Common.{[], ◌∷◌}
+use Rattle.st_world.specs.Sides.{Client}
+use Rattle.st_world.specs.State.{ledger_at}
+use Rattle.st_world.specs.Events.{Close, Write}
+use Rattle.st_passage.specs.Worlds.{Met}
+use Rattle.st_passage.specs.Rounds.{writes}
+use Rattle.st_bounded.proofs.Parts.{wrote_all, wrote_part}
+use Rattle.st_bounded.proofs.Runs.{err_after, met_on, ok_as}
+use Rattle.st_bounded.proofs.writes.write_on.Goals as goal
+
+pub returns-then-written-piece-clause-met : goal.returns-then-written-piece-clause-met
+returns-then-written-piece-clause-met g c =
+    wrote_part c.args.input.now c.args.stream c.args.world.now c.take.new.world c.progress-written.result.0 c.progress-written.result.1 c.fitting-piece.result.now c.progress-written.ensures.written c.progress-written.ensures.read
+    c.fitting-piece.ensures c.if-written-piece.true c.in_ok-take.ensures.met
+
+pub returns-clause-met : goal.returns-clause-met
+returns-clause-met g c =
+    ok_as c.take-2.result (Met c.take.new.world (Close Client c.args.stream ∷ []) c.take-2.new.world) (Met c.args.world.now (writes c.args.input.now c.args.stream (ledger_at c.args.world.now Client c.args.stream)) c.take-2.new.world)
+    (wrote_all c.args.input.now c.args.stream c.args.world.now c.take.new.world c.take-2.new.world c.progress-written.result.0 c.progress-written.result.1 c.fitting-piece.result.now c.progress-written.ensures.written
+    c.progress-written.ensures.read c.fitting-piece.ensures c.if-written-piece.false c.in_ok-take.ensures.met) c.take-2.ensures.met
+
+pub returns-clause-stops : goal.returns-clause-stops
+returns-clause-stops g c =
+    err_after ⊥ ⊥ c.take-2.result c.args.world.now c.take.new.world c.take-2.new.world
+    (met_on (Write Client c.args.stream c.fitting-piece.result.now ∷ []) c.args.world.now c.take.new.world c.in_ok-take.ensures.met) c.take-2.ensures.stops
