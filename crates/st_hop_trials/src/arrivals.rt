@@ -7,7 +7,6 @@ use st_hop::{HopError, HopState, Verdict};
 use st_ilp::Moment;
 use std::alloc::{Allocator, Global};
 use std::process::Abort;
-use std::test::Fail;
 
 /// `PREPARE` as it goes on, a second earlier.
 const ONWARD: &[u8; 70] = b"\x0c\x44\0\0\0\0\0\0\0\x0520240102030404006\
@@ -41,39 +40,92 @@ fn refusal<A: Allocator + Copy>(answer: Result<Verdict<A>, HopError>) -> Option<
     }
 }
 
-/// Each request of an arrival that goes on is refused in turn: the hop stays as a twin that never met it, in its counts and
-/// in the number of the next ticket, and the same call then succeeds.
+/// A Prepare arrives while request `n` is refused, and again where there was one: whether there was. The refusal leaves what
+/// stood before, and then the bytes `want` go to this account, or back.
+fn arrives<A: Allocator + Copy>(
+    rt: &impl Abort,
+    heap: &Refusing<Global>,
+    hop: &mut HopState<A>,
+    prepare: &[u8],
+    now: Moment,
+    wanted: Wanted<'_>,
+    n: u64,
+) -> bool {
+    let before = counts(hop);
+    heap.refuse_only(n);
+    let mut answer = hop.arrive(0, prepare, now);
+    let met = heap.has_refused();
+    heap.refuse_none();
+    if met {
+        sure!(rt; refusal(answer) == Some(HopError::NoMemory), n);
+        sure!(rt; counts(hop) == before, n);
+        answer = hop.arrive(0, prepare, now);
+    }
+    let (to, bytes) = let_go(answer.expect(rt, "it arrives"));
+    sure!(rt; to == wanted.to, n);
+    sure!(rt; bytes.as_slice() == wanted.bytes, n);
+    met
+}
+
+/// To which account a Prepare has to go on, if to any, and with which bytes.
+#[derive(Clone, Copy, Drop)]
+struct Wanted<'a> {
+    to: Option<usize>,
+    bytes: &'a [u8],
+}
+
+/// The Prepare comes while request `n` is refused to a hop to which it came so many times: whether there was one. The hop
+/// stays as a twin that never met it, in its counts and in the number of the next ticket.
+fn goes_on(rt: &impl Abort, heap: &Refusing<Global>, arrivals: u64, n: u64) -> bool {
+    let mut hop = used_hop(rt, heap, arrivals);
+    let mut twin = used_hop(rt, heap, arrivals);
+    sure!(rt; counts(&hop) == counts(&twin), n);
+    let wanted = Wanted {
+        to: Some(1),
+        bytes: ONWARD,
+    };
+    let met = arrives(rt, heap, &mut hop, PREPARE, moment(rt, 0), wanted, n);
+    let ticket = ticket_of(rt, &mut twin);
+    let is_open = hop.is_open(&ticket);
+    ticket.abandon();
+    sure!(rt; is_open, n);
+    sure!(rt; counts(&hop) == counts(&twin), n);
+    met
+}
+
+/// Each request of an arrival that goes on is refused in turn, and the same call then succeeds.
 #[test]
-fn a_prepare_goes_on_or_not(rt: HostRuntime) -> Result<(), Fail> {
+fn a_prepare_goes_on_or_not(rt: HostRuntime) {
     let heap: Refusing<Global> = Refusing::new(rt.alloc());
     for arrivals in [0, 1, 2, 5, 9] {
         let mut most = 0;
         for n in 1..=LAST {
-            heap.refuse_none();
-            let mut hop = used_hop(&rt, &heap, arrivals)?;
-            let mut twin = used_hop(&rt, &heap, arrivals)?;
-            heap.refuse_only(n);
-            let mut answer = hop.arrive(0, PREPARE, moment(&rt, 0));
-            let met = heap.has_refused();
-            heap.refuse_none();
-            if met {
+            if goes_on(&rt, &heap, arrivals, n) {
                 most = n;
-                assert_eq!(rt; refusal(answer), Some(HopError::NoMemory), "at {n}");
-                assert_eq!(rt; counts(&hop), counts(&twin), "at {n}");
-                answer = hop.arrive(0, PREPARE, moment(&rt, 0));
             }
-            let (to, bytes) = let_go(answer?);
-            assert_eq!(rt; to, Some(1), "at {n}");
-            assert!(rt; bytes.as_slice() == ONWARD.as_slice(), "at {n}");
-            let ticket = ticket_of(&rt, &mut twin);
-            let is_open = hop.is_open(&ticket);
-            ticket.abandon();
-            assert!(rt; is_open, "at {n}");
-            assert_eq!(rt; counts(&hop), counts(&twin), "at {n}");
         }
-        assert!(rt; 1 < most && most < LAST, "after {arrivals}");
+        sure!(&rt; 1 < most && most < LAST, arrivals);
     }
-    Ok(())
+}
+
+/// A Prepare comes that is answered, while request `n` is refused: whether there was one. The hop stays.
+fn is_answered(
+    rt: &impl Abort,
+    heap: &Refusing<Global>,
+    prepare: &[u8],
+    now: Moment,
+    want: &[u8],
+    n: u64,
+) -> bool {
+    let mut hop = used_hop(rt, heap, 2);
+    let wanted = Wanted {
+        to: None,
+        bytes: want,
+    };
+    let met = arrives(rt, heap, &mut hop, prepare, now, wanted, n);
+    let untouched = [Ok(5), Ok(0), Ok(5), Ok(0), Ok(5), Ok(0)];
+    sure!(rt; counts(&hop) == untouched, n);
+    met
 }
 
 /// Each request of an arrival that is answered is refused in turn: the hop stays, and the same call then gives this answer.
@@ -83,33 +135,19 @@ fn answers_or_not(
     prepare: &[u8],
     now: Moment,
     want: &[u8],
-) -> Result<(), Fail> {
+) {
     let mut most = 0;
     for n in 1..=LAST {
-        heap.refuse_none();
-        let mut hop = used_hop(rt, heap, 2)?;
-        heap.refuse_only(n);
-        let mut answer = hop.arrive(0, prepare, now);
-        let met = heap.has_refused();
-        heap.refuse_none();
-        if met {
+        if is_answered(rt, heap, prepare, now, want, n) {
             most = n;
-            assert_eq!(rt; refusal(answer), Some(HopError::NoMemory), "at {n}");
-            answer = hop.arrive(0, prepare, now);
         }
-        let (to, bytes) = let_go(answer?);
-        assert_eq!(rt; to, None, "at {n}");
-        assert!(rt; bytes.as_slice() == want, "at {n}");
-        let untouched = [Ok(5), Ok(0), Ok(5), Ok(0), Ok(5), Ok(0)];
-        assert_eq!(rt; counts(&hop), untouched, "at {n}");
     }
-    assert!(rt; 0 < most && most < LAST);
-    Ok(())
+    sure!(rt; 0 < most && most < LAST);
 }
 
 /// The same of an arrival that is answered, with each of the hop's Rejects.
 #[test]
-fn a_prepare_is_answered_or_not(rt: HostRuntime) -> Result<(), Fail> {
+fn a_prepare_is_answered_or_not(rt: HostRuntime) {
     let mut too_large = *PREPARE;
     too_large[8..10].copy_from_slice(b"\x03\xe9");
     let mut nowhere = *PREPARE;
@@ -132,22 +170,19 @@ fn a_prepare_is_answered_or_not(rt: HostRuntime) -> Result<(), Fail> {
     ];
     let heap: Refusing<Global> = Refusing::new(rt.alloc());
     for (prepare, ms, want) in rows {
-        answers_or_not(&rt, &heap, prepare, moment(&rt, ms), want)?;
+        answers_or_not(&rt, &heap, prepare, moment(&rt, ms), want);
     }
-    Ok(())
 }
 
 /// Another refusal than the one for want of memory asks for none.
 #[test]
-fn other_refusals_ask_for_no_memory(rt: HostRuntime) -> Result<(), Fail> {
+fn other_refusals_ask_for_no_memory(rt: HostRuntime) {
     let heap: Refusing<Global> = Refusing::new(rt.alloc());
-    let mut hop = new_hop(&heap)?;
+    let mut hop = new_hop(&heap).expect(&rt, "memory");
     heap.refuse_from(1);
     let stranger = hop.arrive(2, PREPARE, moment(&rt, 0));
-    assert_eq!(rt; refusal(stranger), Some(HopError::NoAccount));
-    let nameless = HopState::new(&heap, "example..c", &[], &[]);
-    assert!(rt; matches!(nameless, Err(HopError::BadTable)));
-    assert_eq!(rt; HopError::NoMemory.number(), 35);
-    assert_eq!(rt; heap.asked(), 0);
-    Ok(())
+    sure!(&rt; refusal(stranger) == Some(HopError::NoAccount));
+    sure!(&rt; HopState::new(&heap, "example..c", &[], &[]).err() == Some(HopError::BadTable));
+    sure!(&rt; HopError::NoMemory.number() == 35);
+    sure!(&rt; heap.asked() == 0);
 }

@@ -6,7 +6,6 @@ use st_hop::{Account, HopError, HopState, Outcome, Route, Ticket, Verdict};
 use st_ilp::Moment;
 use std::alloc::{Allocator, Global};
 use std::process::Abort;
-use std::test::Fail;
 
 /// A Prepare of 5 to `example.b`, which expires at 2024-01-02 03:04:05.006; its condition is SHA-256 of 32 zero bytes.
 pub(crate) const PREPARE: &[u8; 70] = b"\x0c\x44\0\0\0\0\0\0\0\x0520240102030405006\
@@ -97,27 +96,55 @@ fn settled<A: Allocator + Copy>(
     }
 }
 
+/// What comes back with these bytes.
+fn with_answer<A: Allocator + Copy>(rt: &impl Abort, alloc: A, bytes: &[u8]) -> Outcome<A> {
+    Outcome::Answered(bytes.to_vec(alloc).expect(rt, "memory"))
+}
+
 /// A hop to which the Prepare came so many times, where the last of them was fulfilled.
 pub(crate) fn used_hop<A: Allocator + Copy>(
     rt: &impl Abort,
     alloc: A,
     arrivals: u64,
-) -> Result<HopState<A>, Fail> {
-    let mut hop = new_hop(alloc)?;
+) -> HopState<A> {
+    let mut hop = new_hop(alloc).expect(rt, "memory");
     for _ in 1..arrivals {
         ticket_of(rt, &mut hop).abandon();
     }
     if 0 < arrivals {
-        let fulfill = Outcome::Answered(FULFILL.to_vec(alloc)?);
-        let ticket = ticket_of(rt, &mut hop);
-        settled(rt, &mut hop, ticket, fulfill, moment(rt, 0));
+        fulfil(rt, alloc, &mut hop);
     }
-    Ok(hop)
+    hop
+}
+
+/// The Prepare comes and is fulfilled.
+fn fulfil<A: Allocator + Copy>(rt: &impl Abort, alloc: A, hop: &mut HopState<A>) {
+    let ticket = ticket_of(rt, hop);
+    let fulfill = with_answer(rt, alloc, FULFILL);
+    settled(rt, hop, ticket, fulfill, moment(rt, 0));
+}
+
+/// A hop that was made says its T00.
+fn is_made<A: Allocator + Copy>(rt: &impl Abort, answer: Result<HopState<A>, HopError>) {
+    let hop = answer.expect(rt, "memory");
+    sure!(rt; hop.t00() == b"\x0e\x0fT00\x09example.c\0\0".as_slice());
+}
+
+/// A hop whose memory was refused is made once it is not.
+fn is_made_again<A: Allocator + Copy>(
+    rt: &impl Abort,
+    alloc: A,
+    answer: Result<HopState<A>, HopError>,
+    n: u64,
+) {
+    sure!(rt; answer.err() == Some(HopError::NoMemory), n);
+    let hop = new_hop(alloc).expect(rt, "memory");
+    sure!(rt; counts(&hop) == [Ok(0); 6], n);
 }
 
 /// Each request of a new hop is refused in turn.
 #[test]
-fn a_hop_is_made_or_not(rt: HostRuntime) -> Result<(), Fail> {
+fn a_hop_is_made_or_not(rt: HostRuntime) {
     let heap: Refusing<Global> = Refusing::new(rt.alloc());
     for n in 1..1000u64 {
         heap.refuse_only(n);
@@ -125,19 +152,49 @@ fn a_hop_is_made_or_not(rt: HostRuntime) -> Result<(), Fail> {
         let met = heap.has_refused();
         heap.refuse_none();
         if !met {
-            assert!(rt; answer?.t00() == b"\x0e\x0fT00\x09example.c\0\0".as_slice());
-            assert!(rt; 4 < n);
-            return Ok(());
+            is_made(&rt, answer);
+            sure!(&rt; 4 < n);
+            return;
         }
-        assert!(rt; matches!(&answer, Err(HopError::NoMemory)), "at {n}");
-        assert_eq!(rt; counts(&new_hop(&heap)?), [Ok(0); 6], "at {n}");
+        is_made_again(&rt, &heap, answer, n);
     }
     panic!(rt; "no run met no refusal");
 }
 
+/// The Prepare's ticket is settled while each request is refused: the answer, what is booked, and that there was no request.
+fn settles(
+    rt: &impl Abort,
+    heap: &Refusing<Global>,
+    came: Option<&[u8]>,
+    ms: i64,
+    want: &[u8],
+    booked: u64,
+) {
+    let mut hop = new_hop(heap).expect(rt, "memory");
+    let outcome = match came {
+        Some(bytes) => with_answer(rt, heap, bytes),
+        None => Outcome::Fault,
+    };
+    let ticket = ticket_of(rt, &mut hop);
+    heap.refuse_from(1);
+    sure_then(rt, hop.held(0) == Ok(5), ms);
+    let answer = settled(rt, &mut hop, ticket, outcome, moment(rt, ms));
+    sure_then(rt, answer.as_slice() == want, ms);
+    let after = [Ok(booked), Ok(0), Ok(0), Ok(0), Ok(booked), Ok(0)];
+    sure_then(rt, counts(&hop) == after, ms);
+    sure!(rt; hop.t00() == b"\x0e\x0fT00\x09example.c\0\0".as_slice());
+    sure_then(rt, heap.asked() == 0, ms);
+    heap.refuse_none();
+}
+
+/// Ends the test where a fact of this moment does not hold.
+fn sure_then(rt: &impl Abort, holds: bool, ms: i64) {
+    assert!(rt; holds, "at {ms}");
+}
+
 /// Settling asks for no memory, whatever came back. Each row: what came and when, the answer, and what is booked.
 #[test]
-fn settling_asks_for_no_memory(rt: HostRuntime) -> Result<(), Fail> {
+fn settling_asks_for_no_memory(rt: HostRuntime) {
     let rows: [(Option<&[u8]>, i64, &[u8], u64); 6] = [
         (Some(FULFILL), EXPIRY - 1001, FULFILL, 5),
         (
@@ -153,21 +210,6 @@ fn settling_asks_for_no_memory(rt: HostRuntime) -> Result<(), Fail> {
     ];
     let heap: Refusing<Global> = Refusing::new(rt.alloc());
     for (came, ms, want, booked) in rows {
-        heap.refuse_none();
-        let mut hop = new_hop(&heap)?;
-        let outcome = match came {
-            Some(bytes) => Outcome::Answered(bytes.to_vec(&heap)?),
-            None => Outcome::Fault,
-        };
-        let ticket = ticket_of(&rt, &mut hop);
-        heap.refuse_from(1);
-        assert_eq!(rt; hop.held(0), Ok(5), "at {ms}");
-        let answer = settled(&rt, &mut hop, ticket, outcome, moment(&rt, ms));
-        assert!(rt; answer.as_slice() == want, "at {ms}");
-        let after = [Ok(booked), Ok(0), Ok(0), Ok(0), Ok(booked), Ok(0)];
-        assert_eq!(rt; counts(&hop), after, "at {ms}");
-        assert!(rt; hop.t00() == b"\x0e\x0fT00\x09example.c\0\0".as_slice());
-        assert_eq!(rt; heap.asked(), 0, "at {ms}");
+        settles(&rt, &heap, came, ms, want, booked);
     }
-    Ok(())
 }

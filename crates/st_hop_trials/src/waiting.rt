@@ -5,7 +5,6 @@ use refusing::Refusing;
 use st_hop::{Account, HopError, HopState, Outcome, Route, Ticket, Verdict};
 use std::alloc::{Allocator, Global};
 use std::process::Abort;
-use std::test::Fail;
 
 /// How many wait at once. Each holds 5.
 const WAITING: u64 = 1000;
@@ -40,17 +39,14 @@ fn wide_hop<A: Allocator + Copy>(alloc: A) -> Result<HopState<A>, HopError> {
 }
 
 /// What waits, if the Prepare goes on.
-fn came<A: Allocator + Copy>(
-    rt: &impl Abort,
-    hop: &mut HopState<A>,
-) -> Result<Option<Waiting>, HopError> {
-    match hop.arrive(0, PREPARE, moment(rt, 0))? {
+fn came<A: Allocator + Copy>(rt: &impl Abort, hop: &mut HopState<A>) -> Option<Waiting> {
+    match hop.arrive(0, PREPARE, moment(rt, 0)).expect(rt, "memory") {
         Verdict::Forward {
             ticket,
             account: _,
             bytes: _,
-        } => Ok(Some(Waiting { ticket })),
-        Verdict::Answer(_) => Ok(None),
+        } => Some(Waiting { ticket }),
+        Verdict::Answer(_) => None,
     }
 }
 
@@ -59,10 +55,9 @@ fn let_come<A: Allocator + Copy>(
     rt: &impl Abort,
     hop: &mut HopState<A>,
     waiting: &mut Vec<Waiting>,
-) -> Result<(), Fail> {
-    let next = came(rt, hop)?.expect(rt, "it goes on");
-    waiting.push(next)?;
-    Ok(())
+) {
+    let next = came(rt, hop).expect(rt, "it goes on");
+    sure!(rt; waiting.push(next).is_ok());
 }
 
 /// The answer to a ticket, after a fault.
@@ -87,48 +82,63 @@ fn settle_last<A: Allocator + Copy>(
 ) {
     let last = waiting.pop().expect(rt, "one waits");
     let answer = settled(rt, hop, last.spend());
-    assert!(rt; answer.as_slice() == b"\x0e\x0fT01\x09example.c\0\0".as_slice());
+    sure!(rt; answer.as_slice() == b"\x0e\x0fT01\x09example.c\0\0".as_slice());
+}
+
+/// A thousand Prepares come and wait, and one more is past the limit.
+fn fill<A: Allocator + Copy>(rt: &impl Abort, hop: &mut HopState<A>, waiting: &mut Vec<Waiting>) {
+    for _ in 0..WAITING {
+        let_come(rt, hop, waiting);
+    }
+    sure!(rt; hop.held(0) == Ok(5 * WAITING));
+    sure!(rt; came(rt, hop).is_none());
+}
+
+/// Each of them is settled, the last that came first.
+fn settle_all<A: Allocator + Copy>(
+    rt: &impl Abort,
+    hop: &mut HopState<A>,
+    waiting: &mut Vec<Waiting>,
+) {
+    for _ in 0..WAITING {
+        settle_last(rt, hop, waiting);
+    }
+    sure!(rt; hop.held(0) == Ok(0));
 }
 
 /// A thousand Prepares wait at once: each goes on, one more is past the limit, and each is settled, the last that came
 /// first, with no request for memory. Then one more goes on.
 #[test]
-fn a_thousand_wait(rt: HostRuntime) -> Result<(), Fail> {
+fn a_thousand_wait(rt: HostRuntime) {
     let heap: Refusing<Global> = Refusing::new(rt.alloc());
-    let mut hop = wide_hop(&heap)?;
+    let mut hop = wide_hop(&heap).expect(&rt, "memory");
     let mut waiting = Vec::new(rt.alloc());
-    for _ in 0..WAITING {
-        let_come(&rt, &mut hop, &mut waiting)?;
-    }
-    assert_eq!(rt; hop.held(0), Ok(5 * WAITING));
-    assert!(rt; came(&rt, &mut hop)?.is_none());
+    fill(&rt, &mut hop, &mut waiting);
     heap.refuse_from(1);
-    for _ in 0..WAITING {
-        settle_last(&rt, &mut hop, &mut waiting);
-    }
-    assert_eq!(rt; hop.held(0), Ok(0));
-    assert_eq!(rt; heap.asked(), 0);
+    settle_all(&rt, &mut hop, &mut waiting);
+    sure!(&rt; heap.asked() == 0);
     heap.refuse_none();
-    assert!(rt; came(&rt, &mut hop)?.is_some());
-    Ok(())
+    sure!(&rt; came(&rt, &mut hop).is_some());
 }
 
-/// A table with a prefix that stands twice is refused as such, whichever request for memory is refused.
-#[test]
-fn a_bad_table_is_told_without_memory(rt: HostRuntime) -> Result<(), Fail> {
+/// Why a hop with one account and these routes is not made.
+fn refusal<A: Allocator + Copy>(alloc: A, routes: &[Route<'_>]) -> Option<HopError> {
     let account = Account {
         limit: 1,
         max_packet: 1,
     };
+    HopState::new(alloc, "example.c", &[account], routes).err()
+}
+
+/// A table with a prefix that stands twice is refused as such, whichever request for memory is refused.
+#[test]
+fn a_bad_table_is_told_without_memory(rt: HostRuntime) {
     let heap: Refusing<Global> = Refusing::new(rt.alloc());
+    let routes = [root(), behind(), root()];
     for n in 1..=crate::LAST {
         heap.refuse_from(n);
-        let routes = [root(), behind(), root()];
-        let answer = HopState::new(&heap, "example.c", &[account], &routes);
-        assert!(rt; matches!(&answer, Err(HopError::BadTable)), "at {n}");
+        sure!(&rt; refusal(&heap, &routes) == Some(HopError::BadTable), n);
     }
     heap.refuse_from(1);
-    let answer = HopState::new(&heap, "example.c", &[account], &[root(), behind()]);
-    assert!(rt; matches!(&answer, Err(HopError::NoMemory)));
-    Ok(())
+    sure!(&rt; refusal(&heap, &[root(), behind()]) == Some(HopError::NoMemory));
 }

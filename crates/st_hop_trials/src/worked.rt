@@ -1,9 +1,8 @@
-use crate::hop::{behind, root};
+use crate::hop::{FULFILL, PREPARE, behind, root};
 use st_hop::{Account, HopError, HopState, Outcome, Route, Ticket, Verdict};
 use st_ilp::Moment;
 use std::alloc::{AllocError, Global};
 use std::process::Abort;
-use std::test::Fail;
 
 mod rates;
 mod tickets;
@@ -21,51 +20,70 @@ const ZERO_DIGEST: [u8; 32] = [
     0x08, 0x97, 0x14, 0x85, 0x6e, 0xe2, 0x33, 0xb3, 0x90, 0x2a, 0x59, 0x1d, 0x0d, 0x5f, 0x29, 0x25,
 ];
 
-fn hop(alloc: Global, limit: u64, max_packet: u64) -> Result<HopState<Global>, HopError> {
+/// Rejects of `example.c`, without message and data.
+const F01: &[u8; 17] = b"\x0e\x0fF01\x09example.c\0\0";
+
+const F02: &[u8; 17] = b"\x0e\x0fF02\x09example.c\0\0";
+
+const F05: &[u8; 17] = b"\x0e\x0fF05\x09example.c\0\0";
+
+const R00: &[u8; 17] = b"\x0e\x0fR00\x09example.c\0\0";
+
+const R02: &[u8; 17] = b"\x0e\x0fR02\x09example.c\0\0";
+
+const T00: &[u8; 17] = b"\x0e\x0fT00\x09example.c\0\0";
+
+const T01: &[u8; 17] = b"\x0e\x0fT01\x09example.c\0\0";
+
+const T04: &[u8; 17] = b"\x0e\x0fT04\x09example.c\0\0";
+
+fn hop(rt: &impl Abort, alloc: Global, limit: u64, max_packet: u64) -> HopState<Global> {
     let accounts = [Account { limit, max_packet }, Account { limit, max_packet }];
     let routes = [
         Route::one_to_one("example", 0),
         Route::one_to_one("example.b", 1),
     ];
-    HopState::new(alloc, "example.c", &accounts, &routes)
+    HopState::new(alloc, "example.c", &accounts, &routes).expect(rt, "memory")
 }
 
-/// The bytes of a Prepare without data, field by field (RFC 0027).
+/// Writes the bytes of a Prepare without data, field by field (RFC 0027).
+fn write_prepare(
+    bytes: &mut Vec<u8>,
+    amount: u64,
+    expiry: &[u8; 17],
+    condition: &[u8; 32],
+    to: &str,
+    length: u8,
+) -> Result<(), AllocError> {
+    bytes.push(12)?;
+    bytes.push(length.saturating_add(59))?;
+    bytes.extend_from_slice(&amount.to_be_bytes())?;
+    bytes.extend_from_slice(expiry)?;
+    bytes.extend_from_slice(condition)?;
+    bytes.push(length)?;
+    bytes.extend_from_slice(to.as_bytes())?;
+    bytes.push(0)?;
+    Ok(())
+}
+
+/// The bytes of a Prepare without data.
 fn prepare(
+    rt: &impl Abort,
     alloc: Global,
     amount: u64,
     expiry: &[u8; 17],
     condition: &[u8; 32],
     to: &str,
-) -> Result<Vec<u8>, Fail> {
+) -> Vec<u8> {
     let mut bytes = Vec::new(alloc);
-    bytes.push(12)?;
-    bytes.push(u8::try_from(to.len().saturating_add(59))?)?;
-    bytes.extend_from_slice(&amount.to_be_bytes())?;
-    bytes.extend_from_slice(expiry)?;
-    bytes.extend_from_slice(condition)?;
-    bytes.push(u8::try_from(to.len())?)?;
-    bytes.extend_from_slice(to.as_bytes())?;
-    bytes.push(0)?;
-    Ok(bytes)
+    let length = u8::try_from(to.len()).expect(rt, "a short address");
+    sure!(rt; write_prepare(&mut bytes, amount, expiry, condition, to, length).is_ok());
+    bytes
 }
 
-/// The Fulfill of 32 zero bytes, without data.
-fn zero_fulfill(alloc: Global) -> Result<Vec<u8>, AllocError> {
-    let mut bytes = Vec::from_elem(alloc, 0, 35)?;
-    if let [kind, length, ..] = bytes.as_mut_slice() {
-        *kind = 13;
-        *length = 33;
-    }
-    Ok(bytes)
-}
-
-/// A Reject of `example.c`, without message and data.
-fn own_reject(alloc: Global, code: &[u8; 3]) -> Result<Vec<u8>, AllocError> {
-    let mut bytes = b"\x0e\x0f".to_vec(alloc)?;
-    bytes.extend_from_slice(code)?;
-    bytes.extend_from_slice(b"\x09example.c\0\0")?;
-    Ok(bytes)
+/// What comes back with these bytes.
+fn with_answer(rt: &impl Abort, alloc: Global, bytes: &[u8]) -> Outcome<Global> {
+    Outcome::Answered(bytes.to_vec(alloc).expect(rt, "memory"))
 }
 
 fn moment(rt: &impl Abort, ms: i64) -> Moment {
@@ -127,217 +145,220 @@ fn settled(
     }
 }
 
-#[test]
-fn limits_and_holds(rt: HostRuntime) -> Result<(), Fail> {
-    let alloc = rt.alloc();
-    let now = moment(&rt, 0);
-    let t04 = own_reject(alloc, b"T04")?;
-    let f02 = own_reject(alloc, b"F02")?;
-    let reject = own_reject(alloc, b"F02")?;
-    let sixty = prepare(alloc, 60, EXPIRY, &ZERO_DIGEST, "example.b.x")?;
-    let fifty = prepare(alloc, 50, EXPIRY, &ZERO_DIGEST, "example.b.x")?;
-    let mut hop = hop(alloc, 100, 1000)?;
-    let (first, to, _) = forwarded(&rt, &mut hop, 0, &sixty, now);
-    assert!(rt; to == 1);
-    assert!(rt; hop.held(0) == Ok(60));
-    assert!(rt; answered(&rt, &mut hop, 0, &fifty, now).as_slice() == t04.as_slice());
-    let passed = settled(&rt, &mut hop, first, Outcome::Answered(reject), now);
-    assert!(rt; passed.as_slice() == f02.as_slice());
-    assert!(rt; hop.held(0) == Ok(0));
-    let (second, _, _) = forwarded(&rt, &mut hop, 0, &fifty, now);
-    second.abandon();
-    assert!(rt; hop.held(0) == Ok(50));
-    Ok(())
+/// A Prepare of this amount, whose condition is `ZERO_DIGEST`, comes and goes on: its ticket, and the account to which it goes.
+fn goes_on(
+    rt: &impl Abort,
+    alloc: Global,
+    hop: &mut HopState<Global>,
+    account: usize,
+    amount: u64,
+    to: &str,
+) -> (Ticket, usize) {
+    let bytes = prepare(rt, alloc, amount, EXPIRY, &ZERO_DIGEST, to);
+    let (ticket, account, _) = forwarded(rt, hop, account, &bytes, moment(rt, 0));
+    (ticket, account)
 }
 
-#[test]
-fn the_whole_limit(rt: HostRuntime) -> Result<(), Fail> {
-    let alloc = rt.alloc();
-    let now = moment(&rt, 0);
-    let mut hop = hop(alloc, 100, 1000)?;
-    let hundred = prepare(alloc, 100, EXPIRY, &ZERO_DIGEST, "example.b.x")?;
-    let one = prepare(alloc, 1, EXPIRY, &ZERO_DIGEST, "example.b.x")?;
-    let t04 = own_reject(alloc, b"T04")?;
-    let (ticket, _, _) = forwarded(&rt, &mut hop, 0, &hundred, now);
+/// The same, and its ticket is let go: the account to which it goes.
+fn goes_to(
+    rt: &impl Abort,
+    alloc: Global,
+    hop: &mut HopState<Global>,
+    account: usize,
+    amount: u64,
+    to: &str,
+) -> usize {
+    let (ticket, account) = goes_on(rt, alloc, hop, account, amount, to);
     ticket.abandon();
-    assert!(rt; answered(&rt, &mut hop, 0, &one, now).as_slice() == t04.as_slice());
-    Ok(())
+    account
+}
+
+/// Whether bytes that come are answered with these.
+fn gives(
+    rt: &impl Abort,
+    hop: &mut HopState<Global>,
+    account: usize,
+    bytes: &[u8],
+    now: Moment,
+    want: &[u8],
+) -> bool {
+    answered(rt, hop, account, bytes, now).as_slice() == want
+}
+
+/// Whether a Prepare of this amount is answered with these bytes.
+fn turns_back(
+    rt: &impl Abort,
+    alloc: Global,
+    hop: &mut HopState<Global>,
+    account: usize,
+    amount: u64,
+    to: &str,
+    want: &[u8],
+) -> bool {
+    let bytes = prepare(rt, alloc, amount, EXPIRY, &ZERO_DIGEST, to);
+    gives(rt, hop, account, &bytes, moment(rt, 0), want)
+}
+
+/// Whether these bytes go back where a ticket is settled.
+fn passes(
+    rt: &impl Abort,
+    hop: &mut HopState<Global>,
+    ticket: Ticket,
+    outcome: Outcome<Global>,
+    now: Moment,
+    want: &[u8],
+) -> bool {
+    settled(rt, hop, ticket, outcome, now).as_slice() == want
+}
+
+/// What an account is owed, and what it owes.
+fn owes(rt: &impl Abort, hop: &HopState<Global>, account: usize, claims: u64, dues: u64) {
+    sure!(rt; hop.claims(account) == Ok(claims));
+    sure!(rt; hop.dues(account) == Ok(dues));
 }
 
 #[test]
-fn the_greatest_sum(rt: HostRuntime) -> Result<(), Fail> {
+fn limits_and_holds(rt: HostRuntime) {
     let alloc = rt.alloc();
     let now = moment(&rt, 0);
+    let mut hop = hop(&rt, alloc, 100, 1000);
+    let (first, to) = goes_on(&rt, alloc, &mut hop, 0, 60, "example.b.x");
+    sure!(&rt; to == 1);
+    sure!(&rt; hop.held(0) == Ok(60));
+    sure!(&rt; turns_back(&rt, alloc, &mut hop, 0, 50, "example.b.x", T04));
+    let reject = with_answer(&rt, alloc, F02);
+    sure!(&rt; passes(&rt, &mut hop, first, reject, now, F02));
+    sure!(&rt; hop.held(0) == Ok(0));
+    goes_to(&rt, alloc, &mut hop, 0, 50, "example.b.x");
+    sure!(&rt; hop.held(0) == Ok(50));
+}
+
+#[test]
+fn the_whole_limit(rt: HostRuntime) {
+    let alloc = rt.alloc();
+    let mut hop = hop(&rt, alloc, 100, 1000);
+    goes_to(&rt, alloc, &mut hop, 0, 100, "example.b.x");
+    sure!(&rt; turns_back(&rt, alloc, &mut hop, 0, 1, "example.b.x", T04));
+}
+
+#[test]
+fn the_greatest_sum(rt: HostRuntime) {
+    let alloc = rt.alloc();
     let greatest = (1 << 63) - 1;
-    let mut hop = hop(alloc, greatest, u64::MAX)?;
-    let all = prepare(alloc, greatest, EXPIRY, &ZERO_DIGEST, "example.b.x")?;
-    let one = prepare(alloc, 1, EXPIRY, &ZERO_DIGEST, "example.a")?;
-    let t04 = own_reject(alloc, b"T04")?;
-    let (ticket, to, _) = forwarded(&rt, &mut hop, 0, &all, now);
-    ticket.abandon();
-    assert!(rt; to == 1);
-    assert!(rt; answered(&rt, &mut hop, 1, &one, now).as_slice() == t04.as_slice());
-    assert!(rt; hop.held(1) == Ok(0));
-    Ok(())
+    let mut hop = hop(&rt, alloc, greatest, u64::MAX);
+    sure!(&rt; goes_to(&rt, alloc, &mut hop, 0, greatest, "example.b.x") == 1);
+    sure!(&rt; turns_back(&rt, alloc, &mut hop, 1, 1, "example.a", T04));
+    sure!(&rt; hop.held(1) == Ok(0));
 }
 
 #[test]
-fn amount_too_large(rt: HostRuntime) -> Result<(), Fail> {
+fn amount_too_large(rt: HostRuntime) {
     let alloc = rt.alloc();
-    let mut hop = hop(alloc, 1000, 100)?;
-    let bytes = prepare(alloc, 150, EXPIRY, &ZERO_DIGEST, "example.b.x")?;
-    let answer = answered(&rt, &mut hop, 0, &bytes, moment(&rt, 0));
+    let mut hop = hop(&rt, alloc, 1000, 100);
     let f08 = b"\x0e\x1fF08\x09example.c\0\x10\0\0\0\0\0\0\0\x96\0\0\0\0\0\0\0\x64";
-    assert!(rt; answer.as_slice() == f08.as_slice());
-    Ok(())
+    sure!(&rt; turns_back(&rt, alloc, &mut hop, 0, 150, "example.b.x", f08));
+}
+
+/// The ticket of a Prepare of 5 that goes on a second earlier.
+fn goes_earlier(
+    rt: &impl Abort,
+    alloc: Global,
+    hop: &mut HopState<Global>,
+    bytes: &[u8],
+) -> Ticket {
+    let sent = prepare(rt, alloc, 5, OUTGOING_EXPIRY, &[0; 32], "example.b");
+    let (ticket, to, onward) = forwarded(rt, hop, 0, bytes, moment(rt, EXPIRY_MS - 1001));
+    sure!(rt; to == 1);
+    sure!(rt; onward.as_slice() == sent.as_slice());
+    ticket
 }
 
 #[test]
-fn time_that_is_left(rt: HostRuntime) -> Result<(), Fail> {
+fn time_that_is_left(rt: HostRuntime) {
     let alloc = rt.alloc();
-    let mut hop = hop(alloc, 100, 1000)?;
-    let bytes = prepare(alloc, 5, EXPIRY, &[0; 32], "example.b")?;
-    let sent = prepare(alloc, 5, OUTGOING_EXPIRY, &[0; 32], "example.b")?;
-    let r02 = own_reject(alloc, b"R02")?;
-    let f05 = own_reject(alloc, b"F05")?;
-    let fulfill = zero_fulfill(alloc)?;
-    let late = answered(&rt, &mut hop, 0, &bytes, moment(&rt, EXPIRY_MS - 1000));
-    assert!(rt; late.as_slice() == r02.as_slice());
-    let (ticket, to, onward) = forwarded(&rt, &mut hop, 0, &bytes, moment(&rt, EXPIRY_MS - 1001));
-    assert!(rt; to == 1);
-    assert!(rt; onward.as_slice() == sent.as_slice());
-    let wrong = settled(
-        &rt,
-        &mut hop,
-        ticket,
-        Outcome::Answered(fulfill),
-        moment(&rt, 0),
-    );
-    assert!(rt; wrong.as_slice() == f05.as_slice());
-    assert!(rt; hop.held(0) == Ok(0));
-    assert!(rt; hop.claims(0) == Ok(0));
-    Ok(())
+    let mut hop = hop(&rt, alloc, 100, 1000);
+    let bytes = prepare(&rt, alloc, 5, EXPIRY, &[0; 32], "example.b");
+    let late = moment(&rt, EXPIRY_MS - 1000);
+    sure!(&rt; gives(&rt, &mut hop, 0, &bytes, late, R02));
+    let ticket = goes_earlier(&rt, alloc, &mut hop, &bytes);
+    let fulfill = with_answer(&rt, alloc, FULFILL);
+    sure!(&rt; passes(&rt, &mut hop, ticket, fulfill, moment(&rt, 0), F05));
+    sure!(&rt; hop.held(0) == Ok(0));
+    sure!(&rt; hop.claims(0) == Ok(0));
 }
 
 #[test]
-fn routes(rt: HostRuntime) -> Result<(), Fail> {
+fn routes(rt: HostRuntime) {
     let alloc = rt.alloc();
-    let now = moment(&rt, 0);
-    let f02 = own_reject(alloc, b"F02")?;
-    let mut hop = hop(alloc, 100, 1000)?;
-    let below = prepare(alloc, 1, EXPIRY, &[0; 32], "example.b.x")?;
-    let far_below = prepare(alloc, 1, EXPIRY, &[0; 32], "example.b.x.y-z.w")?;
-    let beside = prepare(alloc, 1, EXPIRY, &[0; 32], "example.bc.x")?;
-    let nowhere = prepare(alloc, 1, EXPIRY, &[0; 32], "test.b")?;
-    let back = prepare(alloc, 1, EXPIRY, &[0; 32], "example.b")?;
-    let (ticket, to, _) = forwarded(&rt, &mut hop, 0, &below, now);
-    ticket.abandon();
-    assert!(rt; to == 1);
-    let (ticket, to, _) = forwarded(&rt, &mut hop, 0, &far_below, now);
-    ticket.abandon();
-    assert!(rt; to == 1);
-    let (ticket, to, _) = forwarded(&rt, &mut hop, 1, &beside, now);
-    ticket.abandon();
-    assert!(rt; to == 0);
-    assert!(rt; answered(&rt, &mut hop, 0, &nowhere, now).as_slice() == f02.as_slice());
-    assert!(rt; answered(&rt, &mut hop, 1, &back, now).as_slice() == f02.as_slice());
-    Ok(())
+    let mut hop = hop(&rt, alloc, 100, 1000);
+    sure!(&rt; goes_to(&rt, alloc, &mut hop, 0, 1, "example.b.x") == 1);
+    sure!(&rt; goes_to(&rt, alloc, &mut hop, 0, 1, "example.b.x.y-z.w") == 1);
+    sure!(&rt; goes_to(&rt, alloc, &mut hop, 1, 1, "example.bc.x") == 0);
+    sure!(&rt; turns_back(&rt, alloc, &mut hop, 0, 1, "test.b", F02));
+    sure!(&rt; turns_back(&rt, alloc, &mut hop, 1, 1, "example.b", F02));
 }
 
 #[test]
-fn balances(rt: HostRuntime) -> Result<(), Fail> {
+fn balances(rt: HostRuntime) {
     let alloc = rt.alloc();
     let now = moment(&rt, 0);
-    let mut hop = hop(alloc, 100, 1000)?;
-    let there = prepare(alloc, 100, EXPIRY, &ZERO_DIGEST, "example.b.x")?;
-    let too_much = prepare(alloc, 201, EXPIRY, &ZERO_DIGEST, "example.a")?;
-    let back = prepare(alloc, 200, EXPIRY, &ZERO_DIGEST, "example.a")?;
-    let t04 = own_reject(alloc, b"T04")?;
-    let fulfill = zero_fulfill(alloc)?;
-    let first_fulfill = zero_fulfill(alloc)?;
-    let second_fulfill = zero_fulfill(alloc)?;
-    let (ticket, _, _) = forwarded(&rt, &mut hop, 0, &there, now);
-    let passed = settled(&rt, &mut hop, ticket, Outcome::Answered(first_fulfill), now);
-    assert!(rt; passed.as_slice() == fulfill.as_slice());
-    assert!(rt; hop.claims(0) == Ok(100));
-    assert!(rt; hop.dues(1) == Ok(100));
-    assert!(rt; answered(&rt, &mut hop, 1, &too_much, now).as_slice() == t04.as_slice());
-    let (ticket, _, _) = forwarded(&rt, &mut hop, 1, &back, now);
-    settled(
-        &rt,
-        &mut hop,
-        ticket,
-        Outcome::Answered(second_fulfill),
-        now,
-    );
-    assert!(rt; hop.claims(1) == Ok(200));
-    assert!(rt; hop.dues(0) == Ok(200));
-    assert!(rt; hop.all_claims() == 300);
-    assert!(rt; hop.all_dues() == 300);
-    Ok(())
+    let mut hop = hop(&rt, alloc, 100, 1000);
+    let (ticket, _) = goes_on(&rt, alloc, &mut hop, 0, 100, "example.b.x");
+    let fulfill = with_answer(&rt, alloc, FULFILL);
+    sure!(&rt; passes(&rt, &mut hop, ticket, fulfill, now, FULFILL));
+    owes(&rt, &hop, 0, 100, 0);
+    owes(&rt, &hop, 1, 0, 100);
+    sure!(&rt; turns_back(&rt, alloc, &mut hop, 1, 201, "example.a", T04));
+    let (ticket, _) = goes_on(&rt, alloc, &mut hop, 1, 200, "example.a");
+    let fulfill = with_answer(&rt, alloc, FULFILL);
+    sure!(&rt; passes(&rt, &mut hop, ticket, fulfill, now, FULFILL));
+    owes(&rt, &hop, 0, 100, 200);
+    owes(&rt, &hop, 1, 200, 100);
+    sure!(&rt; hop.all_claims() == 300);
+    sure!(&rt; hop.all_dues() == 300);
+}
+
+/// Whether a Prepare of 5 that is fulfilled so many milliseconds before it expires gives these bytes.
+fn fulfilled_before(
+    rt: &impl Abort,
+    alloc: Global,
+    hop: &mut HopState<Global>,
+    ms: i64,
+    want: &[u8],
+) -> bool {
+    let (ticket, _) = goes_on(rt, alloc, hop, 0, 5, "example.b");
+    let fulfill = with_answer(rt, alloc, FULFILL);
+    let now = moment(rt, EXPIRY_MS.saturating_sub(ms));
+    passes(rt, hop, ticket, fulfill, now, want)
 }
 
 #[test]
-fn the_outgoing_expiry(rt: HostRuntime) -> Result<(), Fail> {
+fn the_outgoing_expiry(rt: HostRuntime) {
     let alloc = rt.alloc();
-    let bytes = prepare(alloc, 5, EXPIRY, &ZERO_DIGEST, "example.b")?;
-    let r00 = own_reject(alloc, b"R00")?;
-    let fulfill = zero_fulfill(alloc)?;
-    let late_fulfill = zero_fulfill(alloc)?;
-    let early_fulfill = zero_fulfill(alloc)?;
-    let mut hop = hop(alloc, 100, 1000)?;
-    let (ticket, _, _) = forwarded(&rt, &mut hop, 0, &bytes, moment(&rt, 0));
-    let late = settled(
-        &rt,
-        &mut hop,
-        ticket,
-        Outcome::Answered(late_fulfill),
-        moment(&rt, EXPIRY_MS - 1000),
-    );
-    assert!(rt; late.as_slice() == r00.as_slice());
-    assert!(rt; hop.held(0) == Ok(0));
-    assert!(rt; hop.claims(0) == Ok(0));
-    assert!(rt; hop.dues(1) == Ok(0));
-    let (ticket, _, _) = forwarded(&rt, &mut hop, 0, &bytes, moment(&rt, 0));
-    let early = settled(
-        &rt,
-        &mut hop,
-        ticket,
-        Outcome::Answered(early_fulfill),
-        moment(&rt, EXPIRY_MS - 1001),
-    );
-    assert!(rt; early.as_slice() == fulfill.as_slice());
-    assert!(rt; hop.claims(0) == Ok(5));
-    assert!(rt; hop.dues(1) == Ok(5));
-    Ok(())
+    let mut hop = hop(&rt, alloc, 100, 1000);
+    sure!(&rt; fulfilled_before(&rt, alloc, &mut hop, 1000, R00));
+    sure!(&rt; hop.held(0) == Ok(0));
+    sure!(&rt; hop.claims(0) == Ok(0));
+    sure!(&rt; hop.dues(1) == Ok(0));
+    sure!(&rt; fulfilled_before(&rt, alloc, &mut hop, 1001, FULFILL));
+    sure!(&rt; hop.claims(0) == Ok(5));
+    sure!(&rt; hop.dues(1) == Ok(5));
 }
 
 #[test]
-fn faults_and_strange_bytes(rt: HostRuntime) -> Result<(), Fail> {
+fn faults_and_strange_bytes(rt: HostRuntime) {
     let alloc = rt.alloc();
     let now = moment(&rt, 0);
-    let t00 = own_reject(alloc, b"T00")?;
-    let t01 = own_reject(alloc, b"T01")?;
-    let f01 = own_reject(alloc, b"F01")?;
-    let mut hop = hop(alloc, 100, 1000)?;
-    assert!(rt; hop.t00() == t00.as_slice());
-    let strange = answered(
-        &rt,
-        &mut hop,
-        0,
-        b"\x0c\x88\xff\xff\xff\xff\xff\xff\xff\xff",
-        now,
-    );
-    assert!(rt; strange.as_slice() == f01.as_slice());
-    let bytes = prepare(alloc, 5, EXPIRY, &ZERO_DIGEST, "example.b")?;
-    let unreadable = prepare(alloc, 5, EXPIRY, &ZERO_DIGEST, "example.b")?;
-    let (ticket, _, _) = forwarded(&rt, &mut hop, 0, &bytes, now);
-    assert!(rt; settled(&rt, &mut hop, ticket, Outcome::Fault, now).as_slice() == t01.as_slice());
-    let (ticket, _, _) = forwarded(&rt, &mut hop, 0, &bytes, now);
-    let answer = settled(&rt, &mut hop, ticket, Outcome::Answered(unreadable), now);
-    assert!(rt; answer.as_slice() == t01.as_slice());
-    assert!(rt; hop.held(0) == Ok(0));
-    Ok(())
+    let mut hop = hop(&rt, alloc, 100, 1000);
+    sure!(&rt; hop.t00() == T00.as_slice());
+    let strange = b"\x0c\x88\xff\xff\xff\xff\xff\xff\xff\xff";
+    sure!(&rt; gives(&rt, &mut hop, 0, strange, now, F01));
+    let (ticket, _) = goes_on(&rt, alloc, &mut hop, 0, 5, "example.b");
+    sure!(&rt; passes(&rt, &mut hop, ticket, Outcome::Fault, now, T01));
+    let (ticket, _) = goes_on(&rt, alloc, &mut hop, 0, 5, "example.b");
+    let unreadable = with_answer(&rt, alloc, PREPARE);
+    sure!(&rt; passes(&rt, &mut hop, ticket, unreadable, now, T01));
+    sure!(&rt; hop.held(0) == Ok(0));
 }
 
 /// Whether the table is refused.
@@ -353,29 +374,23 @@ fn is_bad(alloc: Global, own: &str, limit: u64, routes: &[Route<'_>]) -> bool {
 }
 
 #[test]
-fn bad_tables(rt: HostRuntime) -> Result<(), Fail> {
+fn bad_tables(rt: HostRuntime) {
     let alloc = rt.alloc();
     let nameless = Route::one_to_one("", 0);
-    assert!(rt; is_bad(alloc, "example.c", 1, &[nameless]));
+    sure!(&rt; is_bad(alloc, "example.c", 1, &[nameless]));
     let astray = Route::one_to_one("example", 1);
-    assert!(rt; is_bad(alloc, "example.c", 1, &[astray]));
-    assert!(rt; !is_bad(alloc, "example.c", 1, &[root()]));
-    assert!(rt; is_bad(alloc, "example..c", 1, &[root()]));
-    assert!(rt; is_bad(alloc, "example.c", 1, &[root(), root()]));
-    assert!(rt; is_bad(alloc, "example.c", 1, &[root(), behind(), root()]));
-    assert!(rt; !is_bad(alloc, "example.c", 1, &[root(), behind()]));
-    assert!(rt; is_bad(alloc, "example.c", 1 << 63, &[root()]));
-    Ok(())
+    sure!(&rt; is_bad(alloc, "example.c", 1, &[astray]));
+    sure!(&rt; !is_bad(alloc, "example.c", 1, &[root()]));
+    sure!(&rt; is_bad(alloc, "example..c", 1, &[root()]));
+    sure!(&rt; is_bad(alloc, "example.c", 1, &[root(), root()]));
+    sure!(&rt; is_bad(alloc, "example.c", 1, &[root(), behind(), root()]));
+    sure!(&rt; !is_bad(alloc, "example.c", 1, &[root(), behind()]));
+    sure!(&rt; is_bad(alloc, "example.c", 1 << 63, &[root()]));
 }
 
-#[test]
-fn accounts_that_are_not_there(rt: HostRuntime) -> Result<(), Fail> {
-    let alloc = rt.alloc();
-    let mut hop = hop(alloc, 100, 1000)?;
-    assert!(rt; hop.claims(2) == Err(HopError::NoAccount));
-    assert!(rt; hop.dues(2) == Err(HopError::NoAccount));
-    assert!(rt; hop.held(2) == Err(HopError::NoAccount));
-    let number = match hop.arrive(2, &[], moment(&rt, 0)) {
+/// The fault of an arrival, or 0.
+fn fault_of(rt: &impl Abort, hop: &mut HopState<Global>, account: usize) -> u8 {
+    match hop.arrive(account, &[], moment(rt, 0)) {
         Ok(Verdict::Answer(_)) => 0,
         Ok(
             Verdict::Forward {
@@ -388,7 +403,14 @@ fn accounts_that_are_not_there(rt: HostRuntime) -> Result<(), Fail> {
             0
         }
         Err(error) => error.number(),
-    };
-    assert!(rt; number == 36);
-    Ok(())
+    }
+}
+
+#[test]
+fn accounts_that_are_not_there(rt: HostRuntime) {
+    let mut hop = hop(&rt, rt.alloc(), 100, 1000);
+    sure!(&rt; hop.claims(2) == Err(HopError::NoAccount));
+    sure!(&rt; hop.dues(2) == Err(HopError::NoAccount));
+    sure!(&rt; hop.held(2) == Err(HopError::NoAccount));
+    sure!(&rt; fault_of(&rt, &mut hop, 2) == 36);
 }

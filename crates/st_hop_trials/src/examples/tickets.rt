@@ -31,8 +31,8 @@ fn a_slot_keeps_a_ticket(rt: HostRuntime) -> Result<(), std::test::Fail> {
     if let Some(ticket) = slot {
         ticket.abandon();
     }
-    assert!(rt; first.is_some_and(|answer| answer.as_slice() == crate::hop::FULFILL.as_slice()));
-    assert!(rt; second.is_none());
-    assert_eq!(rt; (hop.all_claims(), hop.all_dues()), (5, 5));
+    sure!(&rt; first.is_some_and(|answer| answer.as_slice() == crate::hop::FULFILL.as_slice()));
+    sure!(&rt; second.is_none());
+    sure!(&rt; (hop.all_claims(), hop.all_dues()) == (5, 5));
     Ok(())
 }

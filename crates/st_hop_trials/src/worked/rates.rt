@@ -2,42 +2,103 @@
 //! account 0 is not.
 
 use super::{
-    EXPIRY, EXPIRY_MS, OUTGOING_EXPIRY, ZERO_DIGEST, answered, forwarded, moment, own_reject,
-    prepare, settled, zero_fulfill,
+    EXPIRY, EXPIRY_MS, OUTGOING_EXPIRY, T04, ZERO_DIGEST, forwarded, goes_on, goes_to, moment,
+    owes, passes, prepare, turns_back, with_answer,
 };
-use st_hop::{Account, HopState, Open, Outcome, Route};
+use crate::hop::FULFILL;
+use st_hop::{Account, HopState, Open, Route};
 use st_oer::Rate;
 use std::alloc::Global;
 use std::process::Abort;
-use std::test::Fail;
 
 /// The greatest limit and the greatest sum: 2^63 - 1.
 const GREATEST: u64 = 9_223_372_036_854_775_807;
 
-fn rate(rt: &impl Abort, num: u32, den: u32) -> Rate {
-    Rate::new(num, den).expect(rt, "a rate")
-}
-
 /// A hop with nothing owed, and this rate towards account 1.
 fn rated_hop(
+    rt: &impl Abort,
     alloc: Global,
     limit: u64,
     max_packet: u64,
-    rate: Rate,
-) -> Result<HopState<Global>, Fail> {
+    num: u32,
+    den: u32,
+) -> HopState<Global> {
     let account = Account { limit, max_packet };
     let exchanged = Route {
         prefix: "example.b",
         account: 1,
-        rate,
+        rate: Rate::new(num, den).expect(rt, "a rate"),
     };
     let routes = [Route::one_to_one("example", 0), exchanged];
-    Ok(HopState::new(alloc, "example.c", &[account, account], &routes)?)
+    HopState::new(alloc, "example.c", &[account, account], &routes).expect(rt, "memory")
+}
+
+/// What the ticket of a Prepare tells that goes on at this rate.
+fn opened(amount_in: u64, amount_out: u64) -> Open {
+    Open {
+        number: 0,
+        incoming: 0,
+        outgoing: 1,
+        amount_in,
+        amount_out,
+        condition: ZERO_DIGEST,
+        expiry: EXPIRY_MS - 1000,
+    }
+}
+
+/// Ends the test where a fact of an amount at a rate does not hold.
+fn sure_of(rt: &impl Abort, holds: bool, amount: u64, num: u32, den: u32) {
+    assert!(rt; holds, "{amount} at {num} to {den}");
+}
+
+/// A Prepare of this amount goes on with the other amount.
+fn is_exchanged(
+    rt: &impl Abort,
+    alloc: Global,
+    num: u32,
+    den: u32,
+    amount_in: u64,
+    amount_out: u64,
+) {
+    let mut hop = rated_hop(rt, alloc, GREATEST, u64::MAX, num, den);
+    let came = prepare(rt, alloc, amount_in, EXPIRY, &ZERO_DIGEST, "example.b");
+    let (ticket, to, onward) = forwarded(rt, &mut hop, 0, &came, moment(rt, 0));
+    let read = ticket.read();
+    ticket.abandon();
+    sure_of(rt, to == 1, amount_in, num, den);
+    sure_of(
+        rt,
+        read == opened(amount_in, amount_out),
+        amount_in,
+        num,
+        den,
+    );
+    sure_of(
+        rt,
+        is_sent(rt, alloc, &onward, amount_out),
+        amount_in,
+        num,
+        den,
+    );
+    sure_of(rt, hop.held(0) == Ok(amount_in), amount_in, num, den);
+}
+
+/// Whether these are the bytes of a Prepare of this amount that goes on.
+fn is_sent(rt: &impl Abort, alloc: Global, onward: &[u8], amount: u64) -> bool {
+    let sent = prepare(
+        rt,
+        alloc,
+        amount,
+        OUTGOING_EXPIRY,
+        &ZERO_DIGEST,
+        "example.b",
+    );
+    onward == sent.as_slice()
 }
 
 /// Each row: num and den, the amount that comes, and the amount that goes on.
 #[test]
-fn amounts_are_exchanged(rt: HostRuntime) -> Result<(), Fail> {
+fn amounts_are_exchanged(rt: HostRuntime) {
     let rows = [
         (3, 2, 100, 150),
         (3, 2, 101, 151),
@@ -52,121 +113,90 @@ fn amounts_are_exchanged(rt: HostRuntime) -> Result<(), Fail> {
         (1, 1, GREATEST, GREATEST),
         (2, 3, GREATEST, 6_148_914_691_236_517_204),
     ];
-    let alloc = rt.alloc();
     for (num, den, amount_in, amount_out) in rows {
-        let mut hop = rated_hop(alloc, GREATEST, u64::MAX, rate(&rt, num, den))?;
-        let came = prepare(alloc, amount_in, EXPIRY, &ZERO_DIGEST, "example.b")?;
-        let sent = prepare(
-            alloc,
-            amount_out,
-            OUTGOING_EXPIRY,
-            &ZERO_DIGEST,
-            "example.b",
-        )?;
-        let (ticket, to, onward) = forwarded(&rt, &mut hop, 0, &came, moment(&rt, 0));
-        let read = ticket.read();
-        ticket.abandon();
-        let want = Open {
-            number: 0,
-            incoming: 0,
-            outgoing: 1,
-            amount_in,
-            amount_out,
-            condition: ZERO_DIGEST,
-            expiry: EXPIRY_MS - 1000,
-        };
-        assert_eq!(rt; to, 1, "{amount_in} at {num} to {den}");
-        assert_eq!(rt; read, want, "{amount_in} at {num} to {den}");
-        assert!(rt;
-            onward.as_slice() == sent.as_slice(),
-            "{amount_in} at {num} to {den}"
-        );
-        assert_eq!(rt; hop.held(0), Ok(amount_in), "{amount_in} at {num} to {den}");
+        is_exchanged(&rt, rt.alloc(), num, den, amount_in, amount_out);
     }
-    Ok(())
+}
+
+/// A Prepare of `claim` is fulfilled.
+fn is_booked(rt: &impl Abort, alloc: Global, num: u32, den: u32, claim: u64, due: u64) {
+    let mut hop = rated_hop(rt, alloc, 1000, 1000, num, den);
+    let (ticket, _) = goes_on(rt, alloc, &mut hop, 0, claim, "example.b");
+    let fulfill = with_answer(rt, alloc, FULFILL);
+    sure!(rt; passes(rt, &mut hop, ticket, fulfill, moment(rt, 0), FULFILL));
+    owes(rt, &hop, 0, claim, 0);
+    owes(rt, &hop, 1, 0, due);
+    sure!(rt; (hop.held(0), hop.held(1)) == (Ok(0), Ok(0)));
+    sure!(rt; (hop.all_claims(), hop.all_dues()) == (claim, due));
 }
 
 /// Claims are in the amount that came, dues in the one that went on. Each row: num and den, and these two.
 #[test]
-fn claims_and_dues_are_in_their_own_amounts(rt: HostRuntime) -> Result<(), Fail> {
-    let alloc = rt.alloc();
-    let now = moment(&rt, 0);
+fn claims_and_dues_are_in_their_own_amounts(rt: HostRuntime) {
     for (num, den, claim, due) in [(3, 2, 100, 150), (1, 2, 150, 75), (1, 3, 2, 0)] {
-        let mut hop = rated_hop(alloc, 1000, 1000, rate(&rt, num, den))?;
-        let came = prepare(alloc, claim, EXPIRY, &ZERO_DIGEST, "example.b")?;
-        let fulfill = Outcome::Answered(zero_fulfill(alloc)?);
-        let (ticket, _, _) = forwarded(&rt, &mut hop, 0, &came, now);
-        let passed = settled(&rt, &mut hop, ticket, fulfill, now);
-        assert!(rt; passed.as_slice() == zero_fulfill(alloc)?.as_slice());
-        assert_eq!(rt; (hop.claims(0), hop.dues(0)), (Ok(claim), Ok(0)));
-        assert_eq!(rt; (hop.claims(1), hop.dues(1)), (Ok(0), Ok(due)));
-        assert_eq!(rt; (hop.held(0), hop.held(1)), (Ok(0), Ok(0)));
-        assert_eq!(rt; (hop.all_claims(), hop.all_dues()), (claim, due));
+        is_booked(&rt, rt.alloc(), num, den, claim, due);
     }
-    Ok(())
+}
+
+/// What the ticket tells of a Prepare of 60 that goes on: the amount that comes, and the one that goes on.
+fn amounts_of_sixty(rt: &impl Abort, alloc: Global, hop: &mut HopState<Global>) -> (u64, u64) {
+    let (ticket, _) = goes_on(rt, alloc, hop, 0, 60, "example.b");
+    let read = ticket.read();
+    ticket.abandon();
+    (read.amount_in, read.amount_out)
 }
 
 /// An account's limit and its packet limit bound what comes, whatever goes on for it.
 #[test]
-fn limits_bound_what_comes(rt: HostRuntime) -> Result<(), Fail> {
+fn limits_bound_what_comes(rt: HostRuntime) {
     let alloc = rt.alloc();
-    let now = moment(&rt, 0);
-    let t04 = own_reject(alloc, b"T04")?;
-    let hundred = prepare(alloc, 100, EXPIRY, &ZERO_DIGEST, "example.b")?;
-    let more = prepare(alloc, 101, EXPIRY, &ZERO_DIGEST, "example.b")?;
     for (num, den) in [(3, 2), (1, 2)] {
-        let mut hop = rated_hop(alloc, 100, 1000, rate(&rt, num, den))?;
-        assert!(rt; answered(&rt, &mut hop, 0, &more, now).as_slice() == t04.as_slice());
-        let (ticket, _, _) = forwarded(&rt, &mut hop, 0, &hundred, now);
-        ticket.abandon();
+        let mut hop = rated_hop(&rt, alloc, 100, 1000, num, den);
+        sure!(&rt; turns_back(&rt, alloc, &mut hop, 0, 101, "example.b", T04));
+        goes_to(&rt, alloc, &mut hop, 0, 100, "example.b");
     }
-    let mut hop = rated_hop(alloc, 1000, 60, rate(&rt, 1, 2))?;
-    let large = prepare(alloc, 150, EXPIRY, &ZERO_DIGEST, "example.b")?;
-    let fitting = prepare(alloc, 60, EXPIRY, &ZERO_DIGEST, "example.b")?;
+    let mut hop = rated_hop(&rt, alloc, 1000, 60, 1, 2);
     let f08 = b"\x0e\x1fF08\x09example.c\0\x10\0\0\0\0\0\0\0\x96\0\0\0\0\0\0\0\x3c";
-    assert!(rt; answered(&rt, &mut hop, 0, &large, now).as_slice() == f08.as_slice());
-    let (ticket, _, _) = forwarded(&rt, &mut hop, 0, &fitting, now);
-    let read = ticket.read();
-    ticket.abandon();
-    assert_eq!(rt; (read.amount_in, read.amount_out), (60, 30));
-    let mut hop = rated_hop(alloc, 1000, 60, rate(&rt, 3, 2))?;
-    let (ticket, _, _) = forwarded(&rt, &mut hop, 0, &fitting, now);
-    let read = ticket.read();
-    ticket.abandon();
-    assert_eq!(rt; (read.amount_in, read.amount_out), (60, 90));
-    Ok(())
+    sure!(&rt; turns_back(&rt, alloc, &mut hop, 0, 150, "example.b", f08));
+    sure!(&rt; amounts_of_sixty(&rt, alloc, &mut hop) == (60, 30));
+    let mut hop = rated_hop(&rt, alloc, 1000, 60, 3, 2);
+    sure!(&rt; amounts_of_sixty(&rt, alloc, &mut hop) == (60, 90));
 }
 
 /// What an account is owed, in the amount that went to it, may come back from it beside its limit.
 #[test]
-fn what_is_owed_may_come_back(rt: HostRuntime) -> Result<(), Fail> {
+fn what_is_owed_may_come_back(rt: HostRuntime) {
     let alloc = rt.alloc();
     let now = moment(&rt, 0);
-    let t04 = own_reject(alloc, b"T04")?;
-    let mut hop = rated_hop(alloc, 100, 1000, rate(&rt, 3, 2))?;
-    let there = prepare(alloc, 100, EXPIRY, &ZERO_DIGEST, "example.b")?;
-    let too_much = prepare(alloc, 251, EXPIRY, &ZERO_DIGEST, "example.a")?;
-    let back = prepare(alloc, 250, EXPIRY, &ZERO_DIGEST, "example.a")?;
-    let fulfill = Outcome::Answered(zero_fulfill(alloc)?);
-    let (ticket, _, _) = forwarded(&rt, &mut hop, 0, &there, now);
-    settled(&rt, &mut hop, ticket, fulfill, now);
-    assert!(rt; answered(&rt, &mut hop, 1, &too_much, now).as_slice() == t04.as_slice());
-    let (ticket, to, _) = forwarded(&rt, &mut hop, 1, &back, now);
+    let mut hop = rated_hop(&rt, alloc, 100, 1000, 3, 2);
+    let (ticket, _) = goes_on(&rt, alloc, &mut hop, 0, 100, "example.b");
+    let fulfill = with_answer(&rt, alloc, FULFILL);
+    sure!(&rt; passes(&rt, &mut hop, ticket, fulfill, now, FULFILL));
+    sure!(&rt; turns_back(&rt, alloc, &mut hop, 1, 251, "example.a", T04));
+    let (ticket, to) = goes_on(&rt, alloc, &mut hop, 1, 250, "example.a");
     let read = ticket.read();
     ticket.abandon();
-    assert_eq!(rt; to, 0);
-    assert_eq!(rt; (read.amount_in, read.amount_out), (250, 250));
-    assert_eq!(rt; hop.held(1), Ok(250));
-    Ok(())
+    sure!(&rt; to == 0);
+    sure!(&rt; (read.amount_in, read.amount_out) == (250, 250));
+    sure!(&rt; hop.held(1) == Ok(250));
+}
+
+/// `more` does not go on, `most` does, and then not once more.
+fn at_most(rt: &impl Abort, alloc: Global, num: u32, den: u32, most: u64, more: u64) {
+    let mut hop = rated_hop(rt, alloc, GREATEST, u64::MAX, num, den);
+    let past = turns_back(rt, alloc, &mut hop, 0, more, "example.b", T04);
+    sure_of(rt, past, more, num, den);
+    sure!(rt; hop.held(0) == Ok(0));
+    goes_to(rt, alloc, &mut hop, 0, most, "example.b");
+    sure!(rt; hop.held(0) == Ok(most));
+    let again = turns_back(rt, alloc, &mut hop, 0, most, "example.b", T04);
+    sure_of(rt, again, most, num, den);
 }
 
 /// An amount that would go on past 2^63 - 1, alone or with what is pending, is answered T04. Each row: num and den, the
 /// greatest amount that goes on, and one that does not.
 #[test]
-fn the_greatest_amounts_go_on(rt: HostRuntime) -> Result<(), Fail> {
-    let alloc = rt.alloc();
-    let now = moment(&rt, 0);
-    let t04 = own_reject(alloc, b"T04")?;
+fn the_greatest_amounts_go_on(rt: HostRuntime) {
     let rows = [
         (1, 1, GREATEST, 9_223_372_036_854_775_808),
         (2, 1, 4_611_686_018_427_387_903, 4_611_686_018_427_387_904),
@@ -175,24 +205,6 @@ fn the_greatest_amounts_go_on(rt: HostRuntime) -> Result<(), Fail> {
         (u32::MAX, 1, 2_147_483_648, GREATEST),
     ];
     for (num, den, most, more) in rows {
-        let mut hop = rated_hop(alloc, GREATEST, u64::MAX, rate(&rt, num, den))?;
-        let fitting = prepare(alloc, most, EXPIRY, &ZERO_DIGEST, "example.b")?;
-        let past = prepare(alloc, more, EXPIRY, &ZERO_DIGEST, "example.b")?;
-        let again = prepare(alloc, most, EXPIRY, &ZERO_DIGEST, "example.b")?;
-        let refused = answered(&rt, &mut hop, 0, &past, now);
-        assert!(rt;
-            refused.as_slice() == t04.as_slice(),
-            "{more} at {num} to {den}"
-        );
-        assert_eq!(rt; hop.held(0), Ok(0));
-        let (ticket, _, _) = forwarded(&rt, &mut hop, 0, &fitting, now);
-        ticket.abandon();
-        assert_eq!(rt; hop.held(0), Ok(most));
-        let refused = answered(&rt, &mut hop, 0, &again, now);
-        assert!(rt;
-            refused.as_slice() == t04.as_slice(),
-            "{most} twice at {num} to {den}"
-        );
+        at_most(&rt, rt.alloc(), num, den, most, more);
     }
-    Ok(())
 }

@@ -1,36 +1,29 @@
 //! Tickets in the hands of a caller.
 
-use super::{EXPIRY, EXPIRY_MS, ZERO_DIGEST, hop, moment, own_reject, prepare, zero_fulfill};
-use st_hop::{Open, Outcome, Verdict};
+use super::{EXPIRY_MS, F02, ZERO_DIGEST, goes_on, hop, moment, with_answer};
+use crate::hop::FULFILL;
+use st_hop::{Open, Outcome, Ticket};
 use std::alloc::Global;
-use std::test::Fail;
+use std::process::Abort;
+
+/// Whether this would be booked in time, and whether it would late.
+fn books(rt: &impl Abort, ticket: &Ticket, outcome: Outcome<Global>) -> (bool, bool) {
+    (
+        outcome.books(ticket, moment(rt, EXPIRY_MS - 1001)),
+        outcome.books(ticket, moment(rt, EXPIRY_MS - 1000)),
+    )
+}
 
 /// What a ticket tells, and whether its answers would be booked.
 #[test]
-fn a_ticket_is_read(rt: HostRuntime) -> Result<(), Fail> {
+fn a_ticket_is_read(rt: HostRuntime) {
     let alloc = rt.alloc();
-    let bytes = prepare(alloc, 60, EXPIRY, &ZERO_DIGEST, "example.b.x")?;
-    let fulfill = Outcome::Answered(zero_fulfill(alloc)?);
-    let reject = Outcome::Answered(own_reject(alloc, b"F02")?);
-    let fault: Outcome<Global> = Outcome::Fault;
-    let mut hop = hop(alloc, 100, 1000)?;
-    let in_time = moment(&rt, EXPIRY_MS - 1001);
-    let late = moment(&rt, EXPIRY_MS - 1000);
-    let ticket = match hop.arrive(0, &bytes, moment(&rt, 0))? {
-        Verdict::Forward {
-            ticket,
-            account: _,
-            bytes: _,
-        } => ticket,
-        Verdict::Answer(_) => panic!(rt; "the Prepare was answered"),
-    };
+    let mut hop = hop(&rt, alloc, 100, 1000);
+    let (ticket, _) = goes_on(&rt, alloc, &mut hop, 0, 60, "example.b.x");
     let read = ticket.read();
-    let booked = [
-        fulfill.books(&ticket, in_time),
-        fulfill.books(&ticket, late),
-        reject.books(&ticket, in_time),
-        fault.books(&ticket, in_time),
-    ];
+    let fulfill = books(&rt, &ticket, with_answer(&rt, alloc, FULFILL));
+    let reject = books(&rt, &ticket, with_answer(&rt, alloc, F02));
+    let fault = books(&rt, &ticket, Outcome::Fault);
     ticket.abandon();
     let want = Open {
         number: 0,
@@ -41,7 +34,8 @@ fn a_ticket_is_read(rt: HostRuntime) -> Result<(), Fail> {
         condition: ZERO_DIGEST,
         expiry: EXPIRY_MS - 1000,
     };
-    assert!(rt; read == want);
-    assert!(rt; booked == [true, false, false, false]);
-    Ok(())
+    sure!(&rt; read == want);
+    sure!(&rt; fulfill == (true, false));
+    sure!(&rt; reject == (false, false));
+    sure!(&rt; fault == (false, false));
 }
