@@ -1,7 +1,7 @@
-use st_frames::{Frame, FrameError, read_packet};
-use st_receiver::{Decision, Got, Intake, Reason};
+use st_frames::{Frame, read_packet};
+use st_receiver::{Decision, Got, Intake};
 use std::alloc::Allocator;
-use std::test::Fail;
+use std::process::Abort;
 
 /// Sequence 1, least amount 0, two frames: StreamMoney, stream 1, shares 1; stream 3, shares 2.
 const SHARED: [u8; 20] = [
@@ -63,19 +63,25 @@ const ABORT_AT_65536: [u8; 23] = [
     0x61, 0x10, 0x04, 0x01, 0x01, 0x09, 0x00,
 ];
 
+/// What an end of the server receives on.
+fn fresh<A: Allocator + Copy>(rt: &impl Abort, alloc: A) -> Intake<A> {
+    Intake::new(alloc, 0).expect(rt, "memory")
+}
+
 /// The number of the Reject of a packet that came with an amount, or 0 where it took effect.
 fn receive<A: Allocator + Copy>(
+    rt: &impl Abort,
     intake: &mut Intake<A>,
     bytes: &[u8],
     amount: u64,
-) -> Result<u8, FrameError> {
-    let packet = read_packet(bytes, 12)?;
+) -> u8 {
+    let packet = read_packet(bytes, 12).expect(rt, "a packet");
     match intake.judge(&packet, amount) {
         Decision::Fulfill(plan) => {
             intake.commit(&packet, plan);
-            Ok(0)
+            0
         }
-        Decision::Reject { code: _, reason } => Ok(reason.number()),
+        Decision::Reject { code: _, reason } => reason.number(),
     }
 }
 
@@ -89,127 +95,124 @@ fn allow<A: Allocator + Copy>(intake: &mut Intake<A>, stream: u64, amount: u64) 
 }
 
 /// A read of stream 1, where it is open.
-fn read<A: Allocator + Copy>(intake: &mut Intake<A>) -> Result<Option<Got<A>>, Reason> {
+fn read<A: Allocator + Copy>(rt: &impl Abort, intake: &mut Intake<A>) -> Option<Got<A>> {
     if !intake.has_stream(1) {
-        return Ok(None);
+        return None;
     }
-    Ok(Some(intake.read(1, 9)?))
-}
-
-#[test]
-fn an_amount_is_split_by_the_shares(rt: HostRuntime) -> Result<(), Fail> {
-    let mut intake = Intake::new(rt.alloc(), 0)?;
-    assert!(rt; allow(&mut intake, 1, 100));
-    assert!(rt; allow(&mut intake, 3, 100));
-    assert!(rt; receive(&mut intake, &SHARED, 10)? == 0);
-    assert!(rt; intake.credited_to(1) == 4);
-    assert!(rt; intake.credited_to(3) == 6);
-    assert!(rt; intake.credited() == 10);
-    assert!(rt; receive(&mut intake, &SHARED, 10)? == 60);
-    assert!(rt; intake.credited() == 10);
-    Ok(())
-}
-
-#[test]
-fn an_amount_without_shares_is_rejected(rt: HostRuntime) -> Result<(), Fail> {
-    let mut intake = Intake::new(rt.alloc(), 0)?;
-    assert!(rt; allow(&mut intake, 1, 100));
-    assert!(rt; receive(&mut intake, &SHARELESS, 10)? == 64);
-    assert!(rt; receive(&mut intake, &SHARELESS, 0)? == 0);
-    Ok(())
-}
-
-#[test]
-fn no_stream_is_credited_past_its_receive_max(rt: HostRuntime) -> Result<(), Fail> {
-    let mut intake = Intake::new(rt.alloc(), 0)?;
-    assert!(rt; allow(&mut intake, 1, 100));
-    assert!(rt; allow(&mut intake, 3, 5));
-    assert!(rt; receive(&mut intake, &SHARED, 10)? == 65);
-    assert!(rt; intake.credited() == 0);
-    assert!(rt; intake.credited_to(1) == 0);
-    assert!(rt; !intake.has_stream(1));
-    assert!(rt; allow(&mut intake, 3, 6));
-    assert!(rt; allow(&mut intake, 3, 2));
-    assert!(rt; receive(&mut intake, &SHARED, 10)? == 0);
-    Ok(())
-}
-
-#[test]
-fn less_than_the_least_is_rejected(rt: HostRuntime) -> Result<(), Fail> {
-    let mut intake = Intake::new(rt.alloc(), 0)?;
-    assert!(rt; receive(&mut intake, &AT_LEAST_FIVE, 4)? == 61);
-    assert!(rt; receive(&mut intake, &AT_LEAST_FIVE, 5)? == 64);
-    Ok(())
-}
-
-#[test]
-fn the_peer_opens_streams_of_its_own_numbers(rt: HostRuntime) -> Result<(), Fail> {
-    let mut intake = Intake::new(rt.alloc(), 0)?;
-    assert!(rt; receive(&mut intake, &STREAM_65, 0)? == 63);
-    assert!(rt; receive(&mut intake, &STREAM_2, 0)? == 63);
-    assert!(rt; !intake.may_name(2));
-    intake.open(2)?;
-    assert!(rt; intake.may_name(2));
-    assert!(rt; receive(&mut intake, &STREAM_2, 0)? == 0);
-    Ok(())
-}
-
-#[test]
-fn data_end_within_the_window(rt: HostRuntime) -> Result<(), Fail> {
-    let mut intake = Intake::new(rt.alloc(), 0)?;
-    assert!(rt; receive(&mut intake, &ENDS_AT_65537, 0)? == 62);
-    assert!(rt; receive(&mut intake, &ENDS_AT_65536, 0)? == 0);
-    assert!(rt; receive(&mut intake, &ENDS_AT_65537, 0)? == 62);
-    Ok(())
-}
-
-#[test]
-fn nothing_is_taken_once_the_connection_is_closed(rt: HostRuntime) -> Result<(), Fail> {
-    let mut intake = Intake::new(rt.alloc(), 0)?;
-    assert!(rt; receive(&mut intake, &CLOSE, 0)? == 0);
-    assert!(rt; receive(&mut intake, &CLOSE, 0)? == 66);
-    assert!(rt; receive(&mut intake, &AT_LEAST_FIVE, 4)? == 66);
-    Ok(())
+    Some(intake.read(1, 9).expect(rt, "memory"))
 }
 
 /// Whether a read of stream 1 gives these bytes.
-fn reads<A: Allocator + Copy>(intake: &mut Intake<A>, bytes: &[u8]) -> Result<bool, Reason> {
-    match read(intake)? {
-        Some(Got::Bytes(got)) => Ok(got.as_slice() == bytes),
-        _ => Ok(false),
+fn reads<A: Allocator + Copy>(rt: &impl Abort, intake: &mut Intake<A>, bytes: &[u8]) -> bool {
+    match read(rt, intake) {
+        Some(Got::Bytes(got)) => got.as_slice() == bytes,
+        _ => false,
     }
 }
 
-#[test]
-fn a_close_comes_after_the_data_of_its_packet(rt: HostRuntime) -> Result<(), Fail> {
-    let mut intake = Intake::new(rt.alloc(), 0)?;
-    assert!(rt; receive(&mut intake, &CLOSED_HI, 0)? == 0);
-    assert!(rt; receive(&mut intake, &ABORT, 0)? == 0);
-    assert!(rt; reads(&mut intake, b"hi")?);
-    assert!(rt; matches!(read(&mut intake)?, Some(Got::End)));
-    assert!(rt; matches!(read(&mut intake)?, Some(Got::End)));
-    Ok(())
+/// Whether a read of stream 1 tells its end.
+fn ends<A: Allocator + Copy>(rt: &impl Abort, intake: &mut Intake<A>) -> bool {
+    matches!(read(rt, intake), Some(Got::End))
+}
+
+/// Whether a read of stream 1 tells that it was aborted with the code 9.
+fn aborts<A: Allocator + Copy>(rt: &impl Abort, intake: &mut Intake<A>) -> bool {
+    matches!(read(rt, intake), Some(Got::Aborted(9)))
 }
 
 #[test]
-fn an_abort_ends_reading_at_once(rt: HostRuntime) -> Result<(), Fail> {
-    let mut intake = Intake::new(rt.alloc(), 0)?;
-    assert!(rt; receive(&mut intake, &ENDS_AT_65536, 0)? == 0);
-    assert!(rt; matches!(read(&mut intake)?, Some(Got::Nothing)));
-    assert!(rt; receive(&mut intake, &ABORT, 0)? == 0);
-    assert!(rt; matches!(read(&mut intake)?, Some(Got::Aborted(9))));
-    assert!(rt; matches!(read(&mut intake)?, Some(Got::Aborted(9))));
-    Ok(())
+fn an_amount_is_split_by_the_shares(rt: HostRuntime) {
+    let mut intake = fresh(&rt, rt.alloc());
+    sure!(&rt; allow(&mut intake, 1, 100));
+    sure!(&rt; allow(&mut intake, 3, 100));
+    sure!(&rt; receive(&rt, &mut intake, &SHARED, 10) == 0);
+    sure!(&rt; intake.credited_to(1) == 4);
+    sure!(&rt; intake.credited_to(3) == 6);
+    sure!(&rt; intake.credited() == 10);
+    sure!(&rt; receive(&rt, &mut intake, &SHARED, 10) == 60);
+    sure!(&rt; intake.credited() == 10);
 }
 
 #[test]
-fn the_limits_that_stand_are_told(rt: HostRuntime) -> Result<(), Fail> {
-    let mut intake = Intake::new(rt.alloc(), 0)?;
-    assert!(rt; allow(&mut intake, 1, 7));
-    assert!(rt; receive(&mut intake, &CLOSED_HI, 0)? == 0);
-    assert!(rt; reads(&mut intake, b"hi")?);
-    let limits = intake.limits()?;
-    assert!(rt; limits.len() == 65);
+fn an_amount_without_shares_is_rejected(rt: HostRuntime) {
+    let mut intake = fresh(&rt, rt.alloc());
+    sure!(&rt; allow(&mut intake, 1, 100));
+    sure!(&rt; receive(&rt, &mut intake, &SHARELESS, 10) == 64);
+    sure!(&rt; receive(&rt, &mut intake, &SHARELESS, 0) == 0);
+}
+
+#[test]
+fn no_stream_is_credited_past_its_receive_max(rt: HostRuntime) {
+    let mut intake = fresh(&rt, rt.alloc());
+    sure!(&rt; allow(&mut intake, 1, 100));
+    sure!(&rt; allow(&mut intake, 3, 5));
+    sure!(&rt; receive(&rt, &mut intake, &SHARED, 10) == 65);
+    sure!(&rt; intake.credited() == 0);
+    sure!(&rt; intake.credited_to(1) == 0);
+    sure!(&rt; !intake.has_stream(1));
+    sure!(&rt; allow(&mut intake, 3, 6));
+    sure!(&rt; allow(&mut intake, 3, 2));
+    sure!(&rt; receive(&rt, &mut intake, &SHARED, 10) == 0);
+}
+
+#[test]
+fn less_than_the_least_is_rejected(rt: HostRuntime) {
+    let mut intake = fresh(&rt, rt.alloc());
+    sure!(&rt; receive(&rt, &mut intake, &AT_LEAST_FIVE, 4) == 61);
+    sure!(&rt; receive(&rt, &mut intake, &AT_LEAST_FIVE, 5) == 64);
+}
+
+#[test]
+fn the_peer_opens_streams_of_its_own_numbers(rt: HostRuntime) {
+    let mut intake = fresh(&rt, rt.alloc());
+    sure!(&rt; receive(&rt, &mut intake, &STREAM_65, 0) == 63);
+    sure!(&rt; receive(&rt, &mut intake, &STREAM_2, 0) == 63);
+    sure!(&rt; !intake.may_name(2));
+    intake.open(2).expect(&rt, "memory");
+    sure!(&rt; intake.may_name(2));
+    sure!(&rt; receive(&rt, &mut intake, &STREAM_2, 0) == 0);
+}
+
+#[test]
+fn data_end_within_the_window(rt: HostRuntime) {
+    let mut intake = fresh(&rt, rt.alloc());
+    sure!(&rt; receive(&rt, &mut intake, &ENDS_AT_65537, 0) == 62);
+    sure!(&rt; receive(&rt, &mut intake, &ENDS_AT_65536, 0) == 0);
+    sure!(&rt; receive(&rt, &mut intake, &ENDS_AT_65537, 0) == 62);
+}
+
+#[test]
+fn nothing_is_taken_once_the_connection_is_closed(rt: HostRuntime) {
+    let mut intake = fresh(&rt, rt.alloc());
+    sure!(&rt; receive(&rt, &mut intake, &CLOSE, 0) == 0);
+    sure!(&rt; receive(&rt, &mut intake, &CLOSE, 0) == 66);
+    sure!(&rt; receive(&rt, &mut intake, &AT_LEAST_FIVE, 4) == 66);
+}
+
+#[test]
+fn a_close_comes_after_the_data_of_its_packet(rt: HostRuntime) {
+    let mut intake = fresh(&rt, rt.alloc());
+    sure!(&rt; receive(&rt, &mut intake, &CLOSED_HI, 0) == 0);
+    sure!(&rt; receive(&rt, &mut intake, &ABORT, 0) == 0);
+    sure!(&rt; reads(&rt, &mut intake, b"hi"));
+    sure!(&rt; ends(&rt, &mut intake));
+    sure!(&rt; ends(&rt, &mut intake));
+}
+
+#[test]
+fn an_abort_ends_reading_at_once(rt: HostRuntime) {
+    let mut intake = fresh(&rt, rt.alloc());
+    sure!(&rt; receive(&rt, &mut intake, &ENDS_AT_65536, 0) == 0);
+    sure!(&rt; matches!(read(&rt, &mut intake), Some(Got::Nothing)));
+    sure!(&rt; receive(&rt, &mut intake, &ABORT, 0) == 0);
+    sure!(&rt; aborts(&rt, &mut intake));
+    sure!(&rt; aborts(&rt, &mut intake));
+}
+
+/// The limits once two bytes of stream 1 were read, which may receive 7 units.
+fn told<A: Allocator + Copy>(rt: &impl Abort, intake: &Intake<A>) {
+    let limits = intake.limits().expect(rt, "memory");
+    sure!(rt; limits.len() == 65);
     let connection = Frame::ConnectionMaxData {
         max_offset: 1_048_578,
     };
@@ -222,50 +225,68 @@ fn the_limits_that_stand_are_told(rt: HostRuntime) -> Result<(), Fail> {
         receive_max: 7,
         total_received: 0,
     };
-    assert!(rt; limits.get(0) == Some(&connection));
-    assert!(rt; limits.get(1) == Some(&data));
-    assert!(rt; limits.get(2) == Some(&money));
-    intake.open(2)?;
-    assert!(rt; intake.limits()?.len() == 67);
-    Ok(())
+    sure!(rt; limits.get(0) == Some(&connection));
+    sure!(rt; limits.get(1) == Some(&data));
+    sure!(rt; limits.get(2) == Some(&money));
+}
+
+/// How many limits are told.
+fn count<A: Allocator + Copy>(rt: &impl Abort, intake: &Intake<A>) -> usize {
+    intake.limits().expect(rt, "memory").len()
 }
 
 #[test]
-fn a_reply_tells_what_the_packet_will_leave(rt: HostRuntime) -> Result<(), Fail> {
-    let mut intake = Intake::new(rt.alloc(), 0)?;
-    assert!(rt; allow(&mut intake, 1, 100));
-    assert!(rt; allow(&mut intake, 3, 100));
-    let packet = read_packet(&SHARED, 12)?;
-    match intake.judge(&packet, 10) {
+fn the_limits_that_stand_are_told(rt: HostRuntime) {
+    let mut intake = fresh(&rt, rt.alloc());
+    sure!(&rt; allow(&mut intake, 1, 7));
+    sure!(&rt; receive(&rt, &mut intake, &CLOSED_HI, 0) == 0);
+    sure!(&rt; reads(&rt, &mut intake, b"hi"));
+    told(&rt, &intake);
+    intake.open(2).expect(&rt, "memory");
+    sure!(&rt; count(&rt, &intake) == 67);
+}
+
+/// The reply to a packet that takes effect: how many frames it has, and whether the one at `place` is this.
+fn replies<A: Allocator + Copy>(
+    rt: &impl Abort,
+    intake: &mut Intake<A>,
+    bytes: &[u8],
+    amount: u64,
+    place: usize,
+    frame: &Frame<'_>,
+) -> (usize, bool) {
+    let packet = read_packet(bytes, 12).expect(rt, "a packet");
+    match intake.judge(&packet, amount) {
         Decision::Fulfill(plan) => {
-            let money = Frame::StreamMaxMoney {
-                stream: 3,
-                receive_max: 100,
-                total_received: 6,
-            };
-            let reply = intake.reply_frames(&packet, Some(&plan))?;
-            assert!(rt; reply.len() == 5);
-            assert!(rt; reply.get(4) == Some(&money));
+            let reply = intake
+                .reply_frames(&packet, Some(&plan))
+                .expect(rt, "memory");
+            (reply.len(), reply.get(place) == Some(frame))
         }
         Decision::Reject { code: _, reason: _ } => panic!(rt; "the packet breaks no rule"),
     }
-    assert!(rt; intake.credited() == 0);
-    Ok(())
 }
 
 #[test]
-fn a_reply_to_an_abort_tells_its_bytes_as_read(rt: HostRuntime) -> Result<(), Fail> {
-    let mut intake = Intake::new(rt.alloc(), 0)?;
-    let packet = read_packet(&ABORT_AT_65536, 12)?;
-    match intake.judge(&packet, 0) {
-        Decision::Fulfill(plan) => {
-            let connection = Frame::ConnectionMaxData {
-                max_offset: 1_114_112,
-            };
-            let reply = intake.reply_frames(&packet, Some(&plan))?;
-            assert!(rt; reply.get(0) == Some(&connection));
-        }
-        Decision::Reject { code: _, reason: _ } => panic!(rt; "the packet breaks no rule"),
-    }
-    Ok(())
+fn a_reply_tells_what_the_packet_will_leave(rt: HostRuntime) {
+    let mut intake = fresh(&rt, rt.alloc());
+    sure!(&rt; allow(&mut intake, 1, 100));
+    sure!(&rt; allow(&mut intake, 3, 100));
+    let money = Frame::StreamMaxMoney {
+        stream: 3,
+        receive_max: 100,
+        total_received: 6,
+    };
+    sure!(&rt; replies(&rt, &mut intake, &SHARED, 10, 4, &money) == (5, true));
+    sure!(&rt; intake.credited() == 0);
+}
+
+#[test]
+fn a_reply_to_an_abort_tells_its_bytes_as_read(rt: HostRuntime) {
+    let mut intake = fresh(&rt, rt.alloc());
+    let connection = Frame::ConnectionMaxData {
+        max_offset: 1_114_112,
+    };
+    let (_, is_told) = replies(&rt, &mut intake, &ABORT_AT_65536, 0, 0, &connection);
+    sure!(&rt; is_told);
 }
