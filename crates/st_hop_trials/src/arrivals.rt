@@ -74,23 +74,34 @@ struct Wanted<'a> {
     bytes: &'a [u8],
 }
 
-/// The Prepare comes while request `n` is refused to a hop to which it came so many times: whether there was one. The hop
-/// stays as a twin that never met it, in its counts and in the number of the next ticket.
-fn goes_on(rt: &impl Abort, heap: &Refusing<Global>, arrivals: u64, n: u64) -> bool {
-    let mut hop = used_hop(rt, heap, arrivals);
-    let mut twin = used_hop(rt, heap, arrivals);
-    sure!(rt; counts(&hop) == counts(&twin), n);
+/// The Prepare comes to a hop while request `n` is refused: whether there was one. The hop stays as a twin that never met it,
+/// in its counts and in the number of the next ticket.
+fn goes_on_as<A: Allocator + Copy>(
+    rt: &impl Abort,
+    heap: &Refusing<Global>,
+    hop: &mut HopState<A>,
+    twin: &mut HopState<A>,
+    n: u64,
+) -> bool {
+    sure!(rt; counts(hop) == counts(twin), n);
     let wanted = Wanted {
         to: Some(1),
         bytes: ONWARD,
     };
-    let met = arrives(rt, heap, &mut hop, PREPARE, moment(rt, 0), wanted, n);
-    let ticket = ticket_of(rt, &mut twin);
+    let met = arrives(rt, heap, hop, PREPARE, moment(rt, 0), wanted, n);
+    let ticket = ticket_of(rt, twin);
     let is_open = hop.is_open(&ticket);
     ticket.abandon();
     sure!(rt; is_open, n);
-    sure!(rt; counts(&hop) == counts(&twin), n);
+    sure!(rt; counts(hop) == counts(twin), n);
     met
+}
+
+/// The same with hops to which the Prepare came so many times.
+fn goes_on(rt: &impl Abort, heap: &Refusing<Global>, arrivals: u64, n: u64) -> bool {
+    let mut hop = used_hop(rt, heap, arrivals);
+    let mut twin = used_hop(rt, heap, arrivals);
+    goes_on_as(rt, heap, &mut hop, &mut twin, n)
 }
 
 /// Each request of an arrival that goes on is refused in turn, and the same call then succeeds.

@@ -97,8 +97,20 @@ fn settled<A: Allocator + Copy>(
 }
 
 /// What comes back with these bytes.
-fn with_answer<A: Allocator + Copy>(rt: &impl Abort, alloc: A, bytes: &[u8]) -> Outcome<A> {
+pub(crate) fn with_answer<A: Allocator + Copy>(
+    rt: &impl Abort,
+    alloc: A,
+    bytes: &[u8],
+) -> Outcome<A> {
     Outcome::Answered(bytes.to_vec(alloc).expect(rt, "memory"))
+}
+
+/// The same, or a fault where nothing comes back.
+fn outcome_of<A: Allocator + Copy>(rt: &impl Abort, alloc: A, came: Option<&[u8]>) -> Outcome<A> {
+    match came {
+        Some(bytes) => with_answer(rt, alloc, bytes),
+        None => Outcome::Fault,
+    }
 }
 
 /// A hop to which the Prepare came so many times, where the last of them was fulfilled.
@@ -161,30 +173,34 @@ fn a_hop_is_made_or_not(rt: HostRuntime) {
     panic!(rt; "no run met no refusal");
 }
 
-/// The Prepare's ticket is settled while each request is refused: the answer, what is booked, and that there was no request.
-fn settles(
+/// The Prepare's ticket is settled while each request is refused, with this answer.
+fn settles<A: Allocator + Copy>(
     rt: &impl Abort,
     heap: &Refusing<Global>,
-    came: Option<&[u8]>,
+    hop: &mut HopState<A>,
+    outcome: Outcome<A>,
     ms: i64,
     want: &[u8],
-    booked: u64,
 ) {
-    let mut hop = new_hop(heap).expect(rt, "memory");
-    let outcome = match came {
-        Some(bytes) => with_answer(rt, heap, bytes),
-        None => Outcome::Fault,
-    };
-    let ticket = ticket_of(rt, &mut hop);
+    let ticket = ticket_of(rt, hop);
     heap.refuse_from(1);
     sure_then(rt, hop.held(0) == Ok(5), ms);
-    let answer = settled(rt, &mut hop, ticket, outcome, moment(rt, ms));
+    let answer = settled(rt, hop, ticket, outcome, moment(rt, ms));
     sure_then(rt, answer.as_slice() == want, ms);
+}
+
+/// What is booked then, and that there was no request.
+fn has_settled<A: Allocator + Copy>(
+    rt: &impl Abort,
+    heap: &Refusing<Global>,
+    hop: &HopState<A>,
+    ms: i64,
+    booked: u64,
+) {
     let after = [Ok(booked), Ok(0), Ok(0), Ok(0), Ok(booked), Ok(0)];
-    sure_then(rt, counts(&hop) == after, ms);
+    sure_then(rt, counts(hop) == after, ms);
     sure!(rt; hop.t00() == b"\x0e\x0fT00\x09example.c\0\0".as_slice());
     sure_then(rt, heap.asked() == 0, ms);
-    heap.refuse_none();
 }
 
 /// Ends the test where a fact of this moment does not hold.
@@ -210,6 +226,9 @@ fn settling_asks_for_no_memory(rt: HostRuntime) {
     ];
     let heap: Refusing<Global> = Refusing::new(rt.alloc());
     for (came, ms, want, booked) in rows {
-        settles(&rt, &heap, came, ms, want, booked);
+        heap.refuse_none();
+        let mut hop = new_hop(&heap).expect(&rt, "memory");
+        settles(&rt, &heap, &mut hop, outcome_of(&rt, &heap, came), ms, want);
+        has_settled(&rt, &heap, &hop, ms, booked);
     }
 }

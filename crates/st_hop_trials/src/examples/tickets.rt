@@ -21,9 +21,9 @@ fn settle_slot(
 }
 
 #[test]
-fn a_slot_keeps_a_ticket(rt: HostRuntime) -> Result<(), std::test::Fail> {
-    let mut hop = crate::hop::new_hop(rt.alloc())?;
-    let outcome = Outcome::Answered(crate::hop::FULFILL.to_vec(rt.alloc())?);
+fn a_slot_keeps_a_ticket(rt: HostRuntime) {
+    let mut hop = crate::hop::new_hop(rt.alloc()).expect(&rt, "memory");
+    let outcome = crate::hop::with_answer(&rt, rt.alloc(), crate::hop::FULFILL);
     let now = crate::hop::moment(&rt, 0);
     let mut slot = Some(crate::hop::ticket_of(&rt, &mut hop));
     let first = settle_slot(&mut hop, &mut slot, outcome, now);
@@ -34,5 +34,4 @@ fn a_slot_keeps_a_ticket(rt: HostRuntime) -> Result<(), std::test::Fail> {
     sure!(&rt; first.is_some_and(|answer| answer.as_slice() == crate::hop::FULFILL.as_slice()));
     sure!(&rt; second.is_none());
     sure!(&rt; (hop.all_claims(), hop.all_dues()) == (5, 5));
-    Ok(())
 }

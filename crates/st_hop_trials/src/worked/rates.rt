@@ -138,12 +138,19 @@ fn claims_and_dues_are_in_their_own_amounts(rt: HostRuntime) {
     }
 }
 
-/// What the ticket tells of a Prepare of 60 that goes on: the amount that comes, and the one that goes on.
-fn amounts_of_sixty(rt: &impl Abort, alloc: Global, hop: &mut HopState<Global>) -> (u64, u64) {
+/// At this rate 101 is past a limit of 100, which 100 is not.
+fn is_limited(rt: &impl Abort, alloc: Global, num: u32, den: u32) {
+    let mut hop = rated_hop(rt, alloc, 100, 1000, num, den);
+    sure!(rt; turns_back(rt, alloc, &mut hop, 0, 101, "example.b", T04));
+    goes_to(rt, alloc, &mut hop, 0, 100, "example.b");
+}
+
+/// A Prepare of 60, as much as a packet may have, goes on with this amount.
+fn sixty_goes_on(rt: &impl Abort, alloc: Global, hop: &mut HopState<Global>, amount: u64) {
     let (ticket, _) = goes_on(rt, alloc, hop, 0, 60, "example.b");
     let read = ticket.read();
     ticket.abandon();
-    (read.amount_in, read.amount_out)
+    sure!(rt; (read.amount_in, read.amount_out) == (60, amount));
 }
 
 /// An account's limit and its packet limit bound what comes, whatever goes on for it.
@@ -151,16 +158,13 @@ fn amounts_of_sixty(rt: &impl Abort, alloc: Global, hop: &mut HopState<Global>) 
 fn limits_bound_what_comes(rt: HostRuntime) {
     let alloc = rt.alloc();
     for (num, den) in [(3, 2), (1, 2)] {
-        let mut hop = rated_hop(&rt, alloc, 100, 1000, num, den);
-        sure!(&rt; turns_back(&rt, alloc, &mut hop, 0, 101, "example.b", T04));
-        goes_to(&rt, alloc, &mut hop, 0, 100, "example.b");
+        is_limited(&rt, alloc, num, den);
     }
-    let mut hop = rated_hop(&rt, alloc, 1000, 60, 1, 2);
+    let mut halved = rated_hop(&rt, alloc, 1000, 60, 1, 2);
     let f08 = b"\x0e\x1fF08\x09example.c\0\x10\0\0\0\0\0\0\0\x96\0\0\0\0\0\0\0\x3c";
-    sure!(&rt; turns_back(&rt, alloc, &mut hop, 0, 150, "example.b", f08));
-    sure!(&rt; amounts_of_sixty(&rt, alloc, &mut hop) == (60, 30));
-    let mut hop = rated_hop(&rt, alloc, 1000, 60, 3, 2);
-    sure!(&rt; amounts_of_sixty(&rt, alloc, &mut hop) == (60, 90));
+    sure!(&rt; turns_back(&rt, alloc, &mut halved, 0, 150, "example.b", f08));
+    sixty_goes_on(&rt, alloc, &mut halved, 30);
+    sixty_goes_on(&rt, alloc, &mut rated_hop(&rt, alloc, 1000, 60, 3, 2), 90);
 }
 
 /// What an account is owed, in the amount that went to it, may come back from it beside its limit.
