@@ -3,11 +3,10 @@
 use refusing::Refusing;
 use st_http::{Answerer, HttpError, Reading, exchange, serve_one};
 use st_oer::{Counting, FailAt};
-use std::alloc::{Allocator, Global};
+use std::alloc::{AllocError, Allocator, Global};
 use std::io;
 use std::io::{ErrorKind, Read, Write};
 use std::process::Abort;
-use std::test::Fail;
 
 /// A Prepare (RFC 0027).
 const PREPARE: &[u8; 70] = b"\x0c\x44\0\0\0\0\0\0\0\x0520240102030405006\
@@ -104,6 +103,11 @@ impl Noting {
             body: Vec::new(alloc),
         }
     }
+
+    /// Whether the last request was this account's, with this body.
+    fn noted(&self, account: usize, body: &[u8]) -> bool {
+        self.account == account && self.body.as_slice() == body
+    }
 }
 
 impl Answerer for Noting {
@@ -132,40 +136,48 @@ fn exchange_at(
     (got, stream.into_inner().into_inner().output, counts)
 }
 
+/// The bytes of the request: 219.
+fn request(rt: &impl Abort, alloc: Global) -> Vec<u8> {
+    let mut request = Vec::from_slice(alloc, REQUEST_HEAD.as_bytes()).expect(rt, "memory");
+    sure!(rt; request.extend_from_slice(PREPARE).is_ok());
+    request
+}
+
+/// Whether this is the body of `RESPONSE`.
+fn is_body<A: Allocator + Copy>(got: Result<Vec<u8, A>, HttpError>) -> bool {
+    match got {
+        Ok(body) => body.as_slice() == BODY,
+        Err(_) => false,
+    }
+}
+
+/// An exchange whose call number `k` fails: the fault, and what was written before.
+fn exchange_fails(rt: &impl Abort, alloc: Global, request: &[u8], k: u64) {
+    let (want, sent) = match k {
+        1 => (HttpError::WriteFault(0), 0),
+        2 => (HttpError::WriteFault(100), 100),
+        3 => (HttpError::WriteFault(200), 200),
+        _ => (HttpError::ReadFault, 219),
+    };
+    let (got, written, counts) = exchange_at(alloc, RESPONSE, k, 1_000);
+    sure!(rt; got.is_err_and(|e| e == want), k);
+    sure!(rt; written.len() == sent && request.starts_with(&written), k);
+    sure!(rt; counts == (k, 1), k);
+}
+
 /// The request is written by three calls, and the response read by one for each byte of its head and one for its body.
 #[test]
-fn each_call_of_an_exchange_fails_in_turn(rt: HostRuntime) -> Result<(), Fail> {
+fn each_call_of_an_exchange_fails_in_turn(rt: HostRuntime) {
     let alloc = rt.alloc();
-    let mut request = Vec::from_slice(alloc, REQUEST_HEAD.as_bytes())?;
-    request.extend_from_slice(PREPARE)?;
-    assert_eq!(rt; request.len(), 219);
+    let request = request(&rt, alloc);
+    sure!(&rt; request.len() == 219);
     for k in 1..=46u64 {
-        let (got, written, counts) = exchange_at(alloc, RESPONSE, k, 1_000);
-        let want = match k {
-            1 => HttpError::WriteFault(0),
-            2 => HttpError::WriteFault(100),
-            3 => HttpError::WriteFault(200),
-            _ => HttpError::ReadFault,
-        };
-        assert!(rt; got.is_err_and(|e| e == want), "at {k}");
-        let sent = match k {
-            1 => 0,
-            2 => 100,
-            3 => 200,
-            _ => 219,
-        };
-        assert!(rt;
-            written.len() == sent && request.starts_with(&written),
-            "at {k}"
-        );
-        assert_eq!(rt; counts, (k, 1), "at {k}");
+        exchange_fails(&rt, alloc, &request, k);
     }
     let (got, written, counts) = exchange_at(alloc, RESPONSE, 47, 46);
-    let body = got?;
-    assert_eq!(rt; body.as_slice(), BODY);
-    assert!(rt; written.as_slice() == request.as_slice());
-    assert_eq!(rt; counts, (46, 0));
-    Ok(())
+    sure!(&rt; is_body(got));
+    sure!(&rt; written.as_slice() == request.as_slice());
+    sure!(&rt; counts == (46, 0));
 }
 
 /// One turn less than the calls that are needed: each turn is a call, and none is made without one.
@@ -173,41 +185,47 @@ fn each_call_of_an_exchange_fails_in_turn(rt: HostRuntime) -> Result<(), Fail> {
 fn turns_are_calls(rt: HostRuntime) {
     for turns in 0..46u64 {
         let (got, _, counts) = exchange_at(rt.alloc(), RESPONSE, 0, turns);
-        assert!(rt; got.is_err_and(|e| e == HttpError::Turns), "{turns}");
-        assert_eq!(rt; counts, (turns, 0));
+        sure!(&rt; got.is_err_and(|e| e == HttpError::Turns), turns);
+        sure!(&rt; counts == (turns, 0), turns);
     }
+}
+
+/// A service of `POST` over a stream whose call number `k` fails: what it gave, what was written, and how many calls were
+/// made and failed.
+fn serve_at(
+    alloc: Global,
+    answerer: &mut Noting,
+    k: u64,
+) -> (Result<(), HttpError>, Vec<u8>, (u64, u64)) {
+    let mut stream = Counting::new(FailAt::new(Wire::new(alloc, POST, 100), k));
+    let got = serve_one(alloc, alloc, &mut stream, &["t0", "t1"], answerer, 74);
+    let counts = (stream.tally().calls, stream.tally().faults);
+    (got, stream.into_inner().into_inner().output, counts)
+}
+
+/// A service whose call number `k` fails: the fault, and what was answered and written before.
+fn service_fails(rt: &impl Abort, alloc: Global, k: u64) {
+    let (want, calls, sent) = match k {
+        73 => (Err(HttpError::WriteFault(0)), 1, 0),
+        74 => (Err(HttpError::WriteFault(100)), 1, 100),
+        75 => (Ok(()), 1, 133),
+        _ => (Err(HttpError::ReadFault), 0, 0),
+    };
+    let mut answerer = Noting::new(alloc, Some(ANSWER));
+    let (got, written, counts) = serve_at(alloc, &mut answerer, k);
+    sure!(rt; got == want, k);
+    sure!(rt; answerer.calls == calls, k);
+    sure!(rt; calls == 0 || answerer.noted(1, b"hello"), k);
+    sure!(rt; written.len() == sent && ANSWERED.as_bytes().starts_with(&written), k);
+    sure!(rt; counts == (k.min(74), u64::from(k < 75)), k);
 }
 
 /// The request is read by one call for each byte of its head and one for its body, and the response written by two.
 #[test]
-fn each_call_of_a_service_fails_in_turn(rt: HostRuntime) -> Result<(), Fail> {
-    let alloc = rt.alloc();
+fn each_call_of_a_service_fails_in_turn(rt: HostRuntime) {
     for k in 1..=75u64 {
-        let mut stream = Counting::new(FailAt::new(Wire::new(alloc, POST, 100), k));
-        let mut answerer = Noting::new(alloc, Some(ANSWER));
-        let got = serve_one(alloc, alloc, &mut stream, &["t0", "t1"], &mut answerer, 74);
-        let counts = (stream.tally().calls, stream.tally().faults);
-        let written = stream.into_inner().into_inner().output;
-        let (want, calls, sent) = match k {
-            73 => (Err(HttpError::WriteFault(0)), 1, 0),
-            74 => (Err(HttpError::WriteFault(100)), 1, 100),
-            75 => (Ok(()), 1, 133),
-            _ => (Err(HttpError::ReadFault), 0, 0),
-        };
-        assert_eq!(rt; got, want, "at {k}");
-        assert_eq!(rt; answerer.calls, calls, "at {k}");
-        assert!(rt;
-            written.len() == sent && ANSWERED.as_bytes().starts_with(&written),
-            "at {k}"
-        );
-        let faults = if k == 75 { 0 } else { 1 };
-        assert_eq!(rt; counts, (k.min(74), faults), "at {k}");
-        if calls == 1 {
-            assert_eq!(rt; answerer.account, 1);
-            assert_eq!(rt; answerer.body.as_slice(), b"hello".as_slice());
-        }
+        service_fails(&rt, rt.alloc(), k);
     }
-    Ok(())
 }
 
 /// A head that is longer than the turns: they are used up, and nothing was answered.
@@ -217,143 +235,191 @@ fn a_slow_request_uses_up_the_turns(rt: HostRuntime) {
     let mut stream = Counting::new(Wire::new(alloc, FROM_CURL, 1));
     let mut answerer = Noting::new(alloc, None);
     let got = serve_one(alloc, alloc, &mut stream, &["t1"], &mut answerer, 100);
-    assert_eq!(rt; got, Err(HttpError::Turns));
-    assert_eq!(rt; stream.tally().calls, 100);
-    assert_eq!(rt; answerer.calls, 0);
-    assert!(rt; stream.into_inner().output.is_empty());
+    sure!(&rt; got == Err(HttpError::Turns));
+    sure!(&rt; stream.tally().calls == 100);
+    sure!(&rt; answerer.calls == 0);
+    sure!(&rt; stream.into_inner().output.is_empty());
 }
 
-/// Each request for memory of an exchange is refused in turn; with memory back a new stream is answered.
+/// Whether an exchange brings the body, where there is memory.
+fn exchanges(heap: &Refusing<Global>, alloc: Global) -> bool {
+    let mut stream = Counting::new(Wire::new(alloc, RESPONSE, 100));
+    is_body(exchange(heap, alloc, &mut stream, HOST, "t1", PREPARE, 1_000))
+}
+
+/// An exchange whose request `n` for memory is refused: whether there was one. With memory back a new stream is answered.
+fn exchange_meets(rt: &impl Abort, heap: &Refusing<Global>, alloc: Global, n: u64) -> bool {
+    heap.refuse_only(n);
+    let mut stream = Counting::new(Wire::new(alloc, RESPONSE, 100));
+    let got = exchange(heap, alloc, &mut stream, HOST, "t1", PREPARE, 1_000);
+    let met = heap.has_refused();
+    heap.refuse_none();
+    if met {
+        sure!(rt; got.is_err_and(|e| e == HttpError::NoMemory), n);
+        sure!(rt; stream.tally().faults == 0, n);
+        sure!(rt; exchanges(heap, alloc), n);
+    } else {
+        sure!(rt; is_body(got));
+    }
+    met
+}
+
+/// Each request for memory of an exchange is refused in turn.
 #[test]
-fn each_request_of_an_exchange_is_refused(rt: HostRuntime) -> Result<(), Fail> {
-    let alloc = rt.alloc();
-    let heap: Refusing<Global> = Refusing::new(alloc);
+fn each_request_of_an_exchange_is_refused(rt: HostRuntime) {
+    let heap: Refusing<Global> = Refusing::new(rt.alloc());
     for n in 1..100u64 {
-        heap.refuse_only(n);
-        let mut stream = Counting::new(Wire::new(alloc, RESPONSE, 100));
-        let got = exchange(&heap, alloc, &mut stream, HOST, "t1", PREPARE, 1_000);
-        let met = heap.has_refused();
-        heap.refuse_none();
-        if !met {
-            let body = got?;
-            assert_eq!(rt; body.as_slice(), BODY);
-            assert!(rt; 3 < n);
-            return Ok(());
+        if !exchange_meets(&rt, &heap, rt.alloc(), n) {
+            sure!(&rt; 3 < n);
+            return;
         }
-        assert!(rt; got.is_err_and(|e| e == HttpError::NoMemory), "at {n}");
-        assert_eq!(rt; stream.tally().faults, 0);
-        let mut stream = Counting::new(Wire::new(alloc, RESPONSE, 100));
-        let again = exchange(&heap, alloc, &mut stream, HOST, "t1", PREPARE, 1_000)?;
-        assert_eq!(rt; again.as_slice(), BODY);
     }
     panic!(rt; "no run met no refusal");
 }
 
-/// Each request for memory of a service is refused in turn: nothing is written then.
+/// A service whose request `n` for memory is refused: whether there was one. Nothing is written then.
+fn service_meets(rt: &impl Abort, heap: &Refusing<Global>, alloc: Global, n: u64) -> bool {
+    heap.refuse_only(n);
+    let mut stream = Counting::new(Wire::new(alloc, POST, 100));
+    let mut answerer = Noting::new(alloc, Some(ANSWER));
+    let got = serve_one(heap, alloc, &mut stream, &["t1"], &mut answerer, 1_000);
+    let met = heap.has_refused();
+    heap.refuse_none();
+    let written = stream.into_inner().output;
+    if met {
+        sure!(rt; got == Err(HttpError::NoMemory), n);
+        sure!(rt; written.is_empty(), n);
+        sure!(rt; answerer.calls <= 1, n);
+    } else {
+        sure!(rt; got == Ok(()));
+        sure!(rt; written.as_slice() == ANSWERED.as_bytes());
+    }
+    met
+}
+
+/// Each request for memory of a service is refused in turn.
 #[test]
-fn each_request_of_a_service_is_refused(rt: HostRuntime) -> Result<(), Fail> {
-    let alloc = rt.alloc();
-    let heap: Refusing<Global> = Refusing::new(alloc);
+fn each_request_of_a_service_is_refused(rt: HostRuntime) {
+    let heap: Refusing<Global> = Refusing::new(rt.alloc());
     for n in 1..100u64 {
-        heap.refuse_only(n);
-        let mut stream = Counting::new(Wire::new(alloc, POST, 100));
-        let mut answerer = Noting::new(alloc, Some(ANSWER));
-        let got = serve_one(&heap, alloc, &mut stream, &["t1"], &mut answerer, 1_000);
-        let met = heap.has_refused();
-        heap.refuse_none();
-        let written = stream.into_inner().output;
-        if !met {
-            assert_eq!(rt; got, Ok(()));
-            assert_eq!(rt; written.as_slice(), ANSWERED.as_bytes());
-            assert!(rt; 3 < n);
-            return Ok(());
+        if !service_meets(&rt, &heap, rt.alloc(), n) {
+            sure!(&rt; 3 < n);
+            return;
         }
-        assert_eq!(rt; got, Err(HttpError::NoMemory), "at {n}");
-        assert!(rt; written.is_empty(), "at {n}");
-        assert!(rt; answerer.calls <= 1, "at {n}");
     }
     panic!(rt; "no run met no refusal");
 }
 
-/// What a reading of `POST`, cut at `cut`, does where the request number `n` for memory of its second part is refused:
-/// whether one was. It is then as it was, and takes the same bytes.
-fn feed_refused(
+/// Feeds a reading whose request `n` for memory is refused: whether there was one. It is then as it was, and takes the same
+/// bytes.
+fn feeds_again<A: Allocator + Copy>(
     rt: &impl Abort,
     heap: &Refusing<Global>,
-    alloc: Global,
-    cut: usize,
+    reading: &mut Reading<'_, A>,
+    rest: &[u8],
     n: u64,
-) -> Result<bool, HttpError> {
-    let tokens = ["t1"];
-    let (front, rest) = POST.split_at(cut.min(POST.len()));
-    let mut reading = Reading::request(heap, alloc, &tokens);
-    reading.feed(front)?;
+) -> bool {
     let wants = reading.wants();
     heap.refuse_only(n);
     let got = reading.feed(rest);
     let met = heap.has_refused();
     heap.refuse_none();
     if met {
-        assert_eq!(rt; got, Err(HttpError::NoMemory), "at {n}");
-        assert_eq!(rt; reading.wants(), wants);
-        reading.feed(rest)?;
+        sure!(rt; got == Err(HttpError::NoMemory), n);
+        sure!(rt; reading.wants() == wants, n);
+        sure!(rt; reading.feed(rest).is_ok(), n);
+    } else {
+        sure!(rt; got.is_ok(), n);
     }
-    assert_eq!(rt; reading.account(), Some(0));
-    assert!(rt; reading.body().is_some_and(|b| b == b"hello".as_slice()));
-    Ok(met)
+    met
+}
+
+/// What a reading of `POST`, cut at `cut`, does where the request number `n` for memory of its second part is refused:
+/// whether one was.
+fn feed_refused(
+    rt: &impl Abort,
+    heap: &Refusing<Global>,
+    alloc: Global,
+    cut: usize,
+    n: u64,
+) -> bool {
+    let tokens = ["t1"];
+    let (front, rest) = POST.split_at(cut.min(POST.len()));
+    let mut reading = Reading::request(heap, alloc, &tokens);
+    sure!(rt; reading.feed(front).is_ok(), n);
+    let met = feeds_again(rt, heap, &mut reading, rest, n);
+    sure!(rt; reading.account() == Some(0), n);
+    sure!(rt; reading.body().is_some_and(|b| b == b"hello".as_slice()), n);
+    met
 }
 
 /// Want of memory leaves a reading as it was, in the head and in the body.
 #[test]
-fn a_refused_feed_is_made_again(rt: HostRuntime) -> Result<(), Fail> {
-    let alloc = rt.alloc();
-    let heap: Refusing<Global> = Refusing::new(alloc);
+fn a_refused_feed_is_made_again(rt: HostRuntime) {
+    let heap: Refusing<Global> = Refusing::new(rt.alloc());
     for cut in [0, 30, 70] {
         let mut met = 0;
         for n in 1..40u64 {
-            if feed_refused(&rt, &heap, alloc, cut, n)? {
+            if feed_refused(&rt, &heap, rt.alloc(), cut, n) {
                 met = n;
             }
         }
-        assert!(rt; 0 < met && met < 39, "{cut}");
+        sure!(&rt; 0 < met && met < 39, cut as u64);
     }
-    Ok(())
+}
+
+/// The request in two pieces; what follows it is left.
+fn reads_two(rt: &impl Abort, alloc: Global, text: &[u8], cut: usize) {
+    let tokens = ["t0", "t1"];
+    let (front, rest) = text.split_at(cut.min(text.len()));
+    let mut reading = Reading::request(alloc, alloc, &tokens);
+    sure!(rt; reading.feed(front) == Ok(front.len()), cut as u64);
+    sure!(rt; reading.feed(rest) == Ok(rest.len()), cut as u64);
+    sure!(rt; reading.account() == Some(1), cut as u64);
+    sure!(rt; reading.body().is_some_and(|b| b == PREPARE.as_slice()), cut as u64);
+    sure!(rt; reading.feed(b"more") == Ok(0), cut as u64);
+}
+
+/// The request byte by byte.
+fn reads_bytes(rt: &impl Abort, alloc: Global, text: &[u8]) {
+    let tokens = ["t0", "t1"];
+    let mut reading = Reading::request(alloc, alloc, &tokens);
+    let mut left = text.len();
+    for byte in text {
+        sure!(rt; reading.wants() == wants_of(left), left as u64);
+        sure!(rt; reading.body().is_none(), left as u64);
+        sure!(rt; reading.feed(&[*byte]) == Ok(1), left as u64);
+        left = left.saturating_sub(1);
+    }
+    sure!(rt; reading.wants() == 0);
+    sure!(rt; is_prepare(reading.into_body()));
+}
+
+/// How many bytes are wanted where so many of the request are left: one in the head, and all of the body.
+fn wants_of(left: usize) -> usize {
+    if left > 70 { 1 } else { left }
+}
+
+fn is_prepare(body: Option<Vec<u8>>) -> bool {
+    match body {
+        Some(body) => body.as_slice() == PREPARE.as_slice(),
+        None => false,
+    }
 }
 
 /// A request, as `exchange` writes it, in every two pieces and byte by byte; what follows it is left.
 #[test]
-fn a_request_is_read_in_any_pieces(rt: HostRuntime) -> Result<(), Fail> {
+fn a_request_is_read_in_any_pieces(rt: HostRuntime) {
     let alloc = rt.alloc();
-    let mut text = Vec::from_slice(alloc, REQUEST_HEAD.as_bytes())?;
-    text.extend_from_slice(PREPARE)?;
-    let tokens = ["t0", "t1"];
+    let mut text = request(&rt, alloc);
     for cut in 0..220usize {
-        let (front, rest) = text.split_at(cut.min(text.len()));
-        let mut reading = Reading::request(alloc, alloc, &tokens);
-        assert_eq!(rt; reading.feed(front), Ok(front.len()));
-        assert_eq!(rt; reading.feed(rest), Ok(rest.len()));
-        assert_eq!(rt; reading.account(), Some(1));
-        assert!(rt; reading.body().is_some_and(|b| b == PREPARE.as_slice()));
-        assert_eq!(rt; reading.feed(b"more"), Ok(0));
+        reads_two(&rt, alloc, &text, cut);
     }
+    reads_bytes(&rt, alloc, &text);
+    sure!(&rt; text.extend_from_slice(b"more").is_ok());
+    let tokens = ["t0", "t1"];
     let mut reading = Reading::request(alloc, alloc, &tokens);
-    let mut left = text.len();
-    for byte in &text {
-        assert_eq!(rt; reading.wants(), if left > 70 { 1 } else { left });
-        assert!(rt; reading.body().is_none());
-        assert_eq!(rt; reading.feed(&[*byte]), Ok(1));
-        left = left.saturating_sub(1);
-    }
-    assert_eq!(rt; reading.wants(), 0);
-    assert!(rt;
-        reading
-            .into_body()
-            .is_some_and(|b| b.as_slice() == PREPARE.as_slice())
-    );
-    text.extend_from_slice(b"more")?;
-    let mut reading = Reading::request(alloc, alloc, &tokens);
-    assert_eq!(rt; reading.feed(&text), Ok(219));
-    Ok(())
+    sure!(&rt; reading.feed(&text) == Ok(219));
 }
 
 /// What a reading says of a request: its account and the length of its body, or the refusal, which stays.
@@ -361,8 +427,8 @@ fn read_whole(rt: &impl Abort, alloc: Global, text: &[u8]) -> Result<(usize, usi
     let tokens = ["t0", "t1"];
     let mut reading = Reading::request(alloc, alloc, &tokens);
     if let Err(error) = reading.feed(text) {
-        assert!(rt; reading.feed(b"x") == Err(error));
-        assert!(rt; reading.wants() == 0);
+        sure!(rt; reading.feed(b"x") == Err(error));
+        sure!(rt; reading.wants() == 0);
         return Err(error);
     }
     match (reading.account(), reading.body()) {
@@ -407,68 +473,98 @@ fn other_writers_are_read(rt: HostRuntime) {
         ),
     ];
     for (text, want) in rows {
-        assert_eq!(rt; read_whole(&rt, rt.alloc(), text), want);
+        sure!(&rt; read_whole(&rt, rt.alloc(), text) == want);
+    }
+}
+
+/// So many bytes `z` behind these.
+fn with_body(rt: &impl Abort, alloc: Global, head: &str, size: usize) -> Vec<u8> {
+    let mut text = Vec::from_slice(alloc, head.as_bytes()).expect(rt, "memory");
+    for _ in 0..size {
+        sure!(rt; text.push(b'z').is_ok());
+    }
+    text
+}
+
+/// The head of a response with a body of this length, and the one of a request.
+fn heads_of(rt: &impl Abort, alloc: Global, size: usize) -> (String, String) {
+    let response = format!(in alloc; "HTTP/1.1 200 OK\r\nContent-Length: {size}\r\n\r\n").expect(
+        rt, "memory",
+    );
+    let request = format!(in alloc;
+        "POST /ilp HTTP/1.1\r\nAuthorization: Bearer t0\r\nContent-Length: {size}\r\n\r\n"
+    ).expect(rt, "memory");
+    (response, request)
+}
+
+/// A response with such a body, and bytes that are not to be read.
+fn responds(rt: &impl Abort, alloc: Global, head: &str, size: usize) {
+    let mut text = with_body(rt, alloc, head, size);
+    sure!(rt; text.extend_from_slice(b"more").is_ok());
+    let mut stream = Counting::new(Wire::new(alloc, &text, 1_000));
+    let got = exchange(alloc, alloc, &mut stream, HOST, "t1", b"", 1_000);
+    if size == 65_536 {
+        sure!(rt; got.is_err_and(|e| e == HttpError::TooLong));
+    } else {
+        sure!(rt; is_all_z(got, size), size as u64);
+        sure!(rt; stream.into_inner().input == b"more".as_slice(), size as u64);
+    }
+}
+
+/// Whether so many bytes `z` came.
+fn is_all_z(got: Result<Vec<u8>, HttpError>, size: usize) -> bool {
+    match got {
+        Ok(body) => body.len() == size && body.iter().all(|b| *b == b'z'),
+        Err(_) => false,
     }
 }
 
 /// Bodies of no byte, of one, of as many as there may be and of one more, in a response and in a request.
 #[test]
-fn bodies_of_all_sizes(rt: HostRuntime) -> Result<(), Fail> {
+fn bodies_of_all_sizes(rt: HostRuntime) {
     let alloc = rt.alloc();
     for size in [0, 1, 65_535, 65_536usize] {
-        let mut text = format!(in alloc;
-            "HTTP/1.1 200 OK\r\nContent-Length: {size}\r\n\r\n"
-        )?.into_bytes();
-        for _ in 0..size {
-            text.push(b'z')?;
-        }
-        text.extend_from_slice(b"more")?;
-        let mut stream = Counting::new(Wire::new(alloc, &text, 1_000));
-        let got = exchange(alloc, alloc, &mut stream, HOST, "t1", b"", 1_000);
-        if size == 65_536 {
-            assert!(rt; got.is_err_and(|e| e == HttpError::TooLong));
-        } else {
-            let body = got?;
-            assert_eq!(rt; body.len(), size);
-            assert!(rt; body.iter().all(|b| *b == b'z'));
-            assert_eq!(rt; stream.into_inner().input, b"more".as_slice());
-        }
-        let mut text = format!(in alloc;
-            "POST /ilp HTTP/1.1\r\nAuthorization: Bearer t0\r\nContent-Length: {size}\r\n\r\n"
-        )?.into_bytes();
-        for _ in 0..size {
-            text.push(b'z')?;
-        }
+        let (response, request) = heads_of(&rt, alloc, size);
+        responds(&rt, alloc, &response, size);
         let want = if size == 65_536 {
             Err(HttpError::Status(413))
         } else {
             Ok((0, size))
         };
-        assert_eq!(rt; read_whole(&rt, alloc, &text), want, "{size}");
+        let text = with_body(&rt, alloc, &request, size);
+        sure!(&rt; read_whole(&rt, alloc, &text) == want, size as u64);
     }
-    Ok(())
 }
 
-/// A head of as many fields as there may be, and of one more; and empty lines alone, byte by byte.
+/// Writes the head of a request with so many other fields.
+fn write_head(text: &mut Vec<u8>, others: u64) -> Result<(), AllocError> {
+    text.extend_from_slice(
+        b"POST /ilp HTTP/1.1\r\nAuthorization: Bearer t1\r\nContent-Length: 0\r\n",
+    )?;
+    for _ in 0..others {
+        text.extend_from_slice(b"A: b\r\n")?;
+    }
+    text.extend_from_slice(b"\r\n")
+}
+
+/// A head of as many fields as there may be, and of one more.
 #[test]
-fn heads_at_the_limits(rt: HostRuntime) -> Result<(), Fail> {
+fn heads_at_the_limits(rt: HostRuntime) {
     let alloc = rt.alloc();
     for (others, want) in [(62, Ok((1, 0))), (63, Err(HttpError::Status(400)))] {
-        let mut text = Vec::from_slice(
-            alloc,
-            b"POST /ilp HTTP/1.1\r\nAuthorization: Bearer t1\r\nContent-Length: 0\r\n",
-        )?;
-        for _ in 0..others {
-            text.extend_from_slice(b"A: b\r\n")?;
-        }
-        text.extend_from_slice(b"\r\n")?;
-        assert_eq!(rt; read_whole(&rt, alloc, &text), want, "{others}");
+        let mut text = Vec::new(alloc);
+        sure!(&rt; write_head(&mut text, others).is_ok(), others);
+        sure!(&rt; read_whole(&rt, alloc, &text) == want, others);
     }
+}
+
+/// Empty lines alone, byte by byte.
+#[test]
+fn empty_lines_have_a_limit(rt: HostRuntime) {
     let tokens = ["t1"];
-    let mut reading = Reading::request(alloc, alloc, &tokens);
+    let mut reading = Reading::request(rt.alloc(), rt.alloc(), &tokens);
     for _ in 0..8_191 {
-        assert_eq!(rt; reading.feed(b"\n"), Ok(1));
+        sure!(&rt; reading.feed(b"\n") == Ok(1));
     }
-    assert_eq!(rt; reading.feed(b"\n"), Err(HttpError::Status(400)));
-    Ok(())
+    sure!(&rt; reading.feed(b"\n") == Err(HttpError::Status(400)));
 }

@@ -2,9 +2,10 @@
 
 use st_http::{Answerer, HttpError, Reading, exchange, is_field_text, serve_one};
 use st_oer::Counting;
+use std::alloc::AllocError;
 use std::io;
 use std::io::{ErrorKind, Read, Write};
-use std::test::Fail;
+use std::process::Abort;
 
 const HOST: &str = "127.0.0.1:7770";
 
@@ -79,21 +80,35 @@ fn account_of(rt: HostRuntime, text: &[u8], cut: usize) -> Result<Option<usize>,
     Ok(reading.account())
 }
 
-#[test]
-fn a_request_is_written(rt: HostRuntime) -> Result<(), Fail> {
-    let body = [7; 70];
-    let response = b"HTTP/1.1 200 OK\r\ncontent-length: 2\r\n\r\nokmore";
-    let mut wire = Wire::new(rt, response, 64);
-    let answer = exchange(rt.alloc(), rt.alloc(), &mut wire, HOST, "t1", &body, 1_000)?;
-    assert_eq!(rt; answer.as_slice(), b"ok".as_slice());
-    let wire = wire.into_inner();
-    assert_eq!(rt; wire.input, b"more".as_slice());
+/// The body of a request.
+const SEVENS: [u8; 70] = [7; 70];
+
+/// The bytes of a request with that body: what was written, and what was left to read.
+fn is_request(rt: &impl Abort, wire: &Wire<'_>) {
     let head =
         "POST /ilp HTTP/1.1\r\nHost: 127.0.0.1:7770\r\nAuthorization: Bearer t1\r\nContent-Type: application/octet-stream\r\nContent-Length: 70\r\nConnection: close\r\n\r\n";
-    assert_eq!(rt; wire.output.len(), 219);
-    assert!(rt; wire.output.starts_with(head.as_bytes()));
-    assert!(rt; wire.output.ends_with(body.as_slice()));
-    Ok(())
+    sure!(rt; wire.input == b"more".as_slice());
+    sure!(rt; wire.output.len() == 219);
+    sure!(rt; wire.output.starts_with(head.as_bytes()));
+    sure!(rt; wire.output.ends_with(SEVENS.as_slice()));
+}
+
+#[test]
+fn a_request_is_written(rt: HostRuntime) {
+    let response = b"HTTP/1.1 200 OK\r\ncontent-length: 2\r\n\r\nokmore";
+    let mut wire = Wire::new(rt, response, 64);
+    let got = exchange(
+        rt.alloc(),
+        rt.alloc(),
+        &mut wire,
+        HOST,
+        "t1",
+        &SEVENS,
+        1_000,
+    );
+    let answer = got.expect(&rt, "an answer");
+    sure!(&rt; answer.as_slice() == b"ok".as_slice());
+    is_request(&rt, &wire.into_inner());
 }
 
 #[test]
@@ -126,12 +141,43 @@ fn responses_are_refused(rt: HostRuntime) {
     for (response, want) in rows {
         let mut wire = Wire::new(rt, response.as_bytes(), 1_000);
         let got = exchange(rt.alloc(), rt.alloc(), &mut wire, HOST, "t1", b"", 1_000);
-        assert!(rt; got.is_err_and(|e| e == want), "{response}");
+        sure!(&rt; got.is_err_and(|e| e == want), of response);
     }
 }
 
+/// An answerer that was not asked.
+fn unasked<'a>(rt: HostRuntime, answer: Option<&'a [u8]>) -> Fixed<'a> {
+    Fixed {
+        answer,
+        calls: 0,
+        account: 9,
+        rt,
+    }
+}
+
+/// A service of these bytes, which come so many a call, for so many turns: what it gave, and what was written.
+fn served(
+    rt: HostRuntime,
+    text: &str,
+    piece: usize,
+    tokens: &[&str],
+    answerer: &mut Fixed<'_>,
+    turns: u64,
+) -> (Result<(), HttpError>, Vec<u8>) {
+    let mut wire = Wire::new(rt, text.as_bytes(), piece);
+    let got = serve_one(rt.alloc(), rt.alloc(), &mut wire, tokens, answerer, turns);
+    (got, wire.into_inner().output)
+}
+
+/// Whether this is a head with that body behind.
+fn is_both(written: &[u8], head: &str, body: &[u8]) -> bool {
+    written.starts_with(head.as_bytes())
+        && written.ends_with(body)
+        && written.len() == head.len().saturating_add(body.len())
+}
+
 #[test]
-fn a_lawful_request_is_answered(rt: HostRuntime) -> Result<(), Fail> {
+fn a_lawful_request_is_answered(rt: HostRuntime) {
     let fulfill = [0; 35];
     for (answer, head) in [
         (
@@ -143,75 +189,27 @@ fn a_lawful_request_is_answered(rt: HostRuntime) -> Result<(), Fail> {
             "HTTP/1.1 500 Internal Server Error\r\nContent-Length: 0\r\nConnection: close\r\n\r\n",
         ),
     ] {
-        let mut wire = Wire::new(rt, POST.as_bytes(), 1_000);
-        let mut answerer = Fixed {
-            answer,
-            calls: 0,
-            account: 9,
-            rt,
-        };
-        serve_one(
-            rt.alloc(),
-            rt.alloc(),
-            &mut wire,
-            &["t0", "t1"],
-            &mut answerer,
-            1_000,
-        )?;
-        assert_eq!(rt; (answerer.calls, answerer.account), (1, 1));
-        let wire = wire.into_inner();
-        let body = answer.unwrap_or(b"");
-        assert!(rt; wire.output.starts_with(head.as_bytes()));
-        assert!(rt; wire.output.ends_with(body));
-        assert_eq!(rt; wire.output.len(), head.len().saturating_add(body.len()));
+        let mut answerer = unasked(rt, answer);
+        let (got, written) = served(rt, POST, 1_000, &["t0", "t1"], &mut answerer, 1_000);
+        sure!(&rt; got == Ok(()));
+        sure!(&rt; (answerer.calls, answerer.account) == (1, 1));
+        sure!(&rt; is_both(&written, head, answer.unwrap_or(b"")));
     }
-    Ok(())
 }
 
 #[test]
-fn other_requests_are_turned_down(rt: HostRuntime) -> Result<(), Fail> {
-    let mut wire = Wire::new(rt, POST.as_bytes(), 1_000);
-    let mut answerer = Fixed {
-        answer: None,
-        calls: 0,
-        account: 9,
-        rt,
-    };
-    serve_one(
-        rt.alloc(),
-        rt.alloc(),
-        &mut wire,
-        &["t2", "t"],
-        &mut answerer,
-        1_000,
-    )?;
-    assert_eq!(rt; answerer.calls, 0);
+fn other_requests_are_turned_down(rt: HostRuntime) {
+    let mut answerer = unasked(rt, None);
+    let (got, written) = served(rt, POST, 1_000, &["t2", "t"], &mut answerer, 1_000);
+    sure!(&rt; got == Ok(()));
+    sure!(&rt; answerer.calls == 0);
     let text = "HTTP/1.1 401 Unauthorized\r\nContent-Length: 0\r\nConnection: close\r\n\r\n";
-    assert_eq!(rt; wire.into_inner().output.as_slice(), text.as_bytes());
-    let mut wire = Wire::new(rt, POST.as_bytes(), 1);
-    assert_eq!(rt;
-        serve_one(
-            rt.alloc(),
-            rt.alloc(),
-            &mut wire,
-            &["t1"],
-            &mut answerer,
-            50
-        ),
-        Err(HttpError::Turns)
-    );
-    let mut wire = Wire::new(rt, &POST.as_bytes()[..70], 1_000);
-    let got = serve_one(
-        rt.alloc(),
-        rt.alloc(),
-        &mut wire,
-        &["t1"],
-        &mut answerer,
-        1_000,
-    );
-    assert_eq!(rt; got, Err(HttpError::Cut));
-    assert_eq!(rt; answerer.calls, 0);
-    Ok(())
+    sure!(&rt; written.as_slice() == text.as_bytes());
+    let (got, _) = served(rt, POST, 1, &["t1"], &mut answerer, 50);
+    sure!(&rt; got == Err(HttpError::Turns));
+    let (got, _) = served(rt, &POST[..70], 1_000, &["t1"], &mut answerer, 1_000);
+    sure!(&rt; got == Err(HttpError::Cut));
+    sure!(&rt; answerer.calls == 0);
 }
 
 #[test]
@@ -277,28 +275,29 @@ fn requests_are_judged_in_any_two_pieces(rt: HostRuntime) {
     ];
     for (text, want) in rows {
         for cut in 0..text.len() {
-            assert!(rt;
-                account_of(rt, text.as_bytes(), cut) == want,
-                "{text} {cut}"
-            );
+            sure!(&rt; account_of(rt, text.as_bytes(), cut) == want, of text);
         }
     }
 }
 
-#[test]
-fn a_long_head_is_refused(rt: HostRuntime) -> Result<(), Fail> {
-    for (filling, want) in [(8_120, Ok(Some(1))), (8_121, Err(HttpError::Status(400)))] {
-        let mut text = Vec::from_slice(
-            rt.alloc(),
-            b"POST /ilp HTTP/1.1\r\nAuthorization: Bearer t1\r\nContent-Length: 0\r\nX: ",
-        )?;
-        for _ in 0..filling {
-            text.push(b'x')?;
-        }
-        text.extend_from_slice(b"\r\n\r\n")?;
-        assert!(rt; account_of(rt, &text, 100) == want, "{filling}");
+/// Writes the head of a request with a field of so many bytes.
+fn write_long(text: &mut Vec<u8>, filling: u64) -> Result<(), AllocError> {
+    text.extend_from_slice(
+        b"POST /ilp HTTP/1.1\r\nAuthorization: Bearer t1\r\nContent-Length: 0\r\nX: ",
+    )?;
+    for _ in 0..filling {
+        text.push(b'x')?;
     }
-    Ok(())
+    text.extend_from_slice(b"\r\n\r\n")
+}
+
+#[test]
+fn a_long_head_is_refused(rt: HostRuntime) {
+    for (filling, want) in [(8_120, Ok(Some(1))), (8_121, Err(HttpError::Status(400)))] {
+        let mut text = Vec::new(rt.alloc());
+        sure!(&rt; write_long(&mut text, filling).is_ok(), filling);
+        sure!(&rt; account_of(rt, &text, 100) == want, filling);
+    }
 }
 
 #[test]
@@ -313,14 +312,14 @@ fn refusals_have_their_numbers(rt: HostRuntime) {
         (HttpError::Turns, 86, None),
         (HttpError::NoMemory, 87, None),
     ] {
-        assert_eq!(rt; (error.number(), error.inner()), (number, inner));
+        sure!(&rt; (error.number(), error.inner()) == (number, inner));
     }
 }
 
 #[test]
-fn field_texts_are_visible(rt: HostRuntime) -> Result<(), Fail> {
-    let longest = "~".repeat(rt.alloc(), 255)?;
-    let longer = "~".repeat(rt.alloc(), 256)?;
+fn field_texts_are_visible(rt: HostRuntime) {
+    let longest = "~".repeat(rt.alloc(), 255).expect(&rt, "memory");
+    let longer = "~".repeat(rt.alloc(), 256).expect(&rt, "memory");
     for (text, want) in [
         ("127.0.0.1:7770", true),
         ("!", true),
@@ -332,7 +331,6 @@ fn field_texts_are_visible(rt: HostRuntime) -> Result<(), Fail> {
         ("\u{e9}", false),
         ("\u{7f}", false),
     ] {
-        assert_eq!(rt; is_field_text(text), want, "{text}");
+        sure!(&rt; is_field_text(text) == want, of text);
     }
-    Ok(())
 }

@@ -20,7 +20,7 @@ fn a_response_comes_in_pieces(rt: HostRuntime) -> Result<(), std::test::Fail> {
         b"k".as_slice(),
     ];
     let body = body_of(rt.alloc(), &pieces)?;
-    assert!(rt; body.is_some_and(|body| body.as_slice() == b"ok".as_slice()));
-    assert!(rt; body_of(rt.alloc(), &pieces[..2])?.is_none());
+    sure!(&rt; body.is_some_and(|body| body.as_slice() == b"ok".as_slice()));
+    sure!(&rt; body_of(rt.alloc(), &pieces[..2])?.is_none());
     Ok(())
 }
