@@ -6,7 +6,7 @@ use st_oer::{CountRead, CountWrite, Counted, FailAt, utf8};
 use std::alloc::{Allocator, Global};
 use std::io;
 use std::io::{ErrorKind, Read, Write};
-use std::test::Fail;
+use std::process::Abort;
 
 /// A device that moves at most `piece` bytes a call. Its call number `fails_at` fails, where the first is number 1 and a
 /// flush is a call.
@@ -139,7 +139,7 @@ const THREE_LINES: &str = "line 2 refused 95\nline 4 refused 20\nstream 1 4 6162
 /// What a run did: its status, what it wrote and told of a fault, and how often it called its reader and its writer.
 #[derive(Drop)]
 pub(crate) struct Told {
-    pub(crate) status: u8,
+    status: u8,
     written: Sink,
     errors: Sink,
     reads: u64,
@@ -155,6 +155,11 @@ impl Told {
     /// What it told of a fault, and flushed.
     pub(crate) fn fault(&self) -> &str {
         self.errors.text()
+    }
+
+    /// Whether it wrote and told this, and ended with this status.
+    pub(crate) fn is(&self, text: &str, fault: &str, status: u8) -> bool {
+        self.text() == text && self.fault() == fault && self.status == status
     }
 }
 
@@ -192,6 +197,11 @@ pub(crate) fn answer_to<A: Allocator + Copy>(memory: A, alloc: Global, input: &s
     run_over(memory, reader, sound_sink(alloc), sound_sink(alloc))
 }
 
+/// Ends the test where a fact does not hold of devices that take and give so many bytes a call, and fail at call `n`.
+fn sure_of(rt: &impl Abort, holds: bool, taken: usize, given: usize, n: u64) {
+    assert!(rt; holds, "{taken} and {given} at {n}");
+}
+
 /// However few bytes a call moves, the answer is the same.
 #[test]
 fn few_bytes_a_call(rt: HostRuntime) {
@@ -201,9 +211,7 @@ fn few_bytes_a_call(rt: HostRuntime) {
             let reader = Faulty::new(input.as_bytes(), taken, 0, ErrorKind::Other);
             let writer = Faulty::new(Sink::new(alloc), given, 0, ErrorKind::Other);
             let told = run_over(alloc, reader, writer, sound_sink(alloc));
-            assert!(rt; told.text() == text, "{taken} and {given}");
-            assert!(rt; told.fault() == "", "{taken} and {given}");
-            assert!(rt; told.status == status, "{taken} and {given}");
+            sure_of(&rt, told.is(text, "", status), taken, given, 0);
         }
     }
 }
@@ -228,10 +236,8 @@ fn reads_fail(rt: HostRuntime) {
         for n in first..=last {
             let reader = Faulty::new(MIXED.as_bytes(), piece, n, ErrorKind::Other);
             let told = run_over(alloc, reader, sound_sink(alloc), sound_sink(alloc));
-            assert!(rt; told.text() == text, "{piece} at {n}");
-            assert!(rt; told.fault() == "fault 90\n", "{piece} at {n}");
-            assert!(rt; told.status == 1, "{piece} at {n}");
-            assert!(rt; told.reads == n, "{piece}");
+            sure_of(&rt, told.is(text, "fault 90\n", 1), piece, 4096, n);
+            sure_of(&rt, told.reads == n, piece, 4096, n);
         }
     }
 }
@@ -259,10 +265,8 @@ fn writes_fail(rt: HostRuntime) {
             let reader = Faulty::new(MIXED.as_bytes(), taken, 0, ErrorKind::Other);
             let writer = Faulty::new(Sink::new(alloc), given, n, ErrorKind::Other);
             let told = run_over(alloc, reader, writer, sound_sink(alloc));
-            assert!(rt; told.text() == text, "{taken} and {given} at {n}");
-            assert!(rt; told.fault() == "fault 91\n", "{taken} and {given} at {n}");
-            assert!(rt; told.status == 1, "{taken} and {given} at {n}");
-            assert!(rt; told.writes == n, "{taken} and {given}");
+            sure_of(&rt, told.is(text, "fault 91\n", 1), taken, given, n);
+            sure_of(&rt, told.writes == n, taken, given, n);
         }
     }
 }
@@ -275,9 +279,7 @@ fn calls_are_interrupted(rt: HostRuntime) {
         let reader = Faulty::new(MIXED.as_bytes(), 1, n, ErrorKind::Interrupted);
         let writer = Faulty::new(Sink::new(alloc), 1, n, ErrorKind::Interrupted);
         let told = run_over(alloc, reader, writer, sound_sink(alloc));
-        assert!(rt; told.text() == MIXED_TEXT, "at {n}");
-        assert!(rt; told.fault() == "", "at {n}");
-        assert!(rt; told.status == 1, "at {n}");
+        sure!(&rt; told.is(MIXED_TEXT, "", 1), n);
     }
 }
 
@@ -296,55 +298,70 @@ fn turns_are_used_up(rt: HostRuntime) {
             } else {
                 Ok(lines)
             };
-            assert!(rt; answer == want, "with {given}");
-            assert!(rt; turns == 0, "with {given}");
+            sure!(&rt; answer == want, given);
+            sure!(&rt; turns == 0, given);
         }
     }
-    assert!(rt; Fault::Turns.number() == 93);
+    sure!(&rt; Fault::Turns.number() == 93);
+}
+
+/// Whether this is the text of 700 refused lines.
+fn is_of_many(text: &str) -> bool {
+    text.lines().count() == 700
+        && text.starts_with("line 1 refused 95\nline 2 refused 95\n")
+        && text.ends_with("line 699 refused 95\nline 700 refused 95\n")
 }
 
 /// A run of some thousand calls ends as a short one does: 700 refused lines, each of which takes two reads and, once its
 /// newline is read, a write and a flush.
 #[test]
-fn a_run_makes_many_calls(rt: HostRuntime) -> Result<(), Fail> {
+fn a_run_makes_many_calls(rt: HostRuntime) {
     let alloc = rt.alloc();
-    let input = "0\n".repeat(alloc, 700)?;
+    let input = "0\n".repeat(alloc, 700).expect(&rt, "memory");
     let reader = Faulty::new(input.as_bytes(), 1, 0, ErrorKind::Other);
     let told = run_over(alloc, reader, sound_sink(alloc), sound_sink(alloc));
-    assert!(rt; told.reads == 1401);
-    assert!(rt; told.writes == 1400);
-    assert!(rt; told.text().lines().count() == 700);
-    assert!(rt;
-        told.text()
-            .starts_with("line 1 refused 95\nline 2 refused 95\n")
-    );
-    assert!(rt;
-        told.text()
-            .ends_with("line 699 refused 95\nline 700 refused 95\n")
-    );
-    assert!(rt; told.fault() == "");
-    assert!(rt; told.status == 1);
-    Ok(())
+    sure!(&rt; told.reads == 1401);
+    sure!(&rt; told.writes == 1400);
+    sure!(&rt; is_of_many(told.text()));
+    sure!(&rt; told.fault() == "");
+    sure!(&rt; told.status == 1);
+}
+
+/// A run whose reader's call number `k` fails.
+fn read_fails(rt: &impl Abort, alloc: Global, k: u64, text: &str, fault: &str) {
+    let mut reader = CountRead::new(FailAt::new(MIXED.as_bytes(), k));
+    let mut writer = CountWrite::new(Sink::new(alloc));
+    let mut errors = CountWrite::new(Sink::new(alloc));
+    let answer = run_frames(alloc, &mut reader, &mut writer, &mut errors);
+    sure!(rt; answer == 1, k);
+    sure!(rt; reader.faults() == u64::from(k < 3), k);
+    sure!(rt; writer.into_inner().text() == text, k);
+    sure!(rt; errors.into_inner().text() == fault, k);
+}
+
+/// A run whose writer's call number `k` fails.
+fn write_fails(rt: &impl Abort, alloc: Global, k: u64, text: &str, fault: &str) {
+    let mut reader = CountRead::new(MIXED.as_bytes());
+    let mut writer = CountWrite::new(FailAt::new(Sink::new(alloc), k));
+    let mut errors = CountWrite::new(Sink::new(alloc));
+    let answer = run_frames(alloc, &mut reader, &mut writer, &mut errors);
+    sure!(rt; answer == 1, k);
+    sure!(rt; writer.faults() == u64::from(k < 7), k);
+    sure!(rt; writer.tally().calls == k.min(6), k);
+    sure!(rt; writer.into_inner().into_inner().text() == text, k);
+    sure!(rt; errors.into_inner().text() == fault, k);
 }
 
 /// One call of the reader fails, and then one of the writer, in turn, until a run meets no failure: the fault is told by its
 /// number, and what was flushed before stands.
 #[test]
 fn each_call_fails_in_turn(rt: HostRuntime) {
-    let alloc = rt.alloc();
-    for (k, text, fault, status) in [
-        (1, "", "fault 90\n", 1),
-        (2, TWO_LINES, "fault 90\n", 1),
-        (3, MIXED_TEXT, "", 1),
+    for (k, text, fault) in [
+        (1, "", "fault 90\n"),
+        (2, TWO_LINES, "fault 90\n"),
+        (3, MIXED_TEXT, ""),
     ] {
-        let mut reader = CountRead::new(FailAt::new(MIXED.as_bytes(), k));
-        let mut writer = CountWrite::new(Sink::new(alloc));
-        let mut errors = CountWrite::new(Sink::new(alloc));
-        let answer = run_frames(alloc, &mut reader, &mut writer, &mut errors);
-        assert!(rt; answer == status, "at {k}");
-        assert!(rt; reader.faults() == u64::from(k < 3), "at {k}");
-        assert!(rt; writer.into_inner().text() == text, "at {k}");
-        assert!(rt; errors.into_inner().text() == fault, "at {k}");
+        read_fails(&rt, rt.alloc(), k, text, fault);
     }
     for (k, text, fault) in [
         (1, "", "fault 91\n"),
@@ -355,15 +372,7 @@ fn each_call_fails_in_turn(rt: HostRuntime) {
         (6, THREE_LINES, "fault 91\n"),
         (7, MIXED_TEXT, ""),
     ] {
-        let mut reader = CountRead::new(MIXED.as_bytes());
-        let mut writer = CountWrite::new(FailAt::new(Sink::new(alloc), k));
-        let mut errors = CountWrite::new(Sink::new(alloc));
-        let answer = run_frames(alloc, &mut reader, &mut writer, &mut errors);
-        assert!(rt; answer == 1, "at {k}");
-        assert!(rt; writer.faults() == u64::from(k < 7), "at {k}");
-        assert!(rt; writer.tally().calls == k.min(6), "at {k}");
-        assert!(rt; writer.into_inner().into_inner().text() == text, "at {k}");
-        assert!(rt; errors.into_inner().text() == fault, "at {k}");
+        write_fails(&rt, rt.alloc(), k, text, fault);
     }
 }
 
@@ -375,9 +384,7 @@ fn the_telling_fails(rt: HostRuntime) {
         let reader = Faulty::new(STORED.as_bytes(), 1, 1, ErrorKind::Other);
         let errors = Faulty::new(Sink::new(alloc), 5, n, ErrorKind::Other);
         let told = run_over(alloc, reader, sound_sink(alloc), errors);
-        assert!(rt; told.status == 1, "at {n}");
-        assert!(rt; told.errors.unflushed() == waiting, "at {n}");
-        assert!(rt; told.fault() == "", "at {n}");
-        assert!(rt; told.text() == "", "at {n}");
+        sure!(&rt; told.is("", "", 1), n);
+        sure!(&rt; told.errors.unflushed() == waiting, n);
     }
 }

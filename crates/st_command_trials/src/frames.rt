@@ -1,7 +1,8 @@
 //! What the command `frames` answers. The expected texts follow from the README's table and from RFC 0029, section 5.
 
 use crate::devices::answer_to;
-use std::test::Fail;
+use std::alloc::{AllocError, Global};
+use std::process::Abort;
 
 /// "cd" at 2 of stream 1, and "jk" at 0: with ends of both kinds, digits of both cases, empty lines and no last newline.
 const ENDS: &str = "\r\n010C010101000101140701010102026364\r\n\n\
@@ -50,20 +51,27 @@ const ANSWERED: [(&str, &str); 20] = [
     ("010c0101010001011406014101000161\n", "line 1 refused 63\n"),
 ];
 
+/// Whether this is written for an input, and no fault told: the status is 1 where it tells of a refused line.
+fn is_answered(alloc: Global, input: &str, text: &str) -> bool {
+    let status = u8::from(text.contains("refused"));
+    answer_to(alloc, alloc, input).is(text, "", status)
+}
+
 #[test]
 fn lines_are_answered(rt: HostRuntime) {
     for (input, text) in ANSWERED {
-        let told = answer_to(rt.alloc(), rt.alloc(), input);
-        assert!(rt; told.text() == text, "{input}");
-        assert!(rt; told.fault() == "", "{input}");
-        let status = u8::from(text.contains("refused"));
-        assert!(rt; told.status == status, "{input}");
+        sure!(&rt; is_answered(rt.alloc(), input, text), of input);
     }
+}
+
+/// The line of a packet of one frame.
+fn line_of(rt: &impl Abort, alloc: Global, frame: &str) -> String {
+    format!(in alloc; "{FRONT}{frame}\n").expect(rt, "memory")
 }
 
 /// What a packet of one frame makes, where it is the only line.
 #[test]
-fn one_frame_is_answered(rt: HostRuntime) -> Result<(), Fail> {
+fn one_frame_is_answered(rt: HostRuntime) {
     let rows: [(&str, &str); 10] = [
         // "ab" at 0 of stream 2, and nothing at 0 of it.
         ("140701020100026162", "stream 2 2 6162\n"),
@@ -80,15 +88,10 @@ fn one_frame_is_answered(rt: HostRuntime) -> Result<(), Fail> {
         // Stream 0 is told before the offset.
         ("140d010008ffffffffffffffff0161", "line 1 refused 63\n"),
     ];
-    let alloc = rt.alloc();
     for (frame, text) in rows {
-        let input = format!(in alloc; "{FRONT}{frame}\n")?;
-        let told = answer_to(alloc, alloc, &input);
-        assert!(rt; told.text() == text, "{frame}");
-        let status = u8::from(text.contains("refused"));
-        assert!(rt; told.status == status, "{frame}");
+        let input = line_of(&rt, rt.alloc(), frame);
+        sure!(&rt; is_answered(rt.alloc(), &input, text), of frame);
     }
-    Ok(())
 }
 
 /// A frame of each known type but StreamData, and one of an unknown type, with the fields of RFC 0029, section 5.3.
@@ -106,29 +109,35 @@ const OTHERS: [&str; 11] = [
     "990161",
 ];
 
-/// Only StreamData names a stream: a packet of each other frame is taken and prints nothing, also around StreamData.
-#[test]
-fn other_frames_are_ignored(rt: HostRuntime) -> Result<(), Fail> {
-    let alloc = rt.alloc();
-    let mut input = String::new(alloc);
+/// A line for each of them.
+fn write_apart(input: &mut String) -> Result<(), AllocError> {
     for frame in OTHERS {
         input.push_str(FRONT)?;
         input.push_str(frame)?;
         input.push('\n')?;
     }
-    let told = answer_to(alloc, alloc, &input);
-    assert!(rt; told.text() == "");
-    assert!(rt; told.status == 0);
-
-    let mut together = "010c01010100010c".to_string(alloc)?;
-    for frame in OTHERS {
-        together.push_str(frame)?;
-    }
-    together.push_str("14070103010002686f\n")?;
-    let told = answer_to(alloc, alloc, &together);
-    assert!(rt; told.text() == "stream 3 2 686f\n");
-    assert!(rt; told.status == 0);
     Ok(())
+}
+
+/// A line with all of them, and StreamData behind.
+fn write_together(input: &mut String) -> Result<(), AllocError> {
+    input.push_str("010c01010100010c")?;
+    for frame in OTHERS {
+        input.push_str(frame)?;
+    }
+    input.push_str("14070103010002686f\n")
+}
+
+/// Only StreamData names a stream: a packet of each other frame is taken and prints nothing, also around StreamData.
+#[test]
+fn other_frames_are_ignored(rt: HostRuntime) {
+    let alloc = rt.alloc();
+    let mut input = String::new(alloc);
+    sure!(&rt; write_apart(&mut input).is_ok());
+    sure!(&rt; is_answered(alloc, &input, ""));
+    let mut together = String::new(alloc);
+    sure!(&rt; write_together(&mut together).is_ok());
+    sure!(&rt; is_answered(alloc, &together, "stream 3 2 686f\n"));
 }
 
 /// A line whose second frame is refused leaves the first without effect.
@@ -137,46 +146,63 @@ fn a_line_is_whole_or_not_at_all(rt: HostRuntime) {
     let input = "010c010101000101140701010100026162\n\
 010c010101000102140701010102026364140701410100026364\n\
 010c010101000102140701050100026162140701000100026162\n";
-    let told = answer_to(rt.alloc(), rt.alloc(), input);
     let text = "line 2 refused 63\nline 3 refused 63\nstream 1 2 6162\n";
-    assert!(rt; told.text() == text);
-    assert!(rt; told.status == 1);
+    sure!(&rt; is_answered(rt.alloc(), input, text));
 }
 
 /// All 64 streams, the last one named first.
+fn write_streams(rt: &impl Abort, alloc: Global, input: &mut String) {
+    for n in 1..=64u64 {
+        let stream = 65 - n;
+        let line = format!(in alloc; "{FRONT}140601{stream:02x}01000161\n").expect(rt, "memory");
+        sure!(rt; input.push_str(&line).is_ok());
+    }
+}
+
+fn write_lines(rt: &impl Abort, alloc: Global, text: &mut String) {
+    for n in 1..=64u64 {
+        let line = format!(in alloc; "stream {n} 1 61\n").expect(rt, "memory");
+        sure!(rt; text.push_str(&line).is_ok());
+    }
+}
+
 #[test]
-fn streams_come_in_rising_order(rt: HostRuntime) -> Result<(), Fail> {
+fn streams_come_in_rising_order(rt: HostRuntime) {
     let alloc = rt.alloc();
     let mut input = String::new(alloc);
     let mut text = String::new(alloc);
-    for n in 1..=64u64 {
-        let stream = 65 - n;
-        input.push_str(&format!(in alloc; "{FRONT}140601{stream:02x}01000161\n")?)?;
-        text.push_str(&format!(in alloc; "stream {n} 1 61\n")?)?;
-    }
-    let told = answer_to(alloc, alloc, &input);
-    assert!(rt; told.text() == text.as_str());
-    assert!(rt; told.status == 0);
-    Ok(())
+    write_streams(&rt, alloc, &mut input);
+    write_lines(&rt, alloc, &mut text);
+    sure!(&rt; is_answered(alloc, &input, &text));
+}
+
+/// The line of these digits in StreamData, and what is written for it.
+fn longest(rt: &impl Abort, alloc: Global, run: &str) -> (String, String) {
+    let input = format!(in alloc; "{FRONT}14827fd701010100827fd0{run}\n").expect(rt, "memory");
+    let text = format!(in alloc; "stream 1 32720 {run}\n").expect(rt, "memory");
+    (input, text)
 }
 
 /// The longest packet: StreamData of 32,720 bytes 61 at 0 of stream 1, in 65,478 digits.
 #[test]
-fn the_longest_line_is_taken(rt: HostRuntime) -> Result<(), Fail> {
+fn the_longest_line_is_taken(rt: HostRuntime) {
     let alloc = rt.alloc();
-    let run = "61".repeat(alloc, 32_720)?;
-    let input = format!(in alloc; "{FRONT}14827fd701010100827fd0{run}\n")?;
-    assert!(rt; input.len() == 65_479);
-    let told = answer_to(alloc, alloc, &input);
-    let text = format!(in alloc; "stream 1 32720 {run}\n")?;
-    assert!(rt; told.text() == text.as_str());
-    assert!(rt; told.status == 0);
-    Ok(())
+    let run = "61".repeat(alloc, 32_720).expect(&rt, "memory");
+    let (input, text) = longest(&rt, alloc, &run);
+    sure!(&rt; input.len() == 65_479);
+    sure!(&rt; is_answered(alloc, &input, &text));
+}
+
+/// So many zeros, and something at their end.
+fn zeros(rt: &impl Abort, alloc: Global, count: usize, end: &str) -> String {
+    let mut input = "0".repeat(alloc, count).expect(rt, "memory");
+    sure!(rt; input.push_str(end).is_ok());
+    input
 }
 
 /// Long lines of zeros, with something at their end.
 #[test]
-fn long_lines_are_refused(rt: HostRuntime) -> Result<(), Fail> {
+fn long_lines_are_refused(rt: HostRuntime) {
     let rows: [(usize, &str, &str); 8] = [
         (65_478, "\n", "line 1 refused 20\n"),
         (65_478, "\r\n", "line 1 refused 20\n"),
@@ -191,13 +217,8 @@ fn long_lines_are_refused(rt: HostRuntime) -> Result<(), Fail> {
             "line 1 refused 95\nline 2 refused 20\n",
         ),
     ];
-    let alloc = rt.alloc();
     for (count, end, text) in rows {
-        let mut input = "0".repeat(alloc, count)?;
-        input.push_str(end)?;
-        let told = answer_to(alloc, alloc, &input);
-        assert!(rt; told.text() == text, "{count}");
-        assert!(rt; told.status == 1, "{count}");
+        let input = zeros(&rt, rt.alloc(), count, end);
+        sure!(&rt; is_answered(rt.alloc(), &input, text), count as u64);
     }
-    Ok(())
 }

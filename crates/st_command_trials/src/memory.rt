@@ -1,10 +1,9 @@
 //! The command `frames` under refused memory.
 
-use crate::devices::{STORED, STORED_TEXT, answer_to};
+use crate::devices::{STORED, STORED_TEXT, Told, answer_to};
 use refusing::Refusing;
 use std::alloc::Global;
 use std::process::Abort;
-use std::test::Fail;
 
 /// Three packets of two frames each: "cd" at 2 and "ef" at 4 of stream 1; "ab" at 0 of it and "xy" at 0 of stream 2; "gh"
 /// at 6 of stream 1 and "zz" at 2 of stream 2.
@@ -38,46 +37,67 @@ const PAIRS_REFUSED: [(&str, &str); 5] = [
 
 const PAIRS_TEXT: &str = "stream 1 8 6162636465666768\nstream 2 4 78797a7a\n";
 
-/// Each request of a run is refused in turn. All of these answers come and no other, and with memory back the same input
-/// is answered.
+/// Notes that this is what was written and told: whether it is one of those that may come.
+fn note(came: &mut [bool], refused: &[(&str, &str)], told: &Told) -> bool {
+    let mut is_one = false;
+    for k in 0..refused.len() {
+        if told.is(refused[k].0, refused[k].1, 1)
+            && let Some(seen) = came.get_mut(k)
+        {
+            *seen = true;
+            is_one = true;
+        }
+    }
+    is_one
+}
+
+/// A run whose request `n` is refused: whether there was one. One of these answers comes then, and with memory back the same
+/// input is answered.
+fn meets(
+    rt: &impl Abort,
+    heap: &Refusing<Global>,
+    alloc: Global,
+    inputs: (&str, &str),
+    refused: &[(&str, &str)],
+    came: &mut [bool],
+    n: u64,
+) -> bool {
+    let (input, text) = inputs;
+    heap.refuse_only(n);
+    let told = answer_to(heap, alloc, input);
+    let met = heap.has_refused();
+    heap.refuse_none();
+    if met {
+        sure!(rt; note(came, refused, &told), n);
+        sure!(rt; answer_to(heap, alloc, input).is(text, "", 0), n);
+    } else {
+        sure!(rt; told.is(text, "", 0));
+    }
+    met
+}
+
+/// Each request of a run is refused in turn. All of these answers come and no other.
 fn refuses_each_request(
     rt: &impl Abort,
     alloc: Global,
-    input: &str,
-    text: &str,
+    inputs: (&str, &str),
     refused: &[(&str, &str)],
-) -> Result<(), Fail> {
+) {
     let heap: Refusing<Global> = Refusing::new(alloc);
-    let mut came = vec![in alloc; false; refused.len()]?;
+    let mut came = vec![in alloc; false; refused.len()].expect(rt, "memory");
     for n in 1..1000u64 {
-        heap.refuse_only(n);
-        let told = answer_to(&heap, alloc, input);
-        let met = heap.has_refused();
-        heap.refuse_none();
-        if !met {
-            assert!(rt; (told.text(), told.fault()) == (text, ""));
-            assert!(rt; told.status == 0);
-            assert!(rt; came.iter().all(|c| *c));
-            return Ok(());
+        if !meets(rt, &heap, alloc, inputs, refused, &mut came, n) {
+            sure!(rt; came.iter().all(|c| *c));
+            return;
         }
-        let answer = (told.text(), told.fault());
-        for k in 0..refused.len() {
-            came[k] = came[k] || answer == refused[k];
-        }
-        assert!(rt; refused.contains(&answer), "at {n}: {answer:?}");
-        assert!(rt; told.status == 1, "at {n}");
-        let again = answer_to(&heap, alloc, input);
-        assert!(rt; again.text() == text, "at {n}");
-        assert!(rt; again.status == 0, "at {n}");
     }
     panic!(rt; "no run met no refusal");
 }
 
 #[test]
-fn one_request_is_refused(rt: HostRuntime) -> Result<(), Fail> {
-    refuses_each_request(&rt, rt.alloc(), STORED, STORED_TEXT, &STORED_REFUSED)?;
-    refuses_each_request(&rt, rt.alloc(), PAIRS, PAIRS_TEXT, &PAIRS_REFUSED)?;
-    Ok(())
+fn one_request_is_refused(rt: HostRuntime) {
+    refuses_each_request(&rt, rt.alloc(), (STORED, STORED_TEXT), &STORED_REFUSED);
+    refuses_each_request(&rt, rt.alloc(), (PAIRS, PAIRS_TEXT), &PAIRS_REFUSED);
 }
 
 /// How many requests a run over this input makes.
@@ -94,7 +114,7 @@ fn a_frame_alone_copies_nothing(rt: HostRuntime) {
     let alloc = rt.alloc();
     let named = "010c010101000101140701010100026162\n010c010201000101140701010103026364\n";
     let unknown = "010c010101000101140701010100026162\n010c010201000101990701010103026364\n";
-    assert!(rt; requests_for(alloc, named) == requests_for(alloc, unknown));
+    sure!(&rt; requests_for(alloc, named) == requests_for(alloc, unknown));
 }
 
 /// From a request on there is no memory: the fault is told, which asks for none.
@@ -105,29 +125,25 @@ fn each_later_request_is_refused(rt: HostRuntime) {
         heap.refuse_from(n);
         let told = answer_to(&heap, rt.alloc(), STORED);
         if !heap.has_refused() {
-            assert!(rt; told.text() == STORED_TEXT);
-            assert!(rt; told.status == 0);
-            assert!(rt; 9 < n);
+            sure!(&rt; told.is(STORED_TEXT, "", 0));
+            sure!(&rt; 9 < n);
             return;
         }
-        assert!(rt; told.fault() == "fault 99\n", "at {n}");
-        assert!(rt; told.text() == "", "at {n}");
-        assert!(rt; told.status == 1, "at {n}");
+        sure!(&rt; told.is("", "fault 99\n", 1), n);
     }
     panic!(rt; "no run met no refusal");
 }
 
 /// A line that is too long is not kept whole: one of a million digits asks as often as one that is just too long.
 #[test]
-fn a_longer_line_asks_for_no_more(rt: HostRuntime) -> Result<(), Fail> {
+fn a_longer_line_asks_for_no_more(rt: HostRuntime) {
     let alloc = rt.alloc();
     let heap: Refusing<Global> = Refusing::new(alloc);
-    let line = "0".repeat(alloc, 65_480)?;
-    let longer = "0".repeat(alloc, 1_000_000)?;
-    assert!(rt; answer_to(&heap, alloc, &line).text() == "line 1 refused 24\n");
+    let line = "0".repeat(alloc, 65_480).expect(&rt, "memory");
+    let longer = "0".repeat(alloc, 1_000_000).expect(&rt, "memory");
+    sure!(&rt; answer_to(&heap, alloc, &line).text() == "line 1 refused 24\n");
     let asked = heap.asked();
     heap.refuse_none();
-    assert!(rt; answer_to(&heap, alloc, &longer).text() == "line 1 refused 24\n");
-    assert!(rt; heap.asked() == asked);
-    Ok(())
+    sure!(&rt; answer_to(&heap, alloc, &longer).text() == "line 1 refused 24\n");
+    sure!(&rt; heap.asked() == asked);
 }

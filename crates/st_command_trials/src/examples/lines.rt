@@ -16,6 +16,6 @@ fn frames<A: Allocator + Copy>(alloc: A, lines: &[u8]) -> (u8, Vec<u8, A>) {
 #[test]
 fn lines_are_answered(rt: HostRuntime) {
     let (status, out) = frames(rt.alloc(), b"010c010201000101140701010100026162\n");
-    assert!(rt; status == 0);
-    assert!(rt; out.as_slice() == b"stream 1 2 6162\n".as_slice());
+    sure!(&rt; status == 0);
+    sure!(&rt; out.as_slice() == b"stream 1 2 6162\n".as_slice());
 }
