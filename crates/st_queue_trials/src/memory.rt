@@ -13,11 +13,10 @@ use st_queues::{
 use std::alloc::{Allocator, Global};
 use std::marker::Brand;
 use std::process::Abort;
-use std::test::Fail;
 
 /// Each request of new rings is refused in turn.
 #[test]
-fn rings_are_refused_where_memory_is(rt: HostRuntime) -> Result<(), Fail> {
+fn rings_are_refused_where_memory_is(rt: HostRuntime) {
     let heap: Refusing<Global> = Refusing::new(rt.alloc());
     for n in 1..3000u64 {
         heap.refuse_only(n);
@@ -26,13 +25,13 @@ fn rings_are_refused_where_memory_is(rt: HostRuntime) -> Result<(), Fail> {
         heap.refuse_none();
         match answer {
             Err(error) => {
-                assert!(rt; met, "at {n}");
-                assert!(rt; error.number() == 69);
+                sure!(&rt; met, n);
+                sure!(&rt; error.number() == 69);
             }
             Ok(_) => {
-                assert!(rt; !met, "at {n}");
-                assert!(rt; 1152 < n);
-                return Ok(());
+                sure!(&rt; !met, n);
+                sure!(&rt; 1152 < n);
+                return;
             }
         }
     }
@@ -89,11 +88,11 @@ fn write_three<N: HubName<A>, A: Allocator + Copy>(
 )
     ensures { writer.new.ring ≡ writer.old.ring }
 {
-    assert!(rt; writer.try_write(one).is_ok());
-    assert!(rt; writer.try_write(two).is_ok());
-    assert!(rt; writer.try_end().is_ok());
-    assert!(rt; matches!(writer.try_end(), Err(QueueError::Ended(_))));
-    assert!(rt; writer.free() == 0);
+    sure!(rt; writer.try_write(one).is_ok());
+    sure!(rt; writer.try_write(two).is_ok());
+    sure!(rt; writer.try_end().is_ok());
+    sure!(rt; matches!(writer.try_end(), Err(QueueError::Ended(_))));
+    sure!(rt; writer.free() == 0);
 }
 
 /// Two chunks and an end go through the first ring.
@@ -109,9 +108,9 @@ fn use_write_ring<N: HubName<A>, A: Allocator + Copy>(
     let mut lane = first_write::<N, A>(writes).expect(rt, "there is a ring");
     let mut writer = lane.hand_out::<N>(alloc).expect(rt, "nobody took it");
     write_three(rt, &mut writer, one, two);
-    assert!(rt; lane.end.meet(&mut writer) == 3);
+    sure!(rt; lane.end.meet(&mut writer) == 3);
     drop_one(&mut lane.end);
-    assert!(rt; lane.end.meet(&mut writer) == 2);
+    sure!(rt; lane.end.meet(&mut writer) == 2);
 }
 
 /// An abort goes through the first reader's ring.
@@ -121,8 +120,8 @@ fn use_read_ring<N: HubName<A>, A: Allocator + Copy>(rt: &impl Abort, reads: Vec
     let mut lane = first_read::<N, A>(reads).expect(rt, "there is a ring");
     let mut reader = lane.hand_out::<N>().expect(rt, "nobody took it");
     put_abort(&mut lane.end);
-    assert!(rt; lane.end.meet(&mut reader) == 1);
-    assert!(rt; matches!(reader.try_read(), Got::Aborted(3)));
+    sure!(rt; lane.end.meet(&mut reader) == 1);
+    sure!(rt; matches!(reader.try_read(), Got::Aborted(3)));
 }
 
 /// Totals are published, and a stop is asked for.
@@ -142,9 +141,9 @@ fn use_gauge<N: HubName<A>, A: Allocator + Copy>(
     };
     gauge.publish(hub_seat, totals);
     let mut other = gauge.split(seat);
-    assert!(rt; gauge.seen(&mut other) == totals);
+    sure!(rt; gauge.seen(&mut other) == totals);
     gauge.ask_stop(seat);
-    assert!(rt; gauge.stopped(&mut other));
+    sure!(rt; gauge.stopped(&mut other));
 }
 
 /// Two chunks and an end go through the first ring, an abort through the first reader's, and totals are published.
@@ -174,13 +173,12 @@ fn use_all<N: HubName<A>, A: Allocator + Copy, R: Abort>(
 
 /// Once rings are made no call asks for memory.
 #[test]
-fn rings_that_are_made_ask_for_no_memory(rt: HostRuntime) -> Result<(), Fail> {
+fn rings_that_are_made_ask_for_no_memory(rt: HostRuntime) {
     let heap: Refusing<Global> = Refusing::new(rt.alloc());
-    let rings = Rings::new(&heap)?;
-    let one = Vec::from_slice(&heap, b"ab")?;
-    let two = Vec::from_elem(&heap, 7, 4096)?;
+    let rings = Rings::new(&heap).expect(&rt, "memory");
+    let one = Vec::from_slice(&heap, b"ab").expect(&rt, "memory");
+    let two = Vec::from_elem(&heap, 7, 4096).expect(&rt, "memory");
     heap.refuse_from(1);
     use_all::<Brand, &Refusing<Global>, HostRuntime>(&rt, &heap, rings, one, two);
-    assert!(rt; heap.asked() == 0);
-    Ok(())
+    sure!(&rt; heap.asked() == 0);
 }

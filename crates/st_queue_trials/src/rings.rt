@@ -8,10 +8,9 @@ use st_queues::{
     Delivery, Gauge, GaugeSeat, Got, HubName, HubSeat, Item, Named, QueueError, ReadEnd, ReadLane,
     Rings, StreamReader, StreamWriter, Totals, WriteEnd, WriteLane,
 };
-use std::alloc::{AllocError, Global};
+use std::alloc::Global;
 use std::marker::Brand;
 use std::process::Abort;
-use std::test::Fail;
 
 /// The ring of this number.
 fn write_lane<N: HubName<Global>>(
@@ -101,19 +100,14 @@ fn open_write<N: HubName<Global>>(
 }
 
 /// A fresh ring takes 64 chunks of one byte.
-fn fill<N: HubName<Global>>(
-    rt: &impl Abort,
-    alloc: Global,
-    writer: &mut StreamWriter<N, Global>,
-) -> Result<(), AllocError>
+fn fill<N: HubName<Global>>(rt: &impl Abort, alloc: Global, writer: &mut StreamWriter<N, Global>)
     ensures { writer.new.ring ≡ writer.old.ring }
 {
-    assert!(rt; writer.free() == 64);
+    sure!(rt; writer.free() == 64);
     for _ in 0..64u8 {
-        assert!(rt; writer.try_write(Vec::from_slice(alloc, b"a")?).is_ok());
+        sure!(rt; writer.try_write(Vec::from_slice(alloc, b"a").expect(rt, "memory")).is_ok());
     }
-    assert!(rt; writer.free() == 0);
-    Ok(())
+    sure!(rt; writer.free() == 0);
 }
 
 /// A full ring refuses a chunk, an end, and an empty chunk.
@@ -121,47 +115,39 @@ fn refuse_more<N: HubName<Global>>(
     rt: &impl Abort,
     alloc: Global,
     writer: &mut StreamWriter<N, Global>,
-) -> Result<(), AllocError>
+)
     ensures { writer.new.ring ≡ writer.old.ring }
 {
-    let last = Vec::from_slice(alloc, b"z")?;
-    assert!(rt; is_refused(writer.try_write(last), 70, b"z"));
-    assert!(rt; is_refused(writer.try_end(), 70, b""));
-    assert!(rt; is_refused(writer.try_write(Vec::new(alloc)), 71, b""));
-    Ok(())
+    let last = Vec::from_slice(alloc, b"z").expect(rt, "memory");
+    sure!(rt; is_refused(writer.try_write(last), 70, b"z"));
+    sure!(rt; is_refused(writer.try_end(), 70, b""));
+    sure!(rt; is_refused(writer.try_write(Vec::new(alloc)), 71, b""));
 }
 
 /// A ring is filled, and has room for one where one was taken.
-fn fill_ring<N: HubName<Global>, R: Abort>(
-    rt: &R,
-    alloc: Global,
-    rings: Rings<Global>,
-    ring: usize,
-) -> Result<(), AllocError>
+fn fill_ring<N: HubName<Global>, R: Abort>(rt: &R, alloc: Global, rings: Rings<Global>, ring: usize)
     requires gauge { rings.gauge ≡ N.gauge }
     requires writes { (k : ℕ) → N.write_ring k ≡ ring_at rings.writes k }
     requires reads { (k : ℕ) → N.read_ring k ≡ ring_at rings.reads k }
 {
     let (mut lane, mut writer) = open_write::<N>(rt, alloc, rings, ring);
-    assert!(rt; writer.ring() == ring);
-    fill(rt, alloc, &mut writer)?;
-    refuse_more(rt, alloc, &mut writer)?;
-    assert!(rt; lane.end.meet(&mut writer) == 64);
-    assert!(rt; next_is(&mut lane.end, Some(b"a".as_slice())));
-    assert!(rt; writer.free() == 1);
-    assert!(rt; writer.try_end().is_ok());
-    assert!(rt; lane.end.meet(&mut writer) == 64);
-    assert!(rt; lane.hand_out::<N>(alloc).is_none());
-    Ok(())
+    sure!(rt; writer.ring() == ring);
+    fill(rt, alloc, &mut writer);
+    refuse_more(rt, alloc, &mut writer);
+    sure!(rt; lane.end.meet(&mut writer) == 64);
+    sure!(rt; next_is(&mut lane.end, Some(b"a".as_slice())));
+    sure!(rt; writer.free() == 1);
+    sure!(rt; writer.try_end().is_ok());
+    sure!(rt; lane.end.meet(&mut writer) == 64);
+    sure!(rt; lane.hand_out::<N>(alloc).is_none());
 }
 
 #[test]
-fn a_fresh_ring_takes_64_items(rt: HostRuntime) -> Result<(), Fail> {
+fn a_fresh_ring_takes_64_items(rt: HostRuntime) {
     for ring in [0, 7, 511] {
-        let rings = Rings::new(rt.alloc())?;
-        fill_ring::<Brand, HostRuntime>(&rt, rt.alloc(), rings, ring)?;
+        let rings = Rings::new(rt.alloc()).expect(&rt, "memory");
+        fill_ring::<Brand, HostRuntime>(&rt, rt.alloc(), rings, ring);
     }
-    Ok(())
 }
 
 /// A chunk of 4,097 bytes, of which none is taken, is given back.
@@ -169,12 +155,11 @@ fn refuse_long<N: HubName<Global>>(
     rt: &impl Abort,
     alloc: Global,
     writer: &mut StreamWriter<N, Global>,
-) -> Result<(), AllocError>
+)
     ensures { writer.new.ring ≡ writer.old.ring }
 {
-    let back = writer.try_write(Vec::from_elem(alloc, 7, 4097)?);
-    assert!(rt; matches!(&back, Err(QueueError::BadLength(chunk)) if chunk.len() == 4097));
-    Ok(())
+    let back = writer.try_write(Vec::from_elem(alloc, 7, 4097).expect(rt, "memory"));
+    sure!(rt; matches!(&back, Err(QueueError::BadLength(chunk)) if chunk.len() == 4097));
 }
 
 /// Two chunks and an end are written, beside chunks that have a bad length.
@@ -182,15 +167,14 @@ fn write_three<N: HubName<Global>>(
     rt: &impl Abort,
     alloc: Global,
     writer: &mut StreamWriter<N, Global>,
-) -> Result<(), AllocError>
+)
     ensures { writer.new.ring ≡ writer.old.ring }
 {
-    assert!(rt; writer.try_write(Vec::from_slice(alloc, b"ab")?).is_ok());
-    assert!(rt; writer.try_write(Vec::from_elem(alloc, 7, 4096)?).is_ok());
-    assert!(rt; is_refused(writer.try_write(Vec::new(alloc)), 71, b""));
-    refuse_long(rt, alloc, writer)?;
-    assert!(rt; writer.try_end().is_ok());
-    Ok(())
+    sure!(rt; writer.try_write(Vec::from_slice(alloc, b"ab").expect(rt, "memory")).is_ok());
+    sure!(rt; writer.try_write(Vec::from_elem(alloc, 7, 4096).expect(rt, "memory")).is_ok());
+    sure!(rt; is_refused(writer.try_write(Vec::new(alloc)), 71, b""));
+    refuse_long(rt, alloc, writer);
+    sure!(rt; writer.try_end().is_ok());
 }
 
 /// After its end a writer writes nothing.
@@ -198,71 +182,58 @@ fn refuse_late<N: HubName<Global>>(
     rt: &impl Abort,
     alloc: Global,
     writer: &mut StreamWriter<N, Global>,
-) -> Result<(), AllocError>
+)
     ensures { writer.new.ring ≡ writer.old.ring }
 {
-    assert!(rt; writer.free() == 0);
-    let late = Vec::from_slice(alloc, b"late")?;
-    assert!(rt; is_refused(writer.try_write(late), 72, b"late"));
-    assert!(rt; is_refused(writer.try_write(Vec::new(alloc)), 71, b""));
-    assert!(rt; is_refused(writer.try_end(), 72, b""));
-    Ok(())
+    sure!(rt; writer.free() == 0);
+    let late = Vec::from_slice(alloc, b"late").expect(rt, "memory");
+    sure!(rt; is_refused(writer.try_write(late), 72, b"late"));
+    sure!(rt; is_refused(writer.try_write(Vec::new(alloc)), 71, b""));
+    sure!(rt; is_refused(writer.try_end(), 72, b""));
 }
 
 /// The two chunks and the end come out.
 fn take_three(rt: &impl Abort, end: &mut WriteEnd<Global>)
     ensures { SameWriteEnd end.old end.new }
 {
-    assert!(rt; next_is(end, Some(b"ab".as_slice())));
-    assert!(rt; next_is(end, Some([7; 4096].as_slice())));
-    assert!(rt; next_is(end, None));
-    assert!(rt; !end.look());
+    sure!(rt; next_is(end, Some(b"ab".as_slice())));
+    sure!(rt; next_is(end, Some([7; 4096].as_slice())));
+    sure!(rt; next_is(end, None));
+    sure!(rt; !end.look());
 }
 
-fn write<N: HubName<Global>, R: Abort>(
-    rt: &R,
-    alloc: Global,
-    rings: Rings<Global>,
-) -> Result<(), AllocError>
+fn write<N: HubName<Global>, R: Abort>(rt: &R, alloc: Global, rings: Rings<Global>)
     requires gauge { rings.gauge ≡ N.gauge }
     requires writes { (k : ℕ) → N.write_ring k ≡ ring_at rings.writes k }
     requires reads { (k : ℕ) → N.read_ring k ≡ ring_at rings.reads k }
 {
     let (mut lane, mut writer) = open_write::<N>(rt, alloc, rings, 15);
-    write_three(rt, alloc, &mut writer)?;
-    refuse_late(rt, alloc, &mut writer)?;
-    assert!(rt; lane.end.meet(&mut writer) == 3);
+    write_three(rt, alloc, &mut writer);
+    refuse_late(rt, alloc, &mut writer);
+    sure!(rt; lane.end.meet(&mut writer) == 3);
     take_three(rt, &mut lane.end);
-    assert!(rt; lane.end.meet(&mut writer) == 0);
-    Ok(())
+    sure!(rt; lane.end.meet(&mut writer) == 0);
 }
 
 #[test]
-fn what_is_written_comes_out_in_order(rt: HostRuntime) -> Result<(), Fail> {
-    let rings = Rings::new(rt.alloc())?;
-    write::<Brand, HostRuntime>(&rt, rt.alloc(), rings)?;
-    Ok(())
+fn what_is_written_comes_out_in_order(rt: HostRuntime) {
+    let rings = Rings::new(rt.alloc()).expect(&rt, "memory");
+    write::<Brand, HostRuntime>(&rt, rt.alloc(), rings);
 }
 
 /// Two bytes are put into a ring of 64, and then an end or an abort.
-fn put_two(
-    rt: &impl Abort,
-    alloc: Global,
-    end: &mut ReadEnd<Global>,
-    abort: Option<u64>,
-) -> Result<(), AllocError>
+fn put_two(rt: &impl Abort, alloc: Global, end: &mut ReadEnd<Global>, abort: Option<u64>)
     ensures { SameReadEnd end.old end.new }
 {
-    assert!(rt; end.room() == 64);
-    let bytes = Vec::from_slice(alloc, b"ab")?;
-    assert!(rt; put(end, Delivery::Bytes(bytes)));
+    sure!(rt; end.room() == 64);
+    let bytes = Vec::from_slice(alloc, b"ab").expect(rt, "memory");
+    sure!(rt; put(end, Delivery::Bytes(bytes)));
     let last = match abort {
         None => Delivery::End,
         Some(code) => Delivery::Aborted(code),
     };
-    assert!(rt; put(end, last));
-    assert!(rt; end.room() == 62);
-    Ok(())
+    sure!(rt; put(end, last));
+    sure!(rt; end.room() == 62);
 }
 
 /// Whether this is the end, or the abort with that code.
@@ -282,9 +253,9 @@ fn read_two<N: HubName<Global>>(
     ensures { reader.new.stream ≡ reader.old.stream }
 {
     let got = reader.try_read();
-    assert!(rt; matches!(&got, Got::Bytes(bytes) if bytes.as_slice() == b"ab".as_slice()));
+    sure!(rt; matches!(&got, Got::Bytes(bytes) if bytes.as_slice() == b"ab".as_slice()));
     for _ in 0..3u8 {
-        assert!(rt; is_last(reader.try_read(), abort));
+        sure!(rt; is_last(reader.try_read(), abort));
     }
 }
 
@@ -294,7 +265,7 @@ fn read<N: HubName<Global>, R: Abort>(
     rings: Rings<Global>,
     stream: usize,
     abort: Option<u64>,
-) -> Result<(), AllocError>
+)
     requires gauge { rings.gauge ≡ N.gauge }
     requires writes { (k : ℕ) → N.write_ring k ≡ ring_at rings.writes k }
     requires reads { (k : ℕ) → N.read_ring k ≡ ring_at rings.reads k }
@@ -302,24 +273,22 @@ fn read<N: HubName<Global>, R: Abort>(
     let Named { reads, .. } = rings.named::<N>();
     let mut lane = read_lane::<N>(reads, stream).expect(rt, "the ring is there");
     let mut reader = lane.hand_out::<N>().expect(rt, "nobody took it");
-    assert!(rt; reader.stream() == stream);
-    assert!(rt; matches!(reader.try_read(), Got::Nothing));
-    put_two(rt, alloc, &mut lane.end, abort)?;
-    assert!(rt; lane.end.meet(&mut reader) == 2);
+    sure!(rt; reader.stream() == stream);
+    sure!(rt; matches!(reader.try_read(), Got::Nothing));
+    put_two(rt, alloc, &mut lane.end, abort);
+    sure!(rt; lane.end.meet(&mut reader) == 2);
     read_two(rt, &mut reader, abort);
-    assert!(rt; lane.end.meet(&mut reader) == 0);
-    assert!(rt; lane.end.room() == 64);
-    assert!(rt; lane.hand_out::<N>().is_none());
-    Ok(())
+    sure!(rt; lane.end.meet(&mut reader) == 0);
+    sure!(rt; lane.end.room() == 64);
+    sure!(rt; lane.hand_out::<N>().is_none());
 }
 
 #[test]
-fn what_is_delivered_is_read(rt: HostRuntime) -> Result<(), Fail> {
+fn what_is_delivered_is_read(rt: HostRuntime) {
     for (stream, abort) in [(0, None), (63, Some(2))] {
-        let rings = Rings::new(rt.alloc())?;
-        read::<Brand, HostRuntime>(&rt, rt.alloc(), rings, stream, abort)?;
+        let rings = Rings::new(rt.alloc()).expect(&rt, "memory");
+        read::<Brand, HostRuntime>(&rt, rt.alloc(), rings, stream, abort);
     }
-    Ok(())
 }
 
 fn totals(accepted: u64, delivered: u64, credited: u64, paid: u64) -> Totals
@@ -344,11 +313,11 @@ fn publish_twice<N: HubName<Global>>(
 )
     requires { hub_seat.old ≡ no_totals }
 {
-    assert!(rt; gauge.seen(seat) == totals(0, 0, 0, 0));
+    sure!(rt; gauge.seen(seat) == totals(0, 0, 0, 0));
     hub_gauge.publish(hub_seat, totals(4, 3, 2, 1));
-    assert!(rt; gauge.seen(seat) == totals(4, 3, 2, 1));
+    sure!(rt; gauge.seen(seat) == totals(4, 3, 2, 1));
     hub_gauge.publish(hub_seat, totals(4, 30, 2, 10));
-    assert!(rt; hub_gauge.seen(other) == totals(4, 30, 2, 10));
+    sure!(rt; hub_gauge.seen(other) == totals(4, 30, 2, 10));
 }
 
 /// One seat asks to stop, and each sees it.
@@ -359,11 +328,11 @@ fn stop_once<N: HubName<Global>>(
     seat: &mut GaugeSeat<N, Global>,
     other: &mut GaugeSeat<N, Global>,
 ) {
-    assert!(rt; !gauge.stopped(seat));
+    sure!(rt; !gauge.stopped(seat));
     gauge.ask_stop(other);
-    assert!(rt; gauge.stopped(other));
-    assert!(rt; hub_gauge.stopped(seat));
-    assert!(rt; gauge.stopped(&mut gauge.split(seat)));
+    sure!(rt; gauge.stopped(other));
+    sure!(rt; hub_gauge.stopped(seat));
+    sure!(rt; gauge.stopped(&mut gauge.split(seat)));
 }
 
 fn watch<N: HubName<Global>, R: Abort>(rt: &R, rings: Rings<Global>)
@@ -381,12 +350,11 @@ fn watch<N: HubName<Global>, R: Abort>(rt: &R, rings: Rings<Global>)
     let mut other = gauge.split(&mut seat);
     publish_twice(rt, &hub_gauge, &gauge, &mut hub_seat, &mut seat, &mut other);
     stop_once(rt, &hub_gauge, &gauge, &mut seat, &mut other);
-    assert!(rt; gauge.seen(&mut seat) == totals(4, 30, 2, 10));
+    sure!(rt; gauge.seen(&mut seat) == totals(4, 30, 2, 10));
 }
 
 #[test]
-fn a_gauge_tells_what_was_published(rt: HostRuntime) -> Result<(), Fail> {
-    let rings = Rings::new(rt.alloc())?;
+fn a_gauge_tells_what_was_published(rt: HostRuntime) {
+    let rings = Rings::new(rt.alloc()).expect(&rt, "memory");
     watch::<Brand, HostRuntime>(&rt, rings);
-    Ok(())
 }
