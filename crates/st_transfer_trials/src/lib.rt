@@ -17,4 +17,6 @@ mod pairs;
 #[cfg(test)]
 mod sides;
 #[cfg(test)]
+mod totals;
+#[cfg(test)]
 mod transfers;

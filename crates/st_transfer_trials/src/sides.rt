@@ -9,8 +9,8 @@ use st_hop::{Account, HopError, HopState, Route};
 use st_oer::{Counting, Rate, is_address};
 use st_sender::EndConfig;
 use st_transfer::{
-    Neighbour, RuntimeClock, TransferError, client_end, connector_on, receive_on, send_on,
-    server_end,
+    AccountTotals, Neighbour, RuntimeClock, TransferError, client_end, connector_on, receive_on,
+    send_on, server_end,
 };
 use std::alloc::Global;
 use std::io;
@@ -79,7 +79,7 @@ impl Read for Counter {
 }
 
 /// The totals of an end that did nothing.
-fn nothing_yet() -> Totals {
+pub(crate) fn nothing_yet() -> Totals {
     Totals {
         accepted: 0,
         delivered: 0,
@@ -95,6 +95,21 @@ pub(crate) fn receive<L: OpenListener + Drop, W: Write, R: std::time::Clock>(
     listener: L,
     writer: &mut Counting<W>,
     terms: Terms,
+) -> Result<u64, TransferError>
+where
+    L::Stream: Read + Write + OpenStream,
+{
+    receive_telling(rt, alloc, listener, writer, terms, &mut nothing_yet())
+}
+
+/// The same, and the totals of its end.
+pub(crate) fn receive_telling<L: OpenListener + Drop, W: Write, R: std::time::Clock>(
+    rt: &R,
+    alloc: Global,
+    listener: L,
+    writer: &mut Counting<W>,
+    terms: Terms,
+    totals: &mut Totals,
 ) -> Result<u64, TransferError>
 where
     L::Stream: Read + Write + OpenStream,
@@ -122,7 +137,7 @@ where
                 writer,
                 clock,
                 connections,
-                &mut nothing_yet(),
+                totals,
             )
         }
         Err(error) => Err(TransferError::End(error)),
@@ -156,6 +171,20 @@ pub(crate) fn connect<
     next: &str,
     rate: Rate,
 ) -> Result<Owed, TransferError> {
+    connect_telling(rt, alloc, listener, next, rate, &mut [])
+}
+
+/// The same, and what it has of each account that has a place here.
+pub(crate) fn connect_telling<
+    R: Net<Listener = TcpListener, Stream = TcpStream> + Threads + Wait + std::time::Clock + Sync,
+>(
+    rt: &R,
+    alloc: Global,
+    listener: TcpListener,
+    next: &str,
+    rate: Rate,
+    accounts: &mut [AccountTotals],
+) -> Result<Owed, TransferError> {
     let Ok(hop) = new_hop(alloc, rate) else {
         return Err(TransferError::NoMemory);
     };
@@ -170,7 +199,7 @@ pub(crate) fn connect<
         1_000,
         4,
         TURNS,
-        &mut [],
+        accounts,
     )
 }
 
@@ -203,6 +232,23 @@ pub(crate) fn send<
     random: G,
     terms: Terms,
 ) -> Result<u64, TransferError> {
+    send_telling(rt, alloc, next, input, random, terms, &mut nothing_yet())
+}
+
+/// The same, and the totals of its end.
+pub(crate) fn send_telling<
+    I: Read + Drop,
+    G: Read + Drop + Send,
+    R: Net<Listener = TcpListener, Stream = TcpStream> + Threads + Wait + std::time::Clock + Sync,
+>(
+    rt: &R,
+    alloc: Global,
+    next: &str,
+    input: I,
+    random: G,
+    terms: Terms,
+    totals: &mut Totals,
+) -> Result<u64, TransferError> {
     let Terms {
         money,
         least,
@@ -217,15 +263,6 @@ pub(crate) fn send<
     };
     let end = sender(alloc, least)?;
     send_on(
-        rt,
-        alloc,
-        end,
-        neighbour,
-        input,
-        random,
-        money,
-        workers,
-        turns,
-        &mut nothing_yet(),
+        rt, alloc, end, neighbour, input, random, money, workers, turns, totals,
     )
 }

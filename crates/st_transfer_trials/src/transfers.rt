@@ -39,7 +39,7 @@ pub(crate) fn listen<R: Net<Listener = TcpListener, Stream = TcpStream> + Abort>
 }
 
 /// Opens and drops connections until one is refused.
-fn use_up<R: Net>(rt: &R, host: &str) {
+pub(crate) fn use_up<R: Net>(rt: &R, host: &str) {
     for _ in 0..100_000u32 {
         if TcpStream::connect(rt, host).is_err() {
             return;
