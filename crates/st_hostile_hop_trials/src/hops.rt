@@ -7,12 +7,11 @@ use crate::plain_hop::{
 use hostile::answers::{ANSWERS, FULFILL, reject_bytes};
 use hostile::prepares::{EXPIRIES, EXPIRY, Offer, PREPARE, PREPARES, prepare_bytes};
 use hostile::{EDGES, FIRST, INPUTS, Met, Numbers, STEPS, changed_at, ilp};
-use st_hop::{Account, HopError, HopState, Outcome, Route, Ticket, Verdict};
+use st_hop::{Account, HopState, Outcome, Route, Ticket, Verdict};
 use st_ilp::Moment;
 use st_oer::Rate;
 use std::alloc::{AllocError, Global};
 use std::process::Abort;
-use std::test::Fail;
 
 /// The hop's address.
 const OWN: &[u8] = b"example.c";
@@ -86,18 +85,19 @@ enum Did {
 }
 
 fn arrived(
+    rt: &impl Abort,
     hop: &mut HopState<Global>,
     from: usize,
     bytes: &[u8],
     now: Moment,
-) -> Result<Did, HopError> {
-    match hop.arrive(from, bytes, now)? {
+) -> Did {
+    match hop.arrive(from, bytes, now).expect(rt, "it arrives") {
         Verdict::Forward {
             ticket,
             account,
             bytes,
-        } => Ok(Did::Went(Waiting { ticket }, account, bytes)),
-        Verdict::Answer(bytes) => Ok(Did::Answered(bytes)),
+        } => Did::Went(Waiting { ticket }, account, bytes),
+        Verdict::Answer(bytes) => Did::Answered(bytes),
     }
 }
 
@@ -121,12 +121,12 @@ fn route(plain: &PlainRoute) -> Route<'static> {
 }
 
 /// The hop `example.c` with those accounts and routes.
-fn new_hop(alloc: Global) -> Result<HopState<Global>, HopError> {
+fn new_hop(rt: &impl Abort, alloc: Global) -> HopState<Global> {
     let [a, b, c] = new_accounts();
     let accounts = [terms(&a), terms(&b), terms(&c)];
     let [p, q, r, s, t] = &ROUTES;
     let routes = [route(p), route(q), route(r), route(s), route(t)];
-    HopState::new(alloc, "example.c", &accounts, &routes)
+    HopState::new(alloc, "example.c", &accounts, &routes).expect(rt, "memory")
 }
 
 /// Whether the hop has these counts.
@@ -219,16 +219,17 @@ fn moment(rt: &impl Abort, numbers: &mut Numbers) -> Moment {
 
 /// Whether the bytes that go on are those that came, at the rate and a second earlier.
 fn goes_on(
+    rt: &impl Abort,
     alloc: Global,
     came: &[u8],
     went: &[u8],
     ticket: PlainTicket<'_>,
-) -> Result<bool, AllocError> {
+) -> bool {
     let contents = ilp::prepare_contents(went).unwrap_or(&[]);
     let expiry = contents.get(8..25).unwrap_or(&[]);
-    let want = onward(alloc, came, ticket, expiry)?;
+    let want = onward(alloc, came, ticket, expiry).expect(rt, "memory");
     let earlier = ticket.prepare.expiry.saturating_sub(1_000);
-    Ok(went == want.as_slice() && ilp::expiry(expiry) == Some(earlier))
+    went == want.as_slice() && ilp::expiry(expiry) == Some(earlier)
 }
 
 /// The answer to a ticket, or nothing where it is not open.
@@ -284,6 +285,22 @@ fn note_verdict(met: &mut Met, want: PlainVerdict<'_>) {
 /// All that a hop answers without want of memory: F01, F02, F05, F08, R00, R02, T01, T04, and what passes and goes on.
 const ANSWERS_OF_A_HOP: [u64; 11] = [1, 2, 5, 8, 100, 102, 201, 204, 300, 301, 302];
 
+/// The bytes that go back where a ticket is settled with what came.
+fn text_due(
+    rt: &impl Abort,
+    alloc: Global,
+    came: Option<&[u8]>,
+    want: PlainOutcome,
+) -> Option<Vec<u8>> {
+    match (want, came) {
+        (PlainOutcome::Rejects(code), _) => {
+            Some(reject_bytes(alloc, &code, OWN, &[]).expect(rt, "memory"))
+        }
+        (_, Some(bytes)) => Some(bytes.to_vec(alloc).expect(rt, "memory")),
+        (_, None) => None,
+    }
+}
+
 /// Whether settling a ticket does what the rules say. One in eight is left open.
 fn settles(
     rt: &impl Abort,
@@ -294,24 +311,31 @@ fn settles(
     waiting: Waiting,
     ticket: PlainTicket<'_>,
     met: &mut Met,
-) -> Result<bool, AllocError> {
+) -> bool {
     if numbers.below(8) == 0 {
-        return Ok(true);
+        return true;
     }
     let now = moment(rt, numbers);
-    let came = answer(alloc, numbers)?;
-    let copy = match &came {
-        Some(bytes) => Some(bytes.to_vec(alloc)?),
-        None => None,
-    };
-    let want = outcome(ticket, copy.as_deref(), now.ms());
+    let came = answer(alloc, numbers).expect(rt, "memory");
+    let want = outcome(ticket, came.as_deref(), now.ms());
     note_outcome(met, want);
     release(accounts, ticket, matches!(want, PlainOutcome::Books));
-    let text = match want {
-        PlainOutcome::Rejects(code) => Some(reject_bytes(alloc, &code, OWN, &[])?),
-        PlainOutcome::Passes | PlainOutcome::Books => copy,
-    };
-    Ok(settled(hop, waiting, came, now) == text)
+    let text = text_due(rt, alloc, came.as_deref(), want);
+    settled(hop, waiting, came, now) == text
+}
+
+/// Whether an answer is the hop's Reject of this code.
+fn is_reject(rt: &impl Abort, alloc: Global, answer: &[u8], code: &[u8; 3], data: &[u8]) -> bool {
+    let want = reject_bytes(alloc, code, OWN, data).expect(rt, "memory");
+    answer == want.as_slice()
+}
+
+/// Whether it is the one of an amount that is too large.
+fn is_too_large(rt: &impl Abort, alloc: Global, answer: &[u8], amount: u64, most: u64) -> bool {
+    let mut data = Vec::from_slice(alloc, &amount.to_be_bytes()).expect(rt, "memory");
+    data.extend_from_slice(&most.to_be_bytes())
+        .expect(rt, "memory");
+    is_reject(rt, alloc, answer, b"F08", &data)
 }
 
 /// Whether what the hop did with bytes from this account is what the rules say.
@@ -323,85 +347,89 @@ fn does(
     numbers: &mut Numbers,
     met: &mut Met,
     bytes: &[u8],
-) -> Result<bool, Fail> {
+) -> bool {
     let from = numbers.place(3).min(2);
     let now = moment(rt, numbers);
     let want = verdict(accounts, &ROUTES, from, bytes, now.ms());
     note_verdict(met, want);
-    match (arrived(hop, from, bytes, now)?, want) {
+    match (arrived(rt, hop, from, bytes, now), want) {
         (Did::Answered(answer), PlainVerdict::Rejects(code)) => {
-            Ok(answer.as_slice() == reject_bytes(alloc, &code, OWN, &[])?.as_slice())
+            is_reject(rt, alloc, &answer, &code, &[])
         }
         (Did::Answered(answer), PlainVerdict::TooLarge(amount, most)) => {
-            let mut data = Vec::from_slice(alloc, &amount.to_be_bytes())?;
-            data.extend_from_slice(&most.to_be_bytes())?;
-            Ok(answer.as_slice() == reject_bytes(alloc, b"F08", OWN, &data)?.as_slice())
+            is_too_large(rt, alloc, &answer, amount, most)
         }
         (Did::Went(waiting, to, went), PlainVerdict::Forwards(ticket)) => {
             hold(accounts, ticket);
             let agrees = to == ticket.to
-                && goes_on(alloc, bytes, &went, ticket)?
+                && goes_on(rt, alloc, bytes, &went, ticket)
                 && has_counts(hop, accounts);
-            Ok(agrees && settles(rt, alloc, hop, accounts, numbers, waiting, ticket, met)?)
+            agrees && settles(rt, alloc, hop, accounts, numbers, waiting, ticket, met)
         }
-        _ => Ok(false),
+        _ => false,
+    }
+}
+
+/// Ends the test where a hop did with these bytes, at this step of this seed, what the rules do not say.
+fn sure_at(rt: &impl Abort, holds: bool, seed: u64, step: u64, bytes: &[u8]) {
+    assert!(rt; holds, "seed {seed}, step {step}, {bytes:?}");
+}
+
+/// All steps of a seed, at one hop.
+fn runs(rt: &impl Abort, alloc: Global, seed: u64, met: &mut Met) {
+    let mut numbers = Numbers::of(seed);
+    let mut hop = new_hop(rt, alloc);
+    let mut accounts = new_accounts();
+    for step in 0..STEPS {
+        let bytes = arrival(alloc, &mut numbers).expect(rt, "memory");
+        let agrees = does(
+            rt,
+            alloc,
+            &mut hop,
+            &mut accounts,
+            &mut numbers,
+            met,
+            &bytes,
+        );
+        sure_at(rt, agrees, seed, step, &bytes);
+        sure_at(rt, has_counts(&hop, &accounts), seed, step, &bytes);
     }
 }
 
 #[test]
-fn a_hop_does_what_the_rules_say(rt: HostRuntime) -> Result<(), Fail> {
-    let alloc = rt.alloc();
+fn a_hop_does_what_the_rules_say(rt: HostRuntime) {
     let mut met = Met::new();
     for seed in FIRST..FIRST + INPUTS / STEPS {
-        let mut numbers = Numbers::of(seed);
-        let mut hop = new_hop(alloc)?;
-        let mut accounts = new_accounts();
-        for step in 0..STEPS {
-            let bytes = arrival(alloc, &mut numbers)?;
-            assert!(rt;
-                does(
-                    &rt,
-                    alloc,
-                    &mut hop,
-                    &mut accounts,
-                    &mut numbers,
-                    &mut met,
-                    &bytes
-                )?,
-                "seed {seed}, step {step}, {bytes:?}"
-            );
-            assert!(rt; has_counts(&hop, &accounts), "seed {seed}, step {step}");
-        }
+        runs(&rt, rt.alloc(), seed, &mut met);
     }
-    assert_eq!(rt; met.lacks(&ANSWERS_OF_A_HOP), None);
-    Ok(())
+    assert!(rt; met.lacks(&ANSWERS_OF_A_HOP) == None);
+}
+
+/// Whether a new hop does with bytes what the rules say, and has the counts that they say.
+fn a_new_hop_does(rt: &impl Abort, alloc: Global, bytes: &[u8], seed: u64) -> bool {
+    let mut hop = new_hop(rt, alloc);
+    let mut accounts = new_accounts();
+    let mut numbers = Numbers::of(seed);
+    let mut met = Met::new();
+    does(
+        rt,
+        alloc,
+        &mut hop,
+        &mut accounts,
+        &mut numbers,
+        &mut met,
+        bytes,
+    ) && has_counts(&hop, &accounts)
 }
 
 /// Every front of a worked Prepare, and each with one byte replaced.
 #[test]
-fn every_prefix_and_change_of_a_prepare(rt: HostRuntime) -> Result<(), Fail> {
-    let alloc = rt.alloc();
+fn every_prefix_and_change_of_a_prepare(rt: HostRuntime) {
     for at in 0..=PREPARE.len() {
         for byte in EDGES {
-            let bytes = changed_at(alloc, PREPARE, at, byte)?;
-            let mut hop = new_hop(alloc)?;
-            let mut accounts = new_accounts();
-            let mut numbers = Numbers::of(at as u64);
-            let mut met = Met::new();
-            assert!(rt;
-                does(
-                    &rt,
-                    alloc,
-                    &mut hop,
-                    &mut accounts,
-                    &mut numbers,
-                    &mut met,
-                    &bytes
-                )?,
-                "{byte:?} at {at}"
-            );
-            assert!(rt; has_counts(&hop, &accounts), "{byte:?} at {at}");
+            let bytes = changed_at(rt.alloc(), PREPARE, at, byte).expect(&rt, "memory");
+            let agrees = a_new_hop_does(&rt, rt.alloc(), &bytes, at as u64);
+            assert!(rt; agrees, "{byte:?} at {at}");
         }
     }
-    Ok(())
 }
