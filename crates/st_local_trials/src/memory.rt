@@ -16,9 +16,9 @@ fn meets(rt: &impl Abort, alloc: Global, heap: &Refusing<Global>, n: u64) -> boo
     let met = heap.has_refused();
     heap.refuse_none();
     if met {
-        assert!(rt; told.is_fault(b"fault 99\n"), "at {n}");
+        sure!(rt; told.is_fault(b"fault 99\n"), n);
     } else {
-        assert!(rt; told.is_done(TEXT), "at {n}");
+        sure!(rt; told.is_done(TEXT), n);
     }
     met
 }
@@ -29,7 +29,7 @@ fn each_request_is_refused(rt: HostRuntime) {
     let heap: Refusing<Global> = Refusing::new(alloc);
     for n in 1..10_000_u64 {
         if !meets(&rt, alloc, &heap, n) {
-            assert!(rt; 20 < n, "it asks for more");
+            sure!(&rt; 20 < n);
             return;
         }
     }
