@@ -23,20 +23,20 @@ fn a_table_says_its_accounts(rt: HostRuntime) {
         assert!(rt; false, "three accounts");
         return;
     };
-    assert!(rt;
+    sure!(&rt;
         alice.terms.limit == 1_000 && alice.terms.max_packet == 100 && alice.token == "alice"
     );
-    assert!(rt;
+    sure!(&rt;
         alice
             .neighbour
             .is_some_and(|n| n.host == "127.0.0.1:7771" && n.token == "hub")
     );
-    assert!(rt;
+    sure!(&rt;
         bob.terms.limit == 9_223_372_036_854_775_807
             && bob.token == "bob"
             && bob.neighbour.is_none()
     );
-    assert!(rt; carol.terms.max_packet == 5 && carol.neighbour.is_some());
+    sure!(&rt; carol.terms.max_packet == 5 && carol.neighbour.is_some());
 }
 
 #[test]
@@ -49,10 +49,10 @@ fn a_table_says_its_routes(rt: HostRuntime) {
         assert!(rt; false, "three routes");
         return;
     };
-    assert!(rt; first.prefix == "example" && first.account == 0 && first.rate.num() == 1);
-    assert!(rt; second.prefix == "example.bob" && second.account == 1);
-    assert!(rt; second.rate.num() == 3 && second.rate.den() == 2);
-    assert!(rt; third.account == 2 && third.rate.den() == 1);
+    sure!(&rt; first.prefix == "example" && first.account == 0 && first.rate.num() == 1);
+    sure!(&rt; second.prefix == "example.bob" && second.account == 1);
+    sure!(&rt; second.rate.num() == 3 && second.rate.den() == 2);
+    sure!(&rt; third.account == 2 && third.rate.den() == 1);
 }
 
 /// Lines that are neither an account nor a route.
@@ -78,10 +78,7 @@ fn bad_lines_are_refused(rt: HostRuntime) {
         "\troute example 0",
         "route example 0\r",
     ] {
-        assert!(rt;
-            matches!(read_table(rt.alloc(), line), Err(TableError::BadLine)),
-            "{line}"
-        );
+        sure!(&rt; matches!(read_table(rt.alloc(), line), Err(TableError::BadLine)), of line);
     }
 }
 
@@ -94,18 +91,12 @@ fn each_request_is_refused(rt: HostRuntime) {
     for n in 1..=64u64 {
         heap.refuse_only(n);
         match read_table(&heap, TABLE) {
-            Ok(table) => assert!(rt;
-                table.accounts.len() == 3 && table.routes.len() == 3,
-                "at {n}"
-            ),
+            Ok(table) => sure!(&rt; table.accounts.len() == 3 && table.routes.len() == 3, n),
             Err(error) => {
-                assert!(rt;
-                    error == TableError::NoMemory && heap.has_refused(),
-                    "at {n}"
-                );
+                sure!(&rt; error == TableError::NoMemory && heap.has_refused(), n);
                 last = n;
             }
         }
     }
-    assert!(rt; 0 < last && !heap.has_refused());
+    sure!(&rt; 0 < last && !heap.has_refused());
 }

@@ -97,13 +97,13 @@ fn send_says_its_settings(rt: HostRuntime) {
         assert!(rt; false, "the words are taken");
         return;
     };
-    assert!(rt; settings.to == "127.0.0.1:7770" && settings.token == "t1");
-    assert!(rt; settings.address == "example.alice" && settings.peer == "example.bob");
-    assert!(rt; settings.money == 0 && settings.workers == 4 && settings.random == "/dev/urandom");
-    assert!(rt; settings.least.num() == 1 && settings.least.den() == 1);
-    assert!(rt; settings.totals.is_none());
+    sure!(&rt; settings.to == "127.0.0.1:7770" && settings.token == "t1");
+    sure!(&rt; settings.address == "example.alice" && settings.peer == "example.bob");
+    sure!(&rt; settings.money == 0 && settings.workers == 4 && settings.random == "/dev/urandom");
+    sure!(&rt; settings.least.num() == 1 && settings.least.den() == 1);
+    sure!(&rt; settings.totals.is_none());
     for (i, byte) in settings.secret.as_slice().iter().enumerate() {
-        assert!(rt; usize::from(*byte) == i);
+        sure!(&rt; usize::from(*byte) == i);
     }
 }
 
@@ -113,10 +113,10 @@ fn receive_says_its_settings(rt: HostRuntime) {
         assert!(rt; false, "the words are taken");
         return;
     };
-    assert!(rt; settings.listen == "[::1]:65535" && settings.token == "t2");
-    assert!(rt; settings.address == "example.bob" && settings.peer == "example.alice");
-    assert!(rt; settings.receive_max == 9_223_372_036_854_775_807 && settings.secret[31] == 31);
-    assert!(rt; settings.totals.is_none());
+    sure!(&rt; settings.listen == "[::1]:65535" && settings.token == "t2");
+    sure!(&rt; settings.address == "example.bob" && settings.peer == "example.alice");
+    sure!(&rt; settings.receive_max == 9_223_372_036_854_775_807 && settings.secret[31] == 31);
+    sure!(&rt; settings.totals.is_none());
 }
 
 #[test]
@@ -125,9 +125,9 @@ fn connector_says_its_settings(rt: HostRuntime) {
         assert!(rt; false, "the words are taken");
         return;
     };
-    assert!(rt; settings.listen == "localhost:0" && settings.own == "example.hub");
-    assert!(rt; settings.requests == 2_147_483_647 && settings.workers == 4);
-    assert!(rt; settings.totals.is_none());
+    sure!(&rt; settings.listen == "localhost:0" && settings.own == "example.hub");
+    sure!(&rt; settings.requests == 2_147_483_647 && settings.workers == 4);
+    sure!(&rt; settings.totals.is_none());
 }
 
 /// A file for totals is said as it is, an empty name too.
@@ -141,7 +141,7 @@ fn a_file_for_totals_is_said(rt: HostRuntime) {
             assert!(rt; false, "the words are taken");
             return;
         };
-        assert!(rt; settings.totals == Some(name));
+        sure!(&rt; settings.totals == Some(name));
     }
 }
 
@@ -152,20 +152,20 @@ fn local_says_its_settings(rt: HostRuntime) {
         assert!(rt; false, "the words are taken");
         return;
     };
-    assert!(rt; settings.hops == 8 && settings.lose == 3 && settings.streams == 1);
+    sure!(&rt; settings.hops == 8 && settings.lose == 3 && settings.streams == 1);
 }
 
 #[test]
 fn frames_is_asked_for(rt: HostRuntime) {
     let alone = ["ilpstream"];
     let named = ["ilpstream", "frames"];
-    assert!(rt;
+    sure!(&rt;
         matches!(
             read_words(rt.alloc(), alone.as_slice()),
             Ok(Request::Frames)
         )
     );
-    assert!(rt;
+    sure!(&rt;
         matches!(
             read_words(rt.alloc(), named.as_slice()),
             Ok(Request::Frames)
@@ -187,10 +187,10 @@ fn bad_texts_are_refused(rt: HostRuntime) {
         "h:-1",
         "h:1:x",
     ] {
-        assert!(rt; changed(alloc, 3, to) == 98, "{to}");
+        sure!(&rt; changed(alloc, 3, to) == 98, of to);
     }
     for token in ["", "a b", "é"] {
-        assert!(rt; changed(alloc, 5, token) == 98, "{token}");
+        sure!(&rt; changed(alloc, 5, token) == 98, of token);
     }
     for secret in [
         "",
@@ -198,18 +198,16 @@ fn bad_texts_are_refused(rt: HostRuntime) {
         &SECRET[..63],
         "0x0102030405060708090a0b0c0d0e0f101112131415161718191a1b1c1d1e1f",
     ] {
-        assert!(rt; changed(alloc, 7, secret) == 98, "{secret}");
+        sure!(&rt; changed(alloc, 7, secret) == 98, of secret);
     }
     for address in ["", "example.", ".a", "a..b", "a b", "a/b"] {
-        assert!(rt;
-            changed(alloc, 9, address) == 98 && changed(alloc, 11, address) == 98,
-            "{address}"
-        );
+        sure!(&rt; changed(alloc, 9, address) == 98, of address);
+        sure!(&rt; changed(alloc, 11, address) == 98, of address);
     }
     for least in ["3", "3:0", "0:1", "1:4294967296", "+1:1", "1:1:1", ""] {
-        assert!(rt; longer(alloc, "--least", least) == 98, "{least}");
+        sure!(&rt; longer(alloc, "--least", least) == 98, of least);
     }
-    assert!(rt; longer(alloc, "--money", "+5") == 98);
+    sure!(&rt; longer(alloc, "--money", "+5") == 98);
 }
 
 /// A number out of its range, and words that no command has, are clap's to refuse.
@@ -217,14 +215,14 @@ fn bad_texts_are_refused(rt: HostRuntime) {
 fn other_words_are_refused(rt: HostRuntime) {
     let alloc = rt.alloc();
     for money in ["9223372036854775808", "-1", "1.5", "", "five"] {
-        assert!(rt; longer(alloc, "--money", money) == 2, "{money}");
+        sure!(&rt; longer(alloc, "--money", money) == 2, of money);
     }
     for workers in ["0", "17"] {
-        assert!(rt; longer(alloc, "--workers", workers) == 2, "{workers}");
+        sure!(&rt; longer(alloc, "--workers", workers) == 2, of workers);
     }
-    assert!(rt; longer(alloc, "--workers", "16") == 0 && longer(alloc, "--least", "3:4") == 0);
-    assert!(rt; longer(alloc, "--to", "h:1") == 2 && longer(alloc, "--tokens", "t") == 2);
-    assert!(rt; changed(alloc, 1, "sent") == 2 && status_of(alloc, &SEND[..10]) == 2);
-    assert!(rt; status_of(alloc, &["ilpstream", "local", "--hops", "9"]) == 2);
-    assert!(rt; status_of(alloc, &["ilpstream", "send", "--help"]) == 2);
+    sure!(&rt; longer(alloc, "--workers", "16") == 0 && longer(alloc, "--least", "3:4") == 0);
+    sure!(&rt; longer(alloc, "--to", "h:1") == 2 && longer(alloc, "--tokens", "t") == 2);
+    sure!(&rt; changed(alloc, 1, "sent") == 2 && status_of(alloc, &SEND[..10]) == 2);
+    sure!(&rt; status_of(alloc, &["ilpstream", "local", "--hops", "9"]) == 2);
+    sure!(&rt; status_of(alloc, &["ilpstream", "send", "--help"]) == 2);
 }
