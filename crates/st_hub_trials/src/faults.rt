@@ -37,7 +37,7 @@ fn write<N: HubName<Global>>(
     bytes: &[u8],
 ) {
     let chunk = bytes.to_vec(alloc).expect(rt, "memory");
-    assert!(rt; writer.try_write(chunk).is_ok());
+    sure!(rt; writer.try_write(chunk).is_ok());
 }
 
 /// A turn after each piece of the input, and some more after its end.
@@ -61,7 +61,7 @@ fn carry<
         write(rt, alloc, writer, chunk);
         go_on(rt, hubs, seat, link, &mut ivs, reading);
     }
-    assert!(rt; writer.try_end().is_ok());
+    sure!(rt; writer.try_end().is_ok());
     for _ in 0..8u8 {
         go_on(rt, hubs, seat, link, &mut ivs, reading);
     }
@@ -126,12 +126,8 @@ impl<R: Wait + Abort + std::time::Clock> Trial<R> for FailsAt<'_> {
         let share = share_of(rt, &mut *hubs.far.lock(rt));
         let behind = HubLink::new(rt, &hubs.far, share, stopped_clock(rt));
         let mut link = FailLink::new(behind, self.k);
-        assert!(rt;
-            is_carried(rt, alloc, hubs, seat, &mut link, self.input),
-            "exchange {}",
-            self.k
-        );
-        assert!(rt; link.faults() == 1);
+        sure!(rt; is_carried(rt, alloc, hubs, seat, &mut link, self.input), self.k);
+        sure!(rt; link.faults() == 1);
     }
 }
 
@@ -211,8 +207,8 @@ impl<R: Wait + Abort + std::time::Clock> Trial<R> for LosesAnAnswer {
         offer(rt, hubs, 10);
         let share = share_of(rt, &mut *hubs.far.lock(rt));
         let share = send_losing(rt, hubs, seat, share);
-        assert!(rt; hubs.gauge.seen(seat).paid == 10);
-        assert!(rt; credited(rt, alloc, hubs, share) == 20);
+        sure!(rt; hubs.gauge.seen(seat).paid == 10);
+        sure!(rt; credited(rt, alloc, hubs, share) == 20);
     }
 }
 

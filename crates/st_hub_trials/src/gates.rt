@@ -114,7 +114,7 @@ fn both<
         || worker(rt, hubs, counts, seat, mine, 1),
         || worker(rt, hubs, counts, &mut other, theirs, 2),
     );
-    assert!(rt; (first, second) == (WorkEnd::Turns, WorkEnd::Turns));
+    sure!(rt; (first, second) == (WorkEnd::Turns, WorkEnd::Turns));
     (mine, theirs)
 }
 
@@ -127,8 +127,8 @@ fn credited_both<M: HubName<Global>>(
     theirs: CreditShare<M>,
 ) -> u64 {
     let mut shares = Vec::new(alloc);
-    assert!(rt; shares.push(mine).is_ok());
-    assert!(rt; shares.push(theirs).is_ok());
+    sure!(rt; shares.push(mine).is_ok());
+    sure!(rt; shares.push(theirs).is_ok());
     gathered(rt, hub, shares)
 }
 
@@ -145,8 +145,8 @@ pub(crate) fn two_workers<
     let counts = Counts::new();
     let (mine, theirs) = both(rt, hubs, &counts, seat, mine, theirs);
     let credited = credited_both(rt, alloc, &mut *hubs.far.lock(rt), mine, theirs);
-    assert!(rt; credited == 20);
-    assert!(rt; counts.in_vain.load(Ordering::SeqCst) == 0);
+    sure!(rt; credited == 20);
+    sure!(rt; counts.in_vain.load(Ordering::SeqCst) == 0);
 }
 
 /// One worker sends them alone.
@@ -165,9 +165,9 @@ impl<R: Wait + Abort + std::time::Clock> Trial<R> for OneWorker {
         let mine = share_of(rt, &mut *hubs.far.lock(rt));
         let counts = Counts::new();
         let (told, mine) = worker(rt, hubs, &counts, seat, mine, 1);
-        assert!(rt; told == WorkEnd::Turns);
-        assert!(rt; credited(rt, alloc, hubs, mine) == 20);
-        assert!(rt; counts.in_vain.load(Ordering::SeqCst) == LOOKS);
+        sure!(rt; told == WorkEnd::Turns);
+        sure!(rt; credited(rt, alloc, hubs, mine) == 20);
+        sure!(rt; counts.in_vain.load(Ordering::SeqCst) == LOOKS);
     }
 }
 

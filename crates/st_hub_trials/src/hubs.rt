@@ -85,13 +85,13 @@ pub(crate) fn share_of<N: HubName<A>, A: Allocator + Copy>(
 
 /// Pumps a hub that has the memory for it.
 pub(crate) fn pump<N: HubName<A>, A: Allocator + Copy>(rt: &impl Abort, hub: &mut HubState<N, A>) {
-    assert!(rt; hub.pump() == Ok(()));
+    sure!(rt; hub.pump() == Ok(()));
 }
 
 /// Offers so many units on a new stream: its number.
 fn offer_at<N: HubName<Global>>(rt: &impl Abort, hub: &mut HubState<N, Global>, amount: u64) -> u8 {
     let (stream, _writer) = open(rt, hub);
-    assert!(rt; hub.offer(stream, amount) == Ok(()));
+    sure!(rt; hub.offer(stream, amount) == Ok(()));
     stream
 }
 
@@ -103,7 +103,7 @@ pub(crate) fn offer<N: HubName<Global>, M: HubName<Global>, R: Wait + Abort>(
 ) {
     let stream = offer_at(rt, &mut *hubs.near.lock(rt), amount);
     let told = hubs.far.lock(rt).set_receive_max(stream, 100);
-    assert!(rt; told == Ok(()));
+    sure!(rt; told == Ok(()));
 }
 
 /// What a hub was credited, by all its shares.
@@ -126,7 +126,7 @@ pub(crate) fn credited<N: HubName<Global>, M: HubName<Global>, R: Wait + Abort>(
     share: CreditShare<M>,
 ) -> u64 {
     let mut shares = Vec::new(alloc);
-    assert!(rt; shares.push(share).is_ok());
+    sure!(rt; shares.push(share).is_ok());
     gathered(rt, &mut *hubs.far.lock(rt), shares)
 }
 

@@ -19,7 +19,7 @@ pub(crate) fn send_over<N: HubName<Global>, M: HubName<Global>, R: Wait + Abort 
     let mut link = HubLink::new(rt, &hubs.far, share, stopped_clock(rt));
     let mut ivs = Counting { first: 1, next: 0 };
     let told = work_on(rt, hubs, seat, &mut link, &mut ivs, turns);
-    assert!(rt; told == WorkEnd::Turns);
+    sure!(rt; told == WorkEnd::Turns);
     link.into_share()
 }
 
@@ -33,7 +33,7 @@ pub(crate) fn write_two<N: HubName<Global>>(
 ) {
     for chunk in [one, two] {
         let bytes = chunk.to_vec(alloc).expect(rt, "memory");
-        assert!(rt; writer.try_write(bytes).is_ok());
+        sure!(rt; writer.try_write(bytes).is_ok());
     }
 }
 
@@ -46,8 +46,8 @@ fn write_abcd<N: HubName<Global>>(
     let (stream, mut writer) = open(rt, hub);
     write_two(rt, alloc, &mut writer, b"ab", b"cd");
     pump(rt, hub);
-    assert!(rt; hub.meet_writer(&mut writer) == 0);
-    assert!(rt; hub.offer(stream, 10) == Ok(()));
+    sure!(rt; hub.meet_writer(&mut writer) == 0);
+    sure!(rt; hub.offer(stream, 10) == Ok(()));
     stream
 }
 
@@ -55,9 +55,9 @@ fn write_abcd<N: HubName<Global>>(
 fn read_abcd<M: HubName<Global>>(rt: &impl Abort, alloc: Global, hub: &mut HubState<M, Global>) {
     let mut reading = Reading::new(alloc);
     reading.go_on(rt, hub);
-    assert!(rt; reading.read.as_slice() == b"abcd".as_slice());
-    assert!(rt; !reading.is_over);
-    assert!(rt; hub.take_stream().is_none());
+    sure!(rt; reading.read.as_slice() == b"abcd".as_slice());
+    sure!(rt; !reading.is_over);
+    sure!(rt; hub.take_stream().is_none());
 }
 
 /// "ab" and "cd" are written at one hub, with 10 units offered, and read at the other.
@@ -73,13 +73,13 @@ impl<R: Wait + Abort + std::time::Clock> Trial<R> for Written {
         seat: &mut GaugeSeat<N, Global>,
     ) {
         let stream = write_abcd(rt, alloc, &mut *hubs.near.lock(rt));
-        assert!(rt; hubs.gauge.seen(seat).accepted == 4);
-        assert!(rt; hubs.far.lock(rt).set_receive_max(stream, 100) == Ok(()));
+        sure!(rt; hubs.gauge.seen(seat).accepted == 4);
+        sure!(rt; hubs.far.lock(rt).set_receive_max(stream, 100) == Ok(()));
         let share = share_of(rt, &mut *hubs.far.lock(rt));
         let share = send_over(rt, hubs, seat, share, 8);
-        assert!(rt; hubs.gauge.seen(seat).paid == 10);
+        sure!(rt; hubs.gauge.seen(seat).paid == 10);
         read_abcd(rt, alloc, &mut *hubs.far.lock(rt));
-        assert!(rt; credited(rt, alloc, hubs, share) == 10);
+        sure!(rt; credited(rt, alloc, hubs, share) == 10);
     }
 }
 

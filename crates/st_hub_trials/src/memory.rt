@@ -65,8 +65,8 @@ pub(crate) fn run<T: Refused<R>, R: Abort>(rt: &R, heap: &Refusing<Global>, tria
 /// A Prepare of 10 units that a client sends first.
 pub(crate) fn prepare(rt: &impl Abort, alloc: Global) -> Vec<u8> {
     let mut end = client(rt, alloc, 1_000);
-    assert!(rt; end.open_stream() == Ok(1));
-    assert!(rt; end.offer(1, 10) == Ok(()));
+    sure!(rt; end.open_stream() == Ok(1));
+    sure!(rt; end.offer(1, 10) == Ok(()));
     match end.send([9; 12], moment(rt)) {
         Ok(Some((flight, bytes))) => {
             flight.abandon();
@@ -84,7 +84,7 @@ fn write_abcd<N: HubName<A>, A: Allocator + Copy>(
 ) {
     for chunk in [b"ab", b"cd"] {
         let bytes = Vec::from_slice(alloc, chunk.as_slice()).expect(rt, "memory");
-        assert!(rt; writer.try_write(bytes).is_ok());
+        sure!(rt; writer.try_write(bytes).is_ok());
     }
 }
 
@@ -94,7 +94,7 @@ pub(crate) fn begin<N: HubName<A>, A: Allocator + Copy>(
     alloc: A,
     hub: &mut HubState<N, A>,
 ) -> (StreamWriter<N, A>, StreamReader<N, A>) {
-    assert!(rt; hub.set_receive_max(1, 100) == Ok(()));
+    sure!(rt; hub.set_receive_max(1, 100) == Ok(()));
     match hub.open_stream() {
         Ok((_, mut writer, reader)) => {
             write_abcd(rt, alloc, &mut writer);
@@ -190,10 +190,10 @@ impl Called<'_> {
         let was = heap.has_refused();
         heap.refuse_none();
         if was {
-            assert!(rt; told == Err(HubError::NoMemory));
+            sure!(rt; told == Err(HubError::NoMemory));
             told = self.call(hub, share);
         }
-        assert!(rt; told == Ok(self.gives));
+        sure!(rt; told == Ok(self.gives));
         was
     }
 
@@ -226,7 +226,7 @@ impl<R: Wait + Abort> Refused<R> for Called<'_> {
         seat: &mut GaugeSeat<N, A>,
     ) -> bool {
         let was = self.call_at(rt, heap, alloc, &mut *hub.lock(rt));
-        assert!(rt; gauge.seen(seat) == self.totals);
+        sure!(rt; gauge.seen(seat) == self.totals);
         was
     }
 }

@@ -55,10 +55,10 @@ impl Pumped {
         seat: &mut GaugeSeat<N, A>,
     ) -> bool {
         let was = pump_refused(heap, hub, self.n);
-        assert!(rt; gauge.seen(seat).accepted == moved(hub, writer));
+        sure!(rt; gauge.seen(seat).accepted == moved(hub, writer));
         pump(rt, hub);
-        assert!(rt; gauge.seen(seat).accepted == 4);
-        assert!(rt; hub.meet_writer(writer) == 0);
+        sure!(rt; gauge.seen(seat).accepted == 4);
+        sure!(rt; hub.meet_writer(writer) == 0);
         was
     }
 }
@@ -84,7 +84,7 @@ fn what_was_moved_stands(rt: HostRuntime) {
     let heap: Refusing<Global> = Refusing::new(rt.alloc());
     for n in 1..1_000u64 {
         if !run(&rt, &heap, &Pumped { n }) {
-            assert!(rt; 1 < n);
+            sure!(&rt; 1 < n);
             return;
         }
     }
@@ -93,12 +93,12 @@ fn what_was_moved_stands(rt: HostRuntime) {
 
 /// Calls on money, shares and streams that never want memory.
 fn call_streams<N: HubName<A>, A: Allocator + Copy>(rt: &impl Abort, hub: &mut HubState<N, A>) {
-    assert!(rt; hub.offer(1, 5) == Ok(()));
-    assert!(rt; hub.set_receive_max(1, 200) == Ok(()));
-    assert!(rt; hub.share().is_ok());
-    assert!(rt; hub.add_writer(1).is_ok());
-    assert!(rt; hub.take_stream().is_some());
-    assert!(rt; hub.take_stream().is_none());
+    sure!(rt; hub.offer(1, 5) == Ok(()));
+    sure!(rt; hub.set_receive_max(1, 200) == Ok(()));
+    sure!(rt; hub.share().is_ok());
+    sure!(rt; hub.add_writer(1).is_ok());
+    sure!(rt; hub.take_stream().is_some());
+    sure!(rt; hub.take_stream().is_none());
 }
 
 /// The calls that never want memory, but for those that take a turn or shares.
@@ -109,10 +109,10 @@ fn call_others<N: HubName<A>, A: Allocator + Copy>(
     reader: &mut StreamReader<N, A>,
 ) {
     call_streams(rt, hub);
-    assert!(rt; hub.meet_writer(writer) == 2);
-    assert!(rt; hub.meet_reader(reader) == 0);
-    assert!(rt; matches!(reader.try_read(), Got::Nothing));
-    assert!(rt; !hub.settled(1) && !hub.is_failed() && !hub.t00().is_empty());
+    sure!(rt; hub.meet_writer(writer) == 2);
+    sure!(rt; hub.meet_reader(reader) == 0);
+    sure!(rt; matches!(reader.try_read(), Got::Nothing));
+    sure!(rt; !hub.settled(1) && !hub.is_failed() && !hub.t00().is_empty());
 }
 
 /// Ends a turn with a fault: how many requests for memory that made.
@@ -141,9 +141,9 @@ fn ask_none<N: HubName<A>, A: Allocator + Copy>(
 ) {
     heap.refuse_from(1);
     call_others(rt, hub, writer, reader);
-    assert!(rt; heap.asked() == 0);
+    sure!(rt; heap.asked() == 0);
     heap.refuse_none();
-    assert!(rt; finished(heap, hub, moment(rt)) == Ok(0));
+    sure!(rt; finished(heap, hub, moment(rt)) == Ok(0));
 }
 
 /// A hub whose peer opened stream 1.
@@ -162,7 +162,7 @@ impl AskNone<'_> {
     ) {
         let mut share = share_of(rt, hub);
         let (mut writer, mut reader) = begin(rt, alloc, hub);
-        assert!(rt; came(hub, &mut share, self.prepare, moment(rt)) == Ok(10));
+        sure!(rt; came(hub, &mut share, self.prepare, moment(rt)) == Ok(10));
         ask_none(rt, heap, hub, &mut writer, &mut reader);
     }
 }
@@ -187,7 +187,7 @@ fn the_other_calls_ask_for_no_memory(rt: HostRuntime) {
     let heap: Refusing<Global> = Refusing::new(rt.alloc());
     let prepare = prepare(&rt, rt.alloc());
     let prepare = prepare.as_slice();
-    assert!(rt; !run(&rt, &heap, &AskNone { prepare }));
+    sure!(&rt; !run(&rt, &heap, &AskNone { prepare }));
 }
 
 /// A hub's shares come back.
@@ -198,10 +198,10 @@ fn gather_all<N: HubName<A>, A: Allocator + Copy>(
     hub: &mut HubState<N, A>,
 ) {
     let mut shares = Vec::new(alloc);
-    assert!(rt; shares.push(share_of(rt, hub)).is_ok());
+    sure!(rt; shares.push(share_of(rt, hub)).is_ok());
     heap.refuse_from(1);
-    assert!(rt; matches!(hub.gather(shares), Ok(0)));
-    assert!(rt; heap.asked() == 0);
+    sure!(rt; matches!(hub.gather(shares), Ok(0)));
+    sure!(rt; heap.asked() == 0);
 }
 
 /// A hub is made and its shares come back.
@@ -226,7 +226,7 @@ impl<R: Wait + Abort> Refused<R> for Gathers {
 #[test]
 fn shares_are_gathered_without_memory(rt: HostRuntime) {
     let heap: Refusing<Global> = Refusing::new(rt.alloc());
-    assert!(rt; !run(&rt, &heap, &Gathers));
+    sure!(&rt; !run(&rt, &heap, &Gathers));
 }
 
 /// A worker and a link whose hub finds no memory.
@@ -244,11 +244,11 @@ fn starve<N: HubName<A>, A: Allocator + Copy, L: Link<A>, R: Wait + Abort + std:
     link: &mut L,
     prepare: &[u8],
 ) {
-    assert!(rt; link.exchange(prepare).err() == Some(LinkFault::NoMemory));
+    sure!(rt; link.exchange(prepare).err() == Some(LinkFault::NoMemory));
     let mut ivs = Counting { first: 1, next: 0 };
     let mut clock = stopped_clock(rt);
     let told = work(rt, hub, link, &mut ivs, &mut clock, gauge, seat, 1);
-    assert!(rt; told == WorkEnd::NoMemory);
+    sure!(rt; told == WorkEnd::NoMemory);
 }
 
 impl<R: Wait + Abort + std::time::Clock> Refused<R> for Starved<'_> {
@@ -275,5 +275,5 @@ fn a_worker_without_memory_tells_it(rt: HostRuntime) {
     let heap: Refusing<Global> = Refusing::new(rt.alloc());
     let prepare = prepare(&rt, rt.alloc());
     let prepare = prepare.as_slice();
-    assert!(rt; run(&rt, &heap, &Starved { prepare }));
+    sure!(&rt; run(&rt, &heap, &Starved { prepare }));
 }

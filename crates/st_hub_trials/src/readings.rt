@@ -22,7 +22,7 @@ fn read_all<N: HubName<Global>>(
 ) -> bool {
     for _ in 0..64u8 {
         match reader.try_read() {
-            Got::Bytes(bytes) => assert!(rt; read.extend_from_slice(bytes.as_slice()).is_ok()),
+            Got::Bytes(bytes) => sure!(rt; read.extend_from_slice(bytes.as_slice()).is_ok()),
             Got::End => return true,
             _ => return false,
         }

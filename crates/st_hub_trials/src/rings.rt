@@ -40,14 +40,14 @@ fn is_full<N: HubName<Global>>(
 
 /// A fresh ring takes 64 chunks of one byte, and then no chunk and no end.
 fn fill<N: HubName<Global>>(rt: &impl Abort, alloc: Global, writer: &mut StreamWriter<N, Global>) {
-    assert!(rt; has_bad_length(writer, Vec::new(alloc)));
+    sure!(rt; has_bad_length(writer, Vec::new(alloc)));
     let long = Vec::from_elem(alloc, 7, 4097).expect(rt, "memory");
-    assert!(rt; has_bad_length(writer, long));
+    sure!(rt; has_bad_length(writer, long));
     for _ in 0..64u8 {
         let chunk = b"a".to_vec(alloc).expect(rt, "memory");
-        assert!(rt; writer.try_write(chunk).is_ok());
+        sure!(rt; writer.try_write(chunk).is_ok());
     }
-    assert!(rt; is_full(rt, alloc, writer));
+    sure!(rt; is_full(rt, alloc, writer));
 }
 
 /// The further writers of a stream, each of which has filled its ring.
@@ -61,7 +61,7 @@ fn fill_further<N: HubName<Global>>(
     for _ in 0..7u8 {
         let mut writer = further(rt, hub, stream);
         fill(rt, alloc, &mut writer);
-        assert!(rt; writers.push(writer).is_ok());
+        sure!(rt; writers.push(writer).is_ok());
     }
     writers
 }
@@ -74,7 +74,7 @@ fn meet_all<N: HubName<Global>>(
     items: usize,
 ) {
     for writer in writers {
-        assert!(rt; hub.meet_writer(writer) == items);
+        sure!(rt; hub.meet_writer(writer) == items);
     }
 }
 
@@ -83,7 +83,7 @@ fn fill_all<N: HubName<Global>>(rt: &impl Abort, alloc: Global, hub: &mut HubSta
     let (stream, mut first) = open(rt, hub);
     fill(rt, alloc, &mut first);
     let mut writers = fill_further(rt, alloc, hub, stream);
-    assert!(rt; writers.push(first).is_ok());
+    sure!(rt; writers.push(first).is_ok());
     meet_all(rt, hub, &mut writers, 64);
     pump(rt, hub);
     meet_all(rt, hub, &mut writers, 0);
@@ -101,7 +101,7 @@ impl<R: Wait + Abort> Trial<R> for EightRings {
         seat: &mut GaugeSeat<N, Global>,
     ) {
         fill_all(rt, alloc, &mut *hubs.near.lock(rt));
-        assert!(rt; hubs.gauge.seen(seat).accepted == 512);
+        sure!(rt; hubs.gauge.seen(seat).accepted == 512);
     }
 }
 
@@ -124,10 +124,10 @@ impl<R: Abort> Trial<R> for AskedToStop {
     ) {
         let gauge = &hubs.gauge;
         let mut other = gauge.split(seat);
-        assert!(rt; !gauge.stopped(&mut other));
+        sure!(rt; !gauge.stopped(&mut other));
         gauge.ask_stop(seat);
-        assert!(rt; gauge.stopped(seat));
-        assert!(rt; gauge.stopped(&mut other));
+        sure!(rt; gauge.stopped(seat));
+        sure!(rt; gauge.stopped(&mut other));
     }
 }
 

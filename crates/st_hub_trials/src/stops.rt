@@ -94,8 +94,8 @@ pub(crate) fn two_stop<
     let theirs = share_of(rt, &mut *hubs.far.lock(rt));
     let mut watching = hubs.gauge.split(seat);
     let (told, is_paid) = all(rt, hubs, seat, &mut watching, mine, theirs);
-    assert!(rt; is_paid);
-    assert!(rt; told == (WorkEnd::Stopped, WorkEnd::Stopped));
+    sure!(rt; is_paid);
+    sure!(rt; told == (WorkEnd::Stopped, WorkEnd::Stopped));
 }
 
 /// IVs that a failing device gives none of.
@@ -176,12 +176,12 @@ impl<R: Wait + Abort + std::time::Clock> Trial<R> for Ends {
         seat: &mut GaugeSeat<N, Global>,
     ) {
         let mut ivs = Counting { first: 1, next: 0 };
-        assert!(rt; ended(rt, alloc, hubs, seat, &mut ivs) == WorkEnd::Turns);
+        sure!(rt; ended(rt, alloc, hubs, seat, &mut ivs) == WorkEnd::Turns);
         offer(rt, hubs, 10);
-        assert!(rt; ended(rt, alloc, hubs, seat, &mut NoIvs) == WorkEnd::IvFault);
-        assert!(rt; ended(rt, alloc, hubs, seat, &mut ivs) == WorkEnd::Failed);
+        sure!(rt; ended(rt, alloc, hubs, seat, &mut NoIvs) == WorkEnd::IvFault);
+        sure!(rt; ended(rt, alloc, hubs, seat, &mut ivs) == WorkEnd::Failed);
         hubs.gauge.ask_stop(seat);
-        assert!(rt; ended(rt, alloc, hubs, seat, &mut ivs) == WorkEnd::Stopped);
+        sure!(rt; ended(rt, alloc, hubs, seat, &mut ivs) == WorkEnd::Stopped);
     }
 }
 

@@ -12,9 +12,9 @@ use std::sync::Wait;
 fn write_one<N: HubName<Global>>(rt: &impl Abort, alloc: Global, hub: &mut HubState<N, Global>) {
     let (_, mut writer) = open(rt, hub);
     let chunk = b"ab".to_vec(alloc).expect(rt, "memory");
-    assert!(rt; writer.try_write(chunk).is_ok());
+    sure!(rt; writer.try_write(chunk).is_ok());
     pump(rt, hub);
-    assert!(rt; hub.meet_writer(&mut writer) == 0);
+    sure!(rt; hub.meet_writer(&mut writer) == 0);
 }
 
 /// What was written is what the gauge tells.
@@ -30,7 +30,7 @@ impl<R: Wait + Abort> Trial<R> for ReadsBack {
         seat: &mut GaugeSeat<N, Global>,
     ) {
         write_one(rt, alloc, &mut *hubs.near.lock(rt));
-        assert!(rt; hubs.gauge.seen(seat).accepted == 2);
+        sure!(rt; hubs.gauge.seen(seat).accepted == 2);
     }
 }
 
@@ -55,23 +55,23 @@ fn end_two<N: HubName<Global>>(
     first: &mut StreamWriter<N, Global>,
     second: &mut StreamWriter<N, Global>,
 ) {
-    assert!(rt; first.try_end().is_ok());
+    sure!(rt; first.try_end().is_ok());
     pump(rt, hub);
-    assert!(rt; hub.offer(stream, 0) == Ok(()));
-    assert!(rt; second.try_end().is_ok());
+    sure!(rt; hub.offer(stream, 0) == Ok(()));
+    sure!(rt; second.try_end().is_ok());
     pump(rt, hub);
-    assert!(rt; hub.offer(stream, 0).err().map(|e| e.number()) == Some(51));
-    assert!(rt; refusal(hub, stream) == 79);
+    sure!(rt; hub.offer(stream, 0).err().map(|e| e.number()) == Some(51));
+    sure!(rt; refusal(hub, stream) == 79);
 }
 
 /// One writer puts "aa" and "bb", the other one "cc", and both end.
 fn write_all<N: HubName<Global>>(rt: &impl Abort, alloc: Global, hub: &mut HubState<N, Global>) {
-    assert!(rt; refusal(hub, 1) == 50);
+    sure!(rt; refusal(hub, 1) == 50);
     let (stream, mut first) = open(rt, hub);
     let mut second = further(rt, hub, stream);
     write_two(rt, alloc, &mut first, b"aa", b"bb");
     let chunk = b"cc".to_vec(alloc).expect(rt, "memory");
-    assert!(rt; second.try_write(chunk).is_ok());
+    sure!(rt; second.try_write(chunk).is_ok());
     pump(rt, hub);
     end_two(rt, hub, stream, &mut first, &mut second);
 }
@@ -85,8 +85,8 @@ fn is_merged(bytes: &[u8]) -> bool {
 fn read_merged<M: HubName<Global>>(rt: &impl Abort, alloc: Global, hub: &mut HubState<M, Global>) {
     let mut reading = Reading::new(alloc);
     reading.go_on(rt, hub);
-    assert!(rt; reading.is_over);
-    assert!(rt; is_merged(reading.read.as_slice()));
+    sure!(rt; reading.is_over);
+    sure!(rt; is_merged(reading.read.as_slice()));
 }
 
 /// Two writers of one stream, whose bytes are read at the other hub.
@@ -102,7 +102,7 @@ impl<R: Wait + Abort + std::time::Clock> Trial<R> for TwoWriters {
         seat: &mut GaugeSeat<N, Global>,
     ) {
         write_all(rt, alloc, &mut *hubs.near.lock(rt));
-        assert!(rt; hubs.gauge.seen(seat).accepted == 6);
+        sure!(rt; hubs.gauge.seen(seat).accepted == 6);
         let share = share_of(rt, &mut *hubs.far.lock(rt));
         let _share = send_over(rt, hubs, seat, share, 8);
         read_merged(rt, alloc, &mut *hubs.far.lock(rt));
@@ -118,10 +118,10 @@ fn two_writers_are_merged(rt: HostRuntime) {
 fn add_nine<N: HubName<Global>>(rt: &impl Abort, hub: &mut HubState<N, Global>) {
     let (stream, _writer) = open(rt, hub);
     for _ in 0..7u8 {
-        assert!(rt; refusal(hub, stream) == 0);
+        sure!(rt; refusal(hub, stream) == 0);
     }
-    assert!(rt; refusal(hub, stream) == 76);
-    assert!(rt; hub.take_stream().is_none());
+    sure!(rt; refusal(hub, stream) == 76);
+    sure!(rt; hub.take_stream().is_none());
 }
 
 #[derive(Drop)]
