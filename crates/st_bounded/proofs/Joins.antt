@@ -4,7 +4,8 @@ use Rattle.st_world.specs.Sides.{Client, Server}
 use Rattle.st_world.specs.State.{World, ledger_at}
 use Rattle.st_world.specs.Events.{AnswerArrives, Arrive, Event, Read, ReceiveMax}
 use Rattle.st_passage.specs.Worlds.{Met, going_over}
-use Rattle.st_passage.specs.Rounds.{Begins, BeginsEach, Round, Rounds, Writes, allows, reads, writes}
+use Rattle.st_passage.specs.Rounds.{Begins, BeginsEach, Rounds, Writes, allows, reads, writes}
+use Rattle.st_bounded.specs.Playing.{NumberedRound, NumberedRounds, read_limit}
 
 pub met_join : (xs ys : List Event) (w v u : World) → Met w xs v → Met v ys u → Met w (xs ++ ys) u
 met_join [] ys w v u first second = subst (λ z. Met z ys u) first second
@@ -78,18 +79,23 @@ begins_push input money (suc m) w a v run one = (run.0, run.1, begins_push input
 pub begins_more : (input : ℕ → List ℕ) (money : ℕ → ℕ) (count : ℕ) (w a v : World) → BeginsEach input money count w a → Begins input money a v → BeginsEach input money (count + 1) w v
 begins_more input money count w a v run one = subst (λ n. BeginsEach input money n w v) (let next : suc count ≡ count + 1 = omega arith in next) (begins_push input money count w a v run one)
 
-rounds_push : (input : ℕ → List ℕ) (limit hops first count k : ℕ) (w a v : World) → k ≡ first + count → Rounds input limit hops first count w a → Round input limit hops k a v → Rounds input limit hops first (suc count) w v
-rounds_push input limit hops first zero k w a v at run one =
+rounds_push : (input : ℕ → List ℕ) (hops first count k : ℕ) (w a v : World) → k ≡ first + count → NumberedRounds input hops first count w a → NumberedRound input hops k a v → NumberedRounds input hops first (suc count) w v
+rounds_push input hops first zero k w a v at run one =
     let here : k ≡ first = omega (arith, at) in
-    (v, subst (λ j. Round input limit hops j w v) here (subst (λ z. Round input limit hops k z v) run one), refl)
-rounds_push input limit hops first (suc m) k w a v at run one = (run.0, run.1, rounds_push input limit hops (suc first) m k run.0 a v (omega (arith, at)) run.2 one)
+    (v, subst (λ j. NumberedRound input hops j w v) here (subst (λ z. NumberedRound input hops k z v) run one), refl)
+rounds_push input hops first (suc m) k w a v at run one = (run.0, run.1, rounds_push input hops (suc first) m k run.0 a v (omega (arith, at)) run.2 one)
 
-pub rounds_more : (input : ℕ → List ℕ) (limit hops before after : ℕ) (w a v : World) → after ≡ suc before → Rounds input limit hops 0 before w a → Round input limit hops before a v → Rounds input limit hops 0 after w v
-rounds_more input limit hops before after w a v next run one =
-    subst (λ n. Rounds input limit hops 0 n w v) (sym next) (rounds_push input limit hops 0 before before w a v (omega arith) run one)
+pub rounds_more : (input : ℕ → List ℕ) (hops before after : ℕ) (w a v : World) → after ≡ suc before → NumberedRounds input hops 0 before w a → NumberedRound input hops before a v → NumberedRounds input hops 0 after w v
+rounds_more input hops before after w a v next run one =
+    subst (λ n. NumberedRounds input hops 0 n w v) (sym next) (rounds_push input hops 0 before before w a v (omega arith) run one)
 
 -- fewer of the same rounds
-pub rounds_front : (input : ℕ → List ℕ) (limit hops first few count : ℕ) (w v : World) → few ≤ count → Rounds input limit hops first count w v → (mid : World) × Rounds input limit hops first few w mid
-rounds_front input limit hops first zero count w v below run = (w, refl)
-rounds_front input limit hops first (suc k) zero w v below run = absurd (omega (arith, below))
-rounds_front input limit hops first (suc k) (suc m) w v below run = let rest = rounds_front input limit hops (suc first) k m run.0 v (omega (arith, below)) run.2 in (rest.0, (run.0, run.1, rest.1))
+pub rounds_front : (input : ℕ → List ℕ) (hops first few count : ℕ) (w v : World) → few ≤ count → NumberedRounds input hops first count w v → (mid : World) × NumberedRounds input hops first few w mid
+rounds_front input hops first zero count w v below run = (w, refl)
+rounds_front input hops first (suc k) zero w v below run = absurd (omega (arith, below))
+rounds_front input hops first (suc k) (suc m) w v below run = let rest = rounds_front input hops (suc first) k m run.0 v (omega (arith, below)) run.2 in (rest.0, (run.0, run.1, rest.1))
+
+-- the rounds alone
+pub rounds_of : (input : ℕ → List ℕ) (hops first count : ℕ) (w v : World) → NumberedRounds input hops first count w v → Rounds input read_limit hops first count w v
+rounds_of input hops first zero w v run = run
+rounds_of input hops first (suc m) w v run = (run.0, run.1.round, rounds_of input hops (suc first) m run.0 v run.2)

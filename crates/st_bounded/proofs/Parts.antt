@@ -1,5 +1,5 @@
 -- The parts of a round and of an opening, by the calls that play them.
-use Rattle.std.proofs.Common.{◌≡◌, ◌≢◌, ℕ, suc, ◌+◌, ◌-◌, true, false, List, [], ◌∷◌, length, take, drop, refl, sym, ap, subst, ◌∙◌, arith, ℤ, nat_eq, Ok}
+use Rattle.std.proofs.Common.{◌≡◌, ◌≢◌, ℕ, suc, ◌+◌, ◌-◌, true, false, List, [], ◌∷◌, length, take, drop, refl, sym, ap, subst, ◌∙◌, arith, ℤ, pos, nat_eq, Ok}
 use Rattle.std.proofs.lemmas.Bool.Decides.{nat_tests}
 use Rattle.st_world.specs.Sides.{Client}
 use Rattle.st_world.specs.State.{World, ledger_at}
@@ -8,7 +8,7 @@ use Rattle.st_world.specs.Events.{Close, Offer, OpenStream, Opened, Send, Sent, 
 use Rattle.st_world.specs.Steps.{Step}
 use Rattle.st_passage.specs.Worlds.{Met, passing}
 use Rattle.st_passage.specs.Rounds.{Begins, Writes, close_if, fits, reads, writes}
-use Rattle.st_bounded.specs.Playing.{Continues, GoesOn, Sends, WritesAll, read_limit}
+use Rattle.st_bounded.specs.Playing.{Continues, GoesOn, Sends, WritesAll, iv_of, read_limit}
 use Rattle.st_bounded.proofs.Joins.{met_join}
 use Rattle.st_bounded.proofs.Runs.{met_on}
 
@@ -68,22 +68,29 @@ begins_by input money k amount bytes w a b v paid given opens offers wrote = rec
 
 -- ---- a round
 
-pub goes_on : (input : ℕ → List ℕ) (hops before number which : ℕ) (now : ℤ) (w a b c v : World) → number ≡ before + 1 → which ≡ number → Sends now w a → Met a (passing hops which now) b → Met b (reads read_limit 0 65) c → WritesAll input c v → GoesOn input hops before number w v
-goes_on input hops before number which now w a b c v next same sends passes reads_run writes_run = record {
-  counted = let is : number ≡ suc before = omega (arith, next) in is;
-  round = record {
-    iv = sends.iv;
-    now = now;
-    sent = a;
-    passed = b;
-    read = c;
-    lawful = sends.lawful;
-    goes = sends.goes;
-    passes = subst (λ n. Met a (passing hops n now) b) (let is : which ≡ suc before = omega (arith, next, same) in is) passes;
-    reads_each = reads_run;
-    writes_each = writes_each input c v writes_run;
-  };
-}
+pub goes_on : (input : ℕ → List ℕ) (hops before number which : ℕ) (now : ℤ) (w a b c v : World) → number ≡ before + 1 → which ≡ number → now ≡ pos 0 → Sends number now w a → Met a (passing hops which now) b → Met b (reads read_limit 0 65) c → WritesAll input c v → GoesOn input hops before number w v
+goes_on input hops before number which now w a b c v next same start sends passes reads_run writes_run =
+    let counts : number ≡ suc before = omega (arith, next) in
+    let first : which ≡ suc before = omega (arith, next, same) in
+    record {
+      counted = counts;
+      round = record {
+        round = record {
+          iv = iv_of number;
+          now = now;
+          sent = a;
+          passed = b;
+          read = c;
+          lawful = sends.lawful;
+          goes = sends.goes;
+          passes = subst (λ n. Met a (passing hops n now) b) first passes;
+          reads_each = reads_run;
+          writes_each = writes_each input c v writes_run;
+        };
+        numbered = ap iv_of counts;
+        at_start = start;
+      };
+    }
 
-pub sends_on : (now : ℤ) (w a : World) → Sends now w a → Continues w a
-sends_on now w a s = met_on (Send Client s.iv now ∷ []) w a (a, Sent, s.lawful, s.goes, refl)
+pub sends_on : (number : ℕ) (now : ℤ) (w a : World) → Sends number now w a → Continues w a
+sends_on number now w a s = met_on (Send Client (iv_of number) now ∷ []) w a (a, Sent, s.lawful, s.goes, refl)

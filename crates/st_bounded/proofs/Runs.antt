@@ -7,10 +7,10 @@ use Rattle.st_world.specs.State.{World, ledger_at}
 use Rattle.st_world.specs.Events.{Event, Offer, OpenStream, Opened, Send, Sent}
 use Rattle.st_world.specs.Runs.{Run}
 use Rattle.st_passage.specs.Worlds.{Met, passing}
-use Rattle.st_passage.specs.Rounds.{Begins, BeginsEach, Round, Rounds, Writes, reads, writes}
+use Rattle.st_passage.specs.Rounds.{Begins, BeginsEach, Round, Writes, reads, writes}
 use Rattle.st_bounded.specs.declared.stop.Stop.{Stop}
 use Rattle.st_bounded.specs.declared.stop.Stop.TheVariants.{NoMemory, Refused, NoStream, Endless}
-use Rattle.st_bounded.specs.Playing.{Continues, Stops, Why}
+use Rattle.st_bounded.specs.Playing.{Continues, NumberedRounds, Stops, Why, read_limit}
 
 run_join : (xs ys : List Event) (w v u : World) → Run w xs v → Run v ys u → Run w (xs ++ ys) u
 run_join [] ys w v u first second = subst (λ z. Run z ys u) first second
@@ -40,9 +40,9 @@ round_on input limit hops count w v r =
     (then r.sent r.passed v (met_on (passing hops (suc count) r.now) r.sent r.passed r.passes)
     (then r.passed r.read v (met_on (reads limit 0 65) r.passed r.read r.reads_each) (writes_on input 0 65 r.read v r.writes_each)))
 
-pub rounds_on : (input : ℕ → List ℕ) (limit hops first count : ℕ) (w v : World) → Rounds input limit hops first count w v → Continues w v
-rounds_on input limit hops first zero w v run = still w v run
-rounds_on input limit hops first (suc m) w v run = then w run.0 v (round_on input limit hops first w run.0 run.1) (rounds_on input limit hops (suc first) m run.0 v run.2)
+pub rounds_on : (input : ℕ → List ℕ) (hops first count : ℕ) (w v : World) → NumberedRounds input hops first count w v → Continues w v
+rounds_on input hops first zero w v run = still w v run
+rounds_on input hops first (suc m) w v run = then w run.0 v (round_on input read_limit hops first w run.0 run.1.round) (rounds_on input hops (suc first) m run.0 v run.2)
 
 begin_on : (input : ℕ → List ℕ) (money : ℕ → ℕ) (w v : World) → Begins input money w v → Continues w v
 begin_on input money w v b =

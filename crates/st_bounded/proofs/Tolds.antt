@@ -8,7 +8,7 @@ use Rattle.st_world.specs.State.{World, end_at}
 use Rattle.st_world.specs.Events.{Event, OpenStream, Opened, Send, Told}
 use Rattle.st_world.specs.Steps.{Happens, Step}
 use Rattle.st_bounded.specs.declared.stop.Stop.TheVariants.{Refused}
-use Rattle.st_bounded.specs.Playing.{OpensNone, Sends, SendsNone, Stops, Tells, is_sent, opened_in}
+use Rattle.st_bounded.specs.Playing.{OpensNone, Sends, SendsNone, Stops, Tells, is_sent, iv_of, opened_in}
 
 -- where the world tells of no want of memory, the event was met
 pub tells_met : (w v : World) (event : Event) (told : Told) → Happens w event told v → v.refused ≡ false → Tells event told w v
@@ -22,12 +22,15 @@ stops_refused w v event told h noted = record { goes_on = (event ∷ [], (v, tol
 
 -- ---- a Send
 
-pub send_tells : (iv : List ℕ) (now : ℤ) (told : Told) (w v : World) → Tells (Send Client iv now) told w v → MatchBool (is_sent told) (Sends now w v) (SendsNone w v)
-send_tells iv now told w v (lawful, step) = elim step [
-  | inl none ↦ subst (λ t. MatchBool (is_sent t) (Sends now w v) (SendsNone w v)) (sym none.1) (record { none = none.0; same = none.2 })
-  | inr goes ↦ subst (λ t. MatchBool (is_sent t) (Sends now w v) (SendsNone w v)) (sym goes.4)
-      (record { iv = iv; lawful = lawful; goes = inr (goes.0, goes.1, goes.2, goes.3, refl, goes.5) })
-]
+pub send_tells : (number : ℕ) (iv : List ℕ) (now : ℤ) (told : Told) (w v : World) → iv ≡ iv_of number → Tells (Send Client iv now) told w v → MatchBool (is_sent told) (Sends number now w v) (SendsNone w v)
+send_tells number iv now told w v is tells = by (subst (λ x. Tells (Send Client x now) told w v) is tells)
+  where
+    by : Tells (Send Client (iv_of number) now) told w v → MatchBool (is_sent told) (Sends number now w v) (SendsNone w v)
+    by (lawful, step) = elim step [
+      | inl none ↦ subst (λ t. MatchBool (is_sent t) (Sends number now w v) (SendsNone w v)) (sym none.1) (record { none = none.0; same = none.2 })
+      | inr goes ↦ subst (λ t. MatchBool (is_sent t) (Sends number now w v) (SendsNone w v)) (sym goes.4)
+          (record { lawful = lawful; goes = inr (goes.0, goes.1, goes.2, goes.3, refl, goes.5) })
+    ]
 
 -- ---- a stream that opens
 

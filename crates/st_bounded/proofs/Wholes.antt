@@ -15,13 +15,14 @@ use Rattle.st_passage.specs.Plays.{MayPlay, are_lawful, input_of, money_of, most
 use Rattle.st_passage.proofs.Plays.{played_bounded, played_credits, played_delivers, played_opens, played_sends, played_sharper}
 use Rattle.st_bounded.specs.declared.stop.Stop.{Stop}
 use Rattle.st_bounded.specs.declared.stop.Stop.TheVariants.{NoMemory, Refused, NoStream, Endless}
-use Rattle.st_bounded.specs.Playing.{Continues, IsEndless, IsEndlessAfter, IsPlayed, IsStuck, IsStuckAfter, SendsNone, Stops, read_limit}
+use Rattle.st_bounded.specs.Playing.{Continues, IsEndless, IsEndlessAfter, IsPlayed, IsStuck, IsStuckAfter, NumberedRounds, SendsNone, Stops, read_limit}
 use Rattle.st_bounded.specs.Promised.{Delivers, is_unrecorded}
+use Rattle.st_bounded.proofs.Joins.{rounds_of}
 use Rattle.st_bounded.proofs.Runs.{begins_on, met_on, rounds_on, then}
 
 -- ---- the parts of a run
 
-pub played_by : (input : ℕ → List ℕ) (money : ℕ → ℕ) (count hops nodes sends : ℕ) (w a b e v : World) → hops ≡ nodes → Met w (allows money 0 65) a → BeginsEach input money count a b → Rounds input read_limit hops 0 sends b e → SendsNone e e → Met e (reads read_limit 0 65) v
+pub played_by : (input : ℕ → List ℕ) (money : ℕ → ℕ) (count hops nodes sends : ℕ) (w a b e v : World) → hops ≡ nodes → Met w (allows money 0 65) a → BeginsEach input money count a b → NumberedRounds input hops 0 sends b e → SendsNone e e → Met e (reads read_limit 0 65) v
     → IsPlayed input money count nodes sends w v
 played_by input money count hops nodes sends w a b e v same allows_run begins rounds none reads_run = record {
   allowed = a;
@@ -29,7 +30,7 @@ played_by input money count hops nodes sends w a b e v same allows_run begins ro
   ended = e;
   allows_each = allows_run;
   begins_each = begins;
-  rounds = subst (λ n. Rounds input read_limit n 0 sends b e) same rounds;
+  rounds = subst (λ n. NumberedRounds input n 0 sends b e) same rounds;
   none = none.none;
   reads_each = reads_run;
 }
@@ -50,7 +51,7 @@ pub played_on : (input : ℕ → List ℕ) (money : ℕ → ℕ) (count nodes se
 played_on input money count nodes sends w v p =
     then w p.allowed v (met_on (allows money 0 65) w p.allowed p.allows_each)
     (then p.allowed p.begun v (begins_on input money count p.allowed p.begun p.begins_each)
-    (then p.begun p.ended v (rounds_on input read_limit nodes 0 sends p.begun p.ended p.rounds) (met_on (reads read_limit 0 65) p.ended v p.reads_each)))
+    (then p.begun p.ended v (rounds_on input nodes 0 sends p.begun p.ended p.rounds) (met_on (reads read_limit 0 65) p.ended v p.reads_each)))
 
 -- ---- how it ended
 
@@ -87,13 +88,13 @@ roomy : 32739 ≤ read_limit
 roomy = omega arith
 
 module _ (c : Chain) (xs : List (List ℕ)) (ms : List ℕ) (lawful : are_lawful xs ms ≡ true) (may : MayPlay c xs ms) (w : World) (first : w ≡ opening c) (count : ℕ) (counted : count ≡ length xs) where
-  quiet_by : (sends : ℕ) (a b e : World) → Met w (allows (money_of ms) 0 65) a → BeginsEach (input_of xs) (money_of ms) count a b → Rounds (input_of xs) read_limit (length w.nodes) 0 sends b e → QuietRun c (input_of xs) (money_of ms) (length xs) read_limit sends e
+  quiet_by : (sends : ℕ) (a b e : World) → Met w (allows (money_of ms) 0 65) a → BeginsEach (input_of xs) (money_of ms) count a b → NumberedRounds (input_of xs) (length w.nodes) 0 sends b e → QuietRun c (input_of xs) (money_of ms) (length xs) read_limit sends e
   quiet_by sends a b e allows_run begins rounds = record {
     allowed = a;
     begun = b;
     allows_each = subst (λ z. Met z (allows (money_of ms) 0 65) a) first allows_run;
     begins_each = subst (λ n. BeginsEach (input_of xs) (money_of ms) n a b) counted begins;
-    rounds = subst (λ n. Rounds (input_of xs) read_limit n 0 sends b e) (nodes_are c w first) rounds;
+    rounds = subst (λ n. Rounds (input_of xs) read_limit n 0 sends b e) (nodes_are c w first) (rounds_of (input_of xs) (length w.nodes) 0 sends b e rounds);
   }
 
   free : IsStuckAfter (input_of xs) (money_of ms) count w → ⊥
@@ -132,13 +133,14 @@ module _ (c : Chain) (xs : List (List ℕ)) (ms : List ℕ) (lawful : are_lawful
       played_sharper c xs ms read_limit sends p.ended lawful may roomy (quiet_by sends p.allowed p.begun p.ended p.allows_each p.begins_each p.rounds)
 
   pub run_delivers : {X : Type 0} (most sends : ℕ) (r : Result X Stop) (v : World) (t : Left) → t ≡ left_of v → t.refused ≡ false → sends_needed c.config.packet_limit xs ms < most → is_unrecorded r ≡ false → Ends (input_of xs) (money_of ms) count (length w.nodes) most sends r w v
-      → Delivers xs ms (record { trace = t; sends = sends })
+      → Delivers xs ms w (record { trace = t; sends = sends })
   run_delivers most sends r v t is calm fewer told e =
       let p = whole most sends r v fewer told (calm_of t v is calm) e in
       let run = quiet_by sends p.allowed p.begun p.ended p.allows_each p.begins_each p.rounds in
       record {
         world = v;
         left = is;
+        played = subst (λ n. IsPlayed (input_of xs) (money_of ms) n (length w.nodes) sends w v) counted p;
         delivered = played_delivers c xs ms read_limit sends p.ended lawful may roomy run v p.none p.reads_each;
         credit = played_credits c xs ms read_limit sends p.ended lawful may roomy run v p.none p.reads_each;
         sends = played_sends c xs ms read_limit sends p.ended lawful may roomy run v p.reads_each;

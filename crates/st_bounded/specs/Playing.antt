@@ -1,5 +1,6 @@
 -- What is played of a world: the events of a quiet run, and why they end before its end.
-use Rattle.std.specs.Prelude.{◌≡◌, ⊤, ℕ, suc, ◌<◌, ℤ, Bool, true, false, List, map, is_ok, Ok}
+use Rattle.std.specs.Prelude.{◌≡◌, ⊤, ℕ, zero, suc, ◌<◌, ℤ, pos, Bool, true, false, List, ◌∷◌, map, is_ok, Ok}
+use Rattle.std.specs.Int.{w64, to_be_bytes}
 use Rattle.std.specs.Borrow.{Bor}
 use Rattle.std.specs.declared.option.Option.{Option}
 use Rattle.std.specs.declared.option.Option.TheVariants.{None, Some}
@@ -12,7 +13,7 @@ use Rattle.st_world.specs.Steps.{Step}
 use Rattle.st_world.specs.Runs.{Run}
 use Rattle.st_chain.specs.Left.{Left}
 use Rattle.st_passage.specs.Worlds.{Met}
-use Rattle.st_passage.specs.Rounds.{BeginsEach, Round, Rounds, Writes, allows, reads}
+use Rattle.st_passage.specs.Rounds.{BeginsEach, Round, Writes, allows, reads}
 use Rattle.st_bounded.specs.declared.stop.Stop.{Stop}
 use Rattle.st_bounded.specs.declared.stop.Stop.TheVariants.{NoMemory, Refused, NoStream, Endless}
 
@@ -49,21 +50,35 @@ OpensNone w = is_ok (open_stream (end_at w Client)).0 ≡ false
 
 -- ---- parts of a run
 
--- a Prepare of the client goes
-pub record Sends (now : ℤ) (w v : World) : Type 0 where
-  pub iv : List ℕ
-  pub lawful : IsEvent (Send Client iv now)
-  pub goes : Step w (Send Client iv now) Sent v
+-- the IV of a Send: its number, behind four bytes that are 0
+abbrev pub iv_of : ℕ → List ℕ
+iv_of n = 0 ∷ 0 ∷ 0 ∷ 0 ∷ to_be_bytes w64 n
+
+-- a Prepare of the client goes, of this number
+pub record Sends (number : ℕ) (now : ℤ) (w v : World) : Type 0 where
+  pub lawful : IsEvent (Send Client (iv_of number) now)
+  pub goes : Step w (Send Client (iv_of number) now) Sent v
 
 -- none does
 pub record SendsNone (w v : World) : Type 0 where
   pub none : GoesNone (end_at w Client)
   pub same : v ≡ w
 
--- a round after so many Sends, and how many there were by then
+-- a round after so many Sends: its Send has the next number, and all of it is at moment 0
+pub record NumberedRound (input : ℕ → List ℕ) (hops before : ℕ) (w v : World) : Type 0 where
+  pub round : Round input read_limit hops before w v
+  pub numbered : round.iv ≡ iv_of (suc before)
+  pub at_start : round.now ≡ pos 0
+
+-- so many of them, after others
+abbrev pub NumberedRounds : (ℕ → List ℕ) → (hops before more : ℕ) → World → World → Type 0
+NumberedRounds input hops before zero w v = v ≡ w
+NumberedRounds input hops before (suc m) w v = (mid : World) × NumberedRound input hops before w mid × NumberedRounds input hops (suc before) m mid v
+
+-- one, and how many Sends there were by then
 pub record GoesOn (input : ℕ → List ℕ) (hops before after : ℕ) (w v : World) : Type 0 where
   pub counted : after ≡ suc before
-  pub round : Round input read_limit hops before w v
+  pub round : NumberedRound input hops before w v
 
 -- or no Prepare went
 pub record IsOver (before after : ℕ) (w v : World) : Type 0 where
@@ -81,7 +96,7 @@ pub record IsPlayed (input : ℕ → List ℕ) (money : ℕ → ℕ) (count hops
   pub ended : World
   pub allows_each : Met w (allows money 0 65) allowed
   pub begins_each : BeginsEach input money count allowed begun
-  pub rounds : Rounds input read_limit hops 0 sends begun ended
+  pub rounds : NumberedRounds input hops 0 sends begun ended
   pub none : GoesNone (end_at ended Client)
   pub reads_each : Met ended (reads read_limit 0 65) v
 
@@ -114,7 +129,7 @@ pub record IsStuck (input : ℕ → List ℕ) (money : ℕ → ℕ) (count : ℕ
 -- so many rounds there were
 pub record IsEndless (input : ℕ → List ℕ) (hops most : ℕ) (w : World) : Type 0 where
   pub ended : World
-  pub rounds : Rounds input read_limit hops 0 most w ended
+  pub rounds : NumberedRounds input hops 0 most w ended
 
 -- of the whole run
 pub record IsStuckAfter (input : ℕ → List ℕ) (money : ℕ → ℕ) (count : ℕ) (w : World) : Type 0 where

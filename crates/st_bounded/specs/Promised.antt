@@ -3,21 +3,22 @@ use Rattle.std.specs.Prelude.{◌≡◌, ℕ, Bool, true, false, List, length, s
 use Rattle.st_world.specs.Sides.{Client, Server}
 use Rattle.st_world.specs.State.{World, end_at, lane_at}
 use Rattle.st_chain.specs.Left.{left_of}
-use Rattle.st_passage.specs.Plays.{IsDelivered}
+use Rattle.st_passage.specs.Plays.{IsDelivered, input_of, money_of}
 use Rattle.st_bounded.specs.declared.stop.Stop.{Stop}
 use Rattle.st_bounded.specs.declared.stop.Stop.TheVariants.{NoMemory}
-use Rattle.st_bounded.specs.Playing.{Outcome}
+use Rattle.st_bounded.specs.Playing.{IsPlayed, Outcome}
 
 -- the world could not record an event
 abbrev pub is_unrecorded : {X : Type 0} → Result X Stop → Bool
 is_unrecorded (Err NoMemory) = true
 is_unrecorded r = false
 
--- what the outcome tells is left by a world where all was delivered, where the server's credit is all money, and where so
--- many Prepares went
-pub record Delivers (xs : List (List ℕ)) (ms : List ℕ) (q : Outcome) : Type 0 where
+-- what the outcome tells is left by a world to which a whole run led, where all was delivered, where the server's credit is
+-- all money, and where so many Prepares went
+pub record Delivers (xs : List (List ℕ)) (ms : List ℕ) (w : World) (q : Outcome) : Type 0 where
   pub world : World
   pub left : q.trace ≡ left_of world
+  pub played : IsPlayed (input_of xs) (money_of ms) (length xs) (length w.nodes) q.sends w world
   pub delivered : IsDelivered xs ms world
   pub credit : (end_at world Server).receiving.credit ≡ sum ms
   pub sends : length (lane_at world 0 Client).puts ≡ q.sends

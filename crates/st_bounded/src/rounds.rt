@@ -2,9 +2,9 @@
 
 ghost use Rattle.std.specs.Prelude.{◌≡◌, suc, ◌+◌, ◌<◌, ◌^◌, MatchBool, IfErr, IfOk, OnOk};
 ghost use Rattle.st_passage.specs.Worlds.{Met, going_over, passing};
-ghost use Rattle.st_passage.specs.Rounds.{Round, Rounds, reads};
+ghost use Rattle.st_passage.specs.Rounds.{reads};
 ghost use Rattle.st_passage.specs.Plays.{input_of};
-ghost use Rattle.st_bounded.specs.Playing.{GoesOn, IsEndless, IsOver, SendsNone, Stops, bytes_of, read_limit};
+ghost use Rattle.st_bounded.specs.Playing.{GoesOn, IsEndless, IsOver, NumberedRounds, SendsNone, Stops, bytes_of, read_limit};
 
 use crate::steps::{send, take};
 use crate::stop::Stop;
@@ -97,7 +97,7 @@ pub(crate) fn go_rounds<A: Allocator + Copy>(
     sends: &mut u64,
 ) -> Result<(), Stop>
     requires { sends.old ≡ 0 }
-    ensures rounds { OnOk result (Rounds (input_of (bytes_of input.now)) read_limit hops 0 sends.new world.old world.new) }
+    ensures rounds { OnOk result (NumberedRounds (input_of (bytes_of input.now)) hops 0 sends.new world.old world.new) }
     ensures none { OnOk result (SendsNone world.new world.new) }
     ensures stops { IfErr result (λ e. Stops ⊥ (IsEndless (input_of (bytes_of input.now)) hops most world.old) e world.old world.new) }
 {

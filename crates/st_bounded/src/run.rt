@@ -100,7 +100,7 @@ fn play_lawful<A: Allocator + Copy>(
     ensures only_memory { IfErr result (λ e. e.0 ≡ Fault.NoMemory) }
     ensures run { IfOk result (λ q. (w : state.World) × Continues world w × (q.trace ≡ left_of w)) }
     ensures part { IfErr result (λ e. (w : state.World) × Continues world w × (e.1 ≡ left_of w)) }
-    ensures delivered { IfOk result (λ q. (c : Chain) → world ≡ opening c → MayPlay c (bytes_of input.now) money.now → q.trace.refused ≡ false → Delivers (bytes_of input.now) money.now q) }
+    ensures delivered { IfOk result (λ q. (c : Chain) → world ≡ opening c → MayPlay c (bytes_of input.now) money.now → q.trace.refused ≡ false → Delivers (bytes_of input.now) money.now world q) }
     ensures bounded { IfOk result (λ q. (c : Chain) → world ≡ opening c → MayPlay c (bytes_of input.now) money.now → q.trace.refused ≡ false → q.sends + 1 ≤ most_sends c.config.packet_limit (bytes_of input.now) money.now) }
     ensures sharper { IfOk result (λ q. (c : Chain) → world ≡ opening c → MayPlay c (bytes_of input.now) money.now → q.trace.refused ≡ false → q.sends ≤ sends_needed c.config.packet_limit (bytes_of input.now) money.now) }
 {
@@ -115,9 +115,9 @@ fn play_lawful<A: Allocator + Copy>(
 }
 
 /// Plays a quiet run of a world where nothing has happened, with these bytes and this amount on each stream: the server lets
-/// the amounts come; the client opens the streams, offers and writes; then, at moment 0, it sends, its Prepare goes over all
-/// hops and the answer comes back, the server reads all there is, and the client writes on, until no Prepare goes. A last
-/// read of each stream tells its end.
+/// the amounts come; the client opens the streams, offers and writes; then, at moment 0, it sends, with the Send's number as
+/// IV, its Prepare goes over all hops and the answer comes back, the server reads all there is, and the client writes on,
+/// until no Prepare goes. A last read of each stream tells its end.
 ///
 /// Refused is `BadInput` unless there are 1 to 32 streams and as many amounts, and `NoMemory` where the world could not
 /// record an event: the trace is then that of the events before it. Where a call found no memory the run ends there, and its
@@ -131,7 +131,7 @@ pub fn quiet<A: Allocator + Copy>(
     ensures only_memory { are_lawful (bytes_of input.now) money.now ≡ true → IfErr result (λ e. e.0 ≡ Fault.NoMemory) }
     ensures run { IfOk result (λ q. (w : state.World) × Continues world w × (q.trace ≡ left_of w)) }
     ensures part { IfErr result (λ e. (w : state.World) × Continues world w × (e.1 ≡ left_of w)) }
-    ensures delivered { IfOk result (λ q. (c : Chain) → world ≡ opening c → MayPlay c (bytes_of input.now) money.now → q.trace.refused ≡ false → Delivers (bytes_of input.now) money.now q) }
+    ensures delivered { IfOk result (λ q. (c : Chain) → world ≡ opening c → MayPlay c (bytes_of input.now) money.now → q.trace.refused ≡ false → Delivers (bytes_of input.now) money.now world q) }
     ensures bounded { IfOk result (λ q. (c : Chain) → world ≡ opening c → MayPlay c (bytes_of input.now) money.now → q.trace.refused ≡ false → q.sends + 1 ≤ most_sends c.config.packet_limit (bytes_of input.now) money.now) }
     ensures sharper { IfOk result (λ q. (c : Chain) → world ≡ opening c → MayPlay c (bytes_of input.now) money.now → q.trace.refused ≡ false → q.sends ≤ sends_needed c.config.packet_limit (bytes_of input.now) money.now) }
 {

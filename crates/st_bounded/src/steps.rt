@@ -7,7 +7,7 @@ ghost use Rattle.st_world.specs.Steps.{Step};
 ghost use Rattle.st_nodes.specs.Seen.{told_seen};
 ghost use Rattle.st_chain.specs.Seen.{event_seen};
 ghost use Rattle.st_passage.specs.Worlds.{Met};
-ghost use Rattle.st_bounded.specs.Playing.{OpensNone, Sends, SendsNone, Stops, Tells, is_sent, opened_in};
+ghost use Rattle.st_bounded.specs.Playing.{OpensNone, Sends, SendsNone, Stops, Tells, is_sent, iv_of, opened_in};
 
 use crate::stop::Stop;
 use st_chain::{Event, World};
@@ -47,19 +47,21 @@ fn is_sent<A: Allocator + Copy>(told: &Told<A>) -> bool
 }
 
 /// The number of this Send, as an IV that no other has.
-fn iv_of(number: u64) -> [u8; 12] {
+fn iv_of(number: u64) -> [u8; 12]
+    ensures { result ≡ iv_of number }
+{
     let mut iv = [0; 12];
     iv[4..].copy_from_slice(&number.to_be_bytes());
     iv
 }
 
-/// The client sends. Whether a Prepare went.
+/// The client sends, and this is the Send's number. Whether a Prepare went.
 pub(crate) fn send<A: Allocator + Copy>(
     world: &mut World<A>,
     number: u64,
     now: Moment,
 ) -> Result<bool, Stop>
-    ensures sent { IfOk result (λ sent. MatchBool sent (Sends now world.old world.new) (SendsNone world.old world.new)) }
+    ensures sent { IfOk result (λ sent. MatchBool sent (Sends number now world.old world.new) (SendsNone world.old world.new)) }
     ensures stops { IfErr result (λ e. Stops ⊥ ⊥ e world.old world.new) }
 {
     let told = meet(world, &Event::Send(Side::Client, iv_of(number), now))?;

@@ -1,11 +1,10 @@
 use Rattle.std.proofs.Common.{◌-◌}
-use Rattle.st_passage.specs.Rounds.{Rounds}
 use Rattle.st_passage.specs.Plays.{input_of}
-use Rattle.st_bounded.specs.Playing.{bytes_of, read_limit}
+use Rattle.st_bounded.specs.Playing.{NumberedRounds, bytes_of}
 use Rattle.st_bounded.proofs.rounds.go_rounds.Given as goal
 
 abbrev pub decreases-loop-sends : goal.decreases-loop-sends
 decreases-loop-sends g l = l.most - l.sends
 
 abbrev pub invariant-loop-sends : goal.invariant-loop-sends
-invariant-loop-sends g l = Rounds (input_of (bytes_of l.input)) read_limit l.hops 0 l.sends l.fn.world l.world
+invariant-loop-sends g l = NumberedRounds (input_of (bytes_of l.input)) l.hops 0 l.sends l.fn.world l.world

@@ -82,4 +82,4 @@ returns-clause-stops g c =
     err_as ⊥ ⊥ S E c.read_each.result w v (λ no. absurd no) (λ no. absurd no)
     (err_after ⊥ ⊥ c.read_each.result w e v
     (then w a e (met_on (allows money 0 65) w a c.in_ok-allow_each.ensures.met)
-    (then a b e (begins_on input money count a b c.in_ok-begin_each.ensures.begins) (rounds_on input read_limit c.hops-hops.result 0 c.go_rounds.new.sends b e c.in_ok-go_rounds.ensures.rounds))) c.read_each.ensures.stops)
+    (then a b e (begins_on input money count a b c.in_ok-begin_each.ensures.begins) (rounds_on input c.hops-hops.result 0 c.go_rounds.new.sends b e c.in_ok-go_rounds.ensures.rounds))) c.read_each.ensures.stops)

@@ -7,5 +7,5 @@ use Rattle.st_bounded.proofs.steps.send.Goals as goal
 
 pub returns-clause-sent : goal.returns-clause-sent
 returns-clause-sent g c =
-    subst (λ (b : Bool). MatchBool b (Sends c.args.now c.args.world.now c.meet.new.world) (SendsNone c.args.world.now c.meet.new.world)) (sym c.is_sent-sent.ensures)
-    (send_tells _ c.args.now (told_seen c.in_ok-told.told) c.args.world.now c.meet.new.world c.in_ok-told.ensures.met)
+    subst (λ (b : Bool). MatchBool b (Sends c.args.number c.args.now c.args.world.now c.meet.new.world) (SendsNone c.args.world.now c.meet.new.world)) (sym c.is_sent-sent.ensures)
+    (send_tells c.args.number c.iv_of.result c.args.now (told_seen c.in_ok-told.told) c.args.world.now c.meet.new.world c.iv_of.ensures c.in_ok-told.ensures.met)
