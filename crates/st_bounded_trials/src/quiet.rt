@@ -191,16 +191,16 @@ fn ending_at(rt: &impl Abort, heap: &Refusing<Global>, n: u64) -> Ending {
 #[test]
 fn a_refused_request_is_told(rt: HostRuntime) {
     let heap = Refusing::new(rt.alloc());
-    let (mut noted, mut unrecorded) = (0, 0);
+    let (mut noted, mut unrecorded) = (false, false);
     for n in 1..1_000 {
         let ending = ending_at(&rt, &heap, n);
         if !heap.has_refused() {
-            sure!(&rt; ending == Ending::Whole && noted > 0 && unrecorded > 0, n);
+            sure!(&rt; ending == Ending::Whole && noted && unrecorded, n);
             return;
         }
-        noted += u64::from(ending == Ending::Noted);
-        unrecorded += u64::from(ending == Ending::Unrecorded);
-        sure!(&rt; noted + unrecorded == n, n);
+        sure!(&rt; ending == Ending::Noted || ending == Ending::Unrecorded, n);
+        noted = noted || ending == Ending::Noted;
+        unrecorded = unrecorded || ending == Ending::Unrecorded;
     }
     panic!(&rt; "there were more requests");
 }
