@@ -53,16 +53,6 @@ impl<A: Allocator + Copy> Delivery<A> {
     }
 }
 
-/// What a world has left.
-fn trace_of<A: Allocator + Copy>(world: World<A>) -> Trace<A>
-    ensures { result ≡ left_of world }
-{
-    match world.play(&[]) {
-        Ok(trace) => trace,
-        Err((_fault, trace)) => trace,
-    }
-}
-
 /// Plays a run of fewer rounds than `most`, and counts its Sends.
 fn play<A: Allocator + Copy>(
     world: &mut World<A>,
@@ -107,7 +97,7 @@ fn play_lawful<A: Allocator + Copy>(
     let most = most_rounds(input, money);
     let mut sends = 0;
     let ended = play(&mut world, input, money, most, &mut sends);
-    let trace = trace_of(world);
+    let trace = world.into_trace();
     if is_unrecorded(&ended) {
         return Err((Fault::NoMemory, trace));
     }
@@ -138,5 +128,5 @@ pub fn quiet<A: Allocator + Copy>(
     if are_lawful(input, money) {
         return play_lawful(world, input, money);
     }
-    Err((Fault::BadInput, trace_of(world)))
+    Err((Fault::BadInput, world.into_trace()))
 }

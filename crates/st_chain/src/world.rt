@@ -86,8 +86,8 @@ impl<A: Allocator + Copy> World<A> {
         Ok(self.into_trace())
     }
 
-    /// What the run has left.
-    fn into_trace(self) -> Trace<A>
+    /// What the run has left, without the links over which it goes on. No memory.
+    pub fn into_trace(self) -> Trace<A>
         ensures trace { result ≡ left_of self }
         ensures holds { HoldsOf result }
     {

@@ -18,7 +18,7 @@ returns-then-is_unrecorded-clause-part g c =
     let w = c.args.world in
     let v = c.play-ended.new.world in
     let ends : Ends input money (length c.args.input.now) (length w.nodes) c.most_rounds-most.result c.play-ended.new.sends c.play-ended.result w v = record { played = c.play-ended.ensures.played; stops = c.play-ended.ensures.stops } in
-    (v, ends_on input money (length c.args.input.now) (length w.nodes) c.most_rounds-most.result c.play-ended.new.sends c.play-ended.result w v ends, c.trace_of-trace.ensures)
+    (v, ends_on input money (length c.args.input.now) (length w.nodes) c.most_rounds-most.result c.play-ended.new.sends c.play-ended.result w v ends, c.into_trace-trace.ensures.trace)
 
 pub returns-clause-run : goal.returns-clause-run
 returns-clause-run g c =
@@ -27,7 +27,7 @@ returns-clause-run g c =
     let w = c.args.world in
     let v = c.play-ended.new.world in
     let ends : Ends input money (length c.args.input.now) (length w.nodes) c.most_rounds-most.result c.play-ended.new.sends c.play-ended.result w v = record { played = c.play-ended.ensures.played; stops = c.play-ended.ensures.stops } in
-    (v, ends_on input money (length c.args.input.now) (length w.nodes) c.most_rounds-most.result c.play-ended.new.sends c.play-ended.result w v ends, c.trace_of-trace.ensures)
+    (v, ends_on input money (length c.args.input.now) (length w.nodes) c.most_rounds-most.result c.play-ended.new.sends c.play-ended.result w v ends, c.into_trace-trace.ensures.trace)
 
 pub returns-clause-delivered : goal.returns-clause-delivered
 returns-clause-delivered g c = λ chain first may calm.
@@ -38,7 +38,7 @@ returns-clause-delivered g c = λ chain first may calm.
     let count = length c.args.input.now in
     let counted : count ≡ length xs = sym (length-map c.args.input.now (λ x. x.now)) in
     let ends : Ends (input_of xs) (money_of ms) count (length w.nodes) c.most_rounds-most.result c.play-ended.new.sends c.play-ended.result w v = record { played = c.play-ended.ensures.played; stops = c.play-ended.ensures.stops } in
-    run_delivers chain xs ms c.requires may w first count counted c.most_rounds-most.result c.play-ended.new.sends c.play-ended.result v c.trace_of-trace.result c.trace_of-trace.ensures calm
+    run_delivers chain xs ms c.requires may w first count counted c.most_rounds-most.result c.play-ended.new.sends c.play-ended.result v c.into_trace-trace.result c.into_trace-trace.ensures.trace calm
     (c.most_rounds-most.ensures chain.config.packet_limit may.may_send.pays may.input_fits may.money_fits) (sym c.is_unrecorded.ensures ∙ c.if-is_unrecorded.false) ends
 
 pub returns-clause-bounded : goal.returns-clause-bounded
@@ -50,7 +50,7 @@ returns-clause-bounded g c = λ chain first may calm.
     let count = length c.args.input.now in
     let counted : count ≡ length xs = sym (length-map c.args.input.now (λ x. x.now)) in
     let ends : Ends (input_of xs) (money_of ms) count (length w.nodes) c.most_rounds-most.result c.play-ended.new.sends c.play-ended.result w v = record { played = c.play-ended.ensures.played; stops = c.play-ended.ensures.stops } in
-    run_bounded chain xs ms c.requires may w first count counted c.most_rounds-most.result c.play-ended.new.sends c.play-ended.result v c.trace_of-trace.result c.trace_of-trace.ensures calm
+    run_bounded chain xs ms c.requires may w first count counted c.most_rounds-most.result c.play-ended.new.sends c.play-ended.result v c.into_trace-trace.result c.into_trace-trace.ensures.trace calm
     (c.most_rounds-most.ensures chain.config.packet_limit may.may_send.pays may.input_fits may.money_fits) (sym c.is_unrecorded.ensures ∙ c.if-is_unrecorded.false) ends
 
 pub returns-clause-sharper : goal.returns-clause-sharper
@@ -62,5 +62,5 @@ returns-clause-sharper g c = λ chain first may calm.
     let count = length c.args.input.now in
     let counted : count ≡ length xs = sym (length-map c.args.input.now (λ x. x.now)) in
     let ends : Ends (input_of xs) (money_of ms) count (length w.nodes) c.most_rounds-most.result c.play-ended.new.sends c.play-ended.result w v = record { played = c.play-ended.ensures.played; stops = c.play-ended.ensures.stops } in
-    run_sharp chain xs ms c.requires may w first count counted c.most_rounds-most.result c.play-ended.new.sends c.play-ended.result v c.trace_of-trace.result c.trace_of-trace.ensures calm
+    run_sharp chain xs ms c.requires may w first count counted c.most_rounds-most.result c.play-ended.new.sends c.play-ended.result v c.into_trace-trace.result c.into_trace-trace.ensures.trace calm
     (c.most_rounds-most.ensures chain.config.packet_limit may.may_send.pays may.input_fits may.money_fits) (sym c.is_unrecorded.ensures ∙ c.if-is_unrecorded.false) ends
