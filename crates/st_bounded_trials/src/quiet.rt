@@ -40,19 +40,38 @@ fn world<A: Allocator + Copy>(rt: &impl Abort, alloc: A, hops: usize) -> World<A
     World::new(alloc, hops, config).expect(rt, "there is memory")
 }
 
-/// A run for which there was memory.
-fn played(
-    rt: &impl Abort,
-    world: World<Global>,
-    input: &[&[u8]],
-    money: &[u64],
-) -> Delivery<Global> {
-    match quiet(world, input, money) {
-        Ok(run) => {
-            sure!(rt; !run.trace().refused());
-            run
+/// What is seen of a run.
+#[derive(Clone, Copy)]
+struct Seen {
+    /// The number of the refusal.
+    fault: Option<u8>,
+    /// Whether a call found no memory.
+    is_noted: bool,
+    is_opened: bool,
+    /// Whether all bytes of each stream were written and read, and its end was told.
+    is_whole: bool,
+    sends: u64,
+    /// How many of them the server answered.
+    answered: u64,
+    paid: u64,
+    credited: u64,
+}
+
+impl Seen {
+    fn is_delivered(&self) -> bool {
+        self.fault.is_none() && !self.is_noted && self.is_whole && self.paid == self.credited
+    }
+
+    /// Whether it ended early for want of memory, and counts each Send that was answered, and at most the next.
+    fn is_cut(&self) -> bool {
+        match self.fault {
+            Some(fault) => fault == 77,
+            None => self.is_noted && self.is_counted(),
         }
-        Err(_) => panic!(rt; "there is memory"),
+    }
+
+    fn is_counted(&self) -> bool {
+        self.answered <= self.sends && self.sends - self.answered <= 1
     }
 }
 
@@ -64,18 +83,57 @@ fn is_whole<A: Allocator + Copy>(trace: &Trace<A>, stream: u8, input: &[u8]) -> 
     ledger.written() == input && ledger.read() == input && ledger.is_closed() && ledger.told_end()
 }
 
-/// What the client paid, and the server was credited.
-fn amounts<A: Allocator + Copy>(trace: &Trace<A>) -> (u64, u64) {
-    let paid = trace.end(Side::Client).totals().paid;
-    (paid, trace.end(Side::Server).totals().credited)
+fn are_whole<A: Allocator + Copy>(trace: &Trace<A>, input: &[&[u8]]) -> bool {
+    let mut stream: u8 = 1;
+    for bytes in input {
+        if !is_whole(trace, stream, bytes) {
+            return false;
+        }
+        stream = stream.wrapping_add(2);
+    }
+    true
+}
+
+fn seen_in<A: Allocator + Copy>(
+    trace: &Trace<A>,
+    input: &[&[u8]],
+    fault: Option<u8>,
+    sends: u64,
+) -> Seen {
+    let server = trace.end(Side::Server);
+    Seen {
+        fault,
+        is_noted: trace.refused(),
+        is_opened: trace.ledger(Side::Client, 1).is_some(),
+        is_whole: are_whole(trace, input),
+        sends,
+        answered: server.answered().len() as u64,
+        paid: trace.end(Side::Client).totals().paid,
+        credited: server.totals().credited,
+    }
+}
+
+fn seen_of<A: Allocator + Copy>(
+    ended: &Result<Delivery<A>, (Fault, Trace<A>)>,
+    input: &[&[u8]],
+) -> Seen {
+    match ended {
+        Ok(run) => seen_in(run.trace(), input, None, run.sends()),
+        Err((fault, trace)) => seen_in(trace, input, Some(fault.number()), 0),
+    }
+}
+
+/// A run. It ends in this function alone, since the prover takes more than a minute for each that drops what it left.
+fn play<A: Allocator + Copy>(world: World<A>, input: &[&[u8]], money: &[u64]) -> Seen {
+    seen_of(&quiet(world, input, money), input)
 }
 
 /// How many Sends it takes to deliver so many bytes over so many hops.
 fn sends_for(rt: &impl Abort, alloc: Global, count: usize, hops: usize) -> u64 {
     let input = bytes(rt, alloc, count);
-    let run = played(rt, world(rt, alloc, hops), &[&input], &[0]);
-    sure!(rt; is_whole(run.trace(), 1, &input));
-    run.sends()
+    let seen = play(world(rt, alloc, hops), &[&input], &[0]);
+    sure!(rt; seen.is_delivered());
+    seen.sends
 }
 
 #[test]
@@ -101,19 +159,20 @@ fn ten_windows_are_delivered(rt: HostRuntime) {
 }
 
 /// Two streams, of which one has bytes, with 250 units: the contract allows 10 Sends.
-fn is_shared<A: Allocator + Copy>(run: &Delivery<A>) -> bool {
-    run.sends() == 4
-        && is_whole(run.trace(), 1, b"abc")
-        && is_whole(run.trace(), 3, b"")
-        && amounts(run.trace()) == (250, 250)
+fn play_two<A: Allocator + Copy>(world: World<A>) -> Seen {
+    play(world, &[b"abc", b""], &[200, 50])
+}
+
+/// Whether all of it was delivered.
+fn are_shared(seen: &Seen) -> bool {
+    seen.is_delivered() && seen.sends == 4 && seen.credited == 250
 }
 
 #[test]
 fn money_goes_with_bytes(rt: HostRuntime) {
     for hops in 0..9 {
-        let world = world(&rt, rt.alloc(), hops);
-        let run = played(&rt, world, &[b"abc", b""], &[200, 50]);
-        sure!(&rt; is_shared(&run), hops as u64);
+        let seen = play_two(world(&rt, rt.alloc(), hops));
+        sure!(&rt; are_shared(&seen), hops as u64);
     }
 }
 
@@ -122,23 +181,17 @@ fn money_goes_with_bytes(rt: HostRuntime) {
 fn all_streams_are_delivered(rt: HostRuntime) {
     let input = bytes(&rt, rt.alloc(), 1_000);
     let each: [&[u8]; 32] = [&input; 32];
-    let run = played(&rt, world(&rt, rt.alloc(), 1), &each, &[10; 32]);
-    for place in 0..32 {
-        sure!(&rt; is_whole(run.trace(), 2 * place + 1, &input));
-    }
-    sure!(&rt; amounts(run.trace()) == (320, 320));
-    sure!(&rt; run.sends() == 64);
+    let seen = play(world(&rt, rt.alloc(), 1), &each, &[10; 32]);
+    sure!(&rt; seen.is_delivered());
+    sure!(&rt; seen.credited == 320);
+    sure!(&rt; seen.sends == 64);
 }
 
 /// The number of the refusal, where these are no arguments.
 fn refusal(rt: &impl Abort, alloc: Global, input: &[&[u8]], money: &[u64]) -> Option<u8> {
-    match quiet(world(rt, alloc, 0), input, money) {
-        Ok(_) => None,
-        Err((fault, trace)) => {
-            sure!(rt; trace.ledger(Side::Client, 1).is_none());
-            Some(fault.number())
-        }
-    }
+    let seen = play(world(rt, alloc, 0), input, money);
+    sure!(rt; seen.is_opened == seen.fault.is_none());
+    seen.fault
 }
 
 #[test]
@@ -152,40 +205,12 @@ fn each_stream_has_bytes_and_an_amount(rt: HostRuntime) {
     sure!(&rt; of(&[empty; 32], &[0; 32]).is_none());
 }
 
-/// How a run ended of which a request for memory was refused.
-#[derive(Clone, Copy, PartialEq, Eq)]
-enum Ending {
-    /// All was delivered.
-    Whole,
-    /// A call found no memory, and the trace says so.
-    Noted,
-    /// The world could not record an event.
-    Unrecorded,
-    /// Less was delivered, and nothing was told of memory.
-    Wrong,
-}
-
-fn ending_of<A: Allocator + Copy>(run: &Delivery<A>) -> Ending {
-    if run.trace().refused() {
-        return Ending::Noted;
-    }
-    if is_shared(run) {
-        Ending::Whole
-    } else {
-        Ending::Wrong
-    }
-}
-
 /// The run over one hop, where the request of this number is refused.
-fn ending_at(rt: &impl Abort, heap: &Refusing<Global>, n: u64) -> Ending {
+fn play_cut(rt: &impl Abort, heap: &Refusing<Global>, n: u64) -> Seen {
     heap.refuse_none();
     let world = world(rt, heap, 1);
     heap.refuse_only(n);
-    match quiet(world, &[b"abc", b""], &[200, 50]) {
-        Ok(run) => ending_of(&run),
-        Err((Fault::NoMemory, _)) => Ending::Unrecorded,
-        Err(_) => Ending::Wrong,
-    }
+    play_two(world)
 }
 
 #[test]
@@ -193,14 +218,14 @@ fn a_refused_request_is_told(rt: HostRuntime) {
     let heap = Refusing::new(rt.alloc());
     let (mut noted, mut unrecorded) = (false, false);
     for n in 1..1_000 {
-        let ending = ending_at(&rt, &heap, n);
+        let seen = play_cut(&rt, &heap, n);
         if !heap.has_refused() {
-            sure!(&rt; ending == Ending::Whole && noted && unrecorded, n);
+            sure!(&rt; are_shared(&seen) && noted && unrecorded, n);
             return;
         }
-        sure!(&rt; ending == Ending::Noted || ending == Ending::Unrecorded, n);
-        noted = noted || ending == Ending::Noted;
-        unrecorded = unrecorded || ending == Ending::Unrecorded;
+        sure!(&rt; seen.is_cut(), n);
+        noted = noted || seen.fault.is_none();
+        unrecorded = unrecorded || seen.fault.is_some();
     }
     panic!(&rt; "there were more requests");
 }

@@ -87,6 +87,8 @@ impl<A: Allocator + Copy> World<A> {
     }
 
     /// What the run has left, without the links over which it goes on. No memory.
+    // Within a caller LLVM takes minutes to follow its moves, each of nearly 20,000 bytes.
+    #[inline(never)]
     pub fn into_trace(self) -> Trace<A>
         ensures trace { result ≡ left_of self }
         ensures holds { HoldsOf result }

@@ -20,7 +20,8 @@ pub struct Neighbour<'a> {
 impl<'a> Neighbour<'a> {
     /// A neighbour, or `None` where one of the texts is none that a request may have (`is_field_text`).
     pub fn new(host: &'a str, token: &'a str) -> Option<Neighbour<'a>>
-        ensures { IsSome result ↔ (IsTrue (texts.is_field_text host.now) × IsTrue (texts.is_field_text token.now)) }
+        ensures taken { IsSome result ↔ (IsTrue (texts.is_field_text host.now) × IsTrue (texts.is_field_text token.now)) }
+        ensures parts { IfSome result (λ n. (n.host.now ≡ host.now) × (n.token.now ≡ token.now)) }
     {
         if !is_field_text(host) {
             return None;
