@@ -1,3 +1,5 @@
-//! An example of the README, word for word: what it does and what it answers. It can be pasted as it is.
+//! Examples of the README, word for word: what they read or do, and what they answer. Each can be pasted as it is.
 
 mod pieces;
+mod sealing;
+mod texts;

@@ -1,5 +1,6 @@
-//! Tests of the command `frames`: what it answers, also over devices that fail and while memory is refused. No contract
-//! can say that memory is to be had, or what a device gives: these tests do.
+//! Tests of the words of the commands, of a connector's table and of the command `frames`: each command's words with values
+//! from outside, each bad text, what `frames` answers, also over devices that fail, and each request for memory refused in
+//! turn. No contract can say that memory is to be had, or what a device gives: these tests do.
 #![tactic(auto)]
 
 #[cfg(test)]
@@ -44,3 +45,7 @@ mod examples;
 mod frames;
 #[cfg(test)]
 mod memory;
+#[cfg(test)]
+mod tables;
+#[cfg(test)]
+mod words;

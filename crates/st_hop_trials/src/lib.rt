@@ -1,6 +1,6 @@
-//! Tests of the hop: worked Prepares and answers, and a hop while memory is refused. Each request for memory is refused in
-//! turn, from the first until a run meets no refusal, or up to `LAST`; after a refusal the hop is as before, and the same
-//! call then succeeds.
+//! Tests of the hop: worked Prepares and answers, a hop that threads serve through links in memory, links that fail, and a hop
+//! while memory is refused. Each request for memory is refused in turn, from the first until a run meets no refusal, or up to
+//! `LAST`; after a refusal the hop is as before, and the same call then succeeds.
 #![tactic(auto)]
 
 #[cfg(test)]
@@ -31,9 +31,17 @@ fn sure_at(rt: &impl Abort, holds: bool, fact: &str, n: u64) {
 #[cfg(test)]
 mod arrivals;
 #[cfg(test)]
+mod desks;
+#[cfg(test)]
 mod examples;
 #[cfg(test)]
+mod faults;
+#[cfg(test)]
 mod hop;
+#[cfg(test)]
+mod memory;
+#[cfg(test)]
+mod threads;
 #[cfg(test)]
 mod waiting;
 #[cfg(test)]

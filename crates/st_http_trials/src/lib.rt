@@ -1,5 +1,5 @@
-//! Tests of ILP over HTTP: worked requests and responses in pieces, each call of a stream that fails in turn, and each
-//! request for memory refused in turn.
+//! Tests of ILP over HTTP: worked requests and responses in pieces, each call of a stream that fails in turn, each request for
+//! memory refused in turn, and exchanges over loopback.
 #![tactic(auto)]
 
 #[cfg(test)]
@@ -40,5 +40,7 @@ fn sure_of(rt: &impl Abort, holds: bool, fact: &str, text: &str) {
 mod examples;
 #[cfg(test)]
 mod http;
+#[cfg(test)]
+mod loopback;
 #[cfg(test)]
 mod worked;

@@ -1,0 +1,38 @@
+//! Tests of whole runs: quiet runs, what they deliver and how many Sends it takes; the command `local`, what it answers to
+//! worked inputs and over devices that fail; and each request for memory refused in turn. No contract can say that memory is
+//! to be had, that the bytes of `local` arrive, or what a device gives: these tests do.
+#![tactic(auto)]
+
+#[cfg(test)]
+use std::process::Abort;
+
+/// Ends the test where a fact does not hold, and tells which, as `assert!` does. The prover takes a third of the time for it.
+#[cfg(test)]
+macro_rules! sure {
+    ($rt:expr; $fact:expr) => {
+        crate::sure($rt, $fact, stringify!($fact))
+    };
+    ($rt:expr; $fact:expr, $at:expr) => {
+        crate::sure_at($rt, $fact, stringify!($fact), $at)
+    };
+}
+
+#[cfg(test)]
+fn sure(rt: &impl Abort, holds: bool, fact: &str) {
+    assert!(rt; holds, "not so: {fact}");
+}
+
+/// The same of a step in a loop.
+#[cfg(test)]
+fn sure_at(rt: &impl Abort, holds: bool, fact: &str, n: u64) {
+    assert!(rt; holds, "not so at {n}: {fact}");
+}
+
+#[cfg(test)]
+mod devices;
+#[cfg(test)]
+mod memory;
+#[cfg(test)]
+mod quiet;
+#[cfg(test)]
+mod rows;
