@@ -1,6 +1,9 @@
-use Rattle.std.proofs.Common.{◌<◌, ◌∙◌, Some, refl, sym, ap, subst}
+use Rattle.std.proofs.Common.{◌<◌, ◌∙◌, Some, refl, sym, ap, subst, length, arith}
+use Rattle.std.specs.declared.option.Option.{Option}
+use Rattle.std.specs.declared.option.Option.TheVariants.{None}
 use Rattle.std.proofs.lemmas.List.{length-set}
 use Rattle.st_receiver.specs.Standing.{Standing, is_ready}
+use Rattle.st_receiver.specs.Streams.{Incoming}
 use Rattle.st_receiver.proofs.Applying.{changed, changed_keeps, drawn_length, ready_within}
 use Rattle.st_receiver.proofs.intake.Intake.open_ready.Goals as goal
 
@@ -15,6 +18,14 @@ returns-clause-keeps g c =
     c.args.stream c.drawn-incoming.result c.self.view_is c.drawn-incoming.ensures.left
     (subst (λ n. c.args.stream < n) (sym c.self.invariant.0) (ready_within c.self.inside.slots.items c.self.inside.windows.items c.args.stream c.self.invariant.0 c.self.invariant.1 (ap (λ (t : Standing). is_ready t c.args.stream) c.self.view_is ∙ c.requires.ready)))
     c.drawn-incoming.ensures.others
+
+pub index_mut-requires : goal.index_mut-requires
+index_mut-requires g c =
+    let none : Option Incoming = None in
+    let l = length-set c.self.inside.slots.items c.args.stream none in
+    let e = ap length c.drawn-incoming.ensures.left in
+    let b = ready_within c.self.inside.slots.items c.self.inside.windows.items c.args.stream c.self.invariant.0 c.self.invariant.1 (ap (λ (t : Standing). is_ready t c.args.stream) c.self.view_is ∙ c.requires.ready) in
+    omega (arith, l, e, b, c.self.invariant, c.drawn-incoming.new.slots.ok)
 
 pub drawn-incoming-requires-clause-within : goal.drawn-incoming-requires-clause-within
 drawn-incoming-requires-clause-within g c = ready_within c.self.inside.slots.items c.self.inside.windows.items c.args.stream c.self.invariant.0 c.self.invariant.1 (ap (λ (t : Standing). is_ready t c.args.stream) c.self.view_is ∙ c.requires.ready)
