@@ -1,17 +1,18 @@
 //! Hostile bytes as the answers to an end's Prepares.
 
 use crate::ends::{OWN, PEER, SECRET};
+use crate::sure_at;
 use hostile::answers::{ANSWERS, fulfill_bytes, reject_bytes};
 use hostile::ilp::PlainAnswer;
 use hostile::{FIRST, INPUTS, Met, Numbers, STEPS, ilp};
-use st_end::{EndError, EndState, Flight, Role};
+use st_end::{EndState, Flight, Role};
 use st_frames::Frame;
 use st_ilp::Moment;
 use st_keys::Keys;
 use st_oer::is_address;
 use st_sender::EndConfig;
-use std::alloc::{AllocError, Global};
-use std::test::Fail;
+use std::alloc::Global;
+use std::process::Abort;
 
 /// A flight that is abandoned where it is let go.
 struct Waiting {
@@ -32,43 +33,41 @@ impl Waiting {
     }
 }
 
+/// Gives an end bytes and money to send.
+fn fill(rt: &impl Abort, end: &mut EndState<Global>) {
+    let stream = end.open_stream().expect(rt, "a stream");
+    end.write(stream, &[7; 200]).expect(rt, "memory");
+    end.offer(stream, 1_000).expect(rt, "an offer");
+}
+
 /// A client that has bytes and money to send.
-fn new_client(alloc: Global, config: EndConfig) -> Result<EndState<Global>, EndError> {
-    if !is_address(OWN) || !is_address(PEER) {
-        return Err(EndError::NoStream);
-    }
+fn new_client(rt: &impl Abort, alloc: Global, config: EndConfig) -> EndState<Global> {
+    assert!(rt; is_address(OWN) && is_address(PEER));
     let keys = Keys::of(SECRET);
-    let mut end = EndState::new(alloc, Role::Client, keys, PEER, OWN, config)?;
-    let stream = end.open_stream()?;
-    end.write(stream, &[7; 200])?;
-    end.offer(stream, 1_000)?;
-    Ok(end)
+    let mut end = EndState::new(alloc, Role::Client, keys, PEER, OWN, config).expect(rt, "memory");
+    fill(rt, &mut end);
+    end
 }
 
 /// The next Prepare, if there is one.
 fn sent(
+    rt: &impl Abort,
     end: &mut EndState<Global>,
     iv: [u8; 12],
     now: Moment,
-) -> Result<Option<(Waiting, Vec<u8>)>, EndError> {
-    match end.send(iv, now)? {
-        Some((flight, bytes)) => Ok(Some((Waiting { flight }, bytes))),
-        None => Ok(None),
-    }
+) -> Option<(Waiting, Vec<u8>)> {
+    let (flight, bytes) = end.send(iv, now).expect(rt, "memory")?;
+    Some((Waiting { flight }, bytes))
 }
 
-/// The Fulfill of a Prepare, with the limits of a peer that takes what comes; sometimes with other data.
-fn fulfill(
+/// The sealed packet of a Fulfill, with the limits of a peer that takes what comes.
+fn reply(
+    rt: &impl Abort,
     alloc: Global,
     keys: &Keys,
     numbers: &mut Numbers,
     iv: [u8; 12],
-    prepare: &[u8],
-) -> Result<Vec<u8>, Fail> {
-    let payload = match ilp::prepare(prepare) {
-        Ok(prepare) => prepare.payload,
-        Err(_) => &[],
-    };
+) -> Vec<u8> {
     let sequence = numbers.choice(&[1, 2, 3, 4]);
     let limits = [
         Frame::ConnectionMaxData { max_offset: 100 },
@@ -78,16 +77,33 @@ fn fulfill(
             total_received: numbers.choice(&[0, 10]),
         },
     ];
-    let reply = keys.seal_packet(alloc, iv, 13, sequence, 0, &limits)?;
+    keys.seal_packet(alloc, iv, 13, sequence, 0, &limits)
+        .expect(rt, "memory")
+}
+
+/// The Fulfill of a Prepare, with a sealed packet, or sometimes with other data.
+fn fulfill(
+    rt: &impl Abort,
+    alloc: Global,
+    keys: &Keys,
+    numbers: &mut Numbers,
+    iv: [u8; 12],
+    prepare: &[u8],
+) -> Vec<u8> {
+    let payload = match ilp::prepare(prepare) {
+        Ok(prepare) => prepare.payload,
+        Err(_) => &[],
+    };
+    let reply = reply(rt, alloc, keys, numbers, iv);
     let data = match numbers.below(4) {
         0 => b"short".as_slice(),
         _ => reply.as_slice(),
     };
-    Ok(fulfill_bytes(alloc, &keys.fulfillment(payload), data)?)
+    fulfill_bytes(alloc, &keys.fulfillment(payload), data).expect(rt, "memory")
 }
 
 /// A Reject with one of the codes that count for a sender.
-fn reject(alloc: Global, numbers: &mut Numbers) -> Result<Vec<u8>, AllocError> {
+fn reject(rt: &impl Abort, alloc: Global, numbers: &mut Numbers) -> Vec<u8> {
     let data = numbers.pick(&[
         b"",
         b"\0\0\0\0\0\0\0\x96\0\0\0\0\0\0\0\x64",
@@ -101,29 +117,35 @@ fn reject(alloc: Global, numbers: &mut Numbers) -> Result<Vec<u8>, AllocError> {
         8..=12 => b"R00",
         _ => b"F08",
     };
-    reject_bytes(alloc, code, b"test.c", data)
+    reject_bytes(alloc, code, b"test.c", data).expect(rt, "memory")
+}
+
+/// These bytes with changes.
+fn changed(rt: &impl Abort, alloc: Global, numbers: &mut Numbers, bytes: &[u8]) -> Vec<u8> {
+    ANSWERS.changed(alloc, numbers, bytes).expect(rt, "memory")
 }
 
 /// What comes back to a Prepare.
 fn answer(
+    rt: &impl Abort,
     alloc: Global,
     keys: &Keys,
     numbers: &mut Numbers,
     iv: [u8; 12],
     prepare: &[u8],
-) -> Result<Vec<u8>, Fail> {
+) -> Vec<u8> {
     match numbers.below(8) {
-        0..=2 => fulfill(alloc, keys, numbers, iv, prepare),
+        0..=2 => fulfill(rt, alloc, keys, numbers, iv, prepare),
         3 | 4 => {
-            let bytes = fulfill(alloc, keys, numbers, iv, prepare)?;
-            Ok(ANSWERS.changed(alloc, numbers, &bytes)?)
+            let bytes = fulfill(rt, alloc, keys, numbers, iv, prepare);
+            changed(rt, alloc, numbers, &bytes)
         }
-        5 => Ok(reject(alloc, numbers)?),
+        5 => reject(rt, alloc, numbers),
         6 => {
-            let bytes = reject(alloc, numbers)?;
-            Ok(ANSWERS.changed(alloc, numbers, &bytes)?)
+            let bytes = reject(rt, alloc, numbers);
+            changed(rt, alloc, numbers, &bytes)
         }
-        _ => Ok(ANSWERS.hostile(alloc, numbers)?),
+        _ => ANSWERS.hostile(alloc, numbers).expect(rt, "memory"),
     }
 }
 
@@ -163,62 +185,68 @@ fn taken(end: &mut EndState<Global>, waiting: Waiting, bytes: &mut [u8]) -> Opti
     }
 }
 
-/// Whether an end does with what comes back to its next Prepare what the rules say. It paid this much before.
-fn is_done(
-    alloc: Global,
-    keys: &Keys,
-    end: &mut EndState<Global>,
-    numbers: &mut Numbers,
-    paid: &mut u64,
-    met: &mut Met,
-) -> Result<bool, Fail> {
-    let mut iv = [0; 12];
-    iv[..8].copy_from_slice(&numbers.next().to_be_bytes());
-    let now = Moment::new(0).ok_or("a moment")?;
-    let Some((waiting, prepare)) = sent(end, iv, now)? else {
-        return Ok(true);
-    };
-    let Ok(plain) = ilp::prepare(&prepare) else {
-        return Ok(false);
-    };
-    iv[11] = 1;
-    let mut bytes = answer(alloc, keys, numbers, iv, &prepare)?;
-    let want = done_by(&bytes, &keys.fulfillment(plain.payload));
+/// Takes note of what an answer has to do, and of what it pays.
+fn note(want: Does, amount: u64, paid: &mut u64, met: &mut Met) {
     if want == Does::Pays {
-        *paid = paid.saturating_add(plain.amount);
+        *paid = paid.saturating_add(amount);
     }
     met.note(match want {
         Does::Pays => 0,
         Does::Fails => 1,
         Does::Nothing => 2,
     });
+}
+
+/// Whether an end does with what comes back to its next Prepare what the rules say. It paid this much before.
+fn is_done(
+    rt: &impl Abort,
+    alloc: Global,
+    keys: &Keys,
+    end: &mut EndState<Global>,
+    numbers: &mut Numbers,
+    paid: &mut u64,
+    met: &mut Met,
+) -> bool {
+    let mut iv = [0; 12];
+    iv[..8].copy_from_slice(&numbers.next().to_be_bytes());
+    let now = Moment::new(0).expect(rt, "a moment");
+    let Some((waiting, prepare)) = sent(rt, end, iv, now) else {
+        return true;
+    };
+    let Ok(plain) = ilp::prepare(&prepare) else {
+        return false;
+    };
+    iv[11] = 1;
+    let mut bytes = answer(rt, alloc, keys, numbers, iv, &prepare);
+    let want = done_by(&bytes, &keys.fulfillment(plain.payload));
+    note(want, plain.amount, paid, met);
     let told = taken(end, waiting, &mut bytes);
-    Ok(told == Some(want == Does::Pays) && end.is_failed() == (want == Does::Fails))
+    told == Some(want == Does::Pays) && end.is_failed() == (want == Does::Fails)
+}
+
+/// All steps of a seed, at one end after another.
+fn runs(rt: &impl Abort, alloc: Global, config: EndConfig, seed: u64, met: &mut Met) {
+    let keys = Keys::of(SECRET);
+    let mut numbers = Numbers::of(seed);
+    let mut end = new_client(rt, alloc, config);
+    let mut paid = 0;
+    for step in 0..STEPS {
+        if end.is_failed() {
+            end = new_client(rt, alloc, config);
+            paid = 0;
+        }
+        let agrees = is_done(rt, alloc, &keys, &mut end, &mut numbers, &mut paid, met);
+        sure_at(rt, agrees && end.totals().paid == paid, seed, step, &[]);
+    }
 }
 
 /// An end pays for the Fulfill of its Prepare alone, and its connection fails for a final Reject alone.
 #[test]
-fn an_end_takes_the_answers_that_the_rules_say(rt: HostRuntime) -> Result<(), Fail> {
-    let alloc = rt.alloc();
-    let keys = Keys::of(SECRET);
-    let config = EndConfig::new(16, 100, 100).ok_or("a configuration")?;
+fn an_end_takes_the_answers_that_the_rules_say(rt: HostRuntime) {
+    let config = EndConfig::new(16, 100, 100).expect(&rt, "a configuration");
     let mut met = Met::new();
     for seed in FIRST..FIRST + INPUTS / STEPS {
-        let mut numbers = Numbers::of(seed);
-        let mut end = new_client(alloc, config)?;
-        let mut paid = 0;
-        for step in 0..STEPS {
-            if end.is_failed() {
-                end = new_client(alloc, config)?;
-                paid = 0;
-            }
-            assert!(rt;
-                is_done(alloc, &keys, &mut end, &mut numbers, &mut paid, &mut met)?,
-                "seed {seed}, step {step}"
-            );
-            assert_eq!(rt; end.totals().paid, paid, "seed {seed}, step {step}");
-        }
+        runs(&rt, rt.alloc(), config, seed, &mut met);
     }
-    assert_eq!(rt; met.lacks(&[0, 1, 2]), None);
-    Ok(())
+    assert!(rt; met.lacks(&[0, 1, 2]) == None);
 }

@@ -2,21 +2,21 @@
 
 use crate::plain_end::{PlainEnd, PlainStream};
 use crate::samples::PACKETS;
+use crate::{changed_bytes, sure_at};
 use hostile::ilp::{PlainAnswer, PlainPrepare};
 use hostile::prepares::{EXPIRIES, EXPIRY, Offer, PREPARES, prepare_bytes};
 use hostile::stream::{PlainFrame, PlainPacket, packet};
-use hostile::{EDGES, FIRST, INPUTS, Met, Numbers, STEPS, changed_at, ilp};
+use hostile::{EDGES, FIRST, INPUTS, Met, Numbers, STEPS, ilp};
 use st_aes::{Key, seal};
-use st_end::{EndError, EndState, Received, Role};
+use st_end::{EndState, Received, Role};
 use st_frames::{Frame, write_packet};
 use st_ilp::Moment;
 use st_keys::{Keys, OVERHEAD, condition, hmac};
 use st_oer::is_address;
 use st_receiver::Got;
 use st_sender::EndConfig;
-use std::alloc::{AllocError, Global};
+use std::alloc::Global;
 use std::process::Abort;
-use std::test::Fail;
 
 pub(crate) const SECRET: [u8; 32] = [0; 32];
 
@@ -56,27 +56,34 @@ struct Sealed {
     condition: [u8; 32],
 }
 
+/// A payload of its three parts.
+fn joined(rt: &impl Abort, alloc: Global, iv: &[u8], tag: &[u8], text: &[u8]) -> Vec<u8> {
+    let mut payload = Vec::from_slice(alloc, iv).expect(rt, "memory");
+    payload.extend_from_slice(tag).expect(rt, "memory");
+    payload.extend_from_slice(text).expect(rt, "memory");
+    payload
+}
+
 /// Seals any bytes.
 fn seal_bytes(
+    rt: &impl Abort,
     alloc: Global,
     sealer: &Sealer,
     numbers: &mut Numbers,
     plain: Vec<u8>,
-) -> Result<Sealed, AllocError> {
+) -> Sealed {
     let mut iv = [0; 12];
     iv[..8].copy_from_slice(&numbers.next().to_be_bytes());
-    let mut text = plain.to_vec(alloc)?;
+    let mut text = plain.to_vec(alloc).expect(rt, "memory");
     let tag = seal(&sealer.key, iv, &mut text);
-    let mut payload = Vec::from_slice(alloc, &iv)?;
-    payload.extend_from_slice(&tag)?;
-    payload.extend_from_slice(&text)?;
+    let payload = joined(rt, alloc, &iv, &tag, &text);
     let fulfillment = sealer.keys.fulfillment(&payload);
-    Ok(Sealed {
+    Sealed {
         plain,
         payload,
         fulfillment,
         condition: condition(fulfillment),
-    })
+    }
 }
 
 /// A number of a stream, mostly one that is lawful.
@@ -181,54 +188,57 @@ fn amount(numbers: &mut Numbers) -> u64 {
 }
 
 /// A lawful packet with up to five frames, of one of a few sequences, for a Prepare of this amount.
-fn lawful_packet(alloc: Global, numbers: &mut Numbers, amount: u64) -> Result<Vec<u8>, Fail> {
+fn lawful_packet(rt: &impl Abort, alloc: Global, numbers: &mut Numbers, amount: u64) -> Vec<u8> {
     let mut frames = Vec::new(alloc);
     for _ in 0..numbers.below(6) {
-        frames.push(any_frame(numbers))?;
+        frames.push(any_frame(numbers)).expect(rt, "memory");
     }
     let sequence = numbers.choice(&[0, 1, 2, 3, 4, 5, 6, 7, 8, 300, u64::MAX]);
     let least = numbers.choice(&[0, 0, amount, amount, amount, amount.saturating_add(1)]);
-    Ok(write_packet(alloc, 12, sequence, least, &frames)?)
+    write_packet(alloc, 12, sequence, least, &frames).expect(rt, "memory")
 }
 
 /// A packet with a byte at the window's end of about as many streams as the connection takes, and then one byte more or none.
-fn wide_packet(alloc: Global, numbers: &mut Numbers) -> Result<Vec<u8>, Fail> {
+fn wide_packet(rt: &impl Abort, alloc: Global, numbers: &mut Numbers) -> Vec<u8> {
     let mut frames = Vec::new(alloc);
     for place in 0..15 + numbers.below(3) {
-        frames.push(Frame::StreamData {
+        let at_the_end = Frame::StreamData {
             stream: place.saturating_mul(2).saturating_add(1),
             offset: 65_535,
             bytes: b"z",
-        })?;
+        };
+        frames.push(at_the_end).expect(rt, "memory");
     }
-    frames.push(Frame::StreamData {
+    let last = Frame::StreamData {
         stream: 63,
         offset: 0,
         bytes: numbers.pick(&[b"", b"z"]),
-    })?;
-    Ok(write_packet(alloc, 12, 9, 0, &frames)?)
+    };
+    frames.push(last).expect(rt, "memory");
+    write_packet(alloc, 12, 9, 0, &frames).expect(rt, "memory")
 }
 
 /// What stands inside the seal: a lawful packet, one with changes, or hostile bytes.
-fn inside(alloc: Global, numbers: &mut Numbers, amount: u64) -> Result<Vec<u8>, Fail> {
+fn inside(rt: &impl Abort, alloc: Global, numbers: &mut Numbers, amount: u64) -> Vec<u8> {
     match numbers.below(64) {
-        0 => wide_packet(alloc, numbers),
-        1..=15 => Ok(PACKETS.hostile(alloc, numbers)?),
+        0 => wide_packet(rt, alloc, numbers),
+        1..=15 => PACKETS.hostile(alloc, numbers).expect(rt, "memory"),
         16..=27 => {
-            let bytes = lawful_packet(alloc, numbers, amount)?;
-            Ok(PACKETS.changed(alloc, numbers, &bytes)?)
+            let bytes = lawful_packet(rt, alloc, numbers, amount);
+            PACKETS.changed(alloc, numbers, &bytes).expect(rt, "memory")
         }
-        _ => lawful_packet(alloc, numbers, amount),
+        _ => lawful_packet(rt, alloc, numbers, amount),
     }
 }
 
 /// The Prepare of a payload, mostly a lawful one to this end with the payload's condition, in time.
 fn around(
+    rt: &impl Abort,
     alloc: Global,
     numbers: &mut Numbers,
     amount: u64,
     sealed: &Sealed,
-) -> Result<Vec<u8>, AllocError> {
+) -> Vec<u8> {
     let (mut expiry, mut destination) = (EXPIRIES[0], OWN);
     let mut condition = sealed.condition;
     let mut payload = sealed.payload.as_slice();
@@ -254,27 +264,47 @@ fn around(
             payload,
         },
     )
+    .expect(rt, "memory")
 }
 
 /// The bytes that come, and what was sealed for them, which joins what was sealed before.
 fn arrival(
+    rt: &impl Abort,
     alloc: Global,
     sealer: &Sealer,
     numbers: &mut Numbers,
     history: &mut Vec<Sealed>,
-) -> Result<Vec<u8>, Fail> {
+) -> Vec<u8> {
     if numbers.below(16) == 0 {
-        return Ok(PREPARES.hostile(alloc, numbers)?);
+        return PREPARES.hostile(alloc, numbers).expect(rt, "memory");
     }
-    let amount = amount(numbers);
-    let plain = inside(alloc, numbers, amount)?;
-    let sealed = seal_bytes(alloc, sealer, numbers, plain)?;
-    let bytes = around(alloc, numbers, amount, &sealed)?;
-    history.push(sealed)?;
+    let bytes = sealed_arrival(rt, alloc, sealer, numbers, history);
     if numbers.below(4) == 0 {
-        return Ok(PREPARES.changed(alloc, numbers, &bytes)?);
+        return PREPARES
+            .changed(alloc, numbers, &bytes)
+            .expect(rt, "memory");
     }
-    Ok(bytes)
+    bytes
+}
+
+/// The Prepare of a payload that is sealed for it, and joins what was sealed before.
+fn sealed_arrival(
+    rt: &impl Abort,
+    alloc: Global,
+    sealer: &Sealer,
+    numbers: &mut Numbers,
+    history: &mut Vec<Sealed>,
+) -> Vec<u8> {
+    let amount = amount(numbers);
+    let plain = inside(rt, alloc, numbers, amount);
+    let sealed = seal_bytes(rt, alloc, sealer, numbers, plain);
+    let bytes = around(rt, alloc, numbers, amount, &sealed);
+    keep(rt, history, sealed);
+    bytes
+}
+
+fn keep(rt: &impl Abort, history: &mut Vec<Sealed>, sealed: Sealed) {
+    assert!(rt; history.push(sealed).is_ok());
 }
 
 /// What an end does with bytes.
@@ -343,32 +373,33 @@ fn opened<'h>(
 
 /// What the rules say of bytes, the first that applies.
 fn answer_due<'h>(
+    rt: &impl Abort,
     alloc: Global,
     plain: &PlainEnd,
     fulfilled: &[u64],
     history: &'h [Sealed],
     bytes: &[u8],
     now: i64,
-) -> Result<Expected<'h>, AllocError> {
+) -> Expected<'h> {
     let prepare = match ilp::prepare(bytes) {
         Ok(prepare) => prepare,
-        Err(refusal) => return Ok(unread(b"F01", refusal.number, 0)),
+        Err(refusal) => return unread(b"F01", refusal.number, 0),
     };
     let amount = prepare.amount;
     if !ilp::is_within(OWN.as_bytes(), prepare.destination) {
-        return Ok(unread(b"F02", 56, amount));
+        return unread(b"F02", 56, amount);
     }
     if prepare.expiry <= now {
-        return Ok(unread(b"R00", 57, amount));
+        return unread(b"R00", 57, amount);
     }
     let Some(sealed) = sealed_as(history, prepare.payload) else {
         let is_short = prepare.payload.len() < 28;
-        return Ok(unread(b"F06", if is_short { 30 } else { 31 }, amount));
+        return unread(b"F06", if is_short { 30 } else { 31 }, amount);
     };
-    match packet(alloc, &sealed.plain, 12)? {
-        Ok(packet) => Ok(opened(plain, fulfilled, &prepare, packet, sealed)),
-        Err(_) => Ok(unread(b"F99", 32, amount)),
-    }
+    let Ok(packet) = packet(alloc, &sealed.plain, 12).expect(rt, "memory") else {
+        return unread(b"F99", 32, amount);
+    };
+    opened(plain, fulfilled, &prepare, packet, sealed)
 }
 
 /// The frames behind the first, where that has this type and these numbers.
@@ -430,6 +461,7 @@ fn tells(reply: &[PlainFrame<'_>], request: &[PlainFrame<'_>], after: &PlainEnd)
 
 /// Whether a reply's payload repeats the sequence, has the amount that arrived, and tells the limits that stand.
 fn replies(
+    rt: &impl Abort,
     alloc: Global,
     sealer: &Sealer,
     payload: &[u8],
@@ -437,19 +469,19 @@ fn replies(
     amount: u64,
     request: &PlainPacket<'_>,
     after: &PlainEnd,
-) -> Result<bool, AllocError> {
-    let mut text = payload.to_vec(alloc)?;
+) -> bool {
+    let mut text = payload.to_vec(alloc).expect(rt, "memory");
     if sealer.keys.unseal_payload(&mut text).is_err() {
-        return Ok(false);
+        return false;
     }
     let plain = text.get(OVERHEAD..).unwrap_or(&[]);
-    match packet(alloc, plain, kind)? {
-        Ok(reply) => Ok(
+    match packet(alloc, plain, kind).expect(rt, "memory") {
+        Ok(reply) => {
             reply.sequence == request.sequence
                 && reply.amount == amount
-                && tells(&reply.frames, &request.frames, after),
-        ),
-        Err(_) => Ok(false),
+                && tells(&reply.frames, &request.frames, after)
+        }
+        Err(_) => false,
     }
 }
 
@@ -493,22 +525,23 @@ fn is_turned(request: &[u8], reply: &[u8]) -> bool {
 
 /// Whether an end answered as the rules say.
 fn is_expected(
+    rt: &impl Abort,
     alloc: Global,
     sealer: &Sealer,
     received: &Received<Global>,
     expected: &Expected<'_>,
-) -> Result<bool, AllocError> {
+) -> bool {
     match expected {
         Expected::Unread {
             code,
             reason,
             amount,
-        } => Ok(
+        } => {
             received.reason == *reason
                 && received.amount == *amount
                 && received.sequence.is_none()
-                && reject_of(&received.bytes, code) == Some(&[]),
-        ),
+                && reject_of(&received.bytes, code) == Some(&[])
+        }
         Expected::Opened {
             reason,
             amount,
@@ -521,28 +554,31 @@ fn is_expected(
                 _ => (14, reject_of(&received.bytes, b"F99")),
             };
             let Some(payload) = payload else {
-                return Ok(false);
+                return false;
             };
             let is_told = is_turned(&sealed.payload, payload)
                 && received.reason == *reason
                 && received.amount == *amount
                 && received.sequence == Some(packet.sequence);
-            Ok(is_told && replies(alloc, sealer, payload, kind, *amount, packet, after)?)
+            is_told && replies(rt, alloc, sealer, payload, kind, *amount, packet, after)
         }
     }
 }
 
-/// The server `test.b`.
-fn new_end(alloc: Global, config: EndConfig) -> Result<EndState<Global>, EndError> {
-    if !is_address(OWN) || !is_address(PEER) {
-        return Err(EndError::NoStream);
-    }
-    let keys = Keys::of(SECRET);
-    let mut end = EndState::new(alloc, Role::Server, keys, OWN, PEER, config)?;
+/// Has an end take the receive maxes of its streams.
+fn set_maxes(rt: &impl Abort, end: &mut EndState<Global>) {
     for (stream, amount) in RECEIVE_MAX {
-        end.set_receive_max(stream, amount)?;
+        end.set_receive_max(stream, amount).expect(rt, "memory");
     }
-    Ok(end)
+}
+
+/// The server `test.b`.
+fn new_end(rt: &impl Abort, alloc: Global, config: EndConfig) -> EndState<Global> {
+    assert!(rt; is_address(OWN) && is_address(PEER));
+    let keys = Keys::of(SECRET);
+    let mut end = EndState::new(alloc, Role::Server, keys, OWN, PEER, config).expect(rt, "memory");
+    set_maxes(rt, &mut end);
+    end
 }
 
 fn new_plain_end() -> PlainEnd {
@@ -562,60 +598,81 @@ struct Pair {
 }
 
 impl Pair {
-    fn new(alloc: Global, config: EndConfig) -> Result<Pair, EndError> {
-        Ok(Pair {
-            end: new_end(alloc, config)?,
+    fn new(rt: &impl Abort, alloc: Global) -> Pair {
+        let config = EndConfig::new(16, 100, 1_000).expect(rt, "a configuration");
+        Pair {
+            end: new_end(rt, alloc, config),
             plain: new_plain_end(),
             fulfilled: Vec::new(alloc),
-        })
+        }
     }
 
-    /// Whether the end does with bytes what the rules say, and is credited and gives to be read as they say.
+    /// What stands once the end did what is expected of it.
+    fn go_on(&mut self, rt: &impl Abort, expected: &Expected<'_>) {
+        if let Expected::Opened {
+            reason: 0,
+            packet,
+            after,
+            ..
+        } = expected
+        {
+            self.plain = *after;
+            self.fulfilled.push(packet.sequence).expect(rt, "memory");
+        }
+    }
+
+    /// Whether the end does with bytes what is expected of it, and is credited and gives to be read as the rules say.
     fn does(
         &mut self,
+        rt: &impl Abort,
+        alloc: Global,
+        sealer: &Sealer,
+        expected: &Expected<'_>,
+        bytes: &[u8],
+        now: Moment,
+        met: &mut Met,
+    ) -> bool {
+        let received = self.end.receive(bytes, now).expect(rt, "memory");
+        met.note(u64::from(received.reason));
+        let agrees = is_expected(rt, alloc, sealer, &received, expected);
+        self.go_on(rt, expected);
+        let totals = self.end.totals();
+        agrees && totals.credited == self.plain.credit && totals.delivered == 0
+    }
+
+    /// The same, of what the rules say of the bytes.
+    fn does_its_duty(
+        &mut self,
+        rt: &impl Abort,
         alloc: Global,
         sealer: &Sealer,
         history: &[Sealed],
         bytes: &[u8],
         now: Moment,
         met: &mut Met,
-    ) -> Result<bool, Fail> {
-        let expected = answer_due(
-            alloc,
-            &self.plain,
-            &self.fulfilled,
-            history,
-            bytes,
-            now.ms(),
-        )?;
-        let received = self.end.receive(bytes, now)?;
-        met.note(u64::from(received.reason));
-        let agrees = is_expected(alloc, sealer, &received, &expected)?;
-        if let Expected::Opened {
-            reason: 0,
-            packet,
-            after,
-            ..
-        } = &expected
-        {
-            self.plain = *after;
-            self.fulfilled.push(packet.sequence)?;
+    ) -> bool {
+        let (plain, fulfilled) = (&self.plain, &self.fulfilled);
+        let expected = answer_due(rt, alloc, plain, fulfilled, history, bytes, now.ms());
+        self.does(rt, alloc, sealer, &expected, bytes, now, met)
+    }
+
+    /// How many bytes are read of a stream.
+    fn read(&mut self, rt: &impl Abort, number: u8) -> u64 {
+        match self.end.read(number, 100_000).expect(rt, "memory") {
+            Got::Bytes(bytes) => bytes.len() as u64,
+            _ => 0,
         }
-        let totals = self.end.totals();
-        Ok(agrees && totals.credited == self.plain.credit && totals.delivered == 0)
     }
 
     /// Whether what is read of the streams is what was told to be delivered.
-    fn reads(&mut self) -> Result<bool, EndError> {
+    fn reads(&mut self, rt: &impl Abort) -> bool {
         let mut read = 0u64;
         for number in [1, 3, 63] {
             if self.end.has_stream(number) {
-                if let Got::Bytes(bytes) = self.end.read(number, 100_000)? {
-                    read = read.saturating_add(bytes.len() as u64);
-                }
+                read = read.saturating_add(self.read(rt, number));
             }
         }
-        Ok(self.end.totals().delivered == read)
+        self.end.totals().delivered == read
     }
 }
 
@@ -634,102 +691,127 @@ const REASONS: [u64; 19] = [
     0, 10, 11, 12, 13, 17, 30, 31, 32, 55, 56, 57, 60, 61, 62, 63, 64, 65, 66,
 ];
 
+/// All steps of a seed, at one end.
+fn runs(rt: &impl Abort, alloc: Global, sealer: &Sealer, seed: u64, met: &mut Met) {
+    let mut numbers = Numbers::of(seed);
+    let mut pair = Pair::new(rt, alloc);
+    let mut history = Vec::new(alloc);
+    for step in 0..STEPS {
+        let bytes = arrival(rt, alloc, sealer, &mut numbers, &mut history);
+        let now = moment(rt, &mut numbers);
+        let agrees = pair.does_its_duty(rt, alloc, sealer, &history, &bytes, now, met);
+        sure_at(rt, agrees, seed, step, &bytes);
+    }
+    sure_at(rt, pair.reads(rt), seed, STEPS, &[]);
+}
+
 #[test]
-fn an_end_does_what_the_rules_say(rt: HostRuntime) -> Result<(), Fail> {
-    let alloc = rt.alloc();
+fn an_end_does_what_the_rules_say(rt: HostRuntime) {
     let sealer = Sealer::new();
-    let config = EndConfig::new(16, 100, 1_000).ok_or("a configuration")?;
     let mut met = Met::new();
     for seed in FIRST..FIRST + INPUTS / STEPS {
-        let mut numbers = Numbers::of(seed);
-        let mut pair = Pair::new(alloc, config)?;
-        let mut history = Vec::new(alloc);
-        for step in 0..STEPS {
-            let bytes = arrival(alloc, &sealer, &mut numbers, &mut history)?;
-            let now = moment(&rt, &mut numbers);
-            assert!(rt;
-                pair.does(alloc, &sealer, &history, &bytes, now, &mut met)?,
-                "seed {seed}, step {step}, {bytes:?}"
-            );
-        }
-        assert!(rt; pair.reads()?, "seed {seed}");
+        runs(&rt, rt.alloc(), &sealer, seed, &mut met);
     }
-    assert_eq!(rt; met.lacks(&REASONS), None);
-    Ok(())
+    assert!(rt; met.lacks(&REASONS) == None);
 }
 
 /// Whether a new end does with bytes what the rules say.
 fn a_new_end_does(
+    rt: &impl Abort,
     alloc: Global,
     sealer: &Sealer,
     history: &[Sealed],
     bytes: &[u8],
-) -> Result<bool, Fail> {
-    let config = EndConfig::new(16, 100, 1_000).ok_or("a configuration")?;
-    let mut pair = Pair::new(alloc, config)?;
-    let now = Moment::new(0).ok_or("a moment")?;
-    pair.does(alloc, sealer, history, bytes, now, &mut Met::new())
+) -> bool {
+    let mut pair = Pair::new(rt, alloc);
+    let now = Moment::new(0).expect(rt, "a moment");
+    let mut met = Met::new();
+    pair.does_its_duty(rt, alloc, sealer, history, bytes, now, &mut met)
+}
+
+/// What was sealed, alone.
+fn alone(rt: &impl Abort, alloc: Global, sealed: Sealed) -> Vec<Sealed> {
+    let mut history = Vec::new(alloc);
+    keep(rt, &mut history, sealed);
+    history
+}
+
+/// Whether a new end does what the rules say with a Prepare of which one byte is replaced, or nothing but the front is left.
+fn takes_a_changed_prepare(
+    rt: &impl Abort,
+    alloc: Global,
+    sealer: &Sealer,
+    history: &[Sealed],
+    prepare: &[u8],
+    at: usize,
+    edge: Option<u8>,
+) -> bool {
+    let bytes = changed_bytes(rt, alloc, prepare, at, edge);
+    a_new_end_does(rt, alloc, sealer, history, &bytes)
 }
 
 /// Every front of a Prepare that says "hi", and each with one byte replaced.
 #[test]
-fn every_prefix_and_change_of_a_prepare(rt: HostRuntime) -> Result<(), Fail> {
+fn every_prefix_and_change_of_a_prepare(rt: HostRuntime) {
     let alloc = rt.alloc();
     let sealer = Sealer::new();
-    let plain = HI.to_vec(alloc)?;
-    let sealed = seal_bytes(alloc, &sealer, &mut Numbers::of(FIRST), plain)?;
-    let prepare = offer(alloc, &sealed)?;
-    let history = vec![in alloc; sealed]?;
+    let plain = HI.to_vec(alloc).expect(&rt, "memory");
+    let sealed = seal_bytes(&rt, alloc, &sealer, &mut Numbers::of(FIRST), plain);
+    let prepare = offer(&rt, alloc, &sealed);
+    let history = alone(&rt, alloc, sealed);
     for at in 0..=prepare.len() {
         for edge in EDGES {
-            let bytes = changed_at(alloc, &prepare, at, edge)?;
-            assert!(rt;
-                a_new_end_does(alloc, &sealer, &history, &bytes)?,
-                "{edge:?} at {at}, {bytes:?}"
-            );
+            let agrees = takes_a_changed_prepare(&rt, alloc, &sealer, &history, &prepare, at, edge);
+            sure_at(&rt, agrees, FIRST, at as u64, edge.as_slice());
         }
     }
-    Ok(())
+}
+
+/// The same of what is sealed in it.
+fn takes_a_changed_packet(
+    rt: &impl Abort,
+    alloc: Global,
+    sealer: &Sealer,
+    at: usize,
+    edge: Option<u8>,
+) -> bool {
+    let plain = changed_bytes(rt, alloc, HI, at, edge);
+    let sealed = seal_bytes(rt, alloc, sealer, &mut Numbers::of(FIRST), plain);
+    let bytes = offer(rt, alloc, &sealed);
+    let history = alone(rt, alloc, sealed);
+    a_new_end_does(rt, alloc, sealer, &history, &bytes)
 }
 
 /// The same inside the seal.
 #[test]
-fn every_prefix_and_change_inside_the_seal(rt: HostRuntime) -> Result<(), Fail> {
-    let alloc = rt.alloc();
+fn every_prefix_and_change_inside_the_seal(rt: HostRuntime) {
     let sealer = Sealer::new();
     for at in 0..=HI.len() {
         for edge in EDGES {
-            let plain = changed_at(alloc, HI, at, edge)?;
-            let sealed = seal_bytes(alloc, &sealer, &mut Numbers::of(FIRST), plain)?;
-            let bytes = offer(alloc, &sealed)?;
-            let history = vec![in alloc; sealed]?;
-            assert!(rt;
-                a_new_end_does(alloc, &sealer, &history, &bytes)?,
-                "{edge:?} at {at}"
-            );
+            let agrees = takes_a_changed_packet(&rt, rt.alloc(), &sealer, at, edge);
+            sure_at(&rt, agrees, FIRST, at as u64, edge.as_slice());
         }
     }
-    Ok(())
 }
 
-/// Bytes whose length is 2^64 - 1 are no Prepare, and answered F01.
+/// Whether bytes whose length is 2^64 - 1 are no Prepare, and answered F01.
+fn answers_an_endless_length(rt: &impl Abort, end: &mut EndState<Global>) -> bool {
+    let now = Moment::new(0).expect(rt, "a moment");
+    let bytes = b"\x0c\x88\xff\xff\xff\xff\xff\xff\xff\xff";
+    let received = end.receive(bytes, now).expect(rt, "memory");
+    let reject = b"\x0e\x0cF01\x06test.b\0\0".as_slice();
+    received.reason == 10 && received.bytes.as_slice() == reject
+}
+
 #[test]
-fn an_endless_length_is_answered(rt: HostRuntime) -> Result<(), Fail> {
-    let alloc = rt.alloc();
-    let config = EndConfig::new(16, 100, 1_000).ok_or("a configuration")?;
-    let now = Moment::new(0).ok_or("a moment")?;
-    let mut end = new_end(alloc, config)?;
-    let received = end.receive(b"\x0c\x88\xff\xff\xff\xff\xff\xff\xff\xff", now)?;
-    assert_eq!(rt; received.reason, 10);
-    assert_eq!(rt;
-        received.bytes.as_slice(),
-        b"\x0e\x0cF01\x06test.b\0\0".as_slice()
-    );
-    Ok(())
+fn an_endless_length_is_answered(rt: HostRuntime) {
+    let config = EndConfig::new(16, 100, 1_000).expect(&rt, "a configuration");
+    let mut end = new_end(&rt, rt.alloc(), config);
+    assert!(rt; answers_an_endless_length(&rt, &mut end));
 }
 
 /// The Prepare of 0 to this end that carries a payload.
-fn offer(alloc: Global, sealed: &Sealed) -> Result<Vec<u8>, AllocError> {
+fn offer(rt: &impl Abort, alloc: Global, sealed: &Sealed) -> Vec<u8> {
     prepare_bytes(
         alloc,
         Offer {
@@ -740,4 +822,5 @@ fn offer(alloc: Global, sealed: &Sealed) -> Result<Vec<u8>, AllocError> {
             payload: &sealed.payload,
         },
     )
+    .expect(rt, "memory")
 }

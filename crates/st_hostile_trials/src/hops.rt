@@ -4,9 +4,10 @@ use crate::plain_hop::{
     PlainAccount, PlainOutcome, PlainRoute, PlainTicket, PlainVerdict, ZERO_DIGEST, hold, onward,
     outcome, release, verdict,
 };
+use crate::{changed_bytes, sure_at};
 use hostile::answers::{ANSWERS, FULFILL, reject_bytes};
 use hostile::prepares::{EXPIRIES, EXPIRY, Offer, PREPARE, PREPARES, prepare_bytes};
-use hostile::{EDGES, FIRST, INPUTS, Met, Numbers, STEPS, changed_at, ilp};
+use hostile::{EDGES, FIRST, INPUTS, Met, Numbers, STEPS, ilp};
 use st_hop::{Account, HopState, Outcome, Route, Ticket, Verdict};
 use st_ilp::Moment;
 use st_oer::Rate;
@@ -370,11 +371,6 @@ fn does(
     }
 }
 
-/// Ends the test where a hop did with these bytes, at this step of this seed, what the rules do not say.
-fn sure_at(rt: &impl Abort, holds: bool, seed: u64, step: u64, bytes: &[u8]) {
-    assert!(rt; holds, "seed {seed}, step {step}, {bytes:?}");
-}
-
 /// All steps of a seed, at one hop.
 fn runs(rt: &impl Abort, alloc: Global, seed: u64, met: &mut Met) {
     let mut numbers = Numbers::of(seed);
@@ -427,9 +423,9 @@ fn a_new_hop_does(rt: &impl Abort, alloc: Global, bytes: &[u8], seed: u64) -> bo
 fn every_prefix_and_change_of_a_prepare(rt: HostRuntime) {
     for at in 0..=PREPARE.len() {
         for byte in EDGES {
-            let bytes = changed_at(rt.alloc(), PREPARE, at, byte).expect(&rt, "memory");
+            let bytes = changed_bytes(&rt, rt.alloc(), PREPARE, at, byte);
             let agrees = a_new_hop_does(&rt, rt.alloc(), &bytes, at as u64);
-            assert!(rt; agrees, "{byte:?} at {at}");
+            sure_at(&rt, agrees, 0, at as u64, &bytes);
         }
     }
 }

@@ -1,11 +1,11 @@
 //! Hostile bytes at `Reading`, in random pieces.
 
+use crate::{changed_bytes, hostile_bytes, sure_at};
 use hostile::http::{Message, request, response};
-use hostile::{EDGES, FIRST, INPUTS, Met, Numbers, Refusal, Samples, changed_at};
+use hostile::{EDGES, FIRST, INPUTS, Met, Numbers, Refusal, Samples};
 use st_http::Reading;
-use std::alloc::{AllocError, Global};
+use std::alloc::Global;
 use std::process::Abort;
-use std::test::Fail;
 
 const TOKENS: [&str; 2] = ["t0", "t1"];
 
@@ -163,56 +163,60 @@ fn told(side: Side, alloc: Global, numbers: &mut Numbers, text: &[u8]) -> Option
     None
 }
 
+/// What is said of a text at last, which ends the test where it is not what the rules say.
+fn read(
+    rt: &impl Abort,
+    alloc: Global,
+    side: Side,
+    numbers: &mut Numbers,
+    text: &[u8],
+    seed: u64,
+) -> u64 {
+    let told = told(side, alloc, numbers, text);
+    sure_at(rt, told.is_some(), seed, 0, text);
+    told.unwrap_or(0)
+}
+
 fn try_inputs(
     rt: &impl Abort,
     alloc: Global,
     side: Side,
     samples: &Samples<'_>,
     inputs: u64,
-) -> Result<Met, AllocError> {
+) -> Met {
     let mut met = Met::new();
     for input in 0..inputs {
         let seed = FIRST.wrapping_add(input);
         let mut numbers = Numbers::of(seed);
-        let text = samples.hostile(alloc, &mut numbers)?;
-        let told = told(side, alloc, &mut numbers, &text);
-        assert!(rt; told.is_some(), "seed {seed}, {text:?}");
-        met.note(told.unwrap_or(0));
+        let text = hostile_bytes(rt, alloc, samples, &mut numbers);
+        met.note(read(rt, alloc, side, &mut numbers, &text, seed));
     }
-    Ok(met)
+    met
 }
 
 /// Each front of the lawful messages, and each with one byte replaced.
-fn try_changes(
-    rt: &impl Abort,
-    alloc: Global,
-    side: Side,
-    samples: &Samples<'_>,
-) -> Result<(), AllocError> {
+fn try_changes(rt: &impl Abort, alloc: Global, side: Side, samples: &Samples<'_>) {
     for text in samples.lawful {
         for at in 0..=text.len() {
             for edge in EDGES {
-                let changed = changed_at(alloc, text, at, edge)?;
-                let told = told(side, alloc, &mut Numbers::of(at as u64), &changed);
-                assert!(rt; told.is_some(), "{changed:?}");
+                let changed = changed_bytes(rt, alloc, text, at, edge);
+                let seed = at as u64;
+                read(rt, alloc, side, &mut Numbers::of(seed), &changed, seed);
             }
         }
     }
-    Ok(())
 }
 
 #[test]
-fn requests_are_read_as_the_rules_say(rt: HostRuntime) -> Result<(), Fail> {
-    let met = try_inputs(&rt, rt.alloc(), Side::Request, &REQUESTS, INPUTS)?;
-    assert_eq!(rt; met.lacks(&[0, 200, 400, 401, 404, 405, 411, 413]), None);
-    Ok(())
+fn requests_are_read_as_the_rules_say(rt: HostRuntime) {
+    let met = try_inputs(&rt, rt.alloc(), Side::Request, &REQUESTS, INPUTS);
+    assert!(rt; met.lacks(&[0, 200, 400, 401, 404, 405, 411, 413]) == None);
 }
 
 #[test]
-fn responses_are_read_as_the_rules_say(rt: HostRuntime) -> Result<(), Fail> {
-    let met = try_inputs(&rt, rt.alloc(), Side::Response, &RESPONSES, INPUTS)?;
-    assert_eq!(rt; met.lacks(&[0, 82, 83, 84, 200]), None);
-    Ok(())
+fn responses_are_read_as_the_rules_say(rt: HostRuntime) {
+    let met = try_inputs(&rt, rt.alloc(), Side::Response, &RESPONSES, INPUTS);
+    assert!(rt; met.lacks(&[0, 82, 83, 84, 200]) == None);
 }
 
 /// A field line of 161 bytes.
@@ -220,45 +224,38 @@ const LONG_FIELD: &[u8] =
     b"X: aaaaaaaaaaaaaaaaaaaaaaaaaaaaaaaaaaaaaaaaaaaaaaaaaaaaaaaaaaaaaaaaaaaaaaaaaaaaaaaaaaaaaaaaaaaaaaaaaaaaaaaaaaaaaaaaaaaaaaaaaaaaaaaaaaaaaaaaaaaaaaaaaaaaaaaaaaaa\r\n";
 
 /// A head's first lines, and so many fields behind them. It does not end yet.
-fn head_of(alloc: Global, first: &[u8], fields: u64, field: &[u8]) -> Result<Vec<u8>, AllocError> {
-    let mut head = first.to_vec(alloc)?;
+fn head_of(rt: &impl Abort, alloc: Global, first: &[u8], fields: u64, field: &[u8]) -> Vec<u8> {
+    let mut head = first.to_vec(alloc).expect(rt, "memory");
     for _ in 0..fields {
-        head.extend_from_slice(field)?;
+        head.extend_from_slice(field).expect(rt, "memory");
     }
-    Ok(head)
+    head
 }
 
-/// Heads about 64 fields and about 8,192 bytes long: fewer inputs, since each is long.
-#[test]
-fn long_heads_are_read_as_the_rules_say(rt: HostRuntime) -> Result<(), Fail> {
-    let alloc = rt.alloc();
-    for (side, first) in [
-        (
-            Side::Request,
-            b"POST /ilp HTTP/1.1\r\nAuthorization: Bearer t1\r\nContent-Length: 1\r\n".as_slice(),
-        ),
-        (
-            Side::Response,
-            b"HTTP/1.1 200 OK\r\nA: b\r\nContent-Length: 1\r\n".as_slice(),
-        ),
-    ] {
-        let many = head_of(alloc, first, 61, b"A: b\r\n")?;
-        let long = head_of(alloc, first, 50, LONG_FIELD)?;
-        let samples = Samples {
-            lawful: &[&many, &long],
-            fronts: &[&many, &long],
-            common: b"a:\r\n\r\n\n",
-            behind: 160,
-        };
-        let met = try_inputs(&rt, alloc, side, &samples, INPUTS / 50)?;
-        assert_eq!(rt; met.lacks(&[0, 200]), None);
-    }
-    Ok(())
+/// Heads about 64 fields and about 8,192 bytes long behind these lines: fewer inputs, since each is long.
+fn try_long_heads(rt: &impl Abort, alloc: Global, side: Side, first: &[u8]) {
+    let many = head_of(rt, alloc, first, 61, b"A: b\r\n");
+    let long = head_of(rt, alloc, first, 50, LONG_FIELD);
+    let samples = Samples {
+        lawful: &[&many, &long],
+        fronts: &[&many, &long],
+        common: b"a:\r\n\r\n\n",
+        behind: 160,
+    };
+    let met = try_inputs(rt, alloc, side, &samples, INPUTS / 50);
+    assert!(rt; met.lacks(&[0, 200]) == None);
 }
 
 #[test]
-fn every_prefix_and_change_of_a_message(rt: HostRuntime) -> Result<(), Fail> {
-    try_changes(&rt, rt.alloc(), Side::Request, &REQUESTS)?;
-    try_changes(&rt, rt.alloc(), Side::Response, &RESPONSES)?;
-    Ok(())
+fn long_heads_are_read_as_the_rules_say(rt: HostRuntime) {
+    let request = b"POST /ilp HTTP/1.1\r\nAuthorization: Bearer t1\r\nContent-Length: 1\r\n";
+    try_long_heads(&rt, rt.alloc(), Side::Request, request);
+    let response = b"HTTP/1.1 200 OK\r\nA: b\r\nContent-Length: 1\r\n";
+    try_long_heads(&rt, rt.alloc(), Side::Response, response);
+}
+
+#[test]
+fn every_prefix_and_change_of_a_message(rt: HostRuntime) {
+    try_changes(&rt, rt.alloc(), Side::Request, &REQUESTS);
+    try_changes(&rt, rt.alloc(), Side::Response, &RESPONSES);
 }

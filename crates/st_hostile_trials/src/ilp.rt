@@ -1,9 +1,10 @@
 //! Hostile bytes at `read_prepare`, `read_answer` and `read_expiry`.
 
+use crate::{changed_bytes, hostile_bytes, sure_at};
 use hostile::ilp::{PlainAnswer, PlainPrepare};
-use hostile::{EDGES, FIRST, INPUTS, Met, Numbers, Refusal, Samples, changed_at, ilp};
+use hostile::{EDGES, FIRST, INPUTS, Met, Numbers, Refusal, Samples, ilp};
 use st_ilp::{Answer, IlpError, Prepare, read_answer, read_expiry, read_prepare};
-use std::test::Fail;
+use std::process::Abort;
 
 /// A Prepare of 5 to `example.b`, of 70 bytes.
 const PREPARE: &[u8] = b"\x0c\x44\0\0\0\0\0\0\0\x0520240102030405006\
@@ -131,35 +132,38 @@ fn told_of_answer(bytes: &[u8]) -> Option<u64> {
 }
 
 /// The same bytes go to both readers.
-#[test]
-fn packets_are_read_as_the_rules_say(rt: HostRuntime) -> Result<(), Fail> {
-    let (mut prepares, mut answers) = (Met::new(), Met::new());
-    for seed in FIRST..FIRST + INPUTS {
-        let bytes = SAMPLES.hostile(rt.alloc(), &mut Numbers::of(seed))?;
-        let told = told_of_prepare(&bytes);
-        assert!(rt; told.is_some(), "seed {seed}, Prepare {bytes:?}");
-        prepares.note(told.unwrap_or(0));
-        let told = told_of_answer(&bytes);
-        assert!(rt; told.is_some(), "seed {seed}, answer {bytes:?}");
-        answers.note(told.unwrap_or(0));
-    }
-    assert_eq!(rt; prepares.lacks(&[0, 10, 11, 12, 13, 17]), None);
-    assert_eq!(rt; answers.lacks(&[0, 10, 11, 13, 15, 16, 17]), None);
-    Ok(())
+/// Takes note of what is said of bytes as a Prepare and as an answer. A failed test tells the answer as step 1.
+fn read(rt: &impl Abort, bytes: &[u8], seed: u64, prepares: &mut Met, answers: &mut Met) {
+    let told = told_of_prepare(bytes);
+    sure_at(rt, told.is_some(), seed, 0, bytes);
+    prepares.note(told.unwrap_or(0));
+    let told = told_of_answer(bytes);
+    sure_at(rt, told.is_some(), seed, 1, bytes);
+    answers.note(told.unwrap_or(0));
 }
 
 #[test]
-fn every_prefix_and_change_of_a_packet(rt: HostRuntime) -> Result<(), Fail> {
+fn packets_are_read_as_the_rules_say(rt: HostRuntime) {
+    let (mut prepares, mut answers) = (Met::new(), Met::new());
+    for seed in FIRST..FIRST + INPUTS {
+        let bytes = hostile_bytes(&rt, rt.alloc(), &SAMPLES, &mut Numbers::of(seed));
+        read(&rt, &bytes, seed, &mut prepares, &mut answers);
+    }
+    assert!(rt; prepares.lacks(&[0, 10, 11, 12, 13, 17]) == None);
+    assert!(rt; answers.lacks(&[0, 10, 11, 13, 15, 16, 17]) == None);
+}
+
+#[test]
+fn every_prefix_and_change_of_a_packet(rt: HostRuntime) {
+    let (mut prepares, mut answers) = (Met::new(), Met::new());
     for bytes in SAMPLES.lawful {
         for at in 0..=bytes.len() {
             for edge in EDGES {
-                let changed = changed_at(rt.alloc(), bytes, at, edge)?;
-                assert!(rt; told_of_prepare(&changed).is_some(), "Prepare {changed:?}");
-                assert!(rt; told_of_answer(&changed).is_some(), "answer {changed:?}");
+                let changed = changed_bytes(&rt, rt.alloc(), bytes, at, edge);
+                read(&rt, &changed, 0, &mut prepares, &mut answers);
             }
         }
     }
-    Ok(())
 }
 
 const DATES: Samples<'static> = Samples {
@@ -176,16 +180,19 @@ const DATES: Samples<'static> = Samples {
     behind: 18,
 };
 
-#[test]
-fn expiries_are_read_as_the_rules_say(rt: HostRuntime) -> Result<(), Fail> {
-    for seed in FIRST..FIRST + INPUTS {
-        let text = DATES.hostile(rt.alloc(), &mut Numbers::of(seed))?;
-        let agrees = match (read_expiry(&text), ilp::expiry(&text)) {
-            (Ok(millis), Some(plain)) => millis == plain,
-            (Err(error), None) => refused(error) == Refusal::alone(12),
-            _ => false,
-        };
-        assert!(rt; agrees, "seed {seed}, expiry {text:?}");
+/// Whether an expiry is read as the rules say.
+fn agrees_on_expiry(text: &[u8]) -> bool {
+    match (read_expiry(text), ilp::expiry(text)) {
+        (Ok(millis), Some(plain)) => millis == plain,
+        (Err(error), None) => refused(error) == Refusal::alone(12),
+        _ => false,
     }
-    Ok(())
+}
+
+#[test]
+fn expiries_are_read_as_the_rules_say(rt: HostRuntime) {
+    for seed in FIRST..FIRST + INPUTS {
+        let text = hostile_bytes(&rt, rt.alloc(), &DATES, &mut Numbers::of(seed));
+        sure_at(&rt, agrees_on_expiry(&text), seed, 0, &text);
+    }
 }

@@ -7,6 +7,42 @@
 #![tactic(auto)]
 
 #[cfg(test)]
+use hostile::{Numbers, Samples, changed_at};
+#[cfg(test)]
+use std::alloc::Global;
+#[cfg(test)]
+use std::process::Abort;
+
+/// Ends the test where bytes were not read or answered, at this step of this seed, as the rules say.
+#[cfg(test)]
+fn sure_at(rt: &impl Abort, holds: bool, seed: u64, step: u64, bytes: &[u8]) {
+    assert!(rt; holds, "seed {seed}, step {step}, {bytes:?}");
+}
+
+/// Hostile bytes by a seed.
+#[cfg(test)]
+fn hostile_bytes(
+    rt: &impl Abort,
+    alloc: Global,
+    samples: &Samples<'_>,
+    numbers: &mut Numbers,
+) -> Vec<u8> {
+    samples.hostile(alloc, numbers).expect(rt, "memory")
+}
+
+/// The front of some bytes, or all of them with one replaced.
+#[cfg(test)]
+fn changed_bytes(
+    rt: &impl Abort,
+    alloc: Global,
+    bytes: &[u8],
+    at: usize,
+    edge: Option<u8>,
+) -> Vec<u8> {
+    changed_at(alloc, bytes, at, edge).expect(rt, "memory")
+}
+
+#[cfg(test)]
 mod answers;
 #[cfg(test)]
 mod ends;

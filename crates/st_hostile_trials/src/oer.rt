@@ -1,8 +1,9 @@
 //! Hostile bytes at `Cut`.
 
-use hostile::{EDGES, FIRST, INPUTS, Met, Numbers, Samples, changed_at, oer};
+use crate::{changed_bytes, hostile_bytes, sure_at};
+use hostile::{EDGES, FIRST, INPUTS, Met, Numbers, Samples, oer};
 use st_oer::{Cut, OerError};
-use std::test::Fail;
+use std::process::Abort;
 
 /// Fields of each kind: numbers of one byte, of two and of eight, the limit of nine bytes, and octets with a short and with
 /// a long length.
@@ -110,43 +111,48 @@ fn told(cut: &mut Cut<'_>, choice: u64, size: u64) -> Option<u64> {
 const ANSWERS: [u64; 5] = [0, 1, 2, 3, 4];
 
 /// Each of the six calls on each input, and then four in a row, as the seed chooses them.
-#[test]
-fn fields_are_read_as_the_rules_say(rt: HostRuntime) -> Result<(), Fail> {
-    let mut met = Met::new();
-    for seed in FIRST..FIRST + INPUTS {
-        let mut numbers = Numbers::of(seed);
-        let bytes = SAMPLES.hostile(rt.alloc(), &mut numbers)?;
-        for choice in 0..6 {
-            let told = told(&mut Cut::new(&bytes), choice, numbers.below(40));
-            assert!(rt; told.is_some(), "seed {seed}, call {choice} of {bytes:?}");
-            met.note(told.unwrap_or(0));
-        }
-        let mut cut = Cut::new(&bytes);
-        for call in 0..4 {
-            let choice = numbers.below(6);
-            let told = told(&mut cut, choice, numbers.below(12));
-            assert!(rt;
-                told.is_some(),
-                "seed {seed}, call {call} in a row of {bytes:?}"
-            );
-        }
+/// Each call alone.
+fn read_alone(rt: &impl Abort, bytes: &[u8], numbers: &mut Numbers, seed: u64, met: &mut Met) {
+    for choice in 0..6 {
+        let told = told(&mut Cut::new(bytes), choice, numbers.below(40));
+        sure_at(rt, told.is_some(), seed, choice, bytes);
+        met.note(told.unwrap_or(0));
     }
-    assert_eq!(rt; met.lacks(&ANSWERS), None);
-    Ok(())
+}
+
+/// Four calls in a row, which a failed test tells as steps from 10 on.
+fn read_in_a_row(rt: &impl Abort, bytes: &[u8], numbers: &mut Numbers, seed: u64) {
+    let mut cut = Cut::new(bytes);
+    for call in 10..14 {
+        let choice = numbers.below(6);
+        let told = told(&mut cut, choice, numbers.below(12));
+        sure_at(rt, told.is_some(), seed, call, bytes);
+    }
 }
 
 #[test]
-fn every_prefix_and_change_of_a_field(rt: HostRuntime) -> Result<(), Fail> {
+fn fields_are_read_as_the_rules_say(rt: HostRuntime) {
+    let mut met = Met::new();
+    for seed in FIRST..FIRST + INPUTS {
+        let mut numbers = Numbers::of(seed);
+        let bytes = hostile_bytes(&rt, rt.alloc(), &SAMPLES, &mut numbers);
+        read_alone(&rt, &bytes, &mut numbers, seed, &mut met);
+        read_in_a_row(&rt, &bytes, &mut numbers, seed);
+    }
+    assert!(rt; met.lacks(&ANSWERS) == None);
+}
+
+#[test]
+fn every_prefix_and_change_of_a_field(rt: HostRuntime) {
     for bytes in LAWFUL {
         for at in 0..=bytes.len() {
             for edge in EDGES {
-                let changed = changed_at(rt.alloc(), bytes, at, edge)?;
+                let changed = changed_bytes(&rt, rt.alloc(), bytes, at, edge);
                 for choice in 0..6 {
                     let told = told(&mut Cut::new(&changed), choice, 5);
-                    assert!(rt; told.is_some(), "call {choice} of {changed:?}");
+                    sure_at(&rt, told.is_some(), 0, choice, &changed);
                 }
             }
         }
     }
-    Ok(())
 }

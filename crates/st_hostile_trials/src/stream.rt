@@ -1,10 +1,11 @@
 //! Hostile bytes at `read_packet`.
 
+use crate::{changed_bytes, hostile_bytes, sure_at};
 use hostile::stream::{PlainFrame, PlainPacket, packet};
-use hostile::{EDGES, FIRST, INPUTS, Met, Numbers, Refusal, Samples, changed_at};
+use hostile::{EDGES, FIRST, INPUTS, Met, Numbers, Refusal, Samples};
 use st_frames::{Frame, StreamPacket, read_packet};
 use std::alloc::{AllocError, Global};
-use std::test::Fail;
+use std::process::Abort;
 
 /// Packets of kind 12, whose frames have each known type and two unknown ones, by RFC 0029, section 5.
 const SAMPLES: Samples<'static> = Samples {
@@ -119,28 +120,31 @@ fn told(alloc: Global, bytes: &[u8]) -> Result<Option<u64>, AllocError> {
     })
 }
 
-#[test]
-fn packets_are_read_as_the_rules_say(rt: HostRuntime) -> Result<(), Fail> {
-    let mut met = Met::new();
-    for seed in FIRST..FIRST + INPUTS {
-        let bytes = SAMPLES.hostile(rt.alloc(), &mut Numbers::of(seed))?;
-        let told = told(rt.alloc(), &bytes)?;
-        assert!(rt; told.is_some(), "seed {seed}, {bytes:?}");
-        met.note(told.unwrap_or(0));
-    }
-    assert_eq!(rt; met.lacks(&[0, 20, 21, 22, 23]), None);
-    Ok(())
+/// What is said of a packet, which ends the test where it is not what the rules say.
+fn read(rt: &impl Abort, alloc: Global, bytes: &[u8], seed: u64) -> u64 {
+    let told = told(alloc, bytes).expect(rt, "memory");
+    sure_at(rt, told.is_some(), seed, 0, bytes);
+    told.unwrap_or(0)
 }
 
 #[test]
-fn every_prefix_and_change_of_a_packet(rt: HostRuntime) -> Result<(), Fail> {
+fn packets_are_read_as_the_rules_say(rt: HostRuntime) {
+    let mut met = Met::new();
+    for seed in FIRST..FIRST + INPUTS {
+        let bytes = hostile_bytes(&rt, rt.alloc(), &SAMPLES, &mut Numbers::of(seed));
+        met.note(read(&rt, rt.alloc(), &bytes, seed));
+    }
+    assert!(rt; met.lacks(&[0, 20, 21, 22, 23]) == None);
+}
+
+#[test]
+fn every_prefix_and_change_of_a_packet(rt: HostRuntime) {
     for bytes in SAMPLES.lawful {
         for at in 0..=bytes.len() {
             for edge in EDGES {
-                let changed = changed_at(rt.alloc(), bytes, at, edge)?;
-                assert!(rt; told(rt.alloc(), &changed)?.is_some(), "{changed:?}");
+                let changed = changed_bytes(&rt, rt.alloc(), bytes, at, edge);
+                read(&rt, rt.alloc(), &changed, 0);
             }
         }
     }
-    Ok(())
 }

@@ -8,3 +8,6 @@ returns-in-ToServer g c = rw c.in-ToServer.is (backs_over _ _ _ _ _ Client c.req
 
 pub returns-in-ToClient : goal.returns-in-ToClient
 returns-in-ToClient g c = rw c.in-ToClient.is (backs_over _ _ _ _ _ Server c.requires c.over.view_is c.args.put.now _ _ _ _ _ _ c.settle_at_end-in-ToClient.ensures refl)
+
+pub bounds-links-link : goal.bounds-links-link
+bounds-links-link g c = c.requires

@@ -7,3 +7,9 @@ pub returns-clause-back : goal.returns-clause-back
 returns-clause-back g c =
     let more : 0 < length c.split_at_mut-front.result.1.now = omega (arith, c.requires, c.split_at_mut-front.ensures.back_len) in
     backs_down c.args.links.now _ _ c.args.link _ _ _ _ Server c.split_at_mut-front.ensures.value c.split_at_mut-front.ensures.front_len more c.over.view_is c.back.view_is c.args.put.now _ _ _ _ _ _ _ _ c.in_ok-told.ensures.settled
+
+pub bounds-front-link : goal.bounds-front-link
+bounds-front-link g c = omega (arith, c.split_at_mut-front.ensures.front_len)
+
+pub bounds-rest-0 : goal.bounds-rest-0
+bounds-rest-0 g c = omega (arith, c.requires, c.split_at_mut-front.ensures.back_len)

@@ -8,3 +8,6 @@ returns-in_ok-told-in-ToServer-clause-sent g c = rw c.in-ToServer.is (sends_over
 
 pub returns-in_ok-told-in-ToClient-clause-sent : goal.returns-in_ok-told-in-ToClient-clause-sent
 returns-in_ok-told-in-ToClient-clause-sent g c = rw c.in-ToClient.is (sends_over _ _ _ _ _ Server c.requires c.over.view_is _ _ _ _ _ _ c.in_ok-told-in-ToClient.ensures.sent refl)
+
+pub bounds-links-link : goal.bounds-links-link
+bounds-links-link g c = c.requires
