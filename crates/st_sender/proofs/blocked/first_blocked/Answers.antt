@@ -27,3 +27,6 @@ returns-in-Some-blocked g c = record {
 
 pub loop-number-init : goal.loop-number-init
 loop-number-init g c = λ k l h e f b. absurd (omega (arith, h))
+
+pub bounds-streams-number : goal.bounds-streams-number
+bounds-streams-number g c = omega (arith, c.requires, c.loop-number-test.true)

@@ -33,3 +33,6 @@ returns-then-is_held-clause-no g c = λ t. absurd cc
 
 pub returns-clause-yes : goal.returns-clause-yes
 returns-clause-yes g c = λ t. absurd cc
+
+pub bounds-streams-number : goal.bounds-streams-number
+bounds-streams-number g c = omega (arith, c.requires.streams, c.loop-number-test.true)

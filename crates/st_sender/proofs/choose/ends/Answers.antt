@@ -28,3 +28,6 @@ loop-number-init g c = (omega arith, omega arith)
 
 pub overflow_add-total : goal.overflow_add-total
 overflow_add-total g c = omega (arith, c.loop-number.invariant.1, c.loop-number-test.true, c.sent_end-total.ensures.small)
+
+pub bounds-streams-number : goal.bounds-streams-number
+bounds-streams-number g c = omega (arith, c.requires, c.loop-number-test.true)

@@ -23,3 +23,6 @@ loop-number-preserved g c =
 
 pub returns : goal.returns
 returns g c = λ k l h e o byte d a. c.loop-number.invariant k l (omega (arith, h, c.loop-number-test.false)) e o byte d a
+
+pub bounds-streams-number : goal.bounds-streams-number
+bounds-streams-number g c = omega (arith, c.requires.streams, c.loop-number-test.true)

@@ -23,3 +23,6 @@ returns-in-Some-finished g c = record {
   is_own = c.loop-number-test.true;
   finished = c.in-Some-finished.ensures;
 }
+
+pub bounds-streams-number : goal.bounds-streams-number
+bounds-streams-number g c = omega (arith, c.requires, c.loop-number-test.true)

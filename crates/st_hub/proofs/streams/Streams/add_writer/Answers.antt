@@ -1,4 +1,4 @@
-use Rattle.std.proofs.Common.{◌≡◌, ◌+◌, ◌*◌, ◌-◌, ◌<◌, ℕ, false, List, map, subst}
+use Rattle.std.proofs.Common.{◌≡◌, ◌+◌, ◌*◌, ◌-◌, ◌<◌, ℕ, false, List, map, subst, arith}
 use Rattle.st_hub.specs.Flow.{Flow, Inlet, inlet_at, writer_out}
 use Rattle.st_hub.specs.Handing.{AllOut, IsTooLate, IsFreshWriter, AddsWriter, RefusesWriter}
 use Rattle.st_hub.specs.Inside.{inlet_of, outlet_of, flow_of}
@@ -51,3 +51,18 @@ returns-clause-added g c =
         after = subst (λ n. b ≡ record a { inlets = writer_out a.inlets (8 * (n - 1) + j) }) c.from-place.ensures after;
       },
     )
+
+pub overflow_sub-place : goal.overflow_sub-place
+overflow_sub-place g c = omega (arith, c.if-not-is_stream.ensures.0, c.from-place.ensures)
+
+pub further_writer-requires-clause-lanes : goal.further_writer-requires-clause-lanes
+further_writer-requires-clause-lanes g c =
+    let s = c.if-not-is_stream.ensures in
+    let f = c.in-Some.ensures.found in
+    (c.self.invariant.lanes, omega (arith, s.0, s.1, f.1, c.from-place.ensures))
+
+pub further_writer-requires-clause-held : goal.further_writer-requires-clause-held
+further_writer-requires-clause-held g c = c.in-Some.ensures.found.2
+
+pub invariant_of-self : goal.invariant_of-self
+invariant_of-self g c = c.self.invariant

@@ -1,9 +1,10 @@
-use Rattle.std.proofs.Common.{◌≡◌, ◌≢◌, ◌+◌, ◌-◌, ℕ, subst, sym, arith, None}
+use Rattle.std.proofs.Common.{◌≡◌, ◌≢◌, ◌+◌, ◌-◌, ℕ, subst, sym, arith, None, Ok}
 use Rattle.st_sender.specs.Sending.{outgoing_at}
-use Rattle.st_end.specs.Calls.{has_stream}
+use Rattle.st_end.specs.Calls as calls
+use Rattle.st_end.specs.Calls.{OrWants, has_stream}
 use Rattle.st_hub.specs.Flow.{Flow}
 use Rattle.st_hub.specs.Handing.{IsKnown, HandsOut}
-use Rattle.st_hub.specs.Inside.{flow_of}
+use Rattle.st_hub.specs.Inside.{flow_of, IsSound}
 use Rattle.st_hub.specs.Keeping.{Keeps}
 use Rattle.st_hub.proofs.EndEvents.{keeps_same}
 use Rattle.st_hub.proofs.CoreCalls.{opened_ok}
@@ -67,3 +68,11 @@ returns-clause-handed g c =
 pub returns-clause-keeps : goal.returns-clause-keeps
 returns-clause-keeps g c =
     subst (λ (f : Flow _). Keeps 0 f.core c.open_stream.new.self) c.self.view_is (opened_ok _ _ c.in_ok-stream.stream c.in_ok-stream.ensures.answers).keeps
+
+pub returns-clause-answers : goal.returns-clause-answers
+returns-clause-answers g c =
+    subst (λ (f : Flow _). OrWants f.core (calls.open_stream f.core) (Ok c.in_ok-stream.stream, c.open_stream.new.self)) c.self.view_is c.in_ok-stream.ensures.answers
+
+pub invariant_of-self : goal.invariant_of-self
+invariant_of-self g c =
+    subst (λ k. IsSound g.N.HubName.write_ring g.N.HubName.read_ring k c.self.inside.writes.items c.self.inside.reads.items) (sym c.in_err-stream.ensures.unchanged) c.self.invariant
