@@ -55,6 +55,19 @@ def link(source, to):
         shutil.copy2(source, to)
 
 
+def said_of(crate, room):
+    """The lines that `rt` says of a crate's edits, each printed as it comes."""
+    how = {"cwd": room, "stdout": subprocess.PIPE, "stderr": subprocess.STDOUT, "text": True, "errors": "replace"}
+    with subprocess.Popen(["rt", "must-fail", crate], **how) as ran:
+        for line in ran.stdout:
+            print(line, end="", flush=True)
+            yield line
+
+
+def is_refused(line):
+    return re.match(r"rt: must-fail \S+: refused, as it must be", line) is not None
+
+
 def main(words):
     crates = sorted(os.listdir(EDITS))
     if words == ["--look"]:
@@ -71,9 +84,7 @@ def main(words):
         for crate in words or crates:
             shutil.rmtree(f"{room}/crates/{crate}/must-fail", ignore_errors=True)
             shutil.copytree(f"{EDITS}/{crate}", f"{room}/crates/{crate}/must-fail")
-            ran = subprocess.run(["rt", "must-fail", crate], cwd=room, capture_output=True, text=True, errors="replace")
-            print(ran.stdout + ran.stderr, end="", flush=True)
-            refused = len(re.findall(r"^rt: must-fail \S+: refused, as it must be", ran.stdout, re.M))
+            refused = sum(is_refused(line) for line in said_of(crate, room))
             passed, failed = passed + refused, failed + len(edits_of(crate)) - refused
     print(f"{passed} passed, {failed} failed")
     return 1 if failed else 0
