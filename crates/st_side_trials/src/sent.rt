@@ -2,18 +2,27 @@ use st_frames::Frame;
 use st_oer::Rate;
 use st_sender::{EndConfig, Load, MAX_PACKET_LIMIT, Outbox, OutboxError};
 use std::alloc::Allocator;
+use std::process::Abort;
 
 /// The room of the longest packet.
 const ROOM: usize = 32_739;
 
-/// An outbox of a connection with up to `in_flight` Prepares at once, on which stream 1 is open.
-fn opened<A: Allocator + Copy>(alloc: A, in_flight: usize) -> Result<Outbox<A>, OutboxError> {
-    let Some(config) = EndConfig::new(in_flight, 1_000, MAX_PACKET_LIMIT) else {
-        return Err(OutboxError::NoStream);
-    };
-    let mut outbox = Outbox::new(alloc, config)?;
+/// An outbox of a connection with up to `in_flight` Prepares at once and this packet limit, on which stream 1 is open.
+fn opened_for<A: Allocator + Copy>(
+    rt: &impl Abort,
+    alloc: A,
+    in_flight: usize,
+    packet_limit: u64,
+) -> Outbox<A> {
+    let config = EndConfig::new(in_flight, 1_000, packet_limit).expect(rt, "these are lawful");
+    let mut outbox = Outbox::new(alloc, config).expect(rt, "memory");
     open(&mut outbox, 1);
-    Ok(outbox)
+    outbox
+}
+
+/// The same with the highest packet limit.
+fn opened<A: Allocator + Copy>(rt: &impl Abort, alloc: A, in_flight: usize) -> Outbox<A> {
+    opened_for(rt, alloc, in_flight, MAX_PACKET_LIMIT)
 }
 
 /// Opens a stream, where it is not open.
@@ -23,48 +32,79 @@ fn open<A: Allocator + Copy>(outbox: &mut Outbox<A>, stream: u8) {
     }
 }
 
-/// The offset and the length of a load's data, and none where it has none.
-fn data_of<A: Allocator + Copy>(
-    load: &Option<Load<A>>,
-) -> Result<Option<(u64, usize)>, OutboxError> {
-    let Some(load) = load else {
-        return Ok(None);
-    };
-    for frame in load.frames()? {
-        if let Frame::StreamData { offset, bytes, .. } = frame {
-            return Ok(Some((offset, bytes.len())));
-        }
-    }
-    Ok(None)
+/// Puts so many bytes on stream 1.
+fn fill<A: Allocator + Copy>(rt: &impl Abort, alloc: A, outbox: &mut Outbox<A>, count: usize) {
+    let bytes = vec![in alloc; 7; count].expect(rt, "memory");
+    outbox.accept(1, bytes.as_slice()).expect(rt, "it fits");
 }
 
-/// The amount of a load.
-fn amount_of<A: Allocator + Copy>(load: &Option<Load<A>>) -> Option<u64> {
-    match load {
+/// The offset and the length of a load's data, and none where it has none.
+fn data_of<A: Allocator + Copy>(rt: &impl Abort, load: &Load<A>) -> Option<(u64, usize)> {
+    for frame in load.frames().expect(rt, "memory") {
+        if let Frame::StreamData { offset, bytes, .. } = frame {
+            return Some((offset, bytes.len()));
+        }
+    }
+    None
+}
+
+/// The code of a load's close, and none where it has none.
+fn code_of<A: Allocator + Copy>(rt: &impl Abort, load: &Load<A>) -> Option<u8> {
+    for frame in load.frames().expect(rt, "memory") {
+        if let Frame::StreamClose { code, .. } = frame {
+            return Some(code);
+        }
+    }
+    None
+}
+
+/// The offset and the length of the next load's data.
+fn next_data<A: Allocator + Copy>(rt: &impl Abort, outbox: &mut Outbox<A>) -> Option<(u64, usize)> {
+    match outbox.next(ROOM, &[]).expect(rt, "memory") {
+        Some(load) => data_of(rt, &load),
+        None => None,
+    }
+}
+
+/// The code of the next load's close.
+fn next_code<A: Allocator + Copy>(rt: &impl Abort, outbox: &mut Outbox<A>) -> Option<u8> {
+    match outbox.next(ROOM, &[]).expect(rt, "memory") {
+        Some(load) => code_of(rt, &load),
+        None => None,
+    }
+}
+
+/// The next load's amount.
+fn next_amount<A: Allocator + Copy>(rt: &impl Abort, outbox: &mut Outbox<A>) -> Option<u64> {
+    match outbox.next(ROOM, &[]).expect(rt, "memory") {
         Some(load) => Some(load.amount()),
         None => None,
     }
 }
 
-/// The code of a load's close, and none where it has none.
-fn code_of<A: Allocator + Copy>(load: &Option<Load<A>>) -> Result<Option<u8>, OutboxError> {
-    let Some(load) = load else {
-        return Ok(None);
-    };
-    for frame in load.frames()? {
-        if let Frame::StreamClose { code, .. } = frame {
-            return Ok(Some(code));
-        }
-    }
-    Ok(None)
+/// That a load is the connection's first, with two bytes and no money.
+fn is_first<A: Allocator + Copy>(rt: &impl Abort, load: &Load<A>) {
+    sure!(rt; data_of(rt, load) == Some((0, 2)));
+    sure!(rt; load.sequence() == 1);
+    sure!(rt; load.amount() == 0);
+    sure!(rt; load.least() == 0);
+}
+
+/// The load that goes next in a packet of this room.
+fn next<A: Allocator + Copy>(rt: &impl Abort, outbox: &mut Outbox<A>, room: usize) -> Load<A> {
+    let load = outbox.next(room, &[]).expect(rt, "memory");
+    load.expect(rt, "something may go")
+}
+
+/// Whether nothing goes in a packet of this room.
+fn none_goes<A: Allocator + Copy>(rt: &impl Abort, outbox: &mut Outbox<A>, room: usize) -> bool {
+    outbox.next(room, &[]).expect(rt, "memory").is_none()
 }
 
 #[test]
 fn keeps_262_144_bytes_of_a_stream(rt: HostRuntime) {
-    let alloc = rt.alloc();
-    let mut outbox = opened(alloc, 16).expect(&rt, "it succeeds");
-    let bytes = vec![in alloc; 7; 262_144].expect(&rt, "it succeeds");
-    sure!(&rt; outbox.accept(1, bytes.as_slice()) == Ok(()));
+    let mut outbox = opened(&rt, rt.alloc(), 16);
+    fill(&rt, rt.alloc(), &mut outbox, 262_144);
     sure!(&rt; outbox.accept(1, b"a") == Err(OutboxError::Full));
     sure!(&rt; outbox.accept(1, b"") == Ok(()));
     sure!(&rt; outbox.accept(3, b"a") == Err(OutboxError::NoStream));
@@ -72,21 +112,20 @@ fn keeps_262_144_bytes_of_a_stream(rt: HostRuntime) {
 
 #[test]
 fn refuses_after_a_close_and_after_an_abort(rt: HostRuntime) {
-    let mut outbox = opened(rt.alloc(), 16).expect(&rt, "it succeeds");
+    let mut outbox = opened(&rt, rt.alloc(), 16);
     sure!(&rt; outbox.accept(1, b"ab") == Ok(()));
     sure!(&rt; outbox.close(1) == Ok(()));
     sure!(&rt; outbox.close(1) == Err(OutboxError::Closed));
     sure!(&rt; outbox.accept(1, b"cd") == Err(OutboxError::Closed));
     sure!(&rt; outbox.abort(1, 9) == Ok(()));
     sure!(&rt; outbox.abort(1, 9) == Err(OutboxError::Closed));
-    let load = outbox.next(ROOM, &[]).expect(&rt, "it succeeds");
-    sure!(&rt; code_of(&load) == Ok(Some(9)));
-    sure!(&rt; outbox.next(ROOM, &[]).expect(&rt, "it succeeds").is_none());
+    sure!(&rt; next_code(&rt, &mut outbox) == Some(9));
+    sure!(&rt; none_goes(&rt, &mut outbox, ROOM));
 }
 
 #[test]
 fn counts_all_offers(rt: HostRuntime) {
-    let mut outbox = opened(rt.alloc(), 16).expect(&rt, "it succeeds");
+    let mut outbox = opened(&rt, rt.alloc(), 16);
     open(&mut outbox, 3);
     sure!(&rt; outbox.has_stream(3));
     sure!(&rt; outbox.offer(1, 9_223_372_036_854_775_807) == Ok(()));
@@ -97,111 +136,80 @@ fn counts_all_offers(rt: HostRuntime) {
 
 #[test]
 fn sends_no_byte_past_the_assumed_limit(rt: HostRuntime) {
-    let alloc = rt.alloc();
-    let mut outbox = opened(alloc, 16).expect(&rt, "it succeeds");
-    let bytes = vec![in alloc; 7; 20_000].expect(&rt, "it succeeds");
-    outbox
-        .accept(1, bytes.as_slice())
-        .expect(&rt, "it succeeds");
-    sure!(&rt;
-        data_of(&outbox.next(ROOM, &[]).expect(&rt, "it succeeds")) == Ok(Some((0, 16_000)))
-    );
-    sure!(&rt;
-        data_of(&outbox.next(ROOM, &[]).expect(&rt, "it succeeds")) == Ok(Some((16_000, 384)))
-    );
-    sure!(&rt; outbox.next(ROOM, &[]).expect(&rt, "it succeeds").is_none());
+    let mut outbox = opened(&rt, rt.alloc(), 16);
+    fill(&rt, rt.alloc(), &mut outbox, 20_000);
+    sure!(&rt; next_data(&rt, &mut outbox) == Some((0, 16_000)));
+    sure!(&rt; next_data(&rt, &mut outbox) == Some((16_000, 384)));
+    sure!(&rt; none_goes(&rt, &mut outbox, ROOM));
     outbox.raise_limits(&Frame::StreamMaxData {
         stream: 1,
         max_offset: 16_385,
     });
-    sure!(&rt;
-        data_of(&outbox.next(ROOM, &[]).expect(&rt, "it succeeds")) == Ok(Some((16_384, 1)))
-    );
-    sure!(&rt; outbox.next(ROOM, &[]).expect(&rt, "it succeeds").is_none());
+    sure!(&rt; next_data(&rt, &mut outbox) == Some((16_384, 1)));
+    sure!(&rt; none_goes(&rt, &mut outbox, ROOM));
 }
 
 #[test]
 fn sends_what_the_room_takes(rt: HostRuntime) {
-    let mut outbox = opened(rt.alloc(), 1).expect(&rt, "it succeeds");
+    let mut outbox = opened(&rt, rt.alloc(), 1);
     outbox.accept(1, b"hi").expect(&rt, "it succeeds");
-    sure!(&rt; outbox.next(15, &[]).expect(&rt, "it succeeds").is_none());
-    let load = outbox.next(17, &[]).expect(&rt, "it succeeds");
-    sure!(&rt; data_of(&load) == Ok(Some((0, 2))));
-    if let Some(load) = load {
-        sure!(&rt; load.sequence() == 1);
-        sure!(&rt; load.amount() == 0);
-        sure!(&rt; load.least() == 0);
-    }
-    sure!(&rt; outbox.next(ROOM, &[]).expect(&rt, "it succeeds").is_none());
+    sure!(&rt; none_goes(&rt, &mut outbox, 15));
+    is_first(&rt, &next(&rt, &mut outbox, 17));
+    sure!(&rt; none_goes(&rt, &mut outbox, ROOM));
     outbox.mark(&Frame::ConnectionMaxData { max_offset: 7 });
 }
 
 #[test]
-fn sends_what_failed_again_and_closes_what_is_acknowledged(
-    rt: HostRuntime,
-) -> Result<(), OutboxError> {
-    let mut outbox = opened(rt.alloc(), 16)?;
-    outbox.accept(1, b"ab")?;
-    outbox.close(1)?;
-    sure!(&rt; data_of(&outbox.next(ROOM, &[])?)? == Some((0, 2)));
-    sure!(&rt; outbox.next(ROOM, &[])?.is_none());
+fn sends_what_failed_again_and_closes_what_is_acknowledged(rt: HostRuntime) {
+    let mut outbox = opened(&rt, rt.alloc(), 16);
+    sure!(&rt; outbox.accept(1, b"ab") == Ok(()));
+    sure!(&rt; outbox.close(1) == Ok(()));
+    sure!(&rt; next_data(&rt, &mut outbox) == Some((0, 2)));
+    sure!(&rt; none_goes(&rt, &mut outbox, ROOM));
     outbox.failed(1, *b"T01");
-    let again = outbox.next(ROOM, &[])?;
-    sure!(&rt; data_of(&again)? == Some((0, 2)));
+    sure!(&rt; next_data(&rt, &mut outbox) == Some((0, 2)));
     outbox.acknowledged(1);
-    sure!(&rt; outbox.next(ROOM, &[])?.is_none());
+    sure!(&rt; none_goes(&rt, &mut outbox, ROOM));
     outbox.acknowledged(2);
-    sure!(&rt; code_of(&outbox.next(ROOM, &[])?)? == Some(1));
+    sure!(&rt; next_code(&rt, &mut outbox) == Some(1));
     outbox.acknowledged(3);
-    sure!(&rt; outbox.next(ROOM, &[])?.is_none());
-    Ok(())
+    sure!(&rt; none_goes(&rt, &mut outbox, ROOM));
 }
 
 #[test]
 fn fails_after_200_failures_in_a_row(rt: HostRuntime) {
-    let mut outbox = opened(rt.alloc(), 1).expect(&rt, "it succeeds");
+    let mut outbox = opened(&rt, rt.alloc(), 1);
     outbox.accept(1, b"a").expect(&rt, "it succeeds");
     for sequence in 1..=200_u64 {
-        sure!(&rt; data_of(&outbox.next(ROOM, &[]).expect(&rt, "it succeeds")) == Ok(Some((0, 1))));
+        sure!(&rt; next_data(&rt, &mut outbox) == Some((0, 1)));
         outbox.failed(sequence, *b"F99");
     }
-    sure!(&rt; outbox.next(ROOM, &[]).expect(&rt, "it succeeds").is_none());
+    sure!(&rt; none_goes(&rt, &mut outbox, ROOM));
 }
 
 #[test]
 fn fails_at_a_final_code(rt: HostRuntime) {
-    let mut outbox = opened(rt.alloc(), 1).expect(&rt, "it succeeds");
+    let mut outbox = opened(&rt, rt.alloc(), 1);
     outbox.accept(1, b"a").expect(&rt, "it succeeds");
-    sure!(&rt; data_of(&outbox.next(ROOM, &[]).expect(&rt, "it succeeds")) == Ok(Some((0, 1))));
+    sure!(&rt; next_data(&rt, &mut outbox) == Some((0, 1)));
     outbox.too_large(1, Some((3, 1)));
-    sure!(&rt; data_of(&outbox.next(ROOM, &[]).expect(&rt, "it succeeds")) == Ok(Some((0, 1))));
+    sure!(&rt; next_data(&rt, &mut outbox) == Some((0, 1)));
     outbox.failed(2, *b"F02");
-    sure!(&rt; outbox.next(ROOM, &[]).expect(&rt, "it succeeds").is_none());
+    sure!(&rt; none_goes(&rt, &mut outbox, ROOM));
 }
 
 /// The amount that goes once F08 answered a Prepare of so much, with a received and a maximum amount where it told them.
 fn amount_after<A: Allocator + Copy>(
+    rt: &impl Abort,
     alloc: A,
     sent: u64,
     told: Option<(u64, u64)>,
-) -> Result<u64, OutboxError> {
-    let Some(config) = EndConfig::new(4, 1_000, sent) else {
-        return Err(OutboxError::NoStream);
-    };
-    let mut outbox = Outbox::new(alloc, config)?;
-    open(&mut outbox, 1);
-    outbox.offer(1, 1_000_000)?;
-    let first = outbox.next(ROOM, &[])?.map(|load| load.amount());
-    if first != Some(sent) {
-        return Err(OutboxError::AmountTooLarge);
-    }
+) -> Option<u64> {
+    let mut outbox = opened_for(rt, alloc, 4, sent);
+    outbox.offer(1, 1_000_000).expect(rt, "it fits");
+    sure!(rt; next_amount(rt, &mut outbox) == Some(sent));
     outbox.too_large(1, told);
-    Ok(
-        outbox
-            .next(ROOM, &[])?
-            .map(|load| load.amount())
-            .unwrap_or(0),
-    )
+    next_amount(rt, &mut outbox)
 }
 
 #[test]
@@ -214,69 +222,59 @@ fn lowers_the_packet_limit(rt: HostRuntime) {
         (6, Some((0, 9)), 3),
     ];
     for (sent, told, want) in rows {
-        assert_eq!(rt; amount_after(rt.alloc(), sent, told), Ok(want), "of {sent}");
+        sure!(&rt; amount_after(&rt, rt.alloc(), sent, told) == Some(want), sent);
     }
 }
 
 #[test]
 fn shares_the_packet_limit_among_streams(rt: HostRuntime) {
-    let Some(config) = EndConfig::new(4, 1_000, 100) else {
-        panic!(rt; "these are lawful");
-    };
-    let mut outbox = Outbox::new(rt.alloc(), config).expect(&rt, "it succeeds");
-    open(&mut outbox, 1);
+    let mut outbox = opened_for(&rt, rt.alloc(), 4, 100);
     open(&mut outbox, 3);
     open(&mut outbox, 5);
     outbox.offer(1, 60).expect(&rt, "it succeeds");
     outbox.offer(3, 50).expect(&rt, "it succeeds");
     outbox.offer(5, 30).expect(&rt, "it succeeds");
-    sure!(&rt; amount_of(&outbox.next(ROOM, &[]).expect(&rt, "it succeeds")) == Some(100));
-    sure!(&rt; amount_of(&outbox.next(ROOM, &[]).expect(&rt, "it succeeds")) == Some(40));
-    sure!(&rt; outbox.next(ROOM, &[]).expect(&rt, "it succeeds").is_none());
+    sure!(&rt; next_amount(&rt, &mut outbox) == Some(100));
+    sure!(&rt; next_amount(&rt, &mut outbox) == Some(40));
+    sure!(&rt; none_goes(&rt, &mut outbox, ROOM));
     outbox.acknowledged(1);
     outbox.failed(2, *b"T04");
     sure!(&rt; outbox.paid() == 100);
-    sure!(&rt; amount_of(&outbox.next(ROOM, &[]).expect(&rt, "it succeeds")) == Some(40));
+    sure!(&rt; next_amount(&rt, &mut outbox) == Some(40));
 }
 
 #[test]
 fn sends_no_money_past_the_receive_max(rt: HostRuntime) {
-    let mut outbox = opened(rt.alloc(), 16).expect(&rt, "it succeeds");
+    let mut outbox = opened(&rt, rt.alloc(), 16);
     outbox.raise_limits(&Frame::StreamMaxMoney {
         stream: 1,
         receive_max: 10,
         total_received: 4,
     });
     outbox.offer(1, 9).expect(&rt, "it succeeds");
-    sure!(&rt; amount_of(&outbox.next(ROOM, &[]).expect(&rt, "it succeeds")) == Some(6));
-    sure!(&rt; outbox.next(ROOM, &[]).expect(&rt, "it succeeds").is_none());
+    sure!(&rt; next_amount(&rt, &mut outbox) == Some(6));
+    sure!(&rt; none_goes(&rt, &mut outbox, ROOM));
 }
 
 #[test]
 fn sends_less_after_f08(rt: HostRuntime) {
-    let mut outbox = opened(rt.alloc(), 1).expect(&rt, "it succeeds");
+    let mut outbox = opened(&rt, rt.alloc(), 1);
     outbox.offer(1, 7).expect(&rt, "it succeeds");
-    sure!(&rt; amount_of(&outbox.next(ROOM, &[]).expect(&rt, "it succeeds")) == Some(7));
+    sure!(&rt; next_amount(&rt, &mut outbox) == Some(7));
     outbox.too_large(1, Some((3, 1)));
-    sure!(&rt; amount_of(&outbox.next(ROOM, &[]).expect(&rt, "it succeeds")) == Some(2));
+    sure!(&rt; next_amount(&rt, &mut outbox) == Some(2));
     outbox.failed(2, *b"F08");
-    sure!(&rt; amount_of(&outbox.next(ROOM, &[]).expect(&rt, "it succeeds")) == Some(1));
+    sure!(&rt; next_amount(&rt, &mut outbox) == Some(1));
 }
 
 #[test]
 fn takes_a_load_back(rt: HostRuntime) {
-    let mut outbox = opened(rt.alloc(), 1).expect(&rt, "it succeeds");
+    let mut outbox = opened(&rt, rt.alloc(), 1);
     outbox.accept(1, b"ab").expect(&rt, "it succeeds");
-    let first = outbox.next(ROOM, &[]).expect(&rt, "it succeeds");
-    sure!(&rt; outbox.next(ROOM, &[]).expect(&rt, "it succeeds").is_none());
-    if let Some(load) = first {
-        outbox.take_back(load);
-    }
-    let again = outbox.next(ROOM, &[]).expect(&rt, "it succeeds");
-    sure!(&rt; data_of(&again) == Ok(Some((0, 2))));
-    if let Some(load) = again {
-        sure!(&rt; load.sequence() == 1);
-    }
+    let first = next(&rt, &mut outbox, ROOM);
+    sure!(&rt; none_goes(&rt, &mut outbox, ROOM));
+    outbox.take_back(first);
+    is_first(&rt, &next(&rt, &mut outbox, ROOM));
 }
 
 #[test]
