@@ -28,6 +28,8 @@ fn sure_at(rt: &impl Abort, holds: bool, fact: &str, n: u64) {
 }
 
 #[cfg(test)]
+mod going;
+#[cfg(test)]
 mod notices;
 #[cfg(test)]
 mod received;

@@ -1,37 +1,19 @@
 //! Blocked frames and limits of this end's: when each goes, what it says, and what its answer leaves.
 
+use crate::going::{ROOM, fill, next_amount, none_goes, open};
 use st_frames::Frame;
 use st_sender::{EndConfig, Load, MAX_PACKET_LIMIT, Outbox};
 use std::alloc::Allocator;
 use std::process::Abort;
-
-/// The room of the longest packet.
-const ROOM: usize = 32_739;
 
 /// An outbox on which streams 1 to 9 of odd numbers are open.
 fn opened<A: Allocator + Copy>(rt: &impl Abort, alloc: A) -> Outbox<A> {
     let config = EndConfig::new(16, 1_000, MAX_PACKET_LIMIT).expect(rt, "these are lawful");
     let mut outbox = Outbox::new(alloc, config).expect(rt, "memory");
     for stream in [1, 3, 5, 7, 9] {
-        if !outbox.has_stream(stream) {
-            outbox.add_stream(stream);
-        }
+        open(&mut outbox, stream);
     }
     outbox
-}
-
-/// Puts so many bytes on a stream.
-fn fill<A: Allocator + Copy>(
-    rt: &impl Abort,
-    alloc: A,
-    outbox: &mut Outbox<A>,
-    stream: u8,
-    count: usize,
-) {
-    let bytes = vec![in alloc; 7; count].expect(rt, "memory");
-    outbox
-        .accept(stream, bytes.as_slice())
-        .expect(rt, "it fits");
 }
 
 /// Whether a load has this frame and no other.
@@ -53,8 +35,8 @@ fn says<A: Allocator + Copy>(
     }
 }
 
-/// Whether nothing goes.
-fn none_goes<A: Allocator + Copy>(
+/// Whether nothing goes where this end's limits are these.
+fn says_none<A: Allocator + Copy>(
     rt: &impl Abort,
     outbox: &mut Outbox<A>,
     limits: &[Frame<'_>],
@@ -66,14 +48,6 @@ fn none_goes<A: Allocator + Copy>(
 fn next_sequence<A: Allocator + Copy>(rt: &impl Abort, outbox: &mut Outbox<A>) -> Option<u64> {
     match outbox.next(ROOM, &[]).expect(rt, "memory") {
         Some(load) => Some(load.sequence()),
-        None => None,
-    }
-}
-
-/// The amount of the load that goes next.
-fn next_amount<A: Allocator + Copy>(rt: &impl Abort, outbox: &mut Outbox<A>) -> Option<u64> {
-    match outbox.next(ROOM, &[]).expect(rt, "memory") {
-        Some(load) => Some(load.amount()),
         None => None,
     }
 }
@@ -102,11 +76,11 @@ fn tells_once_that_a_stream_is_blocked(rt: HostRuntime) {
         max_offset: 16_384,
     };
     sure!(&rt; says(&rt, &mut outbox, &[], at));
-    sure!(&rt; none_goes(&rt, &mut outbox, &[]));
+    sure!(&rt; none_goes(&rt, &mut outbox));
     outbox.failed(3, *b"T00");
     sure!(&rt; says(&rt, &mut outbox, &[], at));
     outbox.acknowledged(4);
-    sure!(&rt; none_goes(&rt, &mut outbox, &[]));
+    sure!(&rt; none_goes(&rt, &mut outbox));
     outbox.raise_limits(&Frame::StreamMaxData {
         stream: 3,
         max_offset: 16_385,
@@ -131,7 +105,7 @@ fn tells_once_that_the_connection_is_blocked(rt: HostRuntime) {
     let at = Frame::ConnectionDataBlocked { max_offset: 65_536 };
     sure!(&rt; says(&rt, &mut outbox, &[], at));
     outbox.acknowledged(9);
-    sure!(&rt; none_goes(&rt, &mut outbox, &[]));
+    sure!(&rt; none_goes(&rt, &mut outbox));
     outbox.raise_limits(&Frame::ConnectionMaxData { max_offset: 65_537 });
     sure!(&rt; next_sequence(&rt, &mut outbox) == Some(10));
 }
@@ -159,7 +133,7 @@ fn tells_once_that_money_is_blocked(rt: HostRuntime) {
     };
     sure!(&rt; says(&rt, &mut outbox, &[], at));
     outbox.acknowledged(2);
-    sure!(&rt; none_goes(&rt, &mut outbox, &[]));
+    sure!(&rt; none_goes(&rt, &mut outbox));
 }
 
 #[test]
@@ -178,7 +152,7 @@ fn tells_limits_at_which_the_peer_waits(rt: HostRuntime) {
         },
         money,
     ];
-    sure!(&rt; none_goes(&rt, &mut outbox, &limits));
+    sure!(&rt; says_none(&rt, &mut outbox, &limits));
     outbox.mark(&Frame::ConnectionMaxData { max_offset: 8 });
     outbox.mark(&Frame::StreamMaxData {
         stream: 2,
@@ -191,12 +165,12 @@ fn tells_limits_at_which_the_peer_waits(rt: HostRuntime) {
     });
     sure!(&rt; says(&rt, &mut outbox, &limits, limits[1]));
     sure!(&rt; says(&rt, &mut outbox, &limits, money));
-    sure!(&rt; none_goes(&rt, &mut outbox, &limits));
+    sure!(&rt; says_none(&rt, &mut outbox, &limits));
     outbox.failed(1, *b"T00");
     outbox.acknowledged(2);
     sure!(&rt; says(&rt, &mut outbox, &limits, limits[1]));
     outbox.acknowledged(3);
-    sure!(&rt; none_goes(&rt, &mut outbox, &limits));
+    sure!(&rt; says_none(&rt, &mut outbox, &limits));
 }
 
 #[test]

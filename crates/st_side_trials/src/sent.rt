@@ -1,11 +1,9 @@
+use crate::going::{ROOM, fill, next_amount, none_goes, open};
 use st_frames::Frame;
 use st_oer::Rate;
 use st_sender::{EndConfig, Load, MAX_PACKET_LIMIT, Outbox, OutboxError};
 use std::alloc::Allocator;
 use std::process::Abort;
-
-/// The room of the longest packet.
-const ROOM: usize = 32_739;
 
 /// An outbox of a connection with up to `in_flight` Prepares at once and this packet limit, on which stream 1 is open.
 fn opened_for<A: Allocator + Copy>(
@@ -23,19 +21,6 @@ fn opened_for<A: Allocator + Copy>(
 /// The same with the highest packet limit.
 fn opened<A: Allocator + Copy>(rt: &impl Abort, alloc: A, in_flight: usize) -> Outbox<A> {
     opened_for(rt, alloc, in_flight, MAX_PACKET_LIMIT)
-}
-
-/// Opens a stream, where it is not open.
-fn open<A: Allocator + Copy>(outbox: &mut Outbox<A>, stream: u8) {
-    if stream <= 64 && !outbox.has_stream(stream) {
-        outbox.add_stream(stream);
-    }
-}
-
-/// Puts so many bytes on stream 1.
-fn fill<A: Allocator + Copy>(rt: &impl Abort, alloc: A, outbox: &mut Outbox<A>, count: usize) {
-    let bytes = vec![in alloc; 7; count].expect(rt, "memory");
-    outbox.accept(1, bytes.as_slice()).expect(rt, "it fits");
 }
 
 /// The offset and the length of a load's data, and none where it has none.
@@ -74,14 +59,6 @@ fn next_code<A: Allocator + Copy>(rt: &impl Abort, outbox: &mut Outbox<A>) -> Op
     }
 }
 
-/// The next load's amount.
-fn next_amount<A: Allocator + Copy>(rt: &impl Abort, outbox: &mut Outbox<A>) -> Option<u64> {
-    match outbox.next(ROOM, &[]).expect(rt, "memory") {
-        Some(load) => Some(load.amount()),
-        None => None,
-    }
-}
-
 /// That a load is the connection's first, with two bytes and no money.
 fn is_first<A: Allocator + Copy>(rt: &impl Abort, load: &Load<A>) {
     sure!(rt; data_of(rt, load) == Some((0, 2)));
@@ -96,15 +73,10 @@ fn next<A: Allocator + Copy>(rt: &impl Abort, outbox: &mut Outbox<A>, room: usiz
     load.expect(rt, "something may go")
 }
 
-/// Whether nothing goes in a packet of this room.
-fn none_goes<A: Allocator + Copy>(rt: &impl Abort, outbox: &mut Outbox<A>, room: usize) -> bool {
-    outbox.next(room, &[]).expect(rt, "memory").is_none()
-}
-
 #[test]
 fn keeps_262_144_bytes_of_a_stream(rt: HostRuntime) {
     let mut outbox = opened(&rt, rt.alloc(), 16);
-    fill(&rt, rt.alloc(), &mut outbox, 262_144);
+    fill(&rt, rt.alloc(), &mut outbox, 1, 262_144);
     sure!(&rt; outbox.accept(1, b"a") == Err(OutboxError::Full));
     sure!(&rt; outbox.accept(1, b"") == Ok(()));
     sure!(&rt; outbox.accept(3, b"a") == Err(OutboxError::NoStream));
@@ -120,7 +92,7 @@ fn refuses_after_a_close_and_after_an_abort(rt: HostRuntime) {
     sure!(&rt; outbox.abort(1, 9) == Ok(()));
     sure!(&rt; outbox.abort(1, 9) == Err(OutboxError::Closed));
     sure!(&rt; next_code(&rt, &mut outbox) == Some(9));
-    sure!(&rt; none_goes(&rt, &mut outbox, ROOM));
+    sure!(&rt; none_goes(&rt, &mut outbox));
 }
 
 #[test]
@@ -137,25 +109,25 @@ fn counts_all_offers(rt: HostRuntime) {
 #[test]
 fn sends_no_byte_past_the_assumed_limit(rt: HostRuntime) {
     let mut outbox = opened(&rt, rt.alloc(), 16);
-    fill(&rt, rt.alloc(), &mut outbox, 20_000);
+    fill(&rt, rt.alloc(), &mut outbox, 1, 20_000);
     sure!(&rt; next_data(&rt, &mut outbox) == Some((0, 16_000)));
     sure!(&rt; next_data(&rt, &mut outbox) == Some((16_000, 384)));
-    sure!(&rt; none_goes(&rt, &mut outbox, ROOM));
+    sure!(&rt; none_goes(&rt, &mut outbox));
     outbox.raise_limits(&Frame::StreamMaxData {
         stream: 1,
         max_offset: 16_385,
     });
     sure!(&rt; next_data(&rt, &mut outbox) == Some((16_384, 1)));
-    sure!(&rt; none_goes(&rt, &mut outbox, ROOM));
+    sure!(&rt; none_goes(&rt, &mut outbox));
 }
 
 #[test]
 fn sends_what_the_room_takes(rt: HostRuntime) {
     let mut outbox = opened(&rt, rt.alloc(), 1);
     outbox.accept(1, b"hi").expect(&rt, "it succeeds");
-    sure!(&rt; none_goes(&rt, &mut outbox, 15));
+    sure!(&rt; outbox.next(15, &[]).expect(&rt, "memory").is_none());
     is_first(&rt, &next(&rt, &mut outbox, 17));
-    sure!(&rt; none_goes(&rt, &mut outbox, ROOM));
+    sure!(&rt; none_goes(&rt, &mut outbox));
     outbox.mark(&Frame::ConnectionMaxData { max_offset: 7 });
 }
 
@@ -165,15 +137,15 @@ fn sends_what_failed_again_and_closes_what_is_acknowledged(rt: HostRuntime) {
     sure!(&rt; outbox.accept(1, b"ab") == Ok(()));
     sure!(&rt; outbox.close(1) == Ok(()));
     sure!(&rt; next_data(&rt, &mut outbox) == Some((0, 2)));
-    sure!(&rt; none_goes(&rt, &mut outbox, ROOM));
+    sure!(&rt; none_goes(&rt, &mut outbox));
     outbox.failed(1, *b"T01");
     sure!(&rt; next_data(&rt, &mut outbox) == Some((0, 2)));
     outbox.acknowledged(1);
-    sure!(&rt; none_goes(&rt, &mut outbox, ROOM));
+    sure!(&rt; none_goes(&rt, &mut outbox));
     outbox.acknowledged(2);
     sure!(&rt; next_code(&rt, &mut outbox) == Some(1));
     outbox.acknowledged(3);
-    sure!(&rt; none_goes(&rt, &mut outbox, ROOM));
+    sure!(&rt; none_goes(&rt, &mut outbox));
 }
 
 #[test]
@@ -184,7 +156,7 @@ fn fails_after_200_failures_in_a_row(rt: HostRuntime) {
         sure!(&rt; next_data(&rt, &mut outbox) == Some((0, 1)));
         outbox.failed(sequence, *b"F99");
     }
-    sure!(&rt; none_goes(&rt, &mut outbox, ROOM));
+    sure!(&rt; none_goes(&rt, &mut outbox));
 }
 
 #[test]
@@ -195,7 +167,7 @@ fn fails_at_a_final_code(rt: HostRuntime) {
     outbox.too_large(1, Some((3, 1)));
     sure!(&rt; next_data(&rt, &mut outbox) == Some((0, 1)));
     outbox.failed(2, *b"F02");
-    sure!(&rt; none_goes(&rt, &mut outbox, ROOM));
+    sure!(&rt; none_goes(&rt, &mut outbox));
 }
 
 /// The amount that goes once F08 answered a Prepare of so much, with a received and a maximum amount where it told them.
@@ -236,7 +208,7 @@ fn shares_the_packet_limit_among_streams(rt: HostRuntime) {
     outbox.offer(5, 30).expect(&rt, "it succeeds");
     sure!(&rt; next_amount(&rt, &mut outbox) == Some(100));
     sure!(&rt; next_amount(&rt, &mut outbox) == Some(40));
-    sure!(&rt; none_goes(&rt, &mut outbox, ROOM));
+    sure!(&rt; none_goes(&rt, &mut outbox));
     outbox.acknowledged(1);
     outbox.failed(2, *b"T04");
     sure!(&rt; outbox.paid() == 100);
@@ -253,7 +225,7 @@ fn sends_no_money_past_the_receive_max(rt: HostRuntime) {
     });
     outbox.offer(1, 9).expect(&rt, "it succeeds");
     sure!(&rt; next_amount(&rt, &mut outbox) == Some(6));
-    sure!(&rt; none_goes(&rt, &mut outbox, ROOM));
+    sure!(&rt; none_goes(&rt, &mut outbox));
 }
 
 #[test]
@@ -272,7 +244,7 @@ fn takes_a_load_back(rt: HostRuntime) {
     let mut outbox = opened(&rt, rt.alloc(), 1);
     outbox.accept(1, b"ab").expect(&rt, "it succeeds");
     let first = next(&rt, &mut outbox, ROOM);
-    sure!(&rt; none_goes(&rt, &mut outbox, ROOM));
+    sure!(&rt; none_goes(&rt, &mut outbox));
     outbox.take_back(first);
     is_first(&rt, &next(&rt, &mut outbox, ROOM));
 }

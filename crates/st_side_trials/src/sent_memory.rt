@@ -1,13 +1,11 @@
 //! The sending side, which is made, asked and changed while each request for memory is refused in turn.
 
+use crate::going::{ROOM, next_amount, open};
 use refusing::Refusing;
 use st_frames::Frame;
 use st_sender::{EndConfig, Load, Outbox, OutboxError};
 use std::alloc::{Allocator, Global};
 use std::process::Abort;
-
-/// The room of the longest packet.
-const ROOM: usize = 32_739;
 
 /// The calls that may want memory.
 #[derive(Clone, Copy, Debug, PartialEq, Eq)]
@@ -30,9 +28,7 @@ fn new<A: Allocator + Copy>(alloc: A) -> Result<Outbox<A>, OutboxError> {
 /// An outbox with bytes and money on stream 1.
 fn ready<A: Allocator + Copy>(alloc: A) -> Result<Outbox<A>, OutboxError> {
     let mut outbox = new(alloc)?;
-    if !outbox.has_stream(1) {
-        outbox.add_stream(1);
-    }
+    open(&mut outbox, 1);
     outbox.accept(1, b"there is more than one word of it")?;
     outbox.offer(1, 30)?;
     Ok(outbox)
@@ -176,9 +172,9 @@ fn each_call_wants_memory_or_succeeds(rt: HostRuntime) {
 fn the_other_calls_ask_for_no_memory(rt: HostRuntime) {
     let heap: Refusing<Global> = Refusing::new(rt.alloc());
     let mut outbox = ready(&heap).expect(&rt, "it succeeds");
-    sure!(&rt; outbox.next(ROOM, &[]).expect(&rt, "it succeeds").is_some());
+    sure!(&rt; next_amount(&rt, &mut outbox).is_some());
     outbox.accept(1, b"more").expect(&rt, "it succeeds");
-    sure!(&rt; outbox.next(ROOM, &[]).expect(&rt, "it succeeds").is_some());
+    sure!(&rt; next_amount(&rt, &mut outbox).is_some());
     outbox.offer(1, 5).expect(&rt, "it succeeds");
     let third = outbox.next(ROOM, &[]).expect(&rt, "it succeeds");
     heap.refuse_from(1);
