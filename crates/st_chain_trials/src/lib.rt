@@ -16,3 +16,5 @@ mod rows;
 mod seeded;
 #[cfg(test)]
 mod sums;
+#[cfg(test)]
+mod worked;
