@@ -1,14 +1,14 @@
-//! The bytes of Fulfills and Rejects (RFC 0027), lawful and hostile.
+//! The bytes of Fulfills and Rejects (RFC 0027), valid and invalid.
 
 use crate::prepares::{packet_bytes, put_octets};
 use crate::samples::Samples;
 use std::alloc::{AllocError, Global};
 
-/// The Fulfill of 32 zero bytes, without data.
+/// The bytes of a Fulfill whose fulfillment is 32 zero bytes, without data.
 pub const FULFILL: &[u8] = b"\x0d\x21\
 \0\0\0\0\0\0\0\0\0\0\0\0\0\0\0\0\0\0\0\0\0\0\0\0\0\0\0\0\0\0\0\0\0";
 
-/// What hostile answers are made from.
+/// The samples from which hostile answers are made.
 pub const ANSWERS: Samples<'static> = Samples {
     lawful: &[
         FULFILL,
@@ -21,7 +21,7 @@ pub const ANSWERS: Samples<'static> = Samples {
     behind: 50,
 };
 
-/// The bytes of a Fulfill.
+/// The bytes of a Fulfill with this fulfillment and these data (RFC 0027). Fails where memory is refused.
 pub fn fulfill_bytes(
     alloc: Global,
     fulfillment: &[u8; 32],
@@ -32,7 +32,8 @@ pub fn fulfill_bytes(
     packet_bytes(alloc, 13, &contents)
 }
 
-/// The bytes of a Reject without a message.
+/// The bytes of a Reject with this code, this sender and these data, and an empty message (RFC 0027). Fails where
+/// memory is refused.
 pub fn reject_bytes(
     alloc: Global,
     code: &[u8; 3],

@@ -1,20 +1,23 @@
-//! Messages of HTTP/1.x (RFC 9112) as RFC 0035 and this profile use them, once more: the head line by line, then the rules.
+//! A second reader of HTTP/1.x messages (RFC 9112), as RFC 0035 and this profile use them: first the head line by line,
+//! then the rules.
 
 use crate::refusal::Refusal;
 
-/// What bytes say as a message.
+/// What bytes mean as a message.
 #[derive(Clone, Copy)]
 pub enum Message<'a> {
-    /// It is none yet, and wants at least so many bytes more.
+    /// It is not complete, and needs at least this number of bytes more.
     Unfinished(usize),
-    /// A whole one, of so many bytes in all.
+    /// A complete message.
     Whole {
-        /// A request's account.
+        /// The account of a request; for a response, `None`.
         account: Option<usize>,
+        /// The bytes of the body.
         body: &'a [u8],
+        /// The number of bytes of the whole message.
         size: usize,
     },
-    /// None, whatever follows.
+    /// It is refused, whatever bytes follow.
     Refused(Refusal),
 }
 
@@ -341,7 +344,7 @@ fn head_of(text: &[u8]) -> Result<Option<(&[u8], &[u8])>, ()> {
     }
 }
 
-/// What a text says as a request to the account of one of these tokens. Bytes behind it are left.
+/// What a text means as a request to the account of one of these tokens. Bytes behind the message are ignored.
 pub fn request<'a>(tokens: &[&str], text: &'a [u8]) -> Message<'a> {
     match head_of(text) {
         Ok(Some((head, behind))) => {
@@ -356,7 +359,7 @@ pub fn request<'a>(tokens: &[&str], text: &'a [u8]) -> Message<'a> {
     }
 }
 
-/// What a text says as a response. Bytes behind it are left.
+/// What a text means as a response. Bytes behind the message are ignored.
 pub fn response(text: &[u8]) -> Message<'_> {
     match head_of(text) {
         Ok(Some((head, behind))) => with_body(head.len(), response_head(head), behind),

@@ -1,4 +1,4 @@
-//! ILPv4 packets (RFC 0027) once more, from their bytes to their fields. Texts stay bytes.
+//! A second reader of ILPv4 packets (RFC 0027), from their bytes to their fields. Texts are given as bytes.
 
 use crate::oer;
 use crate::refusal::Refusal;
@@ -6,21 +6,28 @@ use crate::refusal::Refusal;
 /// The fields of a Prepare.
 #[derive(Clone, Copy)]
 pub struct PlainPrepare<'a> {
+    /// The amount in units.
     pub amount: u64,
-    /// Milliseconds since 1970-01-01 UTC.
+    /// The moment at which it expires, in milliseconds since the start of 1970 (UTC).
     pub expiry: i64,
+    /// The 32 bytes of the condition.
     pub condition: &'a [u8],
+    /// The characters of the destination address.
     pub destination: &'a [u8],
+    /// The data.
     pub payload: &'a [u8],
 }
 
 /// The fields of a Fulfill or of a Reject.
 #[derive(Clone, Copy)]
 pub enum PlainAnswer<'a> {
+    /// A Fulfill: the 32 bytes of the fulfillment, and the data.
     Fulfill {
         fulfillment: &'a [u8],
         payload: &'a [u8],
     },
+    /// A Reject: the three characters of the code, the address of the node that triggered it, the message, and the
+    /// data.
     Reject {
         code: &'a [u8],
         by: &'a [u8],
@@ -67,13 +74,14 @@ fn packet(bytes: &[u8], first: u8, last: u8) -> Result<(u8, &[u8]), Refusal> {
     Ok((kind, contents))
 }
 
-/// The contents of a Prepare: those that `prepare` reads.
+/// The contents of a Prepare: the bytes in which `prepare` finds the fields. Fails with the first rule of the envelope
+/// that they break.
 pub fn prepare_contents(bytes: &[u8]) -> Result<&[u8], Refusal> {
     let (_, contents) = packet(bytes, 12, 12)?;
     Ok(contents)
 }
 
-/// The Prepare that bytes spell, or the first rule that they break.
+/// The Prepare that bytes spell. Fails with the first rule that they break.
 pub fn prepare(bytes: &[u8]) -> Result<PlainPrepare<'_>, Refusal> {
     let (amount, rest) = fixed(prepare_contents(bytes)?, 8)?;
     let (time, rest) = fixed(rest, 17)?;
@@ -94,7 +102,7 @@ pub fn prepare(bytes: &[u8]) -> Result<PlainPrepare<'_>, Refusal> {
     })
 }
 
-/// The Fulfill or the Reject that bytes spell, or the first rule that they break.
+/// The Fulfill or the Reject that bytes spell. Fails with the first rule that they break.
 pub fn answer(bytes: &[u8]) -> Result<PlainAnswer<'_>, Refusal> {
     let (kind, contents) = packet(bytes, 13, 14)?;
     if kind == 14 {
@@ -130,8 +138,8 @@ fn reject(contents: &[u8]) -> Result<PlainAnswer<'_>, Refusal> {
     })
 }
 
-/// Whether a text is an address: segments of letters, digits, `_`, `~` and `-` between dots, none of them empty, and 1,023
-/// characters at most.
+/// Whether a text is an ILP address: non-empty segments of letters, digits, `_`, `~` and `-`, separated by dots, with
+/// at most 1,023 characters in all.
 pub fn is_address(text: &[u8]) -> bool {
     let mut before = b'.';
     for byte in text {
@@ -148,7 +156,7 @@ pub fn is_address(text: &[u8]) -> bool {
     before != b'.' && text.len() <= 1_023
 }
 
-/// Whether an address is that of a prefix, or begins with it and a dot.
+/// Whether an address equals a prefix, or begins with the prefix and a dot.
 pub fn is_within(prefix: &[u8], address: &[u8]) -> bool {
     match address.strip_prefix(prefix) {
         Some([]) => true,
@@ -201,8 +209,8 @@ fn days_until(year: u64, month: u64, day: u64) -> u64 {
     days
 }
 
-/// The moment that 17 digits YYYYMMDDHHMMSSfff write, in milliseconds since 1970-01-01 UTC, where there is such a date and
-/// time.
+/// The moment that the 17 digits YYYYMMDDHHMMSSfff write, in milliseconds since the start of 1970 (UTC). `None` where
+/// there is no such date and time.
 pub fn expiry(text: &[u8]) -> Option<i64> {
     let (year, rest) = part(text, 4)?;
     let (month, rest) = part(rest, 2)?;

@@ -1,7 +1,9 @@
-//! For tests alone: hostile bytes that a seed determines, and the formats once more. Each format is read here in the
-//! simplest way, field by field from its rules, and shares no line with the crates that are tested by it: `oer` is RFC 0030,
-//! `ilp` RFC 0027, `stream` RFC 0029, `http` RFC 9112 as RFC 0035 uses it, all with this profile's order of refusals. The
-//! proofs here say that each function is safe and ends; that it reads as the tested crate does is what the tests show.
+//! For tests alone: hostile bytes that a seed determines, and second readers of the formats.
+//!
+//! Each format is read here in the simplest way, field by field from its rules, with no line in common with the crates
+//! that are tested by it. `oer` is RFC 0030, `ilp` RFC 0027, `stream` RFC 0029, and `http` RFC 9112 as RFC 0035 uses
+//! it, each with this profile's order of refusals. The proofs here say that each function is safe and ends. The tests
+//! show that it reads as the tested crate does.
 #![tactic(auto)]
 
 pub mod answers;
@@ -23,8 +25,8 @@ pub use samples::{EDGES, Samples, changed_at};
 /// The first seed of each test. Each input has a seed of its own, which a failed test prints.
 pub const FIRST: u64 = 1;
 
-/// How many inputs each reader gets. For a longer run by hand, this and `FIRST` are the two numbers to change.
+/// The number of inputs of each reader's test. A longer run by hand changes this number and `FIRST`.
 pub const INPUTS: u64 = 100_000;
 
-/// How many inputs go to one hop or end before the next is made.
+/// The number of inputs that one hop or end is given before a new one is made.
 pub const STEPS: u64 = 20;

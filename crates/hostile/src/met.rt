@@ -1,20 +1,21 @@
-//! Which answers were met.
+//! Which numbers a test met.
 
-/// Numbers below 512 that were met, such as those of refusals: a test that never met one of them did not try it.
+/// A set of numbers below 512, such as those of the errors that a test met. A test that never met a number did not try
+/// it.
 #[derive(Drop)]
 pub struct Met {
     numbers: [bool; 512],
 }
 
 impl Met {
-    /// None yet.
+    /// Makes the empty set.
     pub fn new() -> Met {
         Met {
             numbers: [false; 512],
         }
     }
 
-    /// Takes note of a number.
+    /// Adds a number. A number from 512 is ignored.
     pub fn note(&mut self, number: u64) {
         if number < 512 {
             if let Some(met) = self.numbers.get_mut(number as usize) {
@@ -23,7 +24,7 @@ impl Met {
         }
     }
 
-    /// The first of these that was not met.
+    /// The first of these numbers that is not in the set. `None` where all are.
     pub fn lacks(&self, wanted: &[u64]) -> Option<u64> {
         for number in wanted {
             let met = if *number < 512 {

@@ -1,7 +1,8 @@
-//! Fields in OER (RFC 0030) once more. Each function answers a field and the bytes behind it, or the number of the refusal:
-//! 1 where bytes are missing, 2 for a length that is not the shortest, 3 for such a number, 4 for one of too many bytes.
+//! A second reader of OER fields (RFC 0030). Each function returns a field and the bytes behind it, or the number of
+//! the refusal: 1 where bytes are missing, 2 for a length that is not the shortest, 3 for a number that is not the
+//! shortest, 4 for a number of too many bytes.
 
-/// The first bytes, so many.
+/// The first `size` bytes, and those behind them. Fails with 1 where there are fewer.
 pub fn fixed(bytes: &[u8], size: u64) -> Result<(&[u8], &[u8]), u64> {
     if (bytes.len() as u64) < size {
         Err(1)
@@ -19,7 +20,7 @@ pub fn number(digits: &[u8]) -> u64 {
     number
 }
 
-/// A number of one byte.
+/// A number of one byte, and the bytes behind it. Fails with 1 where there is none.
 pub fn uint8(bytes: &[u8]) -> Result<(u8, &[u8]), u64> {
     match bytes {
         [first, rest @ ..] => Ok((*first, rest)),
@@ -27,7 +28,7 @@ pub fn uint8(bytes: &[u8]) -> Result<(u8, &[u8]), u64> {
     }
 }
 
-/// A number of eight bytes.
+/// A number of eight bytes, and the bytes behind it. Fails with 1 where there are fewer.
 pub fn uint64(bytes: &[u8]) -> Result<(u64, &[u8]), u64> {
     let (digits, rest) = fixed(bytes, 8)?;
     Ok((number(digits), rest))

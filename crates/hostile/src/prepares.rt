@@ -1,17 +1,17 @@
-//! The bytes of Prepares (RFC 0027), lawful and hostile.
+//! The bytes of Prepares (RFC 0027), valid and invalid.
 
 use crate::samples::Samples;
 use std::alloc::{AllocError, Global};
 
-/// A Prepare of 5 to `example.b`, of 70 bytes, with SHA-256 of 32 zero bytes as its condition.
+/// A Prepare of 70 bytes: 5 units to `example.b`, with the SHA-256 of 32 zero bytes as its condition.
 pub const PREPARE: &[u8] = b"\x0c\x44\0\0\0\0\0\0\0\x0520240102030405006\
 \x66\x68\x7a\xad\xf8\x62\xbd\x77\x6c\x8f\xc1\x8b\x8e\x9f\x8e\x20\
 \x08\x97\x14\x85\x6e\xe2\x33\xb3\x90\x2a\x59\x1d\x0d\x5f\x29\x25\x09example.b\0";
 
-/// When it expires, in milliseconds since 1970-01-01 UTC.
+/// The moment at which `PREPARE` expires, in milliseconds since the start of 1970 (UTC).
 pub const EXPIRY: i64 = 1_704_164_645_006;
 
-/// Texts of expiries: that one, a second later, the first, the last and one more.
+/// Texts of expiries: that of `PREPARE`, one second later, the first moment, the last moment, and one more.
 pub const EXPIRIES: [&[u8]; 5] = [
     b"20240102030405006",
     b"20240102030406006",
@@ -20,7 +20,7 @@ pub const EXPIRIES: [&[u8]; 5] = [
     b"20240102030405007",
 ];
 
-/// What hostile Prepares are made from.
+/// The samples from which hostile Prepares are made.
 pub const PREPARES: Samples<'static> = Samples {
     lawful: &[PREPARE],
     fronts: &[
@@ -35,15 +35,18 @@ pub const PREPARES: Samples<'static> = Samples {
     behind: 80,
 };
 
-/// The fields of a Prepare, lawful or not.
+/// The fields of a Prepare, valid or not.
 #[derive(Clone, Copy)]
 pub struct Offer<'a> {
+    /// The amount in units.
     pub amount: u64,
-    /// 17 digits.
+    /// The expiry, 17 digits.
     pub expiry: &'a [u8],
-    /// 32 bytes.
+    /// The condition, 32 bytes.
     pub condition: &'a [u8],
+    /// The characters of the destination address.
     pub destination: &'a [u8],
+    /// The data.
     pub payload: &'a [u8],
 }
 
@@ -71,7 +74,7 @@ pub(crate) fn packet_bytes(
     Ok(out)
 }
 
-/// The bytes of a Prepare with these fields.
+/// The bytes of a Prepare with these fields (RFC 0027). Fails where memory is refused.
 pub fn prepare_bytes(alloc: Global, offer: Offer<'_>) -> Result<Vec<u8>, AllocError> {
     let mut contents = Vec::from_slice(alloc, &offer.amount.to_be_bytes())?;
     contents.extend_from_slice(offer.expiry)?;

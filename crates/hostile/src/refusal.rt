@@ -1,14 +1,16 @@
-//! What a reader refuses.
+//! The refusal of a reader.
 
-/// A refusal's number, and the first number in its brackets.
+/// Why bytes are refused.
 #[derive(Clone, Copy, Debug, PartialEq, Eq)]
 pub struct Refusal {
+    /// The number of the refusal.
     pub number: u8,
+    /// The first number that it carries, where there is one.
     pub inner: Option<u64>,
 }
 
 impl Refusal {
-    /// The refusal of this number that wraps none.
+    /// The refusal of this number, which carries no other.
     pub fn alone(number: u8) -> Refusal {
         Refusal {
             number,
@@ -16,7 +18,7 @@ impl Refusal {
         }
     }
 
-    /// The refusal of this number that wraps another.
+    /// The refusal of this number that carries `inner`.
     pub fn around(number: u8, inner: u64) -> Refusal {
         Refusal {
             number,

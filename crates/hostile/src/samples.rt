@@ -1,25 +1,25 @@
-//! Hostile bytes.
+//! Hostile bytes, made from samples.
 
 use crate::numbers::Numbers;
 use std::alloc::{AllocError, Global};
 
-/// What hostile bytes of a format are made from.
+/// The samples from which hostile bytes of one format are made.
 #[derive(Clone, Copy)]
 pub struct Samples<'a> {
-    /// Lawful messages.
+    /// Valid messages.
     pub lawful: &'a [&'a [u8]],
-    /// Fronts of lawful messages.
+    /// Beginnings of valid messages.
     pub fronts: &'a [&'a [u8]],
     /// Bytes that such messages often have.
     pub common: &'a [u8],
-    /// Fewer random bytes than this stand behind a front.
+    /// Fewer than this number of random bytes follow a beginning.
     pub behind: u64,
 }
 
-/// What a message is changed to at each place: its front up to there, and the whole with one of these bytes there.
+/// How a message is changed at each place: cut off there (`None`), or with one of these bytes put there.
 pub const EDGES: [Option<u8>; 5] = [None, Some(0x00), Some(0x7f), Some(0x80), Some(0xff)];
 
-/// The bytes up to a place, and where a byte is to stand there, that byte and the rest.
+/// The bytes up to a place, and, where `byte` is given, that byte and the rest of the message.
 pub fn changed_at(
     alloc: Global,
     bytes: &[u8],
@@ -36,7 +36,8 @@ pub fn changed_at(
 }
 
 impl<'a> Samples<'a> {
-    /// Hostile bytes: one half of them a lawful message with one to three changes, one half random bytes behind a front.
+    /// Hostile bytes: half of the time a valid message with one to three changes, and else random bytes behind a
+    /// beginning. Fails where memory is refused.
     pub fn hostile(&self, alloc: Global, numbers: &mut Numbers) -> Result<Vec<u8>, AllocError> {
         if numbers.below(2) == 0 {
             self.random(alloc, numbers)
@@ -66,7 +67,7 @@ impl<'a> Samples<'a> {
         Ok(())
     }
 
-    /// These bytes with one to three changes.
+    /// These bytes with one to three changes. Fails where memory is refused.
     pub fn changed(
         &self,
         alloc: Global,

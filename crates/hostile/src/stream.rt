@@ -1,17 +1,20 @@
-//! STREAM packets (RFC 0029, section 5.2) once more, from their bytes to their fields.
+//! A second reader of STREAM packets (RFC 0029, section 5.2), from their bytes to their fields.
 
 use crate::ilp::is_address;
 use crate::oer;
 use crate::refusal::Refusal;
 use std::alloc::{AllocError, Global};
 
-/// A known frame: its index over all frames, its type, its numbers in the order of RFC 0029, section 5.3, with 0 for those
-/// that it has not, and its text, address or data, if it has one.
+/// A frame of a known type (RFC 0029, section 5.3).
 #[derive(Clone, Copy)]
 pub struct PlainFrame<'a> {
+    /// Its index among all frames of the packet.
     pub index: u64,
+    /// Its type.
     pub kind: u8,
+    /// Its numbers in the order of RFC 0029, section 5.3; 0 for those that the type does not have.
     pub numbers: [u64; 3],
+    /// Its text, address or data; empty where it has none.
     pub bytes: &'a [u8],
 }
 
@@ -29,11 +32,14 @@ impl<'a> PlainFrame<'a> {
     }
 }
 
-/// A packet's numbers and its known frames.
+/// The numbers of a packet and its frames of known types.
 #[derive(Drop)]
 pub struct PlainPacket<'a> {
+    /// The sequence number.
     pub sequence: u64,
+    /// The amount field (RFC 0029, section 5.2), in units.
     pub amount: u64,
+    /// The frames of known types, in their order.
     pub frames: Vec<PlainFrame<'a>>,
 }
 
@@ -188,7 +194,8 @@ fn known_frames<'a>(
     Ok(Ok(frames))
 }
 
-/// The packet that bytes spell, which a packet of this kind carried, or the first rule that they break.
+/// The STREAM packet that bytes spell, which an ILP packet of this type carried. Fails with the first rule that they
+/// break, and where memory is refused.
 pub fn packet<'a>(
     alloc: Global,
     bytes: &'a [u8],

@@ -1,7 +1,8 @@
-//! An allocator for tests alone: it counts the requests for memory and refuses those that a test names, so that a test
-//! can refuse each request of a call in turn. It has the one `unsafe impl` of this repository. Its safety is proved by
-//! hand in `proofs/`; what it counts and refuses no contract can say, and its tests show it. A request is an allocation
-//! or a growth. It serves one thread.
+//! An allocator for tests. It counts the requests for memory and refuses those that a test names, so that a test can
+//! refuse each request of a call in turn. A request is an allocation or a growth.
+//!
+//! It has the one `unsafe impl` of this repository. Its safety is proved by hand in `proofs/`. No contract can say what
+//! it counts and refuses; its tests show that. It serves one thread.
 #![tactic(auto)]
 
 use std::alloc::{AllocError, Allocator};
@@ -15,15 +16,15 @@ struct Plan {
     last: Cell<u64>,
 }
 
-/// An allocator that passes each request on to `inner`, but for those that it was told to refuse. A collection is lent a
-/// `&` to it, and the test that owns it asks how many requests there were.
+/// An allocator that passes each request on to `inner`, except for those that it is to refuse. A collection borrows it
+/// as a `&`, and the test that owns it reads how many requests there were.
 pub struct Refusing<B: Allocator> {
     inner: B,
     plan: Plan,
 }
 
 impl<B: Allocator> Refusing<B> {
-    /// An allocator over `inner` that refuses nothing yet.
+    /// Makes an allocator over `inner` that refuses nothing yet.
     pub fn new(inner: B) -> Refusing<B> {
         Refusing {
             inner,
@@ -35,33 +36,33 @@ impl<B: Allocator> Refusing<B> {
         }
     }
 
-    /// Counts anew, and refuses the request number `n` alone, where the next is number 1.
+    /// Sets the count to 0, and refuses only the request number `n`. The next request is number 1.
     pub fn refuse_only(&self, n: u64) {
         self.plan.asked.set(0);
         self.plan.first.set(n);
         self.plan.last.set(n);
     }
 
-    /// Counts anew, and refuses the request number `n` and each later one.
+    /// Sets the count to 0, and refuses the request number `n` and each later one. The next request is number 1.
     pub fn refuse_from(&self, n: u64) {
         self.plan.asked.set(0);
         self.plan.first.set(n);
         self.plan.last.set(u64::MAX);
     }
 
-    /// Counts anew, and refuses nothing.
+    /// Sets the count to 0, and refuses nothing.
     pub fn refuse_none(&self) {
         self.plan.asked.set(0);
         self.plan.first.set(u64::MAX);
         self.plan.last.set(0);
     }
 
-    /// How many requests there were since `refuse_only`, `refuse_from` or `refuse_none` was last called.
+    /// The number of requests since `refuse_only`, `refuse_from` or `refuse_none` was called last.
     pub fn asked(&self) -> u64 {
         self.plan.asked.get()
     }
 
-    /// Whether one of these requests was refused.
+    /// Whether a request was refused since `refuse_only`, `refuse_from` or `refuse_none` was called last.
     pub fn has_refused(&self) -> bool {
         self.plan.first.get() <= self.plan.asked.get().min(self.plan.last.get())
     }

@@ -1,4 +1,4 @@
-//! For tests alone: numbers that a seed determines, so that a seed is all that is needed to see a run again.
+//! For tests alone: numbers that a seed determines, so that the seed is all that is needed to repeat a run.
 #![tactic(auto)]
 
 mod numbers;

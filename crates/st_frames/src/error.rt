@@ -1,4 +1,4 @@
-//! Why a packet was not read or not written.
+//! Errors of reading and writing STREAM packets.
 
 ghost use Rattle.std.specs.Prelude.{◌≡◌};
 ghost use Rattle.st_frames.specs.Errors.{number, inner, wrapped};
@@ -8,31 +8,31 @@ use st_oer::OerError;
 use std::alloc::AllocError;
 use thiserror::Error;
 
-/// Why a packet was not read or not written.
+/// Why a STREAM packet could not be read or written (RFC 0029).
 #[derive(Clone, Copy, Debug, PartialEq, Eq, Error)]
 pub enum FrameError {
-    /// The first byte is another version than 1.
+    /// The first byte, the version, is not 1.
     #[error("the packet is of another version of STREAM")]
     Version,
-    /// The second byte is another kind than that of the ILP packet that carried it.
+    /// The second byte is not the kind of the ILP packet that carried the packet.
     #[error("the packet is of another kind than the ILP packet that carried it")]
     Kind,
-    /// A number of the packet, a frame's type or a frame's length is malformed.
+    /// A number of the packet, a frame's type or a frame's length is malformed (RFC 0030).
     #[error("the packet is malformed: {0}")]
     Oer(OerError),
-    /// The contents of the known frame with this index over all frames, from 0, are malformed.
+    /// The contents of a known frame are malformed. The number is its index over all frames, from 0.
     #[error("frame {0} is malformed")]
     FrameFormat(u64),
     /// The packet has more than `MAX_PACKET` bytes.
     #[error("the packet is too long")]
     TooLong,
-    /// There is no memory for the packet.
+    /// Memory for the packet was refused.
     #[error("out of memory")]
     NoMemory,
 }
 
 impl FrameError {
-    /// The number of this refusal, 20 to 25.
+    /// The error number that programs print: 20 to 25.
     pub fn number(&self) -> u8
         ensures { result ≡ number self.now }
     {
@@ -46,7 +46,8 @@ impl FrameError {
         }
     }
 
-    /// The number of the fault in the numbers, or the index of the malformed frame.
+    /// The number of the error that `Oer` carries, or the frame index that `FrameFormat` carries. `None` for every
+    /// other error.
     pub fn inner(&self) -> Option<u64>
         ensures { result ≡ inner self.now }
     {

@@ -44,7 +44,7 @@ pub(crate) fn read_address<'a>(cut: &mut Cut<'a>) -> Result<&'a str, Malformed>
     Err(Malformed)
 }
 
-/// A field of a frame that is written, as it is spelled.
+/// A field of a frame that is to be written.
 #[derive(Clone, Copy)]
 pub(crate) enum Field<'a> {
     /// A UInt8.
@@ -67,7 +67,7 @@ pub(crate) fn text(text: &str) -> Field<'_>
 }
 
 impl Field<'_> {
-    /// The length of its spelling. In 128 bits no sum of such lengths wraps.
+    /// The length of its encoding, in bytes. In 128 bits no sum of such lengths overflows.
     #[tactic(auto, using(crate::proofs::Puts::lengths))]
     pub(crate) fn size(self) -> u128
         ensures value { result ≡ length (field_text self.entry) }
@@ -81,7 +81,7 @@ impl Field<'_> {
         }
     }
 
-    /// Appends its spelling to a vector that has room for it.
+    /// Appends its encoding to a vector that has room for it.
     #[tactic(auto, using(crate::proofs::Puts::puts, crate::proofs::Puts::lengths))]
     pub(crate) fn append<A: Allocator>(self, out: &mut Vec<u8, A>)
         requires room { vec_len out.old + length (field_text self) ≤ vec_capacity out.old }

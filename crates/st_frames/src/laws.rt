@@ -1,28 +1,28 @@
-//! Laws of the definitions. These functions do nothing: the contract is the law.
+//! Laws of the definitions. Each is the contract of a function that does nothing.
 
 ghost use Rattle.st_frames.specs.Laws.{KeepsFrames, NoneBegins, PacketReads, PacketWrites, ReadsWithoutMemory};
 
-/// A packet is read exactly where the bytes are a spelling of it.
+/// Bytes are read as a packet exactly where they are an encoding of it.
 pub fn packet_law()
     ensures { PacketReads }
 {}
 
-/// What is written is a spelling of its packet with nothing after it, and reads as that packet.
+/// The written encoding of a packet has nothing after its last frame, and is read as that packet.
 pub fn written_law()
     ensures { PacketWrites }
 {}
 
-/// No packet with nothing after its last frame begins another.
+/// No packet with nothing after its last frame is a proper prefix of another such packet.
 pub fn prefix_law()
     ensures { NoneBegins }
 {}
 
-/// The packet that frames make has just these frames, in their order.
+/// A packet made of given frames is read with exactly these frames, in their order.
 pub fn frames_law()
     ensures { KeepsFrames }
 {}
 
-/// No bytes at all are refused with `NoMemory` where a packet is read.
+/// Reading a packet never fails with `NoMemory`.
 pub fn reading_wants_no_memory()
     ensures { ReadsWithoutMemory }
 {}

@@ -1,4 +1,5 @@
-//! How many bytes a packet's spelling has, or why it has none: known before memory is asked for it.
+//! The length of a packet's encoding, in bytes, or why the packet cannot be written. It is computed before memory is
+//! requested.
 
 ghost use Rattle.std.specs.Prelude.{◌≡◌, ◌<◌, ◌≤◌, ◌+◌, ◌^◌, ℕ, length, map, MatchOption};
 ghost use Rattle.std.specs.List.{position};
@@ -35,7 +36,7 @@ fn frame_len(frame: Frame<'_>) -> Option<usize>
     Some(1 + length_size(contents as u64) + contents as usize)
 }
 
-/// Whether a frame tells an address that is none. It can't be written.
+/// Whether a frame has an address that is neither empty nor an ILP address. Such a frame cannot be written.
 fn is_unwritable(frame: &Frame<'_>) -> bool
     ensures { result ≡ specs.is_unwritable (seen frame.now) }
 {
@@ -70,9 +71,10 @@ fn length_within(sequence: u64, amount: u64, frames: &[Frame<'_>]) -> Option<usi
     Some(total)
 }
 
-/// How many bytes a plain packet takes (RFC 0029, section 5.2), whatever the kind of its ILP packet. No memory.
+/// The length in bytes of a plain packet (RFC 0029, section 5.2). It does not depend on the kind of the ILP packet.
+/// Does not allocate.
 ///
-/// Refused is, in this order: `FrameFormat` for the first frame whose address is neither empty nor an ILP address;
+/// Fails with `FrameFormat` for the first frame whose address is neither empty nor an ILP address, and then with
 /// `TooLong` above `MAX_PACKET` bytes.
 #[tactic(auto, unfolding(crate::specs::Written::written), using(crate::proofs::Puts::judging))]
 pub fn packet_len(sequence: u64, amount: u64, frames: &[Frame<'_>]) -> Result<usize, FrameError>

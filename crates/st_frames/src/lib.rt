@@ -1,7 +1,9 @@
-//! STREAM packets (RFC 0029, version 1): plain packets, as they stand before encryption and after decryption.
-//! `read_packet` judges a whole packet and then lends its known frames one after another, with no memory.
-//! `write_packet` writes the one spelling that this profile gives a packet, and `put_packet` appends it to a vector.
-//! `number` is a refusal's number; `inner` the index of the malformed frame, or the number of the fault in a field.
+//! STREAM packets (RFC 0029, version 1): plain packets, as they are before encryption and after decryption.
+//!
+//! `read_packet` checks a whole packet and then gives its known frames one after another, without allocating.
+//! `write_packet` writes the one encoding that this profile gives a packet, and `put_packet` appends it to a vector.
+//! `FrameError::number` is the number of an error. `FrameError::inner` is the index of the malformed frame, or the
+//! number of the encoding error.
 #![tactic(auto)]
 
 mod error;

@@ -1,4 +1,4 @@
-//! A packet that was read, and its frames.
+//! A STREAM packet that was read, and its frames.
 
 ghost use Rattle.std.specs.Prelude.{◌≡◌, ◌<◌, ◌≤◌, ◌+◌, ◌^◌, ℕ, List, IsOk, OnOk, IfErr, Err, option_map};
 ghost use Rattle.std.specs.Iterator.{YieldsFirstBy, item_count};
@@ -16,26 +16,28 @@ use crate::table::known_frame;
 use st_oer::Cut;
 use std::marker::Model;
 
-/// The most bytes of a plain packet: with its IV and tag it fits the data of an ILP packet.
+/// The greatest length of a plain packet, in bytes. With its IV and tag it fits the data of an ILP packet.
 pub const MAX_PACKET: usize = 32_739;
 
-/// The version of STREAM, the first byte of each packet.
+/// The version of STREAM: the first byte of each packet (RFC 0029).
 pub const VERSION: u8 = 1;
 
-/// A packet that was read.
+/// A plain STREAM packet that was read (RFC 0029, section 5.2).
 #[derive(Drop)]
 pub struct StreamPacket<'a> {
     /// The kind of the ILP packet that carries it: 12 Prepare, 13 Fulfill, 14 Reject.
     pub kind: u8,
-    /// The sequence; a reply repeats that of its request.
+    /// The sequence number. A reply has the sequence number of its request.
     pub sequence: u64,
-    /// In a Prepare the least amount that the receiver should accept, in a reply the amount that arrived.
+    /// In a Prepare the least amount that the receiver should accept, in a reply the amount that arrived. In units of
+    /// the receiver's asset.
     pub amount: u64,
-    /// The known frames.
+    /// The known frames, each with its index.
     pub frames: Frames<'a>,
 }
 
-/// The known frames of a packet that was read, each with its index over all frames of the packet.
+/// An iterator over the known frames of a packet that was read. Each comes with its index over all frames of the
+/// packet, counted from 0.
 #[derive(Drop)]
 pub struct Frames<'a> {
     bytes: &'a [u8],
@@ -56,7 +58,7 @@ impl<'a> Model for Frames<'a> {
 }
 
 impl<'a> Frames<'a> {
-    /// The same frames once more.
+    /// An iterator over the same frames from the same place on.
     pub fn again(&self) -> Frames<'a>
         ensures { result ≡ self.now }
     {
@@ -119,12 +121,15 @@ fn check_contents(bytes: &[u8], count: u64) -> Result<(), FrameError>
     Ok(())
 }
 
-/// Reads a whole plain packet (RFC 0029, section 5.2) that an ILP packet of this kind carried. Bytes after the last
-/// frame are ignored, and so are frames of unknown types and bytes that are left inside the contents of a known frame.
+/// Reads the whole of `bytes` as a plain packet (RFC 0029, section 5.2) that an ILP packet of kind `kind` carried. Does
+/// not allocate.
 ///
-/// Refused is, in this order: `TooLong` above `MAX_PACKET` bytes; `Version`; `Kind`; `Oer` for a fault in the numbers,
-/// or in the type or the length of any frame, with `Short` for a version or a kind that is missing; `FrameFormat` for
-/// the first known frame whose contents are malformed. No memory is taken.
+/// Ignored are bytes after the last frame, frames of unknown types, and bytes that are left inside the contents of a
+/// known frame.
+///
+/// Fails in this order: `TooLong` above `MAX_PACKET` bytes; `Version`; `Kind`; `Oer` for a fault in the numbers, or in
+/// the type or the length of any frame; `FrameFormat` for the first known frame whose contents are malformed. Where the
+/// version or the kind is missing, the error in its place is `Oer(Short)`. Requires a `kind` of 12, 13 or 14.
 #[tactic(auto, unfolding(crate::specs::Reading::packet_at))]
 pub fn read_packet(bytes: &[u8], kind: u8) -> Result<StreamPacket<'_>, FrameError>
     requires from_prepare { 12 ≤ kind }

@@ -1,4 +1,4 @@
-//! Writing: the one spelling of a packet.
+//! Writing STREAM packets: the one encoding of each.
 
 ghost use Rattle.std.specs.Prelude.{◌≡◌, ◌<◌, ◌≤◌, ◌+◌, ◌++◌, ◌^◌, map, length, vec_len, vec_capacity, None, OnOk, OnErr, IfOk, IsOk, false};
 ghost use Rattle.std.specs.List.{position};
@@ -82,11 +82,15 @@ fn append_packet<A: Allocator>(
     append_frames(out, frames);
 }
 
-/// Appends a plain packet (RFC 0029, section 5.2) for an ILP packet of this kind: its one spelling in this profile, with
-/// the shortest lengths and numbers, and nothing after the last frame.
+/// Appends a plain packet (RFC 0029, section 5.2) for an ILP packet of kind `kind`. It has the shortest lengths and
+/// numbers, and nothing after the last frame.
 ///
-/// The whole room is asked for at once, before the first byte is written, and no memory where `out` has it already.
-/// Refused is what `packet_len` refuses, and then `NoMemory`. `out` then has the bytes that it had.
+/// All memory is requested at once, before the first byte is written, and none where `out` has `packet_len` bytes of
+/// free capacity.
+///
+/// Fails with `FrameFormat` for the first frame whose address is neither empty nor an ILP address, then with `TooLong`
+/// above `MAX_PACKET` bytes, and then with `NoMemory`. `out` then keeps the bytes that it had. Requires a `kind` of 12,
+/// 13 or 14.
 #[tactic(auto, unfolding(crate::specs::Written::written), using(crate::proofs::Puts::sized))]
 pub fn put_packet<A: Allocator>(
     out: &mut Vec<u8, A>,
@@ -109,7 +113,11 @@ pub fn put_packet<A: Allocator>(
     Ok(())
 }
 
-/// Writes a plain packet as `put_packet` does, into a vector of its own, with the same refusals.
+/// Writes a plain packet (RFC 0029, section 5.2) for an ILP packet of kind `kind` into a new vector. It has the
+/// shortest lengths and numbers, and nothing after the last frame.
+///
+/// Fails with `FrameFormat` for the first frame whose address is neither empty nor an ILP address, then with `TooLong`
+/// above `MAX_PACKET` bytes, and then with `NoMemory`. Requires a `kind` of 12, 13 or 14.
 pub fn write_packet<A: Allocator>(
     alloc: A,
     kind: u8,

@@ -1,4 +1,4 @@
-//! The account of a request, by its token.
+//! The account of a request, by its bearer token.
 
 ghost use Rattle.std.specs.Prelude.{◌≡◌, ℕ, List, map, codes};
 ghost use Rattle.st_http.specs.Bearer as spec;
@@ -17,7 +17,7 @@ fn without_spaces(bytes: &[u8]) -> &[u8]
     rest
 }
 
-/// Whether the value is of the scheme Bearer, its letters in any case, and a space follows.
+/// Whether a value of Authorization has the scheme Bearer, its letters in any case, followed by a space.
 fn is_bearer(value: &[u8]) -> bool
     ensures { result ≡ spec.is_bearer value.now }
 {
@@ -44,7 +44,8 @@ fn place_of(tokens: &[&str], value: &[u8]) -> Option<usize>
     None
 }
 
-/// The account by the first field of Authorization that has a listed token.
+/// The account of a request: the first place in `tokens` of a bearer token in its Authorization fields (RFC 0035, RFC
+/// 6750). The first field whose token is listed decides. `None` where none is.
 pub fn account(tokens: &[&str], fields: &HeaderMap) -> Option<usize>
     ensures { result ≡ spec.account_said (map (λ t. t.now) tokens.now) (under fields.now (codes "authorization")) }
 {

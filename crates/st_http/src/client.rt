@@ -1,4 +1,4 @@
-//! The side that asks.
+//! The client of ILP over HTTP.
 
 ghost use Rattle.std.specs.Prelude.{◌≡◌, IsTrue, IfOk, IfErr};
 ghost use Rattle.st_http.specs.Texts as texts;
@@ -14,9 +14,12 @@ use st_oer::Counting;
 use std::alloc::{Allocator, Global};
 use std::io::{Read, Write};
 
-/// Sends a request with this body, and answers the body of the response. Host and token are such as `is_field_text`
-/// allows. Each call of the stream takes one of `turns`. The fields of the response are kept by `global` while they are
-/// judged, and all else by `alloc`. After a refusal the stream is given up.
+/// Sends one request with the packet `body` over a stream, and returns the body of the response (RFC 0035, the
+/// synchronous mode). `host` and `token` are texts that `is_field_text` accepts. Each call of the stream takes one of
+/// `turns`. The fields of the response are stored by `global` while they are checked, and all else by `alloc`.
+///
+/// Fails with `ReadFault`, `WriteFault`, `BadHead`, `Status`, `TooLong`, `Cut`, `Turns` or `NoMemory`, as `HttpError`
+/// says. After an error the stream is not to be used again.
 pub fn exchange<S: Read + Write, A: Allocator + Copy>(
     alloc: A,
     global: Global,

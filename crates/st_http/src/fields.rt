@@ -1,4 +1,4 @@
-//! The fields of a head, kept by their names.
+//! The header fields of a message, by their names.
 
 ghost use Rattle.std.specs.Prelude.{◌≡◌, ◌≤◌, ℕ, List, All, length, map, IfOk, OnOk};
 ghost use Rattle.httparse.specs.Spans.{IsHeaderWithin, header_bytes};
@@ -40,7 +40,8 @@ fn keep(global: Global, fields: &mut HeaderMap, name: &[u8], value: &[u8]) -> Re
     }
 }
 
-/// The fields of a head, by their names.
+/// The header fields of a head, by their names, in their order. `spans` says where in `head` each name and value stand.
+/// Fails where memory is refused.
 pub fn fields_of(global: Global, head: &[u8], spans: &[HeaderSpan]) -> Result<HeaderMap, AllocError>
     requires within { All (IsHeaderWithin (length head.now)) spans.now }
     requires lawful { All IsPair (map (header_bytes head.now) spans.now) }

@@ -1,4 +1,4 @@
-//! The head of a message, up to its end.
+//! The head of an HTTP message while it arrives.
 
 ghost use Rattle.std.specs.List.{list_any};
 ghost use Rattle.std.specs.Prelude.{◌≡◌, ◌≤◌, ◌<◌, ◌++◌, [], ◌∷◌, length, take, IfOk, OnOk, OnErr};
@@ -10,13 +10,13 @@ ghost use Rattle.st_http.specs.Phases.{IsEnded};
 use std::alloc::{AllocError, Allocator};
 use std::marker::Model;
 
-/// The most bytes of a head, the empty line at its end among them.
+/// The most bytes of a head, the empty line at its end included.
 pub const MAX_HEAD: usize = 8_192;
 
-/// The most fields of a head.
+/// The most header fields of a head.
 pub const MAX_FIELDS: usize = 64;
 
-/// The bytes of a head so far.
+/// The bytes of a head that have arrived so far, at most `MAX_HEAD`.
 #[derive(Drop)]
 pub struct Head<A: Allocator> {
     bytes: Vec<u8, A>,
@@ -48,7 +48,7 @@ fn has_text(bytes: &[u8]) -> bool
 }
 
 impl<A: Allocator> Head<A> {
-    /// A head of which no byte has come. No memory.
+    /// Makes a head of which no byte has arrived. Does not allocate.
     pub fn new(alloc: A) -> Head<A>
         ensures { result ≡ [] }
     {
@@ -58,7 +58,7 @@ impl<A: Allocator> Head<A> {
         }
     }
 
-    /// The bytes so far.
+    /// The bytes that have arrived so far.
     pub fn bytes(&self) -> &[u8]
         ensures { result.now ≡ self.now }
     {
@@ -84,7 +84,7 @@ impl<A: Allocator> Head<A> {
         Ok(())
     }
 
-    /// Lets the bytes from the one at `len` go. No memory.
+    /// Removes all bytes but the first `len`. Does not allocate.
     pub fn truncate(&mut self, len: usize)
         ensures { self.new ≡ take len self.old }
     {
@@ -92,8 +92,8 @@ impl<A: Allocator> Head<A> {
         self.has_text = has_text(&self.bytes);
     }
 
-    /// Takes the bytes of the piece that belong to the head: up to its end, or to the greatest length of a head. It
-    /// answers how many they were, and whether the head has ended.
+    /// Appends the bytes of a chunk that belong to the head: up to its end, or up to `MAX_HEAD` bytes. Returns how many
+    /// they were, and whether the head has ended. Fails where memory is refused, and then nothing has changed.
     pub fn take(&mut self, piece: &[u8]) -> Result<(usize, bool), AllocError>
         requires open { IsOpen self.old }
         requires short { length self.old < spec.head_limit }

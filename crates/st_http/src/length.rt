@@ -1,4 +1,4 @@
-//! The length of a body, from the fields of its head.
+//! The length of a body, from the header fields (RFC 9112, section 6).
 
 ghost use Rattle.std.specs.Prelude.{◌≡◌, ◌==◌, ℕ, List, map, codes, IsTrue};
 ghost use Rattle.std.specs.List.{list_all};
@@ -11,16 +11,16 @@ use http_header::{CONTENT_LENGTH, HeaderMap, HeaderValue, TRANSFER_ENCODING, Val
 /// The most bytes of a body.
 pub const MAX_BODY: usize = 65_535;
 
-/// What the fields of a head say of its body's length.
+/// What the header fields say of the length of the body.
 #[derive(Clone, Copy, Debug, PartialEq, Eq)]
 pub enum Length {
-    /// There is no Content-Length, or a Transfer-Encoding.
+    /// There is no Content-Length, or there is a Transfer-Encoding.
     Missing,
-    /// A Content-Length is no number, or two say different ones.
+    /// A Content-Length is not a number, or two of them differ.
     Malformed,
-    /// It is more than `MAX_BODY`.
+    /// The length is more than `MAX_BODY`.
     TooLong,
-    /// So many bytes.
+    /// The length in bytes.
     Of(usize),
 }
 
@@ -100,7 +100,7 @@ fn length_said(values: ValueIter<'_, HeaderValue>) -> Length
     }
 }
 
-/// What the fields of a head say of its body's length.
+/// What the header fields say of the length of the body (RFC 9112, section 6).
 pub fn content_length(fields: &HeaderMap) -> Length
     ensures { result ≡ spec.length_beside (under fields.now (codes "transfer-encoding")) (under fields.now (codes "content-length")) }
 {

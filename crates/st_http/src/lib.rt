@@ -1,10 +1,10 @@
-//! ILP over HTTP (RFC 0035, synchronous): one request and one response over a stream, each at most 8,192 bytes of head
-//! and 65,535 bytes of body.
+//! ILP over HTTP (RFC 0035, the synchronous mode): one request and one response over a stream, each with a head of at
+//! most 8,192 bytes and a body of at most 65,535 bytes.
 //!
-//! `Reading` takes a message in any pieces; `exchange` and `serve_one` are loops over it. What a byte list says, as a
-//! request or as a response, is in specs/Message.antt; the bytes that are written are in specs/Texts.antt. One message a
-//! stream: no keep-alive, no chunked body, no interim response and no TLS, which a proxy in front may take. Nothing is
-//! flushed: the stream has to pass on what it was given.
+//! `Reading` takes a message in chunks of any size; `exchange` and `serve_one` are loops over it. What a byte list
+//! means as a request or as a response is in specs/Message.antt; the bytes that are written are in specs/Texts.antt.
+//! Each stream carries one exchange. There is no keep-alive, no chunked body, no interim response and no TLS; a proxy
+//! in front may do TLS. The stream is never flushed, so it has to pass on what it was given.
 #![tactic(auto)]
 
 mod answerer;

@@ -1,4 +1,4 @@
-//! A message that comes in pieces.
+//! A message that arrives in chunks.
 
 ghost use Rattle.std.specs.Prelude.{◌≡◌, ◌≤◌, ◌<◌, ◌⊎◌, ◌++◌, [], length, take, map, IfOk, IfErr, OnErr, Err, option_copied};
 ghost use Rattle.st_http.specs.Head.{head_limit, IsOpen};
@@ -135,7 +135,7 @@ fn take_front<A: Allocator>(
     }
 }
 
-/// A request or a response, of which the bytes so far were taken.
+/// A request or a response of ILP over HTTP that arrives in chunks of any size (RFC 0035).
 #[derive(Drop)]
 pub struct Reading<'t, A: Allocator + Copy> {
     global: Global,
@@ -161,8 +161,8 @@ impl<'t, A: Allocator + Copy> Model for Reading<'t, A> {
 }
 
 impl<'t, A: Allocator + Copy> Reading<'t, A> {
-    /// A request to the account of one of these tokens, of which no byte was taken. No memory. What is taken is kept by
-    /// `alloc`; the fields of the head are kept by `global` while they are judged.
+    /// Starts to read a request; `tokens` has the bearer token of each account. What arrives is stored by `alloc`; the
+    /// header fields are stored by `global` while they are checked. Does not allocate yet.
     pub fn request(alloc: A, global: Global, tokens: &'t [&'t str]) -> Reading<'t, A>
         ensures { result ≡ record { expected = verdict.request (map (λ t. t.now) tokens.now); taken = []; standing = unfinished 1 } }
     {
@@ -175,8 +175,8 @@ impl<'t, A: Allocator + Copy> Reading<'t, A> {
         }
     }
 
-    /// A response, of which no byte was taken. No memory. What is taken is kept by `alloc`; the fields of the head are
-    /// kept by `global` while they are judged.
+    /// Starts to read a response. What arrives is stored by `alloc`; the header fields are stored by `global` while
+    /// they are checked. Does not allocate yet.
     pub fn response(alloc: A, global: Global) -> Reading<'t, A>
         ensures { result ≡ record { expected = verdict.response; taken = []; standing = unfinished 1 } }
     {
@@ -189,10 +189,11 @@ impl<'t, A: Allocator + Copy> Reading<'t, A> {
         }
     }
 
-    /// Takes bytes from the front of the piece, and answers how many: all, but none past the message's end.
+    /// Takes bytes from the front of a chunk, and returns how many: all of them, but none past the end of the message.
     ///
-    /// A refusal other than `NoMemory` is given again by each later call; `NoMemory` leaves the reading as it was. A
-    /// request is refused with the status that answers it.
+    /// Fails with `Status` where a request is refused, by the status that answers it, and where a response has a status
+    /// other than 200; with `BadHead` or `TooLong` where a response is refused; with `NoMemory` where memory is
+    /// refused. After `NoMemory` the reading is as it was. Each other error is returned again by each later call.
     pub fn feed(&mut self, piece: &[u8]) -> Result<usize, HttpError>
         ensures expected { self.new.expected ≡ self.old.expected }
         ensures says { Says self.new.expected self.new.taken self.new.standing }
@@ -221,8 +222,8 @@ impl<'t, A: Allocator + Copy> Reading<'t, A> {
         }
     }
 
-    /// How many bytes are to be asked for next: at least one until the message is whole or refused, never more than it
-    /// must still have, and none from then on. No memory.
+    /// How many bytes to ask for next. It is at least 1 until the message is complete or refused, never more than the
+    /// message must still have, and 0 after that. Does not allocate.
     pub fn wants(&self) -> usize
         ensures value { result ≡ wants_of self.now.standing }
     {
@@ -233,7 +234,7 @@ impl<'t, A: Allocator + Copy> Reading<'t, A> {
         }
     }
 
-    /// The body, once the message is whole. No memory.
+    /// The body, once the message is complete; `None` before. Does not allocate.
     pub fn body(&self) -> Option<&[u8]>
         ensures { option_copied result ≡ body_of self.now.standing }
     {
@@ -243,7 +244,7 @@ impl<'t, A: Allocator + Copy> Reading<'t, A> {
         }
     }
 
-    /// The body itself, once the message is whole. No memory.
+    /// The body as a value, once the message is complete; `None` before. Does not allocate.
     pub fn into_body(self) -> Option<Vec<u8, A>>
         ensures { bytes_of (λ v. v.items) result ≡ body_of self.entry.standing }
     {
@@ -253,7 +254,8 @@ impl<'t, A: Allocator + Copy> Reading<'t, A> {
         }
     }
 
-    /// The account of a request, once it is whole. No memory.
+    /// The account of a request, by its place in `tokens`, once the request is complete; `None` before. Does not
+    /// allocate.
     pub fn account(&self) -> Option<usize>
         ensures { result ≡ account_of self.now.standing }
     {

@@ -1,4 +1,4 @@
-//! A message read from a stream, and written to it.
+//! How a message is read from a stream, and written to it.
 
 ghost use Rattle.std.specs.Prelude.{◌≡◌, [], OnOk, IfErr};
 ghost use Rattle.std.specs.Io.KnownBytes.{Appends, Consumes};
@@ -14,10 +14,13 @@ use st_oer::{Counting, PutError, ReadTurn, put_all, read_turn};
 use std::alloc::Allocator;
 use std::io::{Read, Write};
 
-/// The most bytes that are asked for at a time.
+/// The most bytes of one read.
 const PIECE: usize = 4_096;
 
-/// Reads one message, and no byte past it. Each read takes one of `turns`.
+/// Reads one message from a stream, and no byte past it. Each read takes one of `turns`.
+///
+/// Fails with `Turns` where none is left, `Cut` where the input ends early, `ReadFault` where a read fails, and with
+/// what `Reading::feed` refuses.
 pub fn read_message<S: Read, A: Allocator + Copy>(
     stream: &mut Counting<S>,
     reading: &mut Reading<'_, A>,
@@ -60,7 +63,9 @@ pub fn read_message<S: Read, A: Allocator + Copy>(
     }
 }
 
-/// Writes a text whole. Each write takes one of `turns`.
+/// Writes all bytes of a message to a stream. Each write takes one of `turns`.
+///
+/// Fails with `WriteFault` where a write fails, and with `Turns` where none is left.
 pub fn write_message<S: Write>(
     stream: &mut Counting<S>,
     text: &[u8],

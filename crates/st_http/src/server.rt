@@ -1,4 +1,4 @@
-//! The side that answers.
+//! The server of ILP over HTTP.
 
 ghost use Rattle.std.specs.Prelude.{◌≡◌, ℕ, List, map, OnOk, IfOk, IfErr, IsSome};
 ghost use Rattle.st_http.specs.Exchanges.{known};
@@ -68,9 +68,13 @@ fn response_to_next<S: Read, T: Answerer, A: Allocator + Copy>(
     }
 }
 
-/// Reads a request, has it answered if it is lawful, and writes the response. Each call of the stream takes one of
-/// `turns`. The fields of the request are kept by `global` while they are judged, and all else by `alloc`. After a refusal
-/// the stream is given up.
+/// Reads one request from a stream, has it answered where it is valid, and writes the response (RFC 0035, the
+/// synchronous mode). A request that is refused is answered by its status: 400, 401, 404, 405, 411 or 413. `tokens` has
+/// the bearer token of each account. Each call of the stream takes one of `turns`. The header fields are stored by
+/// `global` while they are checked, and all else by `alloc`.
+///
+/// Fails with `ReadFault`, `WriteFault`, `Cut`, `Turns` or `NoMemory`. After an error the stream is not to be used
+/// again.
 pub fn serve_one<S: Read + Write, T: Answerer, A: Allocator + Copy>(
     alloc: A,
     global: Global,

@@ -1,4 +1,4 @@
-//! What the rules say of a head.
+//! Whether the head of a message is accepted.
 
 ghost use Rattle.std.specs.Prelude.{◌≡◌, ◌≤◌, ℕ, List, All, length, map, codes, IfOk};
 ghost use Rattle.httparse.specs.Spans.{IsHeaderWithin, header_bytes};
@@ -19,16 +19,16 @@ use httparse::Status;
 use httparse::spans::{EMPTY_HEADER_SPAN, HeaderSpan, parse_request, parse_response};
 use std::alloc::{AllocError, Global};
 
-/// A message that the rules take.
+/// What a message that is accepted says in its head.
 #[derive(Clone, Copy, Debug, PartialEq, Eq)]
 pub struct Lawful {
-    /// The place of a request's token among the tokens.
+    /// For a request, the place of its token among the tokens; for a response, `None`.
     pub account: Option<usize>,
-    /// The bytes of the body.
+    /// The number of bytes of the body.
     pub size: usize,
 }
 
-/// What the rules say of a head.
+/// The result of the check of a head: what it says, or why it is refused.
 pub type Verdict = Result<Lawful, HttpError>;
 
 /// What the server's rules say of the fields of a POST to `/ilp`.
@@ -109,7 +109,8 @@ fn response_verdict(
     Ok(answer_verdict(&fields))
 }
 
-/// What the rules say of bytes up to an empty line as the head of a request.
+/// Checks bytes up to an empty line as the head of a request (RFC 0035, RFC 9112). The inner error is `Status` with the
+/// status that answers the request. The outer error comes where memory is refused.
 pub fn judge_request(global: Global, tokens: &[&str], head: &[u8]) -> Result<Verdict, AllocError>
     requires { length head.now ≤ head_limit }
     ensures { IfOk result (IsVerdict (spec.request (map (λ t. t.now) tokens.now)) head.now) }
@@ -134,7 +135,8 @@ pub fn judge_request(global: Global, tokens: &[&str], head: &[u8]) -> Result<Ver
     }
 }
 
-/// What the rules say of bytes up to an empty line as the head of a response.
+/// Checks bytes up to an empty line as the head of a response (RFC 0035, RFC 9112). The inner error is `Status` for a
+/// status other than 200, `BadHead` or `TooLong`. The outer error comes where memory is refused.
 pub fn judge_response(global: Global, head: &[u8]) -> Result<Verdict, AllocError>
     requires { length head.now ≤ head_limit }
     ensures { IfOk result (IsVerdict spec.response head.now) }

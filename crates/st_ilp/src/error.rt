@@ -1,4 +1,4 @@
-//! Why a packet could not be read or written.
+//! Errors of reading and writing ILP packets.
 
 ghost use Rattle.std.specs.Prelude.{◌≡◌};
 ghost use Rattle.st_ilp.specs.Errors.{number, inner, wrapped};
@@ -8,40 +8,40 @@ use st_oer::OerError;
 use std::alloc::{AllocError, AllocFailed};
 use thiserror::Error;
 
-/// Why a packet, or the text of an expiry, could not be read or written (RFC 0027).
+/// Why an ILP packet, or the text of an expiry, could not be read or written (RFC 0027).
 #[derive(Clone, Copy, Debug, PartialEq, Eq, Error)]
 pub enum IlpError {
-    /// A field, or the packet around them, has a bad spelling.
+    /// A field, or the octet string around the fields, has a malformed encoding (RFC 0030).
     #[error("bad spelling: {0}")]
     Oer(OerError),
-    /// The packet is of another kind than the one asked for.
+    /// The packet is of a kind other than the requested one.
     #[error("the packet is of another kind")]
     Kind,
-    /// An expiry is no existing date and time of the years 0000 to 9999, in 17 digits.
+    /// An expiry is not a date and time of the years 0000 to 9999 in 17 digits.
     #[error("the expiry is no date and time")]
     Expiry,
-    /// A destination, or a triggeredBy that is not empty, is no address.
+    /// A destination, or a triggeredBy that is not empty, is not an ILP address (RFC 0015).
     #[error("an address is malformed")]
     Address,
-    /// Data has more than 32,767 bytes, or a message to be written more than 8,191.
+    /// The data has more than 32,767 bytes, or a message that is to be written has more than 8,191.
     #[error("data or a message is too long")]
     DataTooLong,
     /// A message is not UTF-8.
     #[error("the message is not UTF-8")]
     NotUtf8,
-    /// A code holds another character than `!` to `~`.
+    /// An error code has a character outside `!` to `~`.
     #[error("the code is malformed")]
     Code,
     /// Bytes follow the last field or the packet.
     #[error("bytes follow the last field or the packet")]
     Trailing,
-    /// There was no memory for the bytes.
+    /// Memory for the packet's bytes was refused.
     #[error("out of memory")]
     NoMemory,
 }
 
 impl IlpError {
-    /// The number that programs print for this refusal.
+    /// The error number that programs print: 10 to 18.
     pub fn number(&self) -> u8
         ensures { result ≡ number self.now }
     {
@@ -58,7 +58,7 @@ impl IlpError {
         }
     }
 
-    /// The number that programs print in brackets: that of the fault in a spelling.
+    /// The number of the encoding error that `Oer` carries, and `None` for every other error.
     pub fn inner(&self) -> Option<u64>
         ensures { result ≡ inner self.now }
     {

@@ -1,4 +1,4 @@
-//! The text of an expiry (RFC 0027, expiresAt).
+//! The text of an expiry (RFC 0027, field expiresAt).
 
 ghost use Rattle.std.specs.Prelude.{◌≡◌, ◌≢◌, ◌+◌, ◌-◌, ◌*◌, ◌%◌, ◌<◌, ◌*ℤ◌, ◌≤ℤ◌, ℤ, pos, IfSome, IfNone, IsSomeAnd, slice_index};
 ghost use Rattle.jiff_core.specs.DateTime.{civil_nanos};
@@ -85,10 +85,10 @@ fn datetime_at(millis: i64) -> Option<DateTime>
     }
 }
 
-/// The 17 digits YYYYMMDDHHMMSSfff of an expiry, given in milliseconds since the start of 1970, UTC
-/// (RFC 0027).
+/// Writes an expiry as its 17 digits, YYYYMMDDHHMMSSfff in UTC (RFC 0027). `millis` is in milliseconds since 1970-01-01
+/// 00:00 UTC.
 ///
-/// Refuses with `Expiry` outside the years 0000 to 9999.
+/// Fails with `Expiry` where the year is outside 0000 to 9999.
 pub fn write_expiry(millis: i64) -> Result<[u8; 17], IlpError>
     ensures { Gives (λ text. text) result (written_expiry millis) }
 {
@@ -172,10 +172,11 @@ fn millis_of(at: DateTime) -> i64
     at.duration_since(epoch()).as_millis() as i64
 }
 
-/// The milliseconds since the start of 1970, UTC, that an expiry's text stands for (RFC 0027).
+/// Reads the 17 digits of an expiry, YYYYMMDDHHMMSSfff in UTC (RFC 0027). The result is in milliseconds since
+/// 1970-01-01 00:00 UTC.
 ///
-/// Refuses with `Expiry` whatever is not exactly 17 digits of a date that exists, with hour 00 to
-/// 23, minute and second 00 to 59.
+/// Fails with `Expiry` where the text is not exactly 17 digits of an existing date with hour 00 to 23, minute and
+/// second 00 to 59.
 pub fn read_expiry(text: &[u8]) -> Result<i64, IlpError>
     ensures { Gives (λ millis. millis) result (expiry_at text.now) }
 {

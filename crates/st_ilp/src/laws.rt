@@ -1,43 +1,43 @@
-//! Laws of the definitions: reading and spelling are one relation.
+//! Laws of the definitions: bytes are read as a packet exactly where they are its encoding.
 
 ghost use Rattle.st_ilp.specs.Laws.{ExpiryReads, PrepareReads, AnswerReads, NoneBeginsAnother, RejectsHaveSize, TextsHaveSize, KindsApart, ReadsWithoutMemory};
 
-/// A text of an expiry has one value, and each value from the year 0 to the year 9999 one text.
+/// Each expiry of the years 0000 to 9999 has exactly one text, and each text exactly one value.
 pub fn expiry_law()
     ensures { ExpiryReads }
 {}
 
-/// Bytes are read as a Prepare exactly where they are its spelling.
+/// Bytes are read as a Prepare exactly where they are its encoding.
 pub fn prepare_law()
     ensures { PrepareReads }
 {}
 
-/// Bytes are read as a Fulfill or Reject exactly where they are its spelling.
+/// Bytes are read as a Fulfill or a Reject exactly where they are its encoding.
 pub fn answer_law()
     ensures { AnswerReads }
 {}
 
-/// No packet's spelling begins another's.
+/// No packet's encoding is a proper prefix of another packet's encoding.
 pub fn none_begins_another()
     ensures { NoneBeginsAnother }
 {}
 
-/// A Reject without a message is as long as `reject_len` tells.
+/// A Reject without a message has the length that `reject_len` gives.
 pub fn reject_size_law()
     ensures { RejectsHaveSize }
 {}
 
-/// How many bytes each packet takes.
+/// The length in bytes of each kind of packet.
 pub fn size_law()
     ensures { TextsHaveSize }
 {}
 
-/// A packet's spelling reads as no packet of another kind: a Reject's text is no Fulfill.
+/// A packet's encoding is not read as a packet of another kind: a Reject is never read as a Fulfill.
 pub fn kind_law()
     ensures { KindsApart }
 {}
 
-/// No bytes at all are refused with `NoMemory` where a packet or an expiry is read.
+/// Reading a packet or an expiry never fails with `NoMemory`.
 pub fn reading_wants_no_memory()
     ensures { ReadsWithoutMemory }
 {}

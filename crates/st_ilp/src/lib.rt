@@ -1,8 +1,8 @@
 //! The packets of the Interledger Protocol, version 4 (RFC 0027): Prepare, Fulfill and Reject.
 //!
-//! Readers take no memory and answer slices of their input. Writers append or make the one spelling
-//! of a packet. An expiry is a number of milliseconds since the start of 1970, UTC. Each refusal
-//! comes exactly where the first fault stands: the packet's outer octets, then the fields in order.
+//! Readers do not allocate: texts and data are slices of the input. Writers append or return the one encoding of a
+//! packet. An expiry is a number of milliseconds since 1970-01-01 00:00 UTC. A reader reports the first fault: the
+//! packet's outer octet string is checked first, then the fields in their order.
 #![tactic(auto)]
 
 mod error;

@@ -1,4 +1,4 @@
-//! Moments of a clock.
+//! Points in time.
 
 ghost use Rattle.std.specs.Prelude.{◌≡◌, MatchOption};
 ghost use Rattle.st_ilp.specs.Moments.{IsMoment};
@@ -8,7 +8,7 @@ use std::marker::Model;
 /// The last moment, in milliseconds since the start of 1970.
 const LAST: i64 = 253_402_300_000_000;
 
-/// A moment in whole milliseconds since the start of 1970, UTC: 0 to 253,402,300,000,000.
+/// A point in time in whole milliseconds since 1970-01-01 00:00 UTC: 0 to 253,402,300,000,000.
 #[derive(Clone, Copy, Debug, PartialEq, Eq)]
 pub struct Moment {
     millis: i64,
@@ -28,7 +28,7 @@ impl Model for Moment {
 }
 
 impl Moment {
-    /// The moment so many milliseconds after the start of 1970, or `None` outside the range.
+    /// The point in time `ms` milliseconds after 1970-01-01 00:00 UTC. `None` outside 0 to 253,402,300,000,000.
     pub fn new(ms: i64) -> Option<Moment>
         ensures { MatchOption result (¬ (IsMoment ms)) (λ moment. (moment ≡ ms) × IsMoment ms) }
     {
@@ -39,7 +39,7 @@ impl Moment {
         }
     }
 
-    /// Milliseconds since the start of 1970.
+    /// The milliseconds since 1970-01-01 00:00 UTC.
     pub fn ms(&self) -> i64
         ensures value { result ≡ self.now }
         ensures range { IsMoment result }

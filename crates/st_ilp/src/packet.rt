@@ -1,4 +1,4 @@
-//! Packets as values that lend their texts and data.
+//! ILP packets as values that borrow their texts and data.
 
 ghost use Rattle.std.specs.Prelude.{◌≡◌};
 ghost use Rattle.st_ilp.specs.Rules as rules;
@@ -14,22 +14,22 @@ pub(crate) const FULFILL: u8 = 13;
 /// The kind of a Reject (RFC 0027).
 pub(crate) const REJECT: u8 = 14;
 
-/// The most bytes of data in a packet (RFC 0027).
+/// The greatest length of a packet's data, in bytes (RFC 0027).
 pub const MAX_DATA: usize = 32_767;
 
-/// The most bytes of a message that is written; longer ones are read.
+/// The greatest length of a Reject's message that is written, in bytes. Longer messages are still read.
 pub const MAX_MESSAGE: usize = 8_191;
 
 /// An ILP Prepare (RFC 0027).
 #[derive(Clone, Copy, Debug, PartialEq, Eq)]
 pub struct Prepare<'a> {
-    /// Units of the asset that the two neighbours share.
+    /// The amount, in units of the asset that the two neighbours share.
     pub amount: u64,
-    /// When it expires, in milliseconds since the start of 1970, UTC.
+    /// The time at which it expires, in milliseconds since 1970-01-01 00:00 UTC.
     pub expiry: i64,
-    /// The SHA-256 that a fulfillment has to have.
+    /// The condition: the SHA-256 digest of the fulfillment.
     pub condition: [u8; 32],
-    /// The address of the receiver.
+    /// The ILP address of the receiver (RFC 0015).
     pub destination: &'a str,
     /// Data for the receiver, at most 32,767 bytes.
     pub payload: &'a [u8],
@@ -47,11 +47,11 @@ pub enum Answer<'a> {
     },
     /// The Prepare was not carried out.
     Reject {
-        /// Three characters, as `F02`.
+        /// The error code: three characters, for example `F02`.
         code: [u8; 3],
-        /// The address of the node that made it (triggeredBy), or empty.
+        /// The ILP address of the node that created the Reject (triggeredBy), or the empty text.
         by: &'a str,
-        /// A text for people. One that is written has at most 8,191 bytes.
+        /// A message for people. Writing accepts at most 8,191 bytes.
         message: &'a str,
         /// Data for the sender of the Prepare, at most 32,767 bytes.
         payload: &'a [u8],

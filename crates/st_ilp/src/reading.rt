@@ -1,4 +1,4 @@
-//! Reading packets. No reader takes memory: texts and data are slices of the input.
+//! Reading ILP packets. No reader allocates: texts and data are slices of the input.
 
 ghost use Rattle.std.specs.Prelude.{◌≡◌, ◌≢◌, length, MatchResult};
 ghost use Rattle.st_oer.specs.Seen.{Gives};
@@ -171,12 +171,12 @@ fn reject(contents: &[u8]) -> Result<Answer<'_>, IlpError>
     })
 }
 
-/// Reads a whole packet as a Prepare (RFC 0027).
+/// Reads the whole of `bytes` as a Prepare (RFC 0027). Does not allocate.
 ///
-/// Refuses with the first fault: a missing kind `Oer(Short)`, another kind `Kind`, the spelling of
-/// the octets around the fields `Oer(..)`, bytes after the packet `Trailing`, then each field's
-/// spelling `Oer(..)` and rule (`Expiry`, `Address`, `DataTooLong`), and bytes after the last field
-/// `Trailing`.
+/// Fails with the first fault: `Oer(Short)` where the input is empty, `Kind` for another kind of packet, `Oer(..)` for
+/// a malformed outer octet string, and `Trailing` for bytes after the packet. Then each field in its order: `Oer(..)`
+/// for its encoding, and `Expiry`, `Address` or `DataTooLong` for its value. Last, `Trailing` for bytes after the last
+/// field.
 #[tactic(auto, unfolding(crate::specs::Reading::prepare_at))]
 pub fn read_prepare(bytes: &[u8]) -> Result<Prepare<'_>, IlpError>
     ensures { Gives prepare_seen result (prepare_at bytes.now) }
@@ -185,10 +185,12 @@ pub fn read_prepare(bytes: &[u8]) -> Result<Prepare<'_>, IlpError>
     prepare(contents)
 }
 
-/// Reads a whole packet as a Fulfill or a Reject (RFC 0027).
+/// Reads the whole of `bytes` as a Fulfill or a Reject (RFC 0027). Does not allocate.
 ///
-/// Refuses in the order of `read_prepare`; the rules of its fields are `Code`, `Address`, `NotUtf8`
-/// and `DataTooLong`.
+/// Fails with the first fault: `Oer(Short)` where the input is empty, `Kind` for another kind of packet, `Oer(..)` for
+/// a malformed outer octet string, and `Trailing` for bytes after the packet. Then each field in its order: `Oer(..)`
+/// for its encoding, and `Code`, `Address`, `NotUtf8` or `DataTooLong` for its value. Last, `Trailing` for bytes after
+/// the last field.
 #[tactic(auto, unfolding(crate::specs::Reading::answer_at))]
 pub fn read_answer(bytes: &[u8]) -> Result<Answer<'_>, IlpError>
     ensures { Gives answer_seen result (answer_at bytes.now) }

@@ -1,4 +1,4 @@
-//! Rejects, also into room that was reserved for one.
+//! Writing Rejects, also into a vector with reserved capacity.
 
 ghost use Rattle.std.specs.Prelude.{◌≡◌, ◌≢◌, ◌<◌, ◌≤◌, ◌^◌, ◌+◌, ◌++◌, ◌∷◌, [], length, None, Some, IsOk, MatchResult, IfErr, OnOk, OnErr, vec_len, vec_capacity};
 ghost use Rattle.st_oer.specs.Seen.{Writes};
@@ -13,7 +13,7 @@ use crate::writing::put_head;
 use st_oer::put_octets;
 use std::alloc::Allocator;
 
-/// Refuses what may not stand in a Reject.
+/// Checks that these fields may be written in a Reject.
 #[tactic(auto, unfolding(crate::specs::Writing::answer_refusal))]
 pub(crate) fn judge_reject(
     code: &[u8; 3],
@@ -58,10 +58,10 @@ pub(crate) fn append_reject<A: Allocator>(
     put_octets(out, payload).unwrap();
 }
 
-/// How many bytes a Reject takes that has no message (RFC 0027), with a triggeredBy of `by` and
-/// `data_len` bytes of data.
+/// The length in bytes of a Reject without a message (RFC 0027), with `by` as its triggeredBy and `data_len` bytes of
+/// data.
 ///
-/// Exact wherever the number fits a `usize`. Else `usize::MAX`. No memory.
+/// The result is exact where the length fits a `usize`, and `usize::MAX` otherwise. Does not allocate.
 #[tactic(auto, unfolding(crate::specs::Writing::reject_size))]
 pub fn reject_len(by: &str, data_len: usize) -> usize
     ensures exact { reject_size by.now data_len < 2 ^ 64 → result ≡ reject_size by.now data_len }
@@ -70,11 +70,11 @@ pub fn reject_len(by: &str, data_len: usize) -> usize
     size::reject_size(by.len(), 0, data_len)
 }
 
-/// Appends a Reject without a message (RFC 0027). It takes no memory where `out` has `reject_len`
-/// bytes of room.
+/// Appends a Reject without a message (RFC 0027). `by` is its triggeredBy, `payload` its data. Does not allocate where
+/// `out` has `reject_len` bytes of free capacity.
 ///
-/// Refuses with the first of `Code`, `Address`, `DataTooLong` that has a cause, and else with
-/// `NoMemory` where there was none; `out` then has the bytes that it had.
+/// Fails with `Code`, `Address` or `DataTooLong`, checked in this order, and then with `NoMemory` where memory is
+/// refused. `out` then keeps the bytes that it had.
 #[tactic(auto, using(crate::proofs::Sizes::sizes))]
 pub fn put_reject<A: Allocator>(
     out: &mut Vec<u8, A>,

@@ -1,11 +1,11 @@
-//! How many bytes spellings take.
+//! The lengths of encodings, in bytes.
 
 ghost use Rattle.std.specs.Prelude.{◌≡◌, ◌<◌, ◌≤◌, ◌^◌, ◌+◌};
 ghost use Rattle.st_ilp.specs.Writing.{octets_size, reject_contents_size};
 
 use st_oer::length_size;
 
-/// How many bytes so many octets take with their length. `usize::MAX` where the number does not fit.
+/// The length of an octet string of `n` bytes, its length prefix included. `usize::MAX` where it does not fit.
 pub(crate) fn octets_len(n: usize) -> usize
     ensures exact { octets_size n < 2 ^ 64 → result ≡ octets_size n }
     ensures small { n < 2 ^ 63 → result ≡ octets_size n }

@@ -1,4 +1,4 @@
-//! Writing packets: the one spelling of each.
+//! Writing ILP packets: the one encoding of each.
 
 ghost use Rattle.std.specs.Prelude.{◌≡◌, ◌≤◌, ◌+◌, ◌++◌, ◌∷◌, length, vec_len, vec_capacity};
 ghost use Rattle.st_oer.specs.Seen.{Writes};
@@ -49,10 +49,10 @@ fn append_prepare<A: Allocator>(
     put_octets(out, prepare.payload).unwrap();
 }
 
-/// The bytes of a Prepare (RFC 0027).
+/// The bytes of a Prepare (RFC 0027), in a new vector.
 ///
-/// Refuses with the first of `Expiry`, `Address`, `DataTooLong` that has a cause, and else with
-/// `NoMemory` where there was none.
+/// Fails with `Expiry`, `Address` or `DataTooLong`, checked in this order, and then with `NoMemory` where memory is
+/// refused.
 #[tactic(auto, unfolding(crate::specs::Writing::prepare_refusal), using(crate::proofs::Sizes::sizes))]
 pub fn write_prepare<A: Allocator>(alloc: A, prepare: &Prepare<'_>) -> Result<Vec<u8, A>, IlpError>
     ensures { Writes IlpError.NoMemory (λ out. out.items) result (prepare_written (prepare_seen prepare.now)) }
@@ -106,10 +106,10 @@ fn reject_bytes<A: Allocator>(
     Ok(out)
 }
 
-/// The bytes of a Fulfill or a Reject (RFC 0027).
+/// The bytes of a Fulfill or a Reject (RFC 0027), in a new vector.
 ///
-/// Refuses with the first of `Code`, `Address`, `DataTooLong` (a message above 8,191 bytes, or data)
-/// that has a cause, and else with `NoMemory` where there was none.
+/// Fails with `Code`, `Address` or `DataTooLong`, checked in this order, and then with `NoMemory` where memory is
+/// refused. `DataTooLong` is for a message above 8,191 bytes and for data above 32,767.
 pub fn write_answer<A: Allocator>(alloc: A, answer: &Answer<'_>) -> Result<Vec<u8, A>, IlpError>
     ensures { Writes IlpError.NoMemory (λ out. out.items) result (answer_written (answer_seen answer.now)) }
 {

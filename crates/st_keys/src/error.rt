@@ -1,4 +1,4 @@
-//! Why a payload could not be sealed or opened.
+//! Errors of sealing and opening payloads.
 
 ghost use Rattle.std.specs.Prelude.{◌≡◌};
 ghost use Rattle.st_keys.specs.Errors.{number, inner, wrapped};
@@ -8,25 +8,25 @@ use st_frames::FrameError;
 use std::alloc::AllocError;
 use thiserror::Error;
 
-/// Why a payload could not be sealed or opened.
+/// Why a payload could not be sealed or opened (RFC 0029).
 #[derive(Clone, Copy, Debug, PartialEq, Eq, Error)]
 pub enum KeyError {
-    /// The payload has fewer bytes than an IV and a tag take.
+    /// The payload is shorter than an IV and a tag: 28 bytes.
     #[error("the payload is too short for an IV and a tag")]
     Short,
-    /// The tag is not that of the payload's ciphertext.
+    /// The tag does not match the ciphertext.
     #[error("the payload's tag is wrong")]
     Tag,
-    /// The plain packet could not be read, or not be written.
+    /// The plain packet could not be read or written.
     #[error("{0}")]
     Packet(FrameError),
-    /// There was no memory for the payload.
+    /// Memory for the payload was refused.
     #[error("out of memory")]
     NoMemory,
 }
 
 impl KeyError {
-    /// The number of this refusal, 30 to 33.
+    /// The error number that programs print: 30 to 33.
     pub fn number(&self) -> u8
         ensures { result ≡ number self.now }
     {
@@ -38,7 +38,7 @@ impl KeyError {
         }
     }
 
-    /// The number of the packet's fault.
+    /// The number of the error that `Packet` carries, and `None` for every other error.
     pub fn inner(&self) -> Option<u64>
         ensures { result ≡ inner self.now }
     {

@@ -1,4 +1,4 @@
-//! The keys that both ends derive from their secret (RFC 0029).
+//! The keys that both ends derive from their shared secret (RFC 0029).
 
 ghost use Rattle.std.specs.Prelude.{◌≡◌, ◌↔◌, IsTrue};
 ghost use Rattle.std.specs.Bool.{OnTrue, OnFalse};
@@ -10,7 +10,8 @@ use sha2::{Digest, Sha256};
 use st_aes::{Key, seal, unseal};
 use std::marker::Model;
 
-/// The keys of a connection, derived once from its shared secret of 32 bytes. The secret itself is not kept.
+/// The keys of a connection, derived once from its shared secret of 32 bytes (RFC 0029). The secret itself is not
+/// stored.
 #[derive(Drop)]
 pub struct Keys {
     encryption: Key,
@@ -26,7 +27,7 @@ impl Model for Keys {
 }
 
 impl Keys {
-    /// The keys of this secret.
+    /// Derives the keys from a shared secret of 32 bytes (RFC 0029).
     #[tactic(auto, unfolding(crate::specs::Keys::keys_of))]
     pub fn of(secret: [u8; 32]) -> Keys
         ensures { result ≡ keys_of secret }
@@ -54,8 +55,8 @@ impl Keys {
         unseal(&self.encryption, iv, expected, text)
     }
 
-    /// The fulfillment of a Prepare with this payload (RFC 0029): HMAC-SHA256, under the fulfillment key, of the payload
-    /// as it is sent, encrypted, with its IV and its tag. No memory is taken.
+    /// The fulfillment of a Prepare with this payload (RFC 0029): the HMAC-SHA256 of the payload under the fulfillment
+    /// key. The payload is the data as sent: IV, tag and ciphertext. Does not allocate.
     pub fn fulfillment(&self, payload: &[u8]) -> [u8; 32]
         ensures { result ≡ fulfillment self.now payload.now }
     {
@@ -63,7 +64,7 @@ impl Keys {
     }
 }
 
-/// The condition of a fulfillment, its SHA-256 (RFC 0027).
+/// The condition of a fulfillment: its SHA-256 digest (RFC 0027).
 pub fn condition(fulfillment: [u8; 32]) -> [u8; 32]
     ensures { result ≡ condition fulfillment }
 {

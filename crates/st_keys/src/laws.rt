@@ -1,4 +1,4 @@
-//! Laws of the definitions, for whoever builds on them. These functions do nothing: the contract is the law.
+//! Laws of the definitions, for crates that build on them. Each is the contract of a function that does nothing.
 
 ghost use Rattle.st_keys.specs.Laws.{SealedOpens, HashesHave32, PayloadLengths, OpensWithoutMemory};
 
@@ -12,12 +12,12 @@ pub fn hashes_have_32_bytes()
     ensures { HashesHave32 }
 {}
 
-/// A payload has 28 bytes more than its text, and a packet's payload has at most 32,767.
+/// A payload is 28 bytes longer than its plain text. A packet's payload has at most 32,767 bytes.
 pub fn payload_lengths()
     ensures { PayloadLengths }
 {}
 
-/// No payload is refused for want of memory: opening takes none.
+/// Opening a payload never fails with `NoMemory`: it does not allocate.
 pub fn opens_without_memory()
     ensures { OpensWithoutMemory }
 {}

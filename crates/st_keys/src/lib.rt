@@ -1,8 +1,8 @@
-//! The keys of a STREAM connection, and its sealed packets (RFC 0029): what goes into the data field of an ILP packet.
+//! The keys of a STREAM connection and its encrypted packets (RFC 0029): the data field of an ILP packet.
 //!
-//! `Keys` derives all keys from the shared secret. `seal_packet` gives the payload of one packet; `open_packet` decrypts a
-//! payload where it lies and reads its packet, or refuses it. `fulfillment` and `condition` are those of a payload.
-//! A refusal says its number by `number`, and by `inner` that of the packet's fault.
+//! `Keys` derives all keys from the shared secret. `seal_packet` gives the payload of one packet. `open_packet`
+//! decrypts a payload in place and reads its packet. `fulfillment` and `condition` give those of a payload.
+//! `KeyError::number` is the number of an error, and `KeyError::inner` that of the packet's error.
 #![tactic(auto)]
 
 mod error;

@@ -16,7 +16,7 @@ fn put_front(out: &mut [u8], front: &[u8])
     out[..front.len()].copy_from_slice(front);
 }
 
-/// A key of one block: a longer one is hashed first, a shorter one is padded with zeros.
+/// A key as one block: a key longer than a block is hashed first, a shorter one is padded with zeros.
 #[tactic(auto, unfolding(crate::specs::Mac::block_key))]
 fn block_key(key: &[u8]) -> [u8; 64]
     ensures { result ≡ block_key key.now }
@@ -41,7 +41,7 @@ fn with_pad(pad: u8, key: [u8; 64]) -> [u8; 64]
     out
 }
 
-/// The keyed hash of a text, HMAC-SHA256 (RFC 2104, section 2). The key may have any length.
+/// HMAC-SHA256 of a text (RFC 2104, section 2). The key may have any length.
 #[tactic(auto, unfolding(crate::specs::Mac::hmac))]
 pub fn hmac(key: &[u8], text: &[u8]) -> [u8; 32]
     ensures { result ≡ hmac key.now text.now }

@@ -1,4 +1,4 @@
-//! Sealed packets.
+//! Encrypted packets.
 
 ghost use Rattle.std.specs.Prelude.{◌≡◌, ◌≤◌, ◌++◌, length, take, drop, Ok, OnOk, OnErr, IfOk, map};
 ghost use Rattle.st_frames.specs.Packets.{packet_of};
@@ -12,7 +12,7 @@ use crate::keys::Keys;
 use st_frames::{Frame, FrameError, StreamPacket, packet_len, put_packet, read_packet};
 use std::alloc::Allocator;
 
-/// How many bytes a payload has beside those of its plain packet: an IV of 12 and a tag of 16.
+/// The bytes that a payload has beside those of its plain packet: an IV of 12 and a tag of 16.
 pub const OVERHEAD: usize = 28;
 
 fn iv_of(payload: &[u8]) -> [u8; 12]
@@ -33,7 +33,7 @@ fn tag_of(payload: &[u8]) -> [u8; 16]
     tag
 }
 
-/// A vector with room for IV and tag in front, and a packet behind them. The whole of its memory is asked for at once.
+/// A vector with room for an IV and a tag, and a packet behind them. Its memory is requested at once.
 #[tactic(auto, using(crate::proofs::Written::size_found))]
 fn with_overhead<A: Allocator>(
     alloc: A,
@@ -69,11 +69,13 @@ fn packet_behind(payload: &[u8], kind: u8) -> Result<StreamPacket<'_>, KeyError>
 }
 
 impl Keys {
-    /// The payload of one packet, sealed under this IV: IV, tag, and the ciphertext of the packet's one spelling
-    /// (RFC 0029). No two packets of a connection may have the same IV: that is the caller's care.
+    /// Encrypts one packet: the payload is the IV, the tag, and the ciphertext of the packet's encoding (RFC 0029).
     ///
-    /// Refused is, in this order: `Packet` with the fault that `packet_len` finds, among them `TooLong` for a plain packet
-    /// above `MAX_PACKET` bytes; and `NoMemory`. The memory of the payload is asked for once, and no other.
+    /// `kind` is the kind of the ILP packet that carries it. The memory of the payload is requested once, and no other.
+    /// No two packets of a connection may have the same IV: the caller has to see to that.
+    ///
+    /// Fails with `Packet` where the packet cannot be written: `FrameFormat` for the first frame with a malformed
+    /// address, then `TooLong` above `MAX_PACKET` bytes. Then with `NoMemory`. Requires a `kind` of 12, 13 or 14.
     #[tactic(auto, unfolding(crate::specs::Sealed::sealed_packet))]
     pub fn seal_packet<A: Allocator>(
         &self,
@@ -107,10 +109,10 @@ impl Keys {
         tag_place.copy_from_slice(&self.seal_text(iv, text));
     }
 
-    /// Decrypts a payload where it lies: afterwards its text, from byte `OVERHEAD` on, is plain. No memory is taken.
+    /// Decrypts a payload in place: afterwards its bytes from `OVERHEAD` on are the plain text. Does not allocate.
     ///
-    /// Refused is `Short` where the payload has fewer bytes than `OVERHEAD`, and then `Tag` where its tag is not that of
-    /// its ciphertext. A refused payload is as it was.
+    /// Fails with `Short` where the payload has fewer bytes than `OVERHEAD`, and then with `Tag` where its tag does not
+    /// match its ciphertext. A call that fails leaves the payload as it was.
     #[tactic(auto, unfolding(crate::specs::Sealed::unsealed))]
     pub fn unseal_payload(&self, payload: &mut [u8]) -> Result<(), KeyError>
         ensures exact { Gives (λ _. ciphertext_of payload.new) result (unsealed self.now payload.old) }
@@ -129,12 +131,13 @@ impl Keys {
         Ok(())
     }
 
-    /// Decrypts a payload where it lies and reads its packet, in one call: `unseal_payload`, and then `read_packet` from byte
-    /// `OVERHEAD` on. No memory is taken.
+    /// Decrypts a payload in place and reads the packet in it (RFC 0029): `unseal_payload`, then `read_packet` from
+    /// byte `OVERHEAD` on. Does not allocate.
     ///
-    /// Refused is, in this order: `Short` and `Tag` as by `unseal_payload`, with the bytes as they were; and `Packet` with
-    /// the fault of a text that is no packet of this kind, with the bytes decrypted. What the bytes are afterwards no clause
-    /// says: a caller whose proof needs them makes the two calls.
+    /// Fails in this order: `Short` where the payload has fewer bytes than `OVERHEAD`; `Tag` where its tag does not
+    /// match its ciphertext; `Packet` where the plain text is not a packet of this kind. After `Short` and `Tag` the
+    /// payload is as it was, after `Packet` it is decrypted. No clause says what the bytes are afterwards: a caller
+    /// whose proof needs them makes the two calls. Requires a `kind` of 12, 13 or 14.
     #[tactic(auto, unfolding(crate::specs::Sealed::opened))]
     pub fn open_packet<'a>(
         &self,

@@ -9,31 +9,31 @@ use crate::tally::Tally;
 use std::io;
 use std::io::{Read, Write};
 
-/// A device that counts its errors. One of kind Interrupted asks for the call again and is not counted.
+/// A device that counts its I/O errors. An error of kind `Interrupted` is not counted: that call is to be repeated.
 pub trait Counted {
     // How many errors there were, as far as the count goes.
     ghost fault_count: { Self → ℕ };
 
-    /// How many errors there were: at `u64::MAX` the count stays.
+    /// The number of calls that failed, interrupted calls left out. The count stops at `u64::MAX`.
     fn faults(&self) -> u64
         ensures { result ≡ fault_count self.now };
 }
 
-/// A reader, a writer or both, whose calls and errors are counted.
+/// A reader, a writer or both, with a count of its I/O calls and of their errors.
 #[derive(Drop)]
 pub struct Counting<T> {
     inner: T,
     tally: Tally,
 }
 
-/// A reader whose calls and errors are counted.
+/// A reader with a count of its I/O calls and of their errors.
 pub type CountRead<T> = Counting<T>;
 
-/// A writer whose calls and errors are counted.
+/// A writer with a count of its I/O calls and of their errors.
 pub type CountWrite<T> = Counting<T>;
 
 impl<T> Counting<T> {
-    /// The device with no call counted.
+    /// Wraps a device, with all counts at 0.
     pub fn new(inner: T) -> Self
         ensures device { device_of result ≡ inner }
         ensures tally { tally_of result ≡ no_calls }
@@ -44,14 +44,14 @@ impl<T> Counting<T> {
         }
     }
 
-    /// How its calls ended so far.
+    /// The counts so far, and whether the device is flushed.
     pub fn tally(&self) -> Tally
         ensures { result ≡ tally_of self.now }
     {
         self.tally
     }
 
-    /// The device again.
+    /// Gives the device back, without the counts.
     pub fn into_inner(self) -> T
         ensures { result ≡ device_of self }
     {

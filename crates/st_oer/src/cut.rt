@@ -8,8 +8,10 @@ use crate::error::OerError;
 use crate::reading::{byte_of, fixed_of, limit_of, octets_of, u64_of, var_uint_of};
 use std::marker::Model;
 
-/// What is left of a slice. Each reading call moves past the field that it read; one that is refused
-/// leaves the cut as it was. No call takes memory.
+/// The unread rest of a slice, read field by field from the front.
+///
+/// Each reading call advances past the field that it read. A call that fails leaves the cut as it was. No call
+/// allocates.
 #[derive(Drop)]
 pub struct Cut<'a> {
     bytes: &'a [u8],
@@ -22,21 +24,21 @@ impl<'a> Model for Cut<'a> {
 }
 
 impl<'a> Cut<'a> {
-    /// A cut at the start of the bytes.
+    /// A cut at the start of `bytes`.
     pub fn new(bytes: &'a [u8]) -> Cut<'a>
         ensures { result ≡ bytes.now }
     {
         Cut { bytes }
     }
 
-    /// The bytes that are left.
+    /// The bytes that are not read yet.
     pub fn rest(&self) -> &'a [u8]
         ensures { result.now ≡ self.now }
     {
         self.bytes
     }
 
-    /// A UInt8 (RFC 0030): one byte. `Short` where none is left.
+    /// Reads a UInt8 (RFC 0030): one byte. Fails with `Short` where no byte is left.
     pub fn get_u8(&mut self) -> Result<u8, OerError>
         ensures { Reads (λ x. x) self.old self.new result (byte_at self.old) }
     {
@@ -45,7 +47,7 @@ impl<'a> Cut<'a> {
         Ok(x)
     }
 
-    /// A UInt64 (RFC 0030): eight bytes, the highest first. `Short` where fewer are left.
+    /// Reads a UInt64 (RFC 0030): eight bytes, the highest first. Fails with `Short` where fewer than eight are left.
     pub fn get_u64(&mut self) -> Result<u64, OerError>
         ensures { Reads (λ x. x) self.old self.new result (u64_at self.old) }
     {
@@ -54,9 +56,11 @@ impl<'a> Cut<'a> {
         Ok(x)
     }
 
-    /// A VarUInt (RFC 0030) of at most eight bytes, in its shortest form. Refused by the length's
-    /// refusals, then `LongNumber` for no bytes, `TooBig` for more than eight, `Short` where fewer are
-    /// left, and `LongNumber` for a 0 in front of others.
+    /// Reads a VarUInt (RFC 0030) of at most eight bytes in its shortest form.
+    ///
+    /// Fails with the error of its length prefix first: `Short`, `TooBig` or `LongLength`. Then with `LongNumber` where
+    /// the number has no bytes, `TooBig` where it has more than eight, `Short` where fewer bytes are left, and
+    /// `LongNumber` where a 0 stands in front of other bytes.
     pub fn var_uint(&mut self) -> Result<u64, OerError>
         ensures { Reads (λ x. x) self.old self.new result (var_uint_at self.old) }
     {
@@ -65,8 +69,11 @@ impl<'a> Cut<'a> {
         Ok(x)
     }
 
-    /// A VarUInt that says a limit: as `var_uint`, but one of more than eight bytes is no refusal
-    /// and gives `u64::MAX` (this profile).
+    /// Reads a VarUInt (RFC 0030) that means a limit. A number of more than eight bytes gives `u64::MAX` (this
+    /// profile).
+    ///
+    /// Fails with the error of its length prefix first: `Short`, `TooBig` or `LongLength`. Then with `Short` where
+    /// fewer bytes are left, and `LongNumber` where the number has no bytes or a 0 stands in front of other bytes.
     pub fn limit(&mut self) -> Result<u64, OerError>
         ensures { Reads (λ x. x) self.old self.new result (limit_at self.old) }
     {
@@ -75,9 +82,11 @@ impl<'a> Cut<'a> {
         Ok(x)
     }
 
-    /// A variable octet string (RFC 0030): its length in the shortest form, and as many bytes. `Short`
-    /// where the length or the bytes go past the end, `TooBig` for a length of more than eight bytes,
-    /// `LongLength` for one that is not the shortest.
+    /// Reads a variable-length octet string (RFC 0030): a length prefix in its shortest form, then that number of
+    /// bytes.
+    ///
+    /// Fails with `Short` where the prefix or the bytes go past the end, `TooBig` where the prefix has more than eight
+    /// length bytes, and `LongLength` where it is not the shortest.
     pub fn octets(&mut self) -> Result<&'a [u8], OerError>
         ensures { Reads (λ x. x.now) self.old self.new result (octets_at self.old) }
     {
@@ -86,7 +95,7 @@ impl<'a> Cut<'a> {
         Ok(x)
     }
 
-    /// The next n bytes. `Short` where fewer are left.
+    /// Reads the next `n` bytes. Fails with `Short` where fewer are left.
     pub fn fixed(&mut self, n: usize) -> Result<&'a [u8], OerError>
         ensures { Reads (λ x. x.now) self.old self.new result (fixed_at n self.old) }
     {

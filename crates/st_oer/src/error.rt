@@ -1,4 +1,4 @@
-//! Why bytes could not be read or written.
+//! Errors of reading and writing OER fields.
 
 ghost use Rattle.std.specs.Prelude.{◌≡◌};
 ghost use Rattle.st_oer.specs.Errors.{number, inner};
@@ -7,28 +7,28 @@ ghost use Rattle.st_oer.specs.declared.error.OerError.TheVariants.{NoMemory};
 use std::alloc::{AllocError, AllocFailed};
 use thiserror::Error;
 
-/// Why a field could not be read, or could not be appended.
+/// Why a field could not be read or appended (RFC 0030).
 #[derive(Clone, Copy, Debug, PartialEq, Eq, Error)]
 pub enum OerError {
-    /// The field goes past the end of the bytes.
+    /// The field goes past the end of the input.
     #[error("a field goes past the end")]
     Short,
-    /// A length is not written in the fewest bytes.
+    /// A length prefix is not written in the fewest bytes.
     #[error("a length is not in its shortest form")]
     LongLength,
-    /// A number has no bytes, or is not written in the fewest.
+    /// A number has no bytes, or is not written in the fewest bytes.
     #[error("a number is not in its shortest form")]
     LongNumber,
-    /// A length, or a number that is no limit, takes more than eight bytes.
+    /// A length prefix, or a number that is no limit, takes more than eight bytes.
     #[error("a length or number takes more than eight bytes")]
     TooBig,
-    /// There was no memory for what was to be appended.
+    /// Memory for the appended bytes was refused.
     #[error("out of memory")]
     NoMemory,
 }
 
 impl OerError {
-    /// The number that programs print for this refusal.
+    /// The error number that programs print: 1 to 5.
     pub fn number(&self) -> u8
         ensures { result ≡ number self.now }
     {
@@ -41,7 +41,7 @@ impl OerError {
         }
     }
 
-    /// The number that a refusal carries in brackets: these carry none.
+    /// The number of an inner error. These errors have none: always `None`.
     pub fn inner(&self) -> Option<u64>
         ensures { result ≡ inner self.now }
     {

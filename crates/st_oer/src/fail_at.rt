@@ -1,4 +1,4 @@
-//! Readers and writers of which one call fails.
+//! For tests: readers and writers of which one chosen call fails.
 
 ghost use Rattle.std.specs.Prelude.{◌≡◌, ◌↔◌, IsTrue};
 ghost use Rattle.std.specs.Io.{ReadsAtMost, WritesAtMost};
@@ -11,8 +11,10 @@ use crate::tally::Tally;
 use std::io;
 use std::io::{ErrorKind, Read, Write};
 
-/// A reader, a writer or both: its call of one number fails with an error of kind Other, which is counted, and each other
-/// call goes through to the device behind it. The first call is number 1; reads, writes and flushes are counted together.
+/// A reader, a writer or both, of which one chosen call fails with an error of kind `Other`.
+///
+/// The failed call is counted and does not reach the device; every other call does. Calls are numbered from 1, reads,
+/// writes and flushes together.
 #[derive(Drop)]
 pub struct FailAt<T> {
     device: Counting<T>,
@@ -21,7 +23,7 @@ pub struct FailAt<T> {
 }
 
 impl<T> FailAt<T> {
-    /// The device, of which the call number `k` fails. Where `k` is 0 none does.
+    /// Wraps a device so that its call number `k` fails. Where `k` is 0 no call fails.
     pub fn new(inner: T, k: u64) -> Self
         ensures device { device_of (device_behind result) ≡ inner }
         ensures through { tally_of (device_behind result) ≡ no_calls }
@@ -35,14 +37,14 @@ impl<T> FailAt<T> {
         }
     }
 
-    /// How its calls ended so far, the one that failed among them.
+    /// The counts so far, with the call that failed on purpose.
     pub fn tally(&self) -> Tally
         ensures { result ≡ tally_in_all self.now }
     {
         self.tally
     }
 
-    /// The device again.
+    /// Gives the device back, without the counts.
     pub fn into_inner(self) -> T
         ensures { result ≡ device_of (device_behind self) }
     {

@@ -1,11 +1,11 @@
-//! Laws of the definitions, each the contract of an empty function.
+//! Laws of the definitions. Each is the contract of a function that does nothing.
 
 ghost use Rattle.std.specs.Prelude.{ℕ, ◌<◌, ◌^◌};
 ghost use Rattle.st_oer.specs.Spelling.{length_bytes, octets, uint64, uint8, var_uint};
 ghost use Rattle.st_oer.specs.Limit.{IsLimit};
 ghost use Rattle.st_oer.specs.Laws.{AreFewest, ByteReads, FixedReads, HasLength, IsByte, IsSpelled, IsU64, LengthReads, LimitReads, NoneBeginsAnother, OctetsRead, ReadsWithoutMemory, U64Reads, VarUintReads};
 
-/// Each kind of field is read exactly where it is spelled, whatever follows.
+/// Each kind of field is read exactly where its encoding stands, whatever bytes follow.
 pub fn fields_are_read_as_spelled()
     ensures byte { ByteReads }
     ensures u64 { U64Reads }
@@ -16,7 +16,7 @@ pub fn fields_are_read_as_spelled()
     ensures limit { LimitReads }
 {}
 
-/// No spelling begins another of its kind.
+/// No encoding of a field is a proper prefix of another encoding of the same kind.
 pub fn no_spelling_begins_another()
     ensures byte { NoneBeginsAnother (IsSpelled uint8 IsByte) }
     ensures u64 { NoneBeginsAnother (IsSpelled uint64 IsU64) }
@@ -26,12 +26,12 @@ pub fn no_spelling_begins_another()
     ensures limit { NoneBeginsAnother IsLimit }
 {}
 
-/// The digits of a number are the fewest bytes that give it.
+/// A number is written in the fewest bytes that give it.
 pub fn digits_are_fewest()
     ensures { (n : ℕ) → n < 2 ^ 64 → AreFewest n }
 {}
 
-/// No bytes at all are refused with `NoMemory` where a field is read.
+/// Reading a field never fails with `NoMemory`.
 pub fn reading_wants_no_memory()
     ensures { ReadsWithoutMemory }
 {}

@@ -1,6 +1,6 @@
-//! Writing: the one spelling of a field, appended to a vector.
+//! Writing OER fields: the one encoding of each value, appended to a vector.
 //!
-//! `NoMemory` leaves the vector's bytes as they were, and does not come where the vector has room already.
+//! `NoMemory` leaves the vector's bytes as they were, and does not occur where the vector has enough capacity.
 
 ghost use Rattle.std.specs.Prelude.{◌≡◌, ◌≤◌, ◌+◌, ◌++◌, ◌∷◌, IsOk, IsOkUnless, OnOk, OnErr, length, vec_len, vec_capacity};
 ghost use Rattle.std.specs.Int.{w64, to_be_bytes, bytes_high_first};
@@ -11,7 +11,7 @@ use std::alloc::Allocator;
 
 /// Appends a UInt8 (RFC 0030): the byte itself.
 ///
-/// Refuses only with `NoMemory` where there was none for it; `out` then has the bytes that it had.
+/// Fails only with `NoMemory`, where memory is refused; `out` then keeps the bytes that it had.
 pub fn put_u8<A: Allocator>(out: &mut Vec<u8, A>, x: u8) -> Result<(), OerError>
     ensures ok { OnOk result (out.new.items ≡ out.old.items ++ uint8 x) }
     ensures unchanged { OnErr result (out.new.items ≡ out.old.items) }
@@ -25,7 +25,7 @@ pub fn put_u8<A: Allocator>(out: &mut Vec<u8, A>, x: u8) -> Result<(), OerError>
 
 /// Appends a UInt64 (RFC 0030): eight bytes, the highest first.
 ///
-/// Refuses only with `NoMemory` where there was none for it; `out` then has the bytes that it had.
+/// Fails only with `NoMemory`, where memory is refused; `out` then keeps the bytes that it had.
 pub fn put_u64<A: Allocator>(out: &mut Vec<u8, A>, x: u64) -> Result<(), OerError>
     ensures ok { OnOk result (out.new.items ≡ out.old.items ++ uint64 x) }
     ensures unchanged { OnErr result (out.new.items ≡ out.old.items) }
@@ -62,7 +62,7 @@ fn byte_count_of(x: u64) -> usize
     }
 }
 
-/// How many bytes a length prefix takes: 1 to 9. No memory.
+/// The length in bytes of the length prefix that says `x` (RFC 0030): 1 to 9. Does not allocate.
 #[tactic(auto, using(crate::proofs::Puts::sizes))]
 pub fn length_size(x: u64) -> usize
     ensures value { result ≡ length (length_bytes x) }
@@ -72,7 +72,7 @@ pub fn length_size(x: u64) -> usize
     if x < 128 { 1 } else { 1 + byte_count_of(x) }
 }
 
-/// How many bytes a VarUInt takes: 2 to 9. No memory.
+/// The length in bytes of the VarUInt `x` (RFC 0030), its length prefix included: 2 to 9. Does not allocate.
 #[tactic(auto, using(crate::proofs::Puts::sizes))]
 pub fn var_uint_size(x: u64) -> usize
     ensures value { result ≡ length (var_uint x) }
@@ -106,9 +106,9 @@ fn put_tail<A: Allocator>(out: &mut Vec<u8, A>, first: u8, n: usize, x: u64) -> 
     Ok(())
 }
 
-/// Appends a VarUInt (RFC 0030): the count of the number's bytes, and the fewest bytes of it. It takes 2 to 9 bytes.
+/// Appends a VarUInt (RFC 0030): a length prefix, then the number in the fewest bytes. It takes 2 to 9 bytes.
 ///
-/// Refuses only with `NoMemory` where there was none for it; `out` then has the bytes that it had.
+/// Fails only with `NoMemory`, where memory is refused; `out` then keeps the bytes that it had.
 #[tactic(auto, using(crate::proofs::Puts::puts))]
 pub fn put_var_uint<A: Allocator>(out: &mut Vec<u8, A>, x: u64) -> Result<(), OerError>
     ensures ok { OnOk result (out.new.items ≡ out.old.items ++ var_uint x) }
@@ -121,10 +121,10 @@ pub fn put_var_uint<A: Allocator>(out: &mut Vec<u8, A>, x: u64) -> Result<(), Oe
     put_tail(out, n as u8, n, x)
 }
 
-/// Appends a length prefix (RFC 0030): one byte below 128, else 128 and the count of its bytes, and those. It takes 1 to
-/// 9 bytes.
+/// Appends a length prefix (RFC 0030): one byte where `x` is below 128, else 128 plus the number of length bytes, then
+/// those bytes. It takes 1 to 9 bytes.
 ///
-/// Refuses only with `NoMemory` where there was none for it; `out` then has the bytes that it had.
+/// Fails only with `NoMemory`, where memory is refused; `out` then keeps the bytes that it had.
 #[tactic(auto, using(crate::proofs::Puts::puts))]
 pub fn put_length<A: Allocator>(out: &mut Vec<u8, A>, x: u64) -> Result<(), OerError>
     ensures ok { OnOk result (out.new.items ≡ out.old.items ++ length_bytes x) }
@@ -141,9 +141,9 @@ pub fn put_length<A: Allocator>(out: &mut Vec<u8, A>, x: u64) -> Result<(), OerE
     put_tail(out, 128 + n as u8, n, x)
 }
 
-/// Appends a variable octet string (RFC 0030): its length, and its bytes.
+/// Appends a variable-length octet string (RFC 0030): a length prefix, then the bytes.
 ///
-/// Refuses only with `NoMemory` where there was none for it; `out` then has the bytes that it had.
+/// Fails only with `NoMemory`, where memory is refused; `out` then keeps the bytes that it had.
 #[tactic(auto, using(crate::proofs::Puts::puts))]
 pub fn put_octets<A: Allocator>(out: &mut Vec<u8, A>, x: &[u8]) -> Result<(), OerError>
     ensures ok { OnOk result (out.new.items ≡ out.old.items ++ octets x.now) }

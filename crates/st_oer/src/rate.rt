@@ -5,7 +5,7 @@ ghost use Rattle.st_oer.specs.Ratios.{IsRatio, exchanged, ratio};
 
 use std::marker::Model;
 
-/// An exchange rate: `num` units go out for `den` units that come in. Neither is 0.
+/// An exchange rate: `num` outgoing units for `den` incoming units. Neither is 0.
 #[derive(Clone, Copy, Debug, PartialEq, Eq)]
 pub struct Rate {
     num: u32,
@@ -25,7 +25,7 @@ impl Model for Rate {
 }
 
 impl Rate {
-    /// So many units out for so many in, or `None` exactly where either is 0.
+    /// The rate of `num` outgoing units for `den` incoming units. `None` exactly where one of them is 0.
     pub fn new(num: u32, den: u32) -> Option<Rate>
         ensures { MatchOption result ((num ≡ 0) ⊎ (den ≡ 0)) (λ rate. (rate ≡ ratio num den) × IsRatio rate) }
     {
@@ -36,7 +36,7 @@ impl Rate {
         }
     }
 
-    /// How many units go out for `den` that come in.
+    /// The number of outgoing units for `den` incoming ones.
     pub fn num(&self) -> u32
         ensures value { result ≡ self.now.num }
         ensures some { 0 < result }
@@ -44,7 +44,7 @@ impl Rate {
         self.num
     }
 
-    /// How many units come in for `num` that go out.
+    /// The number of incoming units for `num` outgoing ones.
     pub fn den(&self) -> u32
         ensures value { result ≡ self.now.den }
         ensures some { 0 < result }
@@ -52,7 +52,7 @@ impl Rate {
         self.den
     }
 
-    /// The amount that goes out for one that comes in, rounded down.
+    /// The outgoing amount for an incoming `amount`: `amount * num / den`, rounded down.
     #[tactic(auto, using(crate::proofs::Ratios::product_fits))]
     pub fn of(&self, amount: u64) -> u128
         ensures { result ≡ exchanged self.now amount }

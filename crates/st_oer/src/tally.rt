@@ -1,4 +1,4 @@
-//! How the calls of a device ended.
+//! Counts of a device's I/O calls.
 
 ghost use Rattle.std.specs.Prelude.{◌≡◌};
 ghost use Rattle.st_oer.specs.Tallies.{CountsCall, no_calls};
@@ -6,22 +6,22 @@ ghost use Rattle.st_oer.specs.Tallies.{CountsCall, no_calls};
 use std::io;
 use std::io::ErrorKind;
 
-/// How many calls of a device there were, and how many of these failed or were interrupted. At `u64::MAX` a count stays.
-/// Beside them, whether what was written is flushed.
+/// Counts of a device's I/O calls: all, failed and interrupted ones. Each count stops at `u64::MAX`. It also says
+/// whether everything written is flushed.
 #[derive(Clone, Copy, Debug, PartialEq, Eq)]
 pub struct Tally {
-    /// All calls: reads, writes and flushes.
+    /// The number of all calls: reads, writes and flushes.
     pub calls: u64,
-    /// Those that gave an error, but for the interrupted ones.
+    /// The number of calls that failed, interrupted calls left out.
     pub faults: u64,
-    /// Those that are to be made again: they gave an error of kind Interrupted.
+    /// The number of calls that failed with an error of kind `Interrupted` and are to be repeated.
     pub interruptions: u64,
-    /// Whether no write was done since the last flush was, or since the device was wrapped.
+    /// Whether no write succeeded since the last successful flush, or since the device was wrapped.
     pub flushed: bool,
 }
 
 impl Tally {
-    /// No call yet.
+    /// All counts at 0.
     pub(crate) fn none() -> Self
         ensures { result ≡ no_calls }
     {
@@ -33,7 +33,7 @@ impl Tally {
         }
     }
 
-    /// Counts a call by what it answered.
+    /// Counts a call by its result.
     pub(crate) fn count<T>(&mut self, answer: &io::Result<T>)
         ensures counts { CountsCall self.old self.new answer.now }
         ensures flushed { self.new.flushed ≡ self.old.flushed }

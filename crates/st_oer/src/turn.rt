@@ -1,4 +1,4 @@
-//! Single calls of a counted device, and a text written whole in a number of them.
+//! Single I/O calls of a counted device, and writing a whole text within a given number of calls.
 
 ghost use Rattle.std.specs.Prelude.{◌≡◌, ◌≤◌, length, take, IfErr, OnOk};
 ghost use Rattle.std.specs.Io.KnownBytes.{Appends};
@@ -8,42 +8,42 @@ ghost use Rattle.st_oer.specs.Turns.{DidFlush, DidRead, DidWrite, IsTurns, fault
 use crate::counted::Counting;
 use std::io::{ErrorKind, Read, Write};
 
-/// What one read gave.
+/// The result of one read call.
 #[derive(Clone, Copy, Debug, PartialEq, Eq)]
 pub enum ReadTurn {
-    /// So many bytes: at least one where there was room for one.
+    /// This number of bytes was read: at least one where the buffer is not empty.
     Bytes(usize),
-    /// No byte is left.
+    /// The input has ended.
     End,
-    /// Nothing was read, and the call is to be made again.
+    /// The call was interrupted and read nothing. It is to be repeated.
     Again,
-    /// An error, which this call's device has counted.
+    /// The call failed. The device has counted the error.
     Fault,
 }
 
-/// What one write gave.
+/// The result of one write call.
 #[derive(Clone, Copy, Debug, PartialEq, Eq)]
 pub enum WriteTurn {
-    /// So many bytes were written, perhaps none.
+    /// This number of bytes was written. It may be 0.
     Moved(usize),
-    /// Nothing was written, and the call is to be made again.
+    /// The call was interrupted and wrote nothing. It is to be repeated.
     Again,
-    /// An error, which this call's device has counted.
+    /// The call failed. The device has counted the error.
     Fault,
 }
 
-/// What one flush gave.
+/// The result of one flush call.
 #[derive(Clone, Copy, Debug, PartialEq, Eq)]
 pub enum FlushTurn {
-    /// It was done.
+    /// The flush succeeded.
     Done,
-    /// The call is to be made again.
+    /// The call was interrupted. It is to be repeated.
     Again,
-    /// An error, which this call's device has counted.
+    /// The call failed. The device has counted the error.
     Fault,
 }
 
-/// One read.
+/// Makes one read call into `buf`.
 pub fn read_turn<T: Read>(reader: &mut Counting<T>, buf: &mut [u8]) -> ReadTurn
     ensures { DidRead (T.remaining (device_of reader.old)) (T.remaining (device_of reader.new)) (tally_of reader.old) (tally_of reader.new) buf.new result }
 {
@@ -55,7 +55,7 @@ pub fn read_turn<T: Read>(reader: &mut Counting<T>, buf: &mut [u8]) -> ReadTurn
     }
 }
 
-/// One write.
+/// Makes one write call with `buf`. It may write fewer bytes than `buf` has.
 pub fn write_turn<T: Write>(writer: &mut Counting<T>, buf: &[u8]) -> WriteTurn
     ensures { DidWrite (T.contents (device_of writer.old)) (T.contents (device_of writer.new)) (tally_of writer.old) (tally_of writer.new) buf.now result }
 {
@@ -66,7 +66,7 @@ pub fn write_turn<T: Write>(writer: &mut Counting<T>, buf: &[u8]) -> WriteTurn
     }
 }
 
-/// One flush.
+/// Makes one flush call.
 pub fn flush_turn<T: Write>(writer: &mut Counting<T>) -> FlushTurn
     ensures { DidFlush (T.contents (device_of writer.old)) (T.contents (device_of writer.new)) (tally_of writer.old) (tally_of writer.new) result }
 {
@@ -77,17 +77,19 @@ pub fn flush_turn<T: Write>(writer: &mut Counting<T>) -> FlushTurn
     }
 }
 
-/// Why a text was not written whole, with the number of its bytes that were.
+/// Why a text was not written whole, with the number of its bytes that were written.
 #[derive(Clone, Copy, Debug, PartialEq, Eq)]
 pub enum PutError {
-    /// The writer gave an error, which its count has.
+    /// The writer failed. It has counted the error.
     Fault(usize),
-    /// The turns were used up.
+    /// The permitted number of I/O calls was used up.
     Turns(usize),
 }
 
-/// Writes a text whole. Each call of the writer takes one of `turns`; a call that moved nothing, or was interrupted, is
-/// made again.
+/// Writes all of `text`, and repeats calls that wrote nothing or were interrupted. Each write call takes one of
+/// `turns`.
+///
+/// Fails with `Fault` at the first error of the writer, and with `Turns` where `turns` is 0 before the text is written.
 pub fn put_all<T: Write>(
     writer: &mut Counting<T>,
     text: &[u8],

@@ -1,4 +1,4 @@
-//! The hub's ends of the rings.
+//! The hub's side of the rings.
 ghost use Rattle.std.specs.Prelude.{◌≡◌, ◌+◌, ◌≤◌, ◌<◌, ◌↔◌, [], ◌∷◌, ◌++◌, length, IsTrue};
 ghost use mathlib.Core.List.{IsPrefix};
 ghost use Rattle.st_queues.specs.Names.{producer_ring, consumer_ring};
@@ -10,7 +10,7 @@ use crate::writer::StreamWriter;
 use rtrb::{Consumer, Producer};
 use std::alloc::Allocator;
 
-/// The hub's end of a ring that a writer writes to, with the ring's number.
+/// The hub's side of a ring that a writer fills, with the ring's number.
 #[derive(Drop)]
 pub struct WriteEnd<A: Allocator + Copy> {
     pub(crate) consumer: Consumer<Item<A>, A>,
@@ -20,7 +20,7 @@ pub struct WriteEnd<A: Allocator + Copy> {
 impl<A: Allocator + Copy> WriteEnd<A> {
     ghost use Rattle.st_queues.specs.WriteEnds.{taken, known, SameWriteEnd};
 
-    /// Whether an item stands in the ring. It does not wait.
+    /// Whether the ring has an item. Does not wait.
     pub fn look(&mut self) -> bool
         ensures same { SameWriteEnd self.old self.new × (taken self.new ≡ taken self.old) × IsPrefix (known self.old) (known self.new) }
         ensures found { IsTrue result ↔ (0 < length (known self.new)) }
@@ -28,7 +28,7 @@ impl<A: Allocator + Copy> WriteEnd<A> {
         self.consumer.slots() > 0
     }
 
-    /// The first item, left in the ring. `look` tells whether there is one.
+    /// The first item, which stays in the ring. Requires that an item is known to be there, as `look` checks.
     pub fn first(&self) -> &Item<A>
         requires { 0 < length (known self.now) }
         ensures { IsPrefix (result.now ∷ []) (known self.now) }
@@ -36,7 +36,7 @@ impl<A: Allocator + Copy> WriteEnd<A> {
         self.consumer.peek_known()
     }
 
-    /// Takes the first item out. `look` tells whether there is one.
+    /// Removes the first item. Requires that an item is known to be there, as `look` checks.
     pub fn drop_first(&mut self)
         requires { 0 < length (known self.old) }
         ensures same { SameWriteEnd self.old self.new }
@@ -45,8 +45,8 @@ impl<A: Allocator + Copy> WriteEnd<A> {
         let _ = self.consumer.pop_known();
     }
 
-    /// The number of items in the ring, with its other end in hand: what was taken and then what stands in the ring
-    /// is what was written.
+    /// The number of items in the ring, read with both sides at hand. The items taken so far, followed by those in the
+    /// ring, are exactly the items that the writer wrote.
     pub fn meet<N: HubName<A>>(&mut self, writer: &mut StreamWriter<N, A>) -> usize
         requires { (consumer_ring self.old.consumer ≡ N.write_ring self.old.ring) × (writer.old.ring ≡ self.old.ring) }
         ensures same { SameWriteEnd self.old self.new × (taken self.new ≡ taken self.old) × IsPrefix (known self.old) (known self.new) }
@@ -58,7 +58,7 @@ impl<A: Allocator + Copy> WriteEnd<A> {
     }
 }
 
-/// The hub's end of a ring that a reader reads from, with the place of its stream.
+/// The hub's side of a ring that a reader empties, with the index of its stream.
 #[derive(Drop)]
 pub struct ReadEnd<A: Allocator + Copy> {
     pub(crate) producer: Producer<Delivery<A>, A>,
@@ -68,7 +68,7 @@ pub struct ReadEnd<A: Allocator + Copy> {
 impl<A: Allocator + Copy> ReadEnd<A> {
     ghost use Rattle.st_queues.specs.ReadEnds.{put_in, free_of, SameReadEnd};
 
-    /// How many items there is room for. It does not wait.
+    /// The number of items for which the ring has room. Does not wait.
     pub fn room(&mut self) -> usize
         ensures same { SameReadEnd self.old self.new × (put_in self.new ≡ put_in self.old) × (free_of self.old ≤ free_of self.new) }
         ensures room { result ≡ free_of self.new }
@@ -76,7 +76,7 @@ impl<A: Allocator + Copy> ReadEnd<A> {
         self.producer.slots()
     }
 
-    /// Puts an item into the ring. `room` tells whether there is room for one.
+    /// Puts an item into the ring. Requires that room for it is known, as `room` checks.
     pub fn put(&mut self, delivery: Delivery<A>)
         requires { 0 < free_of self.old }
         ensures same { SameReadEnd self.old self.new }
@@ -85,8 +85,8 @@ impl<A: Allocator + Copy> ReadEnd<A> {
         self.producer.push_reserved(delivery);
     }
 
-    /// The number of items in the ring, with its other end in hand: what was read and then what stands in the ring is
-    /// what was put.
+    /// The number of items in the ring, read with both sides at hand. The items read so far, followed by those in the
+    /// ring, are exactly the items that the hub put in.
     pub fn meet<N: HubName<A>>(&mut self, reader: &mut StreamReader<N, A>) -> usize
         requires { (producer_ring self.old.producer ≡ N.read_ring self.old.stream) × (reader.old.stream ≡ self.old.stream) }
         ensures same { SameReadEnd self.old self.new × (put_in self.new ≡ put_in self.old) × (free_of self.old ≤ free_of self.new) }

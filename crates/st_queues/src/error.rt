@@ -1,4 +1,4 @@
-//! Why a call was refused.
+//! Errors of the rings.
 
 ghost use Rattle.std.specs.Prelude.{◌≡◌};
 ghost use Rattle.st_queues.specs.Errors as errors;
@@ -8,25 +8,26 @@ use std::alloc::{AllocError, Allocator};
 use std::fmt;
 use thiserror::Error;
 
-/// Why a call was refused. A chunk that was to be written is given back; an end that was refused gives an empty one.
+/// Why a call failed. A chunk that could not be written is given back. An end that could not be written gives an empty
+/// chunk.
 #[derive(Drop, Error)]
 pub enum QueueError<A: Allocator + Copy> {
-    /// Memory that the call asked for was refused.
+    /// Memory that the call requested was refused.
     #[error("out of memory")]
     NoMemory,
-    /// The ring has room for no item.
+    /// The ring has no room for an item.
     #[error("the ring is full")]
     Full(Vec<u8, A>),
-    /// The chunk is empty, or longer than `MAX_CHUNK`.
+    /// The chunk is empty or longer than `MAX_CHUNK`.
     #[error("the chunk is empty or too long")]
     BadLength(Vec<u8, A>),
-    /// The writer has ended.
+    /// The writer has written its end.
     #[error("the writer has ended")]
     Ended(Vec<u8, A>),
 }
 
 impl<A: Allocator + Copy> QueueError<A> {
-    /// The number by which the refusal is known: 69 to 72.
+    /// The error number that programs print: 69 to 72.
     pub fn number(&self) -> u8
         ensures { result ≡ errors.number self.now }
     {
@@ -38,7 +39,7 @@ impl<A: Allocator + Copy> QueueError<A> {
         }
     }
 
-    /// The number that the refusal wraps: none does.
+    /// The number of an inner error. These errors have none: always `None`.
     pub fn inner(&self) -> Option<u64>
         ensures { result ≡ errors.inner self.now }
     {

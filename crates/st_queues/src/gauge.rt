@@ -1,4 +1,4 @@
-//! The totals that a hub publishes, and the word by which its workers are asked to stop.
+//! The totals that a hub publishes, and the flag that asks its workers to stop.
 ghost use Rattle.std.specs.Prelude.{◌≡◌, [], true, false};
 ghost use Rattle.std.specs.Arc.{arc_value};
 ghost use Rattle.st_queues.specs.Gauged.{publisher, watcher};
@@ -11,7 +11,7 @@ use std::alloc::{AllocError, Allocator};
 use std::marker::{Model, PhantomData};
 use std::sync::Arc;
 
-/// The gauge of the hub N. Threads may share it, and its calls do not wait.
+/// The gauge of the hub `N`: its totals and its stop flag. Threads may share it. Its calls do not wait.
 #[derive(Drop)]
 pub struct Gauge<N: HubName<A>, A: Allocator + Copy> {
     table: Arc<GaugeTable<A>, A>,
@@ -19,8 +19,8 @@ pub struct Gauge<N: HubName<A>, A: Allocator + Copy> {
     ghost is: { ((arc_value table).shared.table_id ≡ N.gauge) × (N.gauge.words ≡ 5) },
 }
 
-/// A seat at the gauge of the hub N. Contracts see it as what it has seen, totals and whether to stop,
-/// and whether it asked for that itself.
+/// A watcher's seat at the gauge of the hub `N`. Contracts see it as the totals that it has seen, whether it has seen
+/// the stop flag, and whether it set that flag itself.
 #[derive(Drop)]
 pub struct GaugeSeat<N: HubName<A>, A: Allocator + Copy> {
     seat: RawSeat,
@@ -38,7 +38,7 @@ impl<N: HubName<A>, A: Allocator + Copy> Model for GaugeSeat<N, A> {
     ghost invariant = { λ s. (s.seat.table_id ≡ N.gauge) × (length s.seat.me.0.seen ≡ 5) };
 }
 
-/// The hub's own seat, which alone publishes and never asks to stop. Contracts see it as the totals that it published
+/// The hub's own seat. It alone publishes, and it never asks to stop. Contracts see it as the totals that it published
 /// last.
 #[derive(Drop)]
 pub struct HubSeat<N: HubName<A>, A: Allocator + Copy> {
@@ -59,7 +59,8 @@ impl<N: HubName<A>, A: Allocator + Copy> Model for HubSeat<N, A> {
 }
 
 impl<N: HubName<A>, A: Allocator + Copy> Gauge<N, A> {
-    /// The totals by now, each for itself and none below what this seat saw before.
+    /// The totals as published so far. Each is read on its own, and none is below what this seat saw before. Does not
+    /// wait.
     pub fn seen(&self, seat: &mut GaugeSeat<N, A>) -> Totals
         ensures totals { result ≡ seat.new.totals }
         ensures rises { IsUpTo seat.old.totals seat.new.totals }
@@ -78,7 +79,7 @@ impl<N: HubName<A>, A: Allocator + Copy> Gauge<N, A> {
         }
     }
 
-    /// Asks all who have a seat to stop. It stands for good.
+    /// Asks all seats to stop. The request stays for good. Does not wait.
     pub fn ask_stop(&self, seat: &mut GaugeSeat<N, A>)
         ensures { seat.new ≡ record seat.old { stop = true; asked = true } }
     {
@@ -86,7 +87,7 @@ impl<N: HubName<A>, A: Allocator + Copy> Gauge<N, A> {
         set_stop(&self.table, seat);
     }
 
-    /// Whether some seat asked to stop. A seat that did so is told, and one that was told is told again.
+    /// Whether any seat asked to stop. Once it is true for a seat, it stays true for that seat. Does not wait.
     pub fn stopped(&self, seat: &mut GaugeSeat<N, A>) -> bool
         ensures told { result ≡ seat.new.stop }
         ensures stands { seat.old.stop ≡ true → result ≡ true }
@@ -96,7 +97,7 @@ impl<N: HubName<A>, A: Allocator + Copy> Gauge<N, A> {
         look(&self.table, seat, 0) > 0
     }
 
-    /// A further seat, which has seen as much as this one, and did not ask to stop.
+    /// A further seat. It has seen as much as this one, and has not asked to stop itself.
     pub fn split(&self, seat: &mut GaugeSeat<N, A>) -> GaugeSeat<N, A>
         ensures { (seat.new ≡ seat.old) × (result ≡ record seat.old { asked = false }) }
     {
@@ -107,7 +108,7 @@ impl<N: HubName<A>, A: Allocator + Copy> Gauge<N, A> {
         }
     }
 
-    /// Publishes totals, of which none is below the last.
+    /// Publishes the totals. Requires that none is below the one published last. Does not wait.
     pub fn publish(&self, seat: &mut HubSeat<N, A>, totals: Totals)
         requires { IsUpTo seat.old totals }
         ensures { seat.new ≡ totals }

@@ -1,46 +1,46 @@
-//! What goes through the rings.
+//! What is sent through the rings.
 use std::alloc::Allocator;
 
-/// What a writer puts into a ring.
+/// An item that a writer puts into its ring.
 #[derive(Drop)]
 pub enum Item<A: Allocator + Copy> {
-    /// Bytes, 1 to 4,096 of them.
+    /// 1 to 4,096 bytes.
     Chunk(Vec<u8, A>),
-    /// The end of what this writer writes.
+    /// The writer's end. Nothing follows it.
     End,
 }
 
-/// What the hub puts into a ring.
+/// An item that the hub puts into a reader's ring.
 #[derive(Drop)]
 pub enum Delivery<A: Allocator + Copy> {
-    /// Bytes of the stream.
+    /// The next bytes of the stream.
     Bytes(Vec<u8, A>),
-    /// The stream was closed cleanly, and each of its bytes was delivered.
+    /// The stream was closed cleanly, and all of its bytes were delivered.
     End,
     /// The stream was aborted, with this code.
     Aborted(u64),
 }
 
-/// What a read gives.
+/// The result of a read.
 #[derive(Drop)]
 pub enum Got<A: Allocator + Copy> {
     /// The next bytes of the stream.
     Bytes(Vec<u8, A>),
-    /// No bytes yet.
+    /// Nothing is available yet.
     Nothing,
-    /// The stream was closed cleanly, and each of its bytes was read.
+    /// The stream was closed cleanly, and all of its bytes were read.
     End,
     /// The stream was aborted, with this code.
     Aborted(u64),
 }
 
-/// Whether a reader was told an end, and which.
+/// Whether a reader has read an end, and which.
 #[derive(Clone, Copy)]
 pub enum Over {
-    /// None yet.
+    /// No end yet.
     Open,
-    /// The clean one.
+    /// The end of a stream that was closed cleanly.
     Ended,
-    /// The abort with this code.
+    /// The abort, with its code.
     Aborted(u64),
 }

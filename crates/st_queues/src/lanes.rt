@@ -1,4 +1,4 @@
-//! A ring as it lies in the hub: the hub's end, and the application's until it is handed out.
+//! A ring as the hub stores it: the hub's side, and the application's side until it is handed out.
 ghost use Rattle.std.specs.Prelude.{◌≡◌, ◌↔◌, [], false, None, IfSome, IsSome};
 
 use crate::ends::{ReadEnd, WriteEnd};
@@ -9,21 +9,21 @@ use crate::writer::StreamWriter;
 use rtrb::{Consumer, Producer};
 use std::alloc::Allocator;
 
-/// A ring to write to.
+/// A ring from a writer to the hub, as the hub stores it.
 #[derive(Drop)]
 pub struct WriteLane<A: Allocator + Copy> {
-    /// The hub's end.
+    /// The hub's side.
     pub end: WriteEnd<A>,
-    /// The writer's, until it is handed out.
+    /// The writer's side, until it is handed out.
     pub held: Option<Producer<Item<A>, A>>,
-    /// Whether the hub took the writer's end.
+    /// Whether the hub has taken the writer's end from the ring.
     pub over: bool,
 }
 
 impl<A: Allocator + Copy> WriteLane<A> {
     ghost use Rattle.st_queues.specs.Lanes.{IsOurs};
 
-    /// The writer, where it was not handed out before. It takes no memory.
+    /// Hands out the writer. `None` where it was handed out before. Does not allocate.
     pub fn hand_out<N: HubName<A>>(&mut self, alloc: A) -> Option<StreamWriter<N, A>>
         requires { IsOurs N.write_ring self.old }
         ensures found { IsSome result ↔ IsSome self.old.held }
@@ -37,14 +37,14 @@ impl<A: Allocator + Copy> WriteLane<A> {
     }
 }
 
-/// A ring to read from.
+/// A ring from the hub to a reader, as the hub stores it.
 #[derive(Drop)]
 pub struct ReadLane<A: Allocator + Copy> {
-    /// The hub's end.
+    /// The hub's side.
     pub end: ReadEnd<A>,
-    /// The reader's, until it is handed out.
+    /// The reader's side, until it is handed out.
     pub held: Option<Consumer<Delivery<A>, A>>,
-    /// Whether the hub put an end.
+    /// Whether the hub has put an end into the ring.
     pub over: bool,
 }
 
@@ -52,7 +52,7 @@ impl<A: Allocator + Copy> ReadLane<A> {
     ghost use Rattle.st_queues.specs.Lanes.{IsOurRead};
     ghost use Rattle.st_queues.specs.declared.items.Over.TheVariants.{Open};
 
-    /// The reader, where it was not handed out before. It takes no memory.
+    /// Hands out the reader. `None` where it was handed out before. Does not allocate.
     pub fn hand_out<N: HubName<A>>(&mut self) -> Option<StreamReader<N, A>>
         requires { IsOurRead N.read_ring self.old }
         ensures found { IsSome result ↔ IsSome self.old.held }

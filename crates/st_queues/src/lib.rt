@@ -1,10 +1,9 @@
-//! Rings between application threads and a hub, and a gauge that the hub's totals are read from.
+//! Rings between application threads and a hub, and a gauge that publishes the hub's totals.
 //!
-//! Each of the 64 streams of a hub has eight rings to write to it and one to read from it, of 64 items each. The
-//! application has a `StreamWriter` or a `StreamReader`, the hub the other end of the ring. What a hub has accepted,
-//! delivered, been credited and paid stands in a `Gauge`, with a word by which workers are asked to stop. A hub's name
-//! is a type parameter of its ends, seats and gauge, so that those of another hub do not compile. No call waits, and
-//! `Rings::new` alone takes memory.
+//! Each of the 64 streams of a hub has eight rings from writers and one ring to a reader, of 64 items each. The
+//! application has a `StreamWriter` or a `StreamReader`, the hub the other side of the ring. A `Gauge` has the totals
+//! of bytes and money of a hub, and a flag that asks workers to stop. A hub's name is a type parameter of its ends,
+//! seats and gauge, so mixing those of two hubs does not compile. No call waits. `Rings::new` alone allocates.
 #![tactic(auto)]
 
 mod ends;

@@ -1,4 +1,4 @@
-//! The name of a hub.
+//! The type-level name of a hub.
 ghost use Rattle.std.specs.Prelude.{ℕ};
 ghost use Rattle.atomic_table.specs.Seated.{TableId};
 ghost use Rattle.st_queues.specs.Names.{RingId, no_ring, no_table};
@@ -8,15 +8,15 @@ use std::sync::ledger::Ledger;
 
 /// Names a hub: its ledger, its gauge, and its rings by their numbers.
 ///
-/// A name is picked by calling a function with `Brand` once the rings and the ledger's `Blank` are made.
+/// A name is created by calling a function with `Brand` once the rings and the ledger's `Blank` are made.
 pub trait HubName<A>: Ledger {
     /// The table of the gauge.
     ghost gauge: { TableId };
 
-    /// The ring of a number to write to: that of writer j of the stream at place s is 8 s + j.
+    /// The ring from a writer, by its number: writer `j` of stream `s` has the ring number `8 s + j`.
     ghost write_ring: { ℕ → RingId A };
 
-    /// The ring to read from of the stream at a place.
+    /// The ring to a reader, by the index of its stream.
     ghost read_ring: { ℕ → RingId A };
 }
 

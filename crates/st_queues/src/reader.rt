@@ -1,4 +1,4 @@
-//! The application's end of a ring to read from.
+//! The application's side of a ring to read from.
 ghost use Rattle.std.specs.Prelude.{◌≡◌, ◌<◌};
 ghost use Rattle.rtrb.specs.Ring.{received, known_items};
 ghost use Rattle.st_queues.specs.Names.{consumer_ring};
@@ -11,7 +11,7 @@ use rtrb::Consumer;
 use std::alloc::Allocator;
 use std::marker::{Model, PhantomData};
 
-/// The read end of a stream of the hub N.
+/// The reader of a stream of the hub `N`.
 #[derive(Drop)]
 pub struct StreamReader<N: HubName<A>, A: Allocator + Copy> {
     pub(crate) consumer: Consumer<Delivery<A>, A>,
@@ -49,8 +49,8 @@ impl<N: HubName<A>, A: Allocator + Copy> StreamReader<N, A> {
         }
     }
 
-    /// The next of what the hub delivered: bytes, or an end, and after an end the same end again. It takes no memory
-    /// and does not wait.
+    /// The next item that the hub delivered: bytes or an end. After an end it gives the same end again. Does not
+    /// allocate and does not wait.
     pub fn try_read(&mut self) -> Got<A>
         ensures stream { self.new.stream ≡ self.old.stream }
         ensures read { ReadsAs self.old self.new result }
@@ -74,7 +74,7 @@ impl<N: HubName<A>, A: Allocator + Copy> StreamReader<N, A> {
         }
     }
 
-    /// The place of its stream in the hub.
+    /// The index of its stream in the hub: 0 to 63.
     pub fn stream(&self) -> usize
         ensures { (result ≡ self.now.stream) × (result < 64) }
     {

@@ -1,4 +1,4 @@
-//! All rings of a hub and its gauge, before it has a name.
+//! All rings of a hub and its gauge, before the hub has a name.
 ghost use Rattle.std.specs.Prelude.{◌≡◌, ℕ, ◌<◌, length, vec_len, IfOk, IsOkUnless};
 ghost use Rattle.st_queues.specs.Lanes.{Fresh, FreshRead, AllFresh, AllFreshReads, AllNamed, AllNamedReads, ring_at};
 ghost use Rattle.st_queues.specs.Watching.{nothing_seen, no_totals};
@@ -13,19 +13,20 @@ use rtrb::RingBuffer;
 use std::alloc::{AllocError, Allocator};
 use std::marker::Model;
 
-/// The streams of a hub.
+/// The number of streams of a hub.
 pub const STREAMS: u8 = 64;
 
-/// The rings to write to of each stream: writer j of the stream at place s has the ring number 8 s + j.
+/// The number of writers of each stream. Writer `j` of stream `s` has the ring number `8 s + j`.
 pub const WRITERS: u8 = 8;
 
-/// The items for which a fresh ring has room.
+/// The number of items for which a new ring has room.
 pub const ROOM: usize = 64;
 
 // The rings to write to: STREAMS times WRITERS.
 const WRITE_RINGS: u16 = 512;
 
-/// The rings and the gauge of a hub that has no name yet. Contracts see them as what they are called.
+/// The rings and the gauge of a hub that has no name yet. Contracts see them as the identities of the rings and the
+/// gauge.
 #[derive(Drop)]
 pub struct Rings<A: Allocator + Copy> {
     writes: Vec<WriteLane<A>, A>,
@@ -93,9 +94,9 @@ fn read_lanes<A: Allocator + Copy>(alloc: A) -> Result<Vec<ReadLane<A>, A>, Allo
 }
 
 impl<A: Allocator + Copy> Rings<A> {
-    /// The rings of 64 streams, with room for 64 items each, and a gauge at 0.
+    /// The rings of 64 streams, with room for 64 items each, and a gauge at 0. No other call of this crate allocates.
     ///
-    /// Refuses with `NoMemory` where memory that it asked for was refused. No other call of this crate takes memory.
+    /// Fails with `NoMemory` where memory is refused.
     pub fn new(alloc: A) -> Result<Rings<A>, QueueError<A>>
         ensures made { IfOk result (λ r. (length r.writes ≡ 512) × (length r.reads ≡ 64) × (r.gauge.words ≡ 5)) }
         ensures refused { IsOkUnless result QueueError.NoMemory }
@@ -108,7 +109,7 @@ impl<A: Allocator + Copy> Rings<A> {
         })
     }
 
-    /// The rings and the gauge under the name that was picked for them. It takes no memory.
+    /// The rings and the gauge under the name `N` that was created for them. Does not allocate.
     pub fn named<N: HubName<A>>(self) -> Named<N, A>
         requires gauge { self.gauge ≡ N.gauge }
         requires writes { (k : ℕ) → N.write_ring k ≡ ring_at self.writes k }
@@ -141,18 +142,18 @@ impl<A: Allocator + Copy> Rings<A> {
     }
 }
 
-/// The rings and the gauge of the hub N, as they lie in it at first.
+/// The rings and the gauge of the hub `N` at its start.
 #[derive(Drop)]
 pub struct Named<N: HubName<A>, A: Allocator + Copy> {
-    /// The rings to write to, by their number: writer j of the stream at place s is at 8 s + j.
+    /// The rings from writers, by number: writer `j` of stream `s` is at `8 s + j`.
     pub writes: Vec<WriteLane<A>, A>,
-    /// The rings to read from, by the place of their stream.
+    /// The rings to readers, by the index of their stream.
     pub reads: Vec<ReadLane<A>, A>,
     /// The gauge that the hub publishes on.
     pub hub_gauge: Gauge<N, A>,
     /// The one seat that publishes.
     pub hub_seat: HubSeat<N, A>,
-    /// The gauge for those who watch.
+    /// The gauge for watchers.
     pub gauge: Gauge<N, A>,
     /// A watcher's seat.
     pub seat: GaugeSeat<N, A>,

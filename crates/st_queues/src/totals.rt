@@ -1,14 +1,14 @@
 //! The totals of a hub.
 
-/// What a hub did so far. Each is below 2^64 and only rises.
+/// The totals of a hub so far. Each is below 2^64 and never decreases.
 #[derive(Clone, Copy, PartialEq, Eq, Debug)]
 pub struct Totals {
-    /// Bytes of its writers that it accepted.
+    /// The number of bytes that it accepted from its writers.
     pub accepted: u64,
-    /// Bytes that it delivered to its readers.
+    /// The number of bytes that it delivered to its readers.
     pub delivered: u64,
-    /// Units that it was credited.
+    /// The money credited to it, in units of its asset.
     pub credited: u64,
-    /// Units that it paid.
+    /// The money that it paid, in units of its asset.
     pub paid: u64,
 }

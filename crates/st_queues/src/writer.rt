@@ -1,4 +1,4 @@
-//! The application's end of a ring to write to.
+//! The application's side of a ring to write to.
 ghost use Rattle.std.specs.Prelude.{◌≡◌, ◌+◌, ◌≤◌, ◌<◌, ℕ, [], ◌∷◌, ◌++◌, true, false, length, vec_len, IfErr, OnOk, IsOk};
 ghost use Rattle.rtrb.specs.Ring.{sent, known_free};
 ghost use Rattle.st_queues.specs.Names.{producer_ring};
@@ -11,10 +11,10 @@ use rtrb::Producer;
 use std::alloc::Allocator;
 use std::marker::{Model, PhantomData};
 
-/// The most bytes of a chunk.
+/// The greatest length of a chunk, in bytes.
 pub const MAX_CHUNK: usize = 4096;
 
-/// A write end of a stream of the hub N.
+/// A writer of a stream of the hub `N`.
 #[derive(Drop)]
 pub struct StreamWriter<N: HubName<A>, A: Allocator + Copy> {
     pub(crate) producer: Producer<Item<A>, A>,
@@ -54,10 +54,10 @@ impl<N: HubName<A>, A: Allocator + Copy> StreamWriter<N, A> {
         }
     }
 
-    /// Puts a chunk of 1 to 4,096 bytes into the ring. It takes no memory and does not wait.
+    /// Puts a chunk of 1 to 4,096 bytes into the ring. Does not allocate and does not wait.
     ///
-    /// Refuses with `BadLength` a chunk that is empty or longer, and then with `Ended` after an end, and then with
-    /// `Full` where there is no room. The chunk is given back.
+    /// Fails with `BadLength` where the chunk is empty or longer, then with `Ended` after an end, and then with `Full`
+    /// where the ring has no room. The error gives the chunk back.
     pub fn try_write(&mut self, chunk: Vec<u8, A>) -> Result<(), QueueError<A>>
         ensures same { (self.new.ring ≡ self.old.ring) × (self.new.ended ≡ self.old.ended) }
         ensures ok { OnOk result (IsLawful (vec_len chunk) × (self.old.ended ≡ false) × (self.new.items ≡ self.old.items ++ Item.Chunk chunk ∷ []) × (self.old.free ≤ self.new.free + 1)) }
@@ -78,9 +78,9 @@ impl<N: HubName<A>, A: Allocator + Copy> StreamWriter<N, A> {
         Ok(())
     }
 
-    /// Puts the end into the ring: nothing can be written after it. It takes no memory and does not wait.
+    /// Puts the end into the ring: nothing can be written after it. Does not allocate and does not wait.
     ///
-    /// Refuses with `Ended` after an end, and then with `Full` where there is no room, each with an empty chunk.
+    /// Fails with `Ended` after an end, and then with `Full` where the ring has no room. The error has an empty chunk.
     pub fn try_end(&mut self) -> Result<(), QueueError<A>>
         ensures same { self.new.ring ≡ self.old.ring }
         ensures ok { OnOk result ((self.old.ended ≡ false) × (self.new.ended ≡ true) × (self.new.free ≡ 0) × (self.new.items ≡ self.old.items ++ Item.End ∷ [])) }
@@ -99,7 +99,7 @@ impl<N: HubName<A>, A: Allocator + Copy> StreamWriter<N, A> {
         Ok(())
     }
 
-    /// How many items there is room for, 0 after an end. The hub may make more room at any time.
+    /// The number of items for which the ring has room, 0 after an end. The hub may make more room at any time.
     pub fn free(&mut self) -> usize
         ensures room { result ≡ self.new.free }
         ensures ended { self.old.ended ≡ true → result ≡ 0 }
@@ -111,7 +111,7 @@ impl<N: HubName<A>, A: Allocator + Copy> StreamWriter<N, A> {
         self.producer.slots()
     }
 
-    /// The number of its ring in the hub.
+    /// The number of its ring in the hub: 0 to 511.
     pub fn ring(&self) -> usize
         ensures { (result ≡ self.now.ring) × (result < 512) }
     {

@@ -1,4 +1,4 @@
-//! The bytes of one stream on their way to its reader.
+//! The received bytes of one stream, until they are read.
 
 ghost use Rattle.std.specs.Prelude.{◌≡◌, ℕ, ◌+◌, ◌^◌, ◌<◌, ◌≤◌, ◌↔◌, ◌&&◌, false, nat_lt, not, length, take, IfOk, OnOk, OnErr, IsErrOf, IsOk, IsOkUnless};
 ghost use Rattle.st_reassembly.specs.Held.{nothing_held, is_over, after_insert};
@@ -11,19 +11,21 @@ use crate::ring::{Ring, WINDOW, clear, empty, forget, join, row, row_length};
 use std::alloc::Allocator;
 use std::marker::Model;
 
-/// The bytes of one direction of a stream that came and were not read yet, each at its offset, how many were read, and
-/// how the direction ended. They come in the data of StreamData frames (RFC 0029).
+/// The receive buffer of one direction of a stream: the bytes that arrived and are not read yet, each at its offset.
+///
+/// It also has the number of bytes that were read, and how the direction ended. The bytes are the data of StreamData
+/// frames (RFC 0029, section 5.3). It reserves its memory when it is made: room for `WINDOW` bytes.
 #[derive(Drop)]
 pub struct Inbox<A: Allocator + Copy> {
     ring: Ring<A>,
     alloc: A,
-    /// How many bytes were read.
+    /// The number of bytes that were read.
     read: u64,
-    /// The least offset past every byte that is held or was read: from `read` to `read + WINDOW`.
+    /// The least offset past every byte that is buffered or was read: from `read` to `read + WINDOW`.
     top: u64,
-    /// A clean close came, and `top` is the end.
+    /// Whether the stream was closed cleanly. `top` is then its end.
     finished: bool,
-    /// The code of the abort that came.
+    /// The code of the abort, once the stream was aborted.
     aborted: Option<u64>,
 }
 
@@ -46,7 +48,9 @@ impl<A: Allocator + Copy> Model for Inbox<A> {
 }
 
 impl<A: Allocator + Copy> Inbox<A> {
-    /// An inbox to which nothing came. It takes the memory for all that it will hold.
+    /// An empty inbox. Allocates all the memory that it needs for arriving bytes.
+    ///
+    /// Fails with `NoMemory` where memory is refused.
     pub fn new(alloc: A) -> Result<Inbox<A>, InboxError>
         ensures only_memory { IsOkUnless result InboxError.NoMemory }
         ensures empty { IfOk result (λ s. s ≡ nothing_held) }
@@ -62,10 +66,12 @@ impl<A: Allocator + Copy> Inbox<A> {
         })
     }
 
-    /// Puts in a piece of the stream that begins at `offset`. A byte that is held already stays as it is. One that was
-    /// read, lies past a fixed end or comes after an abort is dropped. First comes `Overflow`, where the piece ends past
-    /// 2^64 - 1, then, as long as no close and no abort came, `PastWindow`, where it ends more than `WINDOW` bytes past
-    /// the read count. No memory is taken.
+    /// Inserts a chunk whose first byte is at `offset` in the stream. Does not allocate.
+    ///
+    /// A byte that is buffered already stays as it is. A byte that was read, lies past a fixed end or arrives after an
+    /// abort is dropped. Fails with `Overflow` where the chunk ends past 2^64 - 1. As long as the stream is neither
+    /// closed nor aborted, it fails with `PastWindow` where the chunk ends more than `WINDOW` bytes past the read
+    /// count. A call that fails changes nothing.
     pub fn insert(&mut self, offset: u64, bytes: &[u8]) -> Result<(), InboxError>
         ensures overflow { IsErrOf result InboxError.Overflow ↔ (2 ^ 64 ≤ offset + length bytes.now) }
         ensures past_window { IsErrOf result InboxError.PastWindow ↔ ((offset + length bytes.now < 2 ^ 64) × (is_over self.old ≡ false) × (self.old.read + 65536 < offset + length bytes.now)) }
@@ -88,7 +94,10 @@ impl<A: Allocator + Copy> Inbox<A> {
         Ok(())
     }
 
-    /// Takes the first bytes of the run, at most `max` of them: the run is what is held in a row from the read count on.
+    /// Reads at most `max` bytes: the first of those that are buffered without a gap from the read count on. They leave
+    /// the buffer.
+    ///
+    /// Fails with `NoMemory` where memory for them is refused. The inbox then stays as it was.
     pub fn take(&mut self, max: usize) -> Result<Vec<u8, A>, InboxError>
         ensures only_memory { IsOkUnless result InboxError.NoMemory }
         ensures taken { IfOk result (λ v. v.items ≡ take max (run self.old)) }
@@ -102,7 +111,7 @@ impl<A: Allocator + Copy> Inbox<A> {
         Ok(row)
     }
 
-    /// An inbox that holds the same.
+    /// A second inbox with the same contents. Fails with `NoMemory` where memory is refused.
     pub fn copy(&self) -> Result<Inbox<A>, InboxError>
         ensures only_memory { IsOkUnless result InboxError.NoMemory }
         ensures same { IfOk result (λ c. c ≡ self.now) }
@@ -119,8 +128,8 @@ impl<A: Allocator + Copy> Inbox<A> {
         })
     }
 
-    /// A clean close: the end is fixed past every byte that is held or was read. After a close or an abort it changes
-    /// nothing.
+    /// Closes the stream cleanly: the end is fixed just past the highest byte that was buffered or read. Changes
+    /// nothing after a close or an abort.
     pub fn finish(&mut self)
         ensures { self.new ≡ after_finish self.old }
     {
@@ -130,7 +139,7 @@ impl<A: Allocator + Copy> Inbox<A> {
         self.finished = true;
     }
 
-    /// An abort: what is held is given up. After a close or an abort it changes nothing.
+    /// Aborts the stream with `code`: the buffered bytes are dropped. Changes nothing after a close or an abort.
     pub fn abort(&mut self, code: u64)
         ensures { self.new ≡ after_abort code self.old }
     {
@@ -142,7 +151,7 @@ impl<A: Allocator + Copy> Inbox<A> {
         self.aborted = Some(code);
     }
 
-    /// How many bytes the run has.
+    /// The number of bytes that are buffered without a gap from the read count on: at most 65,536.
     pub fn run_length(&self) -> usize
         ensures length { result ≡ length (run self.now) }
         ensures near { result ≤ 65536 }
@@ -150,35 +159,35 @@ impl<A: Allocator + Copy> Inbox<A> {
         row_length(&self.ring, self.read)
     }
 
-    /// How many bytes were read.
+    /// The number of bytes that were read. It is also the offset of the next byte to read.
     pub fn read_count(&self) -> u64
         ensures { result ≡ self.now.read }
     {
         self.read
     }
 
-    /// The end, once a clean close fixed it.
+    /// The length of the stream in bytes, once a clean close has fixed it.
     pub fn end_at(&self) -> Option<u64>
         ensures { result ≡ self.now.end }
     {
         if self.finished { Some(self.top) } else { None }
     }
 
-    /// The code of the abort, once one came.
+    /// The code of the abort, once the stream was aborted.
     pub fn abort_code(&self) -> Option<u64>
         ensures { result ≡ self.now.aborted }
     {
         self.aborted
     }
 
-    /// A clean close or an abort came.
+    /// Whether the stream was closed or aborted.
     fn is_over(&self) -> bool
         ensures { result ≡ is_over self.now }
     {
         self.finished || self.aborted.is_some()
     }
 
-    /// A piece that ends at `end` ends past the window.
+    /// Whether a chunk that ends at `end` ends past the window.
     fn is_past_window(&self, end: u64) -> bool
         ensures { result ≡ (not (is_over self.now) && nat_lt (self.now.read + 65536) end) }
     {

@@ -1,9 +1,11 @@
-//! The bytes of one direction of a stream, put in order. Pieces come at any offset, in any order and more than once; what
-//! came is held until it can be read without a gap. The first byte that came for an offset is the one that is read. What
-//! is held is the finite map of `specs/Held.antt`, and each call's contract is a function of it; `specs/Run.antt` says
-//! which bytes can be read, `specs/Closing.antt` how the direction ends. A piece may end at most `WINDOW` bytes past what
-//! was read, so one fixed window holds them all (`ring`), with a bit for each place (`marks`, `words`): an insert takes
-//! no memory.
+//! The receive buffer of one direction of a stream. Chunks arrive at any offset, in any order and more than once. Their
+//! bytes are buffered until they can be read without a gap. Where an offset arrives more than once, its first byte is
+//! the one that is read.
+//!
+//! The contracts describe the buffer as the finite map of `specs/Held.antt`, and each call as a function of it.
+//! `specs/Run.antt` says which bytes can be read, `specs/Closing.antt` how the direction ends. A chunk may end at most
+//! `WINDOW` bytes past the read count. One window of fixed size has room for all of them (`ring`), with a bit for each
+//! place (`marks`, `words`), so an insert does not allocate.
 #![tactic(auto)]
 
 mod error;

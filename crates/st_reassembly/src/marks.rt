@@ -6,7 +6,7 @@ ghost use Rattle.st_reassembly.specs.Ring.{is_marked};
 use crate::words::{is_blank, lowest, part, turned};
 use std::alloc::Allocator;
 
-/// How many words have the marks.
+/// The number of words for all marks.
 pub const WORDS: usize = 1_024;
 
 /// The first place from `from` on and before `to` whose mark is `wanted`, or `to`.
@@ -48,7 +48,7 @@ pub fn mark<A: Allocator>(marks: &mut Vec<u64, A>, from: usize, to: usize)
     }
 }
 
-/// Takes the marks away from the places from `from` on and before `to`.
+/// Clears the marks of the places from `from` on and before `to`.
 pub fn unmark<A: Allocator>(marks: &mut Vec<u64, A>, from: usize, to: usize)
     requires words { length marks.old.items ≡ 1024 }
     requires within { to ≤ 65536 }

@@ -7,7 +7,7 @@ ghost use Rattle.st_reassembly.specs.Ring.{byte_at, cell, place};
 use crate::marks::{WORDS, mark, next_place, unmark};
 use std::alloc::{AllocError, Allocator};
 
-/// How many bytes past the read count a piece may end.
+/// The greatest number of bytes past the read count at which a chunk may end.
 pub const WINDOW: u64 = 65_536;
 
 /// How many places there are.
@@ -22,7 +22,7 @@ pub struct Ring<A: Allocator> {
     pub marks: Vec<u64, A>,
 }
 
-/// A window with no byte in it.
+/// A window with no byte in it. Fails where memory is refused.
 pub fn empty<A: Allocator + Copy>(alloc: A) -> Result<Ring<A>, AllocError>
     ensures size { IfOk result (λ r. length r.bytes.items ≡ 65536) }
     ensures words { IfOk result (λ r. length r.marks.items ≡ 1024) }
@@ -40,7 +40,7 @@ fn place_of(offset: u64) -> usize
     (offset % WINDOW) as usize
 }
 
-/// Writes the piece over the bytes from `at` on.
+/// Overwrites the bytes from `at` on with `piece`.
 fn write_at<A: Allocator>(bytes: &mut Vec<u8, A>, at: usize, piece: &[u8])
     requires { at + length piece.now ≤ length bytes.old.items }
     ensures len { length bytes.new.items ≡ length bytes.old.items }
@@ -49,7 +49,7 @@ fn write_at<A: Allocator>(bytes: &mut Vec<u8, A>, at: usize, piece: &[u8])
     bytes[at..at + piece.len()].copy_from_slice(piece);
 }
 
-/// Puts each byte of the piece into its place, from `at` on, where none is.
+/// Puts each byte of `piece` into its place, from `at` on, where the place is empty.
 fn fill<A: Allocator>(ring: &mut Ring<A>, at: usize, piece: &[u8])
     requires size { length ring.old.bytes.items ≡ 65536 }
     requires words { length ring.old.marks.items ≡ 1024 }
@@ -69,7 +69,7 @@ fn fill<A: Allocator>(ring: &mut Ring<A>, at: usize, piece: &[u8])
     }
 }
 
-/// Puts each byte of the piece into its place, where none is.
+/// Puts each byte of `piece` into its place, where the place is empty.
 fn lay<A: Allocator>(ring: &mut Ring<A>, offset: u64, piece: &[u8])
     requires size { length ring.old.bytes.items ≡ 65536 }
     requires words { length ring.old.marks.items ≡ 1024 }
@@ -85,8 +85,8 @@ fn lay<A: Allocator>(ring: &mut Ring<A>, offset: u64, piece: &[u8])
     fill(ring, 0, &piece[front..]);
 }
 
-/// Puts each byte of the piece that lies from `low` on and below `high` into its place, where none is. The answer is the
-/// offset past the last such byte, or 0 where there is none.
+/// Puts each byte of `piece` whose offset is from `low` on and below `high` into its place, where the place is empty.
+/// Gives the offset past the last such byte, or 0 where there is none.
 pub fn join<A: Allocator>(ring: &mut Ring<A>, offset: u64, piece: &[u8], low: u64, high: u64) -> u64
     requires size { length ring.old.bytes.items ≡ 65536 }
     requires words { length ring.old.marks.items ≡ 1024 }
@@ -108,7 +108,7 @@ pub fn join<A: Allocator>(ring: &mut Ring<A>, offset: u64, piece: &[u8], low: u6
     end
 }
 
-/// How many places from that of `first` on have a byte, in a row.
+/// The number of places from that of `first` on that have a byte without a gap.
 pub fn row_length<A: Allocator>(ring: &Ring<A>, first: u64) -> usize
     requires size { length ring.now.bytes.items ≡ 65536 }
     requires words { length ring.now.marks.items ≡ 1024 }

@@ -37,7 +37,7 @@ pub fn part(word: usize, from: usize, to: usize) -> u64
     span(low, high)
 }
 
-/// The word as it is, or with each bit turned.
+/// The word itself where `same` is true, otherwise the word with each bit inverted.
 #[inline]
 pub fn turned(word: u64, same: bool) -> u64
     ensures { (i : ℕ) → i < 64 → has_bit result i ≡ (if same then has_bit word i else not (has_bit word i)) }

@@ -1,4 +1,4 @@
-//! How a packet takes effect: its data first, then its money, then its closes. No memory is taken.
+//! How a packet takes effect: its data first, then its money, then its closes. Does not allocate.
 
 ghost use Rattle.std.specs.Prelude.{◌≡◌, ◌≢◌, ◌<◌, ◌≤◌, ◌||◌, ℕ, map, set, length, true, false, None, is_some, is_err, slice_index};
 ghost use Rattle.st_frames.specs.Frames.{frame_of, frames_of};

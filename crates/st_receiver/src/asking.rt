@@ -1,4 +1,4 @@
-//! What an end is told of what it received, and the streams that it opens itself.
+//! What an end asks of its receiving side, and the streams that it opens itself.
 
 ghost use Rattle.std.specs.Prelude.{◌≡◌, ◌<◌, ◌*◌, ◌^◌, true, length, map, sum, IfOk, OnOk, OnErr, IsOkUnless};
 ghost use Rattle.st_tables.specs.Slots.{slot};
@@ -47,36 +47,36 @@ fn all_delivered<A: Allocator + Copy>(slots: &Vec<Option<Incoming<A>>, A>) -> u1
 }
 
 impl<A: Allocator + Copy> Intake<A> {
-    /// Of this end's own stream numbers: 1 for a client, 0 for a server.
+    /// The parity of this end's own stream numbers (RFC 0029, section 4.1): 1 for a client, 0 for a server.
     pub fn parity(&self) -> u8
         ensures { result ≡ self.now.state.parity }
     {
         self.parity
     }
 
-    /// Whether the peer closed the connection. No memory.
+    /// Whether the peer closed the connection. Does not allocate.
     pub fn is_closed(&self) -> bool
         ensures { result ≡ self.now.state.closed }
     {
         self.closed
     }
 
-    /// How many bytes were read on all streams. No memory.
+    /// The number of bytes read on all streams. Does not allocate.
     pub fn delivered(&self) -> u128
         ensures { result ≡ all_delivered self.now.state }
     {
         all_delivered(&self.slots)
     }
 
-    /// What was credited on all streams, in units of this end's asset.
+    /// The amount credited on all streams, in units of this end's asset. Does not allocate.
     pub fn credited(&self) -> u64
         ensures { result ≡ self.now.state.credit }
     {
         self.credit
     }
 
-    /// Opens a stream, as one of this end's own, where it is not open. After `NoMemory` nothing that is received has
-    /// changed.
+    /// Opens a stream of this end's own, of a number below 65. Where it is open already, it stays as it is. Fails with
+    /// `NoMemory` where memory is refused, and then nothing has changed.
     pub fn open(&mut self, stream: u64) -> Result<(), Reason>
         requires { stream < 65 }
         ensures only_memory { IsOkUnless result Reason.NoMemory }
@@ -88,7 +88,8 @@ impl<A: Allocator + Copy> Intake<A> {
         Ok(())
     }
 
-    /// What was credited on a stream, in units of this end's asset: 0 where it is not open.
+    /// The amount credited on a stream, in units of this end's asset: 0 where the stream is not open. Does not
+    /// allocate.
     pub fn credited_to(&self, stream: u64) -> u64
         ensures { result ≡ credited_of (slot self.now.state.streams stream) }
     {
@@ -118,8 +119,10 @@ impl<A: Allocator + Copy> Intake<A> {
         self.kept[k] = self.kept[k].max(amount);
     }
 
-    /// Lets a stream receive up to an amount in all, in units of this end's asset: the greater of the old and the new
-    /// stands. A stream of the peer that is not open keeps it for when it opens.
+    /// Raises a stream's receive max (RFC 0029, section 5.3) to `amount`, in units of this end's asset. It is the most
+    /// that the stream may receive in all. A smaller amount than before changes nothing. For a stream that the peer has
+    /// not opened yet, it is kept until the stream opens. The stream must be open, or one that the peer may open, as
+    /// `may_name` says.
     pub fn set_receive_max(&mut self, stream: u64, amount: u64)
         requires { may_name self.old.state stream ≡ true }
         ensures { self.new.state ≡ with_receive_max self.old.state stream amount }
@@ -131,9 +134,9 @@ impl<A: Allocator + Copy> Intake<A> {
         }
     }
 
-    /// Reads the first bytes that can be read on a stream that is open, at most `max` of them. Where there are none it
-    /// tells the end, once all before it was read, or that there is nothing yet. After an abort it tells its code alone.
-    /// After `NoMemory` nothing that is received has changed.
+    /// Reads the first bytes that can be read on an open stream, at most `max` of them. Where there are none, it gives
+    /// `End` once all bytes were read, else `Nothing`. After an abort it gives `Aborted` with the code. Fails with
+    /// `NoMemory` where memory is refused, and then nothing has changed.
     pub fn read(&mut self, stream: u64, max: usize) -> Result<Got<A>, Reason>
         requires { is_open self.old.state stream ≡ true }
         ensures only_memory { IsOkUnless result Reason.NoMemory }

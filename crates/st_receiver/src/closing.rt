@@ -1,5 +1,5 @@
-//! What counts as read on each stream once a packet took effect: on a direction that it aborts, all that was received. The
-//! connection's limit goes by it. Nothing changes.
+//! What counts as read on each stream once a packet took effect: on a stream that it aborts, all bytes that arrived.
+//! The connection's limit on offsets follows from it. Nothing changes.
 
 ghost use Rattle.std.specs.Prelude.{◌≡◌, ◌<◌, ℕ, List, map, length, slice_index, slice_index_or, None, cond, false};
 ghost use Rattle.std.specs.List.{list_any};
@@ -20,11 +20,11 @@ use std::alloc::Allocator;
 /// What counts for the connection's limit, by the streams' numbers.
 #[derive(Clone, Copy, Debug, PartialEq, Eq)]
 struct Tally {
-    /// The highest byte ends.
+    /// By stream number, the highest end of its data.
     ends: [u64; 65],
-    /// What counts as read.
+    /// By stream number, how many bytes count as read.
     reads: [u64; 65],
-    /// Whether a clean close or an abort came.
+    /// By stream number, whether a clean close or an abort arrived.
     over: [bool; 65],
 }
 

@@ -18,7 +18,7 @@ impl<A: Allocator + Copy> Intake<A> {
         self.fulfilled.insert(sequence);
     }
 
-    /// Lets a packet take effect, by the plan that `judge` gave for it. No memory is taken.
+    /// Makes a packet take effect, by the plan that `judge` gave for it. Does not allocate.
     pub fn commit(&mut self, packet: &StreamPacket<'_>, plan: Plan)
         requires plan { IsPlanFor self.old (packet_of packet.now) plan }
         ensures { self.new.state ≡ effect self.old.state (packet_of packet.now) plan.amount }

@@ -1,5 +1,5 @@
-//! Whether a packet breaks a rule. Nothing changes: the streams are looked at as they are, and the highest byte ends are
-//! counted on as the packet's data would raise them.
+//! Whether a packet breaks a rule. Nothing changes: the highest ends are computed as the packet's data would raise
+//! them.
 
 ghost use Rattle.std.specs.Prelude.{◌≡◌, ◌<◌, ◌≤◌, ◌+◌, ◌*◌, ◌^◌, map, sum, length, None, is_err, IfOk, OnOk, true};
 ghost use Rattle.std.specs.Option.{option_or};
@@ -19,7 +19,7 @@ use st_frames::{Frame, Frames};
 use st_reassembly::WINDOW;
 use std::alloc::Allocator;
 
-/// How far past what was read the bytes of all streams may reach.
+/// By how many bytes the data of all streams may reach past what was read: 1 MiB.
 pub const CONNECTION_WINDOW: u64 = 1_048_576;
 
 /// The sum of what there is for each stream.

@@ -65,11 +65,11 @@ impl<A: Allocator + Copy> Window<A> {
 #[derive(Drop)]
 pub(crate) struct Incoming<A: Allocator + Copy> {
     inbox: Inbox<A>,
-    /// The highest byte end received.
+    /// The highest end of data that arrived.
     highest: u64,
-    /// The most that may be credited in all.
+    /// The most that may be credited in all, in units of this end's asset.
     receive_max: u64,
-    /// What was credited.
+    /// The amount credited, in units of this end's asset.
     credited: u64,
 }
 

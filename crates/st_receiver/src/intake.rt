@@ -18,7 +18,8 @@ use std::marker::Model;
 /// How many places a table of streams has: streams are numbered from 1 to 64.
 pub(crate) const PLACES: usize = 65;
 
-/// What an end receives on all streams of a connection: bytes, money, closes, and which Prepares were fulfilled.
+/// The receiving side of a connection: the bytes, the money and the closes of all streams, and which Prepares were
+/// fulfilled.
 #[derive(Drop)]
 pub struct Intake<A: Allocator + Copy> {
     pub(crate) alloc: A,
@@ -56,18 +57,18 @@ impl<A: Allocator + Copy> Model for Intake<A> {
     ghost invariant = { λ s. (length s.slots.items ≡ 65) × (length s.windows.items ≡ 65) };
 }
 
-/// By which a packet may take effect: the amount that came with it. `judge` gives it and `commit` spends it.
+/// The right to make a packet take effect. `judge` gives it, and `commit` takes it.
 #[derive(Debug, PartialEq, Eq, Drop)]
 pub struct Plan {
     pub(crate) amount: u64,
 }
 
-/// What becomes of a packet.
+/// The decision on a packet.
 #[derive(Debug, PartialEq, Eq, Drop)]
 pub enum Decision {
-    /// The Prepare may be fulfilled, once the packet took effect.
+    /// The Prepare may be fulfilled, after `commit` with this plan.
     Fulfill(Plan),
-    /// The Prepare is rejected.
+    /// The Prepare is to be rejected, with this code (RFC 0027) and for this reason.
     Reject { code: [u8; 3], reason: Reason },
 }
 
@@ -84,7 +85,8 @@ fn no_places<T: Drop, A: Allocator>(alloc: A) -> Result<Vec<Option<T>, A>, Reaso
 }
 
 impl<A: Allocator + Copy> Intake<A> {
-    /// With no stream open yet. The parity is that of this end's own stream numbers: 1 for a client, 0 for a server.
+    /// A receiving side with no open stream. `parity` is that of this end's own stream numbers (RFC 0029, section 4.1):
+    /// 1 for a client, 0 for a server. Fails with `NoMemory` where memory is refused.
     pub fn new(alloc: A, parity: u8) -> Result<Intake<A>, Reason>
         ensures only_memory { IsOkUnless result Reason.NoMemory }
         ensures empty { IfOk result (λ s. s.state ≡ new_receiving parity) }
@@ -103,14 +105,14 @@ impl<A: Allocator + Copy> Intake<A> {
         })
     }
 
-    /// Whether a stream is open.
+    /// Whether a stream is open. Does not allocate.
     pub fn has_stream(&self, stream: u64) -> bool
         ensures { result ≡ is_open self.now.state stream }
     {
         stream < 65 && self.slots[stream as usize].is_some()
     }
 
-    /// Whether a stream is open, or of a number that the peer may open.
+    /// Whether a stream is open, or has a number that the peer may open. Does not allocate.
     pub fn may_name(&self, stream: u64) -> bool
         ensures { result ≡ may_name self.now.state stream }
     {

@@ -39,7 +39,7 @@ impl<A: Allocator + Copy> Intake<A> {
         Ok(())
     }
 
-    /// The same for the stream that a frame opens.
+    /// Takes the memory for the stream that a frame opens, where it is not open.
     fn make_frame_ready(&mut self, frame: Frame<'_>) -> Result<(), Reason>
         ensures only_memory { IsOkUnless result Reason.NoMemory }
         ensures state { self.new.state ≡ self.old.state }
@@ -62,7 +62,7 @@ impl<A: Allocator + Copy> Intake<A> {
         }
     }
 
-    /// The same for each stream that frames open.
+    /// Takes the memory for each stream that the frames open, where it is not open.
     fn make_all_ready(&mut self, mut frames: Frames<'_>) -> Result<(), Reason>
         requires lawful { taken.frames_fault self.old.state (map frame_of frames) ≡ None }
         ensures only_memory { IsOkUnless result Reason.NoMemory }
@@ -118,9 +118,10 @@ impl<A: Allocator + Copy> Intake<A> {
         self.money_fault(packet.frames.again(), amount)
     }
 
-    /// What becomes of a packet that came with this amount. It changes nothing that is received, but takes all memory
-    /// that the packet's effect will want. The reason of a Reject is the first rule that the packet breaks, and
-    /// `NoMemory` only where it breaks none.
+    /// Decides on a packet (RFC 0029, section 5) whose Prepare has this amount, in units of this end's asset. It
+    /// changes nothing that was received, but takes all memory that the packet's effect needs. The reason of a Reject
+    /// is the first rule that the packet breaks. It is `NoMemory` only where the packet breaks no rule and memory is
+    /// refused.
     pub fn judge(&mut self, packet: &StreamPacket<'_>, amount: u64) -> Decision
         ensures state { self.new.state ≡ self.old.state }
         ensures decision { IsDecision self.new (packet_of packet.now) amount result }

@@ -1,4 +1,4 @@
-//! Laws of the definitions.
+//! Laws over the definitions alone. These functions do nothing: the contract is the law.
 
 ghost use Rattle.std.specs.Prelude.{◌≡◌, ◌<◌, ℕ, List, None, Some, sum, false};
 ghost use Rattle.st_frames.specs.Frames.{Packet};
@@ -10,18 +10,18 @@ ghost use Rattle.st_receiver.specs.Judged.{fault_of, effect};
 ghost use Rattle.st_receiver.specs.Reading.{after_got};
 ghost use Rattle.st_receiver.specs.Lawful.{EndsAtHighest, IsLawful};
 
-/// The parts of an amount add up to it, as long as there is any share.
+/// The parts of an amount that is split by shares add up to it, where any share is above 0.
 pub fn parts_add_up()
     ensures { (amount : ℕ) (shares : List ℕ) → 0 < sum shares → sum (parts amount shares) ≡ amount }
 {}
 
-/// A clean close fixes the end of a direction at the highest byte end received.
+/// A clean close fixes the end of a stream at the highest end of data that arrived.
 pub fn clean_close_ends_at_highest()
     ensures { (x : Incoming) → EndsAtHighest x → is_over x.held ≡ false → (with_close 1 x).held.end ≡ Some x.highest }
 {}
 
-/// Whatever comes and is read, the streams' credits add up to the credit, and each direction that is not over would end at
-/// its highest byte end.
+/// In every state that is reached the streams' credits add up to the connection's credit, and a clean close of each
+/// open direction would end it at the highest end of its data.
 pub fn every_step_is_lawful()
     ensures new { (parity : ℕ) → IsLawful (new_receiving parity) }
     ensures packets { (r : Receiving) (p : Packet) (amount : ℕ) → IsLawful r → fault_of r p amount ≡ None → IsLawful (effect r p amount) }

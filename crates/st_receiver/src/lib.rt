@@ -1,9 +1,12 @@
-//! The receiving side of a STREAM end (RFC 0029). `Intake::judge` decides on a packet that came with a Prepare: the first
-//! rule that it breaks, or a `Plan` by which it may take effect. `commit` lets it take effect, and takes no memory: the
-//! data first, then the money, then the closes. `specs/Judged.antt` has both as functions of what was received so far;
-//! `specs/Data.antt`, `specs/Money.antt` and `specs/Closes.antt` have their parts, `specs/Limits.antt` the limits that are
-//! told. `reply_frames` has those that a reply tells, before `commit` and as `commit` will leave them. Memory that was taken
-//! in advance is no part of what is received (`specs/Standing.antt`). `laws` has what stays true of it, whatever comes.
+//! The receiving side of a STREAM end (RFC 0029). `Intake::judge` decides on a packet that arrived with a Prepare: it
+//! gives the first rule that the packet breaks, or a `Plan` for `commit`. `commit` makes the packet take effect and
+//! does not allocate: the data first, then the money, then the closes. `reply_frames` gives the limits for the reply,
+//! before `commit` and as `commit` will leave them.
+//!
+//! `specs/Judged.antt` defines the decision and the effect as functions of the state. `specs/Data.antt`,
+//! `specs/Money.antt` and `specs/Closes.antt` define their parts, `specs/Limits.antt` the limits that are advertised.
+//! Memory that was taken in advance is no part of the state (`specs/Standing.antt`). The functions of `laws` state what
+//! every state keeps.
 #![tactic(auto)]
 
 mod apply;

@@ -234,7 +234,7 @@ impl<A: Allocator + Copy> Intake<A> {
         credited + part
     }
 
-    /// The same of each stream, by number.
+    /// The total of each stream, by number, once these parts are credited.
     fn totals_with(&self, parts: &[u64; 65]) -> [u64; 65]
         requires { inside.IsOverAt self.now.state parts.now false }
         ensures { (k : ℕ) → k < 65 → slice_index result k ≡ (incoming_at self.now.state k).credited + slice_index parts.now k }

@@ -8,37 +8,37 @@ use st_reassembly::InboxError;
 use std::alloc::{AllocError, AllocFailed};
 use thiserror::Error;
 
-/// Why a packet is rejected. `NoMemory` is also what a call answers that found no memory.
+/// Why a packet is rejected. `NoMemory` is also the error of a call that found no memory.
 #[derive(Clone, Copy, Debug, PartialEq, Eq, Error)]
 pub enum Reason {
-    /// A Prepare with this sequence was fulfilled before.
+    /// A Prepare with this packet's sequence was fulfilled before.
     #[error("the sequence was fulfilled before")]
     Repeated,
-    /// Less arrived than the packet says is the least.
+    /// The Prepare's amount is below the packet's prepare amount (RFC 0029, section 5.2).
     #[error("the amount is below the packet's least")]
     AmountTooSmall,
-    /// Data end past the greatest offset, the stream's window or the connection's.
+    /// The data end past the greatest offset, or past the window of the stream or of the connection.
     #[error("data end past a window")]
     FlowControl,
-    /// A stream's number is 0, above 64, or one of this end's own that is not open.
+    /// A frame names a stream of number 0 or above 64, or one of this end's own that is not open.
     #[error("a stream has a number that the peer may not use")]
     StreamId,
-    /// The amount has no stream to go to, or the sum of shares is past 2^64 - 1.
+    /// The amount has no stream to go to, or the sum of shares is above 2^64 - 1.
     #[error("the amount has no shares to go by")]
     NoShares,
-    /// A stream's credit would pass its receive max, or the connection's 2^63 - 1.
+    /// The credit of a stream would exceed its receive max, or that of the connection 2^63 - 1.
     #[error("the amount is past what may be received")]
     OverReceiveMax,
     /// The peer closed the connection.
     #[error("the connection is closed")]
     ConnectionClosed,
-    /// Memory was refused.
+    /// Out of memory: memory was refused.
     #[error("out of memory")]
     NoMemory,
 }
 
 impl Reason {
-    /// The number by which the reason is known: 60 to 67.
+    /// The reason's number: 60 to 67, in the order of the variants.
     pub fn number(&self) -> u8
         ensures { result ≡ reasons.number self.now }
     {
@@ -54,14 +54,14 @@ impl Reason {
         }
     }
 
-    /// The number that the reason wraps: none does.
+    /// The number of an inner error: always `None`.
     pub fn inner(&self) -> Option<u64>
         ensures { result ≡ reasons.inner self.now }
     {
         None
     }
 
-    /// The code of the Reject (RFC 0027): T00 for want of memory, F99 for all else.
+    /// The code of the Reject (RFC 0027): T00 for `NoMemory`, F99 for all others.
     pub fn code(&self) -> [u8; 3]
         ensures { result ≡ reasons.code_of self.now }
     {

@@ -1,4 +1,4 @@
-//! What a reply to a packet tells: the limits of the streams that the packet names, as they stand once it took effect.
+//! The limits that a reply advertises: those of the streams that the packet names, as they are once it took effect.
 
 ghost use Rattle.std.specs.Prelude.{◌≡◌, ◌<◌, ◌||◌, ℕ, map, slice_index_or, false, None, IfSome, IfOk, IsOkUnless};
 ghost use Rattle.std.specs.List.{list_any};
@@ -67,9 +67,9 @@ impl<A: Allocator + Copy> Intake<A> {
         limit_by(&self.reads_after(frames))
     }
 
-    /// The limits that a reply to a packet tells, for the connection and for each stream that the packet's frames name: as
-    /// they stand now, or as they will stand once the packet took effect by the plan that `judge` gave for it. Nothing
-    /// changes.
+    /// The limits for the reply to a packet (RFC 0029, section 5.3): that of the connection, and those of each stream
+    /// that the packet's frames name. Without a plan they are as they are now. With the plan that `judge` gave, they
+    /// are as they will be after `commit`. Nothing changes. Fails with `NoMemory` where memory is refused.
     pub fn reply_frames<'f>(
         &self,
         packet: &StreamPacket<'_>,

@@ -1,5 +1,5 @@
-//! The sequences of the Prepares that were fulfilled. They are kept as runs of numbers in a row, so that those of a long
-//! connection stay few, and a look at one costs the same however many came before.
+//! The sequences of the fulfilled Prepares. They are kept as runs of consecutive numbers, so that a long connection has
+//! few of them, and a search takes a number of steps that is logarithmic in the number of runs.
 
 ghost use Rattle.std.specs.Prelude.{◌≡◌, ◌<◌, ◌≤◌, ◌+◌, ◌-◌, true, false, length, vec_len, vec_capacity, OnOk};
 ghost use Rattle.std.specs.FinSet.{empty, contains, insert};
@@ -87,7 +87,7 @@ fn joins_behind<A: Allocator>(runs: &Vec<Run, A>, place: usize, sequence: u64) -
     runs[place].first.saturating_sub(sequence) == 1
 }
 
-/// Puts in a sequence that is in no run, at its place. Where the runs have room no memory is taken.
+/// Inserts a sequence that is in no run, at its place. The runs have room for one more: it does not allocate.
 fn join<A: Allocator>(runs: &mut Vec<Run, A>, place: usize, sequence: u64)
     requires place { IsPlace runs.old.items place sequence }
     requires fresh { is_among sequence runs.old.items ≡ false }
@@ -137,7 +137,7 @@ impl<A: Allocator + Copy> Sequences<A> {
         self.runs.reserve(1)
     }
 
-    /// Puts in a sequence. No memory is taken.
+    /// Inserts a sequence. Does not allocate.
     pub(crate) fn insert(&mut self, sequence: u64)
         requires { 1 ≤ self.old.room }
         ensures { self.new.set ≡ insert self.old.set sequence }

@@ -1,4 +1,4 @@
-//! The limits that an end tells its peer (RFC 0029, section 5.3).
+//! The limits that an end advertises to its peer (RFC 0029, section 5.3).
 
 ghost use Rattle.std.specs.Prelude.{◌≡◌, ◌<◌, ◌++◌, map, cond, [], IfOk, OnOk, IsOkUnless};
 ghost use Rattle.st_frames.specs.Seen.{seen};
@@ -60,7 +60,7 @@ impl<A: Allocator + Copy> Intake<A> {
         push_both(frames, stream, &self.slots[k], self.kept[k], total_received)
     }
 
-    /// The same where the stream is to be told of, and is open or the peer may open it.
+    /// Appends the limits of a stream where it is named, and is open or the peer may open it.
     fn push_limits<'f>(
         &self,
         frames: &mut Vec<Frame<'f>, A>,
@@ -98,7 +98,8 @@ impl<A: Allocator + Copy> Intake<A> {
         Ok(frames)
     }
 
-    /// The limits that stand: the connection's, and those of each stream that is open or that the peer may open.
+    /// The current limits (RFC 0029, section 5.3): that of the connection, and those of each stream that is open or
+    /// that the peer may open. Fails with `NoMemory` where memory is refused.
     pub fn limits<'f>(&self) -> Result<Vec<Frame<'f>, A>, Reason>
         ensures only_memory { IsOkUnless result Reason.NoMemory }
         ensures told { IfOk result (λ frames. map seen frames.items ≡ limits self.now.state) }

@@ -1,18 +1,19 @@
-//! Laws of the definitions: what an answer leaves at each offset, and that what a load took can be taken back.
+//! Laws of the definitions: what an answer leaves at each offset, and that a claim can be undone.
 
 ghost use Rattle.st_unacked.specs.Laws.{AClaimIsTakenBack, AcknowledgedIsPointwise, FailedIsPointwise};
 
-/// An acknowledgement leaves at each offset what was there, and nothing where the sequence carried it.
+/// An acknowledgement leaves every offset as it was, except that the bytes carried by the sequence number are removed.
 pub fn acknowledged_is_pointwise()
     ensures { AcknowledgedIsPointwise }
 {}
 
-/// A failure leaves each byte where it was, and nothing in flight where the sequence carried it.
+/// A failure keeps every byte. Those carried by the sequence number are no longer in flight.
 pub fn failed_is_pointwise()
     ensures { FailedIsPointwise }
 {}
 
-/// A claim by a sequence that carries nothing else, of bytes that are not in flight, leaves no trace once it fails.
+/// A claim of bytes that are not in flight, by a sequence number that carries nothing else, leaves no trace once it
+/// fails.
 pub fn a_claim_is_taken_back()
     ensures { AClaimIsTakenBack }
 {}

@@ -30,8 +30,8 @@ fn part<A: Allocator>(bytes: &Vec<u8, A>, from: usize, to: usize) -> &[u8]
     &bytes[from..to]
 }
 
-/// The bytes of one outgoing stream that are accepted and not acknowledged, with those between them, and what stands
-/// about each.
+/// The send buffer of one outgoing stream: the accepted bytes from the lowest unacknowledged one on, each queued, in
+/// flight or acknowledged.
 #[derive(Drop)]
 pub struct Unacked<A: Allocator + Copy> {
     /// The bytes from `first` on.
@@ -61,7 +61,7 @@ impl<A: Allocator + Copy> Model for Unacked<A> {
 }
 
 impl<A: Allocator + Copy> Unacked<A> {
-    /// No byte was accepted. It takes no memory yet.
+    /// An empty buffer. Does not allocate.
     pub fn new(alloc: A) -> Unacked<A>
         ensures { result ≡ nothing_sent }
     {
@@ -73,21 +73,24 @@ impl<A: Allocator + Copy> Unacked<A> {
         }
     }
 
-    /// How many bytes were accepted.
+    /// The total number of bytes that were accepted. It is also the offset of the next byte.
     pub fn accepted(&self) -> u64
         ensures { result ≡ self.now.accepted }
     {
         self.first + self.bytes.len() as u64
     }
 
-    /// How many bytes are neither acknowledged nor dropped.
+    /// The number of accepted bytes that are neither acknowledged nor dropped.
     pub fn count(&self) -> u64
         ensures { result ≡ len self.now.unacked }
     {
         kept_count(&self.runs, self.first)
     }
 
-    /// Takes in more bytes, which are due: all of them, or none.
+    /// Appends bytes to the stream and queues them: all of them, or none.
+    ///
+    /// Fails with `AllocError` where memory is refused. The buffer then stays as it was. Requires that the total stays
+    /// below 2^64.
     pub fn accept(&mut self, bytes: &[u8]) -> Result<(), AllocError>
         requires { self.old.accepted + length bytes.now < 2 ^ 64 }
         ensures accepts { OnOk result (self.new ≡ after_accept bytes.now self.old) }
@@ -101,7 +104,8 @@ impl<A: Allocator + Copy> Unacked<A> {
         Ok(())
     }
 
-    /// Where the lowest row of due bytes begins and ends.
+    /// The lowest range of queued bytes: its first offset and the offset past its last byte. `None` where nothing is
+    /// queued.
     pub fn lowest_due(&self) -> Option<(u64, u64)>
         ensures { MatchOption result ((q : ℕ) → due_at self.now q ≡ None) (λ r. IsLowestDue self.now r.0 r.1) }
     {
@@ -111,14 +115,14 @@ impl<A: Allocator + Copy> Unacked<A> {
         Some((from, due_end(&self.runs, from)))
     }
 
-    /// The offset past the highest due byte: 0 where none is due.
+    /// The offset past the highest queued byte, or 0 where nothing is queued.
     pub fn past_due(&self) -> u64
         ensures { IsPastDue self.now result }
     {
         past_due(&self.runs, self.first)
     }
 
-    /// Whether each accepted byte is acknowledged or dropped.
+    /// Whether every accepted byte is acknowledged or dropped.
     pub fn is_done(&self) -> bool
         ensures yes { result ≡ true → self.now.unacked ≡ empty }
         ensures no { result ≡ false → self.now.unacked ≢ empty }
@@ -129,7 +133,8 @@ impl<A: Allocator + Copy> Unacked<A> {
         }
     }
 
-    /// The bytes from `from` on and below `to`, each of them unacknowledged.
+    /// The bytes from offset `from` on and below `to`. Requires that the range is not empty and each byte of it
+    /// unacknowledged.
     pub fn piece(&self, from: u64, to: u64) -> &[u8]
         requires order { from < to }
         requires there { (q : ℕ) → from ≤ q → q < to → IsSome (get self.now.unacked q) }
@@ -143,7 +148,10 @@ impl<A: Allocator + Copy> Unacked<A> {
         )
     }
 
-    /// The due bytes from `from` on and below `to` are in flight by the sequence from now on.
+    /// Marks the queued bytes from offset `from` on and below `to` as in flight under the sequence number.
+    ///
+    /// Fails with `AllocError` where memory is refused. The buffer then stays as it was. Requires that each of the
+    /// bytes is queued.
     pub fn claim(&mut self, sequence: u64, from: u64, to: u64) -> Result<(), AllocError>
         requires order { from ≤ to }
         requires due { (q : ℕ) → from ≤ q → q < to → IsSome (due_at self.old q) }
@@ -154,8 +162,9 @@ impl<A: Allocator + Copy> Unacked<A> {
         Ok(())
     }
 
-    /// The sequence was fulfilled: what it carried is acknowledged. Tells the offset past the last one that it carried,
-    /// dropped or not: 0 where it carried none. No memory is taken.
+    /// Handles a Fulfill: the bytes carried by the sequence number are acknowledged. Does not allocate.
+    ///
+    /// Gives the offset past the last byte that it carried, dropped ones included, or 0 where it carried none.
     pub fn acknowledged(&mut self, sequence: u64) -> u64
         ensures acknowledges { self.new ≡ after_acknowledged sequence self.old }
         ensures end { IsFlightEnd sequence self.old result }
@@ -168,14 +177,15 @@ impl<A: Allocator + Copy> Unacked<A> {
         end
     }
 
-    /// The sequence failed: what it carried is due again, unless it was dropped.
+    /// Handles a failed packet: the bytes carried by the sequence number are queued again, except those that were
+    /// dropped. Does not allocate.
     pub fn failed(&mut self, sequence: u64)
         ensures { self.new ≡ after_failed sequence self.old }
     {
         fail(&mut self.runs, sequence);
     }
 
-    /// All bytes are dropped. What is in flight still is, until its answer.
+    /// Drops all bytes. Those in flight stay in flight until their answer arrives.
     pub fn drop_bytes(&mut self)
         ensures { self.new ≡ after_drop self.old }
     {
