@@ -30,13 +30,13 @@ pub(crate) fn seal_again(alloc: Global, piece: &[u8], packets: u64) -> Result<u6
     Ok(opened)
 }
 
-/// Hashes these bytes so many times as the two ends do, once at the sender and twice at the receiver, and gives the last
-/// condition.
+/// Hashes these bytes a given number of times as the two ends do, once at the sender and once at the receiver, and gives the
+/// last condition.
 pub(crate) fn hash_again(piece: &[u8], packets: u64) -> [u8; 32] {
     let keys = Keys::of([7; 32]);
     let mut last = [0; 32];
     for _ in 0..packets {
-        for _ in 0..3 {
+        for _ in 0..2 {
             last = condition(keys.fulfillment(piece));
         }
     }

@@ -1,6 +1,6 @@
 //! The devices, the sink and the source of the tests.
 
-use st_file::{Sink, Source};
+use st_file::{Put, Sink, Source};
 use st_queues::Got;
 use std::alloc::{Allocator, Global};
 use std::io;
@@ -89,27 +89,27 @@ impl<A: Allocator + Copy> Sink<Vec<u8, A>> for Heap {
 
     ghost taken = { λ s. record { bytes = s.bytes.items; ended = s.ended; calls = None } };
 
-    fn put(&mut self, chunk: Vec<u8, A>) -> Result<(), Vec<u8, A>> {
+    fn put(&mut self, chunk: Vec<u8, A>) -> Put<Vec<u8, A>> {
         if 0 < self.refusals {
             self.refusals -= 1;
-            return Err(chunk);
+            return Put::Again(chunk);
         }
         match self.bytes.extend_from_slice(&chunk) {
             Ok(()) => {
                 self.longest = self.longest.max(chunk.len());
-                Ok(())
+                Put::Taken
             }
-            Err(_) => Err(chunk),
+            Err(_) => Put::Again(chunk),
         }
     }
 
-    fn end(&mut self) -> bool {
+    fn end(&mut self) -> Put<()> {
         if 0 < self.refusals {
             self.refusals -= 1;
-            return false;
+            return Put::Again(());
         }
         self.ended = true;
-        true
+        Put::Taken
     }
 }
 

@@ -1,4 +1,4 @@
-//! What comes back to a flight.
+//! The answers to Prepares.
 
 ghost use Rattle.std.specs.Prelude.{◌≡◌, true, Some, None};
 ghost use Rattle.st_ilp.specs.Reading.{answer_at};
@@ -68,8 +68,8 @@ fn take_answer<A: Allocator + Copy>(
 }
 
 impl<A: Allocator + Copy> EndState<A> {
-    /// Whether a flight is one of this end's that was not spent yet: both its sequence and its condition are those of one in
-    /// flight here. No memory.
+    /// Whether a flight is one of this end that was not taken yet: a Prepare with its sequence and its condition is in
+    /// flight here. Does not allocate.
     #[tactic(auto, using(crate::proofs::Lawfulness::kept_is_open))]
     pub fn is_open(&self, flight: &Flight) -> bool
         ensures { result ≡ sending.is_open self.now flight.now }
@@ -78,10 +78,12 @@ impl<A: Allocator + Copy> EndState<A> {
         self.conditions.has(flight.sequence, flight.condition)
     }
 
-    /// Takes the bytes that came back to an open flight (RFC 0027), and tells whether they are a Fulfill that it paid for:
-    /// one whose fulfillment has the flight's condition as its SHA-256. The bytes' data are opened where they lie; where
-    /// they open as a packet of this flight's sequence, the limits that it tells are taken. Anything else fails the flight.
-    /// The caller's condition is that the flight is open here, as `is_open` tells. No memory.
+    /// Takes the bytes that came back for an open flight (RFC 0027), and says whether they are its Fulfill: one whose
+    /// fulfillment has the flight's condition as its SHA-256. Everything else counts as a failure of the Prepare, and
+    /// what it carried can be sent again.
+    ///
+    /// The answer's data are decrypted in place. Where they are a packet (RFC 0029, section 5) of this flight's
+    /// sequence, the limits in it are taken. The flight must be open here, as `is_open` says. Does not allocate.
     #[tactic(auto, using(crate::proofs::Lawfulness::open_found))]
     pub fn answer(&mut self, flight: Flight, bytes: &mut [u8]) -> bool
         requires { sending.is_open self.old flight ≡ true }
@@ -93,8 +95,8 @@ impl<A: Allocator + Copy> EndState<A> {
         take_answer(&mut self.outbox, &self.keys, flight, bytes)
     }
 
-    /// No bytes came back to an open flight: what it carries is due again. The caller's condition is that the flight is
-    /// open here, as `is_open` tells. No memory.
+    /// Takes that no bytes came back for an open flight: what the Prepare carried can be sent again. The flight must be
+    /// open here, as `is_open` says. Does not allocate.
     #[tactic(auto, using(crate::proofs::Lawfulness::open_found))]
     pub fn fault(&mut self, flight: Flight)
         requires { sending.is_open self.old flight ≡ true }

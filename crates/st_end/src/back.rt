@@ -1,4 +1,4 @@
-//! What came back to a flight.
+//! The bytes that came back for a Prepare.
 
 ghost use Rattle.std.specs.Prelude.{◌≡◌, ◌≤◌, ◌-◌, length};
 ghost use Rattle.st_keys.specs.Sealed.{opened};
@@ -22,7 +22,7 @@ pub(crate) enum Back {
     Fulfill { fulfillment: [u8; 32], start: usize },
     /// A Reject.
     Reject { code: [u8; 3], start: usize },
-    /// Neither.
+    /// Neither of both.
     Unreadable,
 }
 

@@ -33,9 +33,10 @@ impl<A: Allocator + Copy> EndState<A> {
         self.check_connection()
     }
 
-    /// Takes bytes that are to be sent on a stream: all of them, or none. Refused is, in this order: `NoStream`;
-    /// `ConnectionFailed`; `Closed` where the peer closed the connection, or after a close or an abort; `Full`; want of
-    /// memory.
+    /// Queues bytes to be sent on a stream: all of them, or none. Fails with the first of these that applies:
+    /// `NoStream` where the stream is not open; `ConnectionFailed`; `Closed` where the peer closed the connection, or
+    /// after a close or an abort of the stream; `Full` where too many bytes would be unacknowledged; `NoMemory` where
+    /// memory is refused. Nothing has changed then.
     #[tactic(auto)]
     pub fn write(&mut self, stream: u8, bytes: &[u8]) -> Result<(), EndError>
         ensures answers { OrWants self.old (calls.write self.old stream bytes.now) (result, self.new) }
@@ -46,9 +47,10 @@ impl<A: Allocator + Copy> EndState<A> {
         Ok(())
     }
 
-    /// A clean close of a stream: its StreamClose goes once all bytes are acknowledged and all money is fulfilled. Refused
-    /// is, in this order: `NoStream`; `ConnectionFailed`; `Closed` where the peer closed the connection, or after a close or
-    /// an abort. No memory.
+    /// Closes a stream cleanly. Its StreamClose with code 1 (RFC 0029, section 5.3) is sent once all its bytes are
+    /// acknowledged and all its money is fulfilled. Fails with the first of these that applies: `NoStream` where the
+    /// stream is not open; `ConnectionFailed`; `Closed` where the peer closed the connection, or after a close or an
+    /// abort of the stream. Nothing has changed then. Does not allocate.
     #[tactic(auto)]
     pub fn close(&mut self, stream: u8) -> Result<(), EndError>
         ensures answers { calls.close self.old stream ≡ (result, self.new) }
@@ -58,9 +60,10 @@ impl<A: Allocator + Copy> EndState<A> {
         Ok(())
     }
 
-    /// An abort of a stream, with a code of RFC 0029, section 5.3: what is not acknowledged is dropped. The caller's condition
-    /// is that the code is not 1. Refused is, in this order: `NoStream`; `ConnectionFailed`; `Closed` where the peer closed
-    /// the connection, or after an abort. No memory.
+    /// Aborts a stream with a code of RFC 0029, section 5.3, other than 1. What is not acknowledged is dropped. Fails
+    /// with the first of these that applies: `NoStream` where the stream is not open; `ConnectionFailed`; `Closed`
+    /// where the peer closed the connection, or after an abort of the stream. Nothing has changed then. Does not
+    /// allocate.
     pub fn abort(&mut self, stream: u8, code: u8) -> Result<(), EndError>
         requires { code ≢ 1 }
         ensures answers { calls.abort self.old stream code ≡ (result, self.new) }
@@ -70,8 +73,10 @@ impl<A: Allocator + Copy> EndState<A> {
         Ok(())
     }
 
-    /// An offer of so many units on a stream. Refused is, in this order: `NoStream`; `ConnectionFailed`; `Closed` where the
-    /// peer closed the connection, or after a close or an abort; `AmountTooLarge`. No memory.
+    /// Offers `amount` more units of this end's asset on a stream. Fails with the first of these that applies:
+    /// `NoStream` where the stream is not open; `ConnectionFailed`; `Closed` where the peer closed the connection, or
+    /// after a close or an abort of the stream; `AmountTooLarge` where all offers together would be 2^63 or more.
+    /// Nothing has changed then. Does not allocate.
     pub fn offer(&mut self, stream: u8, amount: u64) -> Result<(), EndError>
         ensures answers { calls.offer self.old stream amount ≡ (result, self.new) }
     {
@@ -80,9 +85,10 @@ impl<A: Allocator + Copy> EndState<A> {
         Ok(())
     }
 
-    /// Lets a stream receive up to an amount in all, in units of this end's asset: the greater of the old and the new
-    /// stands. A stream that the peer has not opened yet keeps it for when it does. Refused is `NoStream` alone, for a number
-    /// that is neither open nor one of the peer's. No memory.
+    /// Raises a stream's receive max (RFC 0029, section 5.3) to `amount`, in units of this end's asset. It is the most
+    /// that the stream may receive in all. A smaller amount than before changes nothing. For a stream that the peer has
+    /// not opened yet, it is kept until the stream opens. Fails with `NoStream` alone, where the stream is not open and
+    /// the peer may not open one of this number. Does not allocate.
     pub fn set_receive_max(&mut self, stream: u8, amount: u64) -> Result<(), EndError>
         ensures answers { calls.set_receive_max self.old stream amount ≡ (result, self.new) }
     {
@@ -109,9 +115,10 @@ impl<A: Allocator + Copy> EndState<A> {
         None
     }
 
-    /// Opens the next of this end's own streams, and answers its number: a client's are 1, 3, .. 63, a server's 2, 4, .. 64.
-    /// Refused is, in this order: `NoStream` after the last; `ConnectionFailed`; `Closed` where the peer closed the
-    /// connection; want of memory.
+    /// Opens the next of this end's own streams and gives its number: 1, 3, .. 63 at a client, 2, 4, .. 64 at a server
+    /// (RFC 0029, section 4.1). Fails with the first of these that applies: `NoStream` where no number is left;
+    /// `ConnectionFailed`; `Closed` where the peer closed the connection; `NoMemory` where memory is refused. Nothing
+    /// has changed then.
     pub fn open_stream(&mut self) -> Result<u8, EndError>
         ensures answers { OrWants self.old (calls.open_stream self.old) (result, self.new) }
         ensures unchanged { OnErr result (self.new ≡ self.old) }
@@ -127,7 +134,7 @@ impl<A: Allocator + Copy> EndState<A> {
         Ok(stream)
     }
 
-    /// Whether a stream is open. No memory.
+    /// Whether a stream is open. Does not allocate.
     pub fn has_stream(&self, stream: u8) -> bool
         ensures { result ≡ calls.has_stream self.now stream }
     {

@@ -1,4 +1,4 @@
-//! The conditions of what is in flight, by sequence.
+//! The conditions of the Prepares in flight, by sequence.
 
 ghost use Rattle.std.specs.Prelude.{◌≡◌, filter, not, nat_eq, OnOk, OnErr};
 ghost use Rattle.std.specs.FinMap as map;
@@ -75,7 +75,7 @@ impl<A: Allocator + Copy> Conditions<A> {
         Ok(())
     }
 
-    /// Keeps the condition of this sequence no longer. No memory.
+    /// Removes the condition of this sequence. Does not allocate.
     pub(crate) fn remove(&mut self, sequence: u64)
         ensures { self.new ≡ map.remove self.old sequence }
     {

@@ -1,4 +1,4 @@
-//! What a packet that is fulfilled changes at the sending side.
+//! What a fulfilled packet changes at the sending side.
 
 ghost use Rattle.std.specs.Prelude.{◌≡◌, ◌<◌, ◌∷◌, [], ℕ, List, map};
 ghost use Rattle.st_frames.specs.Frames.{frame_of, frames_of};
@@ -116,7 +116,7 @@ pub(crate) fn last_address<'f>(mut frames: Frames<'f>) -> Option<&'f str>
     last
 }
 
-/// Lets a packet take effect by the plan that was made for it, whose reply has these frames. No memory is taken.
+/// Makes a packet take effect by the plan that was made for it, whose reply has these frames. Does not allocate.
 pub(crate) fn take_effect<A: Allocator + Copy>(
     outbox: &mut Outbox<A>,
     intake: &mut Intake<A>,

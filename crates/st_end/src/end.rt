@@ -18,7 +18,7 @@ use st_sender::{EndConfig, Outbox, OutboxError};
 use std::alloc::Allocator;
 use std::marker::Model;
 
-/// An end of a connection: what it sends, what it receives, and what it knows of its peer.
+/// An end of a connection (RFC 0029): its sending side, its receiving side, its keys, its own address and its peer's.
 #[derive(Drop)]
 pub struct EndState<A: Allocator + Copy> {
     pub(crate) outbox: Outbox<A>,
@@ -52,7 +52,8 @@ impl<A: Allocator + Copy> Model for EndState<A> {
 }
 
 impl<A: Allocator + Copy> EndState<A> {
-    /// An end with these keys, its own address and its peer's. The caller's condition is that both are addresses.
+    /// An end with no open stream, with these keys, its own address and its peer's. `own` and `peer` must be ILP
+    /// addresses (RFC 0015). Fails with `NoMemory` where memory is refused.
     pub fn new(
         alloc: A,
         role: Role,
@@ -84,14 +85,15 @@ impl<A: Allocator + Copy> EndState<A> {
         })
     }
 
-    /// A Reject T00 that stands ready for where memory is wanting (RFC 0027). No memory.
+    /// The bytes of a Reject T00 (RFC 0027) that was written in advance, for an end that is out of memory. Does not
+    /// allocate.
     pub fn t00(&self) -> &[u8]
         ensures { result.now ≡ t00_text self.now.own }
     {
         self.t00.as_slice()
     }
 
-    /// A law of every end: it does nothing.
+    /// A law: what holds of every end. The function does nothing, and its contract is the law.
     pub fn is_lawful(&self)
         ensures { IsLawful self.now }
     {

@@ -8,31 +8,31 @@ use st_sender::OutboxError;
 use std::alloc::{AllocError, AllocFailed};
 use thiserror::Error;
 
-/// Why a call was refused. Nothing has changed then.
+/// Why a call on an end failed. The end is as before the call.
 #[derive(Clone, Copy, Debug, PartialEq, Eq, Error)]
 pub enum EndError {
-    /// The stream is not open, or this end has no number left for another.
+    /// The stream is not open, or this end has no number left for one more.
     #[error("the stream is not open")]
     NoStream,
-    /// The connection failed: nothing goes any more.
+    /// The connection failed, and nothing is sent any more.
     #[error("the connection failed")]
     ConnectionFailed,
     /// The stream was closed or aborted, or the peer closed the connection.
     #[error("the stream was closed")]
     Closed,
-    /// More bytes of the stream would be kept than are kept unacknowledged, or 2^63 be accepted in all.
+    /// More than 262,144 bytes of the stream would be unacknowledged, or 2^63 bytes or more be accepted in all.
     #[error("too many bytes are not acknowledged")]
     Full,
-    /// All offers would come to 2^63 or more.
+    /// The sum of all offers would be 2^63 or more.
     #[error("the offers come to too much")]
     AmountTooLarge,
-    /// Memory that the call asked for was refused.
+    /// Out of memory: memory that the call asked for was refused.
     #[error("out of memory")]
     NoMemory,
 }
 
 impl EndError {
-    /// The number by which the refusal is known: 50 to 54, or 58.
+    /// The error's number: 50 to 54, or 58.
     pub fn number(&self) -> u8
         ensures { result ≡ errors.number self.now }
     {
@@ -46,7 +46,7 @@ impl EndError {
         }
     }
 
-    /// The number that the refusal wraps: none does.
+    /// The number of an inner error: always `None`.
     pub fn inner(&self) -> Option<u64>
         ensures { result ≡ errors.inner self.now }
     {

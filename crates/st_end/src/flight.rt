@@ -1,20 +1,20 @@
-//! The right to say what became of a Prepare.
+//! A Prepare in flight, and the right to report its outcome.
 
 ghost use Rattle.std.specs.Prelude.{◌≡◌};
 
 use std::marker::Model;
 
-/// What an end knows of a Prepare that it sent.
+/// What identifies a Prepare in flight.
 #[derive(Clone, Copy, Debug, PartialEq, Eq)]
 pub struct Open {
-    /// The sequence of its packet (RFC 0029, section 5.2): no two Prepares of an end have the same.
+    /// The sequence of its packet (RFC 0029, section 5.2). No two Prepares of an end have the same.
     pub sequence: u64,
-    /// SHA-256 of the fulfillment that is asked for.
+    /// Its condition (RFC 0027): the SHA-256 of the fulfillment.
     pub condition: [u8; 32],
 }
 
-/// The right to say what became of a Prepare, once. It must be spent: by `EndState::answer`, by `EndState::fault`, or by
-/// `abandon`.
+/// The right to report the outcome of a Prepare, once. It must be given up: to `EndState::answer`, to
+/// `EndState::fault`, or by `abandon`.
 #[must_use]
 pub struct Flight {
     open: Open,
@@ -35,7 +35,7 @@ impl Flight {
         Flight { open: flight }
     }
 
-    /// What the flight says: its sequence and its condition.
+    /// The sequence and the condition of the Prepare.
     pub fn read(&self) -> Open
         ensures { result ≡ self.now }
     {
@@ -49,7 +49,7 @@ impl Flight {
         open
     }
 
-    /// Lets the flight go where no answer will be taken: what it carries stays in flight.
+    /// Gives the flight up where no outcome will be reported: what the Prepare carried stays in flight.
     pub fn abandon(self) {
         let Flight { open: _ } = self;
     }

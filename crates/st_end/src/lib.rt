@@ -1,9 +1,10 @@
-//! An end of a STREAM connection (RFC 0029), from bytes to bytes. `EndState` opens streams, takes bytes and money that are to
-//! be sent, and closes; `send` gives the bytes of the next Prepare and its `Flight`, `answer` and `fault` take what came back
-//! to it; `receive` answers the bytes of a Prepare, `read` gives what came. There is no I/O and no clock here.
-//! `specs/State.antt` says what an end is, `Calls` and `Reading` what a call answers and leaves, `Receiving` what becomes of
-//! bytes that came, `Answers` what becomes of those that came back, `Sending` what a Prepare that goes is. A refusal changes
-//! nothing, and says its number by `number`.
+//! An end of a STREAM connection (RFC 0029), from bytes to bytes. `EndState` opens streams, takes bytes and money to be
+//! sent, and closes. `send` gives the bytes of the next Prepare and its `Flight`; `answer` and `fault` take what came
+//! back for it. `receive` gives the answer to the bytes of a Prepare, and `read` gives what arrived. There is no I/O
+//! and no clock here. A call that fails changes nothing, and each error has a number, `number`.
+//!
+//! `specs/State.antt` defines an end, `Calls` and `Reading` the calls, `Receiving` the answer to bytes that arrived,
+//! `Answers` the effect of bytes that came back, `Sending` the Prepare that is sent.
 #![tactic(auto)]
 
 mod answer;

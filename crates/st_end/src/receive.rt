@@ -1,4 +1,4 @@
-//! What an end does with bytes that came.
+//! The answer of an end to bytes that arrived.
 
 ghost use Rattle.std.specs.Prelude.{◌≡◌, ◌≤◌, ℕ, List, true, length, map, string_bytes, Ok, Err, None, Some, IfOk, OnErr, IsOkUnless};
 ghost use Rattle.st_ilp.specs.Packets.{Fulfilled};
@@ -42,15 +42,17 @@ struct Reply<'f, A: Allocator + Copy> {
     peer: Option<String<A>>,
 }
 
-/// The Fulfill of a packet by the plan that was made for it. Nothing changes.
+/// The Fulfill of a packet by the plan that was made for it, with this fulfillment. Nothing changes.
 fn fulfill_reply<'f, A: Allocator + Copy>(
     alloc: A,
     keys: &Keys,
     intake: &Intake<A>,
     prepare: &Prepare<'_>,
     packet: &StreamPacket<'_>,
+    preimage: [u8; 32],
     plan: &Plan,
 ) -> Result<Reply<'f, A>, EndError>
+    requires preimage { preimage ≡ fulfillment keys.now prepare.now.payload.now }
     requires long { 12 ≤ length prepare.now.payload.now }
     requires plan { IsPlanFor intake.now (packet_of packet.now) plan.now }
     ensures only_memory { IsOkUnless result EndError.NoMemory }
@@ -62,7 +64,7 @@ fn fulfill_reply<'f, A: Allocator + Copy>(
         return Err(EndError::NoMemory);
     };
     let payload = reply_payload(alloc, keys, FULFILL, prepare, packet, &frames)?;
-    let bytes = fulfill_bytes(alloc, keys.fulfillment(prepare.payload), &payload)?;
+    let bytes = fulfill_bytes(alloc, preimage, &payload)?;
     let peer = match last_address(packet.frames.again()) {
         Some(address) => Some(String::from_str(alloc, address)?),
         None => None,
@@ -77,13 +79,14 @@ fn fulfill_reply<'f, A: Allocator + Copy>(
 /// What became of a packet.
 #[derive(Drop)]
 enum Judged<A: Allocator + Copy> {
-    /// It breaks a rule, of this number.
+    /// It breaks a rule, whose reason has this number.
     Rejected(u8),
     /// It took effect: its Fulfill, and the peer's new address, where it has one.
     Taken(Vec<u8, A>, Option<String<A>>),
 }
 
-/// Judges a packet, and lets it take effect where it breaks no rule. All memory is taken before anything changes.
+/// Judges a packet, and makes it take effect where it breaks no rule. Its Fulfill has this fulfillment. All memory is taken
+/// before anything changes.
 fn judge_packet<A: Allocator + Copy>(
     alloc: A,
     keys: &Keys,
@@ -91,8 +94,10 @@ fn judge_packet<A: Allocator + Copy>(
     intake: &mut Intake<A>,
     prepare: &Prepare<'_>,
     packet: &StreamPacket<'_>,
+    preimage: [u8; 32],
 ) -> Result<Judged<A>, EndError>
-    requires { 12 ≤ length prepare.now.payload.now }
+    requires preimage { preimage ≡ fulfillment keys.now prepare.now.payload.now }
+    requires long { 12 ≤ length prepare.now.payload.now }
     ensures only_memory { IsOkUnless result EndError.NoMemory }
     ensures judged { IfOk result (λ j. IsJudged keys.now (prepare_seen prepare.now) (packet_of packet.now) outbox.old intake.old.state outbox.new intake.new.state j) }
     ensures unchanged { OnErr result ((outbox.new ≡ outbox.old) × (intake.new.state ≡ intake.old.state)) }
@@ -105,7 +110,7 @@ fn judge_packet<A: Allocator + Copy>(
             Ok(Judged::Rejected(reason.number()))
         }
         Decision::Fulfill(plan) => {
-            let reply = fulfill_reply(alloc, keys, intake, prepare, packet, &plan)?;
+            let reply = fulfill_reply(alloc, keys, intake, prepare, packet, preimage, &plan)?;
             let Reply {
                 bytes,
                 frames,
@@ -173,7 +178,7 @@ impl<A: Allocator + Copy> EndState<A> {
         })
     }
 
-    /// Fulfils or rejects a packet that opened.
+    /// Fulfils or rejects a packet that opened. The payload is hashed once, for the condition and the Fulfill.
     fn receive_packet(
         &mut self,
         prepare: &Prepare<'_>,
@@ -184,7 +189,8 @@ impl<A: Allocator + Copy> EndState<A> {
         ensures answers { IfOk result (λ r. received_as self.old (prepare_seen prepare.now) (opened_as self.old (prepare_seen prepare.now) (Ok (packet_of packet.now))) ≡ (received_seen r, self.new)) }
         ensures unchanged { OnErr result (self.new ≡ self.old) }
     {
-        if condition(self.keys.fulfillment(prepare.payload)) != prepare.condition {
+        let preimage = self.keys.fulfillment(prepare.payload);
+        if condition(preimage) != prepare.condition {
             return self.reject(prepare, packet, 55);
         }
         let judged = judge_packet(
@@ -194,6 +200,7 @@ impl<A: Allocator + Copy> EndState<A> {
             &mut self.intake,
             prepare,
             packet,
+            preimage,
         )?;
         match judged {
             Judged::Rejected(reason) => self.reject(prepare, packet, reason),
@@ -247,14 +254,16 @@ impl<A: Allocator + Copy> EndState<A> {
         self.receive_payload(prepare, &mut payload)
     }
 
-    /// Takes the bytes that came to this end, and gives the Fulfill or Reject that answers them (RFC 0027, RFC 0029). A
-    /// Prepare that breaks no rule is fulfilled: its data are taken first, then its money, then its closes. The limits of a
-    /// packet that opens are taken in any case.
+    /// Takes bytes that arrived at this end, at the moment `now`, and gives the Fulfill or Reject that answers them
+    /// (RFC 0027, RFC 0029). A Prepare that breaks no rule is fulfilled: its data are taken first, then its money, then
+    /// its closes. The limits in a packet that decrypts are taken even where the Prepare is rejected.
     ///
-    /// `reason` is 0 where the Prepare was fulfilled. Else it is that of the first rule that applies: 10 to 17 for bytes that
-    /// are no Prepare, 56 for another destination, 57 for one that expired, 30 to 32 for a payload that does not open, 55 for
-    /// a condition that is not the payload's, and 60 to 66 of `Reason`. Refused is want of memory alone, and then nothing
-    /// has changed: the caller may answer `t00`.
+    /// `reason` is 0 where the Prepare was fulfilled. Otherwise it is the number of the first rule that applies. 10 to
+    /// 17: the bytes are no Prepare. 56: it has another destination. 57: it expired. 30 to 32: its payload does not
+    /// decrypt to a packet. 55: its condition is not that of the payload. 60 to 66: a `Reason` of `st_receiver`.
+    ///
+    /// Fails with `NoMemory` alone, where memory is refused. Nothing has changed then, and the caller may answer with
+    /// `t00`.
     #[tactic(auto, using(crate::proofs::Taking::received_read, crate::proofs::Taking::received_unread))]
     pub fn receive(&mut self, bytes: &[u8], now: Moment) -> Result<Received<A>, EndError>
         ensures only_memory { IsOkUnless result EndError.NoMemory }

@@ -1,16 +1,16 @@
-//! What an end answers to bytes that came.
+//! The answer to bytes that arrived.
 
 use std::alloc::Allocator;
 
-/// The answer to bytes that came to an end, and what a record of answered Prepares needs of them.
+/// The answer to bytes that arrived at an end, and what a log of answered Prepares needs.
 #[derive(Drop)]
 pub struct Received<A: Allocator + Copy> {
     /// The Fulfill or Reject that answers them (RFC 0027).
     pub bytes: Vec<u8, A>,
-    /// Why they were rejected: 0 where they were fulfilled.
+    /// The number of the reason of a Reject; 0 for a Fulfill.
     pub reason: u8,
-    /// The amount of the Prepare: 0 where the bytes are none.
+    /// The amount of the Prepare in units of this end's asset; 0 where the bytes are no Prepare.
     pub amount: u64,
-    /// The sequence of its packet, where that opened.
+    /// The sequence of its packet (RFC 0029, section 5.2), where its payload was decrypted.
     pub sequence: Option<u64>,
 }

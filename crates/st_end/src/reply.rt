@@ -1,4 +1,4 @@
-//! The bytes of an end's answers.
+//! The bytes of an end's Fulfills and Rejects.
 
 ghost use Rattle.std.specs.Prelude.{◌≡◌, ◌≤◌, [], ◌∷◌, true, length, map, None, Some, IfOk, IsOkUnless};
 ghost use Rattle.st_oer.specs.Address.{is_address};

@@ -3,12 +3,13 @@
 ghost use Rattle.std.specs.Prelude.{◌≡◌};
 ghost use Rattle.st_end.specs.State.{parity};
 
-/// Which side of a connection an end is (RFC 0029, section 4.1): a client opens streams of odd numbers, a server of even ones.
+/// The side of a connection that an end is (RFC 0029, section 4.1). A client opens streams of odd numbers, a server of
+/// even numbers.
 #[derive(Clone, Copy, Debug, PartialEq, Eq)]
 pub enum Role {
-    /// It opens streams 1, 3, .. 63.
+    /// The client: it opens the streams 1, 3, .. 63.
     Client,
-    /// It opens streams 2, 4, .. 64.
+    /// The server: it opens the streams 2, 4, .. 64.
     Server,
 }
 

@@ -1,4 +1,4 @@
-//! What an end sends.
+//! The next Prepare of an end.
 
 ghost use Rattle.std.specs.Prelude.{◌≡◌, true, Ok, IfOk, IfSome, OnOk, OnErr, IsOkUnless, MatchOption};
 ghost use Rattle.std.specs.FinMap as map;
@@ -136,12 +136,13 @@ fn launch<A: Allocator + Copy>(
 }
 
 impl<A: Allocator + Copy> EndState<A> {
-    /// What goes next at this moment: a Prepare to the peer, sealed under this IV, and the flight that an answer to it spends
-    /// (RFC 0027, RFC 0029). It expires 30 seconds later. Its packet carries data or a close, and money beside it; where none
-    /// of these may go, it has one Blocked frame, or one limit of this end's for which the peer said Blocked and that has
-    /// risen since. `None` comes where the peer closed the connection, or where a limit that stands stops each due thing. No
-    /// two packets of a connection may have the same IV: that is the caller's care. Refused is want of memory alone, and then
-    /// nothing has changed.
+    /// The bytes of the next Prepare to the peer (RFC 0027, RFC 0029) at the moment `now`, and its `Flight`. It expires
+    /// 30 seconds later. Its packet has data or a close, and money beside it. Where none of these can be sent, it has
+    /// one Blocked frame, or one limit of this end that has risen since the peer sent Blocked for it.
+    ///
+    /// `None` where the peer closed the connection, or where a limit stops everything that waits. The packet is sealed
+    /// under `iv`: no two packets of a connection may have the same IV, which the caller must ensure. Fails with
+    /// `NoMemory` alone, where memory is refused, and then nothing has changed.
     pub fn send(
         &mut self,
         iv: [u8; 12],

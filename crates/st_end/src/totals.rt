@@ -1,4 +1,4 @@
-//! What an end did so far, and what it received.
+//! The totals of an end, and the reads of its streams.
 
 ghost use Rattle.std.specs.Prelude.{◌≡◌, ◌≤◌, OnErr};
 ghost use Rattle.st_receiver.specs.Limits as limits;
@@ -12,16 +12,16 @@ use crate::error::EndError;
 use st_receiver::Got;
 use std::alloc::Allocator;
 
-/// What an end did so far. None of these falls, and none is told past 2^64 - 1.
+/// The totals of an end. None of them falls, and each is at most 2^64 - 1.
 #[derive(Clone, Copy, Debug, PartialEq, Eq)]
 pub struct Totals {
-    /// Bytes of its writers that it accepted.
+    /// The number of bytes accepted by `EndState::write`.
     pub accepted: u64,
-    /// Bytes that were read.
+    /// The number of bytes given by `EndState::read`.
     pub delivered: u64,
-    /// The amounts of Prepares that it fulfilled.
+    /// The sum of the amounts of the Prepares that it fulfilled, in units of this end's asset.
     pub credited: u64,
-    /// The amounts of Prepares whose Fulfill it took.
+    /// The sum of the amounts of the Prepares whose Fulfill it took, in units of this end's asset.
     pub paid: u64,
 }
 
@@ -37,7 +37,7 @@ fn capped(count: u128) -> u64
 }
 
 impl<A: Allocator + Copy> EndState<A> {
-    /// What this end did so far. No memory.
+    /// The totals of this end. Does not allocate.
     pub fn totals(&self) -> Totals
         ensures { totals_seen result ≡ totals.totals self.now }
     {
@@ -49,23 +49,40 @@ impl<A: Allocator + Copy> EndState<A> {
         }
     }
 
-    /// Whether this end's own StreamClose of the stream was fulfilled: its clean one, or that of its abort. No memory.
+    /// Whether this end's own StreamClose of the stream was fulfilled: of a clean close or of an abort. Does not
+    /// allocate.
     pub fn settled(&self, stream: u8) -> bool
         ensures { result ≡ totals.settled self.now stream }
     {
         self.outbox.is_settled(stream)
     }
 
-    /// Whether the connection failed: nothing goes any more. No memory.
+    /// How many of this end's Prepares were sent and have no answer yet. Does not allocate.
+    pub fn in_flight(&self) -> usize
+        ensures { result ≡ totals.in_flight self.now }
+    {
+        self.outbox.in_flight()
+    }
+
+    /// Whether accepted bytes of a stream are not acknowledged by the peer, or the stream's close is not fulfilled. Does not
+    /// allocate.
+    pub fn waits(&self, stream: u8) -> bool
+        ensures { result ≡ totals.waits self.now stream }
+    {
+        self.outbox.is_waiting(stream)
+    }
+
+    /// Whether the connection failed. Nothing is sent any more then. Does not allocate.
     pub fn is_failed(&self) -> bool
         ensures { result ≡ self.now.sending.failed }
     {
         self.outbox.is_failed()
     }
 
-    /// Reads the first bytes that can be read on a stream, at most `max` of them. Where there are none it tells the end, once
-    /// all before it was read, or that there is nothing yet. After an abort it tells its code alone. The caller's condition
-    /// is that `max` is at least 1. Refused is `NoStream` where the stream is not open, and want of memory.
+    /// Reads the first bytes that can be read on a stream, at most `max` of them, where `max` is at least 1. Where
+    /// there are none, it gives `End` once all bytes were read, else `Nothing`. After an abort it gives `Aborted` with
+    /// the code. Fails with `NoStream` where the stream is not open, and with `NoMemory` where memory is refused.
+    /// Nothing has changed then.
     pub fn read(&mut self, stream: u8, max: usize) -> Result<Got<A>, EndError>
         requires { 1 ≤ max }
         ensures answers { OrWants self.old (reading.read self.old stream max) (read_seen result, self.new) }

@@ -32,6 +32,8 @@ mod both_ways;
 #[cfg(test)]
 mod ends;
 #[cfg(test)]
+mod examples;
+#[cfg(test)]
 mod lanes;
 #[cfg(test)]
 mod lossy;

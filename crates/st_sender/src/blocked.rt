@@ -1,4 +1,4 @@
-//! Where this end is stopped by the peer's limits.
+//! The Blocked frames: where a limit of the peer stops this end (RFC 0029, section 5.3).
 
 ghost use Rattle.std.specs.Prelude.{◌≡◌, true, false, ◌<◌, ◌^◌, length, MatchOption};
 ghost use Rattle.st_frames.specs.Frames.{ConnectionDataBlocked};
@@ -14,7 +14,8 @@ use crate::stream::Stream;
 use st_oer::Rate;
 use std::alloc::Allocator;
 
-/// A Blocked was fulfilled for this limit, or for a higher one.
+/// Whether a Blocked frame was already fulfilled for this limit or a higher one. `highest` is the highest limit for
+/// which one was.
 pub fn was_blocked(highest: Option<u64>, limit: u64) -> bool
     ensures { result ≡ due.was_blocked highest limit }
 {
@@ -24,7 +25,8 @@ pub fn was_blocked(highest: Option<u64>, limit: u64) -> bool
     }
 }
 
-/// The Blocked of the first stream that has one.
+/// The Blocked frame of the first stream, by number, that is stopped by a limit of the peer. `None` where no stream has
+/// one to send. `streams` has 65 places, one for each number from 0 to 64.
 pub fn first_blocked<A: Allocator + Copy>(
     streams: &[Option<Stream<A>>],
     flights: &[Flight<A>],
@@ -65,7 +67,9 @@ fn is_any_held<A: Allocator + Copy>(
     false
 }
 
-/// The Blocked of the connection.
+/// The ConnectionDataBlocked frame, where bytes wait beyond `told`, the peer's limit on the sum of the streams' ends.
+/// `None` where no bytes wait beyond it, where one was fulfilled for this limit, or where the packet has no room.
+/// `streams` has 65 places, one for each number from 0 to 64.
 pub fn connection_blocked<A: Allocator + Copy>(
     streams: &[Option<Stream<A>>],
     flights: &[Flight<A>],

@@ -1,6 +1,7 @@
-//! What is the same for all frames of one call.
+//! The bounds on one packet.
 
-/// How far the sum of the streams' ends may still rise, the packet's sequence, and how many bytes the packet may take.
+/// The bounds on one packet. `spare`: by how many bytes the sum of the streams' ends may still rise. `sequence`: the
+/// packet's sequence. `room`: how many bytes the packet may have.
 #[derive(Clone, Copy)]
 pub struct Bounds {
     pub spare: u128,

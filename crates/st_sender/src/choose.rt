@@ -1,4 +1,4 @@
-//! What goes next.
+//! The choice of what is sent next.
 
 ghost use Rattle.std.specs.Prelude.{[], ◌∷◌, ◌++◌, OnOk, OnErr, IfOk, IfSome, IsOkUnless, ◌≡◌, ◌<◌, ◌≤◌, ◌^◌, ◌-◌, length, MatchOption};
 ghost use Rattle.st_sender.specs.Allowed.{NoneReady, IsReadyAt, NoneFinished, IsFinishedAt, IsNext, IsNone, IsPlan, IsRest, lane_ends, IsTakeable, IsLoadOf, booked};
@@ -14,7 +14,7 @@ use crate::stream::Stream;
 use st_oer::Rate;
 use std::alloc::{AllocError, Allocator};
 
-/// Bytes of a stream.
+/// A range of bytes of a stream: `count` bytes from `offset` on.
 #[derive(Clone, Copy)]
 pub struct Row {
     pub stream: u8,
@@ -22,7 +22,7 @@ pub struct Row {
     pub count: u64,
 }
 
-/// The close of a stream.
+/// The close of a stream, with its code (RFC 0029, section 5.3).
 #[derive(Clone, Copy)]
 pub struct Ending {
     pub stream: u8,
@@ -90,7 +90,8 @@ fn first_finished<A: Allocator + Copy>(
     None
 }
 
-/// How far the sum of the streams' ends may still rise, and none where it is past the connection's limit.
+/// By how many bytes the sum of the streams' ends may still rise below `told`, the peer's limit of the connection.
+/// `None` where the sum is above that limit. `streams` has 65 places, one for each number from 0 to 64.
 pub fn spare<A: Allocator + Copy>(
     streams: &[Option<Stream<A>>],
     flights: &[Flight<A>],
@@ -132,7 +133,9 @@ fn choose<A: Allocator + Copy>(
     }
 }
 
-/// What goes next: money, and beside it data or a close, where one may go.
+/// What is sent next: money, and beside it one frame of data or one close where the bounds allow one. `None` where
+/// there is neither. `least` is the rate of the prepare amount, `limit` the packet limit in units of this end's asset.
+/// `streams` has 65 places, one for each number from 0 to 64. Fails where memory is refused.
 pub fn plan<A: Allocator + Copy>(
     streams: &[Option<Stream<A>>],
     flights: &[Flight<A>],
@@ -167,7 +170,8 @@ pub fn plan<A: Allocator + Copy>(
     Ok(Some((None, payments)))
 }
 
-/// The load goes: its bytes are copied, and it is in flight from now on.
+/// Sends a packet's contents: copies its bytes, and adds them to `flights`. `payments` is the money, and their sum is
+/// below 2^64. Fails with `NoMemory` where memory is refused, and then nothing has changed.
 pub fn launch<A: Allocator + Copy>(
     streams: &mut Vec<Option<Stream<A>>, A>,
     flights: &mut Vec<Flight<A>, A>,

@@ -1,4 +1,4 @@
-//! What is set for a connection.
+//! The configuration of a connection.
 
 ghost use Rattle.std.specs.Prelude.{◌≡◌, ◌<◌, ◌≤◌, MatchOption};
 ghost use Rattle.st_oer.specs.Ratios.{IsRatio, ratio};
@@ -7,14 +7,15 @@ ghost use Rattle.st_sender.specs.Configs.{IsConfig, config, with_least};
 use st_oer::Rate;
 use std::marker::Model;
 
-/// The most Prepares in flight at once.
+/// The greatest number of Prepares in flight at once: 64.
 pub const MAX_IN_FLIGHT: usize = 64;
-/// The most Prepares of a connection: 2^31 - 1. Both ends seal with one key, so RFC 0029 has a connection closed by then.
+/// The greatest number of Prepares of a connection: 2^31 - 1. Both ends seal with one key, so RFC 0029 has a connection
+/// closed by then.
 pub const MAX_PACKETS: u64 = (1 << 31) - 1;
-/// The greatest packet limit: 2^63 - 1.
+/// The greatest packet limit, in units of the sender's asset: 2^63 - 1.
 pub const MAX_PACKET_LIMIT: u64 = (1 << 63) - 1;
 
-/// How many Prepares a connection sends, and of what amounts.
+/// The configuration of a connection's sending side: the number of Prepares, the packet limit and the prepare amount.
 #[derive(Clone, Copy)]
 pub struct EndConfig {
     in_flight: usize,
@@ -37,9 +38,10 @@ impl Model for EndConfig {
 }
 
 impl EndConfig {
-    /// At most so many Prepares in flight at once, 1 to `MAX_IN_FLIGHT`, and so many in all, 1 to `MAX_PACKETS`, each of
-    /// at most so many units at first, 1 to `MAX_PACKET_LIMIT`. `None` exactly where one of these is another number. All
-    /// that is sent should arrive, unless `with_least` says less.
+    /// A configuration of `in_flight` Prepares in flight at once, 1 to `MAX_IN_FLIGHT`, and `packets` Prepares in all,
+    /// 1 to `MAX_PACKETS`. `packet_limit` is the greatest amount of one Prepare at the start, in units of the sender's
+    /// asset, 1 to `MAX_PACKET_LIMIT`. `None` exactly where one of them is outside its range. The prepare amount is the
+    /// whole amount of a packet, unless `with_least` sets another rate.
     pub fn new(in_flight: usize, packets: u64, packet_limit: u64) -> Option<EndConfig>
         ensures { MatchOption result (¬ IsConfig (config in_flight packets packet_limit)) (λ c. (c ≡ config in_flight packets packet_limit) × IsConfig c) }
     {
@@ -61,8 +63,8 @@ impl EndConfig {
         })
     }
 
-    /// Of an amount that is sent, so much should arrive, rounded down: the prepare amount of each packet (RFC 0029,
-    /// section 5.2), at most 2^64 - 1.
+    /// Sets the rate by which a packet's prepare amount (RFC 0029, section 5.2) is computed: the packet's amount times
+    /// `least`, rounded down, at most 2^64 - 1.
     pub fn with_least(self, least: Rate) -> EndConfig
         ensures { result ≡ with_least least self }
     {
@@ -74,14 +76,14 @@ impl EndConfig {
         }
     }
 
-    /// At most so many Prepares are in flight at once.
+    /// The greatest number of Prepares in flight at once: 1 to `MAX_IN_FLIGHT`.
     pub fn in_flight(&self) -> usize
         ensures { result ≡ self.now.in_flight }
     {
         self.in_flight
     }
 
-    /// At most so many Prepares go in all.
+    /// The greatest number of Prepares in all: 1 to `MAX_PACKETS`.
     pub fn packets(&self) -> u64
         ensures value { result ≡ self.now.packets }
         ensures few { result < 2147483648 }
@@ -89,14 +91,14 @@ impl EndConfig {
         self.packets
     }
 
-    /// The packet limit at first.
+    /// The packet limit at the start, in units of the sender's asset: 1 to `MAX_PACKET_LIMIT`.
     pub fn packet_limit(&self) -> u64
         ensures { result ≡ self.now.packet_limit }
     {
         self.packet_limit
     }
 
-    /// How much of an amount should arrive.
+    /// The rate by which a packet's prepare amount is computed from its amount.
     pub fn least(&self) -> Rate
         ensures value { result ≡ self.now.least }
         ensures ratio { IsRatio result }

@@ -7,7 +7,7 @@ ghost use Rattle.st_sender.specs.declared.error.OutboxError.TheVariants.{NoMemor
 use std::alloc::{AllocError, AllocFailed};
 use thiserror::Error;
 
-/// Why a call was refused.
+/// Why a call on an outbox was refused.
 #[derive(Clone, Copy, Debug, PartialEq, Eq, Error)]
 pub enum OutboxError {
     /// The stream is not open.
@@ -16,19 +16,19 @@ pub enum OutboxError {
     /// The stream was closed.
     #[error("the stream was closed")]
     Closed,
-    /// More than `MAX_UNACKED` bytes of the stream would be kept, or 2^63 bytes be accepted in all.
+    /// More than `MAX_UNACKED` bytes of the stream would be unacknowledged, or 2^63 bytes or more be accepted in all.
     #[error("too many bytes are not acknowledged")]
     Full,
-    /// All offers would come to 2^63 or more.
+    /// The sum of all offers would be 2^63 or more.
     #[error("the offers come to too much")]
     AmountTooLarge,
-    /// Memory that the call asked for was refused.
+    /// Out of memory: memory that the call asked for was refused.
     #[error("out of memory")]
     NoMemory,
 }
 
 impl OutboxError {
-    /// The number by which the refusal is known: 50 to 54.
+    /// The error's number: 50 to 54, in the order of the variants.
     pub fn number(&self) -> u8
         ensures { result ≡ errors.number self.now }
     {
@@ -41,7 +41,7 @@ impl OutboxError {
         }
     }
 
-    /// The number that the refusal wraps: none does.
+    /// The number of an inner error: always `None`.
     pub fn inner(&self) -> Option<u64>
         ensures { result ≡ errors.inner self.now }
     {

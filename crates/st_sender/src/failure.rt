@@ -1,20 +1,20 @@
-//! Why a flight failed, and what that does to the packet limit.
+//! Why a Prepare in flight failed, and what that does to the packet limit.
 
 ghost use Rattle.std.specs.Prelude.{◌≡◌, ◌||◌, nat_le};
 ghost use Rattle.st_sender.specs.Answering.{half, smaller, limit_after, is_final, failure_of};
 ghost use Rattle.st_sender.specs.Shown.{why};
 
-/// So many failures in a row fail the connection.
+/// The number of failures in a row that fail the connection: 200.
 pub const MAX_FAILURES: u64 = 200;
 
-/// Why a flight failed.
+/// Why a Prepare in flight failed.
 #[derive(Clone, Copy, Debug, PartialEq, Eq)]
 pub enum Failure {
-    /// A fault, an answer that does not fit, or a code that says nothing of what is sent.
+    /// No answer, an answer that does not fit, or a Reject whose code does not concern the packet's contents.
     Plain,
-    /// A code of letter F, but F08 and F99: the connection fails.
+    /// A Reject with a code that begins with F, other than F08 and F99 (RFC 0027): the connection fails.
     Final,
-    /// F08, with the received and the maximum amount where they can be read.
+    /// A Reject F08 (amount too large, RFC 0027), with the received and the maximum amount where its data have them.
     TooLarge(Option<(u64, u64)>),
 }
 
@@ -43,7 +43,7 @@ fn smaller(sent: u64, told: Option<(u64, u64)>) -> u128
 }
 
 impl Failure {
-    /// Why a Reject of this code fails a flight.
+    /// The failure that a Reject of this code is (RFC 0027). F08 is taken without its amounts.
     pub fn of(code: [u8; 3]) -> Failure
         ensures { why result ≡ failure_of code }
     {
@@ -58,7 +58,7 @@ impl Failure {
         }
     }
 
-    /// The connection fails.
+    /// Whether the connection fails at once.
     pub fn is_final(self) -> bool
         ensures { result ≡ is_final (why self) }
     {
@@ -69,7 +69,8 @@ impl Failure {
         }
     }
 
-    /// The packet limit after it.
+    /// The packet limit after this failure of a Prepare of amount `sent`, where it was `limit` before. F08 may lower
+    /// it, to 1 at least; other failures leave it.
     pub fn limit_after(self, limit: u64, sent: u64) -> u64
         ensures { result ≡ limit_after limit sent (why self) }
     {
@@ -81,7 +82,8 @@ impl Failure {
     }
 }
 
-/// Whether the connection has failed, after so many failures in a row.
+/// Whether the connection has failed: it had failed before, this failure is final, or `failures` is `MAX_FAILURES` or
+/// more.
 pub fn fails(failed: bool, failure: Failure, failures: u64) -> bool
     ensures { result ≡ (failed || is_final (why failure) || nat_le 200 failures) }
 {

@@ -1,4 +1,4 @@
-//! What streams do when a load goes, and when its answer comes.
+//! What a packet that is sent, its Fulfill and its failure do to the streams.
 
 ghost use Rattle.std.specs.Prelude.{[], ◌∷◌, ◌≡◌, ◌+◌, ◌≤◌, OnOk, OnErr, IfOk};
 ghost use Rattle.st_tables.specs.Slots.{slot};
@@ -16,7 +16,8 @@ use crate::notice::Notice;
 use crate::stream::{Stream, higher};
 use std::alloc::{AllocError, Allocator};
 
-/// The bytes of a frame, which are in flight by the sequence from now on.
+/// Copies the bytes of a frame of data, which are in flight under `sequence` from then on. Gives no bytes for any other
+/// frame. Fails where memory is refused.
 pub fn take<A: Allocator + Copy>(
     streams: &mut Vec<Option<Stream<A>>, A>,
     alloc: A,
@@ -106,7 +107,7 @@ fn acknowledge_blocked<A: Allocator + Copy>(
     }
 }
 
-/// And one at its receive max.
+/// Notes that a StreamMoneyBlocked was fulfilled for a receive max of the stream.
 fn acknowledge_money_blocked<A: Allocator + Copy>(
     streams: &mut Vec<Option<Stream<A>>, A>,
     stream: u64,
@@ -182,7 +183,7 @@ fn acknowledge_first<A: Allocator + Copy>(
     }
 }
 
-/// A flight was fulfilled.
+/// Acknowledges what a fulfilled Prepare carried: data, money and a close.
 pub fn acknowledge<A: Allocator + Copy>(streams: &mut Vec<Option<Stream<A>>, A>, flight: &Flight<A>)
     requires { IsCovered streams.old.items flight.now }
     ensures form { IsFlight flight.now }
@@ -204,8 +205,8 @@ fn highest_after(highest: Option<u64>, notice: Notice) -> Option<u64>
     }
 }
 
-/// What a flight said of limits was fulfilled: marks end, and the highest limit on the sum of the ends at which a Blocked
-/// was fulfilled is kept.
+/// Acknowledges what a fulfilled Prepare said of limits. A limit of this end above its mark ends the mark. `highest` is
+/// raised to the connection's limit at which a ConnectionDataBlocked was fulfilled.
 pub fn acknowledge_limits<A: Allocator + Copy>(
     marks: &mut Marks<A>,
     highest: &mut Option<u64>,
@@ -235,7 +236,7 @@ fn free_frame<A: Allocator + Copy>(
     }
 }
 
-/// A flight failed.
+/// Frees what a failed Prepare carried: it can be sent again.
 pub fn free<A: Allocator + Copy>(streams: &mut Vec<Option<Stream<A>>, A>, flight: &Flight<A>)
     ensures form { IsFlight flight.now }
     ensures frees { streams.new.items ≡ all_freed streams.old.items flight.now.sequence flight.now.frames }

@@ -1,9 +1,11 @@
-//! The sending side of a STREAM end (RFC 0029): `Outbox` keeps what each stream accepted until it is acknowledged, says
-//! what goes in the next Prepare, and takes the answers. There is no I/O, no clock and no cipher here. `specs/Sending.antt`
-//! says what is kept, `Accepting` and `Refusals` what a call on a stream does, `Due` and `Loads` what may go, `Answering`
-//! what an answer leaves; `Lanes`, `Landing`, `Allowed`, `Paying` and `Noticed` join them to the runs of `st_unacked`. A
-//! load has at most one frame of data or a close, and money beside it (`Plain`); where none of these may go, it has one
-//! Blocked frame, or one limit of this end's.
+//! The sending side of a STREAM end (RFC 0029). `Outbox` keeps the bytes and the money that each stream accepted until
+//! they are acknowledged. It chooses the contents of the next Prepare, and it takes the answers. There is no I/O, no
+//! clock and no cipher here. A `Load` is the contents of one packet: at most one frame of data or one close, and money
+//! beside it. Where none of these can be sent, it is one Blocked frame, or one limit of this end.
+//!
+//! `specs/Sending.antt` defines the state, `Accepting` and `Refusals` the calls on a stream, `Due` and `Loads` what may
+//! be sent, `Answering` what an answer changes. `Lanes`, `Landing`, `Allowed`, `Paying` and `Noticed` relate them to
+//! the runs of `st_unacked`.
 #![tactic(auto)]
 
 mod blocked;

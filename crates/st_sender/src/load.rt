@@ -1,4 +1,4 @@
-//! What goes in one Prepare, and what is kept of it until its answer.
+//! The contents of one Prepare, and what is kept of them until its answer.
 
 ghost use Rattle.std.specs.Prelude.{Some, None, IfNone, [], ◌∷◌, map, IfOk, IsOkUnless, ◌≡◌, ◌<◌, ◌^◌};
 ghost use Rattle.std.specs.List.{list_any};
@@ -14,18 +14,19 @@ use st_frames::Frame;
 use std::alloc::Allocator;
 use std::marker::Model;
 
-/// A frame that goes beside money (RFC 0029, section 5.3). Of data only where they lie is kept.
+/// The one frame that a packet may have beside money (RFC 0029, section 5.3). Of data only the place in the stream is
+/// kept, not the bytes.
 #[derive(Clone, Copy, Debug, PartialEq, Eq)]
 pub enum Flown {
-    /// StreamData: bytes of a stream from an offset on.
+    /// StreamData: `count` bytes of a stream from `offset` on.
     Data { stream: u8, offset: u64, count: u64 },
-    /// StreamClose, with an empty message.
+    /// StreamClose with a code and an empty message.
     Close { stream: u8, code: u8 },
-    /// A frame that goes alone.
+    /// A Blocked frame or a limit, in a packet of its own.
     Notice(Notice),
 }
 
-/// StreamMoney (RFC 0029, section 5.3.7): so much of the load's amount is for a stream.
+/// StreamMoney (RFC 0029, section 5.3.7): the part of a packet's amount that is for one stream.
 #[derive(Clone, Copy, Debug, PartialEq, Eq)]
 pub struct Payment {
     pub stream: u8,
@@ -45,7 +46,7 @@ impl Payment {
     }
 }
 
-/// All money of some payments.
+/// The sum of some payments, in units of this end's asset.
 pub fn total(payments: &[Payment]) -> u64
     requires { total payments.now < 2 ^ 64 }
     ensures { result ≡ total payments.now }
@@ -57,7 +58,8 @@ pub fn total(payments: &[Payment]) -> u64
     sum
 }
 
-/// What goes in one Prepare: a packet's sequence and frames (RFC 0029, section 5.2).
+/// The contents of one Prepare: its amount, and its packet's sequence, prepare amount and frames (RFC 0029, section
+/// 5.2).
 #[derive(Drop)]
 pub struct Load<A: Allocator + Copy> {
     pub(crate) sequence: u64,
@@ -115,28 +117,28 @@ fn first<'a, A: Allocator + Copy>(
 }
 
 impl<A: Allocator + Copy> Load<A> {
-    /// The packet's sequence: 1 for a connection's first load, and one more for each further one.
+    /// The packet's sequence: 1 for the first packet of a connection, and one more for each further one.
     pub fn sequence(&self) -> u64
         ensures { result ≡ self.now.sequence }
     {
         self.sequence
     }
 
-    /// The amount of the Prepare: all money of the load.
+    /// The amount of the Prepare in units of the sender's asset: the sum of the packet's money.
     pub fn amount(&self) -> u64
         ensures { result ≡ self.now.amount }
     {
         self.amount
     }
 
-    /// The packet's prepare amount: the least that the peer should accept.
+    /// The packet's prepare amount (RFC 0029, section 5.2): the least amount that the peer should accept.
     pub fn least(&self) -> u64
         ensures { result ≡ self.now.least }
     {
         self.least
     }
 
-    /// The packet's frames, in order.
+    /// The packet's frames, in order (RFC 0029, section 5.3). Fails with `NoMemory` where memory is refused.
     pub fn frames(&self) -> Result<Vec<Frame<'_>, A>, OutboxError>
         ensures only_memory { IsOkUnless result OutboxError.NoMemory }
         ensures frames { IfOk result (λ v. map seen v.items ≡ self.now.frames) }
@@ -152,7 +154,7 @@ impl<A: Allocator + Copy> Load<A> {
     }
 }
 
-/// What is kept of a load in flight.
+/// What is kept of a Prepare in flight: its sequence, its amount, its frame and its payments.
 #[derive(Drop)]
 pub struct Flight<A: Allocator + Copy> {
     pub(crate) sequence: u64,
@@ -246,7 +248,7 @@ impl<A: Allocator + Copy> Flight<A> {
         }
     }
 
-    /// The notice that it carries.
+    /// The Blocked frame or the limit that it carries. `None` where it carries neither.
     pub fn notice(&self) -> Option<Notice>
         ensures { IsNoticeOf self.now.frames result }
     {
@@ -266,7 +268,7 @@ impl<A: Allocator + Copy> Flight<A> {
         }
     }
 
-    /// Its money for the stream.
+    /// The money that it carries for the stream, in units of this end's asset.
     pub fn part(&self, number: u8) -> u64
         ensures { result ≡ part_of number self.now }
     {
@@ -278,21 +280,21 @@ impl<A: Allocator + Copy> Flight<A> {
     }
 }
 
-/// A close of the stream with this code is in flight.
+/// Whether a close of the stream with this code is in flight.
 pub fn closing<A: Allocator + Copy>(flights: &[Flight<A>], number: u8, code: u8) -> bool
     ensures { result ≡ any_frame (closes number code) flights.now }
 {
     flights.iter().any(|flight| flight.closes(number, code))
 }
 
-/// A flight tells the same limit as a notice.
+/// Whether a packet in flight carries the same limit of this end as `notice`, whatever its value.
 pub fn told<A: Allocator + Copy>(flights: &[Flight<A>], notice: Notice) -> bool
     ensures { result ≡ any_frame (tells (telling notice)) flights.now }
 {
     flights.iter().any(|flight| flight.tells(notice))
 }
 
-/// Where the stream's data in flight end.
+/// The highest end of the stream's data in flight: 0 where none are in flight.
 pub fn flights_end<A: Allocator + Copy>(flights: &[Flight<A>], number: u8) -> u128
     ensures end { result ≡ flying_end number flights.now }
     ensures small { result < 2 ^ 65 }
@@ -304,7 +306,7 @@ pub fn flights_end<A: Allocator + Copy>(flights: &[Flight<A>], number: u8) -> u1
     top
 }
 
-/// Takes the flight of a sequence out.
+/// Removes the flight of a sequence and gives it. `None` where there is none.
 pub fn take_flight<A: Allocator + Copy>(
     flights: &mut Vec<Flight<A>, A>,
     sequence: u64,

@@ -1,4 +1,4 @@
-//! The peer's marks: for each limit of this end's, its value when the peer last said Blocked.
+//! For each limit of this end, its value when the peer last sent Blocked for it. Such a value is a mark.
 
 ghost use Rattle.std.specs.Prelude.{◌≡◌, true, false, Some, slice_set, map, MatchOption, IfOk};
 ghost use Rattle.std.specs.List.{Contains};
@@ -19,7 +19,8 @@ use st_frames::Frame;
 use std::alloc::{AllocError, Allocator};
 use std::marker::Model;
 
-/// A mark of each limit: of the connection's, and by streams of those on offsets and on money.
+/// The marks: one for the connection's limit on offsets, and for each stream one for its limit on offsets and one for
+/// its receive max.
 #[derive(Drop)]
 pub struct Marks<A: Allocator + Copy> {
     connection: Option<u64>,
@@ -75,7 +76,7 @@ fn is_above_at<A: Allocator + Copy>(marks: &Vec<Option<u64>, A>, stream: u64, li
 }
 
 impl<A: Allocator + Copy> Marks<A> {
-    /// No mark.
+    /// Marks of which none is set. Fails where memory is refused.
     pub fn new(alloc: A) -> Result<Marks<A>, AllocError>
         ensures { IfOk result (λ m. m ≡ sending.no_marks) }
     {
@@ -100,7 +101,7 @@ impl<A: Allocator + Copy> Marks<A> {
         set_mark(&mut self.money, stream, receive_max);
     }
 
-    /// Sets the mark of the limit that a frame tells, at its value. Other frames are ignored.
+    /// Sets the mark of the limit that a frame carries, at its value. Other frames change nothing.
     pub fn mark(&mut self, frame: &Frame<'_>)
         ensures { self.new ≡ marked self.old (seen frame.now) }
     {
@@ -128,7 +129,7 @@ impl<A: Allocator + Copy> Marks<A> {
         end_mark(&mut self.money, stream, receive_max);
     }
 
-    /// A notice was fulfilled: a limit that it told above its mark ends the mark.
+    /// Takes a fulfilled notice: a limit that it carried above its mark ends the mark.
     pub fn acknowledged(&mut self, notice: Notice)
         ensures { self.new ≡ marks_acked self.old (telling notice) }
     {
@@ -188,7 +189,8 @@ impl<A: Allocator + Copy> Marks<A> {
         }
     }
 
-    /// The first of these frames that goes.
+    /// The first of the frames `limits` that can be sent: it is above its mark, it is not in flight, and the packet has
+    /// room for it. `None` where there is none.
     pub fn first_awaited(
         &self,
         flights: &[Flight<A>],

@@ -1,4 +1,4 @@
-//! What an end says of limits.
+//! Frames about limits.
 
 ghost use Rattle.std.specs.Prelude.{◌≡◌, false, MatchOption};
 ghost use Rattle.st_frames.specs.Seen.{seen};
@@ -8,35 +8,35 @@ ghost use Rattle.st_sender.specs.Shown.{telling};
 
 use st_frames::Frame;
 
-/// A frame that goes alone (RFC 0029, section 5.3): that something waits beyond a limit of the peer's, or how a limit of
-/// this end's stands.
+/// A frame that is sent in a packet of its own (RFC 0029, section 5.3): a Blocked frame for a limit of the peer, or the
+/// value of a limit of this end.
 #[derive(Clone, Copy, Debug, PartialEq, Eq)]
 pub enum Notice {
-    /// Bytes wait beyond the limit on the sum of the streams' ends.
+    /// Bytes wait beyond the peer's limit on the sum of the streams' ends, which is `max_offset`.
     ConnectionDataBlocked {
         max_offset: u64,
     },
-    /// Bytes of a stream wait beyond its limit.
+    /// Bytes of a stream wait beyond the peer's limit on its offsets, which is `max_offset`.
     StreamDataBlocked {
         stream: u64,
         max_offset: u64,
     },
-    /// Money of a stream waits beyond the peer's receive max. So much of it was fulfilled.
+    /// Money of a stream waits beyond the peer's receive max. `total` is how much of the stream's money was fulfilled.
     StreamMoneyBlocked {
         stream: u64,
         receive_max: u64,
         total: u64,
     },
-    /// The limit on the sum of the ends of the peer's streams.
+    /// This end's limit on the sum of the ends of the peer's streams.
     ConnectionMaxData {
         max_offset: u64,
     },
-    /// The limit on a stream of the peer's.
+    /// This end's limit on the offsets of a stream.
     StreamMaxData {
         stream: u64,
         max_offset: u64,
     },
-    /// This end's receive max of a stream. So much of it was received.
+    /// This end's receive max of a stream, and in `total` how much was received, in units of this end's asset.
     StreamMaxMoney {
         stream: u64,
         receive_max: u64,
@@ -45,7 +45,7 @@ pub enum Notice {
 }
 
 impl Notice {
-    /// The limit of this end's that a frame tells.
+    /// The limit that a frame carries. `None` for a frame that carries no limit.
     pub fn of_limit(frame: &Frame<'_>) -> Option<Notice>
         ensures { MatchOption result (is_limit (seen frame.now) ≡ false) (λ n. telling n ≡ seen frame.now) }
     {
@@ -69,7 +69,7 @@ impl Notice {
         }
     }
 
-    /// The frame as it is written.
+    /// The frame that is written for it.
     pub fn spelled<'a>(self) -> Frame<'a>
         ensures { seen result ≡ telling self }
     {
@@ -105,7 +105,7 @@ impl Notice {
         }
     }
 
-    /// It tells the same limit of this end's as another, whatever its value.
+    /// Whether both carry the same limit of this end, whatever their values.
     pub fn tells_same(self, other: Notice) -> bool
         ensures { result ≡ same_limit (telling self) (telling other) }
     {

@@ -1,4 +1,4 @@
-//! What an end sends.
+//! The sending side's state and its calls.
 
 ghost use Rattle.std.specs.Prelude.{true, false, ◌≡◌, ◌≢◌, ℕ, ◌<◌, ◌≤◌, List, length, map, None, Some, OnOk, OnErr, IfOk, IfSome, IsOkUnless, MatchOption};
 ghost use Rattle.std.specs.List.{AllByRecursion};
@@ -11,6 +11,7 @@ ghost use Rattle.st_sender.specs.Flights.{flight_at};
 ghost use Rattle.st_sender.specs.Shown.{why};
 ghost use Rattle.st_sender.specs.Refusals.{write_refusal, close_refusal, abort_refusal, offer_refusal, Answers, AnswersOrWants};
 ghost use Rattle.st_sender.specs.Refusals as specs;
+ghost use Rattle.st_sender.specs.Waiting.{is_waiting};
 ghost use Rattle.st_sender.specs.Loads.{Fits, IsIdle, Sends};
 ghost use Rattle.st_sender.specs.Filling.{full_room, Fills};
 ghost use Rattle.st_oer.specs.Ratios.{ratio};
@@ -33,17 +34,17 @@ use crate::notice::Notice;
 use crate::stream::Stream;
 use crate::streams::{
     abort, accept, all_accepted, close, is_open, no_streams, offer, open, raise, raise_money,
-    settled,
+    settled, waiting,
 };
 use st_frames::Frame;
 use std::alloc::Allocator;
 use std::marker::Model;
 
-/// The room in which a load is filled: money up to the packet limit, where all that is sent should arrive, and 16,000 bytes,
-/// or all in a row that may go.
+/// A packet's length in bytes, `room`, at which `next` fills the packet. It has 16,000 bytes of data, or all in a row
+/// that may be sent. Where the prepare amount is the whole amount, it has money up to the packet limit.
 pub const FULL_ROOM: usize = 18_432;
 
-/// What an end sends: its streams, what is in flight, and the limits that stand.
+/// The sending side of a connection: its streams, the Prepares in flight, and the limits of the peer.
 #[derive(Drop)]
 pub struct Outbox<A: Allocator + Copy> {
     config: EndConfig,
@@ -95,7 +96,7 @@ impl<A: Allocator + Copy> Model for Outbox<A> {
 }
 
 impl<A: Allocator + Copy> Outbox<A> {
-    /// No stream is open, and nothing was sent.
+    /// A sending side with no open stream, which has sent nothing. Fails with `NoMemory` where memory is refused.
     pub fn new(alloc: A, config: EndConfig) -> Result<Outbox<A>, OutboxError>
         ensures only_memory { IsOkUnless result OutboxError.NoMemory }
         ensures opening { IfOk result (λ o. o ≡ new_sending config) }
@@ -118,7 +119,7 @@ impl<A: Allocator + Copy> Outbox<A> {
         })
     }
 
-    /// Whether a stream is open. No memory.
+    /// Whether a stream is open. Does not allocate.
     pub fn has_stream(&self, stream: u8) -> bool
         ensures yes { result ≡ true → outgoing_at self.now stream ≢ None }
         ensures no { result ≡ false → outgoing_at self.now stream ≡ None }
@@ -126,35 +127,49 @@ impl<A: Allocator + Copy> Outbox<A> {
         is_open(&self.streams, stream)
     }
 
-    /// Whether a StreamClose of the stream was fulfilled: its clean one, or that of its abort. No memory.
+    /// Whether a StreamClose of the stream was fulfilled: of a clean close or of an abort. Does not allocate.
     pub fn is_settled(&self, stream: u8) -> bool
         ensures { result ≡ is_settled (outgoing_at self.now stream) }
     {
         settled(&self.streams, stream)
     }
 
-    /// Whether the connection failed: nothing goes any more. No memory.
+    /// Whether accepted bytes of a stream are not acknowledged, or its close is not fulfilled. Does not allocate.
+    pub fn is_waiting(&self, stream: u8) -> bool
+        ensures { result ≡ is_waiting (outgoing_at self.now stream) }
+    {
+        waiting(&self.streams, stream)
+    }
+
+    /// How many Prepares have no answer yet. Does not allocate.
+    pub fn in_flight(&self) -> usize
+        ensures { result ≡ length self.now.flights }
+    {
+        self.flights.len()
+    }
+
+    /// Whether the connection failed. Nothing is sent any more then. Does not allocate.
     pub fn is_failed(&self) -> bool
         ensures { result ≡ self.now.failed }
     {
         self.failed
     }
 
-    /// How many bytes were accepted on all streams. No memory.
+    /// The number of bytes accepted on all streams. Does not allocate.
     pub fn accepted(&self) -> u128
         ensures { result ≡ specs.all_accepted self.now.streams }
     {
         all_accepted(&self.streams)
     }
 
-    /// The amounts of the loads that were fulfilled, in all. No memory.
+    /// The sum of the amounts of all fulfilled Prepares, in units of the sender's asset. Does not allocate.
     pub fn paid(&self) -> u128
         ensures { result ≡ self.now.paid }
     {
         self.paid
     }
 
-    /// A stream opens that is not open yet, of number 1 to 64.
+    /// Opens the stream of a number from 1 to 64 that is not open.
     pub fn add_stream(&mut self, stream: u8)
         requires within { stream < 65 }
         requires fresh { outgoing_at self.old stream ≡ None }
@@ -163,8 +178,10 @@ impl<A: Allocator + Copy> Outbox<A> {
         open(&mut self.streams, self.alloc, stream);
     }
 
-    /// Takes bytes that are to be sent on a stream: all of them, or none. Refused is, in this order: `NoStream`; `Closed`
-    /// after a close or an abort; `Full`; want of memory.
+    /// Queues bytes to be sent on a stream: all of them, or none. Fails with the first of these that applies:
+    /// `NoStream` where the stream is not open; `Closed` after a close or an abort; `Full` where more than
+    /// `MAX_UNACKED` bytes of the stream would be unacknowledged or 2^63 or more be accepted in all; `NoMemory` where
+    /// memory is refused. Nothing has changed then.
     pub fn accept(&mut self, stream: u8, bytes: &[u8]) -> Result<(), OutboxError>
         ensures accepts { OnOk result (self.new ≡ changed self.old stream (after_write bytes.now)) }
         ensures unchanged { OnErr result (self.new ≡ self.old) }
@@ -173,8 +190,9 @@ impl<A: Allocator + Copy> Outbox<A> {
         accept(&mut self.streams, stream, bytes)
     }
 
-    /// A clean close of a stream: its StreamClose goes once all bytes are acknowledged and all money is fulfilled. Refused
-    /// is, in this order: `NoStream`; `Closed` after a close or an abort. No memory.
+    /// Closes a stream cleanly. Its StreamClose with code 1 (RFC 0029, section 5.3) is sent once all its bytes are
+    /// acknowledged and all its money is fulfilled. Fails with the first of these that applies: `NoStream` where the
+    /// stream is not open; `Closed` after a close or an abort. Nothing has changed then. Does not allocate.
     pub fn close(&mut self, stream: u8) -> Result<(), OutboxError>
         ensures closes { OnOk result (self.new ≡ changed self.old stream after_clean) }
         ensures unchanged { OnErr result (self.new ≡ self.old) }
@@ -183,8 +201,9 @@ impl<A: Allocator + Copy> Outbox<A> {
         close(&mut self.streams, stream)
     }
 
-    /// An abort of a stream, with a code other than 1: what is not acknowledged is dropped. Refused is, in this order:
-    /// `NoStream`; `Closed` after an abort. No memory.
+    /// Aborts a stream with a code of RFC 0029, section 5.3, other than 1. What is not acknowledged is dropped. Fails
+    /// with the first of these that applies: `NoStream` where the stream is not open; `Closed` after an abort. Nothing
+    /// has changed then. Does not allocate.
     pub fn abort(&mut self, stream: u8, code: u8) -> Result<(), OutboxError>
         ensures aborts { OnOk result (self.new ≡ changed self.old stream (after_stream_abort code)) }
         ensures unchanged { OnErr result (self.new ≡ self.old) }
@@ -193,8 +212,9 @@ impl<A: Allocator + Copy> Outbox<A> {
         abort(&mut self.streams, stream, code)
     }
 
-    /// An offer of so many units on a stream. Refused is, in this order: `NoStream`; `Closed` after a close or an abort;
-    /// `AmountTooLarge`. No memory.
+    /// Offers `amount` more units of the sender's asset on a stream. Fails with the first of these that applies:
+    /// `NoStream` where the stream is not open; `Closed` after a close or an abort; `AmountTooLarge` where all offers
+    /// together would be 2^63 or more. Nothing has changed then. Does not allocate.
     pub fn offer(&mut self, stream: u8, amount: u64) -> Result<(), OutboxError>
         ensures offers { OnOk result (self.new ≡ changed self.old stream (after_offer amount)) }
         ensures unchanged { OnErr result (self.new ≡ self.old) }
@@ -215,8 +235,8 @@ impl<A: Allocator + Copy> Outbox<A> {
         raise_money(&mut self.streams, stream, receive_max, total);
     }
 
-    /// A limit that the peer tells (RFC 0029, section 5.3). It only rises, and that of a stream that is
-    /// not open is ignored, as are other frames. No memory.
+    /// Takes a limit that the peer advertised (RFC 0029, section 5.3). A limit only rises. The limit of a stream that
+    /// is not open is ignored, and so is any other frame. Does not allocate.
     pub fn raise_limits(&mut self, frame: &Frame<'_>)
         ensures { self.new ≡ after_told self.old (seen frame.now) }
     {
@@ -232,8 +252,8 @@ impl<A: Allocator + Copy> Outbox<A> {
         }
     }
 
-    /// The peer said Blocked at a limit of this end, which this frame tells as it stands: once the limit is above that, it
-    /// is due. Other frames are ignored. No memory.
+    /// Notes that the peer sent Blocked for a limit of this end. `frame` is that limit as it stands. Once the limit
+    /// rises above this value, `next` may send it. Other frames are ignored. Does not allocate.
     pub fn mark(&mut self, frame: &Frame<'_>)
         ensures { self.new ≡ after_marked self.old (seen frame.now) }
     {
@@ -323,10 +343,14 @@ impl<A: Allocator + Copy> Outbox<A> {
         Ok(Some(load))
     }
 
-    /// The load that goes next: the lowest due bytes of a stream, or a close, and beside it as much money as may go; where none
-    /// of these may go, a Blocked, or else one of these limits of this end's that is above the peer's mark. `None` comes only
-    /// where a limit that stands, the room among them, stops each due thing. `room` is how many bytes the packet may take; in
-    /// one of `FULL_ROOM` a load is filled. Refused is want of memory alone.
+    /// The contents of the next packet (RFC 0029, section 5.2), which are in flight from then on. They are the lowest
+    /// queued bytes of a stream, or a close, and as much money beside them as may be sent. Where none of these can be
+    /// sent, they are one Blocked frame, or else one of `limits` that is above its mark. `limits` are the limits of
+    /// this end.
+    ///
+    /// `room` is how many bytes the packet may have; with `FULL_ROOM` or more it is filled. `None` only where a limit,
+    /// `room` among them, stops everything that waits. Fails with `NoMemory` where memory is refused, and then nothing
+    /// has changed.
     pub fn next(
         &mut self,
         room: usize,
@@ -366,8 +390,8 @@ impl<A: Allocator + Copy> Outbox<A> {
         Ok(Some(load))
     }
 
-    /// A fitting Fulfill came for the flight of this sequence: what it carried is acknowledged. Where none is in flight by
-    /// this sequence, nothing changes. No memory.
+    /// Takes a fitting Fulfill for the Prepare of this sequence: what it carried is acknowledged. Where none is in
+    /// flight under this sequence, nothing changes. Does not allocate.
     pub fn acknowledged(&mut self, sequence: u64)
         ensures { MatchOption (flight_at self.old.flights sequence) (self.new ≡ self.old) (λ p. self.new ≡ after_fulfilled self.old p) }
     {
@@ -393,27 +417,29 @@ impl<A: Allocator + Copy> Outbox<A> {
         self.failed = fails(self.failed, failure, self.failures);
     }
 
-    /// A Reject of this code came for the flight of this sequence (RFC 0027): what it carried is due again, unless an abort
-    /// dropped it. F08 lowers the packet limit as `too_large` without data does; another code of letter F, but F99, fails
-    /// the connection; so do `MAX_FAILURES` failures in a row. A fault, and an answer that does not fit, count as a code of
-    /// letter T. Where none is in flight by this sequence, nothing changes. No memory.
+    /// Takes a Reject of this code (RFC 0027) for the Prepare of this sequence. What it carried can be sent again,
+    /// unless an abort dropped it. F08 lowers the packet limit, as `too_large` without amounts does. Any other code
+    /// that begins with F, except F99, fails the connection, and so do `MAX_FAILURES` failures in a row. Report no
+    /// answer, or an answer that does not fit, with a code that begins with T. Where none is in flight under this
+    /// sequence, nothing changes. Does not allocate.
     pub fn failed(&mut self, sequence: u64, code: [u8; 3])
         ensures { MatchOption (flight_at self.old.flights sequence) (self.new ≡ self.old) (λ p. self.new ≡ after_failed self.old p (failure_of code)) }
     {
         self.fail(sequence, Failure::of(code));
     }
 
-    /// F08 came for the flight of this sequence, with the received and the maximum amount where they can be read: the packet
-    /// limit becomes the lesser of itself and what was sent times the maximum by the received, at least 1; half of what was
-    /// sent where they say nothing. No memory.
+    /// Takes a Reject F08 (RFC 0027) for the Prepare of this sequence. `told` is the received and the maximum amount of
+    /// its data, where they can be read. The packet limit becomes the amount sent times the maximum divided by the
+    /// received amount, at least 1, or half of the amount sent where these say nothing. It never rises. Where none is
+    /// in flight under this sequence, nothing changes. Does not allocate.
     pub fn too_large(&mut self, sequence: u64, told: Option<(u64, u64)>)
         ensures { MatchOption (flight_at self.old.flights sequence) (self.new ≡ self.old) (λ p. self.new ≡ after_failed self.old p (TooLarge told)) }
     {
         self.fail(sequence, Failure::TooLarge(told));
     }
 
-    /// Undoes the `next` that gave this load and was the last call: its sequence goes again. Where another sequence was the
-    /// last, nothing changes. No memory.
+    /// Undoes the call of `next` that gave this load, where that was the last call: its sequence is used again. Where
+    /// the last sequence is another one, nothing changes. Does not allocate.
     pub fn take_back(&mut self, load: Load<A>)
         ensures stale { load.sequence ≢ self.old.last → self.new ≡ self.old }
         ensures undoes { (before : Sending) (limits : List Known) (room : ℕ) → Sends before limits room load self.old → self.new ≡ before }

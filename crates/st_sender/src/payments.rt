@@ -1,4 +1,4 @@
-//! Money that rides along.
+//! The money of a packet.
 
 ghost use Rattle.std.specs.Prelude.{[], ◌∷◌, ◌≡◌, ◌<◌, ◌≤◌, ◌^◌, ◌-◌, ◌*◌, length, IfOk, MatchOption};
 ghost use Rattle.st_sender.specs.Allowed.{IsUnit, NoneUnit, least_for};
@@ -11,13 +11,13 @@ use crate::stream::Stream;
 use st_oer::Rate;
 use std::alloc::{AllocError, Allocator};
 
-/// A payment makes a packet at most so many bytes longer: its frame has at most 20 bytes, and the packet's amount and its
-/// number of frames grow by at most 7 bytes each (RFC 0029, section 5.2; RFC 0030).
+/// The most bytes by which a payment makes a packet longer: its frame has at most 20 bytes, and the packet's amount and
+/// its number of frames grow by at most 7 bytes each (RFC 0029, section 5.2; RFC 0030).
 pub const PAYMENT_SIZE: usize = 34;
-/// A packet without frames has at most so many bytes.
+/// The most bytes of a packet without frames.
 pub const EMPTY_SIZE: usize = 15;
 
-/// An amount without a stream's money in flight.
+/// `amount` less the stream's money in flight, at least 0.
 pub fn without_money<A: Allocator + Copy>(flights: &[Flight<A>], number: u8, amount: u64) -> u64
     ensures { result ≡ amount - flown_money number flights.now }
 {
@@ -28,7 +28,8 @@ pub fn without_money<A: Allocator + Copy>(flights: &[Flight<A>], number: u8, amo
     rest
 }
 
-/// An amount without what of a stream's money in flight should arrive at least.
+/// `amount` less the prepare amounts of the stream's money in flight, at least 0. `least` is the rate of the prepare
+/// amount.
 pub fn without_least<A: Allocator + Copy>(
     flights: &[Flight<A>],
     number: u8,
@@ -44,7 +45,7 @@ pub fn without_least<A: Allocator + Copy>(
     rest as u64
 }
 
-/// The greatest amount of which at most this much should arrive.
+/// The greatest amount whose prepare amount is at most `left`. `least` is the rate of the prepare amount.
 pub fn most_for(least: Rate, left: u64) -> u128
     ensures { result ≡ most_for least left }
 {
@@ -52,7 +53,7 @@ pub fn most_for(least: Rate, left: u64) -> u128
         / u128::from(least.num())
 }
 
-/// The prepare amount of an amount that is sent.
+/// The prepare amount of an amount that is sent (RFC 0029, section 5.2). `least` is its rate.
 pub fn least_for(least: Rate, amount: u64) -> u64
     ensures { result ≡ least_for least amount }
 {
@@ -74,7 +75,8 @@ fn payable_at<A: Allocator + Copy>(
     }
 }
 
-/// Money of all streams, as much as may go: in all at most the limit, and no more payments than the room surely takes.
+/// The money of all streams that one packet carries: at most `limit` units in all, and no more payments than fit in
+/// `room` bytes. `streams` has 65 places, one for each number from 0 to 64. Fails where memory is refused.
 pub fn payments<A: Allocator + Copy>(
     streams: &[Option<Stream<A>>],
     flights: &[Flight<A>],
@@ -102,7 +104,8 @@ pub fn payments<A: Allocator + Copy>(
     Ok(payments)
 }
 
-/// One unit of money, where the room takes no more.
+/// One unit of money of the first stream that may send one, where the packet has room for no more. `None` where no
+/// stream may, or where it does not fit.
 pub fn unit<A: Allocator + Copy>(
     streams: &[Option<Stream<A>>],
     flights: &[Flight<A>],

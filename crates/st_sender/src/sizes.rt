@@ -1,4 +1,4 @@
-//! How long a packet is that has one frame.
+//! The length in bytes of a packet that has one frame.
 
 ghost use Rattle.std.specs.Prelude.{[], ◌∷◌, length, ◌≡◌, ◌<◌, ◌≤◌, ◌+◌, ◌^◌, ◌⊎◌};
 ghost use Rattle.st_frames.specs.Written.{packet_length, contents_text};
@@ -73,7 +73,7 @@ fn notice_contents(notice: Notice) -> usize
     }
 }
 
-/// The length of a packet that has a notice.
+/// The length in bytes of a packet with one notice.
 pub fn notice_size(sequence: u64, notice: Notice) -> usize
     ensures { result ≡ packet_length sequence 0 (telling notice ∷ []) }
 {
@@ -87,21 +87,21 @@ fn data_size(sequence: u64, stream: u8, offset: u64, count: u64) -> usize
     packet_size(sequence, 0, data_contents(stream, offset, count))
 }
 
-/// The length of a packet that closes a stream.
+/// The length in bytes of a packet with one StreamClose.
 pub fn close_size(sequence: u64, stream: u8) -> usize
     ensures { result ≡ close_size sequence stream }
 {
     packet_size(sequence, 0, close_contents(stream))
 }
 
-/// The length of a packet that has one unit of money.
+/// The length in bytes of a packet with one unit of money. `least` is its prepare amount.
 pub fn unit_size(sequence: u64, least: u64, stream: u8) -> usize
     ensures { result ≡ unit_size sequence least stream }
 {
     packet_size(sequence, least, unit_contents(stream))
 }
 
-/// How many bytes of a stream go into a packet, at most so many.
+/// How many bytes of a stream, at most `most`, fit from `offset` on in a packet of `room` bytes.
 pub fn longest(sequence: u64, stream: u8, offset: u64, most: u64, room: usize) -> u64
     requires { most ≤ 16000 }
     ensures most { result ≤ most }

@@ -8,6 +8,7 @@ ghost use Rattle.st_sender.specs.Answering.{told_data, told_receive_max, acked_c
 ghost use Rattle.st_sender.specs.Landing.{acked_by, freed_by};
 ghost use Rattle.st_sender.specs.Flights.{flying_end};
 ghost use Rattle.st_sender.specs.Refusals.{is_closed};
+ghost use Rattle.st_sender.specs.Waiting.{is_waiting};
 ghost use Rattle.st_sender.specs.Lanes.{Lane, new_lane, due_in, on_out, claimed_by};
 ghost use Rattle.st_sender.specs.Allowed.{IsStopped, IsReady, IsFinished, AreBytes};
 ghost use Rattle.st_sender.specs.Paying.{payable, open_money};
@@ -27,10 +28,10 @@ use st_unacked::Unacked;
 use std::alloc::{AllocError, Allocator};
 use std::marker::Model;
 
-/// The most bytes of a stream that are kept until they are acknowledged.
+/// The most unacknowledged bytes of one stream: 262,144.
 pub const MAX_UNACKED: u64 = 262_144;
 
-/// What a stream has sent and has still to send.
+/// One outgoing stream: the bytes and the money that it has sent and has still to send.
 #[derive(Drop)]
 pub struct Stream<A: Allocator + Copy> {
     /// What was accepted and is not acknowledged.
@@ -77,7 +78,7 @@ impl<A: Allocator + Copy> Model for Stream<A> {
     ghost invariant = { λ a. a.acked_end < 2 ^ 65 };
 }
 
-/// The higher of the limits for which a Blocked was fulfilled.
+/// The higher of `limit` and `highest`, where there is a `highest`.
 pub fn higher(highest: Option<u64>, limit: u64) -> Option<u64>
     ensures { result ≡ higher highest limit }
 {
@@ -88,7 +89,7 @@ pub fn higher(highest: Option<u64>, limit: u64) -> Option<u64>
 }
 
 impl<A: Allocator + Copy> Stream<A> {
-    /// A stream on which nothing was accepted. It takes no memory yet.
+    /// A stream on which nothing was accepted. Does not allocate.
     pub fn new(alloc: A) -> Stream<A>
         ensures { result ≡ new_lane }
     {
@@ -108,49 +109,56 @@ impl<A: Allocator + Copy> Stream<A> {
         }
     }
 
-    /// A clean close or an abort was accepted.
+    /// Whether a clean close or an abort was accepted.
     pub fn is_closed(&self) -> bool
         ensures { result ≡ is_closed self.now.out }
     {
         self.abort.is_some() || self.clean
     }
 
-    /// An abort was accepted.
+    /// Whether an abort was accepted.
     pub fn is_aborted(&self) -> bool
         ensures { result ≡ is_some self.now.out.abort }
     {
         self.abort.is_some()
     }
 
-    /// Its StreamClose was fulfilled.
+    /// Whether a StreamClose of the stream was fulfilled.
     pub fn is_settled(&self) -> bool
         ensures { result ≡ (self.now.out.clean_settled || self.now.out.abort_settled) }
     {
         self.clean_settled || self.abort_settled
     }
 
-    /// So many more bytes would be too many to keep.
+    /// Accepted bytes are not acknowledged, or its close is not fulfilled.
+    pub fn is_waiting(&self) -> bool
+        ensures { result ≡ is_waiting (Some self.now.out) }
+    {
+        self.bytes.count() > 0 || (self.is_closed() && !self.is_settled())
+    }
+
+    /// Whether `count` more bytes would be more than `MAX_UNACKED`.
     pub fn is_full_with(&self, count: usize) -> bool
         ensures { result ≡ nat_lt 262144 (len self.now.out.unacked + count) }
     {
         u128::from(self.bytes.count()) + count as u128 > u128::from(MAX_UNACKED)
     }
 
-    /// How many bytes were accepted.
+    /// The number of bytes accepted.
     pub fn accepted(&self) -> u64
         ensures { result ≡ self.now.out.accepted }
     {
         self.bytes.accepted()
     }
 
-    /// All money ever offered.
+    /// The sum of all offers, in units of this end's asset.
     pub fn offered(&self) -> u64
         ensures { result ≡ self.now.out.offered }
     {
         self.offered
     }
 
-    /// Takes in bytes: all of them, or none.
+    /// Queues bytes: all of them, or none where memory is refused.
     pub fn accept(&mut self, bytes: &[u8]) -> Result<(), AllocError>
         requires { self.old.out.accepted + length bytes.now < 2 ^ 64 }
         ensures accepts { OnOk result (self.new ≡ on_out (after_write bytes.now) self.old) }
@@ -159,14 +167,14 @@ impl<A: Allocator + Copy> Stream<A> {
         self.bytes.accept(bytes)
     }
 
-    /// A clean close.
+    /// Takes a clean close.
     pub fn close(&mut self)
         ensures { self.new ≡ on_out after_clean self.old }
     {
         self.clean = true;
     }
 
-    /// An abort drops what is not acknowledged.
+    /// Takes an abort with this code, and drops what is not acknowledged.
     pub fn abort(&mut self, code: u8)
         ensures { self.new ≡ on_out (after_stream_abort code) self.old }
     {
@@ -175,7 +183,7 @@ impl<A: Allocator + Copy> Stream<A> {
         self.bytes.drop_bytes();
     }
 
-    /// More money.
+    /// Adds an offer of `amount` units. All offers of the stream together are below 2^64.
     pub fn offer(&mut self, amount: u64)
         requires { self.old.out.offered + amount < 2 ^ 64 }
         ensures { self.new ≡ on_out (after_offer amount) self.old }
@@ -183,14 +191,14 @@ impl<A: Allocator + Copy> Stream<A> {
         self.offered += amount;
     }
 
-    /// The peer's limit on offsets.
+    /// Takes the peer's limit on the stream's offsets. It only rises.
     pub fn raise(&mut self, max_offset: u64)
         ensures { self.new ≡ on_out (told_data max_offset) self.old }
     {
         self.told = self.told.max(max_offset);
     }
 
-    /// The peer's receive max, and what it received.
+    /// Takes the peer's receive max of the stream, and how much it received. Both only rise.
     pub fn raise_money(&mut self, receive_max: u64, total: u64)
         ensures { self.new ≡ on_out (told_receive_max receive_max total) self.old }
     {
@@ -200,7 +208,7 @@ impl<A: Allocator + Copy> Stream<A> {
         };
     }
 
-    /// Where its data in flight or acknowledged end.
+    /// The highest end of its data in flight or acknowledged.
     pub fn sent_end(&self, flights: &[Flight<A>], number: u8) -> u128
         ensures end { result ≡ max self.now.out.acked_end (flying_end number flights.now) }
         ensures small { result < 2 ^ 65 }
@@ -208,7 +216,7 @@ impl<A: Allocator + Copy> Stream<A> {
         self.acked_end.max(flights_end(flights, number))
     }
 
-    /// The lowest due bytes, as many as may go: where they begin, and how many.
+    /// The lowest queued bytes that may be sent: their offset, and how many of them. `None` where none may be sent.
     pub fn ready(&self, flights: &[Flight<A>], number: u8, bounds: Bounds) -> Option<(u64, u64)>
         requires { bounds.spare < 2 ^ 64 }
         ensures { MatchOption result (IsStopped flights.now bounds number self.now) (λ r. IsReady flights.now bounds number self.now r.0 r.1) }
@@ -230,7 +238,7 @@ impl<A: Allocator + Copy> Stream<A> {
         Some((from, count))
     }
 
-    /// The code of a close that is due.
+    /// The code of a StreamClose that can be sent. `None` where there is none.
     pub fn finished(&self, flights: &[Flight<A>], number: u8, bounds: Bounds) -> Option<u8>
         ensures { MatchOption result ((code : ℕ) → ¬ IsFinished flights.now bounds number self.now code) (λ code. IsFinished flights.now bounds number self.now code) }
     {
@@ -269,7 +277,7 @@ impl<A: Allocator + Copy> Stream<A> {
         without_money(flights, number, self.offered.saturating_sub(self.fulfilled))
     }
 
-    /// How much of its money may go.
+    /// How much of its money may be sent, in units of this end's asset. `least` is the rate of the prepare amount.
     pub fn payable(&self, flights: &[Flight<A>], number: u8, least: Rate) -> u64
         ensures { result ≡ payable least flights.now number (Some self.now) }
     {
@@ -284,7 +292,8 @@ impl<A: Allocator + Copy> Stream<A> {
         }
     }
 
-    /// Whether a due byte lies beyond how far the sum of the ends may rise.
+    /// Whether a queued byte lies beyond the connection's limit. `spare` is by how many bytes the sum of the streams'
+    /// ends may still rise.
     pub fn is_held(&self, flights: &[Flight<A>], number: u8, spare: u128) -> bool
         requires { spare < 2 ^ 64 }
         ensures yes { result ≡ true → IsHeld flights.now spare number self.now }
@@ -338,7 +347,8 @@ impl<A: Allocator + Copy> Stream<A> {
         Some(notice)
     }
 
-    /// The Blocked of it that goes.
+    /// The Blocked frame of the stream that can be sent: of its offsets first, else of its receive max. `None` where
+    /// there is none.
     pub fn blocked(
         &self,
         flights: &[Flight<A>],
@@ -354,7 +364,8 @@ impl<A: Allocator + Copy> Stream<A> {
         }
     }
 
-    /// A copy of its due bytes from an offset on, which are in flight from now on.
+    /// Copies `count` queued bytes from `offset` on, which are in flight under `sequence` from then on. Fails where
+    /// memory is refused, and then nothing has changed.
     pub fn take(
         &mut self,
         alloc: A,
@@ -374,7 +385,7 @@ impl<A: Allocator + Copy> Stream<A> {
         Ok(bytes)
     }
 
-    /// A frame of its data was fulfilled.
+    /// Acknowledges the bytes in flight under `sequence`, which are `count` bytes from `offset` on.
     pub fn acknowledged(&mut self, sequence: u64, offset: u64, count: u64)
         ensures { self.new ≡ acked_by sequence offset count self.old }
     {
@@ -382,7 +393,7 @@ impl<A: Allocator + Copy> Stream<A> {
         self.acked_end = self.acked_end.max(u128::from(offset) + u128::from(count));
     }
 
-    /// Money of it was fulfilled.
+    /// Takes the Fulfill of `amount` units of its money.
     pub fn pay(&mut self, amount: u64)
         requires { self.old.out.fulfilled + amount ≤ self.old.out.offered }
         ensures { self.new ≡ on_out (acked_money amount) self.old }
@@ -390,28 +401,28 @@ impl<A: Allocator + Copy> Stream<A> {
         self.fulfilled += amount;
     }
 
-    /// What a sequence carried failed.
+    /// Frees what was in flight under `sequence`: it can be sent again.
     pub fn failed(&mut self, sequence: u64)
         ensures { self.new ≡ freed_by sequence self.old }
     {
         self.bytes.failed(sequence);
     }
 
-    /// A Blocked at this limit on offsets was fulfilled.
+    /// Notes that a StreamDataBlocked was fulfilled for this limit on offsets.
     pub fn told_blocked(&mut self, max_offset: u64)
         ensures { self.new ≡ on_out (acked_blocked max_offset) self.old }
     {
         self.blocked = higher(self.blocked, max_offset);
     }
 
-    /// And one at this receive max.
+    /// Notes that a StreamMoneyBlocked was fulfilled for this receive max.
     pub fn told_money_blocked(&mut self, receive_max: u64)
         ensures { self.new ≡ on_out (acked_money_blocked receive_max) self.old }
     {
         self.blocked_money = higher(self.blocked_money, receive_max);
     }
 
-    /// Its StreamClose of this code was fulfilled.
+    /// Notes that its StreamClose of this code was fulfilled.
     pub fn settle(&mut self, code: u8)
         ensures { self.new ≡ on_out (acked_close code) self.old }
     {

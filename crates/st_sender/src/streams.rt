@@ -1,4 +1,4 @@
-//! The streams by their numbers, 0 to 64, of which 0 stays free.
+//! The streams by number: 65 places for the numbers 0 to 64. Place 0 stays empty.
 
 ghost use Rattle.std.specs.Prelude.{true, false, ◌≡◌, ◌≢◌, ℕ, ◌+◌, ◌<◌, ◌≤◌, ◌^◌, None, Some, length, nat_le, slice_set, OnOk, OnErr, IfOk};
 ghost use Rattle.st_tables.specs.Slots.{slot, with_slot, no_slots};
@@ -7,12 +7,13 @@ ghost use Rattle.st_sender.specs.Answering.{told_data, told_receive_max, is_sett
 ghost use Rattle.st_sender.specs.Lanes.{changed_lane, on_out, out_of, outs, new_lane};
 ghost use Rattle.st_sender.specs.Refusals.{refusal_at, is_closed, is_aborted, no_more, full, too_much, Answers, AnswersOrWants, accepted_of, offered_of};
 ghost use Rattle.st_sender.specs.Refusals as specs;
+ghost use Rattle.st_sender.specs.Waiting.{is_waiting};
 
 use crate::error::OutboxError;
 use crate::stream::Stream;
 use std::alloc::{AllocError, Allocator};
 
-/// No stream.
+/// 65 places without a stream. Fails where memory is refused.
 pub fn no_streams<A: Allocator + Copy>(alloc: A) -> Result<Vec<Option<Stream<A>>, A>, AllocError>
     ensures { IfOk result (λ v. v.items ≡ no_slots) }
 {
@@ -23,7 +24,7 @@ pub fn no_streams<A: Allocator + Copy>(alloc: A) -> Result<Vec<Option<Stream<A>>
     Ok(slots)
 }
 
-/// No mark.
+/// 65 places without a mark. Fails where memory is refused.
 pub fn no_marks<A: Allocator + Copy>(alloc: A) -> Result<Vec<Option<u64>, A>, AllocError>
     ensures { IfOk result (λ v. v.items ≡ no_slots) }
 {
@@ -58,7 +59,20 @@ pub fn settled<A: Allocator + Copy>(streams: &Vec<Option<Stream<A>>, A>, stream:
     }
 }
 
-/// One more stream.
+/// Whether accepted bytes of the stream are not acknowledged, or its close is not fulfilled.
+pub fn waiting<A: Allocator + Copy>(streams: &Vec<Option<Stream<A>>, A>, stream: u8) -> bool
+    ensures { result ≡ is_waiting (out_of (slot streams.now.items stream)) }
+{
+    if stream as usize >= streams.len() {
+        return false;
+    }
+    match &streams[stream as usize] {
+        Some(found) => found.is_waiting(),
+        None => false,
+    }
+}
+
+/// Opens the stream of this number, which is a place of `streams`.
 pub fn open<A: Allocator + Copy>(streams: &mut Vec<Option<Stream<A>>, A>, alloc: A, stream: u8)
     requires { stream < length streams.old.items }
     ensures { streams.new.items ≡ with_slot streams.old.items stream new_lane }
@@ -76,7 +90,7 @@ fn accepted_in<A: Allocator + Copy>(place: &Option<Stream<A>>) -> u64
     }
 }
 
-/// The bytes accepted on all streams.
+/// The number of bytes accepted on all streams.
 pub fn all_accepted<A: Allocator + Copy>(streams: &Vec<Option<Stream<A>>, A>) -> u128
     ensures { result ≡ specs.all_accepted (outs streams.now.items) }
 {
@@ -115,7 +129,7 @@ fn is_too_much(all: u128, more: u64) -> bool
     all.saturating_add(u128::from(more)) >= 1 << 63
 }
 
-/// A write on a stream.
+/// Queues bytes on a stream: all of them, or none. The errors are those of `Outbox::accept`.
 pub fn accept<A: Allocator + Copy>(
     streams: &mut Vec<Option<Stream<A>>, A>,
     stream: u8,
@@ -143,7 +157,7 @@ pub fn accept<A: Allocator + Copy>(
     }
 }
 
-/// A clean close of a stream.
+/// Closes a stream cleanly. The errors are those of `Outbox::close`.
 pub fn close<A: Allocator + Copy>(
     streams: &mut Vec<Option<Stream<A>>, A>,
     stream: u8,
@@ -167,7 +181,7 @@ pub fn close<A: Allocator + Copy>(
     }
 }
 
-/// An abort of a stream, with this code.
+/// Aborts a stream with this code. The errors are those of `Outbox::abort`.
 pub fn abort<A: Allocator + Copy>(
     streams: &mut Vec<Option<Stream<A>>, A>,
     stream: u8,
@@ -192,7 +206,7 @@ pub fn abort<A: Allocator + Copy>(
     }
 }
 
-/// An offer of money on a stream.
+/// Offers money on a stream. The errors are those of `Outbox::offer`.
 pub fn offer<A: Allocator + Copy>(
     streams: &mut Vec<Option<Stream<A>>, A>,
     stream: u8,
@@ -221,7 +235,7 @@ pub fn offer<A: Allocator + Copy>(
     }
 }
 
-/// The peer's limit on a stream's offsets. That of a stream that is not open is ignored.
+/// Takes the peer's limit on a stream's offsets. The limit of a stream that is not open is ignored.
 pub fn raise<A: Allocator + Copy>(
     streams: &mut Vec<Option<Stream<A>>, A>,
     stream: u64,
@@ -236,7 +250,7 @@ pub fn raise<A: Allocator + Copy>(
     }
 }
 
-/// The peer's receive max of a stream, and what it received. Those of a stream that is not open are ignored.
+/// Takes the peer's receive max of a stream, and how much it received. Those of a stream that is not open are ignored.
 pub fn raise_money<A: Allocator + Copy>(
     streams: &mut Vec<Option<Stream<A>>, A>,
     stream: u64,
@@ -252,7 +266,7 @@ pub fn raise_money<A: Allocator + Copy>(
     }
 }
 
-/// Sets a mark, where there is such a stream.
+/// Sets the mark of a stream. Where there is no such place, nothing changes.
 pub fn set_mark<A: Allocator + Copy>(marks: &mut Vec<Option<u64>, A>, stream: u64, value: u64)
     ensures { marks.new.items ≡ slice_set marks.old.items stream (Some value) }
 {
