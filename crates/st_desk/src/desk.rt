@@ -1,4 +1,4 @@
-//! What lies under a hop's lock.
+//! The state of a connector hop (a desk) that several threads share under one lock.
 
 ghost use Rattle.std.specs.Prelude.{◌≡◌, ◌+◌, ◌<◌, length, nat_lt, sum, vec_len, OnOk, OnErr, IfOk, IfErr, IsErrOf, IsOkUnless, MatchBool};
 ghost use Rattle.std.specs.List.{sum_by};
@@ -19,10 +19,12 @@ use std::alloc::Allocator;
 use std::marker::Model;
 use std::sync::ledger::{Blank, Book, Ledger, Share};
 
-/// How many shares of a desk can be out.
+/// The largest number of `AccountShares` of one desk that can be outstanding at a time: one for each thread that
+/// settles.
 pub const SHARES: u64 = 63;
 
-/// A hop beside two ledgers: `C` of all accounts' claims, and `D` of all accounts' dues.
+/// A hop and two ledgers, the value of one lock. `C` is the ledger of what all accounts owe the hop (claims), and `D`
+/// is the ledger of what the hop owes all accounts (dues), both in units.
 #[derive(Drop)]
 pub struct HopDesk<C: Ledger, D: Ledger, A: Allocator + Copy> {
     hop: HopState<A>,
@@ -47,7 +49,8 @@ impl<C: Ledger, D: Ledger, A: Allocator + Copy> Model for HopDesk<C, D, A> {
     ghost invariant = { λ d. (d.claims.total ≡ sum d.hop.claims) × (d.dues.total ≡ sum d.hop.dues) × (d.spare_claims.parts + d.out ≡ 64) × (d.spare_dues.parts + d.out ≡ 64) × (d.out < 64) × (C.parts ≡ 64) × (D.parts ≡ 64) };
 }
 
-/// What one thread booked: its share of all claims, and its share of all dues.
+/// One thread's part of the two ledgers of a desk, in units: the claims and the dues that this thread booked. The value
+/// belongs to the desk that gave it.
 #[derive(Drop)]
 pub struct AccountShares<C: Ledger, D: Ledger> {
     claims: Share<C>,
@@ -65,18 +68,27 @@ impl<C: Ledger, D: Ledger> Model for AccountShares<C, D> {
     ghost invariant = { λ s. (s.claims.parts ≡ 1) × (s.dues.parts ≡ 1) };
 }
 
-/// What is owed at a hop, over all its accounts.
+/// A Prepare that arrived at a hop.
+#[must_use]
+pub struct Arrived<A: Allocator + Copy> {
+    /// The index of the account that it arrived from.
+    pub account: usize,
+    /// What is to be done with it.
+    pub verdict: Verdict<A>,
+}
+
+/// What is owed at a hop, summed over all its accounts, in units.
 #[derive(Clone, Copy, Debug, PartialEq, Eq)]
 pub struct Owed {
-    /// What the accounts owe the hop.
+    /// What the accounts owe the hop, in units.
     pub claims: u64,
-    /// What the hop owes the accounts.
+    /// What the hop owes the accounts, in units.
     pub dues: u64,
 }
 
 impl<C: Ledger, D: Ledger, A: Allocator + Copy> HopDesk<C, D, A> {
-    /// A desk over a hop where nothing is owed and nothing is open, with the two blanks of 64 parts for which `C` and
-    /// `D` were picked. It takes no memory.
+    /// Makes a desk over a hop that has booked nothing and has no open ticket. `claims` and `dues` are blanks of 64
+    /// parts, picked for the ledgers `C` and `D`. Does not allocate.
     pub fn new(alloc: A, hop: HopState<A>, claims: Blank, dues: Blank) -> HopDesk<C, D, A>
         requires fresh { IsNew hop }
         requires claims { (claims.name ≡ C.name) × (claims.parts ≡ C.parts) × (claims.parts ≡ 64) }
@@ -96,16 +108,16 @@ impl<C: Ledger, D: Ledger, A: Allocator + Copy> HopDesk<C, D, A> {
         }
     }
 
-    /// The hop, to be asked for an account's claims, dues and holds.
+    /// The hop, to read an account's claims, dues and reserved amount from.
     pub fn hop(&self) -> &HopState<A>
         ensures { result.now ≡ self.now.hop }
     {
         &self.hop
     }
 
-    /// Shares for one thread that settles, with nothing booked. It takes no memory.
+    /// Gives the shares for one thread that settles, with nothing booked. Does not allocate.
     ///
-    /// Refuses with `NoShareLeft` where 63 are out.
+    /// Fails with `NoShareLeft` where 63 are outstanding; then nothing has changed.
     pub fn shares(&mut self) -> Result<AccountShares<C, D>, DeskError>
         ensures given { IfOk result (λ s. (s ≡ record { claims = 0; dues = 0 }) × (self.old.out < 63) × (self.new ≡ record self.old { out = self.old.out + 1 })) }
         ensures none_left { IfErr result (λ e. (e ≡ NoShareLeft) × (self.old.out ≡ 63) × (self.new ≡ self.old)) }
@@ -125,27 +137,38 @@ impl<C: Ledger, D: Ledger, A: Allocator + Copy> HopDesk<C, D, A> {
         Ok(AccountShares { claims, dues })
     }
 
-    /// Takes the bytes of a Prepare that came from an account, as `HopState::arrive` does. It books nothing.
+    /// Takes the bytes of a Prepare that arrived from an account at the moment `now`, as `HopState::arrive` does (RFC
+    /// 0027). Returns that account and the verdict: a Reject that answers the Prepare, or a Prepare to forward with a
+    /// ticket for its answer. It books nothing in the ledgers.
+    ///
+    /// Fails with `HopError::NoAccount` where there is no such account, and otherwise with `HopError::NoMemory` where
+    /// memory is refused. At an error nothing has changed.
     pub fn arrive(
         &mut self,
         account: usize,
         bytes: &[u8],
         now: Moment,
-    ) -> Result<Verdict<A>, HopError>
-        ensures arrived { IfOk result (λ v. arrived self.old.hop account bytes.now now ≡ (verdict_seen v, self.new.hop)) }
-        ensures ready { IfOk result (λ v. IsReady self.new.hop v) }
-        ensures across { IfOk result (λ v. GoesAcross self.old.hop account v) }
+    ) -> Result<Arrived<A>, HopError>
+        ensures account { IfOk result (λ a. a.account ≡ account) }
+        ensures arrived { IfOk result (λ a. arrived self.old.hop a.account bytes.now now ≡ (verdict_seen a.verdict, self.new.hop)) }
+        ensures ready { IfOk result (λ a. IsReady self.new.hop a.verdict) }
+        ensures across { IfOk result (λ a. GoesAcross self.old.hop account a.verdict) }
         ensures rest { self.new ≡ record self.old { hop = self.new.hop } }
         ensures refused { MatchBool (nat_lt account (length self.old.hop.accounts)) (IsOkUnless result refusals.NoMemory) (IsErrOf result refusals.NoAccount) }
         ensures unchanged { OnErr result (self.new ≡ self.old) }
     {
-        self.hop.arrive(account, bytes, now)
+        match self.hop.arrive(account, bytes, now) {
+            Ok(verdict) => Ok(Arrived { account, verdict }),
+            Err(error) => Err(error),
+        }
     }
 
-    /// Ends a ticket with what came back, as `HopState::settle` does: gives the bytes that answer the Prepare. What is
-    /// booked is added to the shares. It takes no memory.
+    /// Ends a ticket with what came back for it at the moment `now`, as `HopState::settle` does: returns the bytes that
+    /// answer the Prepare (RFC 0027). The claim and the due that the hop books are also booked in `shares`. Does not
+    /// allocate.
     ///
-    /// Refuses with `Stranger` a ticket that is not open here: nothing changes, and the ticket is spent.
+    /// Fails with `Stranger` where the ticket is not open at this desk. Then nothing has changed, and the ticket is
+    /// spent.
     pub fn settle(
         &mut self,
         shares: &mut AccountShares<C, D>,
@@ -182,9 +205,10 @@ impl<C: Ledger, D: Ledger, A: Allocator + Copy> HopDesk<C, D, A> {
         Ok(answer)
     }
 
-    /// Takes all shares back and tells what is owed, which is what was booked with them.
+    /// Takes all shares back and returns what is owed. Each of the two sums is the sum of what was booked in the
+    /// shares.
     ///
-    /// Refuses with `MissingShare` where one that is out is not among them, and gives them back.
+    /// Fails with `MissingShare`, and gives the shares back, where an outstanding one is not among them.
     pub fn gather(
         &mut self,
         shares: Vec<AccountShares<C, D>, A>,
@@ -220,14 +244,14 @@ impl<C: Ledger, D: Ledger, A: Allocator + Copy> HopDesk<C, D, A> {
         })
     }
 
-    /// A Reject T00 that stands ready for where memory is refused (RFC 0027). It takes no memory.
+    /// A complete Reject with code T00 (RFC 0027), kept ready as the answer where memory is refused. Does not allocate.
     pub fn t00(&self) -> &[u8]
         ensures { result.now ≡ t00_text self.now.hop.own }
     {
         self.hop.t00()
     }
 
-    /// A copy of `t00`. Refuses with `NoMemory` where there was none for it.
+    /// A copy of `t00`. Fails with `NoMemory` where memory is refused.
     pub(crate) fn copy_of_t00(&self) -> Result<Vec<u8, A>, DeskError>
         ensures copied { IfOk result (λ v. v.items ≡ t00_text self.now.hop.own) }
         ensures only_memory { IsOkUnless result NoMemory }

@@ -1,8 +1,8 @@
-//! A hop that several threads serve: its state under one lock, beside two ledgers of what is booked there.
+//! A hop that several threads serve: its state under one lock, with two ledgers of what is booked there.
 //!
-//! `HopDesk` is the lock's value. Each thread has `AccountShares`, in which its settlements are booked, and `gather` shows
-//! that all shares together have what all accounts owe and are owed. `serve` takes a Prepare under the lock, exchanges it
-//! over a `Link` with the lock open, and settles it under the lock again.
+//! `HopDesk` is the lock's value. Each thread books its settlements in `AccountShares` of its own. `gather` shows that
+//! the sum of all shares is what all accounts owe the hop and what the hop owes them. `serve` takes a Prepare under the
+//! lock, exchanges it over a `Link` with the lock open, and settles it under the lock again.
 #![tactic(auto)]
 
 mod desk;
@@ -11,8 +11,8 @@ mod fail_link;
 mod link;
 mod serving;
 
-pub use desk::{AccountShares, HopDesk, Owed, SHARES};
+pub use desk::{AccountShares, Arrived, HopDesk, Owed, SHARES};
 pub use error::DeskError;
 pub use fail_link::FailLink;
-pub use link::{Clock, Link, LinkFault};
-pub use serving::serve;
+pub use link::{Clock, Link, LinkFault, Links};
+pub use serving::{Served, serve};

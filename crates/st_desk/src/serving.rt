@@ -1,8 +1,10 @@
-//! A thread that serves a hop.
+//! How one thread serves a hop.
 
-use crate::desk::{AccountShares, HopDesk};
+ghost use Rattle.std.specs.Prelude.{◌≡◌, IfOk};
+
+use crate::desk::{AccountShares, Arrived, HopDesk};
 use crate::error::DeskError;
-use crate::link::{Clock, Link};
+use crate::link::{Clock, Links};
 use st_hop::{HopError, Outcome, Ticket, Verdict};
 use st_ilp::Moment;
 use std::alloc::Allocator;
@@ -17,19 +19,22 @@ fn arrive<C: Ledger, D: Ledger, A: Allocator + Copy>(
     account: usize,
     bytes: &[u8],
     now: Moment,
-) -> Result<Verdict<A>, HopError> {
+) -> Result<Arrived<A>, HopError>
+    ensures { IfOk result (λ a. a.account ≡ account) }
+{
     desk.lock(rt).arrive(account, bytes, now)
 }
 
 fn settle<C: Ledger, D: Ledger, A: Allocator + Copy>(
     rt: &impl Wait,
     desk: &Mutex<HopDesk<C, D, A>>,
-    shares: &mut AccountShares<C, D>,
+    shares: &Mutex<AccountShares<C, D>>,
     ticket: Ticket,
     outcome: Outcome<A>,
     now: Moment,
 ) -> Result<Vec<u8, A>, DeskError> {
-    desk.lock(rt).settle(shares, ticket, outcome, now)
+    let mut shares = shares.lock(rt);
+    desk.lock(rt).settle(&mut shares, ticket, outcome, now)
 }
 
 fn t00<C: Ledger, D: Ledger, A: Allocator + Copy>(
@@ -39,51 +44,77 @@ fn t00<C: Ledger, D: Ledger, A: Allocator + Copy>(
     desk.lock(rt).copy_of_t00()
 }
 
-/// What comes back over the link of an account: a fault where there is no such link, or it gives no answer.
-fn exchange<A: Allocator + Copy, L: Link<A>>(
-    links: &mut [L],
-    account: usize,
-    bytes: &[u8],
-) -> Outcome<A> {
-    match links.get_mut(account) {
-        Some(link) => match link.exchange(bytes) {
-            Ok(answer) => Outcome::Answered(answer),
-            Err(_) => Outcome::Fault,
-        },
-        None => Outcome::Fault,
-    }
+/// The moment from which on an answer to this ticket's Prepare is too late; `now` where the ticket says none.
+fn deadline_of(ticket: &Ticket, now: Moment) -> Moment {
+    Moment::new(ticket.read().expiry).unwrap_or(now)
 }
 
-/// Answers a Prepare that came from an account: where it goes on, with what came back over the link of the account to
-/// which it goes (`links` by account). What is booked is added to the shares.
-///
-/// The desk's lock is taken to let the Prepare arrive and to settle it, and is open during the exchange. The answer is
-/// T00 where memory was refused on arrival, there is no such account, or the ticket is not open any more. Refuses with
-/// `NoMemory` where there was none for T00 either. It waits for the lock.
-pub fn serve<C: Ledger, D: Ledger, A: Allocator + Copy, L: Link<A>, K: Clock>(
+/// How a Prepare was answered.
+#[derive(Drop)]
+pub struct Served<A: Allocator + Copy> {
+    /// The index of the account that the Prepare arrived from, and against which its amount was reserved where the hop
+    /// forwarded it.
+    pub account: usize,
+    /// The bytes that answer the Prepare (RFC 0027).
+    pub answer: Vec<u8, A>,
+}
+
+/// What answers a Prepare that arrived: the hop's own Reject, or what comes back over the links.
+fn answer_to<C: Ledger, D: Ledger, A: Allocator + Copy, T: Links<A>, K: Clock>(
     rt: &impl Wait,
     desk: &Mutex<HopDesk<C, D, A>>,
-    shares: &mut AccountShares<C, D>,
-    account: usize,
-    bytes: &[u8],
-    links: &mut [L],
+    shares: &Mutex<AccountShares<C, D>>,
+    verdict: Verdict<A>,
+    links: &mut T,
     clock: &mut K,
+    now: Moment,
 ) -> Result<Vec<u8, A>, DeskError> {
-    match arrive(rt, desk, account, bytes, clock.now()) {
-        Err(_) => t00(rt, desk),
-        Ok(Verdict::Answer(answer)) => Ok(answer),
-        Ok(
-            Verdict::Forward {
-                ticket,
-                account: outgoing,
-                bytes: onward,
-            },
-        ) => {
-            let outcome = exchange(links, outgoing, &onward);
+    match verdict {
+        Verdict::Answer(answer) => Ok(answer),
+        Verdict::Forward {
+            ticket,
+            account,
+            bytes,
+        } => {
+            let by = deadline_of(&ticket, now);
+            let outcome = links.exchange(account, &bytes, by);
             match settle(rt, desk, shares, ticket, outcome, clock.now()) {
                 Ok(answer) => Ok(answer),
                 Err(_) => t00(rt, desk),
             }
         }
     }
+}
+
+/// Answers a Prepare that an account sent. Where the hop forwards it, the answer is what comes back over the link of the
+/// account to which it is sent (`links`, by account), and what is booked is added to the shares. The result names the
+/// account from which the desk let the Prepare arrive.
+///
+/// The desk's lock is taken to let the Prepare arrive and to settle it, and is open during the exchange; the shares are
+/// locked while it is settled. The answer is T00 (RFC 0027) where memory was refused on arrival, where there is no such
+/// account, or where the ticket is not open any more. Fails with `NoMemory` where there is no memory for T00 either. It
+/// waits for the locks.
+pub fn serve<C: Ledger, D: Ledger, A: Allocator + Copy, T: Links<A>, K: Clock>(
+    rt: &impl Wait,
+    desk: &Mutex<HopDesk<C, D, A>>,
+    shares: &Mutex<AccountShares<C, D>>,
+    account: usize,
+    bytes: &[u8],
+    links: &mut T,
+    clock: &mut K,
+) -> Result<Served<A>, DeskError>
+    ensures { IfOk result (λ s. s.account ≡ account) }
+{
+    let now = clock.now();
+    let (account, answer) = match arrive(rt, desk, account, bytes, now) {
+        Ok(arrived) => {
+            let Arrived { account, verdict } = arrived;
+            (
+                account,
+                answer_to(rt, desk, shares, verdict, links, clock, now)?,
+            )
+        }
+        Err(_) => (account, t00(rt, desk)?),
+    };
+    Ok(Served { account, answer })
 }

@@ -1,4 +1,4 @@
-//! Why a hop could not be made, or not be asked.
+//! Errors of a hop.
 
 ghost use Rattle.std.specs.Prelude.{◌≡◌};
 ghost use Rattle.st_hop.specs.Errors as errors;
@@ -7,23 +7,23 @@ ghost use Rattle.st_hop.specs.declared.error.HopError.TheVariants.{NoMemory};
 use std::alloc::{AllocError, AllocFailed};
 use thiserror::Error;
 
-/// Why a call was refused. The hop is as before the call.
+/// Why a call failed. The hop is as it was before the call.
 #[derive(Clone, Copy, Debug, PartialEq, Eq, Error)]
 pub enum HopError {
-    /// The own address or a prefix is no address, a route names an account that is not there, a prefix stands
-    /// twice, or an account's limit is above 2^63 - 1.
+    /// The own address or a prefix is not an ILP address, a route names an account that does not exist, a prefix is
+    /// given twice, or an account's limit is above 2^63 - 1.
     #[error("the table of accounts and routes is malformed")]
     BadTable,
-    /// Memory that the call asked for was refused. The Prepare can be answered with `t00`.
+    /// Memory that the call requested was refused. The Prepare can be answered with `t00`.
     #[error("out of memory")]
     NoMemory,
-    /// There is no account of this number.
+    /// There is no account with this index.
     #[error("no such account")]
     NoAccount,
 }
 
 impl HopError {
-    /// The number by which the refusal is known: 34, 35 or 36.
+    /// The error number that programs print: 34, 35 or 36.
     pub fn number(&self) -> u8
         ensures { result ≡ errors.number self.now }
     {
@@ -34,7 +34,7 @@ impl HopError {
         }
     }
 
-    /// The number that the refusal wraps: none does.
+    /// The number of an inner error. These errors have none: always `None`.
     pub fn inner(&self) -> Option<u64>
         ensures { result ≡ errors.inner self.now }
     {

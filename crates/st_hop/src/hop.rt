@@ -1,4 +1,4 @@
-//! The state of a hop.
+//! The state of a hop: accounts, routes and pending Prepares.
 
 ghost use Rattle.std.specs.Prelude.{◌≡◌, ◌<◌, ◌≤◌, ◌≤ℤ◌, pos, ◌+◌, ◌^◌, [], ℕ, false, length, map, sum, IfOk, OnErr, IsErrOf, IsTrue, IsOkUnless, ◌↔◌, nat_lt, slice_index, if◌then◌else◌, None, MatchBool};
 ghost use Rattle.st_oer.specs.Ratios.{exchanged};
@@ -31,10 +31,10 @@ use std::alloc::Allocator;
 use std::collections::BTreeMap;
 use std::marker::Model;
 
-/// The milliseconds of a Prepare's time that the hop keeps for itself.
+/// The time that the hop takes off a Prepare's expiry when it forwards it, in milliseconds.
 const HOP_TIME: i64 = 1000;
 
-/// What a hop keeps: its accounts' claims and dues, and the Prepares that wait for their answer.
+/// The state of a hop: the claims and dues of its accounts, and the Prepares that wait for their answer.
 #[derive(Drop)]
 pub struct HopState<A: Allocator + Copy> {
     own: String<A>,
@@ -78,7 +78,7 @@ fn is_beyond(account: &Account, claims: u64, held: u64, dues: u64, amount: u64) 
         < u128::from(claims) + u128::from(held) + u128::from(amount)
 }
 
-/// The Prepare as it goes on at a rate.
+/// The Prepare that is forwarded at a rate.
 fn onward<'b>(prepare: &Prepare<'b>, rate: Rate) -> Prepare<'b>
     requires time { pos 1000 ≤ℤ prepare.now.expiry }
     requires amount { exchanged rate prepare.now.amount < 2 ^ 64 }
@@ -94,10 +94,10 @@ fn onward<'b>(prepare: &Prepare<'b>, rate: Rate) -> Prepare<'b>
 }
 
 impl<A: Allocator + Copy> HopState<A> {
-    /// A hop with this address, these neighbours and routes, where nothing is owed yet.
+    /// A hop with the ILP address `own`, these accounts and routes, and nothing owed yet. Accounts are numbered from 0.
     ///
-    /// Refuses with `BadTable` where the own address or a prefix is no address, a route names an account that is not
-    /// there, a prefix stands twice, or a limit is above 2^63 - 1, and else with `NoMemory` where there was none.
+    /// Fails with `BadTable` where `own` or a prefix is not an ILP address, a route names an account that does not
+    /// exist, a prefix is given twice, or a limit is above 2^63 - 1. Otherwise with `NoMemory` where memory is refused.
     pub fn new(
         alloc: A,
         own: &str,
@@ -126,62 +126,65 @@ impl<A: Allocator + Copy> HopState<A> {
         })
     }
 
-    /// What an account owes the hop: the amounts with which the fulfilled Prepares came from it. It takes no memory.
+    /// What an account owes the hop: the sum of the amounts of the fulfilled Prepares that arrived from it, in the
+    /// units of its link. Does not allocate.
     ///
-    /// Refuses with `NoAccount` where there is no such account.
+    /// Fails with `NoAccount` where there is no account with this index.
     pub fn claims(&self, account: usize) -> Result<u64, HopError>
         ensures { result ≡ (if nat_lt account (length self.now.accounts) then Ok (slice_index self.now.claims account) else Err HopError.NoAccount) }
     {
         self.claims.get(account).copied().ok_or(HopError::NoAccount)
     }
 
-    /// What the hop owes an account: the amounts with which the fulfilled Prepares went to it. It takes no memory.
+    /// What the hop owes an account: the sum of the amounts of the fulfilled Prepares that were forwarded to it, in the
+    /// units of its link. Does not allocate.
     ///
-    /// Refuses with `NoAccount` where there is no such account.
+    /// Fails with `NoAccount` where there is no account with this index.
     pub fn dues(&self, account: usize) -> Result<u64, HopError>
         ensures { result ≡ (if nat_lt account (length self.now.accounts) then Ok (slice_index self.now.dues account) else Err HopError.NoAccount) }
     {
         self.dues.get(account).copied().ok_or(HopError::NoAccount)
     }
 
-    /// What is held against an account: the amounts of its Prepares that wait for their answer. It takes no memory.
+    /// What is reserved against an account: the sum of the amounts of the Prepares from it that wait for their answer,
+    /// in the units of its link. Does not allocate.
     ///
-    /// Refuses with `NoAccount` where there is no such account.
+    /// Fails with `NoAccount` where there is no account with this index.
     pub fn held(&self, account: usize) -> Result<u64, HopError>
         ensures { result ≡ (if nat_lt account (length self.now.accounts) then Ok (held_of self.now account) else Err HopError.NoAccount) }
     {
         self.held.get(account).copied().ok_or(HopError::NoAccount)
     }
 
-    /// What all accounts together owe the hop. It takes no memory.
+    /// The sum of what all accounts owe the hop, whatever the units of their links. Does not allocate.
     pub fn all_claims(&self) -> u64
         ensures { result ≡ sum self.now.claims }
     {
         self.all_claims
     }
 
-    /// What the hop owes all accounts together. It takes no memory.
+    /// The sum of what the hop owes all accounts, whatever the units of their links. Does not allocate.
     pub fn all_dues(&self) -> u64
         ensures { result ≡ sum self.now.dues }
     {
         self.all_dues
     }
 
-    /// A Reject T00 that stands ready for where memory is refused (RFC 0027). It takes no memory.
+    /// The bytes of a Reject T00 (RFC 0027), ready for use where memory is refused. Does not allocate.
     pub fn t00(&self) -> &[u8]
         ensures { result.now ≡ t00_text self.now.own }
     {
         self.t00.as_slice()
     }
 
-    /// Whether a ticket is one of this hop's that was not settled yet. It takes no memory.
+    /// Whether `ticket` belongs to a pending Prepare of this hop, one that is not settled yet. Does not allocate.
     pub fn is_open(&self, ticket: &Ticket) -> bool
         ensures { IsTrue result ↔ IsAmong self.now.tickets ticket.now }
     {
         is_waiting(&self.waiting, ticket.read())
     }
 
-    /// Whether what is received goes past the account's limit, or with what is sent for it a sum of the hop past 2^63 - 1.
+    /// Whether the received amount exceeds the account's limit, or one of the hop's sums would exceed 2^63 - 1.
     fn is_over_limit(&self, account: usize, received: u64, sent: u128) -> bool
         requires { account < length self.now.accounts }
         ensures { result ≡ is_over_limit self.now account received sent }
@@ -196,7 +199,7 @@ impl<A: Allocator + Copy> HopState<A> {
             || sent > u128::from(MAX_SUM - self.due)
     }
 
-    /// Where a Prepare goes on, or the first rule that stops it.
+    /// Where a Prepare is forwarded, or the first rule that rejects it.
     fn judge(&self, account: usize, prepare: &Prepare<'_>, now: Moment) -> Result<NextHop, Refusal>
         requires { account < length self.now.accounts }
         ensures { result ≡ judged self.now account (prepare_seen prepare.now) now }
@@ -234,7 +237,7 @@ impl<A: Allocator + Copy> HopState<A> {
         Ok(Verdict::Answer(reject(self.alloc, self.own.as_str(), refusal)?))
     }
 
-    /// Holds the amount of a Prepare that goes on as another, and makes room for the answer.
+    /// Reserves the amount of a Prepare that is forwarded as another one, and reserves memory for the answer.
     fn hold(
         &mut self,
         incoming: usize,
@@ -271,7 +274,7 @@ impl<A: Allocator + Copy> HopState<A> {
         Ok(Ticket::new(ticket))
     }
 
-    /// Sends a Prepare on, and holds its amount.
+    /// Forwards a Prepare and reserves its amount.
     fn forward(
         &mut self,
         incoming: usize,
@@ -302,12 +305,15 @@ impl<A: Allocator + Copy> HopState<A> {
         })
     }
 
-    /// Takes the bytes of a Prepare that came from an account: gives the Prepare that goes on, with a ticket for its
-    /// answer, or the Reject that answers it (RFC 0027). The amount of one that goes on is held against the account; it
-    /// goes on with what the rate of its route gives for that amount, rounded down, which may be 0.
+    /// Handles the bytes of a Prepare that arrived from an account, `now` being the current time (RFC 0027). Gives the
+    /// Prepare to forward with a ticket for its answer, or the Reject that answers it.
     ///
-    /// The ticket is open afterwards, as `settle` asks. Once 2^64 - 1 tickets were given out, the answer is T00. Refuses
-    /// with `NoAccount` where there is no such account, and else with `NoMemory` where memory was refused.
+    /// The amount of a forwarded Prepare is reserved against the account. The forwarded amount is that amount at the
+    /// rate of the route, rounded down; it may be 0. The ticket is open afterwards, as `settle` requires. Once 2^64 - 1
+    /// tickets were given out, a Prepare that could otherwise be forwarded is answered with T00.
+    ///
+    /// Fails with `NoAccount` where there is no account with this index, and otherwise with `NoMemory` where memory is
+    /// refused.
     pub fn arrive(
         &mut self,
         account: usize,
@@ -333,7 +339,7 @@ impl<A: Allocator + Copy> HopState<A> {
         }
     }
 
-    /// Ends the hold of an open ticket, and books nothing. Gives the room for the hop's own Reject.
+    /// Releases the reserved amount of an open ticket, and books nothing. Gives the memory for the hop's own Reject.
     fn release(&mut self, ticket: Open) -> Room<A>
         requires { IsAmong self.old.tickets ticket }
         ensures state { self.new ≡ released self.old ticket }
@@ -347,7 +353,7 @@ impl<A: Allocator + Copy> HopState<A> {
         room
     }
 
-    /// Ends the hold of an open ticket, and books its claim and its due.
+    /// Releases the reserved amount of an open ticket, and books its claim and its due.
     fn book(&mut self, ticket: Open)
         requires { IsAmong self.old.tickets ticket }
         ensures state { self.new ≡ booked self.old ticket }
@@ -363,7 +369,7 @@ impl<A: Allocator + Copy> HopState<A> {
         self.due += ticket.amount_out;
     }
 
-    /// Ends the hold of an open ticket with the hop's own Reject.
+    /// Releases the reserved amount of an open ticket, and gives the hop's own Reject.
     fn release_with(&mut self, ticket: Open, refusal: Refusal) -> Vec<u8, A>
         requires open_one { IsAmong self.old.tickets ticket }
         requires plain { payload_of refusal ≡ [] }
@@ -376,10 +382,12 @@ impl<A: Allocator + Copy> HopState<A> {
         room.write(self.own.as_str(), refusal)
     }
 
-    /// Ends a ticket with what came back: gives the bytes that answer the Prepare (RFC 0027). It takes no memory.
+    /// Settles a ticket with the outcome of its Prepare, `now` being the current time (RFC 0027). Gives the bytes that
+    /// answer the Prepare. Does not allocate.
     ///
-    /// The claim and the due are booked where a Fulfill that fits came before the Prepare that went on expired; exactly
-    /// then the answer is a Fulfill. The caller's condition is that the ticket is open here, as `is_open` tells.
+    /// The claim and the due are booked exactly where a Fulfill that fits the condition arrived before the forwarded
+    /// Prepare expired. Exactly then the answer is a Fulfill. The reserved amount is released in every case. Requires
+    /// that the ticket is open at this hop, as `is_open` checks.
     pub fn settle(&mut self, ticket: Ticket, outcome: Outcome<A>, now: Moment) -> Vec<u8, A>
         requires { IsAmong self.old.tickets ticket }
         ensures settled { settled self.old ticket (outcome_seen outcome) now ≡ (result.items, self.new) }
@@ -404,8 +412,8 @@ impl<A: Allocator + Copy> HopState<A> {
         }
     }
 
-    /// A law of every hop, for callers that keep no list of what was done to it: its accounts are within their limits, its
-    /// sums below 2^63, and its tickets in the order of their numbers. It does nothing.
+    /// A law of every hop, for callers that keep no list of the calls. It does nothing. The accounts are within their
+    /// limits, the sums below 2^63, and the tickets in the order of their numbers.
     pub fn is_lawful(&self)
         ensures { IsLawful self.now }
     {

@@ -16,45 +16,46 @@ ghost use Rattle.st_hop.specs.Lawful.{IsLawful};
 ghost use Rattle.st_hop.specs.Runs.{Act, run, fulfilled};
 ghost use Rattle.st_hop.specs.Routing.{route_to, IsRouteTo};
 
-/// From a new hop any list of arrivals and settlements leaves each account's claims as the sum of the amounts of the
-/// fulfilled Prepares that came from it, and its dues as the sum of those that went to it.
+/// After any list of arrivals and settlements from a new hop on, each account's claims are the sum of the amounts of
+/// the fulfilled Prepares that arrived from it. Its dues are the sum of the amounts of those that were forwarded to it.
 pub fn every_run_balances()
     ensures claims { (own : List ℕ) (accounts : List accounts.Account) (routes : List Way) (acts : List Act) → is_table own accounts routes ≡ true → (a : ℕ) → slice_index (run (new_hop own accounts routes) acts).claims a ≡ sum_by (held_for a) (fulfilled (new_hop own accounts routes) acts) }
     ensures dues { (own : List ℕ) (accounts : List accounts.Account) (routes : List Way) (acts : List Act) → is_table own accounts routes ≡ true → (a : ℕ) → slice_index (run (new_hop own accounts routes) acts).dues a ≡ sum_by (due_for a) (fulfilled (new_hop own accounts routes) acts) }
 {}
 
-/// Any list of arrivals and settlements leaves each account within its limit, and the sums below 2^63.
+/// After any list of arrivals and settlements each account is within its limit, and the sums are below 2^63.
 pub fn every_run_is_lawful()
     ensures { (own : List ℕ) (accounts : List accounts.Account) (routes : List Way) (acts : List Act) → is_table own accounts routes ≡ true → IsLawful (run (new_hop own accounts routes) acts) }
 {}
 
-/// The route to an address is the longest that leads there, and there is none only where no route does.
+/// The route to an address is the one with the longest prefix of it. There is none only where no prefix fits.
 pub fn longest_route_law()
     ensures { (routes : List Way) (address : List ℕ) → IsRouteTo routes address (route_to routes address) }
 {}
 
-/// The ticket of a Prepare that goes on is open; once settled it is open no more, and every other one is as before.
+/// The ticket of a forwarded Prepare is open. After it is settled it is open no more, and every other ticket is as
+/// before.
 pub fn tickets_settle_once()
     ensures opened { (h : Hop) (account : ℕ) (bytes : List ℕ) (now : ℤ) → IsLawful h → (t : tickets.Open) (outgoing : ℕ) (text : List ℕ) → (arrived h account bytes now).0 ≡ Forwards t outgoing text → IsAmong (arrived h account bytes now).1.tickets t }
     ensures spent { (h : Hop) (t : tickets.Open) (outcome : Option (List ℕ)) (now : ℤ) → IsLawful h → ¬ (IsAmong (settled h t outcome now).1.tickets t) }
     ensures others { (h : Hop) (t u : tickets.Open) (outcome : Option (List ℕ)) (now : ℤ) → u.number ≢ t.number → IsAmong h.tickets u → IsAmong (settled h t outcome now).1.tickets u }
 {}
 
-/// A Prepare goes on to an account that is there, and not the one that it came from. An arrival books nothing.
+/// A Prepare is forwarded to an existing account other than the one it arrived from. An arrival books nothing.
 pub fn arrivals_go_across()
     ensures across { (h : Hop) (account : ℕ) (bytes : List ℕ) (now : ℤ) → IsLawful h → (t : tickets.Open) (outgoing : ℕ) (text : List ℕ) → (arrived h account bytes now).0 ≡ Forwards t outgoing text → (outgoing < length h.accounts) × (outgoing ≢ account) }
     ensures nothing_booked { (h : Hop) (account : ℕ) (bytes : List ℕ) (now : ℤ) → ((arrived h account bytes now).1.claims ≡ h.claims) × ((arrived h account bytes now).1.dues ≡ h.dues) }
 {}
 
-/// A Prepare that goes on goes to the account of its longest route, with no more than that route's rate gives for its
-/// amount, and less than one unit below it.
+/// A Prepare is forwarded to the account of its longest route. The forwarded amount is at most what that route's rate
+/// gives, and less than one unit below it.
 pub fn prepares_go_on_as_routed()
     ensures { (h : Hop) (account : ℕ) (bytes : List ℕ) (p : PreparePacket) (now : ℤ) → prepare_at bytes ≡ Ok p → (t : tickets.Open) (outgoing : ℕ) (text : List ℕ) → (arrived h account bytes now).0 ≡ Forwards t outgoing text → GoesAsRouted h p t outgoing }
 {}
 
-/// Settling an open ticket raises the sum of all claims by the ticket's amount where it was fulfilled, and the sum of all
-/// dues by the amount that went on; else both stay. It gives back a Fulfill exactly where it booked. All else but the
-/// ticket stays.
+/// Settling an open ticket adds the ticket's amount to the sum of all claims, and the forwarded amount to the sum of
+/// all dues, where the Prepare was fulfilled. Otherwise both stay. The answer is a Fulfill exactly where it booked. The
+/// ticket is removed, and everything else stays.
 pub fn settlements_book()
     ensures claims { (h : Hop) (t : tickets.Open) (outcome : Option (List ℕ)) (now : ℤ) → IsLawful h → IsAmong h.tickets t → sum (settled h t outcome now).1.claims ≡ sum h.claims + claim_of t outcome now }
     ensures dues { (h : Hop) (t : tickets.Open) (outcome : Option (List ℕ)) (now : ℤ) → IsLawful h → IsAmong h.tickets t → sum (settled h t outcome now).1.dues ≡ sum h.dues + due_of t outcome now }

@@ -1,10 +1,10 @@
-//! A hop: the connector between an Interledger packet's sender and receiver (RFC 0027).
+//! A hop: the connector between the sender and the receiver of an Interledger packet (RFC 0027).
 //!
-//! `arrive` takes the bytes of a Prepare and gives an answer, or the bytes that go on and a `Ticket`; `settle` ends
-//! the ticket with the answer that came back, and gives the bytes that go back. In between the hop holds the amount
-//! against the account that it came from; the Prepare goes on with what that amount is exchanged for at its route's
-//! rate. What an account owes the hop is its claims, what the hop owes it its dues. Time, accounts and bytes are
-//! arguments: no clock, socket or thread is known here.
+//! `arrive` takes the bytes of a Prepare. It gives a Reject that answers it, or the bytes to forward and a `Ticket`.
+//! `settle` ends the ticket with the answer that came back, and gives the bytes of the answer to the Prepare. Until
+//! then the hop reserves the amount against the account that the Prepare arrived from. The forwarded amount is that
+//! amount at the rate of the route. Claims are what an account owes the hop, dues what the hop owes it. Time, accounts
+//! and bytes are arguments: the crate uses no clock, socket or thread.
 #![tactic(auto)]
 
 mod account;

@@ -1,4 +1,4 @@
-//! The table that a hop is made of.
+//! Checks of the table of accounts and routes that a hop is made of.
 
 ghost use Rattle.std.specs.Prelude.{◌≡◌, ◌^◌, ℕ, true, length, map, nat_lt, IfOk, OnOk, MatchBool, IsOkUnless, IsErrOf};
 ghost use Rattle.std.specs.List.{list_all, list_any};
@@ -11,10 +11,10 @@ use crate::route::{Route, Routes};
 use st_oer::is_address;
 use std::alloc::{AllocError, Allocator};
 
-/// The greatest limit of an account, and the greatest sum of claims, holds or dues.
+/// The greatest limit of an account, and the greatest sum of claims, reserved amounts or dues.
 pub(crate) const MAX_SUM: u64 = (1 << 63) - 1;
 
-/// Whether a prefix is that of one of these.
+/// Whether one of the routes has this prefix.
 fn has_prefix(prefix: &str, routes: &[Route<'_>]) -> bool
     ensures { result ≡ list_any (has_prefix prefix.now) (map way_seen routes.now) }
 {
@@ -26,7 +26,7 @@ fn has_prefix(prefix: &str, routes: &[Route<'_>]) -> bool
     false
 }
 
-/// Whether no prefix stands twice.
+/// Whether no prefix is given twice.
 fn is_distinct(routes: &[Route<'_>]) -> bool
     ensures { result ≡ is_distinct (map way_seen routes.now) }
 {
@@ -38,7 +38,7 @@ fn is_distinct(routes: &[Route<'_>]) -> bool
     true
 }
 
-/// Whether each prefix is an address, and each account is one of so many.
+/// Whether each prefix is an ILP address, and each account exists.
 fn are_ways(accounts: usize, routes: &[Route<'_>]) -> bool
     ensures { result ≡ list_all (is_way accounts) (map way_seen routes.now) }
 {
@@ -50,14 +50,14 @@ fn are_ways(accounts: usize, routes: &[Route<'_>]) -> bool
     true
 }
 
-/// Whether no limit is too high.
+/// Whether no account's limit is too high.
 fn are_accounts(accounts: &[Account]) -> bool
     ensures { result ≡ list_all is_account accounts.now }
 {
     accounts.iter().all(|account| account.limit <= MAX_SUM)
 }
 
-/// Whether a hop can be made of these, but for prefixes that stand twice.
+/// Whether a hop can be made of these, apart from prefixes that are given twice.
 fn are_parts(own: &str, accounts: &[Account], routes: &[Route<'_>]) -> bool
     ensures { result ≡ are_parts own.now accounts.now (map way_seen routes.now) }
 {

@@ -2,7 +2,7 @@
 ghost use Rattle.std.specs.Prelude.{◌≡◌, IfOk};
 ghost use Rattle.st_desk.specs.Desk.{IsNew};
 
-use st_desk::{AccountShares, Clock, HopDesk, Link, LinkFault, Owed, serve};
+use st_desk::{AccountShares, Clock, HopDesk, Link, LinkFault, Owed, Served, serve};
 use st_hop::{Account, HopError, HopState, Outcome, Route, Ticket, Verdict};
 use st_ilp::Moment;
 use st_oer::Counted;
@@ -22,6 +22,9 @@ pub(crate) const PREPARE: &[u8; 70] = b"\x0c\x44\0\0\0\0\0\0\0\x0520240102030405
 const ONWARD: &[u8; 70] = b"\x0c\x44\0\0\0\0\0\0\0\x0520240102030404006\
 \x66\x68\x7a\xad\xf8\x62\xbd\x77\x6c\x8f\xc1\x8b\x8e\x9f\x8e\x20\
 \x08\x97\x14\x85\x6e\xe2\x33\xb3\x90\x2a\x59\x1d\x0d\x5f\x29\x25\x09example.b\0";
+
+/// When the Prepare that goes on expires: 2024-01-02 03:04:04.006, in milliseconds since the start of 1970.
+pub(crate) const EXPIRY: i64 = 1_704_164_644_006;
 
 /// The Fulfill of 32 zero bytes, without data.
 pub(crate) const FULFILL: &[u8; 35] =
@@ -78,10 +81,10 @@ impl<A: Allocator + Copy> Counted for Neighbour<'_, A> {
 }
 
 impl<A: Allocator + Copy> Link<A> for Neighbour<'_, A> {
-    fn exchange(&mut self, bytes: &[u8]) -> Result<Vec<u8, A>, LinkFault> {
+    fn exchange(&mut self, bytes: &[u8], by: Moment) -> Result<Vec<u8, A>, LinkFault> {
         self.asked = self.asked.saturating_add(1);
         match self.answer {
-            Some(answer) if bytes == ONWARD.as_slice() => {
+            Some(answer) if bytes == ONWARD.as_slice() && by.ms() == EXPIRY => {
                 Vec::from_slice(self.alloc, answer).map_err(|_| LinkFault::NoMemory)
             }
             _ => Err(LinkFault::Peer),
@@ -122,12 +125,15 @@ fn neighbours<'a>(
 fn ask<C: Ledger, D: Ledger, R: Wait + Abort>(
     rt: &R,
     desk: &Mutex<HopDesk<C, D, Global>>,
-    shares: &mut AccountShares<C, D>,
-    links: &mut [Neighbour<'_, Global>],
+    shares: &Mutex<AccountShares<C, D>>,
+    links: &mut Vec<Neighbour<'_, Global>>,
 ) -> Vec<u8> {
     let mut clock = stopped_clock(rt);
     match serve(rt, desk, shares, 0, PREPARE, links, &mut clock) {
-        Ok(told) => told,
+        Ok(Served { account, answer }) => {
+            assert!(rt; account == 0);
+            answer
+        }
         Err(refused) => panic!(rt; "refused {}", refused.number()),
     }
 }
@@ -148,18 +154,18 @@ fn one_serves<C: Ledger, D: Ledger, R: Wait + Abort>(
     hop: HopState<Global>,
     claims: Blank,
     dues: Blank,
-    links: &mut [Neighbour<'_, Global>],
+    links: &mut Vec<Neighbour<'_, Global>>,
 ) -> (Vec<u8>, Owed)
     requires fresh { IsNew hop }
     requires claims { (claims.name ≡ C.name) × (claims.parts ≡ C.parts) × (claims.parts ≡ 64) }
     requires dues { (dues.name ≡ D.name) × (dues.parts ≡ D.parts) × (dues.parts ≡ 64) }
 {
     let mut desk = HopDesk::<C, D, Global>::new(alloc, hop, claims, dues);
-    let mut shares = shares_of(rt, &mut desk);
+    let shares = Mutex::new(shares_of(rt, &mut desk));
     let desk = Mutex::new(desk);
-    let told = ask(rt, &desk, &mut shares, links);
+    let told = ask(rt, &desk, &shares, links);
     let mut desk = desk.into_inner();
-    let owed = gathered(rt, alloc, &mut desk, shares);
+    let owed = gathered(rt, alloc, &mut desk, shares.into_inner());
     assert!(rt; is_booked(&desk, owed.claims));
     (told, owed)
 }
@@ -201,7 +207,7 @@ fn a_thread_serves(rt: HostRuntime) -> Result<(), Fail> {
             new_hop(alloc)?,
             Blank::new(64),
             Blank::new(64),
-            links.as_mut_slice(),
+            &mut links,
         );
         assert!(rt; told.as_slice() == want);
         assert!(rt; (owed.claims, owed.dues) == (amount, amount));

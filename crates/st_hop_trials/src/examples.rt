@@ -1,3 +1,4 @@
-//! An example of the README, word for word: what it does and what it answers. It can be pasted as it is.
+//! Examples of docs/LIBRARY.md, word for word: what they do and what they answer. Each can be pasted as it is.
 
+mod passing;
 mod tickets;

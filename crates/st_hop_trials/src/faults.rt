@@ -27,17 +27,17 @@ fn failing(alloc: Global, k: u64) -> FailLink<Neighbour<'static, Global>> {
 fn serve_three<C: Ledger, D: Ledger, R: Wait + Abort>(
     rt: &R,
     desk: &Mutex<HopDesk<C, D, Global>>,
-    shares: &mut AccountShares<C, D>,
-    links: &mut [FailLink<Neighbour<'static, Global>>; 2],
+    shares: &Mutex<AccountShares<C, D>>,
+    links: &mut Vec<FailLink<Neighbour<'static, Global>>>,
 ) {
     let mut clock = stopped_clock(rt);
     let wanted: [(&[u8], u64); 3] = [(FULFILL, 0), (T01, 1), (FULFILL, 1)];
     for (want, faults) in wanted {
         match serve(rt, desk, shares, 0, PREPARE, links, &mut clock) {
-            Ok(told) => assert!(rt; told.as_slice() == want),
+            Ok(told) => assert!(rt; told.answer.as_slice() == want),
             Err(refused) => panic!(rt; "refused {}", refused.number()),
         }
-        assert!(rt; links[1].faults() == faults);
+        assert!(rt; links.get(1).map(|link| link.faults()) == Some(faults));
     }
 }
 
@@ -46,13 +46,15 @@ fn serve_all<C: Ledger, D: Ledger, R: Wait + Abort>(
     rt: &R,
     alloc: Global,
     desk: &Mutex<HopDesk<C, D, Global>>,
-    shares: &mut AccountShares<C, D>,
+    shares: &Mutex<AccountShares<C, D>>,
 ) {
-    let mut links = [failing(alloc, 0), failing(alloc, 2)];
+    let both = [failing(alloc, 0), failing(alloc, 2)];
+    let mut links = Vec::from_array(alloc, both).expect(rt, "memory");
     serve_three(rt, desk, shares, &mut links);
-    let [unused, used] = links;
-    assert!(rt; unused.into_inner().asked == 0);
-    assert!(rt; used.into_inner().asked == 2);
+    let asked = links.pop().map(|link| link.into_inner().asked);
+    assert!(rt; asked == Some(2));
+    let unused = links.pop().map(|link| link.into_inner().asked);
+    assert!(rt; unused == Some(0));
 }
 
 /// What is owed after three Prepares, of which the second finds the link failing.
@@ -68,10 +70,10 @@ fn second_fails<C: Ledger, D: Ledger, R: Wait + Abort>(
     requires dues { (dues.name ≡ D.name) × (dues.parts ≡ D.parts) × (dues.parts ≡ 64) }
 {
     let mut desk = HopDesk::<C, D, Global>::new(alloc, hop, claims, dues);
-    let mut shares = shares_of(rt, &mut desk);
+    let shares = Mutex::new(shares_of(rt, &mut desk));
     let desk = Mutex::new(desk);
-    serve_all(rt, alloc, &desk, &mut shares);
-    gathered(rt, alloc, &mut desk.into_inner(), shares)
+    serve_all(rt, alloc, &desk, &shares);
+    gathered(rt, alloc, &mut desk.into_inner(), shares.into_inner())
 }
 
 #[test]

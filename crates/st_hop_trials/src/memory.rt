@@ -4,7 +4,7 @@ ghost use Rattle.st_desk.specs.Desk.{IsNew};
 
 use crate::desks::{FULFILL, Neighbour, PREPARE, T00, T01, new_hop, shares_of, stopped_clock};
 use refusing::Refusing;
-use st_desk::{AccountShares, DeskError, HopDesk, serve};
+use st_desk::{AccountShares, DeskError, HopDesk, Served, serve};
 use st_hop::{HopError, HopState};
 use std::alloc::{Allocator, Global};
 use std::marker::Brand;
@@ -33,8 +33,8 @@ fn neighbour(heap: &Refusing<Global>) -> Neighbour<'static, &Refusing<Global>> {
 }
 
 /// How this answers.
-fn told_by<A: Allocator + Copy>(rt: &impl Abort, answer: Result<Vec<u8, A>, DeskError>) -> Told {
-    match answer {
+fn told_by<A: Allocator + Copy>(rt: &impl Abort, served: Result<Served<A>, DeskError>) -> Told {
+    match served.map(|served| served.answer) {
         Err(e) => {
             assert!(rt; e.number() == 75);
             Told::Refused
@@ -61,8 +61,8 @@ fn is_booked<C: Ledger, D: Ledger, A: Allocator + Copy>(
 fn ask<C: Ledger, D: Ledger, A: Allocator + Copy, R: Wait + Abort>(
     rt: &R,
     desk: &Mutex<HopDesk<C, D, A>>,
-    shares: &mut AccountShares<C, D>,
-    links: &mut [Neighbour<'_, A>],
+    shares: &Mutex<AccountShares<C, D>>,
+    links: &mut Vec<Neighbour<'_, A>, A>,
 ) -> Told {
     let mut clock = stopped_clock(rt);
     told_by(rt, serve(rt, desk, shares, 0, PREPARE, links, &mut clock))
@@ -75,16 +75,16 @@ fn served<C: Ledger, D: Ledger, A: Allocator + Copy, R: Wait + Abort>(
     hop: HopState<A>,
     claims: Blank,
     dues: Blank,
-    links: &mut [Neighbour<'_, A>],
+    links: &mut Vec<Neighbour<'_, A>, A>,
 ) -> Told
     requires fresh { IsNew hop }
     requires claims { (claims.name ≡ C.name) × (claims.parts ≡ C.parts) × (claims.parts ≡ 64) }
     requires dues { (dues.name ≡ D.name) × (dues.parts ≡ D.parts) × (dues.parts ≡ 64) }
 {
     let mut desk = HopDesk::<C, D, A>::new(alloc, hop, claims, dues);
-    let mut shares = shares_of(rt, &mut desk);
+    let shares = Mutex::new(shares_of(rt, &mut desk));
     let desk = Mutex::new(desk);
-    let told = ask(rt, &desk, &mut shares, links);
+    let told = ask(rt, &desk, &shares, links);
     let amount = if told == Told::Fulfilled { 5 } else { 0 };
     let desk = desk.into_inner();
     assert!(rt; is_booked(&desk, amount));
@@ -100,7 +100,8 @@ fn run(
 ) -> Result<Told, HopError> {
     heap.refuse_none();
     let hop = new_hop(heap)?;
-    let mut links = [neighbour(heap), neighbour(heap)];
+    let both = [neighbour(heap), neighbour(heap)];
+    let mut links = Vec::from_array(heap, both).expect(rt, "memory");
     if refuses_all {
         heap.refuse_from(n);
     } else {

@@ -2,9 +2,10 @@
 ghost use Rattle.std.specs.Prelude.{◌≡◌};
 ghost use Rattle.st_desk.specs.Desk.{IsNew};
 
-use crate::desks::{FULFILL, PREPARE, new_hop, shares_of, stopped_clock};
+use crate::desks::{FULFILL, PREPARE, gathered, new_hop, shares_of, stopped_clock};
 use st_desk::{AccountShares, HopDesk, Link, LinkFault, Owed, serve};
 use st_hop::HopState;
+use st_ilp::Moment;
 use st_oer::Counted;
 use std::alloc::Global;
 use std::marker::Brand;
@@ -50,7 +51,7 @@ impl<R: std::time::Clock> Gate<'_, R> {
 }
 
 impl<R: std::time::Clock> Link<Global> for Gate<'_, R> {
-    fn exchange(&mut self, _bytes: &[u8]) -> Result<Vec<u8>, LinkFault> {
+    fn exchange(&mut self, _bytes: &[u8], _by: Moment) -> Result<Vec<u8>, LinkFault> {
         if self.exchanges.fetch_add(1, Ordering::SeqCst) == 0 && !self.opens() {
             return Err(LinkFault::Peer);
         }
@@ -64,7 +65,7 @@ fn is_fulfilled<C: Ledger, D: Ledger, R: Wait + Abort + std::time::Clock>(
     rt: &R,
     alloc: Global,
     desk: &Mutex<HopDesk<C, D, Global>>,
-    shares: &mut AccountShares<C, D>,
+    shares: &Mutex<AccountShares<C, D>>,
     exchanges: &AtomicU64,
     answered: &AtomicU64,
 ) -> bool {
@@ -74,17 +75,10 @@ fn is_fulfilled<C: Ledger, D: Ledger, R: Wait + Abort + std::time::Clock>(
         exchanges,
         answered,
     };
-    let mut links = [gate(), gate()];
-    match serve(
-        rt,
-        desk,
-        shares,
-        0,
-        PREPARE,
-        &mut links,
-        &mut stopped_clock(rt),
-    ) {
-        Ok(answer) => answer.as_slice() == FULFILL.as_slice(),
+    let mut links = Vec::from_array(alloc, [gate(), gate()]).expect(rt, "memory");
+    let mut clock = stopped_clock(rt);
+    match serve(rt, desk, shares, 0, PREPARE, &mut links, &mut clock) {
+        Ok(served) => served.answer.as_slice() == FULFILL.as_slice(),
         Err(_) => false,
     }
 }
@@ -98,30 +92,15 @@ fn both<
     rt: &R,
     alloc: Global,
     desk: &Mutex<HopDesk<C, D, Global>>,
-    mine: &mut AccountShares<C, D>,
-    theirs: &mut AccountShares<C, D>,
+    shares: &Mutex<AccountShares<C, D>>,
 ) -> (bool, bool) {
     let exchanges = AtomicU64::new(0);
     let answered = AtomicU64::new(0);
     thread::join(
         rt,
-        || is_fulfilled(rt, alloc, desk, mine, &exchanges, &answered),
-        || is_fulfilled(rt, alloc, desk, theirs, &exchanges, &answered),
+        || is_fulfilled(rt, alloc, desk, shares, &exchanges, &answered),
+        || is_fulfilled(rt, alloc, desk, shares, &exchanges, &answered),
     )
-}
-
-/// What is owed at a desk of which two shares are out.
-fn gathered_two<C: Ledger, D: Ledger>(
-    rt: &impl Abort,
-    alloc: Global,
-    desk: &mut HopDesk<C, D, Global>,
-    mine: AccountShares<C, D>,
-    theirs: AccountShares<C, D>,
-) -> Option<Owed> {
-    let mut shares = Vec::new(alloc);
-    assert!(rt; shares.push(mine).is_ok());
-    assert!(rt; shares.push(theirs).is_ok());
-    desk.gather(shares).ok()
 }
 
 /// Whether each of two threads was answered with the Fulfill, and what is owed then.
@@ -129,24 +108,17 @@ fn two_serve<
     C: Ledger + Send + Sync,
     D: Ledger + Send + Sync,
     R: Threads + Wait + Abort + std::time::Clock + Sync,
->(
-    rt: &R,
-    alloc: Global,
-    hop: HopState<Global>,
-    claims: Blank,
-    dues: Blank,
-) -> ((bool, bool), Option<Owed>)
+>(rt: &R, alloc: Global, hop: HopState<Global>, claims: Blank, dues: Blank) -> ((bool, bool), Owed)
     requires fresh { IsNew hop }
     requires claims { (claims.name ≡ C.name) × (claims.parts ≡ C.parts) × (claims.parts ≡ 64) }
     requires dues { (dues.name ≡ D.name) × (dues.parts ≡ D.parts) × (dues.parts ≡ 64) }
 {
     let mut desk = HopDesk::<C, D, Global>::new(alloc, hop, claims, dues);
-    let mut mine = shares_of(rt, &mut desk);
-    let mut theirs = shares_of(rt, &mut desk);
+    let shares = Mutex::new(shares_of(rt, &mut desk));
     let desk = Mutex::new(desk);
-    let told = both(rt, alloc, &desk, &mut mine, &mut theirs);
+    let told = both(rt, alloc, &desk, &shares);
     let mut desk = desk.into_inner();
-    (told, gathered_two(rt, alloc, &mut desk, mine, theirs))
+    (told, gathered(rt, alloc, &mut desk, shares.into_inner()))
 }
 
 /// Each of two threads waits for the other's exchange: one alone, or an exchange made under the lock, never passes.
@@ -166,6 +138,6 @@ fn both_pass_the_gate(rt: HostRuntime) -> Result<(), Fail> {
         claims: 10,
         dues: 10,
     };
-    assert!(rt; owed == Some(wanted));
+    assert!(rt; owed == wanted);
     Ok(())
 }

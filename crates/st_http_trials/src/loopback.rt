@@ -4,6 +4,7 @@ ghost use Rattle.st_http.specs.Texts as texts;
 
 use st_desk::{Link, LinkFault};
 use st_http::{Answerer, HttpError, is_field_text, serve_one};
+use st_ilp::Moment;
 use st_link::HttpLink;
 use st_oer::{Counted, Counting};
 use std::alloc::Global;
@@ -11,6 +12,7 @@ use std::io::Write;
 use std::net::{Net, OpenListener, TcpListener};
 use std::test::Fail;
 use std::thread;
+use std::time::{Clock, Duration, Instant};
 
 /// A Prepare and its answer: any bytes, as far as a link knows.
 const ASKED: &[u8] = b"\x0c\x02hi";
@@ -19,6 +21,9 @@ const ANSWERED: &[u8] = b"\x0d\x05there";
 
 /// More calls of a stream than one exchange takes.
 const TURNS: u64 = 1_000;
+
+/// The year 9999, in milliseconds since the start of 1970.
+const LATE: i64 = 253_402_300_000_000;
 
 /// Answers the one question of account 1.
 #[derive(Drop)]
@@ -38,7 +43,7 @@ impl Answerer for Fixed {
 }
 
 /// What comes back from this host for a token, and the faults that were counted.
-fn ask<N: Net>(
+fn ask<N: Net + Clock>(
     net: &N,
     alloc: Global,
     host: &str,
@@ -50,7 +55,10 @@ fn ask<N: Net>(
     let Ok(mut link) = HttpLink::new(alloc, alloc, net, host, token, TURNS) else {
         return (Err(LinkFault::NoMemory), 0);
     };
-    let answer = link.exchange(ASKED);
+    let Some(by) = Moment::new(LATE) else {
+        return (Err(LinkFault::Peer), 0);
+    };
+    let answer = link.exchange(ASKED, by);
     (answer, link.faults())
 }
 
@@ -132,6 +140,24 @@ fn a_neighbour_that_speaks_no_http_gives_no_answer(rt: HostRuntime) -> Result<()
     Ok(())
 }
 
+/// What is past its moment is not sent: nobody accepts, and the exchange ends at once.
+#[test]
+fn an_exchange_ends_at_its_moment(rt: HostRuntime) -> Result<(), Fail> {
+    let alloc = rt.alloc();
+    let listener = TcpListener::bind(&rt, "127.0.0.1:0")?;
+    let host = format!(in alloc; "{}", listener.local_addr()?)?;
+    assert!(rt; is_field_text(host.as_str()) && is_field_text("t1"));
+    let mut link = HttpLink::new(alloc, alloc, &rt, host.as_str(), "t1", TURNS)?;
+    let now = i64::try_from(rt.since_1970()?.as_millis()).expect(&rt, "a time");
+    let past = Moment::new(now.saturating_sub(1)).expect(&rt, "a moment");
+    assert!(rt; link.exchange(ASKED, past).is_err());
+    let soon = Moment::new(now.saturating_add(300)).expect(&rt, "a moment");
+    let began = Instant::now(&rt)?;
+    assert!(rt; link.exchange(ASKED, soon).is_err());
+    assert!(rt; began.elapsed(&rt)? < Duration::from_secs(5));
+    Ok(())
+}
+
 #[test]
 fn nobody_gives_no_answer(rt: HostRuntime) -> Result<(), Fail> {
     let alloc = rt.alloc();
@@ -142,6 +168,7 @@ fn nobody_gives_no_answer(rt: HostRuntime) -> Result<(), Fail> {
     assert!(rt; answer.as_deref() == Err(&LinkFault::Peer));
     assert!(rt; faults == 0);
     let mut nowhere = HttpLink::nowhere(alloc, alloc, &rt);
-    assert!(rt; nowhere.exchange(ASKED).as_deref() == Err(&LinkFault::Peer));
+    let by = Moment::new(LATE).expect(&rt, "a moment");
+    assert!(rt; nowhere.exchange(ASKED, by).as_deref() == Err(&LinkFault::Peer));
     Ok(())
 }

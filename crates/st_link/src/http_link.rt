@@ -1,20 +1,23 @@
-//! A neighbour that is reached by HTTP.
+//! A link to a neighbour by ILP over HTTP.
 
 ghost use Rattle.std.specs.Prelude.{◌≡◌, true, IfErr, IfOk, IsTrue};
 ghost use Rattle.st_desk.specs.declared.link.LinkFault.TheVariants.{Device};
 ghost use Rattle.st_http.specs.Texts as texts;
 ghost use Rattle.st_link.specs.Links.{fault_of};
 
+use crate::buffered::Buffered;
+use crate::timed::{Timed, deadline_in, left_until};
 use st_desk::{Link, LinkFault};
 use st_http::{HttpError, exchange};
+use st_ilp::Moment;
 use st_oer::{Counted, Counting};
 use std::alloc::{AllocError, Allocator, Global};
 use std::io::{Read, Write};
 use std::marker::Model;
-use std::net::{Net, OpenStream, TcpStream};
-use std::time::Duration;
+use std::net::{Net, OpenStream, SocketAddr, TcpStream, ToSocketAddrs};
+use std::time::{Clock, Duration, Instant};
 
-/// So many seconds a neighbour may be silent, and take nothing: as long as a Prepare of an end's may take.
+/// How many seconds an exchange or a served request may take as a whole: as long as a Prepare of an end may take.
 pub const ANSWER_SECONDS: u64 = 30;
 
 /// Where a neighbour is reached, and the token that it knows this side by.
@@ -36,11 +39,14 @@ impl<A: Allocator + Copy> Model for Neighbour<A> {
     ghost invariant = { λ a. IsTrue (texts.is_field_text (string_bytes a.host)) × IsTrue (texts.is_field_text (string_bytes a.token)) };
 }
 
-/// A link that connects to a neighbour for each exchange.
+/// A link to one neighbour by ILP over HTTP (RFC 0035, the synchronous mode). Each exchange opens a TCP connection of
+/// its own, sends one request and reads one response.
 #[derive(Drop)]
-pub struct HttpLink<'n, N: Net, A: Allocator + Copy> {
+pub struct HttpLink<'n, N: Net + Clock, A: Allocator + Copy> {
     net: &'n N,
     neighbour: Option<Neighbour<A>>,
+    /// Where the last exchange was answered.
+    address: Option<SocketAddr>,
     /// So many calls of its stream an exchange may take.
     turns: u64,
     faults: u64,
@@ -83,7 +89,7 @@ impl<A: Allocator + Copy> Neighbour<A> {
     }
 }
 
-impl<'n, N: Net, A: Allocator + Copy> HttpLink<'n, N, A> {
+impl<'n, N: Net + Clock, A: Allocator + Copy> HttpLink<'n, N, A> {
     /// A link to `host`, as HOST:PORT, by this token. Each exchange takes at most `turns` calls of its stream. Refused is want
     /// of memory alone.
     pub fn new(
@@ -104,6 +110,7 @@ impl<'n, N: Net, A: Allocator + Copy> HttpLink<'n, N, A> {
         Ok(HttpLink {
             net,
             neighbour: Some(neighbour),
+            address: None,
             turns,
             faults: 0,
             alloc,
@@ -111,11 +118,12 @@ impl<'n, N: Net, A: Allocator + Copy> HttpLink<'n, N, A> {
         })
     }
 
-    /// A link to nobody: each exchange gets `LinkFault::Peer`.
+    /// Makes a link that has no neighbour: each of its exchanges fails with `LinkFault::Peer`. Does not allocate.
     pub fn nowhere(alloc: A, global: Global, net: &'n N) -> Self {
         HttpLink {
             net,
             neighbour: None,
+            address: None,
             turns: 0,
             faults: 0,
             alloc,
@@ -123,25 +131,65 @@ impl<'n, N: Net, A: Allocator + Copy> HttpLink<'n, N, A> {
         }
     }
 
-    /// One exchange over a connection of its own.
-    fn exchange_once(&self, bytes: &[u8]) -> Result<Vec<u8, A>, LinkFault> {
+    /// The address that the host's name was resolved to, if an exchange over it succeeded last.
+    pub fn address(&self) -> Option<SocketAddr> {
+        self.address
+    }
+
+    /// Has the next exchange connect to this address first, in place of resolving the host's name.
+    pub fn set_address(&mut self, address: Option<SocketAddr>) {
+        self.address = address;
+    }
+
+    /// A connection to the neighbour before the deadline, and its address: the one that was kept, or else the first of those
+    /// that the host's name is resolved to that takes a connection.
+    fn connect(&self, host: &str, deadline: Option<Instant>) -> Option<(N::Stream, SocketAddr)> {
+        if let Some(address) = self.address {
+            let left = left_until(self.net, deadline)?;
+            let stream = TcpStream::connect_timeout(self.net, &address, left).ok()?;
+            return Some((stream, address));
+        }
+        for address in host.to_socket_addrs(self.net).ok()? {
+            let left = left_until(self.net, deadline)?;
+            if let Ok(stream) = TcpStream::connect_timeout(self.net, &address, left) {
+                return Some((stream, address));
+            }
+        }
+        None
+    }
+
+    /// When an exchange has to be done: 30 seconds from now, or at `by` where that is sooner.
+    fn deadline(&self, by: Moment) -> Option<Instant> {
+        let now = self.net.since_1970().ok()?;
+        let end = Duration::from_millis(by.ms() as u64);
+        let left = end.checked_sub(now)?;
+        deadline_in(self.net, left.min(Duration::from_secs(ANSWER_SECONDS)))
+    }
+
+    /// One exchange over a connection of its own, and the address that it was made to.
+    fn exchange_once(
+        &self,
+        bytes: &[u8],
+        by: Moment,
+    ) -> Result<(Vec<u8, A>, SocketAddr), LinkFault> {
         let Some(neighbour) = &self.neighbour else {
             return Err(LinkFault::Peer);
         };
-        let Ok(stream) = TcpStream::connect(self.net, neighbour.host.as_str()) else {
+        let deadline = self.deadline(by);
+        let Some((stream, address)) = self.connect(neighbour.host.as_str(), deadline) else {
             return Err(LinkFault::Peer);
         };
-        let patience = Some(Duration::from_secs(ANSWER_SECONDS));
-        if stream.set_read_timeout(patience).is_err()
-            || stream.set_write_timeout(patience).is_err()
-        {
-            return Err(LinkFault::Peer);
-        }
-        neighbour.exchange(self.alloc, self.global, stream, bytes, self.turns)
+        let _ = stream.set_nodelay(true);
+        let timed = Timed::until(stream, self.net, deadline);
+        let Ok(buffered) = Buffered::new(self.alloc, timed) else {
+            return Err(LinkFault::NoMemory);
+        };
+        let answer = neighbour.exchange(self.alloc, self.global, buffered, bytes, self.turns)?;
+        Ok((answer, address))
     }
 }
 
-impl<N: Net, A: Allocator + Copy> Counted for HttpLink<'_, N, A> {
+impl<N: Net + Clock, A: Allocator + Copy> Counted for HttpLink<'_, N, A> {
     ghost fault_count = { λ s. s.faults };
 
     fn faults(&self) -> u64 {
@@ -149,12 +197,20 @@ impl<N: Net, A: Allocator + Copy> Counted for HttpLink<'_, N, A> {
     }
 }
 
-impl<N: Net, A: Allocator + Copy> Link<A> for HttpLink<'_, N, A> {
-    fn exchange(&mut self, bytes: &[u8]) -> Result<Vec<u8, A>, LinkFault> {
-        let result = self.exchange_once(bytes);
-        if matches!(&result, Err(LinkFault::Device)) {
-            self.faults = self.faults.saturating_add(1);
+impl<N: Net + Clock, A: Allocator + Copy> Link<A> for HttpLink<'_, N, A> {
+    fn exchange(&mut self, bytes: &[u8], by: Moment) -> Result<Vec<u8, A>, LinkFault> {
+        match self.exchange_once(bytes, by) {
+            Ok((answer, address)) => {
+                self.address = Some(address);
+                Ok(answer)
+            }
+            Err(fault) => {
+                self.address = None;
+                if matches!(fault, LinkFault::Device) {
+                    self.faults = self.faults.saturating_add(1);
+                }
+                Err(fault)
+            }
         }
-        result
     }
 }

@@ -1,7 +1,11 @@
-//! A link to a neighbour by ILP over HTTP (RFC 0035, synchronous): each exchange is one connection over TCP, one request
-//! and one response. `specs/Links.antt` says which fault of a link each refusal of HTTP is.
+//! A link to a neighbour by ILP over HTTP (RFC 0035, the synchronous mode): each exchange is one TCP connection, one
+//! request and one response. `specs/Links.antt` says which `LinkFault` each `HttpError` becomes.
 #![tactic(auto)]
 
+mod buffered;
 mod http_link;
+mod timed;
 
+pub use buffered::Buffered;
 pub use http_link::{ANSWER_SECONDS, HttpLink};
+pub use timed::Timed;

@@ -1,0 +1,47 @@
+//! A stream of which reads are buffered.
+
+ghost use Rattle.std.specs.Io.Buffered.{reader_inner, reader_remaining};
+
+use std::alloc::Allocator;
+use std::io;
+use std::io::{BufReader, Read, Write};
+
+/// How many bytes are asked of the stream at once: a head and the greatest body that a Prepare of an end has.
+const BUFFER: usize = 16_384;
+
+/// A stream with a buffer in front of its reads. The stream behind is read in parts of up to 16,384 bytes, and what is read
+/// here comes from the buffer, so that a message that is read byte by byte costs few reads of the stream. What is left in the
+/// buffer is left unread. Writes go through to the stream as they are.
+#[derive(Drop)]
+pub struct Buffered<S, A: Allocator> {
+    reader: BufReader<S, A>,
+}
+
+impl<S: Read + Drop, A: Allocator> Buffered<S, A> {
+    /// The stream with an empty buffer. Fails with an error of kind `OutOfMemory` where memory is refused.
+    pub fn new(alloc: A, stream: S) -> io::Result<Buffered<S, A>> {
+        let reader = BufReader::with_capacity(alloc, BUFFER, stream)?;
+        Ok(Buffered { reader })
+    }
+}
+
+impl<S: Read, A: Allocator> Read for Buffered<S, A> {
+    // The bytes in the buffer, and then those of the stream behind.
+    ghost remaining = { λ s. reader_remaining S.remaining s.reader };
+
+    fn read(&mut self, buf: &mut [u8]) -> io::Result<usize> {
+        self.reader.read(buf)
+    }
+}
+
+impl<S: Read + Write, A: Allocator> Write for Buffered<S, A> {
+    ghost contents = { λ s. S.contents (reader_inner s.reader) };
+
+    fn write(&mut self, buf: &[u8]) -> io::Result<usize> {
+        self.reader.get_mut().write(buf)
+    }
+
+    fn flush(&mut self) -> io::Result<()> {
+        self.reader.get_mut().flush()
+    }
+}

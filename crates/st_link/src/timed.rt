@@ -1,0 +1,74 @@
+//! A stream whose calls end by a deadline.
+
+use std::io;
+use std::io::{ErrorKind, Read, Write};
+use std::net::OpenStream;
+use std::time::{Clock, Duration, Instant};
+
+/// A stream with one deadline for all of its calls. Before each read and each write the stream's time-out is set to what is
+/// left until the deadline. From the deadline on each call fails with `ErrorKind::TimedOut`, and so does each call where the
+/// clock cannot be read.
+#[derive(Drop)]
+pub struct Timed<'r, S, R: Clock> {
+    stream: S,
+    clock: &'r R,
+    deadline: Option<Instant>,
+}
+
+/// The moment that is `time` from now, where the clock can be read.
+pub(crate) fn deadline_in(clock: &impl Clock, time: Duration) -> Option<Instant> {
+    Instant::now(clock).ok()?.checked_add(time)
+}
+
+/// What is left until a deadline: nothing where it has passed or the clock cannot be read.
+pub(crate) fn left_until(clock: &impl Clock, deadline: Option<Instant>) -> Option<Duration> {
+    let now = Instant::now(clock).ok()?;
+    let left = deadline?.checked_duration_since(now)?;
+    if left.is_zero() { None } else { Some(left) }
+}
+
+impl<'r, S, R: Clock> Timed<'r, S, R> {
+    /// The stream, of which all calls together may take `time`.
+    pub fn new(stream: S, clock: &'r R, time: Duration) -> Timed<'r, S, R> {
+        Timed::until(stream, clock, deadline_in(clock, time))
+    }
+
+    /// The stream with this deadline. Where there is none each call fails.
+    pub(crate) fn until(stream: S, clock: &'r R, deadline: Option<Instant>) -> Timed<'r, S, R> {
+        Timed {
+            stream,
+            clock,
+            deadline,
+        }
+    }
+}
+
+impl<S: Read + OpenStream, R: Clock> Read for Timed<'_, S, R> {
+    ghost remaining = { λ s. S.remaining s.stream };
+
+    fn read(&mut self, buf: &mut [u8]) -> io::Result<usize> {
+        let left = left_until(self.clock, self.deadline);
+        if left.is_none() {
+            return Err(io::Error::from(ErrorKind::TimedOut));
+        }
+        self.stream.set_read_timeout(left)?;
+        self.stream.read(buf)
+    }
+}
+
+impl<S: Write + OpenStream, R: Clock> Write for Timed<'_, S, R> {
+    ghost contents = { λ s. S.contents s.stream };
+
+    fn write(&mut self, buf: &[u8]) -> io::Result<usize> {
+        let left = left_until(self.clock, self.deadline);
+        if left.is_none() {
+            return Err(io::Error::from(ErrorKind::TimedOut));
+        }
+        self.stream.set_write_timeout(left)?;
+        self.stream.write(buf)
+    }
+
+    fn flush(&mut self) -> io::Result<()> {
+        self.stream.flush()
+    }
+}
