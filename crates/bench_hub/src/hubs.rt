@@ -4,9 +4,9 @@ ghost use Rattle.st_queues.specs.Lanes.{ring_at};
 ghost use Rattle.st_hub.specs.Hub.{IsNew};
 
 use crate::ends::{Counting, Half, Still, new_half};
-use crate::ring::write_all;
+use crate::ring::{end, write};
 use st_end::Role;
-use st_hub::{HubLink, HubState, work};
+use st_hub::{Bench, HubLink, HubState, Worker, work};
 use st_ilp::Moment;
 use st_queues::{Gauge, GaugeSeat, Got, HubName, StreamReader, StreamWriter};
 use std::alloc::Global;
@@ -20,10 +20,13 @@ use std::time::Duration;
 /// For how many microseconds the reader sleeps where nothing came.
 const REST: u64 = 100;
 
+/// For how many milliseconds a worker sleeps at most where it has nothing to send and nobody wakes it.
+const IDLE: u64 = 1_000;
+
 /// A hub under its lock, its gauge, and a seat there.
 #[derive(Drop)]
 struct Side<N: HubName<Global>> {
-    hub: Mutex<HubState<N, Global>>,
+    hub: Bench<N, Global>,
     gauge: Gauge<N, Global>,
     seat: Mutex<GaugeSeat<N, Global>>,
 }
@@ -38,7 +41,7 @@ fn new_side<N: HubName<Global>>(half: Half, blank: Blank) -> Side<N>
     let Half { end, rings } = half;
     let (hub, gauge, seat) = HubState::<N, Global>::new(end, rings, blank);
     Side {
-        hub: Mutex::new(hub),
+        hub: Bench::new(hub),
         gauge,
         seat: Mutex::new(seat),
     }
@@ -62,12 +65,16 @@ fn send_on<'a, N: HubName<Global>, M: HubName<Global>, R: Wait + std::time::Cloc
     let _ = work(
         rt,
         &from.hub,
-        &mut link,
-        &mut ivs,
-        &mut mine,
-        &from.gauge,
-        &mut seat,
-        u32::MAX,
+        Worker {
+            link: &mut link,
+            ivs: &mut ivs,
+            clock: &mut mine,
+            gauge: &from.gauge,
+            seat: &mut seat,
+            stream: 0,
+            rest: Duration::from_millis(IDLE),
+            turns: u64::from(u32::MAX),
+        },
     );
 }
 
@@ -91,15 +98,40 @@ fn work_all<
     );
 }
 
-/// Reads what comes until the end: how many bytes that was.
-fn read_all<M: HubName<Global>, R: std::time::Clock>(
+/// Writes so many chunks of 4,096 bytes, and then an end, and wakes a worker after each.
+fn write_all<N: HubName<Global>, R: Wait>(
     rt: &R,
+    alloc: Global,
+    near: &Side<N>,
+    writer: &mut StreamWriter<N, Global>,
+    chunks: u64,
+) {
+    for _ in 0..chunks {
+        let Ok(chunk) = Vec::from_elem(alloc, 7, 4_096) else {
+            break;
+        };
+        if !write(writer, chunk) {
+            break;
+        }
+        near.hub.wake_one(rt);
+    }
+    end(writer);
+    near.hub.wake_one(rt);
+}
+
+/// Reads what comes until the end, and wakes a worker after each read: how many bytes that was.
+fn read_all<M: HubName<Global>, R: Wait + std::time::Clock>(
+    rt: &R,
+    far: &Side<M>,
     reader: &mut StreamReader<M, Global>,
 ) -> u64 {
     let mut came = 0_u64;
     for _ in 0..u64::MAX {
         match reader.try_read() {
-            Got::Bytes(bytes) => came = came.saturating_add(bytes.len() as u64),
+            Got::Bytes(bytes) => {
+                came = came.saturating_add(bytes.len() as u64);
+                far.hub.wake_one(rt);
+            }
             Got::Nothing => thread::sleep(rt, Duration::from_micros(REST)),
             _ => return came,
         }
@@ -125,7 +157,7 @@ fn take<N: HubName<Global>, M: HubName<Global>, R: Wait + std::time::Clock>(
     for _ in 0..u64::MAX {
         match reader_at(rt, far) {
             Some(mut reader) => {
-                came = read_all(rt, &mut reader);
+                came = read_all(rt, far, &mut reader);
                 break;
             }
             None => thread::sleep(rt, Duration::from_micros(REST)),
@@ -133,6 +165,8 @@ fn take<N: HubName<Global>, M: HubName<Global>, R: Wait + std::time::Clock>(
     }
     near.gauge.ask_stop(&mut near.seat.lock(rt));
     far.gauge.ask_stop(&mut far.seat.lock(rt));
+    near.hub.wake_all(rt);
+    far.hub.wake_all(rt);
     came
 }
 
@@ -161,7 +195,7 @@ fn pass_beside<
         || {
             thread::join(
                 rt,
-                || write_all(alloc, &mut writer, chunks, 4_096),
+                || write_all(rt, alloc, near, &mut writer, chunks),
                 || take(rt, near, far),
             )
         },

@@ -9,7 +9,10 @@ use std::thread;
 use std::thread::Threads;
 
 /// Writes a chunk as soon as there is room: whether it was taken.
-fn write<N: HubName<Global>>(writer: &mut StreamWriter<N, Global>, mut chunk: Vec<u8>) -> bool {
+pub(crate) fn write<N: HubName<Global>>(
+    writer: &mut StreamWriter<N, Global>,
+    mut chunk: Vec<u8>,
+) -> bool {
     for _ in 0..u64::MAX {
         match writer.try_write(chunk) {
             Ok(()) => return true,
@@ -22,7 +25,7 @@ fn write<N: HubName<Global>>(writer: &mut StreamWriter<N, Global>, mut chunk: Ve
 }
 
 /// Writes an end as soon as there is room.
-fn end<N: HubName<Global>>(writer: &mut StreamWriter<N, Global>) {
+pub(crate) fn end<N: HubName<Global>>(writer: &mut StreamWriter<N, Global>) {
     for _ in 0..u64::MAX {
         match writer.try_end() {
             Err(QueueError::Full(_)) => thread::yield_now(),

@@ -1,11 +1,8 @@
 -- What went through a ring, one item more.
-use Rattle.std.proofs.Common.{◌≡◌, ◌≤◌, ℕ, List, [], ◌∷◌, ◌++◌, inl, inr, append-nil, append_assoc, refl, ap, sym, ◌∙◌, Bool, true, false, None, Result, Ok, Err, Vec}
-use Rattle.std.specs.Prelude.{IfErr, OnOk}
-use Rattle.std.specs.Result.{is_ok}
+use Rattle.std.proofs.Common.{◌≡◌, ℕ, List, [], ◌∷◌, ◌++◌, inl, inr, append-nil, append_assoc, refl, ap, sym, ◌∙◌, Bool, true, None, Vec}
 use Rattle.st_queues.specs.Items.{joined, delivered}
 use Rattle.st_queues.specs.Reading.{Read, ReadsAs}
 use Rattle.st_queues.specs.Writing.{Written}
-use Rattle.st_queues.specs.declared.error.QueueError.{QueueError}
 use Rattle.st_queues.specs.declared.items.Item.{Item}
 use Rattle.st_queues.specs.declared.items.Item.TheVariants as item
 use Rattle.st_queues.specs.declared.items.Delivery.{Delivery}
@@ -15,7 +12,7 @@ use Rattle.st_queues.specs.declared.items.Got.TheVariants.{Bytes, Nothing, End, 
 use Rattle.st_queues.specs.declared.items.Over.{Over}
 use Rattle.st_queues.specs.declared.items.Over.TheVariants as over
 use Rattle.st_file.specs.Rings.{given_by, taken_by}
-use Rattle.st_file.specs.Sinks.{Ends, Taken}
+use Rattle.st_file.specs.Sinks.{Taken}
 use Rattle.st_file.specs.Sources.{Given, Gives}
 
 taken_eq : (x y : List ℕ) (e f : Bool) → x ≡ y → e ≡ f → ◌≡◌ {A = Taken} (record { bytes = x; ended = e; calls = None }) (record { bytes = y; ended = f; calls = None })
@@ -45,12 +42,11 @@ module _ {A : Type 0} where
   pub put_taken : (a b : Written A) (v : Vec ℕ A) → b.items ≡ a.items ++ item.Chunk v ∷ [] → b.ended ≡ a.ended → taken_by b ≡ record { bytes = joined a.items ++ v.items; ended = a.ended; calls = None }
   put_taken a b v items ended = taken_eq (joined b.items) (joined a.items ++ v.items) b.ended a.ended (joined_chunk a.items b.items v items) ended
 
-  pub end_taken : {T : Type 0} (a b : Written A) (r : Result T (QueueError A)) (t : Bool) → t ≡ is_ok r
-      → OnOk r ((a.ended ≡ false) × (b.ended ≡ true) × (b.free ≡ 0) × (b.items ≡ a.items ++ item.End ∷ []))
-      → IfErr r (λ _. (b.items ≡ a.items) × (b.ended ≡ a.ended) × (a.free ≤ b.free))
-      → Ends (taken_by a) (taken_by b) t
-  end_taken a b (Ok x) t is ok err = rw is (taken_eq (joined b.items) (joined a.items) b.ended true (joined_end a.items b.items ok.3) ok.1)
-  end_taken a b (Err e) t is ok err = rw is (taken_eq (joined b.items) (joined a.items) b.ended a.ended (ap joined err.0) err.1)
+  pub end_taken : (a b : Written A) → b.items ≡ a.items ++ item.End ∷ [] → b.ended ≡ true → taken_by b ≡ record { bytes = joined a.items; ended = true; calls = None }
+  end_taken a b items ended = taken_eq (joined b.items) (joined a.items) b.ended true (joined_end a.items b.items items) ended
+
+  pub end_refused : (a b : Written A) → b.items ≡ a.items → b.ended ≡ a.ended → taken_by b ≡ record { bytes = joined a.items; ended = a.ended; calls = None }
+  end_refused a b items ended = taken_eq (joined b.items) (joined a.items) b.ended a.ended (ap joined items) ended
 
   -- an end was delivered, or told again
   told : (a b : Read A) (x : Delivery A) (o : Over) → delivered (x ∷ []) ≡ [] → b.items ≡ a.items ++ x ∷ [] → b.over ≡ o → given_by b ≡ record { bytes = delivered a.items; over = o; calls = None }

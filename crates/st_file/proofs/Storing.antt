@@ -7,7 +7,7 @@ use Rattle.st_file.specs.Errors.{counted}
 use Rattle.st_file.specs.Sources.{Given}
 use Rattle.st_file.specs.Stores.{ExplainsStore, Storing, Stored, WritesFirst, WritesPiece}
 use Rattle.st_file.specs.declared.error.FileError.{FileError}
-use Rattle.st_file.specs.declared.error.FileError.TheVariants.{ReadFault, WriteFault, Aborted, Turns, NoMemory}
+use Rattle.st_file.specs.declared.error.FileError.TheVariants.{ReadFault, WriteFault, Aborted, Turns, NoMemory, Closed}
 use Rattle.st_file.proofs.Sending.{counted_more}
 
 abbrev pub storing : Option (List ℕ) → Option (List ℕ) → Given → Given → Storing
@@ -44,3 +44,4 @@ stored_why before now after old mid new n text (WriteFault m) s gave w = stored_
 stored_why before now after old mid new n text (Aborted code m) s gave w = absurd w
 stored_why before now after old mid new n text (Turns m) s gave w = stored_first before now after old mid new n m text s gave w
 stored_why before now after old mid new n text (NoMemory m) s gave w = absurd w
+stored_why before now after old mid new n text (Closed m) s gave w = absurd w

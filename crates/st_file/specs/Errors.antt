@@ -2,7 +2,7 @@
 use Rattle.std.specs.Prelude.{ℕ, min, Option, Some, Result, Ok, Err, ⊤}
 use Rattle.st_oer.specs.Faults.{count_after, last_count}
 use Rattle.st_file.specs.declared.error.FileError.{FileError}
-use Rattle.st_file.specs.declared.error.FileError.TheVariants.{ReadFault, WriteFault, Aborted, Turns, NoMemory}
+use Rattle.st_file.specs.declared.error.FileError.TheVariants.{ReadFault, WriteFault, Aborted, Turns, NoMemory, Closed}
 
 -- each refusal has its own number
 abbrev pub number : FileError → ℕ
@@ -11,6 +11,7 @@ number (WriteFault bytes) = 91
 number (Aborted code bytes) = 92
 number (Turns bytes) = 93
 number (NoMemory bytes) = 94
+number (Closed bytes) = 89
 
 -- the first number that a refusal carries
 abbrev pub inner : FileError → Option ℕ
@@ -19,6 +20,7 @@ inner (WriteFault bytes) = Some bytes
 inner (Aborted code bytes) = Some code
 inner (Turns bytes) = Some bytes
 inner (NoMemory bytes) = Some bytes
+inner (Closed bytes) = Some bytes
 
 -- a number of bytes as it is told: at the greatest number of 64 bits it stays
 abbrev pub counted : ℕ → ℕ
@@ -32,6 +34,7 @@ faults_told (Err (WriteFault bytes)) count = count_after 1 count
 faults_told (Err (Aborted code bytes)) count = count
 faults_told (Err (Turns bytes)) count = count
 faults_told (Err (NoMemory bytes)) count = count
+faults_told (Err (Closed bytes)) count = count
 
 -- the turns were used up
 abbrev pub IsTurns : FileError → Type 0
@@ -40,3 +43,4 @@ IsTurns (WriteFault bytes) = ⊥
 IsTurns (Aborted code bytes) = ⊥
 IsTurns (Turns bytes) = ⊤
 IsTurns (NoMemory bytes) = ⊥
+IsTurns (Closed bytes) = ⊥

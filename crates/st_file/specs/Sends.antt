@@ -4,7 +4,7 @@ use Rattle.std.specs.Io.KnownBytes.{Consumes, IsAtEnd, Keeps}
 use Rattle.st_file.specs.Errors.{counted}
 use Rattle.st_file.specs.Sinks.{Taken}
 use Rattle.st_file.specs.declared.error.FileError.{FileError}
-use Rattle.st_file.specs.declared.error.FileError.TheVariants.{ReadFault, WriteFault, Aborted, Turns, NoMemory}
+use Rattle.st_file.specs.declared.error.FileError.TheVariants.{ReadFault, WriteFault, Aborted, Turns, NoMemory, Closed}
 
 -- a reader's bytes still to come before and after, and what a sink had taken before and after
 pub record Sending : Type 0 where
@@ -25,13 +25,15 @@ SentPart s n others = Sent s n others × (s.new.ended ≡ s.old.ended)
 abbrev pub SentAll : Sending → ℕ → Type 0
 SentAll s n = Sent s n [] × IsAtEnd s.after × (s.new.ended ≡ true)
 
--- why not all was sent: the sink took all that was read; but where the turns were used up, one piece may be lost
+-- why not all was sent: the sink took all that was read; but where the turns were used up or the sink is closed, one
+-- piece may be lost
 abbrev pub ExplainsSend : Sending → FileError → Type 0
 ExplainsSend s (ReadFault n) = SentPart s n []
 ExplainsSend s (WriteFault n) = ⊥
 ExplainsSend s (Aborted code n) = ⊥
 ExplainsSend s (Turns n) = (lost : List ℕ) × (length lost ≤ 4096) × SentPart s n lost
 ExplainsSend s (NoMemory n) = SentPart s n []
+ExplainsSend s (Closed n) = (lost : List ℕ) × (length lost ≤ 4096) × SentPart s n lost
 
 -- a piece was read, with no bytes at the end alone; or none was read after so many bytes were sent
 abbrev pub ReadsPiece : {A : Type 0} → ℕ → Option (List ℕ) → Option (List ℕ) → Result (Vec ℕ A) FileError → Type 0
@@ -41,13 +43,23 @@ ReadsPiece sent before after (Err (WriteFault n)) = ⊥
 ReadsPiece sent before after (Err (Aborted code n)) = ⊥
 ReadsPiece sent before after (Err (Turns n)) = (n ≡ sent) × Keeps before after
 ReadsPiece sent before after (Err (NoMemory n)) = (n ≡ sent) × Keeps before after
+ReadsPiece sent before after (Err (Closed n)) = ⊥
 
--- a piece was taken after so many bytes were; or the turns were used up
+-- the turns were used up after so many bytes were taken, or the sink is closed then
+abbrev pub Stops : ℕ → FileError → Type 0
+Stops sent (ReadFault n) = ⊥
+Stops sent (WriteFault n) = ⊥
+Stops sent (Aborted code n) = ⊥
+Stops sent (Turns n) = n ≡ sent
+Stops sent (NoMemory n) = ⊥
+Stops sent (Closed n) = n ≡ sent
+
+-- a piece was taken after so many bytes were; or none was taken any more
 abbrev pub PutsPiece : ℕ → Taken → Taken → List ℕ → Result ℕ FileError → Type 0
 PutsPiece sent old new piece (Ok n) = (n ≡ counted (sent + length piece)) × (new.bytes ≡ old.bytes ++ piece) × (new.ended ≡ old.ended)
-PutsPiece sent old new piece (Err e) = (e ≡ Turns sent) × (new.bytes ≡ old.bytes) × (new.ended ≡ old.ended)
+PutsPiece sent old new piece (Err e) = Stops sent e × (new.bytes ≡ old.bytes) × (new.ended ≡ old.ended)
 
--- an end was taken; or the turns were used up
+-- an end was taken; or none was taken any more
 abbrev pub PutsEnd : {T : Type 0} → ℕ → Taken → Taken → Result T FileError → Type 0
 PutsEnd sent old new (Ok x) = (new.bytes ≡ old.bytes) × (new.ended ≡ true)
-PutsEnd sent old new (Err e) = (e ≡ Turns sent) × (new.bytes ≡ old.bytes) × (new.ended ≡ old.ended)
+PutsEnd sent old new (Err e) = Stops sent e × (new.bytes ≡ old.bytes) × (new.ended ≡ old.ended)

@@ -1,5 +1,7 @@
 -- What a sink took.
-use Rattle.std.specs.Prelude.{◌≡◌, ℕ, ◌+◌, List, ◌++◌, Bool, true, false, Option, Some, None, Result, Ok, Err}
+use Rattle.std.specs.Prelude.{◌≡◌, ℕ, ◌+◌, List, ◌++◌, Bool, true, Option, Some, None}
+use Rattle.st_file.specs.declared.sink.Put.{Put}
+use Rattle.st_file.specs.declared.sink.Put.TheVariants as answers
 
 -- what was put into a sink: the bytes that it took, in order, whether it took an end, and how often it was asked, where
 -- that is known
@@ -14,11 +16,13 @@ calls_after n None = None
 calls_after n (Some calls) = Some (calls + n)
 
 -- a chunk was taken whole, or it was given back
-abbrev pub Puts : {T C : Type 0} → (C → List ℕ) → Taken → Taken → C → Result T C → Type 0
-Puts bytes old new chunk (Ok x) = new ≡ record { bytes = old.bytes ++ bytes chunk; ended = old.ended; calls = calls_after 1 old.calls }
-Puts bytes old new chunk (Err back) = (back ≡ chunk) × (new ≡ record { bytes = old.bytes; ended = old.ended; calls = calls_after 1 old.calls })
+abbrev pub Puts : {C : Type 0} → (C → List ℕ) → Taken → Taken → C → Put C → Type 0
+Puts bytes old new chunk answers.Taken = new ≡ record { bytes = old.bytes ++ bytes chunk; ended = old.ended; calls = calls_after 1 old.calls }
+Puts bytes old new chunk (answers.Again back) = (back ≡ chunk) × (new ≡ record { bytes = old.bytes; ended = old.ended; calls = calls_after 1 old.calls })
+Puts bytes old new chunk (answers.Closed back) = (back ≡ chunk) × (new ≡ record { bytes = old.bytes; ended = old.ended; calls = calls_after 1 old.calls })
 
 -- an end was taken, or it was not
-abbrev pub Ends : Taken → Taken → Bool → Type 0
-Ends old new true = new ≡ record { bytes = old.bytes; ended = true; calls = calls_after 1 old.calls }
-Ends old new false = new ≡ record { bytes = old.bytes; ended = old.ended; calls = calls_after 1 old.calls }
+abbrev pub Ends : {T : Type 0} → Taken → Taken → Put T → Type 0
+Ends old new answers.Taken = new ≡ record { bytes = old.bytes; ended = true; calls = calls_after 1 old.calls }
+Ends old new (answers.Again x) = new ≡ record { bytes = old.bytes; ended = old.ended; calls = calls_after 1 old.calls }
+Ends old new (answers.Closed x) = new ≡ record { bytes = old.bytes; ended = old.ended; calls = calls_after 1 old.calls }

@@ -5,7 +5,7 @@ use Rattle.st_queues.specs.declared.items.Over.TheVariants as over
 use Rattle.st_file.specs.Errors.{counted}
 use Rattle.st_file.specs.Sources.{Given}
 use Rattle.st_file.specs.declared.error.FileError.{FileError}
-use Rattle.st_file.specs.declared.error.FileError.TheVariants.{ReadFault, WriteFault, Aborted, Turns, NoMemory}
+use Rattle.st_file.specs.declared.error.FileError.TheVariants.{ReadFault, WriteFault, Aborted, Turns, NoMemory, Closed}
 
 -- a writer's bytes before and after, and what a source had given before and after
 pub record Storing : Type 0 where
@@ -29,6 +29,7 @@ ExplainsStore s (WriteFault n) = (others : List ℕ) × Stored s n others
 ExplainsStore s (Aborted code n) = Stored s n [] × (s.new.over ≡ over.Aborted code)
 ExplainsStore s (Turns n) = (others : List ℕ) × Stored s n others
 ExplainsStore s (NoMemory n) = ⊥
+ExplainsStore s (Closed n) = ⊥
 
 -- the next bytes of a source, or none at a clean end; or it told an abort, or the turns were used up, after so many
 -- bytes were written
@@ -40,6 +41,7 @@ GivesNext written old new (Err (WriteFault n)) = ⊥
 GivesNext written old new (Err (Aborted code n)) = (n ≡ written) × (new.bytes ≡ old.bytes) × (new.over ≡ over.Aborted code)
 GivesNext written old new (Err (Turns n)) = (n ≡ written) × (new.bytes ≡ old.bytes)
 GivesNext written old new (Err (NoMemory n)) = ⊥
+GivesNext written old new (Err (Closed n)) = ⊥
 
 -- the first bytes of the text were written, and with the earlier ones so many are told
 abbrev pub WritesFirst : ℕ → Option (List ℕ) → Option (List ℕ) → List ℕ → ℕ → Type 0
@@ -53,6 +55,7 @@ WritesPiece written before after text (Err (WriteFault n)) = WritesFirst written
 WritesPiece written before after text (Err (Aborted code n)) = ⊥
 WritesPiece written before after text (Err (Turns n)) = WritesFirst written before after text n
 WritesPiece written before after text (Err (NoMemory n)) = ⊥
+WritesPiece written before after text (Err (Closed n)) = ⊥
 
 -- a flush was done; or the writer failed or the turns were used up
 abbrev pub Flushes : {T : Type 0} → ℕ → Result T FileError → Type 0
@@ -62,3 +65,4 @@ Flushes written (Err (WriteFault n)) = n ≡ written
 Flushes written (Err (Aborted code n)) = ⊥
 Flushes written (Err (Turns n)) = n ≡ written
 Flushes written (Err (NoMemory n)) = ⊥
+Flushes written (Err (Closed n)) = ⊥

@@ -1,7 +1,9 @@
-//! Files to rings and back. `send_all` takes a reader's bytes to a sink, in pieces of at most 4,096 bytes, and
-//! `store_all` takes a source's bytes to a writer. The ring ends of st_queues are a sink and a source. Each call of a
-//! device, a sink or a source takes a turn, and what is refused or interrupted is asked again; a refusal tells how many
-//! bytes were moved before it.
+//! Moves the bytes of files to rings, and of rings to files.
+//!
+//! `send_all` moves the bytes of a reader to a sink, in chunks of at most 4,096 bytes. `store_all` moves the bytes of a
+//! source to a writer. The writer and the reader of st_queues' rings are a sink and a source. Each call of a device, a
+//! sink or a source counts against a given number of calls; a call that was refused or interrupted is made again. An
+//! error says how many bytes were moved before it.
 #![tactic(auto)]
 
 mod error;
@@ -13,6 +15,6 @@ mod store;
 
 pub use error::FileError;
 pub use send::{PIECE, send_all};
-pub use sink::{Chunk, Sink};
+pub use sink::{Chunk, Put, Sink};
 pub use source::Source;
 pub use store::{flush_all, store_all, write_piece};

@@ -1,32 +1,37 @@
-//! The application's ends of rings, as a sink and as a source.
+//! The writer of a ring as a sink, and the reader of a ring as a source.
 
-use crate::sink::Sink;
+use crate::sink::{Put, Sink};
 use crate::source::Source;
 use st_queues::{Got, HubName, QueueError, StreamReader, StreamWriter};
 use std::alloc::Allocator;
 
-/// The bytes are those of the chunks that it wrote.
+/// A ring's writer as a sink: the bytes that it took are those of the chunks that it wrote. It is closed for a chunk of no
+/// lawful length, and after its end.
 impl<N: HubName<A>, A: Allocator + Copy> Sink<Vec<u8, A>> for StreamWriter<N, A> {
     ghost use Rattle.st_file.specs.Rings.{taken_by};
 
     ghost taken = { λ w. taken_by w };
 
-    fn put(&mut self, chunk: Vec<u8, A>) -> Result<(), Vec<u8, A>> {
+    fn put(&mut self, chunk: Vec<u8, A>) -> Put<Vec<u8, A>> {
         match self.try_write(chunk) {
-            Ok(()) => Ok(()),
-            Err(QueueError::BadLength(back)) => Err(back),
-            Err(QueueError::Ended(back)) => Err(back),
-            Err(QueueError::Full(back)) => Err(back),
+            Ok(()) => Put::Taken,
+            Err(QueueError::BadLength(back)) => Put::Closed(back),
+            Err(QueueError::Ended(back)) => Put::Closed(back),
+            Err(QueueError::Full(back)) => Put::Again(back),
             Err(QueueError::NoMemory) => unreachable!(),
         }
     }
 
-    fn end(&mut self) -> bool {
-        self.try_end().is_ok()
+    fn end(&mut self) -> Put<()> {
+        match self.try_end() {
+            Ok(()) => Put::Taken,
+            Err(QueueError::Full(_)) => Put::Again(()),
+            Err(_) => Put::Closed(()),
+        }
     }
 }
 
-/// The bytes are those of the deliveries that it read.
+/// A ring's reader as a source: the bytes that it gave are those that it read.
 impl<N: HubName<A>, A: Allocator + Copy> Source<A> for StreamReader<N, A> {
     ghost use Rattle.st_file.specs.Rings.{given_by};
 

@@ -1,4 +1,4 @@
-//! From a reader to a sink.
+//! How the bytes of a reader are moved to a sink.
 
 ghost use Rattle.std.specs.Prelude.{◌≡◌, ◌<◌, OnOk, IfOk, IfErr, IsOk};
 ghost use Rattle.st_file.specs.Errors.{IsTurns, faults_told};
@@ -7,15 +7,16 @@ ghost use Rattle.st_file.specs.Spending.{SpendsTurns, TakesAsks};
 ghost use Rattle.st_oer.specs.Tallies.{TakesTurns, device_of, tally_of};
 
 use crate::error::FileError;
-use crate::sink::Sink;
+use crate::sink::{Put, Sink};
 use st_oer::{Counting, ReadTurn, read_turn};
 use std::alloc::Allocator;
 use std::io::Read;
 
-/// The most bytes that are read and put at a time: those of the longest chunk that a ring takes.
+/// The most bytes of one read and of one chunk: those of the longest chunk that a ring accepts.
 pub const PIECE: usize = 4_096;
 
-/// The next piece of a reader, empty at its end alone. Its memory is taken first, so that for want of it no byte is lost.
+/// The next chunk of a reader, which is empty only at the reader's end. Its memory is allocated before the read, so
+/// that no byte is lost where memory is refused.
 fn read_piece<R: Read, A: Allocator + Copy>(
     alloc: A,
     reader: &mut Counting<R>,
@@ -49,7 +50,7 @@ fn read_piece<R: Read, A: Allocator + Copy>(
     Err(FileError::Turns(sent))
 }
 
-/// Puts a piece into a sink, again where it is refused. It answers how many bytes are sent by then.
+/// Puts a chunk into a sink, and tries again where it is refused. Returns how many bytes are sent then.
 fn put_piece<K: Sink<Vec<u8, A>>, A: Allocator + Copy>(
     sink: &mut K,
     piece: Vec<u8, A>,
@@ -65,14 +66,15 @@ fn put_piece<K: Sink<Vec<u8, A>>, A: Allocator + Copy>(
     while *turns > 0 {
         *turns -= 1;
         match sink.put(chunk) {
-            Ok(()) => return Ok(by_then),
-            Err(back) => chunk = back,
+            Put::Taken => return Ok(by_then),
+            Put::Again(back) => chunk = back,
+            Put::Closed(_) => return Err(FileError::Closed(sent)),
         }
     }
     Err(FileError::Turns(sent))
 }
 
-/// Puts the end into a sink, again where it is refused.
+/// Ends a sink, and tries again where that is refused.
 fn put_end<K: Sink<Vec<u8, A>>, A: Allocator + Copy>(
     sink: &mut K,
     sent: u64,
@@ -84,18 +86,21 @@ fn put_end<K: Sink<Vec<u8, A>>, A: Allocator + Copy>(
 {
     while *turns > 0 {
         *turns -= 1;
-        if sink.end() {
-            return Ok(());
+        match sink.end() {
+            Put::Taken => return Ok(()),
+            Put::Again(()) => {}
+            Put::Closed(()) => return Err(FileError::Closed(sent)),
         }
     }
     Err(FileError::Turns(sent))
 }
 
-/// Sends a reader's bytes to a sink, in pieces of at most `PIECE` bytes, and at the reader's end the end. It answers how
-/// many bytes the sink took. Each call of the reader or the sink takes one of `turns`.
+/// Moves all bytes of a reader to a sink, in chunks of at most `PIECE` bytes, and then ends the sink. Returns how many
+/// bytes the sink took. Each call of the reader or the sink takes one of `turns`.
 ///
-/// Where a read fails or there is no memory, the sink took each byte that was read. Where the turns are used up, the last
-/// piece that was read may be lost: the refusal tells the bytes that the sink took.
+/// Fails with `ReadFault` where a read fails and with `NoMemory` where memory is refused: the sink then took each byte
+/// that was read. Fails with `Turns` where no call is left, and with `Closed` where the sink takes nothing any more: the
+/// last chunk that was read may then be lost. Each error carries the number of bytes that the sink took.
 pub fn send_all<R: Read, K: Sink<Vec<u8, A>>, A: Allocator + Copy>(
     alloc: A,
     reader: &mut Counting<R>,

@@ -1,11 +1,11 @@
-//! What bytes are sent to.
+//! The trait for what bytes are sent to.
 
 ghost use Rattle.std.specs.Prelude.{ℕ, List};
 ghost use Rattle.st_file.specs.Sinks.{Ends, Puts, Taken};
 
 use std::alloc::Allocator;
 
-/// A piece of bytes, whatever holds them.
+/// A value that holds a list of bytes.
 pub trait Chunk {
     // The bytes, in order.
     ghost bytes: { Self → List ℕ };
@@ -15,16 +15,28 @@ impl<A: Allocator + Copy> Chunk for Vec<u8, A> {
     ghost bytes = { λ v. v.items };
 }
 
-/// What takes bytes in chunks, and then an end. A call that refuses may be made again; none waits.
+/// What became of a chunk, or of an end, that a sink was given.
+#[must_use]
+#[derive(Drop)]
+pub enum Put<C> {
+    /// The sink took it.
+    Taken,
+    /// The sink did not take it now, and gives it back: it may be given again.
+    Again(C),
+    /// The sink takes nothing any more, and gives it back.
+    Closed(C),
+}
+
+/// Something that takes bytes in chunks, and then an end. A call may wait for room.
 pub trait Sink<C: Chunk> {
     // What it took so far.
     ghost taken: { Self → Taken };
 
-    /// Takes a chunk whole, or gives it back.
-    fn put(&mut self, chunk: C) -> Result<(), C>
+    /// Takes a whole chunk, or gives it back whole.
+    fn put(&mut self, chunk: C) -> Put<C>
         ensures { Puts C.bytes (taken self.old) (taken self.new) chunk result };
 
-    /// Takes the end, after which no byte is put, and tells whether it did.
-    fn end(&mut self) -> bool
+    /// Takes the end, after which no chunk is put, or does not.
+    fn end(&mut self) -> Put<()>
         ensures { Ends (taken self.old) (taken self.new) result };
 }

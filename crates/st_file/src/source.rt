@@ -1,16 +1,16 @@
-//! What bytes are stored from.
+//! The trait for what bytes are read from.
 
 ghost use Rattle.st_file.specs.Sources.{Given, Gives};
 
 use st_queues::Got;
 use std::alloc::Allocator;
 
-/// What gives bytes in pieces, and then an end or an abort. No call waits.
+/// Something that gives bytes in chunks, and then an end or an abort. No call waits.
 pub trait Source<A: Allocator + Copy> {
     // What it gave so far.
     ghost given: { Self → Given };
 
-    /// The next bytes, none yet, or an end.
+    /// The next bytes; nothing where there are none yet; or the end or the abort of the stream.
     fn next(&mut self) -> Got<A>
         ensures { Gives (given self.old) (given self.new) result };
 }

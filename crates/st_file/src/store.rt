@@ -1,4 +1,4 @@
-//! From a source to a writer.
+//! How the bytes of a source are moved to a writer.
 
 ghost use Rattle.std.specs.Prelude.{◌≡◌, ◌<◌, true, OnOk, IfOk, IfErr, IsOk};
 ghost use Rattle.std.specs.Io.KnownBytes.{Keeps};
@@ -14,7 +14,7 @@ use st_queues::Got;
 use std::alloc::Allocator;
 use std::io::Write;
 
-/// The next bytes of a source, asked again while it has none yet. None is its clean end.
+/// The next bytes of a source, which is called again while it has none. `None` is its clean end.
 fn next_bytes<S: Source<A>, A: Allocator + Copy>(
     source: &mut S,
     written: u64,
@@ -37,8 +37,11 @@ fn next_bytes<S: Source<A>, A: Allocator + Copy>(
     Err(FileError::Turns(written))
 }
 
-/// Writes bytes whole, after so many others. It answers how many are written by then. Each call of the writer takes one of
-/// `turns`.
+/// Writes all of `bytes`. `written` is the number of bytes written before, and the result is the number afterwards.
+/// Each call of the writer takes one of `turns`.
+///
+/// Fails with `WriteFault` where a write fails, and with `Turns` where no call is left. Each carries the number of
+/// bytes written so far.
 pub fn write_piece<W: Write>(
     writer: &mut Counting<W>,
     bytes: &[u8],
@@ -59,8 +62,10 @@ pub fn write_piece<W: Write>(
     }
 }
 
-/// Flushes a writer, again where it was interrupted, after so many bytes were written. Each call of the writer takes one of
-/// `turns`.
+/// Flushes a writer, and tries again where it was interrupted. `written` is the number of bytes written before. Each
+/// call of the writer takes one of `turns`.
+///
+/// Fails with `WriteFault` where the flush fails, and with `Turns` where no call is left. Each carries `written`.
 pub fn flush_all<W: Write>(
     writer: &mut Counting<W>,
     written: u64,
@@ -84,11 +89,12 @@ pub fn flush_all<W: Write>(
     Err(FileError::Turns(written))
 }
 
-/// Stores a source's bytes in a writer, and flushes it at the source's clean end. It answers how many bytes were written.
-/// Each call of the source or the writer takes one of `turns`.
+/// Moves all bytes of a source to a writer, and flushes the writer at the clean end of the source. Returns how many
+/// bytes were written. Each call of the source or the writer takes one of `turns`.
 ///
-/// A refusal tells how many bytes of the source were written: the first ones, each once. Where the source told an abort
-/// these are all that it gave.
+/// Fails with `Aborted` where the source was aborted: all bytes that it gave are then written. Fails with `WriteFault`
+/// where a write or the flush fails, and with `Turns` where no call is left. Each error carries the number of bytes
+/// written, which are the first of the source, each once.
 pub fn store_all<S: Source<A>, W: Write, A: Allocator + Copy>(
     source: &mut S,
     writer: &mut Counting<W>,

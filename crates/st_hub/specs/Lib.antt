@@ -7,4 +7,7 @@ pub mod Moving
 pub mod Keeping
 pub mod Hub
 pub mod Turns
+pub mod Stalls
+pub mod Gates
+pub mod Begins
 pub mod Inside

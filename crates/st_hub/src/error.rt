@@ -1,4 +1,4 @@
-//! Why a hub refused.
+//! The errors of a hub.
 
 ghost use Rattle.std.specs.Prelude.{◌≡◌};
 ghost use Rattle.st_hub.specs.Errors as errors;
@@ -7,34 +7,34 @@ ghost use Rattle.st_hub.specs.declared.error.HubError.TheVariants.{NoMemory};
 use std::alloc::AllocError;
 use thiserror::Error;
 
-/// Why a call was refused.
+/// Why a call of a hub failed.
 #[derive(Clone, Copy, Debug, PartialEq, Eq, Error)]
 pub enum HubError {
-    /// No such stream is open.
+    /// No stream of this number is open.
     #[error("the stream is not open")]
     NoStream,
-    /// As many shares are out as a hub has.
+    /// 63 shares are outstanding, the most that a hub has.
     #[error("no share is left")]
     NoShareLeft,
     /// The turn is not open at this hub.
     #[error("the turn is not open here")]
     Stranger,
-    /// A share that is out was not given back.
+    /// An outstanding share was not given back.
     #[error("a share is missing")]
     MissingShare,
     /// Memory that the call asked for was refused.
     #[error("out of memory")]
     NoMemory,
-    /// The stream has as many writers as there are rings for.
+    /// All eight writers of the stream were handed out.
     #[error("the stream has eight writers")]
     EightWriters,
-    /// The stream was closed or aborted.
+    /// Each writer of the stream that was handed out has ended.
     #[error("the stream is closed")]
     WriterTooLate,
 }
 
 impl HubError {
-    /// The number by which the refusal is known: 50, 68, 73 to 76 or 79.
+    /// The error's number in the program's table of faults: 50, 68, 73 to 76, or 79.
     pub fn number(&self) -> u8
         ensures { result ≡ errors.number self.now }
     {
@@ -49,7 +49,7 @@ impl HubError {
         }
     }
 
-    /// The number that the refusal wraps: none does.
+    /// The number of a wrapped error. A `HubError` wraps none, so this is always `None`.
     pub fn inner(&self) -> Option<u64>
         ensures { result ≡ errors.inner self.now }
     {

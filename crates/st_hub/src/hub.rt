@@ -1,4 +1,4 @@
-//! What lies under a hub's lock.
+//! The state of an end (a hub) that several threads share under one lock.
 
 ghost use Rattle.std.specs.Prelude.{◌≡◌, ℕ, ◌++◌, List, length, OnErr, IfOk, IfErr, IfSome, IfNone, IsOkUnless, ◌<◌};
 ghost use Rattle.st_end.specs.Calls as calls;
@@ -24,8 +24,8 @@ use std::alloc::Allocator;
 use std::marker::Model;
 use std::sync::ledger::{Blank, Book, Share};
 
-/// An end beside the rings of its streams, a gauge of its totals, and the ledger of its credit. Contracts see it as the
-/// end, what was taken from each ring and put there, and the shares that are out.
+/// An end of a connection with the rings of its streams, a gauge of its totals and the ledger of its credit: the value
+/// of one lock. Contracts see it as the end, the items taken from and put into each ring, and the outstanding shares.
 #[derive(Drop)]
 pub struct HubState<N: HubName<A>, A: Allocator + Copy> {
     pub(crate) streams: Streams<N, A>,
@@ -76,8 +76,8 @@ fn told(pumped: Pumped) -> Result<(), HubError>
 }
 
 impl<N: HubName<A>, A: Allocator + Copy> HubState<N, A> {
-    /// A hub over a new end, with a gauge of its totals and a seat there. `N` was picked for the rings and for the blank
-    /// of 64 parts. It takes no memory.
+    /// Makes a hub over a new end, and returns it with a gauge of its totals and a seat at that gauge. `N` is the hub's
+    /// name: `rings` and the `blank` of 64 parts were picked for it. Does not allocate.
     pub fn new(
         core: EndState<A>,
         rings: Rings<A>,
@@ -112,8 +112,10 @@ impl<N: HubName<A>, A: Allocator + Copy> HubState<N, A> {
         (hub, gauge, seat)
     }
 
-    /// Opens the next of this end's own streams: gives its number, a writer and its reader. Refused is what the end
-    /// refuses: `NoStream` after its last stream, `ConnectionFailed`, `Closed`, want of memory.
+    /// Opens the next stream of this end and returns its number, its first writer and its reader (RFC 0029).
+    ///
+    /// Fails, in this order: `NoStream` after the end's last stream; `ConnectionFailed`; `Closed` where the peer closed
+    /// the connection; `NoMemory` where memory is refused. At an error no stream is opened.
     pub fn open_stream(&mut self) -> Result<(u8, StreamWriter<N, A>, StreamReader<N, A>), EndError>
         ensures answers { OrWants self.old.flow.core (calls.open_stream self.old.flow.core) (number_in result, self.new.flow.core) }
         ensures handed { IfOk result (λ x. (s : ℕ) × HandsOut self.old.flow self.new.flow x.0 x.1 x.2 s) }
@@ -131,8 +133,8 @@ impl<N: HubName<A>, A: Allocator + Copy> HubState<N, A> {
         opened
     }
 
-    /// Gives the number, a writer and the reader of the lowest stream that the peer opened and nobody took. `None` comes
-    /// only where there is none. It takes no memory.
+    /// Returns the number, the first writer and the reader of the lowest open stream whose reader nobody took yet. Such
+    /// a stream is one that the peer opened. Returns `None` only where there is none. Does not allocate.
     pub fn take_stream(&mut self) -> Option<(u8, StreamWriter<N, A>, StreamReader<N, A>)>
         ensures taken { IfSome result (λ x. (s : ℕ) × TakesLeft self.old.flow self.new.flow x.0 x.1 x.2 s) }
         ensures none { IfNone result (((s : ℕ) → s < 64 → IsTaken self.old.flow s) × (self.new.flow ≡ self.old.flow)) }
@@ -141,10 +143,11 @@ impl<N: HubName<A>, A: Allocator + Copy> HubState<N, A> {
         self.streams.take_stream()
     }
 
-    /// Gives a further writer of a stream, with a ring of its own. It takes no memory.
+    /// Gives a further writer of a stream, with a ring of its own. A stream has at most eight writers. Does not
+    /// allocate.
     ///
-    /// Refuses with `NoStream` where no such stream is open, then with `EightWriters` where all its writers were given,
-    /// and then with `WriterTooLate` where each writer that was given has ended.
+    /// Fails, in this order: `NoStream` where no stream of this number is open; `EightWriters` where all writers were
+    /// handed out; `WriterTooLate` where each writer that was handed out has ended.
     pub fn add_writer(&mut self, stream: u8) -> Result<StreamWriter<N, A>, HubError>
         ensures added { IfOk result (λ w. (j : ℕ) × AddsWriter self.old.flow self.new.flow stream w j) }
         ensures refused { IfErr result (λ e. (self.new.flow ≡ self.old.flow) × RefusesWriter self.old.flow stream e) }
@@ -153,7 +156,11 @@ impl<N: HubName<A>, A: Allocator + Copy> HubState<N, A> {
         self.streams.add_writer(stream)
     }
 
-    /// Offers so many units on a stream, as `EndState::offer` does. It takes no memory.
+    /// Adds `amount` units, in this end's asset, to the money that a stream is to send. Does not allocate.
+    ///
+    /// Fails as `EndState::offer` does, in this order: `NoStream`; `ConnectionFailed`; `Closed` where the peer closed
+    /// the connection or the stream was closed or aborted; `AmountTooLarge` where all offers would come to 2^63 or
+    /// more.
     pub fn offer(&mut self, stream: u8, amount: u64) -> Result<(), EndError>
         ensures answers { calls.offer self.old.flow.core stream amount ≡ (result, self.new.flow.core) }
         ensures rest { self.new ≡ with_core self.old self.new.flow.core }
@@ -169,7 +176,11 @@ impl<N: HubName<A>, A: Allocator + Copy> HubState<N, A> {
         answer
     }
 
-    /// Lets a stream receive up to an amount, as `EndState::set_receive_max` does. It takes no memory.
+    /// Raises the total that a stream may receive to `amount` units, in this end's asset. A smaller amount than before
+    /// changes nothing. Does not allocate.
+    ///
+    /// Fails with `NoStream`, as `EndState::set_receive_max` does, for a number that is neither open nor one of the
+    /// peer's.
     pub fn set_receive_max(&mut self, stream: u8, amount: u64) -> Result<(), EndError>
         ensures answers { calls.set_receive_max self.old.flow.core stream amount ≡ (result, self.new.flow.core) }
         ensures rest { self.new ≡ with_core self.old self.new.flow.core }
@@ -185,11 +196,12 @@ impl<N: HubName<A>, A: Allocator + Copy> HubState<N, A> {
         answer
     }
 
-    /// Moves whole chunks and ends from the rings to the end where it takes them, and what can be read to the readers'
-    /// rings where there is room: a list of writes, closes and reads. A chunk or an end that is refused stays in its
-    /// ring. A stream is closed with the end of the last of its writers.
+    /// Moves items between the rings and the end. Whole chunks, and the ends of writers, move from the writers' rings
+    /// to the end where the end accepts them; one that it refuses stays in its ring. Bytes that can be read move to the
+    /// readers' rings where there is room. A stream is closed when the end of the last of its writers is moved.
     ///
-    /// Refuses with `NoMemory`: those moved before stand, and the next is where it was.
+    /// Fails with `NoMemory` where memory is refused. What was moved before stays moved, and the next item is where it
+    /// was.
     pub fn pump(&mut self) -> Result<(), HubError>
         ensures flows { Flows self.old.flow self.new.flow }
         ensures continues { Continues self.old.flow self.new.flow }
@@ -207,8 +219,9 @@ impl<N: HubName<A>, A: Allocator + Copy> HubState<N, A> {
         told(pumped)
     }
 
-    /// The number of items in a writer's ring: what was taken from it and then what stands in it is what it wrote. What
-    /// the end accepted on each stream is a merge of what was taken from its rings. It takes no memory.
+    /// Returns the number of items in a writer's ring. Its contract says that the items taken from the ring, followed
+    /// by those in it, are the items that the writer wrote. It also says that the bytes that the end accepted on each
+    /// stream are a merge of the items taken from the stream's rings. Does not allocate.
     pub fn meet_writer(&mut self, writer: &mut StreamWriter<N, A>) -> usize
         ensures same { self.new ≡ self.old }
         ensures writer { (writer.new.ring ≡ writer.old.ring) × (writer.new.items ≡ writer.old.items) × (writer.new.ended ≡ writer.old.ended) }
@@ -218,8 +231,8 @@ impl<N: HubName<A>, A: Allocator + Copy> HubState<N, A> {
         self.streams.meet_writer(writer)
     }
 
-    /// The number of items in a reader's ring: what it read and then what stands in its ring is what was delivered. It
-    /// takes no memory.
+    /// Returns the number of items in a reader's ring. Its contract says that the items that the reader read, followed
+    /// by those in its ring, are the items that the hub delivered. Does not allocate.
     pub fn meet_reader(&mut self, reader: &mut StreamReader<N, A>) -> usize
         ensures same { self.new ≡ self.old }
         ensures reader { (reader.new.stream ≡ reader.old.stream) × (reader.new.items ≡ reader.old.items) × (reader.new.over ≡ reader.old.over) }
@@ -229,28 +242,28 @@ impl<N: HubName<A>, A: Allocator + Copy> HubState<N, A> {
         self.streams.meet_reader(reader)
     }
 
-    /// What the end did so far. It takes no memory.
+    /// The end's totals so far: bytes accepted and delivered, units credited and paid. Does not allocate.
     pub fn totals(&self) -> Totals
         ensures { totals_seen result ≡ totals.totals self.now.flow.core }
     {
         self.streams.core().totals()
     }
 
-    /// Whether this end's own close of a stream was fulfilled. It takes no memory.
+    /// Whether this end's own StreamClose of a stream (RFC 0029) was fulfilled. Does not allocate.
     pub fn settled(&self, stream: u8) -> bool
         ensures { result ≡ totals.settled self.now.flow.core stream }
     {
         self.streams.core().settled(stream)
     }
 
-    /// Whether the connection failed. It takes no memory.
+    /// Whether the connection failed. Does not allocate.
     pub fn is_failed(&self) -> bool
         ensures { result ≡ self.now.flow.core.sending.failed }
     {
         self.streams.core().is_failed()
     }
 
-    /// A Reject T00 that stands ready for where memory is refused (RFC 0027). It takes no memory.
+    /// A complete Reject with code T00 (RFC 0027), kept ready as the answer where memory is refused. Does not allocate.
     pub fn t00(&self) -> &[u8]
         ensures { result.now ≡ t00_text self.now.flow.core.own }
     {

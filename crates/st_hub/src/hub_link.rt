@@ -1,28 +1,30 @@
-//! A link in memory to another hub.
+//! A link to another hub in the same process.
 
-use crate::hub::HubState;
+use crate::bench::Bench;
 use crate::turns::CreditShare;
 use st_desk::{Clock, Link, LinkFault};
 use st_end::Received;
+use st_ilp::Moment;
 use st_oer::Counted;
 use st_queues::HubName;
 use std::alloc::Allocator;
-use std::sync::{Mutex, Wait};
+use std::sync::Wait;
 
-/// A link in memory to the hub N: its exchange is `HubState::incoming` there, under that hub's lock.
+/// A link in memory to the hub named `N`. An exchange takes that hub's lock and calls `HubState::incoming`.
 #[derive(Drop)]
 pub struct HubLink<'a, N: HubName<A>, A: Allocator + Copy, K: Clock, R: Wait> {
     rt: &'a R,
-    hub: &'a Mutex<HubState<N, A>>,
+    hub: &'a Bench<N, A>,
     share: CreditShare<N>,
     clock: K,
 }
 
 impl<'a, N: HubName<A>, A: Allocator + Copy, K: Clock, R: Wait> HubLink<'a, N, A, K, R> {
-    /// A link to a hub, with a share of its credit and a clock.
+    /// Makes a link to a hub. `share` is one of that hub's shares, in which the link books what it credits, and `clock`
+    /// gives the moment at which each packet arrives.
     pub fn new(
         rt: &'a R,
-        hub: &'a Mutex<HubState<N, A>>,
+        hub: &'a Bench<N, A>,
         share: CreditShare<N>,
         clock: K,
     ) -> HubLink<'a, N, A, K, R> {
@@ -36,7 +38,7 @@ impl<'a, N: HubName<A>, A: Allocator + Copy, K: Clock, R: Wait> HubLink<'a, N, A
 }
 
 impl<N: HubName<A>, A: Allocator + Copy, K: Clock + Drop, R: Wait> HubLink<'_, N, A, K, R> {
-    /// The share again, with what was credited over this link.
+    /// Returns the share, with the units that were credited over this link.
     pub fn into_share(self) -> CreditShare<N> {
         self.share
     }
@@ -51,10 +53,14 @@ impl<N: HubName<A>, A: Allocator + Copy, K: Clock, R: Wait> Counted for HubLink<
 }
 
 impl<N: HubName<A>, A: Allocator + Copy, K: Clock, R: Wait> Link<A> for HubLink<'_, N, A, K, R> {
-    /// Gives the bytes to the hub, and gives what it answers. It waits for the hub's lock.
-    fn exchange(&mut self, bytes: &[u8]) -> Result<Vec<u8, A>, LinkFault> {
+    /// Gives the bytes of a packet to the hub and returns its answer. It waits for the hub's lock, and wakes a worker of
+    /// that hub. Fails with
+    /// `LinkFault::NoMemory` where memory is refused.
+    fn exchange(&mut self, bytes: &[u8], _by: Moment) -> Result<Vec<u8, A>, LinkFault> {
         let now = self.clock.now();
-        match self.hub.lock(self.rt).incoming(&mut self.share, bytes, now) {
+        let taken = self.hub.lock(self.rt).incoming(&mut self.share, bytes, now);
+        self.hub.wake_one(self.rt);
+        match taken {
             Ok(Received { bytes, .. }) => Ok(bytes),
             Err(_) => Err(LinkFault::NoMemory),
         }

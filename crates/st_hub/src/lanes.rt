@@ -1,4 +1,4 @@
-//! Rings where they lie in the hub.
+//! The rings of a hub, by their places.
 
 ghost use Rattle.std.specs.Prelude.{◌≡◌, ◌+◌, ◌*◌, ◌<◌, ℕ, true, false, not, ◌&&◌, List, ◌++◌, length, map, IfSome, IfNone};
 ghost use Rattle.st_end.specs.Calls.{has_stream};
@@ -11,7 +11,7 @@ use st_end::EndState;
 use st_queues::{HubName, ReadLane, StreamReader, StreamWriter, WriteLane};
 use std::alloc::Allocator;
 
-/// Hands out the writer of a ring, where it is still here. It takes no memory.
+/// Hands out the writer of a ring, where it was not handed out before. Does not allocate.
 pub(crate) fn writer<N: HubName<A>, A: Allocator + Copy>(
     alloc: A,
     writes: &mut Vec<WriteLane<A>, A>,
@@ -27,7 +27,7 @@ pub(crate) fn writer<N: HubName<A>, A: Allocator + Copy>(
     lane.hand_out::<N>(alloc)
 }
 
-/// Hands out the reader of a stream, where it is still here. It takes no memory.
+/// Hands out the reader of a stream, where it was not handed out before. Does not allocate.
 pub(crate) fn reader<N: HubName<A>, A: Allocator + Copy>(
     reads: &mut Vec<ReadLane<A>, A>,
     place: usize,
@@ -42,7 +42,7 @@ pub(crate) fn reader<N: HubName<A>, A: Allocator + Copy>(
     lane.hand_out::<N>()
 }
 
-/// Hands out the first writer and the reader of a stream that nobody has. It takes no memory.
+/// Hands out the first writer and the reader of a stream that nobody has. Does not allocate.
 pub(crate) fn ends<N: HubName<A>, A: Allocator + Copy>(
     alloc: A,
     writes: &mut Vec<WriteLane<A>, A>,
@@ -98,7 +98,7 @@ fn is_here<A: Allocator + Copy>(reads: &Vec<ReadLane<A>, A>, place: u8) -> bool
     reads[usize::from(place)].held.is_some()
 }
 
-/// The number of items in a writer's ring, with the writer in hand. It takes no memory.
+/// The number of items in the ring of this writer. Does not allocate.
 pub(crate) fn meet_writer<N: HubName<A>, A: Allocator + Copy>(
     writes: &mut Vec<WriteLane<A>, A>,
     writer: &mut StreamWriter<N, A>,
@@ -112,7 +112,7 @@ pub(crate) fn meet_writer<N: HubName<A>, A: Allocator + Copy>(
     lane.end.meet(writer)
 }
 
-/// The number of items in a reader's ring, with the reader in hand. It takes no memory.
+/// The number of items in the ring of this reader. Does not allocate.
 pub(crate) fn meet_reader<N: HubName<A>, A: Allocator + Copy>(
     reads: &mut Vec<ReadLane<A>, A>,
     reader: &mut StreamReader<N, A>,

@@ -1,13 +1,15 @@
-//! A hub: an end of a connection under one lock, beside the rings of its writers and readers.
+//! A hub: an end of a connection under one lock, with the rings of its writers and readers.
 //!
 //! `HubState` is the lock's value. Application threads write to and read from the rings and never wait; `pump` moves
-//! whole chunks between the rings and the end. Workers take a turn under the lock, exchange it over a `Link` with the
-//! lock open, and finish it under the lock again. Each thread that takes Prepares in has a `CreditShare`, and `gather`
-//! shows that all shares together are what the end was credited.
+//! whole chunks between the rings and the end. A worker takes a `Turn` under the lock, exchanges its Prepare over a
+//! `Link` with the lock open, and finishes it under the lock again. A `Bench` is the lock with what the workers wait
+//! on. Each thread that takes Prepares in has a `CreditShare`. `gather` shows that the sum of all shares is what the end was credited.
 #![tactic(auto)]
 
 mod adding;
+mod bench;
 mod error;
+mod gate;
 mod hub;
 mod hub_link;
 mod lanes;
@@ -17,9 +19,10 @@ mod streams;
 mod turns;
 mod workers;
 
+pub use bench::Bench;
 pub use error::HubError;
 pub use hub::HubState;
 pub use hub_link::HubLink;
 pub use laws::merges_are_told;
-pub use turns::{CreditShare, SHARES, Turn};
-pub use workers::{Ivs, WorkEnd, work};
+pub use turns::{CreditShare, SHARES, Step, Turn};
+pub use workers::{Ivs, WorkEnd, Worker, work};

@@ -243,7 +243,7 @@ fn give_stream<N: HubName<A>, A: Allocator + Copy>(
     Pumped::Moved
 }
 
-/// Moves what can be moved. At `NoMemory` what was moved stands, and the next is where it was.
+/// Moves what can be moved. At `NoMemory` what was moved stays moved, and the next item is where it was.
 pub(crate) fn pump<N: HubName<A>, A: Allocator + Copy>(
     core: &mut EndState<A>,
     writes: &mut Vec<WriteLane<A>, A>,

@@ -59,7 +59,7 @@ impl<N: HubName<A>, A: Allocator + Copy> Model for Streams<N, A> {
 }
 
 impl<N: HubName<A>, A: Allocator + Copy> Streams<N, A> {
-    /// A new end beside rings that nobody used. It takes no memory.
+    /// A new end beside unused rings. Does not allocate.
     pub(crate) fn new(
         alloc: A,
         core: EndState<A>,

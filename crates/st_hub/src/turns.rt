@@ -1,13 +1,15 @@
-//! Turns of workers, Prepares that come in, and shares of the credit.
+//! The calls of a hub for threads that send Prepares, and for those that take Prepares in.
 
-ghost use Rattle.std.specs.Prelude.{◌≡◌, ◌≢◌, ◌+◌, ◌<◌, true, false, sum, vec_len, OnErr, IfOk, IfErr, IsOkUnless, MatchOption};
+ghost use Rattle.std.specs.Prelude.{◌≡◌, ◌≢◌, ◌+◌, ◌<◌, true, false, not, sum, vec_len, is_some, OnErr, IfOk, IfErr, IsOkUnless, MatchBool, MatchOption, pos, ◌+ℤ◌};
 ghost use Rattle.st_hop.specs.Seen.{outcome_seen};
+ghost use Rattle.st_ilp.specs.Moments.{IsMoment};
 ghost use Rattle.st_end.specs.Sending as sending;
 ghost use Rattle.st_end.specs.Sending.{Goes, GoesNone};
 ghost use Rattle.st_end.specs.Answers.{ended};
 ghost use Rattle.st_end.specs.Receiving.{received};
 ghost use Rattle.st_end.specs.Seen.{received_seen};
 ghost use Rattle.st_hub.specs.Hub.{with_core};
+ghost use Rattle.st_hub.specs.Stalls.{Does, IsStalled};
 ghost use Rattle.st_hub.specs.Turns.{credited_by};
 ghost use Rattle.st_hub.specs.declared.error.HubError.TheVariants.{NoShareLeft, Stranger, MissingShare, NoMemory};
 
@@ -21,14 +23,31 @@ use std::alloc::Allocator;
 use std::marker::Model;
 use std::sync::ledger::{Ledger, Share};
 
-/// How many shares of a hub can be out.
+/// The largest number of `CreditShare`s of one hub that can be outstanding at a time: one for each thread that takes
+/// Prepares in.
 pub const SHARES: u64 = 63;
 
-/// A Prepare under way. It must be spent: by `HubState::finish_turn`, or by `abandon`.
+/// For how many milliseconds a Prepare lives, as `EndState::send` makes it.
+const LIFE: i64 = 30_000;
+
+/// The moment at which a Prepare expires that is made now.
+fn after(now: Moment) -> Moment
+    ensures { IsMoment (now +ℤ pos 30000) → result ≡ now +ℤ pos 30000 }
+{
+    match Moment::new(now.ms() + LIFE) {
+        Some(moment) => moment,
+        None => now,
+    }
+}
+
+/// A Prepare that was taken from a hub to be sent, and that waits for its answer. It must be spent: by
+/// `HubState::finish_turn`, or by `abandon`.
 #[must_use]
 pub struct Turn<A: Allocator + Copy> {
     flight: Flight,
     bytes: Vec<u8, A>,
+    // When the Prepare expires.
+    by: Moment,
 }
 
 impl<A: Allocator + Copy> Model for Turn<A> {
@@ -47,14 +66,36 @@ impl<A: Allocator + Copy> Turn<A> {
         self.bytes.as_slice()
     }
 
-    /// Lets the turn go where no answer will be taken: what it carries stays in flight. It takes no memory.
+    /// The moment at which the Prepare expires: an answer that comes later is of no use.
+    pub fn expires(&self) -> Moment {
+        self.by
+    }
+
+    /// Gives the turn up where no answer will be taken. What the Prepare carries stays in flight. Does not allocate.
     pub fn abandon(self) {
-        let Turn { flight, bytes: _ } = self;
+        let Turn {
+            flight,
+            bytes: _,
+            by: _,
+        } = self;
         flight.abandon();
     }
 }
 
-/// What one thread took in: its share of the credit.
+/// What one step of a worker comes to.
+#[must_use]
+pub enum Step<A: Allocator + Copy> {
+    /// A Prepare is to be exchanged.
+    Sends(Turn<A>),
+    /// Nothing can be sent now.
+    Idle,
+    /// Nothing can be sent any more, unless the peer sends a packet of its own: the limits that the peer set stop all
+    /// that is left of a stream, and no Prepare is in flight whose answer could raise them.
+    Stalled,
+}
+
+/// One thread's part of the hub's ledger of credit, in units: what was credited by the Prepares that this thread took
+/// in.
 #[derive(Drop)]
 pub struct CreditShare<N: Ledger> {
     share: Share<N>,
@@ -71,9 +112,9 @@ impl<N: Ledger> Model for CreditShare<N> {
 }
 
 impl<N: HubName<A>, A: Allocator + Copy> HubState<N, A> {
-    /// A share of the credit for one thread that takes Prepares in, with nothing credited. It takes no memory.
+    /// Gives a share of the credit for one thread that takes Prepares in, with nothing credited. Does not allocate.
     ///
-    /// Refuses with `NoShareLeft` where 63 are out.
+    /// Fails with `NoShareLeft` where 63 are outstanding; then nothing has changed.
     pub fn share(&mut self) -> Result<CreditShare<N>, HubError>
         ensures given { IfOk result (λ s. (s ≡ 0) × (self.old.out < 63) × (self.new ≡ record self.old { out = self.old.out + 1 })) }
         ensures none_left { IfErr result (λ e. (e ≡ NoShareLeft) × (self.old.out ≡ 63) × (self.new ≡ self.old)) }
@@ -87,9 +128,11 @@ impl<N: HubName<A>, A: Allocator + Copy> HubState<N, A> {
         Ok(CreditShare { share })
     }
 
-    /// What goes next at this moment, sealed under this IV, as `EndState::send` gives it.
+    /// Takes the next Prepare that is to be sent at the moment `now`, sealed under `iv`, as `EndState::send` makes it.
+    /// Returns `None` where nothing can be sent now. No IV may be used for two packets of a connection (SP 800-38D):
+    /// the caller sees to that.
     ///
-    /// Refuses with `NoMemory` alone, and then nothing has changed.
+    /// Fails with `NoMemory` where memory is refused, and for no other reason; then nothing has changed.
     pub fn take_turn(&mut self, iv: [u8; 12], now: Moment) -> Result<Option<Turn<A>>, HubError>
         ensures only_memory { IsOkUnless result NoMemory }
         ensures goes { IfOk result (λ sent. MatchOption sent (GoesNone self.old.flow.core × (self.new.flow.core ≡ self.old.flow.core)) (λ t. Goes self.old.flow.core iv now t.flight t.bytes self.new.flow.core)) }
@@ -105,21 +148,77 @@ impl<N: HubName<A>, A: Allocator + Copy> HubState<N, A> {
         let sent = streams.send(iv, now);
         publish(gauge, seat, streams);
         match sent {
-            Ok(Some((flight, bytes))) => Ok(Some(Turn { flight, bytes })),
+            Ok(Some((flight, bytes))) => Ok(Some(Turn {
+                flight,
+                bytes,
+                by: after(now),
+            })),
             Ok(None) => Ok(None),
             Err(_) => Err(HubError::NoMemory),
         }
     }
 
-    /// Ends a turn with what came back to it, as `EndState::answer` and `EndState::fault` do. It takes no memory.
+    /// Whether nothing can be sent any more of a stream, unless the peer sends a packet of its own. It is to be called
+    /// where `take_turn` gave `None`. Does not allocate.
+    fn is_stalled(&self, stream: u8) -> bool
+        requires { GoesNone self.now.flow.core }
+        ensures { MatchBool result (IsStalled self.now.flow.core stream) (¬ (IsStalled self.now.flow.core stream)) }
+    {
+        let core = self.streams.core();
+        core.in_flight() == 0 && core.waits(stream)
+    }
+
+    /// Makes one step of a worker at the moment `now`. It takes the next Prepare as `take_turn` does, under the IV in
+    /// `hand`, which is to be there; that IV is then used up, and `hand` is `None`. Where nothing can be sent, `hand`
+    /// keeps its IV, and the step is `Stalled` exactly where nothing is in flight and `stream` still waits: bytes that
+    /// it accepted are not acknowledged, or its close is not fulfilled. `stream` 0 never waits.
     ///
-    /// Refuses with `Stranger` a turn that is not open here: nothing changes, and the turn is spent.
+    /// Fails with `NoMemory` where memory is refused, and for no other reason; then nothing has changed.
+    pub fn step(
+        &mut self,
+        hand: &mut Option<[u8; 12]>,
+        stream: u8,
+        now: Moment,
+    ) -> Result<Step<A>, HubError>
+        requires hand { is_some hand.old ≡ true }
+        ensures only_memory { IsOkUnless result NoMemory }
+        ensures does { IfOk result (λ step. Does self.old.flow.core hand.old stream now step self.new.flow.core hand.new) }
+        ensures unchanged { OnErr result ((self.new.flow.core ≡ self.old.flow.core) × (hand.new ≡ hand.old)) }
+        ensures rest { self.new ≡ with_core self.old self.new.flow.core }
+    {
+        let Some(iv) = *hand else {
+            unreachable!();
+        };
+        match self.take_turn(iv, now) {
+            Ok(Some(turn)) => {
+                *hand = None;
+                Ok(Step::Sends(turn))
+            }
+            Ok(None) => {
+                if self.is_stalled(stream) {
+                    Ok(Step::Stalled)
+                } else {
+                    Ok(Step::Idle)
+                }
+            }
+            Err(refused) => Err(refused),
+        }
+    }
+
+    /// Ends a turn with its outcome, as `EndState::answer` does with the bytes of an answer and `EndState::fault` where
+    /// none came. Does not allocate.
+    ///
+    /// Fails with `Stranger` where the turn is not open at this hub. Then nothing has changed, and the turn is spent.
     pub fn finish_turn(&mut self, turn: Turn<A>, outcome: Outcome<A>) -> Result<(), HubError>
         ensures finished { IfOk result (λ _. (sending.is_open self.old.flow.core turn.flight ≡ true) × (self.new.flow.core ≡ ended self.old.flow.core turn.flight (outcome_seen outcome))) }
         ensures stranger { IfErr result (λ e. (e ≡ Stranger) × (sending.is_open self.old.flow.core turn.flight ≡ false) × (self.new ≡ self.old)) }
         ensures rest { self.new ≡ with_core self.old self.new.flow.core }
     {
-        let Turn { flight, bytes: _ } = turn;
+        let Turn {
+            flight,
+            bytes: _,
+            by: _,
+        } = turn;
         if !self.streams.core().is_open(&flight) {
             flight.abandon();
             return Err(HubError::Stranger);
@@ -135,9 +234,11 @@ impl<N: HubName<A>, A: Allocator + Copy> HubState<N, A> {
         Ok(())
     }
 
-    /// Takes the bytes of a Prepare that came, as `EndState::receive` does. What it credits is added to the share.
+    /// Takes the bytes that arrived from the peer at the moment `now`, and returns the Fulfill or Reject that answers
+    /// them, as `EndState::receive` does (RFC 0027, RFC 0029). The units that it credits are added to `share`.
     ///
-    /// Refuses with `NoMemory` alone, and then nothing has changed: the caller may answer `t00`.
+    /// Fails with `NoMemory` where memory is refused, and for no other reason. Then nothing has changed, and the caller
+    /// may answer `t00`.
     pub fn incoming(
         &mut self,
         share: &mut CreditShare<N>,
@@ -166,9 +267,9 @@ impl<N: HubName<A>, A: Allocator + Copy> HubState<N, A> {
         Ok(answer)
     }
 
-    /// Takes all shares back and tells what the end was credited, which is the sum of the shares.
+    /// Takes all shares back and returns the units that the end was credited, which are the sum of the shares.
     ///
-    /// Refuses with `MissingShare` where one that is out is not among them, and gives them back.
+    /// Fails with `MissingShare`, and gives the shares back, where their number is not that of the outstanding ones.
     pub fn gather(
         &mut self,
         shares: Vec<CreditShare<N>, A>,

@@ -1,95 +1,252 @@
-//! Threads that send what an end has to send.
+//! The threads that send for an end.
 
-use crate::error::HubError;
+ghost use Rattle.std.specs.Prelude.{◌≡◌, true, is_some};
+ghost use Rattle.st_hub.specs.Begins.{IsIdle};
+
+use crate::bench::Bench;
+use crate::gate::is_temporary;
 use crate::hub::HubState;
-use crate::turns::Turn;
+use crate::turns::{Step, Turn};
 use st_desk::{Clock, Link};
 use st_hop::Outcome;
 use st_ilp::Moment;
 use st_oer::Counted;
 use st_queues::{Gauge, GaugeSeat, HubName};
 use std::alloc::Allocator;
-use std::sync::{Mutex, Wait};
-use std::thread;
+use std::sync::atomic::Ordering;
+use std::sync::{MutexGuard, Wait};
 use std::time::Duration;
 
-/// For how many milliseconds a worker sleeps that has nothing to send.
-const IDLE: u64 = 1;
-
-/// Gives an IV for each packet that is sealed (SP 800-38D), each only once.
+/// A source of the IVs under which packets are sealed (AES-GCM, SP 800-38D). It is to give each IV once.
 pub trait Ivs: Counted {
-    /// The next IV. At `None` the device below failed, and counted it.
+    /// The next IV, of 12 bytes. Returns `None` where the device below failed; the device counted the failure.
     fn next_iv(&mut self) -> Option<[u8; 12]>;
 }
 
-/// Why a worker ended.
+/// Why `work` returned.
 #[derive(Clone, Copy, Debug, PartialEq, Eq)]
 pub enum WorkEnd {
-    /// Its seat saw that it was asked to stop.
+    /// Some seat at the gauge asked to stop.
     Stopped,
     /// The connection failed.
     Failed,
-    /// No IV was given.
+    /// The source gave no IV.
     IvFault,
     /// Memory was refused.
     NoMemory,
-    /// It had all its turns.
+    /// The given number of turns was made.
     Turns,
+    /// The close of the worker's stream was fulfilled.
+    Settled,
+    /// Nothing more of the worker's stream can be sent: limits of the peer stop all that is left of it, and no Prepare
+    /// is in flight whose answer could raise them.
+    Stalled,
+}
+
+/// What one worker sends with, and for how long.
+pub struct Worker<'w, N: HubName<A>, A: Allocator + Copy, L, I, K> {
+    /// The link over which it exchanges.
+    pub link: &'w mut L,
+    /// Where its IVs come from. One is read only where none is in hand.
+    pub ivs: &'w mut I,
+    /// The clock that gives the moment of each Send.
+    pub clock: &'w mut K,
+    /// The gauge at which it is asked to stop, and its seat there.
+    pub gauge: &'w Gauge<N, A>,
+    /// Its seat at the gauge.
+    pub seat: &'w mut GaugeSeat<N, A>,
+    /// The stream with whose end it ends, 1 to 64: once the stream's close is fulfilled, or where nothing more of it can
+    /// be sent. With 0 it ends for neither reason.
+    pub stream: u8,
+    /// For how long it sleeps at most where it has nothing to send and nobody wakes it.
+    pub rest: Duration,
+    /// The most turns that it makes.
+    pub turns: u64,
 }
 
 /// What a worker found to do.
 enum Begun<A: Allocator + Copy> {
     Sends(Turn<A>),
     Idle,
-    Failed,
-    NoMemory,
+    Ends(WorkEnd),
 }
 
 // Each function here that takes the lock lets it go before it returns, so that no exchange is made under it.
 
-fn begin<N: HubName<A>, A: Allocator + Copy>(
-    rt: &impl Wait,
-    hub: &Mutex<HubState<N, A>>,
-    iv: [u8; 12],
+/// Looks for something to do, under the lock.
+fn look<N: HubName<A>, A: Allocator + Copy>(
+    bench: &Bench<N, A>,
+    state: &mut HubState<N, A>,
+    hand: &mut Option<[u8; 12]>,
+    stream: u8,
     now: Moment,
-) -> Begun<A> {
-    let mut state = hub.lock(rt);
-    if state.pump().is_err() {
-        return Begun::NoMemory;
+) -> Begun<A>
+    requires { is_some hand.old ≡ true }
+    ensures { IsIdle result → hand.new ≡ hand.old }
+{
+    let before = state.totals().accepted;
+    let pumped = state.pump();
+    if state.totals().accepted != before {
+        bench.room.notify_all();
+    }
+    if pumped.is_err() {
+        return Begun::Ends(WorkEnd::NoMemory);
     }
     if state.is_failed() {
-        return Begun::Failed;
+        return Begun::Ends(WorkEnd::Failed);
     }
-    match state.take_turn(iv, now) {
-        Ok(Some(turn)) => Begun::Sends(turn),
-        Ok(None) => Begun::Idle,
-        Err(_) => Begun::NoMemory,
+    if state.settled(stream) {
+        return Begun::Ends(WorkEnd::Settled);
+    }
+    match state.step(hand, stream, now) {
+        Ok(Step::Sends(turn)) => Begun::Sends(turn),
+        Ok(Step::Idle) => Begun::Idle,
+        Ok(Step::Stalled) => Begun::Ends(WorkEnd::Stalled),
+        Err(_) => Begun::Ends(WorkEnd::NoMemory),
     }
 }
 
-fn finish<N: HubName<A>, A: Allocator + Copy>(
-    rt: &impl Wait,
-    hub: &Mutex<HubState<N, A>>,
+/// Looks once more, so that no wake-up is lost, and sleeps where there is still nothing to do.
+fn look_again<N: HubName<A>, A: Allocator + Copy, R: Wait + std::time::Clock>(
+    rt: &R,
+    bench: &Bench<N, A>,
+    state: MutexGuard<'_, HubState<N, A>>,
+    hand: &mut Option<[u8; 12]>,
+    stream: u8,
+    now: Moment,
+    rest: Duration,
+) -> Begun<A>
+    requires { is_some hand.old ≡ true }
+{
+    let mut state = state;
+    bench.idle.fetch_add(1, Ordering::SeqCst);
+    let begun = look(bench, &mut *state, hand, stream, now);
+    if let Begun::Idle = &begun {
+        let _held = bench.woken.wait_timeout(rt, state, rest);
+    }
+    bench.idle.fetch_sub(1, Ordering::SeqCst);
+    begun
+}
+
+/// Waits until the gate lets a try through, or somebody asks to stop. Returns whether somebody did.
+fn pass_gate<'b, N: HubName<A>, A: Allocator + Copy, R: Wait + std::time::Clock>(
+    rt: &R,
+    bench: &'b Bench<N, A>,
+    gauge: &Gauge<N, A>,
+    seat: &mut GaugeSeat<N, A>,
+) -> Option<MutexGuard<'b, HubState<N, A>>> {
+    let mut state = bench.lock(rt);
+    for _ in rt.forever() {
+        if gauge.stopped(seat) {
+            return None;
+        }
+        let Some(left) = bench.gate.lock(rt).left(rt) else {
+            return Some(state);
+        };
+        state = bench.woken.wait_timeout(rt, state, left).0;
+    }
+    unreachable!()
+}
+
+/// Begins a turn. Where there is nothing to send it sleeps for at most `rest`.
+fn begin<N: HubName<A>, A: Allocator + Copy, R: Wait + std::time::Clock>(
+    rt: &R,
+    bench: &Bench<N, A>,
+    gauge: &Gauge<N, A>,
+    seat: &mut GaugeSeat<N, A>,
+    hand: &mut Option<[u8; 12]>,
+    stream: u8,
+    now: Moment,
+    rest: Duration,
+) -> Begun<A>
+    requires { is_some hand.old ≡ true }
+{
+    let Some(mut state) = pass_gate(rt, bench, gauge, seat) else {
+        return Begun::Ends(WorkEnd::Stopped);
+    };
+    match look(bench, &mut *state, hand, stream, now) {
+        Begun::Sends(turn) => {
+            bench.gate.lock(rt).begins(rt);
+            bench.woken.notify_one();
+            Begun::Sends(turn)
+        }
+        Begun::Idle => look_again(rt, bench, state, hand, stream, now, rest),
+        Begun::Ends(end) => Begun::Ends(end),
+    }
+}
+
+/// Ends a turn, and wakes the workers that wait at the gate where that opens it.
+fn finish<N: HubName<A>, A: Allocator + Copy, R: Wait + std::time::Clock>(
+    rt: &R,
+    bench: &Bench<N, A>,
     turn: Turn<A>,
     outcome: Outcome<A>,
-) -> Result<(), HubError> {
-    hub.lock(rt).finish_turn(turn, outcome)
+) {
+    let has_failed = is_temporary(&outcome);
+    let mut state = bench.lock(rt);
+    let _ = state.finish_turn(turn, outcome);
+    if bench.gate.lock(rt).ends(rt, has_failed) {
+        bench.woken.notify_all();
+    }
 }
 
 /// What comes back over a link: a fault where it gives no answer.
 fn exchange<A: Allocator + Copy, L: Link<A>>(link: &mut L, turn: &Turn<A>) -> Outcome<A> {
-    match link.exchange(turn.bytes()) {
+    match link.exchange(turn.bytes(), turn.expires()) {
         Ok(answer) => Outcome::Answered(answer),
         Err(_) => Outcome::Fault,
     }
 }
 
-/// Sends for a hub over a link, for so many turns. A turn is one `pump` and one `take_turn` under the lock; the Prepare
-/// is exchanged with the lock open, and what came back is given to `finish_turn` under the lock again. A turn that is not
-/// open there any more changes nothing. Between turns that gave none it sleeps.
+/// Makes the turns of a worker.
+fn make_turns<
+    N: HubName<A>,
+    A: Allocator + Copy,
+    L: Link<A>,
+    I: Ivs,
+    K: Clock,
+    R: Wait + std::time::Clock,
+>(rt: &R, bench: &Bench<N, A>, worker: Worker<'_, N, A, L, I, K>) -> WorkEnd {
+    let Worker {
+        link,
+        ivs,
+        clock,
+        gauge,
+        seat,
+        stream,
+        rest,
+        turns,
+    } = worker;
+    let mut hand = None;
+    for _ in 0..turns {
+        if hand.is_none() {
+            hand = ivs.next_iv();
+        }
+        if hand.is_none() {
+            return WorkEnd::IvFault;
+        }
+        match begin(rt, bench, gauge, seat, &mut hand, stream, clock.now(), rest) {
+            Begun::Sends(turn) => {
+                let outcome = exchange(link, &turn);
+                finish(rt, bench, turn, outcome);
+            }
+            Begun::Idle => {}
+            Begun::Ends(end) => return end,
+        }
+    }
+    WorkEnd::Turns
+}
+
+/// Sends for a hub over the worker's link, and returns why it ended. In one turn it calls `pump` and `step` under the
+/// lock, exchanges the Prepare with the lock open, and calls `finish_turn` under the lock again. A `Turn` that is no
+/// longer open then changes nothing. After a turn with nothing to send it sleeps, until somebody wakes it (`Bench`) or its
+/// rest is over.
 ///
-/// It ends before that once its seat sees that it was asked to stop, once the connection failed, where no IV is given, or
-/// where memory is refused. It waits for the lock.
+/// While the last exchange failed for now (no answer came, or a Reject whose code begins with `T`), the workers of a hub
+/// let one try through each 50 ms, whatever their number is.
+///
+/// It ends early once its seat sees that some seat asked to stop, once the connection failed, where no IV is given,
+/// where memory is refused, and with its stream. It waits for the lock. At its end it wakes all other threads.
 pub fn work<
     N: HubName<A>,
     A: Allocator + Copy,
@@ -97,32 +254,8 @@ pub fn work<
     I: Ivs,
     K: Clock,
     R: Wait + std::time::Clock,
->(
-    rt: &R,
-    hub: &Mutex<HubState<N, A>>,
-    link: &mut L,
-    ivs: &mut I,
-    clock: &mut K,
-    gauge: &Gauge<N, A>,
-    seat: &mut GaugeSeat<N, A>,
-    turns: u32,
-) -> WorkEnd {
-    for _ in 0..turns {
-        if gauge.stopped(seat) {
-            return WorkEnd::Stopped;
-        }
-        let Some(iv) = ivs.next_iv() else {
-            return WorkEnd::IvFault;
-        };
-        match begin(rt, hub, iv, clock.now()) {
-            Begun::Sends(turn) => {
-                let outcome = exchange(link, &turn);
-                let _ = finish(rt, hub, turn, outcome);
-            }
-            Begun::Idle => thread::sleep(rt, Duration::from_millis(IDLE)),
-            Begun::Failed => return WorkEnd::Failed,
-            Begun::NoMemory => return WorkEnd::NoMemory,
-        }
-    }
-    WorkEnd::Turns
+>(rt: &R, bench: &Bench<N, A>, worker: Worker<'_, N, A, L, I, K>) -> WorkEnd {
+    let end = make_turns(rt, bench, worker);
+    bench.wake_all(rt);
+    end
 }

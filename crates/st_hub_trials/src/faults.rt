@@ -4,6 +4,7 @@ use crate::hubs::{Locked, Trial, credited, offer, open, run, share_of, work_on};
 use crate::readings::Reading;
 use st_desk::{FailLink, Link, LinkFault};
 use st_hub::{CreditShare, HubLink};
+use st_ilp::Moment;
 use st_oer::Counted;
 use st_queues::{GaugeSeat, HubName, StreamWriter};
 use std::alloc::{AllocError, Global};
@@ -167,9 +168,9 @@ impl<L> Counted for Losing<L> {
 }
 
 impl<L: Link<Global>> Link<Global> for Losing<L> {
-    fn exchange(&mut self, bytes: &[u8]) -> Result<Vec<u8>, LinkFault> {
+    fn exchange(&mut self, bytes: &[u8], by: Moment) -> Result<Vec<u8>, LinkFault> {
         self.exchanges = self.exchanges.saturating_add(1);
-        match self.link.exchange(bytes) {
+        match self.link.exchange(bytes, by) {
             Ok(answer) if self.exchanges > 1 => Ok(answer),
             _ => Err(LinkFault::Peer),
         }

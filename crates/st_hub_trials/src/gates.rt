@@ -3,6 +3,7 @@ use crate::ends::{Counting, stopped_clock};
 use crate::hubs::{Locked, Trial, credited, gathered, offer, run, share_of, work_on};
 use st_desk::{Link, LinkFault};
 use st_hub::{CreditShare, HubLink, HubState, WorkEnd};
+use st_ilp::Moment;
 use st_oer::Counted;
 use st_queues::{GaugeSeat, HubName};
 use std::alloc::Global;
@@ -62,13 +63,13 @@ impl<L, R: std::time::Clock> Counted for Gate<'_, L, R> {
 }
 
 impl<L: Link<Global>, R: std::time::Clock> Link<Global> for Gate<'_, L, R> {
-    fn exchange(&mut self, bytes: &[u8]) -> Result<Vec<u8>, LinkFault> {
+    fn exchange(&mut self, bytes: &[u8], by: Moment) -> Result<Vec<u8>, LinkFault> {
         let counts = self.counts;
         if counts.exchanges.fetch_add(1, Ordering::SeqCst) == 0 && !counts.awaits_one(self.rt) {
             counts.in_vain.fetch_add(LOOKS, Ordering::SeqCst);
             return Err(LinkFault::Peer);
         }
-        let Ok(answer) = self.link.exchange(bytes) else {
+        let Ok(answer) = self.link.exchange(bytes, by) else {
             return Err(LinkFault::Peer);
         };
         counts.answered.fetch_add(1, Ordering::SeqCst);

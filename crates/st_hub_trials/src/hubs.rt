@@ -6,20 +6,26 @@ ghost use Rattle.st_hub.specs.Hub.{IsNew};
 use crate::ends::{Counting, client, server, stopped_clock};
 use st_desk::Link;
 use st_end::EndState;
-use st_hub::{CreditShare, HubState, WorkEnd, work};
+use st_hub::{Bench, CreditShare, HubState, WorkEnd, Worker, work};
 use st_queues::{Gauge, GaugeSeat, HubName, Rings, StreamWriter};
 use std::alloc::{Allocator, Global};
 use std::marker::Brand;
 use std::process::Abort;
+use std::sync::Wait;
 use std::sync::ledger::Blank;
-use std::sync::{Mutex, Wait};
+use std::time::Duration;
+
+/// For how long a worker of these tests sleeps where it has nothing to send.
+pub(crate) fn rest() -> Duration {
+    Duration::from_millis(1)
+}
 
 /// Two hubs under their locks, and the gauge of the first.
 #[derive(Drop)]
 pub(crate) struct Locked<N: HubName<Global>, M: HubName<Global>> {
-    pub(crate) near: Mutex<HubState<N, Global>>,
+    pub(crate) near: Bench<N, Global>,
     pub(crate) gauge: Gauge<N, Global>,
-    pub(crate) far: Mutex<HubState<M, Global>>,
+    pub(crate) far: Bench<M, Global>,
 }
 
 /// Works at the first hub for so many turns.
@@ -40,12 +46,16 @@ pub(crate) fn work_on<
     work(
         rt,
         &hubs.near,
-        link,
-        ivs,
-        &mut clock,
-        &hubs.gauge,
-        seat,
-        turns,
+        Worker {
+            link,
+            ivs,
+            clock: &mut clock,
+            gauge: &hubs.gauge,
+            seat,
+            stream: 0,
+            rest: rest(),
+            turns: u64::from(turns),
+        },
     )
 }
 
@@ -161,9 +171,9 @@ pub(crate) fn new_hubs<N: HubName<Global>, M: HubName<Global>>(
     let (near, gauge, seat) = HubState::<N, Global>::new(near, near_rings, near_blank);
     let (far, _, _) = HubState::<M, Global>::new(far, far_rings, far_blank);
     let hubs = Locked {
-        near: Mutex::new(near),
+        near: Bench::new(near),
         gauge,
-        far: Mutex::new(far),
+        far: Bench::new(far),
     };
     (hubs, seat)
 }

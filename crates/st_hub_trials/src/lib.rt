@@ -30,6 +30,8 @@ fn sure_at(rt: &impl Abort, holds: bool, fact: &str, n: u64) {
 #[cfg(test)]
 mod ends;
 #[cfg(test)]
+mod examples;
+#[cfg(test)]
 mod faults;
 #[cfg(test)]
 mod gates;

@@ -7,14 +7,14 @@ use crate::ends::{client, moment, server};
 use crate::hubs::{new_rings, pump, share_of};
 use refusing::Refusing;
 use st_end::{EndError, EndState};
-use st_hub::{CreditShare, HubError, HubState};
+use st_hub::{Bench, CreditShare, HubError, HubState};
 use st_ilp::Moment;
 use st_queues::{Gauge, GaugeSeat, HubName, Rings, StreamReader, StreamWriter, Totals};
 use std::alloc::{Allocator, Global};
 use std::marker::Brand;
 use std::process::Abort;
+use std::sync::Wait;
 use std::sync::ledger::Blank;
-use std::sync::{Mutex, Wait};
 
 /// What is tried with a hub whose memory `heap` gives and refuses: whether a request was refused.
 pub(crate) trait Refused<R> {
@@ -23,7 +23,7 @@ pub(crate) trait Refused<R> {
         rt: &R,
         heap: &Refusing<Global>,
         alloc: A,
-        hub: &Mutex<HubState<N, A>>,
+        hub: &Bench<N, A>,
         gauge: &Gauge<N, A>,
         seat: &mut GaugeSeat<N, A>,
     ) -> bool;
@@ -45,7 +45,7 @@ fn run_named<N: HubName<A>, A: Allocator + Copy, T: Refused<R>, R>(
     requires name { (blank.name ≡ N.name) × (blank.parts ≡ N.parts) × (blank.parts ≡ 64) }
 {
     let (hub, gauge, mut seat) = HubState::<N, A>::new(core, rings, blank);
-    trial.run(rt, heap, alloc, &Mutex::new(hub), &gauge, &mut seat)
+    trial.run(rt, heap, alloc, &Bench::new(hub), &gauge, &mut seat)
 }
 
 /// Tries this with a new hub.
@@ -221,7 +221,7 @@ impl<R: Wait + Abort> Refused<R> for Called<'_> {
         rt: &R,
         heap: &Refusing<Global>,
         alloc: A,
-        hub: &Mutex<HubState<N, A>>,
+        hub: &Bench<N, A>,
         gauge: &Gauge<N, A>,
         seat: &mut GaugeSeat<N, A>,
     ) -> bool {

@@ -1,17 +1,17 @@
 //! A server's hub while memory is refused: what it moved stands, a worker tells it, and the other calls ask for none.
 
 use crate::ends::{Counting, moment, stopped_clock};
-use crate::hubs::{pump, share_of};
+use crate::hubs::{pump, rest, share_of};
 use crate::memory::{Refused, begin, came, prepare, run};
 use refusing::Refusing;
 use st_desk::{Link, LinkFault};
 use st_hop::Outcome;
-use st_hub::{HubError, HubLink, HubState, WorkEnd, work};
+use st_hub::{Bench, HubError, HubLink, HubState, WorkEnd, Worker, work};
 use st_ilp::Moment;
 use st_queues::{Gauge, GaugeSeat, Got, HubName, StreamReader, StreamWriter};
 use std::alloc::{Allocator, Global};
 use std::process::Abort;
-use std::sync::{Mutex, Wait};
+use std::sync::Wait;
 
 /// Two chunks are pumped, where the request number n is refused: those moved stand, and the next is where it was.
 #[derive(Drop)]
@@ -69,7 +69,7 @@ impl<R: Wait + Abort> Refused<R> for Pumped {
         rt: &R,
         heap: &Refusing<Global>,
         alloc: A,
-        hub: &Mutex<HubState<N, A>>,
+        hub: &Bench<N, A>,
         gauge: &Gauge<N, A>,
         seat: &mut GaugeSeat<N, A>,
     ) -> bool {
@@ -173,7 +173,7 @@ impl<R: Wait + Abort> Refused<R> for AskNone<'_> {
         rt: &R,
         heap: &Refusing<Global>,
         alloc: A,
-        hub: &Mutex<HubState<N, A>>,
+        hub: &Bench<N, A>,
         _gauge: &Gauge<N, A>,
         _seat: &mut GaugeSeat<N, A>,
     ) -> bool {
@@ -214,7 +214,7 @@ impl<R: Wait + Abort> Refused<R> for Gathers {
         rt: &R,
         heap: &Refusing<Global>,
         alloc: A,
-        hub: &Mutex<HubState<N, A>>,
+        hub: &Bench<N, A>,
         _gauge: &Gauge<N, A>,
         _seat: &mut GaugeSeat<N, A>,
     ) -> bool {
@@ -238,16 +238,29 @@ struct Starved<'a> {
 /// A link, and then a worker over it, tell that there is no memory.
 fn starve<N: HubName<A>, A: Allocator + Copy, L: Link<A>, R: Wait + Abort + std::time::Clock>(
     rt: &R,
-    hub: &Mutex<HubState<N, A>>,
+    hub: &Bench<N, A>,
     gauge: &Gauge<N, A>,
     seat: &mut GaugeSeat<N, A>,
     link: &mut L,
     prepare: &[u8],
 ) {
-    sure!(rt; link.exchange(prepare).err() == Some(LinkFault::NoMemory));
+    sure!(rt; link.exchange(prepare, moment(rt)).err() == Some(LinkFault::NoMemory));
     let mut ivs = Counting { first: 1, next: 0 };
     let mut clock = stopped_clock(rt);
-    let told = work(rt, hub, link, &mut ivs, &mut clock, gauge, seat, 1);
+    let told = work(
+        rt,
+        hub,
+        Worker {
+            link,
+            ivs: &mut ivs,
+            clock: &mut clock,
+            gauge,
+            seat,
+            stream: 0,
+            rest: rest(),
+            turns: 1,
+        },
+    );
     sure!(rt; told == WorkEnd::NoMemory);
 }
 
@@ -257,7 +270,7 @@ impl<R: Wait + Abort + std::time::Clock> Refused<R> for Starved<'_> {
         rt: &R,
         heap: &Refusing<Global>,
         alloc: A,
-        hub: &Mutex<HubState<N, A>>,
+        hub: &Bench<N, A>,
         gauge: &Gauge<N, A>,
         seat: &mut GaugeSeat<N, A>,
     ) -> bool {

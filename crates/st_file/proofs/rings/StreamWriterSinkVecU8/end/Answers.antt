@@ -1,5 +1,11 @@
-use Rattle.st_file.proofs.Items.{end_taken}
+use Rattle.st_file.proofs.Items.{end_taken, end_refused}
 use Rattle.st_file.proofs.rings.StreamWriterSinkVecU8.end.Goals as goal
 
+pub returns-in-Ok : goal.returns-in-Ok
+returns-in-Ok g c = end_taken c.args.self.now c.try_end.new.self c.in-Ok.ensures.ok.3 c.in-Ok.ensures.ok.1
+
+pub returns-in-Err-Full : goal.returns-in-Err-Full
+returns-in-Err-Full g c = end_refused c.args.self.now c.try_end.new.self c.in-Err-Full.ensures.unchanged.0 c.in-Err-Full.ensures.unchanged.1
+
 pub returns : goal.returns
-returns g c = end_taken c.args.self.now c.try_end.new.self c.try_end.result c.is_ok.result c.is_ok.ensures.value c.try_end.ensures.ok c.try_end.ensures.unchanged
+returns g c = end_refused c.args.self.now c.try_end.new.self c.in-Err.ensures.unchanged.0 c.in-Err.ensures.unchanged.1

@@ -1,0 +1,23 @@
+-- When nothing goes any more, and what one step of a worker comes to.
+use Rattle.std.specs.Prelude.{◌≡◌, ℕ, ℤ, true, List}
+use Rattle.std.specs.declared.option.Option.{Option}
+use Rattle.std.specs.declared.option.Option.TheVariants.{None, Some}
+use Rattle.st_end.specs.State.{EndState}
+use Rattle.st_end.specs.Sending.{Goes, GoesNone}
+use Rattle.st_end.specs.Totals.{in_flight, waits}
+use Rattle.st_hub.specs.declared.turns.Step.{Step}
+use Rattle.st_hub.specs.declared.turns.Step.TheVariants.{Sends, Idle, Stalled}
+
+-- nothing can be sent, no Prepare is in flight, and accepted bytes of the stream are not acknowledged or its close is not
+-- fulfilled: only a packet of the peer can raise a limit now, and the peer answers nothing
+pub record IsStalled (e : EndState) (stream : ℕ) : Type 0 where
+  pub none : GoesNone e
+  pub alone : in_flight e ≡ 0
+  pub waits : waits e stream ≡ true
+
+-- a Prepare is sent under the IV in hand, which is in hand no more; else the end and the hand are as they were, and
+-- `Stalled` is exactly where the end is
+abbrev pub Does : {A : Type 0} → EndState → (hand : Option (List ℕ)) → (stream : ℕ) → (now : ℤ) → Step A → EndState → (after : Option (List ℕ)) → Type 0
+Does a hand stream now (Sends t) b after = (iv : List ℕ) × (hand ≡ Some iv) × Goes a iv now t.flight t.bytes b × (after ≡ None)
+Does a hand stream now Idle b after = GoesNone a × (¬ (IsStalled a stream)) × (b ≡ a) × (after ≡ hand)
+Does a hand stream now Stalled b after = IsStalled a stream × (b ≡ a) × (after ≡ hand)

@@ -1,0 +1,82 @@
+//! A hub under its lock, with what its threads wait on.
+
+use crate::gate::Gate;
+use crate::hub::HubState;
+use st_queues::HubName;
+use std::alloc::Allocator;
+use std::sync::atomic::{AtomicU64, Ordering};
+use std::sync::{Condvar, Mutex, MutexGuard, Wait};
+use std::time::{Clock, Duration};
+
+/// A hub under its lock, with what its workers and the threads that write to it wait on, and the gate that spaces out
+/// the workers' tries after a failure.
+///
+/// A thread that wrote to a ring, read from one, or asked the workers to stop is to call `wake_one` or `wake_all`: a
+/// worker with nothing to send sleeps until then, or until its rest is over.
+#[derive(Drop)]
+pub struct Bench<N: HubName<A>, A: Allocator + Copy> {
+    hub: Mutex<HubState<N, A>>,
+    pub(crate) gate: Mutex<Gate>,
+    // Signalled where a worker may find something to do.
+    pub(crate) woken: Condvar,
+    // Signalled where the end took something out of a ring.
+    pub(crate) room: Condvar,
+    // How many workers found nothing to do and are about to sleep, or sleep.
+    pub(crate) idle: AtomicU64,
+}
+
+impl<N: HubName<A>, A: Allocator + Copy> Bench<N, A> {
+    /// Makes a bench of a hub. Does not allocate.
+    pub fn new(hub: HubState<N, A>) -> Bench<N, A> {
+        Bench {
+            hub: Mutex::new(hub),
+            gate: Mutex::new(Gate::new()),
+            woken: Condvar::new(),
+            room: Condvar::new(),
+            idle: AtomicU64::new(0),
+        }
+    }
+
+    /// Takes the hub's lock. It waits for it.
+    pub fn lock<'b, R: Wait>(&'b self, rt: &R) -> MutexGuard<'b, HubState<N, A>> {
+        self.hub.lock(rt)
+    }
+
+    /// Gives the hub, once no thread uses the bench any more.
+    pub fn into_hub(self) -> HubState<N, A> {
+        self.hub.into_inner()
+    }
+
+    /// Waits until each worker that found nothing to do sleeps.
+    fn settle(&self, rt: &impl Wait) {
+        let _held = self.hub.lock(rt);
+    }
+
+    /// Wakes one worker that sleeps, where there is one. A thread calls it after it wrote to a ring or read from one.
+    /// It waits for the hub's lock where a worker sleeps.
+    pub fn wake_one(&self, rt: &impl Wait) {
+        if self.idle.load(Ordering::SeqCst) > 0 {
+            self.settle(rt);
+            self.woken.notify_one();
+        }
+    }
+
+    /// Wakes all threads that sleep at this bench. A thread calls it after it asked the workers to stop. It waits for
+    /// the hub's lock.
+    pub fn wake_all(&self, rt: &impl Wait) {
+        self.settle(rt);
+        self.woken.notify_all();
+        self.room.notify_all();
+    }
+
+    /// Waits until there is room in a ring that was full, for at most `longest`. It moves what can be moved by itself,
+    /// and sleeps only where that is nothing, until a worker moves something. It may return where there is no room.
+    pub fn await_room<R: Wait + Clock>(&self, rt: &R, longest: Duration) {
+        let mut state = self.hub.lock(rt);
+        let before = state.totals().accepted;
+        let pumped = state.pump();
+        if pumped.is_ok() && state.totals().accepted == before {
+            let _held = self.room.wait_timeout(rt, state, longest);
+        }
+    }
+}
