@@ -11,11 +11,12 @@ use Rattle.st_end.specs.declared.error.EndError.{EndError}
 use Rattle.st_end.specs.declared.error.EndError.TheVariants as refusals
 use Rattle.st_file.specs.Stores.{Flushes, WritesPiece}
 use Rattle.st_file.specs.declared.error.FileError.{FileError}
-use Rattle.st_file.specs.declared.error.FileError.TheVariants.{ReadFault, WriteFault, Aborted, Turns, NoMemory}
+use Rattle.st_file.specs.declared.error.FileError.TheVariants.{ReadFault, WriteFault, Aborted, Turns, NoMemory, Closed}
 use Rattle.st_file.proofs.Storing.{stored_more, stored_why}
-use Rattle.st_transfer.specs.Answering.{Answers, AskedOnce}
-use Rattle.st_transfer.specs.Keeping.{Explains, Gives, Happens, comes, is_read, Kept, KeptTo, Reads, Runs, end_in, file_stream, piece_limit, given_of}
+use Rattle.st_transfer.specs.Answering.{Answers}
+use Rattle.st_transfer.specs.Keeping.{Explains, Gives, Happens, IsAsked, IsOfDelivery, comes, is_read, Kept, KeptTo, Reads, Runs, end_in, file_stream, piece_limit, given_of}
 use Rattle.st_transfer.specs.declared.receiver.Receiver.{Receiver}
+use Rattle.st_transfer.specs.declared.error.TransferError.{TransferError}
 use Rattle.st_transfer.specs.declared.error.TransferError.TheVariants as transfer
 
 -- ---- one read
@@ -72,6 +73,7 @@ kept_why start now next before mid after n text (Turns m) k r w =
     let s = stored_why before mid after (given_of []) (given_of k.0) (given_of (k.0 ++ text)) n text (Turns m) k.2 refl w in
     (s.0, (k.0 ++ text, runs_more start now next k.0 text k.1 (is_read (reading.Bytes text) r refl), s.1))
 kept_why start now next before mid after n text (NoMemory m) k r w = absurd w
+kept_why start now next before mid after n text (Closed m) k r w = absurd w
 
 -- what is kept is so after a flush
 pub kept_flushed : (start now : EndState) (before mid after : Option (List ℕ)) (n : ℕ) → Kept start before now mid n → Keeps mid after → Kept start before now after n
@@ -84,6 +86,7 @@ flush_why start now before mid after n (WriteFault m) k f w = ([], rw w (kept_fl
 flush_why start now before mid after n (Aborted code m) k f w = absurd w
 flush_why start now before mid after n (Turns m) k f w = ([], rw w (kept_flushed start now before mid after n k f))
 flush_why start now before mid after n (NoMemory m) k f w = absurd w
+flush_why start now before mid after n (Closed m) k f w = absurd w
 
 -- nothing came on the stream
 pub kept_idle : (start now next : EndState) (before after : Option (List ℕ)) (n : ℕ) → Kept start before now after n → Gives now reading.Nothing next → Kept start before next after n
@@ -107,6 +110,10 @@ kept_answered start now next before after n bytes (Some answer) k (inr h) = rw h
 kept_answered start now next before after n bytes None k h = rw h k
 
 -- so does a receiver that was asked once
-pub kept_asked : {K : Type 0} (old new : Receiver K) (start : EndState) (before after : Option (List ℕ)) (n : ℕ) → Kept start before (end_in old) after n → AskedOnce (λ (x : Receiver K) account body answer (y : Receiver K). Answers (end_in x) body answer (end_in y)) old new → Kept start before (end_in new) after n
+pub kept_asked : {K : Type 0} (old new : Receiver K) (start : EndState) (before after : Option (List ℕ)) (n : ℕ) → Kept start before (end_in old) after n → IsAsked old new → Kept start before (end_in new) after n
 kept_asked old new start before after n k (inl same) = subst (λ x. Kept start before (end_in x) after n) (sym same) k
 kept_asked old new start before after n k (inr h) = kept_answered start (end_in old) (end_in new) before after n h.1 h.2 k h.3
+
+-- a fault of the delivery is none that is not
+pub other_fault : (e x : TransferError) (Q : Type 0) → IsOfDelivery e → (IsOfDelivery x → Q) → ◌≡◌ {A = Result ℕ TransferError} (Err e) (Err x) → Q
+other_fault e x Q is none same = let inside : e ≡ x = cc in none (subst IsOfDelivery inside is)

@@ -4,13 +4,16 @@ use Rattle.st_desk.specs.Errors as desk
 use Rattle.st_end.specs.Errors as end
 use Rattle.st_file.specs.Errors as file
 use Rattle.st_transfer.specs.declared.error.TransferError.{TransferError}
-use Rattle.st_transfer.specs.declared.error.TransferError.TheVariants.{Failed, Accept, Turns, IvFault, NoMemory, End, Desk, File}
+use Rattle.st_transfer.specs.declared.error.TransferError.TheVariants.{Failed, Stalled, Rings, Accept, Turns, Silent, IvFault, NoMemory, End, Desk, File}
 
 -- each fault has its own number, and what an end, a hop or a file refuses keeps its
 abbrev pub number : TransferError → ℕ
 number Failed = 58
+number Stalled = 59
+number Rings = 69
 number Accept = 80
 number Turns = 86
+number Silent = 88
 number IvFault = 90
 number NoMemory = 99
 number (End e) = end.number e
@@ -20,8 +23,11 @@ number (File e) = file.number e
 -- the number inside what refused
 abbrev pub inner : TransferError → Option ℕ
 inner Failed = None
+inner Stalled = None
+inner Rings = None
 inner Accept = None
 inner Turns = None
+inner Silent = None
 inner IvFault = None
 inner NoMemory = None
 inner (End e) = end.inner e

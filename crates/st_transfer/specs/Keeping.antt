@@ -1,5 +1,5 @@
 -- What an end that only receives goes through, and what of stream 1 is written.
-use Rattle.std.specs.Prelude.{◌≡◌, ◌⊎◌, ℕ, zero, suc, List, [], ◌++◌, Option, None, Result, Ok, Err}
+use Rattle.std.specs.Prelude.{◌≡◌, ◌⊎◌, ℕ, zero, suc, List, [], ◌++◌, Option, None, Result, Ok, Err, ⊤}
 use Rattle.std.specs.Io.KnownBytes.{Keeps}
 use Rattle.st_queues.specs.declared.items.Over.TheVariants as over
 use Rattle.st_receiver.specs.Reading as reading
@@ -13,12 +13,12 @@ use Rattle.st_file.specs.Sources.{Given}
 use Rattle.st_file.specs.Stores.{Stored}
 use Rattle.st_file.specs.Errors as file
 use Rattle.st_file.specs.declared.error.FileError.TheVariants as file_error
-use Rattle.st_transfer.specs.Answering.{Takes}
+use Rattle.st_transfer.specs.Answering.{Answers, AskedOnce, Takes}
 use Rattle.st_transfer.specs.declared.delivery.Delivered.{Delivered}
 use Rattle.st_transfer.specs.declared.delivery.Delivered.TheVariants.{More, Whole}
 use Rattle.st_transfer.specs.declared.receiver.Receiver.{Receiver}
 use Rattle.st_transfer.specs.declared.error.TransferError.{TransferError}
-use Rattle.st_transfer.specs.declared.error.TransferError.TheVariants.{Failed, Accept, Turns, IvFault, NoMemory, End, Desk, File}
+use Rattle.st_transfer.specs.declared.error.TransferError.TheVariants.{Failed, Stalled, Rings, Accept, Turns, Silent, IvFault, NoMemory, End, Desk, File}
 
 -- the stream on which files and money go
 abbrev pub file_stream : ℕ
@@ -79,8 +79,11 @@ KeptTo start before now after n got = (was : EndState) × Kept start before was 
 -- why no more is written: all that the stream gave is, but where the output failed or its turns are used up
 abbrev pub Explains : EndState → (before : Option (List ℕ)) → (now : EndState) → (after : Option (List ℕ)) → TransferError → Type 0
 Explains start before now after Failed = ⊥
+Explains start before now after Stalled = ⊥
+Explains start before now after Rings = ⊥
 Explains start before now after Accept = (n : ℕ) × Kept start before now after n
 Explains start before now after Turns = (n : ℕ) × Kept start before now after n
+Explains start before now after Silent = (n : ℕ) × Kept start before now after n
 Explains start before now after IvFault = ⊥
 Explains start before now after NoMemory = ⊥
 Explains start before now after (End e) = (e ≡ refusals.NoMemory) × (n : ℕ) × Kept start before now after n
@@ -90,6 +93,21 @@ Explains start before now after (File (file_error.WriteFault n)) = (others : Lis
 Explains start before now after (File (file_error.Aborted code n)) = KeptTo start before now after n (reading.Aborted code)
 Explains start before now after (File (file_error.Turns n)) = (others : List ℕ) × KeptBut start before now after n others
 Explains start before now after (File (file_error.NoMemory n)) = ⊥
+Explains start before now after (File (file_error.Closed n)) = ⊥
+
+-- a fault of the stream or of the output, and none of the listener
+abbrev pub IsOfDelivery : TransferError → Type 0
+IsOfDelivery Failed = ⊥
+IsOfDelivery Stalled = ⊥
+IsOfDelivery Rings = ⊥
+IsOfDelivery Accept = ⊥
+IsOfDelivery Turns = ⊥
+IsOfDelivery Silent = ⊥
+IsOfDelivery IvFault = ⊥
+IsOfDelivery NoMemory = ⊥
+IsOfDelivery (End e) = ⊤
+IsOfDelivery (Desk e) = ⊥
+IsOfDelivery (File e) = ⊤
 
 -- what is kept once all was read that could be
 abbrev pub Delivers : EndState → (before : Option (List ℕ)) → (now : EndState) → (after : Option (List ℕ)) → (written : ℕ) → Result Delivered TransferError → Type 0
@@ -115,13 +133,20 @@ TellsTotals opened before after told result = (now : EndState) × ReceivesFrom o
 abbrev pub end_in : {K : Type 0} → Receiver K → EndState
 end_in r = r.end
 
+-- a receiver was asked once, or not at all
+abbrev pub IsAsked : {K : Type 0} → (old new : Receiver K) → Type 0
+IsAsked {K} old new = AskedOnce (λ (x : Receiver K) account body answer (y : Receiver K). Answers (end_in x) body answer (end_in y)) old new
+
 -- an output's count of errors after it: one more where a fault of it is told, and there alone
 abbrev pub faults_told : {T : Type 0} → Result T TransferError → ℕ → ℕ
 faults_told (Ok x) count = count
 faults_told (Err (File e)) count = file.faults_told {T = Unit {0}} (Err e) count
 faults_told (Err Failed) count = count
+faults_told (Err Stalled) count = count
+faults_told (Err Rings) count = count
 faults_told (Err Accept) count = count
 faults_told (Err Turns) count = count
+faults_told (Err Silent) count = count
 faults_told (Err IvFault) count = count
 faults_told (Err NoMemory) count = count
 faults_told (Err (End e)) count = count

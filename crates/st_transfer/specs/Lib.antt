@@ -1,8 +1,7 @@
 pub mod Errors
-pub mod Claims
+pub mod Crew
 pub mod Moments
 pub mod Accounts
 pub mod Answering
 pub mod Keeping
-pub mod Inlets
 pub mod Outcomes

@@ -1,5 +1,5 @@
 -- Moments of a clock that tells how long ago 1970 began.
-use Rattle.std.specs.Prelude.{◌≡◌, ℕ, ◌≤◌, ◌/◌, ℤ}
+use Rattle.std.specs.Prelude.{◌≡◌, ◌⊎◌, ℕ, ◌≤◌, ◌/◌, ℤ, pos, int_le, if◌then◌else◌, Result, Ok, Err}
 use Rattle.std.specs.Duration.{as_nanos}
 use Rattle.std.specs.declared.time.Duration.{Duration}
 use Rattle.st_transfer.specs.declared.clock.RuntimeClock.{RuntimeClock}
@@ -12,3 +12,13 @@ pub record IsMomentOf (since : Duration) (ms : ℕ) : Type 0 where
 -- the moment that a clock told last
 abbrev pub last_told : {R : Type 0} → RuntimeClock R → ℤ
 last_told c = c.last
+
+-- the later one of two moments
+abbrev pub later : ℤ → ℤ → ℤ
+later a b = if int_le a b then b else a
+
+-- what a clock that told `before` tells once it was read: what it read, and never less than before; where it could not be
+-- read, or is past the last moment, what it told before
+abbrev pub Tells : {E : Type 0} → (before : ℤ) → Result Duration E → (now : ℤ) → Type 0
+Tells before (Ok since) now = ((ms : ℕ) × IsMomentOf since ms × (now ≡ later before (pos ms))) ⊎ (((ms : ℕ) → ¬ (IsMomentOf since ms)) × (now ≡ before))
+Tells before (Err e) now = now ≡ before

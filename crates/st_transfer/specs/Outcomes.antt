@@ -4,7 +4,7 @@ use Rattle.st_hub.specs.declared.workers.WorkEnd.{WorkEnd}
 use Rattle.st_hub.specs.declared.workers.WorkEnd.TheVariants as ends
 use Rattle.st_file.specs.declared.error.FileError.{FileError}
 use Rattle.st_transfer.specs.declared.error.TransferError.{TransferError}
-use Rattle.st_transfer.specs.declared.error.TransferError.TheVariants.{Failed, Turns, IvFault, NoMemory, File}
+use Rattle.st_transfer.specs.declared.error.TransferError.TheVariants.{Failed, Stalled, Turns, IvFault, NoMemory, File}
 
 -- which fault a worker's end is
 abbrev pub fault_of : WorkEnd → Option TransferError
@@ -13,6 +13,8 @@ fault_of ends.Failed = Some Failed
 fault_of ends.IvFault = Some IvFault
 fault_of ends.NoMemory = Some NoMemory
 fault_of ends.Turns = Some Turns
+fault_of ends.Settled = None
+fault_of ends.Stalled = Some Stalled
 
 abbrev pub fault_or : Option TransferError → TransferError → TransferError
 fault_or (Some e) later = e

@@ -1,23 +1,38 @@
-//! What a hop has of each of its accounts.
+//! The totals of a hop's accounts.
 
-ghost use Rattle.std.specs.Prelude.{◌≡◌, ◌<◌, length};
+ghost use Rattle.std.specs.Prelude.{◌≡◌, ◌<◌, length, IfOk, vec_len};
 ghost use Rattle.st_transfer.specs.Accounts.{AreTotalsOf, totals_at};
 
 use st_hop::HopState;
-use std::alloc::Global;
+use std::alloc::{AllocError, Global};
 
-/// What is owed between a hop and one of its accounts, and what is held against it, in units.
+/// What is owed between a hop and one of its accounts, and what is reserved against that account, in units.
 #[derive(Clone, Copy, Debug)]
 pub struct AccountTotals {
-    /// What the account owes the hop.
+    /// What the account owes the hop, in units.
     pub claims: u64,
-    /// What the hop owes the account.
+    /// What the hop owes the account, in units.
     pub dues: u64,
-    /// The amounts of its Prepares that wait for their answer.
+    /// The sum of the amounts of the account's Prepares that wait for their answer, in units.
     pub held: u64,
 }
 
-/// What a hop has of an account, and nothing of one that it does not have.
+/// Places for the totals of `count` accounts, all 0.
+pub(crate) fn places(alloc: Global, count: usize) -> Result<Vec<AccountTotals>, AllocError>
+    ensures { IfOk result (λ places. vec_len places ≡ count) }
+{
+    let mut places = Vec::new(alloc);
+    for _ in 0..count {
+        places.push(AccountTotals {
+            claims: 0,
+            dues: 0,
+            held: 0,
+        })?;
+    }
+    Ok(places)
+}
+
+/// The totals of an account; zeros for an account that the hop does not have.
 fn totals_of(hop: &HopState<Global>, account: usize) -> AccountTotals
     ensures { account < length hop.now.accounts → result ≡ totals_at hop.now account }
 {
@@ -28,7 +43,7 @@ fn totals_of(hop: &HopState<Global>, account: usize) -> AccountTotals
     }
 }
 
-/// Puts what a hop has of each account at its place.
+/// Writes the totals of each account of a hop to its place.
 pub(crate) fn note(hop: &HopState<Global>, accounts: &mut [AccountTotals])
     ensures { AreTotalsOf hop.now accounts.new }
 {

@@ -1,20 +1,21 @@
 //! The command `connector`.
 
-ghost use Rattle.std.specs.Prelude.{◌≡◌, ◌≤◌};
+ghost use Rattle.std.specs.Prelude.{◌≡◌, ◌⊎◌, Err, IsSome, Some, length, vec_len};
 ghost use Rattle.st_desk.specs.Desk.{IsNew};
 ghost use Rattle.st_transfer.specs.Accounts.{AreTotalsOf};
+ghost use Rattle.st_transfer.specs.declared.error.TransferError.TheVariants.{NoMemory};
 
-use crate::accounts::{AccountTotals, note};
-use crate::claims::{Claims, claim, claim_all};
+use crate::accounts::{AccountTotals, note, places};
 use crate::clock::RuntimeClock;
+use crate::crew::Crew;
 use crate::error::TransferError;
-use crate::neighbour::{Neighbour, links_to};
-use crate::serving::serve_next;
+use crate::neighbour::Neighbourhood;
+use crate::serving::{accept_next, serve_on};
 use crate::terms::ConnectTerms;
-use st_desk::{AccountShares, DeskError, HopDesk, Owed, serve};
-use st_hop::HopState;
+use st_desk::{AccountShares, HopDesk, Links, Owed, Served, serve};
+use st_hop::{HopState, Outcome};
 use st_http::Answerer;
-use st_link::HttpLink;
+use st_ilp::Moment;
 use std::alloc::Global;
 use std::marker::Brand;
 use std::net::{Net, TcpListener, TcpStream};
@@ -22,169 +23,248 @@ use std::sync::ledger::{Blank, Ledger};
 use std::sync::{Mutex, Wait};
 use std::thread;
 use std::thread::Threads;
+use std::time::Clock;
 
-/// One worker of a connector: it answers requests from the desk, by links of its own.
+/// How a connector ended.
 #[derive(Drop)]
-struct Server<'a, C: Ledger, D: Ledger, R: Net + Wait + std::time::Clock> {
-    rt: &'a R,
-    desk: &'a Mutex<HopDesk<C, D, Global>>,
-    shares: AccountShares<C, D>,
-    links: Vec<HttpLink<'a, R, Global>>,
-    clock: RuntimeClock<'a, R>,
+pub struct ConnectorEnded {
+    /// What all accounts owe the hop at the end, and what the hop owes them, in units; or why the connector ended
+    /// before its last request.
+    pub result: Result<Owed, TransferError>,
+    /// The totals of each account that has a token, by the account's place. Empty where memory for them was refused.
+    pub accounts: Vec<AccountTotals>,
+    /// How many Prepares were answered with T00 in place of being forwarded, because too many threads were busy.
+    pub overloaded: u64,
 }
 
-impl<C: Ledger, D: Ledger, R: Net + Wait + std::time::Clock> Answerer for Server<'_, C, D, R> {
-    ghost gives = { λ _ _ _ _ _. Unit {0} };
+/// What the threads of a connector share.
+#[derive(Drop)]
+struct Common<'a, C: Ledger, D: Ledger> {
+    alloc: Global,
+    listener: &'a TcpListener,
+    desk: Mutex<HopDesk<C, D, Global>>,
+    shares: Mutex<AccountShares<C, D>>,
+    crew: Crew,
+    neighbourhood: Neighbourhood<'a>,
+    /// A Reject of the hop with code T00.
+    t00: Vec<u8>,
+    terms: ConnectTerms<'a>,
+}
+
+/// The links of one thread of a connector.
+#[derive(Drop)]
+struct Ways<'a, C: Ledger, D: Ledger, R: Net + Wait + Clock> {
+    rt: &'a R,
+    common: &'a Common<'a, C, D>,
+    /// How often threads are to have begun to accept before this one may send.
+    needed: u64,
+    /// When an exchange has to be done, so that its answer can still be passed back. `None` where there is no such moment.
+    latest: Option<Moment>,
+}
+
+/// How many milliseconds after its connection was accepted a thread may wait for a neighbour: a second less than the whole
+/// request may take.
+const EXCHANGE_MILLIS: i64 = 29_000;
+
+/// The moment that is so many milliseconds after this one.
+fn latest_after(now: Moment) -> Option<Moment> {
+    Moment::new(now.ms().saturating_add(EXCHANGE_MILLIS))
+}
+
+/// The earlier of two moments, of which the first may be missing.
+fn earlier(latest: Option<Moment>, by: Moment) -> Moment {
+    match latest {
+        Some(latest) if latest.ms() < by.ms() => latest,
+        _ => by,
+    }
+}
+
+impl<C: Ledger, D: Ledger, R: Net + Wait + Clock> Links<Global> for Ways<'_, C, D, R> {
+    fn exchange(&mut self, account: usize, bytes: &[u8], by: Moment) -> Outcome<Global> {
+        let Common {
+            alloc,
+            crew,
+            neighbourhood,
+            t00,
+            ..
+        } = self.common;
+        if crew.may_send(self.rt, self.needed) {
+            let by = earlier(self.latest, by);
+            return neighbourhood.exchange(self.rt, *alloc, account, bytes, by);
+        }
+        match Vec::from_slice(*alloc, t00) {
+            Ok(reject) => Outcome::Answered(reject),
+            Err(_) => Outcome::Fault,
+        }
+    }
+}
+
+/// What answers the requests that one thread of a connector accepts.
+#[derive(Drop)]
+struct Server<'a, C: Ledger, D: Ledger, R: Net + Wait + Clock> {
+    rt: &'a R,
+    common: &'a Common<'a, C, D>,
+    /// How often threads are to have begun to accept before this one may send.
+    needed: u64,
+    /// When an exchange has to be done, so that its answer can still be passed back.
+    latest: Option<Moment>,
+    clock: RuntimeClock<'a, R>,
+    /// The account from which the last request that was answered arrived at the desk.
+    account: Option<usize>,
+}
+
+impl<C: Ledger, D: Ledger, R: Net + Wait + Clock> Answerer for Server<'_, C, D, R> {
+    // An answer was given at the desk to this account.
+    ghost gives = { λ _ account _ answer new. IsSome answer → new.account ≡ Some account };
 
     fn answer(&mut self, account: usize, body: &[u8]) -> Option<Vec<u8>> {
-        serve(
-            self.rt,
-            self.desk,
-            &mut self.shares,
+        let Server {
+            rt,
+            common,
+            needed,
+            latest,
+            clock,
+            account: at,
+        } = self;
+        let (rt, common) = (*rt, *common);
+        let mut ways = Ways {
+            rt,
+            common,
+            needed: *needed,
+            latest: *latest,
+        };
+        match serve(
+            rt,
+            &common.desk,
+            &common.shares,
             account,
             body,
-            self.links.as_mut_slice(),
-            &mut self.clock,
-        )
-        .ok()
-    }
-}
-
-/// Why a worker ended, and what it booked.
-#[derive(Drop)]
-struct Ended<C: Ledger, D: Ledger> {
-    told: Result<(), TransferError>,
-    shares: AccountShares<C, D>,
-}
-
-/// Serves requests, each claimed before it is accepted, until none is left. A connection that cannot be accepted leaves
-/// none to the other workers.
-fn serve_all<C: Ledger, D: Ledger, R: Net + Wait + std::time::Clock>(
-    rt: &R,
-    alloc: Global,
-    listener: &TcpListener,
-    claims: &Mutex<Claims>,
-    terms: ConnectTerms<'_>,
-    mut server: Server<'_, C, D, R>,
-) -> Ended<C, D> {
-    let mut told = Ok(());
-    for _ in 0..terms.requests {
-        if !claim(rt, claims) {
-            break;
-        }
-        told = serve_next(alloc, listener, terms.tokens, &mut server, terms.turns);
-        if told.is_err() {
-            claim_all(rt, claims);
-            break;
+            &mut ways,
+            clock,
+        ) {
+            Ok(Served { account, answer }) => {
+                *at = Some(account);
+                Some(answer)
+            }
+            Err(_) => None,
         }
     }
-    Ended {
-        told,
-        shares: server.shares,
+}
+
+impl<C: Ledger, D: Ledger, R: Net + Wait + Clock> Server<'_, C, D, R> {
+    /// Notes that a connection was accepted now, and how often threads are to have begun to accept before its request may
+    /// be sent to a neighbour.
+    fn note_accepted(&mut self, needed: u64) {
+        let now = st_desk::Clock::now(&mut self.clock);
+        self.needed = needed;
+        self.latest = latest_after(now);
     }
 }
 
-/// A worker with shares of the desk, and links of its own.
-fn server_of<'a, C: Ledger, D: Ledger, R: Net + Wait + std::time::Clock>(
-    rt: &'a R,
-    alloc: Global,
-    desk: &'a Mutex<HopDesk<C, D, Global>>,
-    terms: ConnectTerms<'_>,
-) -> Result<Server<'a, C, D, R>, TransferError> {
-    let shares = shares_of(rt, desk).map_err(TransferError::Desk)?;
-    let Ok(links) = links_to(alloc, rt, terms.neighbours, terms.turns) else {
-        return Err(TransferError::NoMemory);
-    };
-    Ok(Server {
+/// A thread of a connector: it accepts connections and serves one request on each, until the crew needs it no more.
+fn serve_all<
+    'a,
+    C: Ledger,
+    D: Ledger,
+    R: Net<Listener = TcpListener, Stream = TcpStream> + Wait + Clock,
+>(rt: &'a R, common: &'a Common<'a, C, D>) {
+    let Common {
+        alloc,
+        listener,
+        crew,
+        terms,
+        ..
+    } = common;
+    let mut server = Server {
         rt,
-        desk,
-        shares,
-        links,
+        common,
+        needed: 0,
+        latest: None,
         clock: RuntimeClock::new(rt),
-    })
-}
-
-/// The workers of a connector, each with shares of the desk.
-fn servers<'a, C: Ledger, D: Ledger, R: Net + Wait + std::time::Clock>(
-    rt: &'a R,
-    alloc: Global,
-    desk: &'a Mutex<HopDesk<C, D, Global>>,
-    terms: ConnectTerms<'_>,
-) -> Result<Vec<Server<'a, C, D, R>>, TransferError> {
-    let mut servers = Vec::new(alloc);
-    for _ in 0..terms.workers {
-        let server = server_of(rt, alloc, desk, terms)?;
-        servers.push(server)?;
+        account: None,
+    };
+    crew.begin(rt);
+    for _ in rt.forever() {
+        let is_done = match accept_next(rt, *listener) {
+            Ok(stream) => {
+                server.note_accepted(crew.take(rt));
+                let came = serve_on(rt, *alloc, stream, terms.tokens, &mut server, terms.turns);
+                !crew.finish(rt, came)
+            }
+            Err(error) => crew.fail(rt, error),
+        };
+        if is_done {
+            return;
+        }
     }
-    Ok(servers)
 }
 
-/// Shares of a desk that is under its lock.
-fn shares_of<C: Ledger, D: Ledger>(
-    rt: &impl Wait,
-    desk: &Mutex<HopDesk<C, D, Global>>,
-) -> Result<AccountShares<C, D>, DeskError> {
-    desk.lock(rt).shares()
+/// Makes the threads of a connector wherever too few of them accept, until none is left.
+fn manage<
+    'a,
+    C: Ledger + Send + Sync,
+    D: Ledger + Send + Sync,
+    R: Net<Listener = TcpListener, Stream = TcpStream> + Threads + Wait + Clock + Sync,
+>(rt: &'a R, common: &'a Common<'a, C, D>) {
+    thread::scope(thread::scope_env(), rt, |scope| {
+        for _ in rt.forever() {
+            if !common.crew.wants_thread(rt) {
+                return;
+            }
+            if scope.spawn(move || serve_all(rt, common)).is_err() {
+                common.crew.do_without(rt);
+            }
+        }
+    });
 }
 
-/// The shares of the workers, or the first fault.
-fn shares_back<C: Ledger, D: Ledger>(
-    alloc: Global,
-    ends: Vec<Ended<C, D>>,
-) -> Result<Vec<AccountShares<C, D>>, TransferError> {
-    let mut all = Vec::new(alloc);
-    for end in ends {
-        let Ended { told, shares } = end;
-        told?;
-        all.push(shares)?;
-    }
-    Ok(all)
-}
-
-/// What the workers came to: what is owed, or the first fault. What the desk has of each account is noted in any case.
+/// What a connector came to: what is owed, or its fault. What the desk has of each account is noted in any case.
 fn gathered<C: Ledger, D: Ledger>(
     alloc: Global,
     desk: &mut HopDesk<C, D, Global>,
-    ends: Result<Vec<Ended<C, D>>, TransferError>,
+    shares: AccountShares<C, D>,
+    served: Result<(), TransferError>,
     accounts: &mut [AccountTotals],
 ) -> Result<Owed, TransferError>
     ensures noted { AreTotalsOf desk.old.hop accounts.new }
 {
     note(desk.hop(), accounts);
-    let shares = shares_back(alloc, ends?)?;
-    match desk.gather(shares) {
+    served?;
+    let mut all = Vec::new(alloc);
+    all.push(shares)?;
+    match desk.gather(all) {
         Ok(owed) => Ok(owed),
         Err((error, _)) => Err(TransferError::Desk(error)),
     }
 }
 
-/// Has the workers serve from a desk: how each of them ended.
-fn serve_from<
-    C: Ledger + Send + Sync,
-    D: Ledger + Send + Sync,
-    R: Net<Listener = TcpListener, Stream = TcpStream> + Threads + Wait + std::time::Clock + Sync,
->(
-    rt: &R,
+/// What the threads of a connector are to share.
+fn common_of<'a, C: Ledger, D: Ledger>(
     alloc: Global,
-    listener: &TcpListener,
-    desk: &Mutex<HopDesk<C, D, Global>>,
-    terms: ConnectTerms<'_>,
-) -> Result<Vec<Ended<C, D>>, TransferError> {
-    let left = Mutex::new(Claims::new(terms.requests));
-    let jobs = servers(rt, alloc, desk, terms)?;
-    let ends = thread::map_vec(
-        rt,
-        jobs,
-        &|server| { serve_all(rt, alloc, listener, &left, terms, server) },
-    )?;
-    Ok(ends)
+    listener: &'a TcpListener,
+    mut desk: HopDesk<C, D, Global>,
+    terms: ConnectTerms<'a>,
+) -> Result<Common<'a, C, D>, TransferError> {
+    let shares = desk.shares().map_err(TransferError::Desk)?;
+    let t00 = Vec::from_slice(alloc, desk.t00())?;
+    let neighbourhood = Neighbourhood::new(alloc, terms.neighbours, terms.turns)?;
+    Ok(Common {
+        alloc,
+        listener,
+        desk: Mutex::new(desk),
+        shares: Mutex::new(shares),
+        crew: Crew::new(terms.requests, terms.workers),
+        neighbourhood,
+        t00,
+        terms,
+    })
 }
 
-/// A connector under the names that were picked for its ledgers.
+/// A connector under the names that were picked for its ledgers, which writes the totals of its accounts.
 fn run<
     C: Ledger + Send + Sync,
     D: Ledger + Send + Sync,
-    R: Net<Listener = TcpListener, Stream = TcpStream> + Threads + Wait + std::time::Clock + Sync,
+    R: Net<Listener = TcpListener, Stream = TcpStream> + Threads + Wait + Clock + Sync,
 >(
     rt: &R,
     alloc: Global,
@@ -193,59 +273,85 @@ fn run<
     claims: Blank,
     dues: Blank,
     terms: ConnectTerms<'_>,
-    accounts: &mut [AccountTotals],
-) -> Result<Owed, TransferError>
+    accounts: Vec<AccountTotals>,
+) -> ConnectorEnded
     requires fresh { IsNew hop }
     requires claims { (claims.name ≡ C.name) × (claims.parts ≡ C.parts) × (claims.parts ≡ 64) }
     requires dues { (dues.name ≡ D.name) × (dues.parts ≡ D.parts) × (dues.parts ≡ 64) }
+    ensures { vec_len result.accounts ≡ vec_len accounts }
 {
-    let desk = Mutex::new(HopDesk::<C, D, Global>::new(alloc, hop, claims, dues));
-    let ends = serve_from(rt, alloc, listener, &desk, terms);
-    gathered(alloc, &mut desk.into_inner(), ends, accounts)
+    let desk = HopDesk::<C, D, Global>::new(alloc, hop, claims, dues);
+    let common = match common_of(alloc, listener, desk, terms) {
+        Ok(common) => common,
+        Err(error) => return ConnectorEnded {
+            result: Err(error),
+            accounts,
+            overloaded: 0,
+        },
+    };
+    manage(rt, &common);
+    let Common {
+        desk,
+        shares,
+        crew,
+        ..
+    } = common;
+    let (overloaded, served) = crew.ended();
+    let mut accounts = accounts;
+    let result = gathered(
+        alloc,
+        &mut desk.into_inner(),
+        shares.into_inner(),
+        served,
+        accounts.as_mut_slice(),
+    );
+    ConnectorEnded {
+        result,
+        accounts,
+        overloaded,
+    }
 }
 
-/// Answers so many requests that come to a listener from a hop at which nothing is owed and nothing is open. A request's
-/// token is that of its account, by its place in `tokens`, and what goes on goes to the neighbour at the outgoing
-/// account's place, if there is one.
+/// Runs a connector: answers requests that arrive at `listener`, over ILP over HTTP (RFC 0035, the synchronous mode), by
+/// the rules of `hop` (RFC 0027). The hop has booked nothing and has no open ticket. `terms` says how many requests are
+/// answered, by how many threads, and where the accounts are reached.
 ///
-/// So many workers serve. Each claims a request before it accepts its connection, and they end when all are claimed. A
-/// connection that fails, is cut off or uses up its `turns` ends alone, and stays claimed. It answers what all accounts
-/// owe the hop then, and what the hop owes them.
+/// Each thread accepts a connection, serves one request on it, and waits for the answer of the neighbour where the
+/// request is a Prepare that is forwarded. Wherever fewer threads than `terms.workers` wait for a connection, one more
+/// is made, up to 1,024 and `terms.workers` in all. A thread that is done waits for the next connection, unless
+/// `terms.workers` and 16 more threads do. Beyond 1,024 threads with a connection, or where no further thread can be made
+/// and none waits for a connection, a Prepare that would be forwarded is answered with T00 at once, and counted.
 ///
-/// Refuses with `Accept` where the listener gives no connection, and then no further request is claimed; with `Desk`
-/// where there are more than 63 workers; and with `NoMemory`. It waits for its workers. What the hop has of each account
-/// that has a place in `accounts` stands there then, whatever the answer is.
+/// Fails with `Accept` where the listener gives no connection 100 times in a row and no thread has one, and then no
+/// further request is claimed; with `NoMemory` where memory is refused, or not one thread can be made. The call ends with
+/// its threads. The totals of the accounts are given whatever the result is.
 pub fn connector_on<
-    R: Net<Listener = TcpListener, Stream = TcpStream> + Threads + Wait + std::time::Clock + Sync,
+    R: Net<Listener = TcpListener, Stream = TcpStream> + Threads + Wait + Clock + Sync,
 >(
     rt: &R,
     alloc: Global,
     listener: TcpListener,
     hop: HopState<Global>,
-    tokens: &[&str],
-    neighbours: &[Option<Neighbour<'_>>],
-    requests: u64,
-    workers: u8,
-    turns: u64,
-    accounts: &mut [AccountTotals],
-) -> Result<Owed, TransferError>
+    terms: ConnectTerms<'_>,
+) -> ConnectorEnded
     requires fresh { IsNew hop }
+    ensures { (vec_len result.accounts ≡ length terms.entry.tokens.now) ⊎ (result.result ≡ Err NoMemory) }
 {
-    let terms = ConnectTerms {
-        tokens,
-        neighbours,
-        requests,
-        workers,
-        turns,
-    };
-    run::<Brand, Brand, R>(
-        rt,
-        alloc,
-        &listener,
-        hop,
-        Blank::new(64),
-        Blank::new(64),
-        terms,
-        accounts,
-    )
+    match places(alloc, terms.tokens.len()) {
+        Ok(accounts) => run::<Brand, Brand, R>(
+            rt,
+            alloc,
+            &listener,
+            hop,
+            Blank::new(64),
+            Blank::new(64),
+            terms,
+            accounts,
+        ),
+        Err(_) => ConnectorEnded {
+            result: Err(TransferError::NoMemory),
+            accounts: Vec::new(alloc),
+            overloaded: 0,
+        },
+    }
 }

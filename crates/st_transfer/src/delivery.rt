@@ -1,11 +1,11 @@
-//! What came on stream 1, to the output.
+//! How the bytes that arrive on stream 1 are written to the output.
 
 ghost use Rattle.std.specs.Prelude.{◌≡◌, ℕ, List, Option, true, OnOk, IfOk, IfErr};
 ghost use Rattle.st_oer.specs.Tallies.{device_of, tally_of};
 ghost use Rattle.st_receiver.specs.Decided.{got_seen};
 ghost use Rattle.st_end.specs.State as state;
 ghost use Rattle.st_end.specs.declared.error.EndError.TheVariants as refusals;
-ghost use Rattle.st_transfer.specs.Keeping.{Delivers, Gives, Kept, faults_told};
+ghost use Rattle.st_transfer.specs.Keeping.{Delivers, Gives, IsOfDelivery, Kept, faults_told};
 
 use crate::error::TransferError;
 use st_end::{EndError, EndState};
@@ -15,21 +15,22 @@ use st_receiver::Got;
 use std::alloc::Global;
 use std::io::Write;
 
-/// The stream on which files and money go.
+/// The number of the stream that carries the file and the money.
 pub(crate) const STREAM: u8 = 1;
 
-/// The most bytes of a read.
+/// The most bytes of one read.
 const PIECE: usize = 4_096;
 
-/// Whether more is to come on the stream.
+/// Whether more is to arrive on the stream.
 #[derive(Clone, Copy, Debug, PartialEq, Eq)]
 pub(crate) enum Delivered {
     More,
-    /// All is written, and flushed.
+    /// All bytes are written, and flushed.
     Whole,
 }
 
-/// What stream 1 gives next: nothing yet where it is not open. Refused is want of memory alone.
+/// What can be read on stream 1 next: nothing yet where it is not open. Fails with `NoMemory` alone, where memory is
+/// refused.
 fn next_of(end: &mut EndState<Global>) -> Result<Got<Global>, EndError>
     ensures gave { IfOk result (λ got. Gives end.old (got_seen got) end.new) }
     ensures refused { IfErr result (λ e. (e ≡ refusals.NoMemory) × (end.new ≡ end.old)) }
@@ -41,8 +42,8 @@ fn next_of(end: &mut EndState<Global>) -> Result<Got<Global>, EndError>
     }
 }
 
-/// Reads all that can be read on stream 1, and writes and flushes it, after so many bytes were written. Each call of the
-/// stream or the writer takes one of `turns`.
+/// Reads all that can be read on stream 1, and writes it to the output and flushes it. `written` is the number of bytes
+/// written so far. Each call of the stream or the writer takes one of `turns`.
 pub(crate) fn deliver<W: Write>(
     end: &mut EndState<Global>,
     writer: &mut Counting<W>,
@@ -50,6 +51,7 @@ pub(crate) fn deliver<W: Write>(
     turns: &mut u64,
 ) -> Result<Delivered, TransferError>
     ensures kept { (start : state.EndState) (before : Option (List ℕ)) → Kept start before end.old (W.contents (device_of writer.old)) written.old → Delivers start before end.new (W.contents (device_of writer.new)) written.new result }
+    ensures why { IfErr result IsOfDelivery }
     ensures flushed { OnOk result ((tally_of writer.new).flushed ≡ true) }
     ensures faults { (tally_of writer.new).faults ≡ faults_told result (tally_of writer.old).faults }
 {

@@ -1,4 +1,4 @@
-//! The two ends of a connection.
+//! How the ends of `send` and `receive` are made.
 
 ghost use Rattle.std.specs.Prelude.{◌≡◌, true, IfOk, IsOkUnless};
 ghost use Rattle.st_oer.specs.Address.{is_address};
@@ -13,7 +13,7 @@ use st_keys::Keys;
 use st_sender::EndConfig;
 use std::alloc::Global;
 
-/// An end on this side of a connection. Refused is want of memory alone.
+/// Makes an end of this role. Fails with `NoMemory` alone, where memory is refused.
 fn end_of(
     alloc: Global,
     role: Role,
@@ -30,7 +30,11 @@ fn end_of(
     EndState::new(alloc, role, Keys::of(secret), own, peer, config)
 }
 
-/// The end that `send` sends from: the client. Refused is want of memory alone.
+/// Makes the end from which `send` sends: the client of the connection (RFC 0029). The keys come from the 32 bytes of
+/// `secret`, which both ends share. `own` and `peer` are the ILP addresses of the two ends (RFC 0015), and `config` has
+/// the limits of this end.
+///
+/// Fails with `NoMemory` where memory is refused, and for no other reason.
 pub fn client_end(
     alloc: Global,
     secret: [u8; 32],
@@ -47,7 +51,11 @@ pub fn client_end(
     end_of(alloc, Role::Client, secret, own, peer, config)
 }
 
-/// The end that `receive` receives at: the server. Refused is want of memory alone.
+/// Makes the end at which `receive` receives: the server of the connection (RFC 0029). The keys come from the 32 bytes
+/// of `secret`, which both ends share. `own` and `peer` are the ILP addresses of the two ends (RFC 0015), and `config`
+/// has the limits of this end.
+///
+/// Fails with `NoMemory` where memory is refused, and for no other reason.
 pub fn server_end(
     alloc: Global,
     secret: [u8; 32],

@@ -1,4 +1,4 @@
-//! Why a transfer ended short.
+//! The errors of `send`, `receive` and `connector`.
 
 ghost use Rattle.std.specs.Prelude.{◌≡◌};
 ghost use Rattle.st_transfer.specs.Errors as errors;
@@ -10,44 +10,57 @@ use st_file::FileError;
 use std::alloc::{AllocError, AllocFailed};
 use thiserror::Error;
 
-/// Why a transfer ended short.
+/// Why `send_on`, `receive_on` or `connector_on` did not succeed.
 #[derive(Clone, Copy, Debug, PartialEq, Eq, Error)]
 pub enum TransferError {
-    /// The connection failed: as many exchanges in a row as it bears gave no Fulfill.
+    /// The connection failed: the largest allowed number of exchanges in a row brought no Fulfill.
     #[error("the connection failed")]
     Failed,
+    /// No Prepare is in flight, and the limits that the peer set let nothing of the rest be sent.
+    #[error("no limit of the peer lets the rest go")]
+    Stalled,
+    /// Memory for the rings of the end's streams was refused.
+    #[error("out of memory")]
+    Rings,
     /// The listener gave no connection.
     #[error("no connection could be accepted")]
     Accept,
-    /// The turns for connections, or those of the workers, were used up.
+    /// The allowed number of connections, or of the workers' turns, was used up.
     #[error("the turns were used up")]
     Turns,
-    /// The device that gives IVs failed, or came to its end.
+    /// No valid request arrived for as long as the receiver's patience lasts.
+    #[error("no request arrived in time")]
+    Silent,
+    /// The source of IVs failed, or ended.
     #[error("no IV was given")]
     IvFault,
-    /// Memory that a command asked for itself was refused.
+    /// Memory that the command asked for itself was refused.
     #[error("out of memory")]
     NoMemory,
-    /// The end of the connection refused.
+    /// The end of the connection refused a call.
     #[error("{0}")]
     End(EndError),
-    /// The hop refused.
+    /// The hop refused a call.
     #[error("{0}")]
     Desk(DeskError),
-    /// The input could not be sent whole, or the output not be written whole.
+    /// The input was not read whole, or the output not written whole.
     #[error("{0}")]
     File(FileError),
 }
 
 impl TransferError {
-    /// The number by which a program tells the fault.
+    /// The error's number in the program's table of faults. For `End`, `Desk` and `File` it is that of the wrapped
+    /// error.
     pub fn number(&self) -> u8
         ensures { result ≡ errors.number self.now }
     {
         match self {
             TransferError::Failed => 58,
+            TransferError::Stalled => 59,
+            TransferError::Rings => 69,
             TransferError::Accept => 80,
             TransferError::Turns => 86,
+            TransferError::Silent => 88,
             TransferError::IvFault => 90,
             TransferError::NoMemory => 99,
             TransferError::End(error) => error.number(),
@@ -56,7 +69,7 @@ impl TransferError {
         }
     }
 
-    /// The number that the fault carries: that of what refused, where there is one.
+    /// The number that a wrapped error carries, for example the bytes written before it. `None` where there is none.
     pub fn inner(&self) -> Option<u64>
         ensures { result ≡ errors.inner self.now }
     {

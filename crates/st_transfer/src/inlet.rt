@@ -1,18 +1,18 @@
-//! From the input of `send` to the ring of its stream, until the workers were asked to stop.
+//! How the input of `send` is moved to the ring of its stream, until the workers are asked to stop.
 
-ghost use Rattle.std.specs.Prelude.{◌≡◌, false, []};
-
-use st_file::Sink;
+use st_file::{Put, Sink};
+use st_hub::Bench;
 use st_queues::{Gauge, GaugeSeat, HubName, StreamWriter};
 use std::alloc::Global;
+use std::io;
 use std::io::{ErrorKind, Read};
+use std::sync::Wait;
 use std::time::Duration;
-use std::{io, thread};
 
-/// For how many milliseconds the input rests where the ring is full.
-const REST: u64 = 1;
+/// For how many milliseconds the feeding thread sleeps at most where the ring is full and no worker wakes it.
+const REST: u64 = 1_000;
 
-/// A reader that gives an error once the workers were asked to stop, whatever is left of it.
+/// A reader that gives an error once the workers were asked to stop, even where input is left.
 #[derive(Drop)]
 pub(crate) struct Until<'a, I, N: HubName<Global>> {
     pub(crate) input: I,
@@ -31,61 +31,52 @@ impl<I: Read, N: HubName<Global>> Read for Until<'_, I, N> {
     }
 }
 
-/// The ring of the stream, as a sink that rests where it is full. Once the workers were asked to stop it puts nothing into
-/// the ring any more, and keeps aside what it still takes, so that its caller comes to an end.
+/// The ring of the stream as a sink that wakes a worker where it took something, and sleeps where the ring is full, until
+/// a worker makes room. Once the workers were asked to stop, it takes nothing any more: what it took reached the ring.
 #[derive(Drop)]
-pub(crate) struct Inlet<'a, N: HubName<Global>, R: std::time::Clock> {
+pub(crate) struct Inlet<'a, N: HubName<Global>, R: Wait + std::time::Clock> {
     pub(crate) rt: &'a R,
+    pub(crate) bench: &'a Bench<N, Global>,
     pub(crate) writer: StreamWriter<N, Global>,
     pub(crate) gauge: &'a Gauge<N, Global>,
     pub(crate) seat: GaugeSeat<N, Global>,
-    pub(crate) aside: Vec<u8>,
-    pub(crate) is_stopped: bool,
-    pub(crate) is_ended: bool,
-    ghost nothing_aside: { is_stopped ≡ false → aside.items ≡ [] },
 }
 
-impl<N: HubName<Global>, R: std::time::Clock> Inlet<'_, N, R> {
-    /// Whether nothing goes into the ring any more.
-    fn is_shut(&mut self) -> bool
-        ensures told { result ≡ self.new.is_stopped }
-        ensures same { (self.new.writer ≡ self.old.writer) × (self.new.aside ≡ self.old.aside) × (self.new.is_ended ≡ self.old.is_ended) }
-    {
+impl<N: HubName<Global>, R: Wait + std::time::Clock> Inlet<'_, N, R> {
+    /// Waits until there may be room in the ring.
+    fn rest(&self) {
+        self.bench.await_room(self.rt, Duration::from_millis(REST));
+    }
+}
+
+impl<N: HubName<Global>, R: Wait + std::time::Clock> Sink<Vec<u8>> for Inlet<'_, N, R> {
+    ghost use Rattle.st_file.specs.Rings.{taken_by};
+
+    ghost taken = { λ s. taken_by s.writer };
+
+    fn put(&mut self, chunk: Vec<u8>) -> Put<Vec<u8>> {
         if self.gauge.stopped(&mut self.seat) {
-            self.is_stopped = true;
+            return Put::Closed(chunk);
         }
-        self.is_stopped
-    }
-}
-
-impl<N: HubName<Global>, R: std::time::Clock> Sink<Vec<u8>> for Inlet<'_, N, R> {
-    ghost use Rattle.st_transfer.specs.Inlets.{taken_with};
-
-    ghost taken = { λ s. taken_with s.writer s.aside.items s.is_ended };
-
-    fn put(&mut self, chunk: Vec<u8>) -> Result<(), Vec<u8>> {
-        if self.is_shut() {
-            return match self.aside.extend_from_slice(&chunk) {
-                Ok(()) => Ok(()),
-                Err(_) => Err(chunk),
-            };
+        let answer = Sink::put(&mut self.writer, chunk);
+        match &answer {
+            Put::Taken => self.bench.wake_one(self.rt),
+            Put::Again(_) => self.rest(),
+            Put::Closed(_) => {}
         }
-        let result = Sink::put(&mut self.writer, chunk);
-        if result.is_err() {
-            thread::sleep(self.rt, Duration::from_millis(REST));
-        }
-        result
+        answer
     }
 
-    fn end(&mut self) -> bool {
-        if self.is_shut() {
-            self.is_ended = true;
-            return true;
+    fn end(&mut self) -> Put<()> {
+        if self.gauge.stopped(&mut self.seat) {
+            return Put::Closed(());
         }
-        let ended = Sink::end(&mut self.writer);
-        if !ended {
-            thread::sleep(self.rt, Duration::from_millis(REST));
+        let answer = Sink::end(&mut self.writer);
+        match &answer {
+            Put::Taken => self.bench.wake_one(self.rt),
+            Put::Again(()) => self.rest(),
+            Put::Closed(()) => {}
         }
-        ended
+        answer
     }
 }

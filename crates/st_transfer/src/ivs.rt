@@ -1,4 +1,4 @@
-//! IVs from a reader.
+//! Sources of IVs.
 
 ghost use Rattle.std.specs.Prelude.{◌≡◌, IfSome, MatchOption};
 ghost use Rattle.std.specs.Io.KnownBytes.{Consumes};
@@ -9,16 +9,17 @@ use st_oer::Counted;
 use std::io::Read;
 use std::sync::{Mutex, Wait};
 
-/// IVs of twelve bytes each, as a reader gives them. None is given where the reader fails, or ends before the twelfth.
+/// A source of IVs of 12 bytes each, read from a reader such as a device of random bytes. It gives none where the
+/// reader fails, or ends before the twelfth byte.
 #[derive(Drop)]
 pub struct ReaderIvs<G> {
     reader: G,
-    /// How often none was given: at `u64::MAX` the count stays.
+    /// How often it gave none. At `u64::MAX` the count stays.
     refused: u64,
 }
 
 impl<G: Read> ReaderIvs<G> {
-    /// The IVs of a reader.
+    /// Makes a source of IVs from a reader.
     pub fn new(reader: G) -> ReaderIvs<G> {
         ReaderIvs { reader, refused: 0 }
     }
@@ -48,7 +49,7 @@ impl<G: Read> Ivs for ReaderIvs<G> {
     }
 }
 
-/// IVs that several workers take from one source, each of them once.
+/// One worker's access to a source of IVs that several workers share under a lock. Each IV is given to one worker.
 #[derive(Drop)]
 pub struct SharedIvs<'a, I: Ivs, R: Wait> {
     rt: &'a R,
@@ -57,7 +58,7 @@ pub struct SharedIvs<'a, I: Ivs, R: Wait> {
 }
 
 impl<'a, I: Ivs, R: Wait> SharedIvs<'a, I, R> {
-    /// One worker's part in a source.
+    /// Makes one worker's access to a shared source. `rt` is the runtime that waits for the lock.
     pub fn new(rt: &'a R, source: &'a Mutex<I>) -> SharedIvs<'a, I, R> {
         SharedIvs {
             rt,

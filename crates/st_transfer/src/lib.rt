@@ -1,16 +1,18 @@
-//! Files and money between machines: the running part of `send`, `receive` and `connector`.
+//! Files and money between machines: the part of `send`, `receive` and `connector` that runs (RFC 0035, RFC 0029).
 //!
-//! `receive_on` answers the requests that come to a listener from one end of a connection, and writes what its peer sends
-//! on stream 1. `connector_on` answers from a hop that several workers serve, each with links to the neighbours of its
-//! own. `send_on` sends an input with money on stream 1, by workers that share one hub. Each tells why it ended by a
-//! `TransferError`, of which `number` gives the program's fault, and, in any case, the totals of its end or its accounts.
+//! `receive_on` answers the requests that arrive at a listener from one end of a connection, and writes to an output
+//! what its peer sends on stream 1. `connector_on` answers requests from a hop that many threads serve, each with links of
+//! its own to the neighbours. `send_on` sends an input with money on stream 1, by workers that share one hub.
+//! Each returns a `TransferError` where it fails, of which `number` gives the program's fault. Each also reports the
+//! totals of its end or of its accounts.
 #![tactic(auto)]
 
 mod accounts;
-mod claims;
 mod clock;
 mod connect;
+mod crew;
 mod delivery;
+mod ended;
 mod ends;
 mod error;
 mod inlet;
@@ -21,14 +23,18 @@ mod receiver;
 mod send;
 mod serving;
 mod terms;
+mod waiting;
 mod workers;
 
 pub use accounts::AccountTotals;
 pub use clock::RuntimeClock;
-pub use connect::connector_on;
+pub use connect::{ConnectorEnded, connector_on};
+pub use ended::Ended;
 pub use ends::{client_end, server_end};
 pub use error::TransferError;
 pub use ivs::{ReaderIvs, SharedIvs};
 pub use neighbour::Neighbour;
 pub use receive::receive_on;
 pub use send::send_on;
+pub use terms::{ConnectTerms, ReceiveTerms, SendTerms};
+pub use waiting::AwaitListener;

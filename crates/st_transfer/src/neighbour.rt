@@ -1,14 +1,20 @@
-//! Where neighbours are reached.
+//! Where a neighbour is reached.
 
 ghost use Rattle.std.specs.Prelude.{◌≡◌, ◌↔◌, IsTrue, IsSome, IfSome};
 ghost use Rattle.st_http.specs.Texts as texts;
 
+use st_desk::Link;
+use st_hop::Outcome;
 use st_http::is_field_text;
+use st_ilp::Moment;
 use st_link::HttpLink;
 use std::alloc::{AllocError, Global};
-use std::net::Net;
+use std::net::{Net, SocketAddr};
+use std::sync::{Mutex, Wait};
+use std::time::Clock;
 
-/// Where a neighbour is reached, as HOST:PORT, and the token that it knows this side by.
+/// The address of a neighbour, written HOST:PORT, and the bearer token by which the neighbour knows this side (RFC
+/// 0035).
 #[derive(Clone, Copy)]
 pub struct Neighbour<'a> {
     host: &'a str,
@@ -18,7 +24,8 @@ pub struct Neighbour<'a> {
 }
 
 impl<'a> Neighbour<'a> {
-    /// A neighbour, or `None` where one of the texts is none that a request may have (`is_field_text`).
+    /// Makes a neighbour. Returns `None` where one of the two texts may not stand in a request: each is to have 1 to
+    /// 255 characters from 0x21 to 0x7e (`st_http::is_field_text`).
     pub fn new(host: &'a str, token: &'a str) -> Option<Neighbour<'a>>
         ensures taken { IsSome result ↔ (IsTrue (texts.is_field_text host.now) × IsTrue (texts.is_field_text token.now)) }
         ensures parts { IfSome result (λ n. (n.host.now ≡ host.now) × (n.token.now ≡ token.now)) }
@@ -33,8 +40,8 @@ impl<'a> Neighbour<'a> {
     }
 }
 
-/// A link to a neighbour, by at most `turns` calls of a stream for each exchange.
-pub(crate) fn link_to<'n, N: Net>(
+/// A link to a neighbour, with at most `turns` I/O calls of its TCP stream for each exchange.
+pub(crate) fn link_to<'n, N: Net + Clock>(
     alloc: Global,
     net: &'n N,
     neighbour: Neighbour<'_>,
@@ -43,20 +50,68 @@ pub(crate) fn link_to<'n, N: Net>(
     HttpLink::new(alloc, alloc, net, neighbour.host, neighbour.token, turns)
 }
 
-/// A link for each account: to its neighbour, or to nobody where it has none.
-pub(crate) fn links_to<'n, N: Net>(
-    alloc: Global,
-    net: &'n N,
-    neighbours: &[Option<Neighbour<'_>>],
+/// What the links of a connector share: where each account is reached, and to which address its host's name was
+/// resolved last.
+#[derive(Drop)]
+pub(crate) struct Neighbourhood<'a> {
+    neighbours: &'a [Option<Neighbour<'a>>],
+    addresses: Mutex<Vec<Option<SocketAddr>>>,
     turns: u64,
-) -> Result<Vec<HttpLink<'n, N, Global>>, AllocError> {
-    let mut links = Vec::new(alloc);
-    for neighbour in neighbours {
-        let link = match neighbour {
-            Some(neighbour) => link_to(alloc, net, *neighbour, turns)?,
-            None => HttpLink::nowhere(alloc, alloc, net),
-        };
-        links.push(link)?;
+}
+
+impl<'a> Neighbourhood<'a> {
+    /// The neighbours of a connector, by account, with at most `turns` I/O calls of a TCP stream for each exchange.
+    pub(crate) fn new(
+        alloc: Global,
+        neighbours: &'a [Option<Neighbour<'a>>],
+        turns: u64,
+    ) -> Result<Neighbourhood<'a>, AllocError> {
+        let mut addresses = Vec::new(alloc);
+        for _ in neighbours {
+            addresses.push(None)?;
+        }
+        Ok(Neighbourhood {
+            neighbours,
+            addresses: Mutex::new(addresses),
+            turns,
+        })
     }
-    Ok(links)
+
+    /// The address at which an account was reached last.
+    fn address(&self, rt: &impl Wait, account: usize) -> Option<SocketAddr> {
+        let addresses = self.addresses.lock(rt);
+        addresses.get(account).copied().flatten()
+    }
+
+    /// Notes the address at which an account was reached, or that it was not.
+    fn set_address(&self, rt: &impl Wait, account: usize, address: Option<SocketAddr>) {
+        let mut addresses = self.addresses.lock(rt);
+        if let Some(place) = addresses.get_mut(account) {
+            *place = address;
+        }
+    }
+
+    /// One exchange with the neighbour behind an account, over a link of its own.
+    pub(crate) fn exchange<R: Net + Wait + Clock>(
+        &self,
+        rt: &R,
+        alloc: Global,
+        account: usize,
+        bytes: &[u8],
+        by: Moment,
+    ) -> Outcome<Global> {
+        let Some(Some(neighbour)) = self.neighbours.get(account) else {
+            return Outcome::Fault;
+        };
+        let Ok(mut link) = link_to(alloc, rt, *neighbour, self.turns) else {
+            return Outcome::Fault;
+        };
+        link.set_address(self.address(rt, account));
+        let answer = link.exchange(bytes, by);
+        self.set_address(rt, account, link.address());
+        match answer {
+            Ok(answer) => Outcome::Answered(answer),
+            Err(_) => Outcome::Fault,
+        }
+    }
 }

@@ -1,102 +1,161 @@
 //! The command `receive`.
 
-ghost use Rattle.std.specs.Prelude.{◌≡◌, true, OnOk};
+ghost use Rattle.std.specs.Prelude.{◌≡◌, ◌+◌, ◌<◌, true, OnOk, IfErr, IsSome, MatchResult, Err};
 ghost use Rattle.st_oer.specs.Tallies.{device_of, tally_of};
 ghost use Rattle.st_end.specs.Calls as calls;
 ghost use Rattle.st_end.specs.Seen.{totals_seen};
-ghost use Rattle.st_transfer.specs.Keeping.{Receives, ReceivesFrom, TellsTotals, faults_told, file_stream};
+ghost use Rattle.st_transfer.specs.Keeping.{IsAsked, Receives, ReceivesFrom, TellsTotals, faults_told, file_stream};
+ghost use Rattle.st_transfer.specs.declared.error.TransferError.TheVariants.{Accept, Silent, Turns};
 
 use crate::delivery::{Delivered, STREAM, deliver};
+use crate::ended::Ended;
 use crate::error::TransferError;
 use crate::receiver::Receiver;
-use crate::serving::serve_next;
+use crate::serving::{ServeTerms, accept_next, serve_within};
+use crate::terms::ReceiveTerms;
+use crate::waiting::{AwaitListener, Patience};
 use st_desk::Clock;
-use st_end::{EndState, Totals};
+use st_end::EndState;
 use st_oer::Counting;
 use std::alloc::Global;
 use std::io::{Read, Write};
-use std::net::{OpenListener, OpenStream};
+use std::net::OpenStream;
 
-/// Takes requests and delivers, until the stream ended.
-fn receive_all<L: OpenListener, W: Write, K: Clock>(
+/// Waits for the next connection, and serves its request. `connections` is the number of those that may be accepted.
+fn serve_next<L: AwaitListener, K: Clock>(
+    rt: &impl std::time::Clock,
     listener: &L,
-    token: &str,
+    patience: &Patience,
+    receiver: &mut Receiver<K>,
+    terms: ReceiveTerms<'_>,
+    connections: &mut u64,
+) -> Result<(), TransferError>
+where
+    L::Stream: Read + Write + OpenStream,
+    requires { 0 < connections.old }
+    ensures asked { IsAsked receiver.old receiver.new }
+    ensures silent { IfErr result (λ e. e ≡ Silent → IsSome patience.now.time) }
+    ensures connections { MatchResult result (λ _. connections.new + 1 ≡ connections.old) (λ _. connections.new ≡ connections.old) }
+{
+    let time = patience.wait(rt, listener)?;
+    let stream = accept_next(rt, listener)?;
+    *connections -= 1;
+    let tokens = [terms.token];
+    let terms = ServeTerms {
+        tokens: &tokens,
+        turns: terms.turns,
+        time,
+    };
+    serve_within(rt, receiver.alloc, stream, receiver, terms);
+    Ok(())
+}
+
+/// Takes requests and writes what arrives, until the stream ended. `connections` is the number of those that may be
+/// accepted.
+fn receive_all<L: AwaitListener, W: Write, K: Clock>(
+    rt: &impl std::time::Clock,
+    listener: &L,
     receiver: &mut Receiver<K>,
     writer: &mut Counting<W>,
-    turns: u64,
+    terms: ReceiveTerms<'_>,
+    connections: &mut u64,
 ) -> Result<u64, TransferError>
 where
     L::Stream: Read + Write + OpenStream,
     ensures told { Receives receiver.old.end receiver.new.end (W.contents (device_of writer.old)) (W.contents (device_of writer.new)) result }
     ensures flushed { OnOk result ((tally_of writer.new).flushed ≡ true) }
     ensures faults { (tally_of writer.new).faults ≡ faults_told result (tally_of writer.old).faults }
+    ensures patient { result ≡ Err Silent → IsSome terms.entry.patience }
+    ensures turned { result ≡ Err Turns → connections.new ≡ 0 }
+    ensures unaccepted { result ≡ Err Accept → 0 < connections.new }
 {
     let mut written = 0;
-    for _ in 0..turns {
-        let mut left = turns;
-        if serve_next(receiver.alloc, listener, &[token], receiver, turns).is_err() {
-            return Err(TransferError::Accept);
+    let mut patience = Patience::new(rt, terms.patience);
+    while *connections > 0 {
+        let mut left = terms.turns;
+        let asked = receiver.asked;
+        match serve_next(rt, listener, &patience, receiver, terms, connections) {
+            Ok(()) => {}
+            Err(TransferError::Silent) => return Err(TransferError::Silent),
+            Err(_) => return Err(TransferError::Accept),
         }
         match deliver(&mut receiver.end, writer, &mut written, &mut left) {
             Ok(Delivered::More) => {}
             Ok(Delivered::Whole) => return Ok(written),
             Err(error) => return Err(error),
         }
+        if receiver.asked != asked {
+            patience.renew(rt);
+        }
     }
     Err(TransferError::Turns)
 }
 
-/// Sets the stream's receive max, and then takes requests and delivers.
-fn receive_from<L: OpenListener, W: Write, K: Clock>(
+/// Sets the stream's receive maximum, then takes requests and writes what arrives.
+fn receive_from<L: AwaitListener, W: Write, K: Clock>(
+    rt: &impl std::time::Clock,
     listener: &L,
-    token: &str,
     receiver: &mut Receiver<K>,
-    receive_max: u64,
     writer: &mut Counting<W>,
-    turns: u64,
+    terms: ReceiveTerms<'_>,
 ) -> Result<u64, TransferError>
 where
     L::Stream: Read + Write + OpenStream,
-    ensures told { ReceivesFrom (calls.set_receive_max receiver.old.end file_stream receive_max) receiver.new.end (W.contents (device_of writer.old)) (W.contents (device_of writer.new)) result }
+    ensures told { ReceivesFrom (calls.set_receive_max receiver.old.end file_stream terms.entry.receive_max) receiver.new.end (W.contents (device_of writer.old)) (W.contents (device_of writer.new)) result }
     ensures flushed { OnOk result ((tally_of writer.new).flushed ≡ true) }
     ensures faults { (tally_of writer.new).faults ≡ faults_told result (tally_of writer.old).faults }
+    ensures patient { result ≡ Err Silent → IsSome terms.entry.patience }
 {
-    match receiver.end.set_receive_max(STREAM, receive_max) {
-        Ok(()) => receive_all(listener, token, receiver, writer, turns),
+    match receiver.end.set_receive_max(STREAM, terms.receive_max) {
+        Ok(()) => {
+            let mut connections = terms.turns;
+            receive_all(rt, listener, receiver, writer, terms, &mut connections)
+        }
         Err(error) => Err(TransferError::End(error)),
     }
 }
 
-/// Answers the requests that come to a listener with this token, one after another, from an end that sends no Prepare of
-/// its own, and writes what comes on stream 1 to the output: after each request what can be read then, before the next is
-/// taken. Stream 1 may be credited up to `receive_max` units. It answers how many bytes it wrote, once the stream ended
-/// cleanly and the request that brought the end was answered.
+/// Runs a receiver: answers the requests with the bearer token of the terms that arrive at `listener`, one after
+/// another, over ILP over HTTP (RFC 0035, the synchronous mode). The answers come from `end`, which sends no Prepare of
+/// its own. The bytes that arrive on stream 1 are written to `writer` (RFC 0029): after each request what can be read
+/// then, before the next connection is accepted. The result is the number of bytes written, once the stream ended
+/// cleanly and the request that brought its end was answered.
 ///
-/// At most `turns` connections are taken, each of at most `turns` calls of its stream, and after each stream 1 and the
-/// output are called at most `turns` times together. A connection that fails, is cut off or uses up its turns ends alone.
+/// `clock` gives the moments at which Prepares arrive. `rt` is the runtime that measures time: a request may take 30
+/// seconds as a whole, and no longer than the receiver's patience. A valid request is one that is answered by the end:
+/// the patience begins again once what it brought is written. After each request, stream 1 and the output together are
+/// called at most `terms.turns` times. A connection that fails, is cut off, is too slow or uses up its I/O calls ends
+/// alone.
 ///
-/// Refuses with `Accept` where the listener gives no connection, with `Turns` after the last of the connections, with
-/// `File` where the output fails or its turns are used up, and where the peer aborted the stream, and with `End` where
-/// there was no memory to read the stream. `totals` are then those of the end, whatever the answer is.
-pub fn receive_on<L: OpenListener + Drop, W: Write, K: Clock + Drop>(
+/// The result is `Accept` where the listener gives no connection 100 times in a row; `Silent` where no valid request
+/// arrived for as long as the patience lasts; `Turns` after the last connection; `File` where the output fails or its
+/// calls are used up, and where the peer aborted the stream; `End` where `end` refuses the receive maximum, or memory to
+/// read the stream is refused. What arrived before is written.
+pub fn receive_on<L: AwaitListener + Drop, W: Write, K: Clock + Drop>(
+    rt: &impl std::time::Clock,
     alloc: Global,
     listener: L,
-    token: &str,
     end: EndState<Global>,
-    receive_max: u64,
     writer: &mut Counting<W>,
     clock: K,
-    turns: u64,
-    totals: &mut Totals,
-) -> Result<u64, TransferError>
+    terms: ReceiveTerms<'_>,
+) -> Ended
 where
     L::Stream: Read + Write + OpenStream,
-    ensures told { TellsTotals (calls.set_receive_max end file_stream receive_max) (W.contents (device_of writer.old)) (W.contents (device_of writer.new)) (totals_seen totals.new) result }
-    ensures flushed { OnOk result ((tally_of writer.new).flushed ≡ true) }
-    ensures faults { (tally_of writer.new).faults ≡ faults_told result (tally_of writer.old).faults }
+    ensures told { TellsTotals (calls.set_receive_max end file_stream terms.entry.receive_max) (W.contents (device_of writer.old)) (W.contents (device_of writer.new)) (totals_seen result.totals) result.result }
+    ensures flushed { OnOk result.result ((tally_of writer.new).flushed ≡ true) }
+    ensures faults { (tally_of writer.new).faults ≡ faults_told result.result (tally_of writer.old).faults }
+    ensures patient { result.result ≡ Err Silent → IsSome terms.entry.patience }
 {
-    let mut receiver = Receiver { end, clock, alloc };
-    let result = receive_from(&listener, token, &mut receiver, receive_max, writer, turns);
-    *totals = receiver.end.totals();
-    result
+    let mut receiver = Receiver {
+        end,
+        clock,
+        alloc,
+        asked: 0,
+    };
+    let result = receive_from(rt, &listener, &mut receiver, writer, terms);
+    Ended {
+        result,
+        totals: receiver.end.totals(),
+    }
 }

@@ -5,13 +5,15 @@ use st_end::{EndState, Received};
 use st_http::Answerer;
 use std::alloc::Global;
 
-/// An end of a connection that answers the Prepares of its peer. Where memory is refused it answers T00, and where there
-/// is none for that either, nothing.
+/// An end of a connection that answers the Prepares of its peer. Where memory is refused it answers with a Reject of
+/// code T00, and where there is no memory for that either, it gives no answer.
 #[derive(Drop)]
 pub(crate) struct Receiver<K: Clock> {
     pub(crate) end: EndState<Global>,
     pub(crate) clock: K,
     pub(crate) alloc: Global,
+    /// The number of requests that it was asked to answer.
+    pub(crate) asked: u64,
 }
 
 impl<K: Clock> Answerer for Receiver<K> {
@@ -20,6 +22,7 @@ impl<K: Clock> Answerer for Receiver<K> {
     ghost gives = { λ old _ body answer new. Answers old.end body answer new.end };
 
     fn answer(&mut self, _account: usize, body: &[u8]) -> Option<Vec<u8>> {
+        self.asked = self.asked.saturating_add(1);
         let now = self.clock.now();
         match self.end.receive(body, now) {
             Ok(Received { bytes, .. }) => Some(bytes),

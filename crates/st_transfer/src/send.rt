@@ -1,6 +1,6 @@
 //! The command `send`.
 
-ghost use Rattle.std.specs.Prelude.{◌≡◌, ℕ, length, IfOk, IfSome};
+ghost use Rattle.std.specs.Prelude.{◌≡◌, ℕ, length, Err, IfOk, IfSome};
 ghost use Rattle.st_queues.specs.Lanes.{ring_at};
 ghost use Rattle.st_end.specs.Totals as totals;
 ghost use Rattle.st_file.specs.Errors.{counted};
@@ -9,18 +9,18 @@ ghost use Rattle.st_transfer.specs.Keeping.{file_stream};
 ghost use Rattle.st_transfer.specs.Outcomes as outcomes;
 
 use crate::delivery::STREAM;
+use crate::ended::Ended;
 use crate::error::TransferError;
 use crate::inlet::{Inlet, Until};
 use crate::ivs::ReaderIvs;
-use crate::neighbour::Neighbour;
 use crate::terms::SendTerms;
 use crate::workers::work_alone;
 use st_end::{EndState, Totals};
 use st_file::{FileError, send_all};
-use st_hub::{HubState, Ivs, WorkEnd};
+use st_hub::{Bench, HubState, Ivs, WorkEnd};
 use st_oer::Counting;
 use st_queues::{Gauge, GaugeSeat, HubName, Rings, StreamWriter};
-use std::alloc::{AllocError, Global};
+use std::alloc::Global;
 use std::io::Read;
 use std::marker::Brand;
 use std::net::{Net, TcpListener, TcpStream};
@@ -29,7 +29,7 @@ use std::sync::{Mutex, Wait};
 use std::thread;
 use std::thread::Threads;
 
-/// Which fault a worker's end is, if it is one.
+/// The error for why a worker ended, where it is an error.
 fn fault_of(end: WorkEnd) -> Option<TransferError>
     ensures { result ≡ outcomes.fault_of end }
 {
@@ -39,10 +39,12 @@ fn fault_of(end: WorkEnd) -> Option<TransferError>
         WorkEnd::IvFault => Some(TransferError::IvFault),
         WorkEnd::NoMemory => Some(TransferError::NoMemory),
         WorkEnd::Turns => Some(TransferError::Turns),
+        WorkEnd::Settled => None,
+        WorkEnd::Stalled => Some(TransferError::Stalled),
     }
 }
 
-/// The first fault of the workers, or else the last one.
+/// The first error of the workers, or else the last argument.
 fn first_fault(ends: &[WorkEnd], last: TransferError) -> TransferError
     ensures { result ≡ outcomes.first_fault ends.now last }
 {
@@ -55,7 +57,7 @@ fn first_fault(ends: &[WorkEnd], last: TransferError) -> TransferError
     }
 }
 
-/// The fault of the connection, or else the first of the workers, or else the last one.
+/// The error of the connection, or else the first of the workers, or else the last argument.
 fn fault_told(failed: bool, ends: &[WorkEnd], last: TransferError) -> TransferError
     ensures { result ≡ outcomes.fault_told failed ends.now last }
 {
@@ -65,7 +67,7 @@ fn fault_told(failed: bool, ends: &[WorkEnd], last: TransferError) -> TransferEr
     first_fault(ends, last)
 }
 
-/// What a transfer came to.
+/// The result of a transfer.
 fn told<N: HubName<Global>>(
     hub: &HubState<N, Global>,
     fed: Result<u64, FileError>,
@@ -84,10 +86,11 @@ fn told<N: HubName<Global>>(
     }
 }
 
-/// Puts the input into the ring of its stream. Where that fails, the workers are asked to stop.
-fn feed<I: Read + Drop, N: HubName<Global>, R: std::time::Clock>(
+/// Moves the input to the ring of its stream. Where that fails, the workers are asked to stop.
+fn feed<I: Read + Drop, N: HubName<Global>, R: Wait + std::time::Clock>(
     rt: &R,
     alloc: Global,
+    bench: &Bench<N, Global>,
     input: I,
     writer: StreamWriter<N, Global>,
     gauge: &Gauge<N, Global>,
@@ -103,40 +106,17 @@ fn feed<I: Read + Drop, N: HubName<Global>, R: std::time::Clock>(
     });
     let mut inlet = Inlet {
         rt,
+        bench,
         writer,
         gauge,
         seat: gauge.split(seat),
-        aside: Vec::new(alloc),
-        is_stopped: false,
-        is_ended: false,
     };
     let fed = send_all(alloc, &mut reader, &mut inlet, turns);
     if fed.is_err() {
         gauge.ask_stop(seat);
+        bench.wake_all(rt);
     }
     fed
-}
-
-/// Has so many workers work, each in a thread of its own.
-fn work_by<
-    N: HubName<Global> + Send + Sync,
-    I: Ivs + Send,
-    R: Net<Listener = TcpListener, Stream = TcpStream> + Threads + Wait + std::time::Clock + Sync,
->(
-    rt: &R,
-    alloc: Global,
-    hub: &Mutex<HubState<N, Global>>,
-    gauge: &Gauge<N, Global>,
-    seat: &Mutex<GaugeSeat<N, Global>>,
-    ivs: &Mutex<I>,
-    terms: SendTerms<'_>,
-) -> Result<Vec<WorkEnd>, AllocError> {
-    thread::map_indices(
-        rt,
-        alloc,
-        usize::from(terms.workers),
-        &|_| { work_alone(rt, alloc, hub, gauge, seat, ivs, terms) },
-    )
 }
 
 /// A hub whose stream 1 is open, with the writer of that stream, and a gauge of the hub.
@@ -188,51 +168,99 @@ fn open<N: HubName<Global>>(
     }
 }
 
-/// Feeds the stream while the workers work: what they came to, and what was fed.
+/// What the threads of a transfer share.
+#[derive(Drop)]
+struct Shared<'a, N: HubName<Global>, G> {
+    alloc: Global,
+    bench: Bench<N, Global>,
+    gauge: Gauge<N, Global>,
+    /// The seat at the gauge from which each worker gets its own.
+    seat: Mutex<GaugeSeat<N, Global>>,
+    ivs: Mutex<ReaderIvs<G>>,
+    /// Why the workers ended, in the order in which they did.
+    ends: Mutex<Vec<WorkEnd>>,
+    terms: SendTerms<'a>,
+}
+
+/// Notes why a worker ended, where there is room for that.
+fn note_end<N: HubName<Global>, G>(rt: &impl Wait, shared: &Shared<'_, N, G>, end: WorkEnd) {
+    let _ = shared.ends.lock(rt).push(end);
+}
+
+/// Runs one worker, and notes why it ended.
+fn work_noting<N: HubName<Global>, G: Read, R: Net + Wait + std::time::Clock>(
+    rt: &R,
+    shared: &Shared<'_, N, G>,
+) {
+    let Shared {
+        alloc,
+        bench,
+        gauge,
+        seat,
+        ivs,
+        terms,
+        ..
+    } = shared;
+    let end = work_alone(rt, *alloc, bench, gauge, seat, ivs, *terms);
+    note_end(rt, shared, end);
+}
+
+/// Moves the input to the ring while the workers send, each in a thread of its own. Where not as many threads can be made,
+/// fewer workers send; where none can, nothing is sent. Returns how much input was moved.
 fn feed_beside<
+    'a,
     N: HubName<Global> + Send + Sync,
     I: Read + Drop,
     G: Read + Drop + Send,
     R: Net<Listener = TcpListener, Stream = TcpStream> + Threads + Wait + std::time::Clock + Sync,
 >(
-    rt: &R,
-    alloc: Global,
-    hub: &Mutex<HubState<N, Global>>,
+    rt: &'a R,
+    shared: &'a Shared<'a, N, G>,
     writer: StreamWriter<N, Global>,
-    gauge: &Gauge<N, Global>,
-    seat: &mut GaugeSeat<N, Global>,
+    seat: GaugeSeat<N, Global>,
     input: I,
-    random: G,
-    terms: SendTerms<'_>,
-) -> (Result<Vec<WorkEnd>, AllocError>, Result<u64, FileError>)
-    ensures { IfOk result.1 (λ n. IfSome (I.remaining input) (λ bytes. n ≡ counted (length bytes))) }
+) -> Result<u64, FileError>
+    ensures { IfOk result (λ n. IfSome (I.remaining input) (λ bytes. n ≡ counted (length bytes))) }
 {
-    let theirs = Mutex::new(gauge.split(seat));
-    let ivs = Mutex::new(ReaderIvs::new(random));
-    thread::join(
+    thread::scope(
+        thread::scope_env(),
         rt,
-        || work_by(rt, alloc, hub, gauge, &theirs, &ivs, terms),
-        || feed(rt, alloc, input, writer, gauge, seat, terms.turns),
+        move |scope| -> Result<u64, FileError>
+            ensures { IfOk result (λ n. IfSome (I.remaining input) (λ bytes. n ≡ counted (length bytes))) }
+        {
+            let mut own = seat;
+            let mut has_worker = false;
+            for _ in 0..shared.terms.workers {
+                has_worker |= scope.spawn(move || work_noting(rt, shared)).is_ok();
+            }
+            if !has_worker {
+                note_end(rt, shared, WorkEnd::NoMemory);
+                shared.gauge.ask_stop(&mut own);
+            }
+            let (alloc, turns) = (shared.alloc, shared.terms.turns);
+            feed(
+                rt,
+                alloc,
+                &shared.bench,
+                input,
+                writer,
+                &shared.gauge,
+                &mut own,
+                turns,
+            )
+        },
     )
 }
 
-/// Sends over an opened hub, and tells its totals then.
+/// Sends over an open hub.
 #[tactic(auto, using(crate::proofs::Outcomes::sent_whole))]
 fn transfer<
     N: HubName<Global> + Send + Sync,
     I: Read + Drop,
     G: Read + Drop + Send,
     R: Net<Listener = TcpListener, Stream = TcpStream> + Threads + Wait + std::time::Clock + Sync,
->(
-    rt: &R,
-    alloc: Global,
-    opened: Opened<N>,
-    input: I,
-    random: G,
-    terms: SendTerms<'_>,
-    totals: &mut Totals,
-) -> Result<u64, TransferError>
-    ensures { IfOk result (λ n. IfSome (I.remaining input) (λ bytes. n ≡ counted (length bytes))) }
+>(rt: &R, alloc: Global, opened: Opened<N>, input: I, random: G, terms: SendTerms<'_>) -> Ended
+    ensures { IfOk result.result (λ n. IfSome (I.remaining input) (λ bytes. n ≡ counted (length bytes))) }
 {
     let Opened {
         hub,
@@ -240,15 +268,38 @@ fn transfer<
         gauge,
         mut seat,
     } = opened;
-    let hub = Mutex::new(hub);
-    let (ends, fed) = feed_beside(
-        rt, alloc, &hub, writer, &gauge, &mut seat, input, random, terms,
-    );
-    let hub = hub.into_inner();
-    *totals = hub.totals();
-    match ends {
-        Ok(ends) => told(&hub, fed, &ends),
-        Err(_) => Err(TransferError::NoMemory),
+    let theirs = gauge.split(&mut seat);
+    let shared = Shared {
+        alloc,
+        bench: Bench::new(hub),
+        gauge,
+        seat: Mutex::new(theirs),
+        ivs: Mutex::new(ReaderIvs::new(random)),
+        ends: Mutex::new(Vec::new(alloc)),
+        terms,
+    };
+    let fed = feed_beside(rt, &shared, writer, seat, input);
+    let Shared { bench, ends, .. } = shared;
+    let hub = bench.into_hub();
+    let result = told(&hub, fed, &ends.into_inner());
+    Ended {
+        result,
+        totals: hub.totals(),
+    }
+}
+
+/// A transfer that did not begin.
+fn refused(error: TransferError) -> Ended
+    ensures { result.result ≡ Err error }
+{
+    Ended {
+        result: Err(error),
+        totals: Totals {
+            accepted: 0,
+            delivered: 0,
+            credited: 0,
+            paid: 0,
+        },
     }
 }
 
@@ -267,67 +318,46 @@ fn run<
     input: I,
     random: G,
     terms: SendTerms<'_>,
-    totals: &mut Totals,
-) -> Result<u64, TransferError>
+) -> Ended
     requires fresh { IsNew end }
     requires gauge { rings.gauge ≡ N.gauge }
     requires writes { (k : ℕ) → N.write_ring k ≡ ring_at rings.writes k }
     requires reads { (k : ℕ) → N.read_ring k ≡ ring_at rings.reads k }
     requires name { (blank.name ≡ N.name) × (blank.parts ≡ N.parts) × (blank.parts ≡ 64) }
-    ensures { IfOk result (λ n. IfSome (I.remaining input) (λ bytes. n ≡ counted (length bytes))) }
+    ensures { IfOk result.result (λ n. IfSome (I.remaining input) (λ bytes. n ≡ counted (length bytes))) }
 {
     match open::<N>(end, rings, blank, terms.money) {
-        Ok(opened) => transfer(rt, alloc, opened, input, random, terms, totals),
-        Err(error) => Err(error),
+        Ok(opened) => transfer(rt, alloc, opened, input, random, terms),
+        Err(error) => refused(error),
     }
 }
 
-/// Sends an input on stream 1 of a new connection, closed cleanly, and so many units of money on it, by so many workers
-/// that exchange with one neighbour. Each Prepare is sealed under an IV of twelve bytes that are read from `random`. It
-/// answers how many bytes were sent, once the stream's close was fulfilled.
+/// Runs a sender: sends `input` on stream 1 of a new connection, which is then closed cleanly, and the money of the terms
+/// on the same stream (RFC 0029). Several workers share the hub of `end` and exchange Prepares with one neighbour over
+/// ILP over HTTP (RFC 0035, the synchronous mode). Gives the number of bytes sent, once the stream's close was
+/// fulfilled, and the totals of the end. A transfer that did not begin has totals of 0.
 ///
-/// The workers take at most `turns` turns each, an exchange takes at most so many calls of its stream, and so does the
-/// input. Refuses with `Failed` where the connection failed, with `IvFault` where `random` failed or ended, with `File`
-/// where the input could not be read whole, with `Turns`, and with `NoMemory`; with `End` where the end refuses the
-/// stream or the money. It waits for its workers. Once the stream was open, `totals` are then those of the end, whatever
-/// the answer is.
+/// - `random`: where the IVs are read from, 12 bytes for each; each Prepare is sealed under one of its own.
+/// - `input`: where it has nothing yet for some time, its read is to fail with `Interrupted`, so that a transfer whose
+///   connection failed ends: it is read again then, unless the workers ended.
+///
+/// Each worker has a thread. Where not as many threads can be made, fewer workers send. The call waits for them.
+///
+/// Fails with `Failed` where the connection failed; with `Stalled` where the limits of the peer let nothing of the rest be
+/// sent, and no Prepare is in flight; with `IvFault` where `random` failed or ended; with `File` where the input was
+/// not read whole; with `Turns` where the workers' turns were used up; with `End` where the end refuses the stream or
+/// the money; with `Rings` where memory for the rings is refused; with `NoMemory` where other memory is, or no thread
+/// can be made.
 pub fn send_on<
     I: Read + Drop,
     G: Read + Drop + Send,
     R: Net<Listener = TcpListener, Stream = TcpStream> + Threads + Wait + std::time::Clock + Sync,
->(
-    rt: &R,
-    alloc: Global,
-    end: EndState<Global>,
-    neighbour: Neighbour<'_>,
-    input: I,
-    random: G,
-    money: u64,
-    count: u8,
-    turns: u64,
-    totals: &mut Totals,
-) -> Result<u64, TransferError>
+>(rt: &R, alloc: Global, end: EndState<Global>, input: I, random: G, terms: SendTerms<'_>) -> Ended
     requires fresh { IsNew end }
-    ensures whole { IfOk result (λ n. IfSome (I.remaining input) (λ bytes. n ≡ counted (length bytes))) }
+    ensures whole { IfOk result.result (λ n. IfSome (I.remaining input) (λ bytes. n ≡ counted (length bytes))) }
 {
     let Ok(rings) = Rings::new(alloc) else {
-        return Err(TransferError::NoMemory);
+        return refused(TransferError::Rings);
     };
-    let terms = SendTerms {
-        neighbour,
-        money,
-        workers: count,
-        turns,
-    };
-    run::<Brand, I, G, R>(
-        rt,
-        alloc,
-        end,
-        rings,
-        Blank::new(64),
-        input,
-        random,
-        terms,
-        totals,
-    )
+    run::<Brand, I, G, R>(rt, alloc, end, rings, Blank::new(64), input, random, terms)
 }

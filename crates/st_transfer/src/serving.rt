@@ -1,44 +1,123 @@
-//! One request of one connection.
+//! How connections are accepted, and how the request of one connection is served.
 
-ghost use Rattle.std.specs.Prelude.{◌≡◌, IsOkUnless};
+ghost use Rattle.std.specs.Prelude.{◌≡◌, ⊤, IsOkUnless, MatchBool};
 ghost use Rattle.st_transfer.specs.Answering.{AskedOnce};
 ghost use Rattle.st_transfer.specs.declared.error.TransferError.TheVariants.{Accept};
 
 use crate::error::TransferError;
-use st_http::{Answerer, serve_one};
-use st_link::ANSWER_SECONDS;
+use st_http::{Answerer, HttpError, serve_one};
+use st_link::{ANSWER_SECONDS, Buffered, Timed};
 use st_oer::Counting;
 use std::alloc::Global;
 use std::io::{Read, Write};
 use std::net::{OpenListener, OpenStream};
-use std::time::Duration;
+use std::thread;
+use std::time::{Clock, Duration};
 
-/// Bounds how long a connection may be silent, and take nothing. False where the system refused.
-fn set_patience(stream: &impl OpenStream) -> bool {
-    let patience = Some(Duration::from_secs(ANSWER_SECONDS));
-    stream.set_read_timeout(patience).is_ok() && stream.set_write_timeout(patience).is_ok()
+/// How often in a row `accept` may fail.
+const TRIES: u32 = 100;
+
+/// How many milliseconds pass between two tries.
+const PAUSE: u64 = 10;
+
+/// Accepts the next connection of a listener. Where that fails, for example because the process has no file descriptor
+/// left, it tries again after 10 milliseconds. Fails with `Accept` after 100 failures in a row.
+pub(crate) fn accept_next<L: OpenListener>(
+    rt: &impl Clock,
+    listener: &L,
+) -> Result<L::Stream, TransferError>
+    ensures refused { IsOkUnless result Accept }
+{
+    for _ in 0..TRIES {
+        if let Ok((stream, _)) = listener.accept() {
+            return Ok(stream);
+        }
+        thread::sleep(rt, Duration::from_millis(PAUSE));
+    }
+    Err(TransferError::Accept)
 }
 
-/// Takes the next connection and serves its request, by at most `turns` calls of its stream. What goes wrong on a
-/// connection ends that connection alone. Refused is a connection that cannot be accepted.
-pub(crate) fn serve_next<L: OpenListener, T: Answerer>(
+/// How the request of a connection is served.
+#[derive(Clone, Copy)]
+pub(crate) struct ServeTerms<'a> {
+    /// The bearer token of each account.
+    pub(crate) tokens: &'a [&'a str],
+    /// The most I/O calls.
+    pub(crate) turns: u64,
+    /// How long it may take as a whole, up to 30 seconds.
+    pub(crate) time: Duration,
+}
+
+/// Reads one request from a stream, has it answered where it is valid, and writes the response. Returns whether a request
+/// came whole.
+#[tactic(auto, using(crate::proofs::Unanswered::asked_served))]
+fn serve_stream<S: Read + Write, T: Answerer>(
     alloc: Global,
-    listener: &L,
+    stream: &mut Counting<S>,
+    answerer: &mut T,
+    terms: ServeTerms<'_>,
+) -> bool
+    ensures asked { AskedOnce T.gives answerer.old answerer.new }
+    ensures unasked { MatchBool result ⊤ (answerer.new ≡ answerer.old) }
+{
+    match serve_one(alloc, alloc, stream, terms.tokens, answerer, terms.turns) {
+        Ok(()) => true,
+        Err(HttpError::ReadFault | HttpError::Cut) => false,
+        Err(_) => true,
+    }
+}
+
+/// Reads one request from a connection, has it answered where it is valid, and writes the response (RFC 0035, the
+/// synchronous mode). What fails on the connection ends it alone.
+///
+/// Returns whether a request came whole, be it answered or refused. False where the connection ended, failed or was
+/// silent before that, and where memory for its buffer is refused.
+pub(crate) fn serve_within<S: Read + Write + OpenStream + Drop, T: Answerer>(
+    rt: &impl Clock,
+    alloc: Global,
+    stream: S,
+    answerer: &mut T,
+    terms: ServeTerms<'_>,
+) -> bool
+    ensures asked { AskedOnce T.gives answerer.old answerer.new }
+    ensures unasked { MatchBool result ⊤ (answerer.new ≡ answerer.old) }
+{
+    let _ = stream.set_nodelay(true);
+    let time = terms.time.min(Duration::from_secs(ANSWER_SECONDS));
+    let Ok(buffered) = Buffered::new(alloc, Timed::new(stream, rt, time)) else {
+        return false;
+    };
+    let mut stream = Counting::new(buffered);
+    serve_stream(alloc, &mut stream, answerer, terms)
+}
+
+/// Reads one request from a connection, has it answered where it is valid, and writes the response (RFC 0035, the
+/// synchronous mode). All of it may take 30 seconds, and at most `turns` I/O calls. What fails on the connection ends it
+/// alone.
+///
+/// Returns whether a request came whole, be it answered or refused. False where the connection ended, failed or was
+/// silent before that, and where memory for its buffer is refused.
+pub(crate) fn serve_on<S: Read + Write + OpenStream + Drop, T: Answerer>(
+    rt: &impl Clock,
+    alloc: Global,
+    stream: S,
     tokens: &[&str],
     answerer: &mut T,
     turns: u64,
-) -> Result<(), TransferError>
-where
-    L::Stream: Read + Write + OpenStream,
+) -> bool
     ensures asked { AskedOnce T.gives answerer.old answerer.new }
-    ensures refused { IsOkUnless result Accept }
+    ensures unasked { MatchBool result ⊤ (answerer.new ≡ answerer.old) }
 {
-    let Ok((stream, _)) = listener.accept() else {
-        return Err(TransferError::Accept);
-    };
-    if set_patience(&stream) {
-        let mut stream = Counting::new(stream);
-        let _ = serve_one(alloc, alloc, &mut stream, tokens, answerer, turns);
-    }
-    Ok(())
+    let time = Duration::from_secs(ANSWER_SECONDS);
+    serve_within(
+        rt,
+        alloc,
+        stream,
+        answerer,
+        ServeTerms {
+            tokens,
+            turns,
+            time,
+        },
+    )
 }

@@ -1,24 +1,46 @@
-//! What a transfer is to do, and what a connector.
+//! The arguments of a transfer and of a connector.
 
 use crate::neighbour::Neighbour;
 
-/// What `send` is to do beside its input: with which neighbour its workers exchange, how many units it offers, how many
-/// workers there are, and how many turns each takes at most.
+/// What a sender is to do, apart from its input.
 #[derive(Clone, Copy)]
-pub(crate) struct SendTerms<'a> {
-    pub(crate) neighbour: Neighbour<'a>,
-    pub(crate) money: u64,
-    pub(crate) workers: u8,
-    pub(crate) turns: u64,
+pub struct SendTerms<'a> {
+    /// The neighbour with which its workers exchange.
+    pub neighbour: Neighbour<'a>,
+    /// The units that it offers on stream 1, in the asset of its end.
+    pub money: u64,
+    /// The number of workers, each a thread.
+    pub workers: u8,
+    /// The most turns of each worker, the most I/O calls of one exchange, and the most I/O calls for the input.
+    pub turns: u64,
 }
 
-/// What a connector is to do: by which tokens its accounts are known and where they are reached, how many requests it
-/// takes, how many workers there are, and how many calls of a stream an exchange takes at most.
+/// What `receive` is to do, apart from its output.
 #[derive(Clone, Copy)]
-pub(crate) struct ConnectTerms<'a> {
-    pub(crate) tokens: &'a [&'a str],
-    pub(crate) neighbours: &'a [Option<Neighbour<'a>>],
-    pub(crate) requests: u64,
-    pub(crate) workers: u8,
-    pub(crate) turns: u64,
+pub struct ReceiveTerms<'a> {
+    /// The bearer token of the requests that are answered.
+    pub token: &'a str,
+    /// The most units that stream 1 may be credited.
+    pub receive_max: u64,
+    /// How many seconds may pass without a valid request, from 1 up. `None` where any number may.
+    pub patience: Option<u64>,
+    /// The most connections that are accepted, and the most I/O calls of each.
+    pub turns: u64,
+}
+
+/// What a connector is to do.
+#[derive(Clone, Copy)]
+pub struct ConnectTerms<'a> {
+    /// The bearer token of each account, by the account's place. A request is that of the first account with its token.
+    pub tokens: &'a [&'a str],
+    /// Where each account is reached, by the account's place. A Prepare that is forwarded to an account without a
+    /// neighbour is answered with a Reject of code T01 (RFC 0027).
+    pub neighbours: &'a [Option<Neighbour<'a>>],
+    /// How many requests are answered before the connector ends. A connection on which no request came whole is not
+    /// counted.
+    pub requests: u64,
+    /// How many threads wait for a connection at any time, while requests are left.
+    pub workers: u8,
+    /// The most I/O calls of one TCP stream for one request, or for one exchange with a neighbour.
+    pub turns: u64,
 }

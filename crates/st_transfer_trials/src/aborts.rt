@@ -6,12 +6,16 @@ use st_desk::{Clock, Link};
 use st_end::{EndState, Flight};
 use st_file::FileError;
 use st_http::is_field_text;
+use st_ilp::Moment;
 use st_link::HttpLink;
 use st_oer::{Counting, Rate};
 use st_transfer::{RuntimeClock, TransferError};
 use std::alloc::Global;
 use std::net::Net;
 use std::thread;
+
+/// The year 9999, which no exchange of a test reaches.
+const LATE: i64 = 253_402_300_000_000;
 
 /// A flight that is abandoned where it is let go.
 struct Waiting {
@@ -61,7 +65,10 @@ fn send_next<N: Net + std::time::Clock>(
         return false;
     };
     let waiting = Waiting { flight };
-    let answer = link.exchange(&bytes).ok();
+    let answer = match Moment::new(LATE) {
+        Some(by) => link.exchange(&bytes, by).ok(),
+        None => None,
+    };
     takes(end, waiting, answer)
 }
 

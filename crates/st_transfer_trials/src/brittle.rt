@@ -3,7 +3,7 @@
 use crate::sides::{Counter, Terms, receive, send, with_money};
 use crate::transfers::{Place, listen, pattern};
 use st_oer::Counting;
-use st_transfer::TransferError;
+use st_transfer::{AwaitListener, TransferError};
 use std::alloc::Global;
 use std::io::{ErrorKind, Read, Write};
 use std::net::{Net, OpenListener, OpenStream, SocketAddr, TcpListener, TcpStream};
@@ -47,6 +47,8 @@ impl<'a> OpenListener for Brittle<'a> {
         Ok((frail, from))
     }
 }
+
+impl AwaitListener for Brittle<'_> {}
 
 impl OpenStream for Frail<'_> {
     fn set_read_timeout(&self, patience: Option<Duration>) -> io::Result<()> {
@@ -158,5 +160,5 @@ fn each_call_of_a_connection_fails_in_turn(rt: HostRuntime) {
         }
         last = k;
     }
-    assert!(rt; 50 < last && last < 1_000);
+    assert!(rt; 1 < last && last < 50);
 }

@@ -151,8 +151,8 @@ fn too_little_that_arrives_is_refused(rt: HostRuntime) {
     assert!(rt; told.kept.is(turns, failed, b""));
 }
 
-/// The receiver takes 100 of 500 units and all bytes; then the sender idles until its turns are used up, and the receiver
-/// until it has no connection left. What the second connector owes the receiver is its credit.
+/// The receiver takes 100 of 500 units and all bytes; then nothing more can be sent, and the sender ends so. The receiver ends
+/// where it has no connection left. What the second connector owes the receiver is its credit.
 #[test]
 fn a_receive_max_is_kept(rt: HostRuntime) {
     let same = Rate::new(1, 1).unwrap();
@@ -167,7 +167,7 @@ fn a_receive_max_is_kept(rt: HostRuntime) {
         ..with_money(500, 1)
     };
     let told = pass_through(&rt, rt.alloc(), rates, b"abc", terms);
-    let (turns, no_answer) = (Err(TransferError::Turns), Err(TransferError::Turns));
+    let (stalled, turns) = (Err(TransferError::Stalled), Err(TransferError::Turns));
     assert!(rt; told.owes((100, 100), (100, 100)));
-    assert!(rt; told.kept.is(turns, no_answer, b"abc"));
+    assert!(rt; told.kept.is(turns, stalled, b"abc"));
 }

@@ -9,6 +9,7 @@ mod brittle;
 #[cfg(test)]
 mod chains;
 #[cfg(test)]
+#[cfg(test)]
 mod devices;
 #[cfg(test)]
 mod faults;
@@ -16,6 +17,8 @@ mod faults;
 mod pairs;
 #[cfg(test)]
 mod sides;
+#[cfg(test)]
+mod silence;
 #[cfg(test)]
 mod totals;
 #[cfg(test)]

@@ -9,13 +9,13 @@ use st_hop::{Account, HopError, HopState, Route};
 use st_oer::{Counting, Rate, is_address};
 use st_sender::EndConfig;
 use st_transfer::{
-    AccountTotals, Neighbour, RuntimeClock, TransferError, client_end, connector_on, receive_on,
-    send_on, server_end,
+    AwaitListener, ConnectTerms, ConnectorEnded, Ended, Neighbour, ReceiveTerms, RuntimeClock,
+    SendTerms, TransferError, client_end, connector_on, receive_on, send_on, server_end,
 };
 use std::alloc::Global;
 use std::io;
 use std::io::{Read, Write};
-use std::net::{Net, OpenListener, OpenStream, TcpListener, TcpStream};
+use std::net::{Net, OpenStream, TcpListener, TcpStream};
 use std::sync::Wait;
 use std::thread::Threads;
 
@@ -32,7 +32,7 @@ const SENDER: &str = "test.a";
 const RECEIVER: &str = "test.b";
 
 /// What a sender offers, how much of it has to arrive, whether its token is known, and by how many workers it sends in how
-/// many turns; and how much a receiver takes, in how many connections.
+/// many turns; and how much a receiver takes, in how many connections, and how many seconds it waits for one.
 #[derive(Clone, Copy)]
 pub(crate) struct Terms {
     pub(crate) money: u64,
@@ -42,6 +42,7 @@ pub(crate) struct Terms {
     pub(crate) turns: u64,
     pub(crate) receive_max: u64,
     pub(crate) connections: u64,
+    pub(crate) patience: Option<u64>,
 }
 
 /// So much money, all of which has to arrive, by so many workers, and as many turns and connections as it takes.
@@ -54,6 +55,7 @@ pub(crate) fn with_money(money: u64, workers: u8) -> Terms {
         turns: TURNS,
         receive_max: money,
         connections: TURNS,
+        patience: None,
     }
 }
 
@@ -89,7 +91,7 @@ pub(crate) fn nothing_yet() -> Totals {
 }
 
 /// The receiver `test.b`, at this listener and into this writer.
-pub(crate) fn receive<L: OpenListener + Drop, W: Write, R: std::time::Clock>(
+pub(crate) fn receive<L: AwaitListener + Drop, W: Write, R: std::time::Clock>(
     rt: &R,
     alloc: Global,
     listener: L,
@@ -99,48 +101,46 @@ pub(crate) fn receive<L: OpenListener + Drop, W: Write, R: std::time::Clock>(
 where
     L::Stream: Read + Write + OpenStream,
 {
-    receive_telling(rt, alloc, listener, writer, terms, &mut nothing_yet())
+    receive_telling(rt, alloc, listener, writer, terms).result
 }
 
-/// The same, and the totals of its end.
-pub(crate) fn receive_telling<L: OpenListener + Drop, W: Write, R: std::time::Clock>(
+/// What the receiver `test.b` comes to where it makes no end.
+fn no_end(error: TransferError) -> Ended {
+    Ended {
+        result: Err(error),
+        totals: nothing_yet(),
+    }
+}
+
+/// The receiver `test.b`, at this listener and into this writer, and the totals of its end.
+pub(crate) fn receive_telling<L: AwaitListener + Drop, W: Write, R: std::time::Clock>(
     rt: &R,
     alloc: Global,
     listener: L,
     writer: &mut Counting<W>,
     terms: Terms,
-    totals: &mut Totals,
-) -> Result<u64, TransferError>
+) -> Ended
 where
     L::Stream: Read + Write + OpenStream,
 {
     let Some(config) = config() else {
-        return Err(TransferError::NoMemory);
+        return no_end(TransferError::NoMemory);
     };
     if !is_address(SENDER) || !is_address(RECEIVER) {
-        return Err(TransferError::NoMemory);
+        return no_end(TransferError::NoMemory);
     }
     match server_end(alloc, SECRET, RECEIVER, SENDER, config) {
         Ok(end) => {
+            let terms = ReceiveTerms {
+                token: TOKEN,
+                receive_max: terms.receive_max,
+                patience: terms.patience,
+                turns: terms.connections,
+            };
             let clock = RuntimeClock::new(rt);
-            let Terms {
-                receive_max,
-                connections,
-                ..
-            } = terms;
-            receive_on(
-                alloc,
-                listener,
-                TOKEN,
-                end,
-                receive_max,
-                writer,
-                clock,
-                connections,
-                totals,
-            )
+            receive_on(rt, alloc, listener, end, writer, clock, terms)
         }
-        Err(error) => Err(TransferError::End(error)),
+        Err(error) => no_end(TransferError::End(error)),
     }
 }
 
@@ -171,10 +171,10 @@ pub(crate) fn connect<
     next: &str,
     rate: Rate,
 ) -> Result<Owed, TransferError> {
-    connect_telling(rt, alloc, listener, next, rate, &mut [])
+    connect_telling(rt, alloc, listener, next, rate)?.result
 }
 
-/// The same, and what it has of each account that has a place here.
+/// How such a connector ended; an error where there is no memory for its hop.
 pub(crate) fn connect_telling<
     R: Net<Listener = TcpListener, Stream = TcpStream> + Threads + Wait + std::time::Clock + Sync,
 >(
@@ -183,24 +183,18 @@ pub(crate) fn connect_telling<
     listener: TcpListener,
     next: &str,
     rate: Rate,
-    accounts: &mut [AccountTotals],
-) -> Result<Owed, TransferError> {
+) -> Result<ConnectorEnded, TransferError> {
     let Ok(hop) = new_hop(alloc, rate) else {
         return Err(TransferError::NoMemory);
     };
-    let neighbours = [None, Neighbour::new(next, TOKEN)];
-    connector_on(
-        rt,
-        alloc,
-        listener,
-        hop,
-        &[TOKEN, "t1"],
-        &neighbours,
-        1_000,
-        4,
-        TURNS,
-        accounts,
-    )
+    let terms = ConnectTerms {
+        tokens: &[TOKEN, "t1"],
+        neighbours: &[None, Neighbour::new(next, TOKEN)],
+        requests: 1_000,
+        workers: 4,
+        turns: TURNS,
+    };
+    Ok(connector_on(rt, alloc, listener, hop, terms))
 }
 
 /// The end of the sender `test.a`.
@@ -262,7 +256,19 @@ pub(crate) fn send_telling<
         return Err(TransferError::NoMemory);
     };
     let end = sender(alloc, least)?;
-    send_on(
-        rt, alloc, end, neighbour, input, random, money, workers, turns, totals,
-    )
+    let ended = send_on(
+        rt,
+        alloc,
+        end,
+        input,
+        random,
+        SendTerms {
+            neighbour,
+            money,
+            workers,
+            turns,
+        },
+    );
+    *totals = ended.totals;
+    ended.result
 }

@@ -6,7 +6,7 @@ use crate::sides::{
 use crate::transfers::{Place, listen, pattern, use_up};
 use st_end::Totals;
 use st_oer::{Counting, Rate};
-use st_transfer::{AccountTotals, TransferError};
+use st_transfer::{AccountTotals, ConnectorEnded, TransferError};
 use std::alloc::Global;
 use std::net::{Net, TcpListener, TcpStream};
 use std::process::Abort;
@@ -15,10 +15,11 @@ use std::thread;
 use std::thread::Threads;
 
 /// The totals of the two ends, and of the accounts of the connector between them.
+#[derive(Drop)]
 struct Told {
     sender: Totals,
     receiver: Totals,
-    accounts: [AccountTotals; 2],
+    accounts: Vec<AccountTotals>,
 }
 
 /// The two ends of a transfer of these bytes and 500 units, by way of the host `next`, whose connections are used up then.
@@ -35,11 +36,12 @@ fn tell_ends<
 ) {
     let (terms, random) = (with_money(500, 2), Counter { next: 1 });
     let mut writer = Counting::new(Vec::new(alloc));
-    let _ = thread::join(
+    let (came, _) = thread::join(
         rt,
-        || receive_telling(rt, alloc, listener, &mut writer, terms, receiver),
+        || receive_telling(rt, alloc, listener, &mut writer, terms),
         || send_telling(rt, alloc, next, bytes, random, terms, sender),
     );
+    *receiver = came.totals;
     use_up(rt, next);
 }
 
@@ -55,20 +57,20 @@ fn tell<
     let hub = listen(rt, alloc);
     let end = listen(rt, alloc);
     let same = Rate::new(1, 1).unwrap();
-    let nothing = AccountTotals {
-        claims: 0,
-        dues: 0,
-        held: 0,
-    };
     let (mut sender, mut receiver) = (nothing_yet(), nothing_yet());
-    let mut accounts = [nothing, nothing];
     let (hub_listener, next) = (hub.listener, hub.host.as_str());
     let (listener, host) = (end.listener, end.host.as_str());
-    let _ = thread::join(
+    let (ended, _) = thread::join(
         rt,
-        || connect_telling(rt, alloc, hub_listener, host, same, &mut accounts),
+        || connect_telling(rt, alloc, hub_listener, host, same),
         || tell_ends(rt, alloc, listener, next, bytes, &mut sender, &mut receiver),
     );
+    let ConnectorEnded {
+        accounts,
+        overloaded,
+        ..
+    } = ended.expect(rt, "there is memory");
+    assert!(rt; overloaded == 0);
     Told {
         sender,
         receiver,
@@ -97,7 +99,8 @@ fn each_side_tells_its_totals(rt: HostRuntime) {
         ..nothing_yet()
     };
     assert!(rt; sender == sent && receiver == came);
-    let [first, second] = accounts;
+    assert!(rt; accounts.len() == 2);
+    let (first, second) = (accounts[0], accounts[1]);
     assert!(rt; first.claims == 500 && first.dues == 0 && first.held == 0);
     assert!(rt; second.claims == 0 && second.dues == 500 && second.held == 0);
 }

@@ -38,11 +38,19 @@ pub(crate) fn listen<R: Net<Listener = TcpListener, Stream = TcpStream> + Abort>
     Place { listener, host }
 }
 
-/// Opens and drops connections until one is refused.
+/// A request that no side takes: it is answered with status 405.
+const STRANGE: &[u8] = b"GET / HTTP/1.1\r\nHost: here\r\n\r\n";
+
+/// Sends strange requests, each on a connection of its own, until a connection is refused. Each is answered, and counts as
+/// a request.
 pub(crate) fn use_up<R: Net>(rt: &R, host: &str) {
     for _ in 0..100_000u32 {
-        if TcpStream::connect(rt, host).is_err() {
+        let Ok(mut stream) = TcpStream::connect(rt, host) else {
             return;
+        };
+        let mut answer = [0; 256];
+        if stream.write_all(STRANGE).is_ok() {
+            let _ = stream.read(&mut answer);
         }
     }
 }

@@ -1,0 +1,360 @@
+//! The threads of a connector: how many of them accept, and how many requests they may still take.
+
+ghost use Rattle.std.specs.Prelude.{◌≡◌, ◌+◌, ◌<◌, ◌≤◌, ◌↔◌, IsTrue, MatchBool};
+ghost use Rattle.st_transfer.specs.Crew.{threads_of, Hires, Begins, Takes, IsDone, GoesOn, LeavesNone};
+ghost use Rattle.st_transfer.specs.declared.crew.Leave.TheVariants.{Send};
+
+use crate::error::TransferError;
+use std::marker::Model;
+use std::sync::{Condvar, Mutex, Wait};
+use std::time::{Clock, Duration};
+
+/// The largest number of threads with a connection of which each may still send to a neighbour.
+pub(crate) const MOST_BUSY: u64 = 1_024;
+
+/// How many more threads than workers may wait for a connection, so that not every connection makes a thread.
+const SPARE: u64 = 16;
+
+/// How many seconds the manager waits before it tries again to make a thread, unless a thread reports something before.
+const RETRY_SECONDS: u64 = 1;
+
+/// Whether a thread may send to a neighbour, so that it accepts nothing until the answer is here.
+#[derive(Clone, Copy, Debug, PartialEq, Eq)]
+enum Leave {
+    /// It may send.
+    Send,
+    /// It is to wait until another thread accepts, or none can be made.
+    Wait,
+    /// It may not.
+    Refuse,
+}
+
+/// The threads of a connector, and its requests: the value of one lock. Each request is left, or claimed by one thread,
+/// or spent.
+#[derive(Drop)]
+pub(crate) struct Roster {
+    /// How many threads are to accept at any time.
+    workers: u8,
+    requests: u64,
+    /// Requests that no thread has claimed.
+    left: u64,
+    /// Threads that are being made.
+    coming: u64,
+    /// Threads that wait for a connection.
+    accepting: u64,
+    /// Threads with a connection.
+    busy: u64,
+    /// Requests that were served, or are not to be served any more.
+    spent: u64,
+    /// How often a thread began to accept.
+    begun: u64,
+    /// Whether the last thread could not be made.
+    is_refused: bool,
+    /// How many requests were not sent to a neighbour because too many threads were busy.
+    overloaded: u64,
+    fault: Option<TransferError>,
+}
+
+impl Model for Roster {
+    ghost use Rattle.std.specs.Prelude.{◌≡◌, ◌+◌, ◌≤◌};
+    ghost use Rattle.st_transfer.specs.Crew as crew;
+
+    ghost Value = { crew.Roster };
+
+    ghost view = { λ r. record { workers = r.workers; left = r.left; coming = r.coming; accepting = r.accepting; busy = r.busy; spent = r.spent } };
+
+    ghost invariant = { λ r. (r.left + r.coming + r.accepting + r.busy + r.spent ≡ r.requests) × (r.coming + r.accepting + r.busy ≤ 1024 + r.workers) };
+}
+
+impl Roster {
+    /// No threads, and a given number of requests.
+    fn new(requests: u64, workers: u8) -> Roster
+        ensures { result ≡ record { workers = workers; left = requests; coming = 0; accepting = 0; busy = 0; spent = 0 } }
+    {
+        Roster {
+            workers,
+            requests,
+            left: requests,
+            coming: 0,
+            accepting: 0,
+            busy: 0,
+            spent: 0,
+            begun: 0,
+            is_refused: false,
+            overloaded: 0,
+            fault: None,
+        }
+    }
+
+    /// How many threads there are, those that are being made among them.
+    fn threads(&self) -> u64
+        ensures { result ≡ threads_of self.now }
+    {
+        self.coming + self.accepting + self.busy
+    }
+
+    /// Whether there is room for one more thread.
+    fn has_room(&self) -> bool
+        ensures { IsTrue result ↔ (threads_of self.now < 1024 + self.now.workers) }
+    {
+        self.threads() < MOST_BUSY + u64::from(self.workers)
+    }
+
+    /// Whether fewer threads than workers accept, or are to.
+    fn lacks_one(&self) -> bool
+        ensures { IsTrue result ↔ (self.now.coming + self.now.accepting < self.now.workers) }
+    {
+        self.coming + self.accepting < u64::from(self.workers)
+    }
+
+    /// Claims a request for one more thread. False where no request is left, enough threads accept, or there is no room
+    /// for a thread.
+    fn hire(&mut self) -> bool
+        ensures { MatchBool result (Hires self.old self.new) (self.new ≡ self.old) }
+    {
+        if self.left == 0 || !self.lacks_one() || !self.has_room() {
+            return false;
+        }
+        self.left -= 1;
+        self.coming += 1;
+        self.is_refused = false;
+        true
+    }
+
+    /// Gives the request of a thread back that could not be made. Where there is no other thread, no request is served.
+    fn give_up(&mut self)
+        ensures { 0 < self.old.coming → 0 < threads_of self.new → Hires self.new self.old }
+    {
+        if self.coming == 0 {
+            return;
+        }
+        self.coming -= 1;
+        self.left += 1;
+        self.is_refused = true;
+        if self.threads() == 0 {
+            self.end(TransferError::NoMemory);
+        }
+    }
+
+    /// Leaves no request to any thread, and notes why.
+    fn end(&mut self, fault: TransferError)
+        ensures { LeavesNone self.old self.new }
+    {
+        self.spent += self.left;
+        self.left = 0;
+        if self.fault.is_none() {
+            self.fault = Some(fault);
+        }
+    }
+
+    /// A thread that was made accepts.
+    fn begin(&mut self)
+        ensures { 0 < self.old.coming → Begins self.old self.new }
+    {
+        if self.coming == 0 {
+            return;
+        }
+        self.coming -= 1;
+        self.accepting += 1;
+        self.begun = self.begun.saturating_add(1);
+    }
+
+    /// A thread has a connection. Answers how often threads are to have begun to accept before it may send to a
+    /// neighbour: once more where no other thread accepts.
+    fn take(&mut self) -> u64
+        ensures { 0 < self.old.accepting → Takes self.old self.new }
+    {
+        if self.accepting == 0 {
+            return self.begun;
+        }
+        self.accepting -= 1;
+        self.busy += 1;
+        if self.accepting == 0 {
+            self.begun.saturating_add(1)
+        } else {
+            self.begun
+        }
+    }
+
+    /// A thread meets a fault as it accepts. False where it is to try again: other threads have connections, which take
+    /// file descriptors and memory until they end. Else it ends, and no request is left.
+    fn fail(&mut self, fault: TransferError) -> bool
+        ensures { MatchBool result (self.new.left ≡ 0) ((0 < self.old.busy) × (self.new ≡ self.old)) }
+    {
+        if self.busy > 0 {
+            return false;
+        }
+        if self.accepting > 0 {
+            self.accepting -= 1;
+            self.spent += 1;
+        }
+        self.end(fault);
+        true
+    }
+
+    /// A thread is done with its connection. Its request is left again where none came whole.
+    fn finish(&mut self, came: bool)
+        ensures { 0 < self.old.busy → IsDone self.old came self.new }
+    {
+        if self.busy == 0 {
+            return;
+        }
+        self.busy -= 1;
+        if came {
+            self.spent += 1;
+        } else {
+            self.left += 1;
+        }
+    }
+
+    /// Claims a request for a thread that is done with its last one. False where it is to end: no request is left, or
+    /// more than enough threads accept.
+    fn go_on(&mut self) -> bool
+        ensures { MatchBool result (GoesOn self.old self.new) (self.new ≡ self.old) }
+    {
+        let most = u64::from(self.workers) + SPARE;
+        if self.left == 0 || self.coming + self.accepting >= most || !self.has_room() {
+            return false;
+        }
+        self.left -= 1;
+        self.accepting += 1;
+        self.begun = self.begun.saturating_add(1);
+        true
+    }
+
+    /// Whether a thread may send to a neighbour that waited until threads began to accept this often.
+    fn leave(&self, needed: u64) -> Leave
+        ensures { result ≡ Send → self.now.busy ≤ 1024 }
+    {
+        if self.busy > MOST_BUSY {
+            return Leave::Refuse;
+        }
+        if needed <= self.begun || (self.left == 0 && self.coming == 0) {
+            return Leave::Send;
+        }
+        if self.coming == 0 && (self.is_refused || !self.has_room()) {
+            return Leave::Refuse;
+        }
+        Leave::Wait
+    }
+}
+
+/// The threads of a connector, under a lock, with what wakes those that wait for a change of it.
+#[derive(Drop)]
+pub(crate) struct Crew {
+    roster: Mutex<Roster>,
+    /// Wakes the manager, which makes the threads.
+    changed: Condvar,
+    /// Wakes threads that wait until another one accepts.
+    relieved: Condvar,
+}
+
+// Each function here that takes the lock lets it go before it returns.
+
+impl Crew {
+    /// No threads yet, for a given number of requests. At any time `workers` threads are to accept.
+    pub(crate) fn new(requests: u64, workers: u8) -> Crew {
+        Crew {
+            roster: Mutex::new(Roster::new(requests, workers)),
+            changed: Condvar::new(),
+            relieved: Condvar::new(),
+        }
+    }
+
+    /// Waits until one more thread is to be made, for which a request is claimed. False where no thread is left.
+    pub(crate) fn wants_thread(&self, rt: &impl Wait) -> bool {
+        let mut roster = self.roster.lock(rt);
+        for _ in rt.forever() {
+            if roster.hire() {
+                return true;
+            }
+            if roster.threads() == 0 {
+                return false;
+            }
+            roster = self.changed.wait(rt, roster);
+        }
+        unreachable!()
+    }
+
+    /// Gives the request of a thread back that could not be made, and waits until a thread reports something, for a
+    /// second at most. Where there is no other thread, no request is served.
+    pub(crate) fn do_without<R: Wait + Clock>(&self, rt: &R) {
+        let mut roster = self.roster.lock(rt);
+        roster.give_up();
+        self.relieved.notify_all();
+        if roster.threads() > 0 {
+            let time = Duration::from_secs(RETRY_SECONDS);
+            let _ = self.changed.wait_timeout(rt, roster, time);
+        }
+    }
+
+    /// A thread that was made begins to accept.
+    pub(crate) fn begin(&self, rt: &impl Wait) {
+        self.roster.lock(rt).begin();
+        self.relieved.notify_all();
+    }
+
+    /// A thread has a connection. Answers what `may_send` asks.
+    pub(crate) fn take(&self, rt: &impl Wait) -> u64 {
+        let needed = self.roster.lock(rt).take();
+        self.changed.notify_one();
+        needed
+    }
+
+    /// A thread meets a fault as it accepts. Whether it is to end, and no further request is claimed; else it is to try
+    /// again, since other threads have connections.
+    pub(crate) fn fail(&self, rt: &impl Wait, fault: TransferError) -> bool {
+        let ends = self.roster.lock(rt).fail(fault);
+        self.changed.notify_one();
+        self.relieved.notify_all();
+        ends
+    }
+
+    /// A thread is done with its connection, on which a request came whole or none. Whether the thread is to accept the
+    /// next one.
+    pub(crate) fn finish(&self, rt: &impl Wait, came: bool) -> bool {
+        let goes_on = self.finish_one(rt, came);
+        self.changed.notify_one();
+        if goes_on {
+            self.relieved.notify_all();
+        }
+        goes_on
+    }
+
+    fn finish_one(&self, rt: &impl Wait, came: bool) -> bool {
+        let mut roster = self.roster.lock(rt);
+        roster.finish(came);
+        roster.go_on()
+    }
+
+    /// Whether a thread with a connection may send to a neighbour: at most 1,024 threads are busy, and another thread
+    /// accepts meanwhile. It waits until one does, or none can be made. Each refusal is counted.
+    pub(crate) fn may_send(&self, rt: &impl Wait, needed: u64) -> bool {
+        let mut roster = self.roster.lock(rt);
+        for _ in rt.forever() {
+            match roster.leave(needed) {
+                Leave::Send => return true,
+                Leave::Refuse => {
+                    roster.overloaded = roster.overloaded.saturating_add(1);
+                    return false;
+                }
+                Leave::Wait => roster = self.relieved.wait(rt, roster),
+            }
+        }
+        unreachable!()
+    }
+
+    /// How many requests were not sent to a neighbour, and the first fault.
+    pub(crate) fn ended(self) -> (u64, Result<(), TransferError>) {
+        let Crew { roster, .. } = self;
+        let Roster {
+            overloaded,
+            fault,
+            ..
+        } = roster.into_inner();
+        match fault {
+            Some(fault) => (overloaded, Err(fault)),
+            None => (overloaded, Ok(())),
+        }
+    }
+}

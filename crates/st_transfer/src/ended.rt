@@ -1,0 +1,13 @@
+//! What a transfer comes to.
+
+use crate::error::TransferError;
+use st_end::Totals;
+
+/// What `send_on` or `receive_on` came to.
+#[derive(Clone, Copy, Debug, PartialEq, Eq)]
+pub struct Ended {
+    /// The number of bytes of the input that were sent, or of the output that were written; or why not all were.
+    pub result: Result<u64, TransferError>,
+    /// The totals of the end, whatever the result is.
+    pub totals: Totals,
+}
