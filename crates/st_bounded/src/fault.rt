@@ -1,23 +1,23 @@
-//! Why a quiet run could not be played.
+//! Why a lossless run could not be played.
 
 ghost use Rattle.std.specs.Prelude.{◌≡◌};
 ghost use Rattle.st_bounded.specs.Faults as faults;
 
 use thiserror::Error;
 
-/// Why a quiet run could not be played, or not to its end.
+/// Why a lossless run could not be played, or not to its end.
 #[derive(Clone, Copy, Debug, PartialEq, Eq, Error)]
 pub enum Fault {
-    /// Memory for what the world keeps was refused.
+    /// Out of memory: memory for the world's records was refused.
     #[error("out of memory")]
     NoMemory,
-    /// There is no stream, or more than 32, or not one amount for each.
+    /// There are no streams, more than 32 streams, or not one amount for each stream.
     #[error("not 1 to 32 streams with an amount for each")]
     BadInput,
 }
 
 impl Fault {
-    /// The number by which the refusal is known: 77 or 78.
+    /// The error's number: 77 or 78.
     pub fn number(&self) -> u8
         ensures { result ≡ faults.number self.now }
     {
@@ -27,7 +27,7 @@ impl Fault {
         }
     }
 
-    /// The number that the refusal wraps: none does.
+    /// The number of an inner error: always `None`.
     pub fn inner(&self) -> Option<u64>
         ensures { result ≡ faults.inner self.now }
     {

@@ -1,8 +1,8 @@
-//! A quiet run of a world of st_chain, played whole: nothing is lost, and everything comes at once.
+//! A lossless run of a world of st_chain, played whole: nothing is lost, and everything arrives at once.
 //!
-//! `quiet` takes bytes and an amount for each stream. What it plays is a quiet run of st_passage's definitions, so the laws
-//! there speak of it: all is delivered, and the client sends no more Prepares than the bound. `specs/Playing.antt` has the
-//! parts of a run and why it may end early; `proofs/Joins.antt` joins lists of events.
+//! `quiet` takes bytes and an amount for each stream. What it plays is a `QuietRun` by st_passage's definitions, so the
+//! laws there apply: all is delivered, and the client sends no more Prepares than the bound. `specs/Playing.antt`
+//! defines the parts of a run and why it may end early; `proofs/Joins.antt` joins lists of events.
 #![tactic(auto)]
 
 mod fault;

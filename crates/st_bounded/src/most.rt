@@ -1,4 +1,4 @@
-//! How many rounds a quiet run has at most.
+//! The greatest number of rounds of a lossless run.
 
 ghost use Rattle.std.specs.Prelude.{◌≡◌, ℕ, ◌<◌, ◌≤◌, ◌^◌, length, map, sum};
 ghost use Rattle.st_passage.specs.Plays.{all_frames, are_lawful, sends_needed};
@@ -39,8 +39,8 @@ fn total(money: &[u64]) -> u64
     all
 }
 
-/// More rounds than a quiet run has: data and money go together, at least a unit with each Prepare, then the closes, and the
-/// last Send gives none.
+/// More rounds than a lossless run has: data and money are sent together, at least one unit with each Prepare, then the
+/// closes, and the last Send gives no Prepare.
 pub(crate) fn most_rounds(input: &[&[u8]], money: &[u64]) -> u64
     requires { length input.now ≤ 32 }
     ensures { (limit : ℕ) → 0 < limit → sum (map length (bytes_of input.now)) < 2 ^ 63 → sum money.now < 2 ^ 63 → sends_needed limit (bytes_of input.now) money.now < result }

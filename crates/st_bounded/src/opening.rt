@@ -1,4 +1,4 @@
-//! The opening of a run.
+//! The start of a run.
 
 ghost use Rattle.std.specs.Prelude.{◌≡◌, length, IfErr, OnOk};
 ghost use Rattle.st_passage.specs.Worlds.{Met};

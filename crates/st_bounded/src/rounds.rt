@@ -1,4 +1,4 @@
-//! Rounds: a Send, its Prepare and the answer over all hops, reads and writes.
+//! Rounds: a Prepare and its answer over all hops, then reads and writes.
 
 ghost use Rattle.std.specs.Prelude.{◌≡◌, suc, ◌+◌, ◌<◌, ◌^◌, MatchBool, IfErr, IfOk, OnOk};
 ghost use Rattle.st_passage.specs.Worlds.{Met, going_over, passing};
@@ -17,7 +17,7 @@ use std::alloc::Allocator;
 /// How many bytes are read at once: more than one Prepare brings.
 const READ_LIMIT: usize = 65_536;
 
-/// A Prepare goes over a link and so many hops after it, and its answer comes back to the first of them.
+/// A Prepare is sent over a link and over `hops` hops after it, and its answer returns to the first of them.
 fn go_over<A: Allocator + Copy>(
     world: &mut World<A>,
     link: usize,
@@ -65,7 +65,7 @@ pub(crate) fn read_each<A: Allocator + Copy>(world: &mut World<A>) -> Result<(),
     Ok(())
 }
 
-/// One round, after so many Sends. Whether a Prepare went.
+/// One round, after a given number of Sends. Gives whether a Prepare was sent.
 fn go_round<A: Allocator + Copy>(
     world: &mut World<A>,
     input: &[&[u8]],
@@ -88,7 +88,7 @@ fn go_round<A: Allocator + Copy>(
     Ok(true)
 }
 
-/// Rounds until no Prepare goes, but fewer than so many: how many there were.
+/// Rounds until no Prepare is sent, but fewer than `most`. `sends` counts them.
 pub(crate) fn go_rounds<A: Allocator + Copy>(
     world: &mut World<A>,
     input: &[&[u8]],

@@ -1,4 +1,4 @@
-//! A quiet run, played whole.
+//! A lossless run, played whole.
 
 ghost use Rattle.std.specs.Prelude.{◌≡◌, ◌<◌, ◌≤◌, ◌+◌, ℕ, true, false, length, IfErr, IfOk, OnOk};
 ghost use Rattle.std.specs.Result.{IsErrAnd};
@@ -18,7 +18,7 @@ use st_chain::{Trace, World};
 use std::alloc::Allocator;
 use std::marker::Model;
 
-/// What a quiet run leaves, and how many Prepares the client sent.
+/// The result of a lossless run, and the number of Prepares that the client sent.
 #[derive(Drop)]
 pub struct Delivery<A: Allocator + Copy> {
     trace: Trace<A>,
@@ -38,14 +38,14 @@ impl<A: Allocator + Copy> Model for Delivery<A> {
 }
 
 impl<A: Allocator + Copy> Delivery<A> {
-    /// What the run left. No memory.
+    /// The result of the run. Does not allocate.
     pub fn trace(&self) -> &Trace<A>
         ensures { result.now ≡ self.now.trace }
     {
         &self.trace
     }
 
-    /// How many Prepares the client sent. No memory.
+    /// The number of Prepares that the client sent. Does not allocate.
     pub fn sends(&self) -> u64
         ensures { result ≡ self.now.sends }
     {
@@ -80,7 +80,7 @@ fn is_unrecorded(ended: &Result<(), Stop>) -> bool
     matches!(ended, Err(Stop::NoMemory))
 }
 
-/// Plays a quiet run with 1 to 32 streams and an amount for each.
+/// Plays a lossless run with 1 to 32 streams and an amount for each.
 fn play_lawful<A: Allocator + Copy>(
     mut world: World<A>,
     input: &[&[u8]],
@@ -104,14 +104,16 @@ fn play_lawful<A: Allocator + Copy>(
     Ok(Delivery { trace, sends })
 }
 
-/// Plays a quiet run of a world where nothing has happened, with these bytes and this amount on each stream: the server lets
-/// the amounts come; the client opens the streams, offers and writes; then, at moment 0, it sends, with the Send's number as
-/// IV, its Prepare goes over all hops and the answer comes back, the server reads all there is, and the client writes on,
-/// until no Prepare goes. A last read of each stream tells its end.
+/// Plays a lossless run of a world where nothing has happened, with the bytes `input` and the amount `money` of each
+/// stream, in units of the client's asset. The server raises the receive max of each stream to its amount. The client
+/// opens the streams, offers and writes. Then, at moment 0, the client sends a Prepare with its number as IV, which is
+/// forwarded over all hops; the answer is sent back; the server reads all there is; and the client writes on, until
+/// nothing is left to send. A last read of each stream gives its end.
 ///
-/// Refused is `BadInput` unless there are 1 to 32 streams and as many amounts, and `NoMemory` where the world could not
-/// record an event: the trace is then that of the events before it. Where a call found no memory the run ends there, and its
-/// trace says so. Else, under the premises of st_passage's `MayPlay`, all was delivered, by no more Sends than the bound.
+/// Fails with `BadInput` unless there are 1 to 32 streams and as many amounts. Fails with `NoMemory` where the world
+/// could not record an event; the trace is then that of the events before it. Where a call found no memory the run ends
+/// there, and its trace says so. Otherwise, under the premises of st_passage's `MayPlay`, all was delivered, by no more
+/// Prepares than the bound.
 pub fn quiet<A: Allocator + Copy>(
     world: World<A>,
     input: &[&[u8]],

@@ -1,4 +1,4 @@
-//! Events of a run, each met as it should be.
+//! The events of a run, each with the result that it should have.
 
 ghost use Rattle.std.specs.Prelude.{◌≡◌, [], ◌∷◌, MatchBool, IfErr, IfOk, OnOk, Ok};
 ghost use Rattle.st_world.specs.Sides.{Client};

@@ -9,6 +9,6 @@ pub(crate) enum Stop {
     Refused,
     /// No stream could be opened.
     NoStream,
-    /// There were more rounds than a quiet run has.
+    /// There were more rounds than a lossless run has.
     Endless,
 }

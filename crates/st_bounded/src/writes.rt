@@ -1,4 +1,4 @@
-//! Writes of the input, as far as it fits.
+//! Writes of the input, as much as is accepted.
 
 ghost use Rattle.std.specs.Prelude.{◌≡◌, ◌+◌, ◌-◌, ◌<◌, ◌^◌, length, take, drop, IfErr, OnOk};
 ghost use Rattle.st_world.specs.Sides.{Client};
@@ -59,7 +59,7 @@ fn progress<A: Allocator + Copy>(world: &World<A>, stream: u8) -> (usize, usize)
     }
 }
 
-/// As much of the rest of an input as fits, where so many bytes were written and read.
+/// As much of the rest of an input as fits, where `written` bytes were written and `read` bytes read.
 fn fitting(input: &[u8], written: usize, read: usize) -> &[u8]
     ensures { result.now ≡ take (read + 262144 - written) (drop written input.now) }
 {

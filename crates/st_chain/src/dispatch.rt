@@ -1,4 +1,4 @@
-//! What comes over a link: which end or hop it comes to.
+//! What arrives over a link: at which end or hop.
 
 ghost use Rattle.std.specs.Prelude.{◌≡◌, ◌+◌, ◌<◌, length, OnErr, IfOk};
 ghost use Rattle.st_hop.specs.Seen.{outcome_seen};

@@ -1,35 +1,35 @@
-//! What may happen next.
+//! The events of a world.
 
 use st_ilp::Moment;
 use st_nodes::{Side, Way};
 
-/// What may happen next. Links are numbered from 0 at the client. `k` names the k-th Prepare that was ever put on a link and
-/// way, `j` the j-th answer that was ever given there, both from 1. What names nothing that is there, and a flight or a
-/// ticket that is spent, changes nothing.
+/// An event of a world. Links are numbered from 0 at the client. The Prepares that were ever sent over a link in a
+/// direction are numbered from 1, and so are the answers; `k` is the number of a Prepare, `j` that of an answer. An
+/// event that names nothing that exists, or a Prepare whose outcome was already taken, changes nothing.
 #[derive(Clone, Copy)]
 pub enum Event<'a> {
     /// An end opens its next stream.
     OpenStream(Side),
-    /// An end takes bytes to be sent on a stream.
+    /// An end queues bytes to be sent on a stream.
     Write(Side, u8, &'a [u8]),
-    /// At most so many bytes of a stream are read at an end. With 0 nothing happens.
+    /// An end reads at most this number of bytes of a stream. With 0 nothing happens.
     Read(Side, u8, usize),
     /// An end closes a stream cleanly.
     Close(Side, u8),
     /// An end aborts a stream with a code of RFC 0029, section 5.3. With code 1 nothing happens.
     Abort(Side, u8, u8),
-    /// An end offers so many units on a stream.
+    /// An end offers this amount on a stream, in units of its asset.
     Offer(Side, u8, u64),
-    /// An end lets a stream receive so many units in all.
+    /// An end raises a stream's receive max to this amount, in units of its asset.
     ReceiveMax(Side, u8, u64),
-    /// An end sends, sealing with this IV.
+    /// An end sends a Prepare at this moment, sealed under this IV.
     Send(Side, [u8; 12], Moment),
-    /// Link, way, k: the Prepare comes to the far end of the link.
+    /// Link, direction, `k`, moment: the Prepare arrives at the far end of the link.
     Arrive(usize, Way, usize, Moment),
-    /// Link, way, j: the answer comes to whoever put its Prepare.
+    /// Link, direction, `j`, moment: the answer arrives at the sender of its Prepare.
     AnswerArrives(usize, Way, usize, Moment),
-    /// Link, way, k: whoever put the Prepare learns that no answer comes.
+    /// Link, direction, `k`, moment: the sender of the Prepare learns that no answer will arrive.
     Fault(usize, Way, usize, Moment),
-    /// A call that was refused before it reached an end or a hop: nothing happens.
+    /// A call that was refused before it reached an end or a hop. Nothing happens.
     Refused,
 }

@@ -1,4 +1,4 @@
-//! Why a world refuses.
+//! Why a world could not be made or could not record an event.
 
 ghost use Rattle.std.specs.Prelude.{◌≡◌};
 ghost use Rattle.st_chain.specs.Faults as faults;
@@ -10,16 +10,16 @@ use thiserror::Error;
 /// Why a world could not be made, or could not record an event.
 #[derive(Clone, Copy, Debug, PartialEq, Eq, Error)]
 pub enum Fault {
-    /// Memory for what the world keeps was refused. The world is as before the event.
+    /// Out of memory: memory for the world's own records was refused. The world is as before the event.
     #[error("out of memory")]
     NoMemory,
-    /// There are more than eight hops, or one that no hop can be made of.
+    /// There are more than `MAX_HOPS` hops, or the limits of one are not valid.
     #[error("no such chain")]
     BadChain,
 }
 
 impl Fault {
-    /// The number by which the refusal is known: 77 or 78.
+    /// The error's number: 77 or 78.
     pub fn number(&self) -> u8
         ensures { result ≡ faults.number self.now }
     {
@@ -29,7 +29,7 @@ impl Fault {
         }
     }
 
-    /// The number that the refusal wraps: none does.
+    /// The number of an inner error: always `None`.
     pub fn inner(&self) -> Option<u64>
         ensures { result ≡ faults.inner self.now }
     {

@@ -1,10 +1,10 @@
-//! A world: two ends of a STREAM connection (RFC 0029), the hops between them (RFC 0027), and every schedule of what may
-//! happen there.
+//! A world: two ends of a STREAM connection (RFC 0029) and the hops between them (RFC 0027), simulated in memory under
+//! any order of events.
 //!
-//! `Event` is what may happen next. `World` takes events, and each leaves what the definitions of st_world say of it, by
-//! the real ends and hops; `Trace` is what a run leaves. `specs/Chains.antt` is the chain, `specs/Left.antt` what a trace
-//! tells of the world; `specs/Places.antt` says what an event does to the list of links, and `proofs/Meets.antt` and
-//! `Hops.antt` that this is the event's step.
+//! `Event` is what may happen next. `World` plays events with the real ends and hops, and each has the effect that the
+//! definitions of st_world give. `Trace` is the result of a run. `specs/Chains.antt` defines the chain,
+//! `specs/Left.antt` how a trace shows the world, and `specs/Places.antt` the effect of an event on the list of links.
+//! `proofs/Meets.antt` and `proofs/Hops.antt` prove that this is the event's step.
 #![tactic(auto)]
 
 mod dispatch;

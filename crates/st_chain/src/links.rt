@@ -1,4 +1,4 @@
-//! What comes over a link, to an end or to a hop.
+//! What arrives over a link, at an end or at a hop.
 
 ghost use Rattle.std.specs.Prelude.{◌≡◌, ◌+◌, ◌<◌, IfOk, OnErr, length};
 ghost use Rattle.st_hop.specs.Seen.{outcome_seen};
@@ -69,7 +69,7 @@ pub(crate) fn meet_end<A: Allocator + Copy>(
     }
 }
 
-/// An outcome comes back to the end that put a Prepare on a link. No memory.
+/// The outcome of a Prepare reaches the end that sent it over a link. Does not allocate.
 pub(crate) fn back_to_end<A: Allocator + Copy>(
     party: &mut Party<A>,
     links: &mut [Link<A>],

@@ -1,4 +1,4 @@
-//! The opening of a world: a chain where nothing has happened.
+//! The start of a world: a chain where nothing has happened.
 
 ghost use Rattle.std.specs.Prelude.{◌≡◌, ◌<◌, ◌≤◌, ◌+◌, true, replicate, length, map, IfOk, IsOkUnless, IsErrOf, MatchBool, nat_le, ◌&&◌};
 ghost use Rattle.std.specs.List.{list_all};
@@ -21,7 +21,7 @@ use st_oer::Rate;
 use st_sender::EndConfig;
 use std::alloc::{AllocError, Allocator};
 
-/// The most hops of a chain.
+/// The greatest number of hops of a chain: 8.
 pub const MAX_HOPS: usize = 8;
 
 /// What both ends know.
@@ -227,9 +227,9 @@ fn open<A: Allocator + Copy>(
 }
 
 impl<A: Allocator + Copy> World<A> {
-    /// The client `test.a`, the server `test.b` and so many hops between them, `test.h1` and on, whose limits are not
-    /// reached and who pass amounts on as they are. The secret is 32 bytes of 0. Refused is `BadChain` where there are more
-    /// than eight hops, and else want of memory.
+    /// A world of the client `test.a`, the server `test.b` and `hops` hops between them, `test.h1` and on. The hops
+    /// forward amounts unchanged, and their limits are not reached. The shared secret is 32 bytes of 0. Fails with
+    /// `BadChain` where `hops` is above `MAX_HOPS`, otherwise with `NoMemory` where memory is refused.
     pub fn new(alloc: A, hops: usize, config: EndConfig) -> Result<World<A>, Fault>
         ensures opening { IfOk result (λ w. w ≡ opening (chain_of (map one_to_one (replicate hops free_account)) config)) }
         ensures refused { MatchBool (nat_le hops 8) (IsOkUnless result Fault.NoMemory) (IsErrOf result Fault.BadChain) }
@@ -241,8 +241,10 @@ impl<A: Allocator + Copy> World<A> {
         World::with_hops(alloc, &accounts[..hops], config)
     }
 
-    /// The same with these hops, in the order from the client: each has one account's terms towards both its neighbours.
-    /// Refused is `BadChain` where there are more than eight, or a limit is above 2^63 - 1, and else want of memory.
+    /// A world of the client `test.a`, the server `test.b` and one hop for each account, in the order from the client.
+    /// Each hop has the terms of its account towards both its neighbours, and forwards amounts unchanged. The shared
+    /// secret is 32 bytes of 0. Fails with `BadChain` where there are more than `MAX_HOPS` accounts or a limit is above
+    /// 2^63 - 1, otherwise with `NoMemory` where memory is refused.
     pub fn with_hops(alloc: A, accounts: &[Account], config: EndConfig) -> Result<World<A>, Fault>
         ensures opening { IfOk result (λ w. w ≡ opening (chain_of (map one_to_one accounts.now) config)) }
         ensures refused { MatchBool (is_chain (chain_of (map one_to_one accounts.now) config)) (IsOkUnless result Fault.NoMemory) (IsErrOf result Fault.BadChain) }
@@ -258,8 +260,11 @@ impl<A: Allocator + Copy> World<A> {
         World::with_rates(alloc, &terms[..accounts.len()], config)
     }
 
-    /// The same where each hop has a rate at which it passes amounts on towards the server; towards the client it is turned
-    /// over.
+    /// A world of the client `test.a`, the server `test.b` and one hop for each pair of an account and a rate, in the
+    /// order from the client. Each hop has the terms of its account towards both its neighbours. Amounts towards the
+    /// server are multiplied by the rate, amounts towards the client by its inverse. The shared secret is 32 bytes of
+    /// 0. Fails with `BadChain` where there are more than `MAX_HOPS` pairs or a limit is above 2^63 - 1, otherwise with
+    /// `NoMemory` where memory is refused.
     pub fn with_rates(
         alloc: A,
         terms: &[(Account, Rate)],

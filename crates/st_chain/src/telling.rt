@@ -1,4 +1,4 @@
-//! What a trace tells.
+//! What a trace shows.
 
 ghost use Rattle.std.specs.Prelude.{◌≡◌, MatchOption, Some, None, length, slice_get};
 ghost use Rattle.std.specs.FinMap as fmap;
@@ -10,21 +10,21 @@ use st_nodes::{Ledger, Node, Party, Side};
 use std::alloc::Allocator;
 
 impl<A: Allocator + Copy> Trace<A> {
-    /// Whether some call found no memory. No memory.
+    /// Whether some call of an end or a hop found no memory. Does not allocate.
     pub fn refused(&self) -> bool
         ensures { result ≡ self.now.refused }
     {
         self.refused
     }
 
-    /// How many hops there are. No memory.
+    /// The number of hops. Does not allocate.
     pub fn hops(&self) -> usize
         ensures { result ≡ length self.now.nodes }
     {
         self.nodes.len()
     }
 
-    /// An end, with the Prepares that it answered. No memory.
+    /// An end, with the Prepares that it answered. Does not allocate.
     pub fn end(&self, side: Side) -> &Party<A>
         ensures { result.now ≡ at self.now.ends (side_seen side) }
     {
@@ -34,15 +34,16 @@ impl<A: Allocator + Copy> Trace<A> {
         }
     }
 
-    /// A hop, with the Prepares that it answered: the first, 0, is the client's neighbour. No memory.
+    /// A hop, with the Prepares that it answered. `place` 0 is the hop next to the client. `None` where there is no
+    /// such hop. Does not allocate.
     pub fn hop(&self, place: usize) -> Option<&Node<A>>
         ensures { MatchOption result (slice_get self.now.nodes place ≡ None) (λ n. slice_get self.now.nodes place ≡ Some n.now) }
     {
         self.nodes.get(place)
     }
 
-    /// What was written and read of a stream as this end writes it, and what its reader was told: none where nothing was
-    /// accepted or read. No memory.
+    /// What was written and read of a stream that the end `side` writes, and how its reader learned of its end. `None`
+    /// where nothing was accepted or read of it. Does not allocate.
     pub fn ledger(&self, side: Side, stream: u8) -> Option<&Ledger<A>>
         ensures { MatchOption result (fmap.get (at self.now.ledgers (side_seen side)) stream ≡ None) (λ x. fmap.get (at self.now.ledgers (side_seen side)) stream ≡ Some x.now) }
     {

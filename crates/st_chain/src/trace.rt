@@ -1,4 +1,4 @@
-//! What a run leaves: both ends and the hops, what was written and read, and which Prepares were answered.
+//! The result of a run: both ends and the hops, what was written and read, and which Prepares were answered.
 
 ghost use Rattle.std.specs.Prelude.{◌≡◌, ◌≢◌, ◌≤◌, ◌<◌, ◌+◌, ◌||◌, length, OnErr, IfOk};
 ghost use Rattle.st_hop.specs.Seen.{outcome_seen};
@@ -22,8 +22,8 @@ use st_nodes::{
 use std::alloc::{AllocError, Allocator};
 use std::marker::Model;
 
-/// What a run leaves: both ends and the hops, each with the Prepares that it answered, what was written and read of each
-/// stream, and whether some call found no memory.
+/// The result of a run: both ends and the hops, each with the Prepares that it answered, what was written and read of
+/// each stream, and whether some call found no memory.
 #[derive(Drop)]
 pub struct Trace<A: Allocator + Copy> {
     pub(crate) client: Party<A>,

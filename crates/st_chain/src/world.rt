@@ -1,4 +1,4 @@
-//! A world: what a run has left so far, with the links over which it goes on.
+//! A world: the result of a run so far, and the links over which it continues.
 
 ghost use Rattle.std.specs.Prelude.{◌≡◌, ◌<◌, ℕ, length, take, OnErr, IfOk, IfErr, IsOkUnless};
 ghost use Rattle.st_world.specs.Steps.{Happens};
@@ -17,7 +17,7 @@ use st_world::every_run_holds;
 use std::alloc::Allocator;
 use std::marker::Model;
 
-/// Two ends, the hops between them, and all that was ever put and given on the links. It is reached from the opening of a
+/// Two ends, the hops between them, and everything that was ever sent over the links. It is reached from the start of a
 /// chain by events.
 #[derive(Drop)]
 pub struct World<A: Allocator + Copy> {
@@ -42,7 +42,7 @@ impl<A: Allocator + Copy> Model for World<A> {
 }
 
 impl<A: Allocator + Copy> World<A> {
-    /// What the run has left so far. No memory.
+    /// The result of the run so far. Does not allocate.
     pub fn trace(&self) -> &Trace<A>
         ensures trace { result.now ≡ left_of self.now }
         ensures holds { HoldsOf result.now }
@@ -51,16 +51,16 @@ impl<A: Allocator + Copy> World<A> {
         &self.trace
     }
 
-    /// Whether the connection failed at an end: nothing goes any more. No memory.
+    /// Whether the connection failed at an end. That end sends nothing any more then. Does not allocate.
     pub fn is_failed(&self, side: Side) -> bool
         ensures { result ≡ (at self.now.ends (side_seen side)).state.sending.failed }
     {
         self.trace.end(side).is_failed()
     }
 
-    /// One event. What it told is the answer of the core call, and want of memory where that call found none: the core is
-    /// then as it was, but that the limits of an end may have risen. Where memory for the world's own record of the event is
-    /// refused, nothing has happened.
+    /// Plays one event, and gives the result of its call. It is `Told::NoMemory` where the call of the end or the hop
+    /// found no memory. The end or hop is then as before, except that the limits of an end may have risen. Fails with
+    /// `NoMemory` where memory for the world's own record of the event is refused, and then nothing has happened.
     pub fn step(&mut self, event: &Event<'_>) -> Result<Told<A>, Fault>
         ensures happens { IfOk result (λ told. Happens self.old (event_seen event.now) (told_seen told) self.new) }
         ensures only_memory { IsOkUnless result Fault.NoMemory }
@@ -70,7 +70,8 @@ impl<A: Allocator + Copy> World<A> {
         Ok(told)
     }
 
-    /// A whole list of events: what it leaves, or what those before the one left that could not be recorded.
+    /// Plays a list of events, and gives the result of the run. Where an event could not be recorded, it gives the
+    /// error and the result of the events before it.
     pub fn play(mut self, events: &[Event<'_>]) -> Result<Trace<A>, (Fault, Trace<A>)>
         ensures run { IfOk result (λ t. (w : state.World) × Run self (events_seen events.now) w × (t ≡ left_of w)) }
         ensures part { IfErr result (λ e. (n : ℕ) × (n < length events.now) × (w : state.World) × Run self (events_seen (take n events.now)) w × (e.1 ≡ left_of w)) }
@@ -86,7 +87,7 @@ impl<A: Allocator + Copy> World<A> {
         Ok(self.into_trace())
     }
 
-    /// What the run has left, without the links over which it goes on. No memory.
+    /// The result of the run, without the links. Does not allocate.
     // Within a caller LLVM takes minutes to follow its moves, each of nearly 20,000 bytes.
     #[inline(never)]
     pub fn into_trace(self) -> Trace<A>

@@ -1,4 +1,4 @@
-//! Prepares that go over a chain, one at a time, and their answers.
+//! Prepares that are sent over a chain, one at a time, and their answers.
 
 ghost use Rattle.std.specs.Prelude.{◌≡◌, ◌<◌, ◌↔◌, IsTrue, OnOk, IfErr};
 ghost use Rattle.st_world.specs.Sides.{Client};
@@ -15,11 +15,11 @@ use std::alloc::Allocator;
 /// the numbers of both are the same on all links, but on the client's own, where those that were lost count too.
 #[derive(Clone, Copy, Drop)]
 pub(crate) struct Counts {
-    /// Of the client.
+    /// The Prepares that the client sent.
     sent: usize,
-    /// And not lost.
+    /// The Prepares of the client that were answered and not lost.
     answered: usize,
-    /// Of the server.
+    /// The Prepares that the server sent.
     returned: usize,
 }
 

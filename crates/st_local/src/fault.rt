@@ -22,19 +22,19 @@ pub enum LocalFault {
     /// The writer failed.
     #[error("the output could not be written")]
     Output,
-    /// The turns ran out: too many reads and writes.
+    /// The limit of I/O calls was reached: too many reads and writes.
     #[error("the turns ran out")]
     Turns,
-    /// There were `MAX_EVENTS` events, and not all was read.
+    /// There were `MAX_EVENTS` events, and not everything was read.
     #[error("there were too many events")]
     Events,
-    /// Memory was refused.
+    /// Out of memory: memory was refused.
     #[error("out of memory")]
     NoMemory,
 }
 
 impl LocalFault {
-    /// The number that `fault` prints.
+    /// The error's number, which the command prints after `fault`.
     pub fn number(&self) -> u8
         ensures { result ≡ fault_number self.now }
     {

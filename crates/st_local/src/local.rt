@@ -1,4 +1,4 @@
-//! The command `local`: the input goes over a chain in memory, and what was read at its end is written.
+//! The command `local`: sends the input over a chain in memory, and writes what was read at its end.
 
 ghost use Rattle.std.specs.Prelude.{◌≡◌, ◌⊎◌, ◌<◌, ◌≤◌, ◌^◌, ℕ, [], length, Some, IfErr, IfSome, OnOk};
 ghost use Rattle.std.specs.Io.KnownBytes.{Appends};
@@ -90,12 +90,13 @@ fn carry<A: Allocator + Copy, W: Write>(
     carry_over(&mut play, input, writer, turns)
 }
 
-/// Sends the reader's bytes over a chain of hops in memory, and writes what was read at its end. They are cut into so many
-/// consecutive parts as the settings say streams, of sizes that are equal but for the last ones; each goes on a stream of
-/// its own. One of so many Prepares of the client is lost, as the settings say. Each call of a device takes one of `turns`.
+/// Sends the reader's bytes over a chain of hops in memory, and writes what was read at its end. The settings have 1 to
+/// 32 streams and at most 8 hops. The bytes are cut into as many consecutive parts as there are streams. The parts have
+/// one size, except that the last ones may be shorter; each is sent on its own stream. The settings also say of how
+/// many Prepares of the client one is lost. Each I/O call takes one of `turns`.
 ///
-/// Nothing is written before every stream has ended: at a fault before that, nothing is. A fault of the reader or the
-/// writer is told exactly where it counted an error in this call, and that of the turns only where none is left.
+/// Nothing is written before every stream has ended. Fails with a `LocalFault`: `Input` or `Output` exactly where the
+/// reader or the writer counted an error in this call, and `Turns` only where no I/O call is left.
 pub fn play_local<A: Allocator + Copy, R: Read, W: Write>(
     alloc: A,
     settings: &LocalSettings,
@@ -120,9 +121,9 @@ pub fn play_local<A: Allocator + Copy, R: Read, W: Write>(
     carry(alloc, settings, &input, writer, turns)
 }
 
-/// The command `local`: `play_local`, whose fault is told to `errors` by its number. The status is 0 where all was written,
-/// else 1. It makes at most 2^31 - 1 calls of the reader and the writer, and tells the fault of the turns where it made all
-/// of these.
+/// The command `local`: calls `play_local`, and writes the number of its error to `errors`. The status is 0 where
+/// everything was written, otherwise 1. It makes at most `TURNS` calls of the reader and the writer. The settings have
+/// 1 to 32 streams and at most 8 hops.
 pub fn run_local<A: Allocator + Copy, R: Read, W: Write, E: Write>(
     alloc: A,
     settings: &LocalSettings,

@@ -11,10 +11,11 @@ use crate::texts::fault_line;
 use st_oer::{CountWrite, FlushTurn, PutError, flush_turn, put_all};
 use std::io::Write;
 
-/// How many calls of its reader and its writer a run makes at most, and then of its writer for errors.
+/// The greatest number of I/O calls of a run, of its reader and its writer: 2^31 - 1. The writer for errors has as many
+/// of its own.
 pub const TURNS: u64 = 2_147_483_647;
 
-/// Flushes, in at most so many turns.
+/// Flushes, in at most `turns` I/O calls.
 fn flush<W: Write>(writer: &mut CountWrite<W>, turns: &mut u64) -> Result<(), LocalFault>
     ensures bytes { Keeps (W.contents (device_of writer.old)) (W.contents (device_of writer.new)) }
     ensures turns { TakesTurns (tally_of writer.old) (tally_of writer.new) turns.old turns.new }
@@ -33,7 +34,7 @@ fn flush<W: Write>(writer: &mut CountWrite<W>, turns: &mut u64) -> Result<(), Lo
     Err(LocalFault::Turns)
 }
 
-/// Writes a text whole and flushes, in at most so many turns. Each call of the writer takes one of them.
+/// Writes a text whole and flushes, in at most `turns` I/O calls. Each call of the writer takes one of them.
 pub(crate) fn put<W: Write>(
     writer: &mut CountWrite<W>,
     text: &[u8],

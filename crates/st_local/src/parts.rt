@@ -3,7 +3,8 @@
 ghost use Rattle.std.specs.Prelude.{◌≡◌, ◌<◌};
 ghost use Rattle.st_local.specs.Parts.{part_size, stream_at};
 
-/// The bytes of a part where so many bytes are cut into so many parts, rounded up: the last parts may be shorter, or empty.
+/// The size in bytes of a part where `bytes` bytes are cut into `parts` parts, rounded up. The last parts may be
+/// shorter, or empty. `parts` is at least 1.
 pub fn part_size(bytes: usize, parts: usize) -> usize
     requires { 0 < parts }
     ensures { result ≡ part_size bytes parts }

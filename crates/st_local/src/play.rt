@@ -1,4 +1,4 @@
-//! A world that is played, event by event.
+//! A world that is played event by event.
 
 ghost use Rattle.std.specs.Prelude.{◌≡◌, ◌≢◌, ◌+◌, ◌<◌, ◌≤◌, ℕ, [], MatchBool, true, length, IfOk, IfErr, IsOkUnless, OnErr, OnOk};
 ghost use Rattle.st_world.specs.Sides.{Client};
@@ -102,7 +102,7 @@ impl<A: Allocator + Copy> Play<A> {
         iv
     }
 
-    /// One event. Refused is the one that would be one too many, and want of memory.
+    /// Plays one event. Fails where it would be one too many, and where memory is refused.
     pub(crate) fn take(&mut self, event: &Event<'_>) -> Result<Told<A>, LocalFault>
         requires { Fits self.old.asked.lose (event_seen event.now) }
         ensures happens { IfOk result (λ told. Happens self.old.world (event_seen event.now) (told_seen told) self.new.world) }

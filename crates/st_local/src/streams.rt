@@ -18,7 +18,7 @@ const PIECE: usize = 16_384;
 /// How many bytes are read at once.
 const MAX_READ: usize = 65_536;
 
-/// The client opens so many streams.
+/// The client opens a given number of streams.
 fn open_streams<A: Allocator + Copy>(play: &mut Play<A>, streams: usize) -> Result<(), LocalFault>
     ensures kept { Continues play.old play.new }
     ensures why { IfErr result (StopsPlay play.new) }
@@ -130,11 +130,11 @@ fn have_ended<A: Allocator + Copy>(play: &Play<A>, streams: usize) -> bool
 /// How far the input is sent.
 #[derive(Clone, Copy, Drop)]
 struct Progress {
-    /// How many of its bytes are written.
+    /// How many of its bytes were written.
     sent: usize,
-    /// How many of the streams are closed.
+    /// How many of the streams were closed.
     closed: usize,
-    /// The Prepares that went.
+    /// The counts of Prepares.
     counts: Counts,
 }
 

@@ -1,4 +1,4 @@
-//! Calls on an end's streams, each with the stream's ledger.
+//! Calls on an end's streams, each with the ledger of the stream.
 
 ghost use Rattle.std.specs.Prelude.{◌≡◌, ◌≢◌, ◌≤◌, OnErr, IfOk};
 ghost use Rattle.st_end.specs.Calls as calls;
@@ -38,7 +38,7 @@ fn write_slot<A: Allocator + Copy>(
     }
 }
 
-/// A clean close, with the place of the stream's ledger. No memory.
+/// A clean close, with the place of the stream's ledger. Does not allocate.
 fn close_slot<A: Allocator + Copy>(
     state: &mut EndState<A>,
     slot: &mut Slot<A>,
@@ -56,7 +56,7 @@ fn close_slot<A: Allocator + Copy>(
     }
 }
 
-/// An abort, with the place of the stream's ledger. No memory.
+/// An abort, with the place of the stream's ledger. Does not allocate.
 fn abort_slot<A: Allocator + Copy>(
     state: &mut EndState<A>,
     slot: &mut Slot<A>,
@@ -76,7 +76,7 @@ fn abort_slot<A: Allocator + Copy>(
     }
 }
 
-/// An offer, with the place of the stream's ledger. No memory.
+/// An offer, with the place of the stream's ledger. Does not allocate.
 fn offer_slot<A: Allocator + Copy>(
     state: &mut EndState<A>,
     slot: &mut Slot<A>,
@@ -132,7 +132,9 @@ fn read_slot<A: Allocator + Copy>(
     }
 }
 
-/// A write at an end, with the ledgers of those that it writes.
+/// Calls `EndState::write` at an end. `ledgers` are those of the streams that this end writes. The answer is in
+/// `Told::Call`, or `Told::NoMemory` where the call found no memory. Fails where memory for the record is refused, and
+/// then nothing has changed.
 pub fn write_at<A: Allocator + Copy>(
     party: &mut Party<A>,
     ledgers: &mut Ledgers<A>,
@@ -148,7 +150,8 @@ pub fn write_at<A: Allocator + Copy>(
     Ok(told)
 }
 
-/// A clean close at an end. No memory.
+/// Calls `EndState::close` at an end. `ledgers` are those of the streams that this end writes. The answer is in
+/// `Told::Call`. Does not allocate.
 pub fn close_at<A: Allocator + Copy>(
     party: &mut Party<A>,
     ledgers: &mut Ledgers<A>,
@@ -160,7 +163,8 @@ pub fn close_at<A: Allocator + Copy>(
     close_slot(&mut party.state, slot, stream)
 }
 
-/// An abort at an end. No memory.
+/// Calls `EndState::abort` at an end, with a code other than 1. `ledgers` are those of the streams that this end
+/// writes. The answer is in `Told::Call`. Does not allocate.
 pub fn abort_at<A: Allocator + Copy>(
     party: &mut Party<A>,
     ledgers: &mut Ledgers<A>,
@@ -174,7 +178,8 @@ pub fn abort_at<A: Allocator + Copy>(
     abort_slot(&mut party.state, slot, stream, code)
 }
 
-/// An offer at an end. No memory.
+/// Calls `EndState::offer` at an end. `ledgers` are those of the streams that this end writes. The answer is in
+/// `Told::Call`. Does not allocate.
 pub fn offer_at<A: Allocator + Copy>(
     party: &mut Party<A>,
     ledgers: &mut Ledgers<A>,
@@ -187,7 +192,9 @@ pub fn offer_at<A: Allocator + Copy>(
     offer_slot(&mut party.state, slot, stream, amount)
 }
 
-/// A read at an end, with the ledgers of its peer. It asks for room for as many bytes as it may give.
+/// Calls `EndState::read` at an end, of at most `max` bytes. `ledgers` are those of the streams that its peer writes.
+/// The result is in `Told::Gave`, or `Told::NoMemory` where the call found no memory. Fails where memory for the record
+/// is refused, and then nothing has changed.
 pub fn read_at<A: Allocator + Copy>(
     party: &mut Party<A>,
     ledgers: &mut Ledgers<A>,
@@ -204,7 +211,8 @@ pub fn read_at<A: Allocator + Copy>(
     Ok(told)
 }
 
-/// A stream is opened at an end.
+/// Calls `EndState::open_stream` at an end. The result is in `Told::Opened`, or `Told::NoMemory` where the call found
+/// no memory.
 pub fn open_at<A: Allocator + Copy>(party: &mut Party<A>) -> Told<A>
     ensures { OpenMet (calls.open_stream party.old.state) (told_seen result) party.old party.new }
 {
@@ -214,7 +222,8 @@ pub fn open_at<A: Allocator + Copy>(party: &mut Party<A>) -> Told<A>
     }
 }
 
-/// The receive max of a stream is raised at an end. No memory.
+/// Calls `EndState::set_receive_max` at an end, with an amount in units of its asset. The answer is in `Told::Call`.
+/// Does not allocate.
 pub fn raise_at<A: Allocator + Copy>(party: &mut Party<A>, stream: u8, amount: u64) -> Told<A>
     ensures { RaiseMet (calls.set_receive_max party.old.state stream amount) (told_seen result) party.old party.new }
 {

@@ -1,4 +1,4 @@
-//! Prepares that were answered.
+//! The records of Prepares that were answered.
 
 ghost use Rattle.std.specs.Prelude.{◌≡◌};
 ghost use Rattle.st_ilp.specs.Reading.{is_fulfill_text};
@@ -7,16 +7,16 @@ ghost use Rattle.st_end.specs.Receiving.{prepare_in};
 use st_ilp::{Answer, read_answer, read_prepare};
 use std::marker::Model;
 
-/// A Prepare that a hop answered.
+/// A Prepare (RFC 0027) that a hop answered.
 #[derive(Clone, Copy, Debug, PartialEq, Eq)]
 pub struct HopEntry {
-    /// The account that it came from.
+    /// The number of the account from which it arrived.
     pub incoming: usize,
-    /// The account to which it went on, if it did.
+    /// The number of the account to which it was forwarded, if it was.
     pub outgoing: Option<usize>,
-    /// The amount with which it came.
+    /// The amount with which it arrived, in units of the incoming account's asset.
     pub amount_in: u64,
-    /// The amount with which it went on.
+    /// The amount with which it was forwarded, in units of the outgoing account's asset.
     pub amount_out: u64,
     /// Whether it was fulfilled.
     pub fulfilled: bool,
@@ -32,12 +32,12 @@ impl Model for HopEntry {
     ghost inverse = { λ e. record { incoming = e.incoming; outgoing = e.outgoing; amount_in = e.amount_in; amount_out = e.amount_out; fulfilled = e.fulfilled } };
 }
 
-/// A Prepare that an end answered.
+/// A Prepare (RFC 0027) that an end answered.
 #[derive(Clone, Copy, Debug, PartialEq, Eq)]
 pub struct EndEntry {
-    /// Its amount.
+    /// Its amount in units of the end's asset.
     pub amount: u64,
-    /// The sequence of its packet, where that opened.
+    /// The sequence of its packet (RFC 0029, section 5.2), where its payload was decrypted.
     pub sequence: Option<u64>,
     /// Whether it was fulfilled.
     pub fulfilled: bool,

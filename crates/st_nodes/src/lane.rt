@@ -1,4 +1,4 @@
-//! What was put and given on the links.
+//! The Prepares and answers that were sent over the links.
 
 ghost use Rattle.std.specs.Prelude.{◌≡◌, false, [], IfOk, MatchOption, Some, None};
 ghost use Rattle.st_world.specs.State.{nth, no_lane, no_lanes};
@@ -14,7 +14,7 @@ use st_hop::Open;
 use std::alloc::{AllocError, Allocator};
 use std::marker::Model;
 
-/// A Prepare that was put on a link.
+/// A Prepare that was sent over a link, with what its sender needs for the answer.
 #[derive(Drop)]
 pub struct Put<A: Allocator + Copy> {
     pub(crate) bytes: Vec<u8, A>,
@@ -74,7 +74,7 @@ impl<A: Allocator + Copy> Put<A> {
         }
     }
 
-    /// Its bytes.
+    /// The bytes of the Prepare.
     pub fn bytes(&self) -> &[u8]
         ensures { result.now ≡ self.now.bytes }
     {
@@ -82,7 +82,7 @@ impl<A: Allocator + Copy> Put<A> {
     }
 }
 
-/// An answer that was given on a link.
+/// An answer, a Fulfill or a Reject, that was sent back over a link.
 #[derive(Drop)]
 pub struct Given<A: Allocator + Copy> {
     /// The Prepare that it answers, from 1.
@@ -114,21 +114,21 @@ impl<A: Allocator + Copy> Given<A> {
         }
     }
 
-    /// The Prepare that it answers, from 1.
+    /// The number of the Prepare that it answers, from 1.
     pub fn which(&self) -> usize
         ensures { result ≡ self.now.which }
     {
         self.which
     }
 
-    /// Its bytes.
+    /// The bytes of the answer.
     pub fn bytes(&self) -> &[u8]
         ensures { result.now ≡ self.now.bytes }
     {
         self.bytes.as_slice()
     }
 
-    /// Gives its bytes.
+    /// Gives the bytes of the answer away.
     pub fn into_bytes(self) -> Vec<u8, A>
         ensures { result.items ≡ self.bytes }
     {
@@ -136,7 +136,8 @@ impl<A: Allocator + Copy> Given<A> {
     }
 }
 
-/// One way of a link: the Prepares that were put there and the answers that were given to them, in order.
+/// One direction of a link: the Prepares that were sent in it and the answers that were sent back to them, each in
+/// order.
 #[derive(Drop)]
 pub struct Lane<A: Allocator + Copy> {
     pub(crate) puts: Vec<Put<A>, A>,
@@ -182,12 +183,12 @@ impl<A: Allocator + Copy> Lane<A> {
     }
 }
 
-/// A link, both ways.
+/// A link, in both directions.
 #[derive(Drop)]
 pub struct Link<A: Allocator + Copy> {
-    /// To the server.
+    /// The Prepares towards the server, and their answers.
     pub client: Lane<A>,
-    /// To the client.
+    /// The Prepares towards the client, and their answers.
     pub server: Lane<A>,
 }
 
@@ -204,7 +205,7 @@ impl<A: Allocator + Copy> Model for Link<A> {
 }
 
 impl<A: Allocator + Copy> Link<A> {
-    /// Nothing was put there either way.
+    /// A link over which nothing was sent.
     pub fn new(alloc: A) -> Link<A>
         ensures { result ≡ no_lanes }
     {
@@ -214,7 +215,7 @@ impl<A: Allocator + Copy> Link<A> {
         }
     }
 
-    /// One way of it.
+    /// One direction of the link.
     pub fn lane(&self, way: Way) -> &Lane<A>
         ensures { result.now ≡ at self.now (way_seen way) }
     {
@@ -225,7 +226,8 @@ impl<A: Allocator + Copy> Link<A> {
     }
 }
 
-/// A copy of the k-th Prepare that was put on a link and way, from 1.
+/// A copy of the Prepare number `which`, from 1, of a link and a direction. `None` where there is none. Fails where
+/// memory is refused.
 pub fn copy_put<A: Allocator + Copy>(
     alloc: A,
     links: &[Link<A>],
@@ -249,7 +251,8 @@ pub fn copy_put<A: Allocator + Copy>(
     }))
 }
 
-/// A copy of the j-th answer that was given on a link and way, from 1.
+/// A copy of the answer number `which`, from 1, of a link and a direction. `None` where there is none. Fails where
+/// memory is refused.
 pub fn copy_given<A: Allocator + Copy>(
     alloc: A,
     links: &[Link<A>],

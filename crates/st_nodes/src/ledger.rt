@@ -1,4 +1,4 @@
-//! What was written and read of each stream in one direction.
+//! What was written and read of each stream, by direction.
 
 ghost use Rattle.std.specs.Prelude.{◌≡◌, IfOk, MatchOption, Some, None, replicate};
 ghost use Rattle.std.specs.FinMap as fmap;
@@ -10,7 +10,7 @@ use std::marker::Model;
 /// How many numbers a call can name.
 const NUMBERS: usize = 256;
 
-/// What was accepted and read of a stream in one direction, and what its reader was told.
+/// What was written and read of a stream in one direction, and how its reader learned of its end.
 #[derive(Drop)]
 pub struct Ledger<A: Allocator + Copy> {
     pub(crate) written: Vec<u8, A>,
@@ -47,14 +47,14 @@ impl<A: Allocator + Copy> Ledger<A> {
         }
     }
 
-    /// All accepted writes, joined.
+    /// The bytes of all accepted writes, joined.
     pub fn written(&self) -> &[u8]
         ensures { result.now ≡ self.now.written }
     {
         self.written.as_slice()
     }
 
-    /// All bytes that reads gave, joined.
+    /// The bytes of all reads, joined.
     pub fn read(&self) -> &[u8]
         ensures { result.now ≡ self.now.read }
     {
@@ -75,14 +75,14 @@ impl<A: Allocator + Copy> Ledger<A> {
         self.aborted
     }
 
-    /// Whether the reader was told the end.
+    /// Whether a read gave the end of the stream.
     pub fn told_end(&self) -> bool
         ensures { result ≡ self.now.told_end }
     {
         self.told_end
     }
 
-    /// Whether the reader was told of an abort.
+    /// Whether a read gave an abort of the stream.
     pub fn told_abort(&self) -> bool
         ensures { result ≡ self.now.told_abort }
     {
@@ -149,7 +149,7 @@ fn no_ledgers<A: Allocator + Copy>(alloc: A, places: usize) -> Result<Vec<Slot<A
 }
 
 impl<A: Allocator + Copy> Ledgers<A> {
-    /// Of streams on which nothing happened.
+    /// The ledgers of streams on which nothing was written or read. Fails where memory is refused.
     pub fn new(alloc: A) -> Result<Ledgers<A>, AllocError>
         ensures { IfOk result (λ l. l ≡ fmap.empty) }
     {
@@ -158,7 +158,7 @@ impl<A: Allocator + Copy> Ledgers<A> {
         })
     }
 
-    /// The ledger of a stream: none where nothing was accepted or read of it.
+    /// The ledger of a stream. `None` where nothing was accepted or read of it.
     pub fn get(&self, stream: u8) -> Option<&Ledger<A>>
         ensures { MatchOption result (fmap.get self.now stream ≡ None) (λ x. fmap.get self.now stream ≡ Some x.now) }
     {

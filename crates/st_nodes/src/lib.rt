@@ -1,10 +1,10 @@
-//! What stands along a chain of a STREAM connection (RFC 0029, RFC 0027), each with what it was given and has not spent: an
-//! end with its flights, a hop with its tickets, the links between them with all that was ever put and given there, and
-//! what was written and read of each stream. A function is what one event does to one of these: the call of the end or
-//! of the hop, and its record.
+//! The parts of a simulated chain for a STREAM connection (RFC 0029, RFC 0027), each with its records. A `Party` is an
+//! end with its flights, a `Node` is a hop with its tickets, and a `Link` has all Prepares and answers that were ever
+//! sent over it. `Ledgers` have what was written and read of each stream. Each function is the effect of one event on
+//! one of these: the call of the end or of the hop, and its record.
 //!
-//! `specs/Parts.antt` says what each of them leaves. All that a record may grow by is asked for before the call, so that
-//! nothing has happened where it is refused.
+//! `specs/Parts.antt` defines the effects. All memory by which a record may grow is taken before the call, so that
+//! nothing has happened where memory is refused.
 #![tactic(auto)]
 
 mod calls;

@@ -1,4 +1,4 @@
-//! A hop with its open tickets and what it answered.
+//! A hop with its open tickets and its answered Prepares.
 
 ghost use Rattle.std.specs.Prelude.{◌≡◌, [], ◌∷◌, OnErr, IfOk, IfSome, IsNone, None, MatchBool, IsOkUnless, IsErrOf, map, length, nat_lt, slice_index, if◌then◌else◌};
 ghost use Rattle.st_hop.specs.Tickets.{ticket_at, without};
@@ -81,7 +81,8 @@ fn take_ticket<A: Allocator>(kept: &mut Vec<KeptTicket, A>, number: u64) -> Opti
     Some(kept.remove(place).spend())
 }
 
-/// A hop, the tickets that it gave out and that are not spent, and the Prepares that it answered.
+/// A hop (RFC 0027), its open tickets, and the Prepares that it answered. A ticket stands for a Prepare that was
+/// forwarded and has no outcome yet.
 #[derive(Drop)]
 pub struct Node<A: Allocator + Copy> {
     state: HopState<A>,
@@ -105,8 +106,9 @@ impl<A: Allocator + Copy> Model for Node<A> {
 }
 
 impl<A: Allocator + Copy> Node<A> {
-    /// A hop of a chain where nothing is owed yet, with these terms towards both its neighbours. Refused is `BadTable` where
-    /// no hop can be made of the table, and else want of memory.
+    /// A hop at the address `own`, with an account to each of its two neighbours. Both have the terms of `account`, and
+    /// nothing is owed. Fails with `BadTable` where no hop can be made of the table, and with `NoMemory` where memory
+    /// is refused.
     pub fn new(
         alloc: A,
         own: &str,
@@ -125,21 +127,23 @@ impl<A: Allocator + Copy> Node<A> {
         })
     }
 
-    /// What an account owes the hop. No memory.
+    /// What an account owes the hop, in units of that account's asset. Fails with `NoAccount` where there is no such
+    /// account. Does not allocate.
     pub fn claims(&self, account: usize) -> Result<u64, HopError>
         ensures { result ≡ (if nat_lt account (length self.now.state.accounts) then Ok (slice_index self.now.state.claims account) else Err HopError.NoAccount) }
     {
         self.state.claims(account)
     }
 
-    /// What the hop owes an account. No memory.
+    /// What the hop owes an account, in units of that account's asset. Fails with `NoAccount` where there is no such
+    /// account. Does not allocate.
     pub fn dues(&self, account: usize) -> Result<u64, HopError>
         ensures { result ≡ (if nat_lt account (length self.now.state.accounts) then Ok (slice_index self.now.state.dues account) else Err HopError.NoAccount) }
     {
         self.state.dues(account)
     }
 
-    /// The Prepares that it answered, in order. No memory.
+    /// The Prepares that it answered, in order. Does not allocate.
     pub fn answered(&self) -> &[HopEntry]
         ensures { result.now ≡ self.now.bag }
     {
@@ -147,7 +151,9 @@ impl<A: Allocator + Copy> Node<A> {
     }
 }
 
-/// A Prepare comes to a hop: it goes on to the next lane, or is answered on the lane that it came from.
+/// A Prepare arrives at a hop, at the moment `now`. The hop forwards it on the lane `next`, or answers it on the lane
+/// `back`, from which it arrived as the Prepare number `which`. Where the call finds no memory, the answer is a Reject
+/// T00 and the result `Told::NoMemory`. Fails where memory for the record is refused, and then nothing has changed.
 pub fn arrive_at<A: Allocator + Copy>(
     node: &mut Node<A>,
     next: &mut Lane<A>,
@@ -202,8 +208,9 @@ pub fn arrive_at<A: Allocator + Copy>(
     }
 }
 
-/// An outcome comes back for a Prepare that a hop put on a lane: its ticket, where it is not spent, is settled, the answer
-/// is given on the lane back, and the j-th answer on the lane that it comes from is noted where it was booked.
+/// The outcome of a Prepare that a hop sent on the lane `from`. Where its ticket is open, it is settled, and the answer
+/// is sent on the lane `back`. Where the outcome is the answer number `which` of `from` and the hop booked it, that is
+/// noted. Fails where memory for the record is refused, and then nothing has changed.
 pub fn settle_at<A: Allocator + Copy>(
     node: &mut Node<A>,
     from: &mut Lane<A>,

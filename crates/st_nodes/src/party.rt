@@ -1,4 +1,4 @@
-//! An end with its open flights and what it answered.
+//! An end with its open flights and its answered Prepares.
 
 ghost use Rattle.std.specs.Prelude.{◌≡◌, ◌≢◌, ◌<◌, ℕ, true, false, OnErr, IfOk, IfSome, IsNone, MatchOption, Some, None, slice_get, nat_eq, bytes_eq, ◌&&◌, IsOkUnless};
 ghost use Rattle.std.specs.List.{remove};
@@ -126,7 +126,8 @@ fn take_flight<A: Allocator>(kept: &mut Vec<KeptFlight, A>, place: usize, wanted
     kept.remove(place).spend()
 }
 
-/// An end, the flights that it gave out and that are not spent, and the Prepares that it answered.
+/// An end (RFC 0029), its open flights, and the Prepares that it answered. A flight stands for a Prepare that was sent
+/// and has no outcome yet.
 #[derive(Drop)]
 pub struct Party<A: Allocator + Copy> {
     pub(crate) state: EndState<A>,
@@ -151,8 +152,8 @@ impl<A: Allocator + Copy> Model for Party<A> {
 }
 
 impl<A: Allocator + Copy> Party<A> {
-    /// An end that has done nothing yet. The caller's condition is that both names are addresses. Refused is want of memory
-    /// alone.
+    /// An end that has done nothing yet. `own` and `peer` must be ILP addresses (RFC 0015). Fails with `NoMemory`
+    /// alone, where memory is refused.
     pub fn new(
         alloc: A,
         role: Role,
@@ -175,21 +176,21 @@ impl<A: Allocator + Copy> Party<A> {
         })
     }
 
-    /// Whether the connection failed: nothing goes any more. No memory.
+    /// Whether the connection failed. Nothing is sent any more then. Does not allocate.
     pub fn is_failed(&self) -> bool
         ensures { result ≡ self.now.state.sending.failed }
     {
         self.state.is_failed()
     }
 
-    /// What it did so far: the bytes that it took and gave, its credit and what it paid. No memory.
+    /// The end's totals: bytes written and read, amounts credited and paid. Does not allocate.
     pub fn totals(&self) -> Totals
         ensures { totals_seen result ≡ totals.totals self.now.state }
     {
         self.state.totals()
     }
 
-    /// The Prepares that it answered, in order. No memory.
+    /// The Prepares that it answered, in order. Does not allocate.
     pub fn answered(&self) -> &[EndEntry]
         ensures { result.now ≡ self.now.bag }
     {
@@ -197,7 +198,9 @@ impl<A: Allocator + Copy> Party<A> {
     }
 }
 
-/// An end sends: its Prepare is put on the lane.
+/// Calls `EndState::send` at an end, under this IV and at the moment `now`. Its Prepare is recorded on the lane, and
+/// the result is `Told::Sent`. It is `Told::Nothing` where there is none to send, and `Told::NoMemory` where the call
+/// found no memory. Fails where memory for the record is refused, and then nothing has changed.
 pub fn send_from<A: Allocator + Copy>(
     party: &mut Party<A>,
     lane: &mut Lane<A>,
@@ -222,7 +225,9 @@ pub fn send_from<A: Allocator + Copy>(
     }
 }
 
-/// A Prepare comes to an end: its answer is given on the lane, and it is recorded.
+/// A Prepare arrives at an end, at the moment `now`: its answer is sent back on the lane, on which it is the Prepare
+/// number `which`, and it is recorded. Where the call finds no memory, the answer is a Reject T00 and the result
+/// `Told::NoMemory`. Fails where memory for the record is refused, and then nothing has changed.
 pub fn arrive_at_end<A: Allocator + Copy>(
     party: &mut Party<A>,
     lane: &mut Lane<A>,
@@ -265,8 +270,8 @@ pub fn arrive_at_end<A: Allocator + Copy>(
     }
 }
 
-/// An outcome comes back for a Prepare that an end put on the lane: its flight, where it is not spent, is spent, and the
-/// j-th answer is noted where it was taken. No memory.
+/// The outcome of a Prepare that an end sent on the lane. Where its flight is open, the outcome is taken. Where it is
+/// the answer number `which` of the lane and was taken as the Fulfill, that is noted. Does not allocate.
 pub fn settle_at_end<A: Allocator + Copy>(
     party: &mut Party<A>,
     lane: &mut Lane<A>,

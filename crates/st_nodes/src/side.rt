@@ -1,4 +1,4 @@
-//! The two ends, and the two ways between them.
+//! The two ends of a chain, and the two directions between them.
 
 ghost use Rattle.std.specs.Prelude.{◌≡◌};
 ghost use Rattle.st_world.specs.State.{account_from};
@@ -7,13 +7,13 @@ ghost use Rattle.st_nodes.specs.Seen.{way_seen};
 /// An end of the chain.
 #[derive(Clone, Copy, Debug, PartialEq, Eq)]
 pub enum Side {
-    /// It opens streams of odd numbers. Link 0 is its own.
+    /// The client: it opens streams of odd numbers. It is at link 0.
     Client,
-    /// It opens streams of even numbers.
+    /// The server: it opens streams of even numbers. It is at the last link.
     Server,
 }
 
-/// The way of a Prepare along the chain. Its answer comes back the other way.
+/// The direction of a Prepare along the chain. Its answer is sent in the other one.
 #[derive(Clone, Copy, Debug, PartialEq, Eq)]
 pub enum Way {
     /// From the client to the server.

@@ -1,34 +1,35 @@
-//! What the core call of an event answered.
+//! The result of an event.
 
 use st_end::EndError;
 use st_receiver::Got;
 use std::alloc::Allocator;
 
-/// What the core call of an event answered. The bytes of a Prepare and of an answer stand last in their list on the link.
+/// The result of an event: what the end or the hop answered. The bytes of a Prepare or an answer that was sent are the
+/// last of their list on the link.
 #[derive(Drop)]
 pub enum Told<A: Allocator + Copy> {
-    /// A Send gave none, or there was no call.
+    /// An end had nothing to send, or there was no call.
     Nothing,
-    /// The answer of a call on a stream, or that an outcome was taken by an end.
+    /// The result of a call on a stream; or an end took an outcome.
     Call(Result<(), EndError>),
     /// The number of the stream that was opened.
     Opened(Result<u8, EndError>),
-    /// What a read gave.
+    /// The result of a read.
     Gave(Result<Got<A>, EndError>),
-    /// A Prepare was put on the end's own link.
+    /// An end sent a Prepare over its own link.
     Sent,
     /// An end answered a Prepare.
     Answered {
-        /// Why it was rejected: 0 where it was fulfilled.
+        /// The number of the reason of a Reject; 0 for a Fulfill.
         reason: u8,
-        /// Its amount.
+        /// The amount of the Prepare, in units of the end's asset.
         amount: u64,
-        /// The sequence of its packet, where that opened.
+        /// The sequence of its packet (RFC 0029, section 5.2), where its payload was decrypted.
         sequence: Option<u64>,
     },
-    /// A hop gave an answer.
+    /// A hop sent an answer back.
     Replied,
-    /// A hop put the Prepare on the next link.
+    /// A hop forwarded the Prepare over the next link.
     Went,
     /// The call found no memory.
     NoMemory,

@@ -1,4 +1,5 @@
-//! What holds of every quiet run over hops, over the definitions alone. These functions do nothing: the contract is the law.
+//! Laws of every lossless run over hops, over the definitions alone. These functions do nothing: the contract is the
+//! law. A Send is a call of `send`. A calm hop (`IsCalm`) has no open tickets and has room for the money that is left.
 
 ghost use Rattle.std.specs.Prelude.{◌≡◌, ℕ, ◌+◌, ◌*◌, ◌-ℤ◌, ◌<◌, ◌≤◌, ◌^◌, ℤ, true, false, int_le, int_lt, List, [], ◌∷◌, length, sum, is_ok, Ok};
 ghost use Rattle.std.specs.declared.option.Option.TheVariants.{Some};
@@ -38,8 +39,8 @@ ghost use Rattle.st_passage.specs.Rounds.{BeginsEach, MayRun, QuietRun, allows, 
 ghost use Rattle.st_passage.specs.Worlds.{AllForward, HasCrossed, IsAtRest, Met, passing};
 ghost use Rattle.st_passage.specs.Plays.{IsDelivered, MayPlay, are_lawful, input_of, money_of, most_sends, sends_needed};
 
-/// A Prepare that comes to a calm hop in time goes on as it came, but that it expires a second earlier. The Fulfill that
-/// fits goes back with the same bytes, and leaves the hop calm.
+/// A calm hop forwards a Prepare that arrives in time unchanged, except that it expires a second earlier. It sends the
+/// fitting Fulfill back with the same bytes, and is calm again.
 pub fn a_calm_hop_passes_on()
     ensures goes { (destination : List ℕ) (sent most left after : ℕ) (h : Hop) (p : PreparePacket) (now : ℤ) → IsCalm destination sent most left h → IsPrepare p → HasRoom destination sent most left after p → int_le (p.expiry -ℤ hop_time) now ≡ false
         → arrived h 0 (prepare_text p) now ≡ (Forwards (ticket_of h p) 1 (prepare_text (earlier p)), holding h (ticket_of h p)) }
@@ -48,22 +49,23 @@ pub fn a_calm_hop_passes_on()
     ensures calm { (destination : List ℕ) (sent most left after : ℕ) (h : Hop) (p : PreparePacket) → IsCalm destination sent most left h → HasRoom destination sent most left after p → IsCalm destination (sent + 1) most after (after_one h p) }
 {}
 
-/// A new hop with an account towards each end is calm, where its route leads on and its terms towards the first have room.
+/// A new hop with an account towards each end is calm, where its route leads to the destination and its terms towards
+/// the client have room.
 pub fn a_new_hop_is_calm()
     ensures { (destination own : List ℕ) (client server : Account) (routes : List Way) (most left : ℕ) → LeadsOn (new_hop own (client ∷ server ∷ []) routes) destination → most ≤ client.max_packet → left ≤ client.limit → left < 2 ^ 63
         → IsCalm destination 0 most left (new_hop own (client ∷ server ∷ []) routes) }
 {}
 
-/// To both ends a crossing of calm hops is a turn with nothing between them, and it leaves the hops calm.
+/// To both ends a Prepare and its answer over calm hops are the same as without hops, and the hops are calm again.
 pub fn a_crossing_is_a_turn()
     ensures turn { (input : ℕ → List ℕ) (limit : ℕ) (e f g h : EndState) (hops others : List Hop) → 32739 ≤ limit → IsModest (lengths input) → Stands input e f → AreCalm e.peer e.sending hops → Crossing input limit e hops f g others h → Turn input limit e f g h }
     ensures stands { (input : ℕ → List ℕ) (limit : ℕ) (e f g h : EndState) (hops others : List Hop) → 32739 ≤ limit → IsModest (lengths input) → Stands input e f → AreCalm e.peer e.sending hops → Crossing input limit e hops f g others h → Stands input g h }
     ensures calm { (input : ℕ → List ℕ) (limit : ℕ) (e f g h : EndState) (hops others : List Hop) → 32739 ≤ limit → IsModest (lengths input) → Stands input e f → AreCalm e.peer e.sending hops → Crossing input limit e hops f g others h → AreCalm g.peer g.sending others }
 {}
 
-/// So a run over hops has no more Sends than one with nothing between its ends, with nothing assumed of what the hops answer:
-/// from the opening on, where each hop has room for all money that was offered, and a read for what one packet brings. Where nothing is left, each stream's input was
-/// read whole, and its money was credited.
+/// A run over hops has no more Sends than one without hops. Nothing is assumed of the hops' answers. From the start
+/// each hop has room for all money that was offered, and each read takes as much as one packet has. Where nothing is
+/// left, each stream's input was read whole, and its money was credited.
 pub fn a_run_over_hops_is_bounded()
     ensures bounded { (role : Role) (keys : DerivedKeys) (own peer : List ℕ) (config its_config : Config) (input : ℕ → List ℕ) (money : ℕ → ℕ) (count limit m : ℕ) (hops others : List Hop) (g h : EndState)
         → 32739 ≤ limit → MaySend config → IsModest (lengths input) → IsModest money
@@ -80,17 +82,17 @@ pub fn a_run_over_hops_is_bounded()
         → ((incoming_at h.receiving k).held.read ≡ length (input k)) × ((incoming_at h.receiving k).credited ≡ x.offered)) }
 {}
 
-/// In a world at rest a Send whose Prepare each hop sends on, its arrivals over all links, and those of its answer back, are a
-/// crossing, and leave the world at rest.
+/// In a world at rest (`IsAtRest`), take a Send whose Prepare each hop forwards, its arrivals over all links, and those
+/// of its answer. Together they are a crossing, and leave the world at rest.
 pub fn a_prepare_crosses_a_world()
     ensures { (w mid v : World) (e f : EndState) (hops : List Hop) (count : ℕ) (iv : List ℕ) (now : ℤ) → IsAtRest w e hops f count
         → ((flight : flights.Open) (bytes : List ℕ) (gone : EndState) → Goes e iv now flight bytes gone → AllForward hops bytes now)
         → Step w (Send Client iv now) Sent mid → Met mid (passing (length hops) (count + 1) now) v → HasCrossed w e hops f count iv now v }
 {}
 
-/// So a quiet run of a world, by its events from where nothing has happened, has no more Sends than the bound. Where then none
-/// goes, all of each stream's input was written and read, a read of it tells the end,
-/// and its money was credited.
+/// A lossless run of a world, by its events from where nothing has happened, has no more Sends than the bound. Where
+/// then nothing is left to send, all of each stream's input was written and read, a read of it gives the end, and its
+/// money was credited.
 pub fn a_quiet_run_of_a_world_is_bounded()
     ensures bounded { (c : Chain) (input : ℕ → List ℕ) (money : ℕ → ℕ) (count limit m : ℕ) (v : World) → MayRun c input money count limit → QuietRun c input money count limit m v
         → m + 1 ≤ bound (lengths input) (opening_client c input money count).sending }
@@ -110,10 +112,10 @@ pub fn a_quiet_run_of_a_world_is_bounded()
         → GoesNone (end_at v Client) → outgoing_at (end_at v Client).sending k ≡ Some x → got most (incoming_at (end_at v Server).receiving k).held ≡ End }
 {}
 
-/// So with a list of inputs and one of amounts, for the client's streams 1, 3, 5 and on, each of these streams opens, and there
-/// are no more Sends than these lists tell. Where then none goes, and each stream is read once more, each entry was written,
-/// read, told its end and credited, the server's credit is the sum of the amounts, and still as many Prepares were put on the
-/// first link as Sends went.
+/// A lossless run with a list of inputs and one of amounts, for the client's streams 1, 3, 5 and on. Each of these
+/// streams opens, and there are no more Sends than these lists give. Where then nothing is left to send and each stream
+/// is read once more, each input was written and read to its end, and each amount was credited. The server's credit is
+/// the sum of the amounts, and the first link has as many Prepares as there were Sends.
 pub fn a_played_run_delivers()
     ensures bounded { (c : Chain) (xs : List (List ℕ)) (ms : List ℕ) (limit m : ℕ) (v : World) → are_lawful xs ms ≡ true → MayPlay c xs ms → 32739 ≤ limit → QuietRun c (input_of xs) (money_of ms) (length xs) limit m v
         → m + 1 ≤ most_sends c.config.packet_limit xs ms }

@@ -1,4 +1,5 @@
-//! What holds of every quiet run, over the definitions alone. These functions do nothing: the contract is the law.
+//! Laws of every lossless run, over the definitions alone. These functions do nothing: the contract is the law. A Send
+//! is a call of `send` at the sending end.
 
 ghost use Rattle.std.specs.Prelude.{◌≡◌, ℕ, ◌+◌, ◌<◌, ◌≤◌, true, false, List, [], ◌∷◌, ◌^◌, length, sum, Contains};
 ghost use Rattle.std.specs.List.{AllByRecursion, list_any};
@@ -33,14 +34,16 @@ ghost use Rattle.st_quiet.specs.Calls.{CanWrite, MaySend, allow_each, begin_each
 ghost use Rattle.st_quiet.specs.Trips.{AreJoined, CanTell, Trip, Trips, Turns};
 ghost use Rattle.st_quiet.specs.Mirrored.{IsAbreast, IsMirrored, IsOn, IsPacketOf, IsReadOut};
 
-/// From the opening on a quiet run has fewer Sends than the bound; so there is room in it for the one that gives none.
+/// From its start a lossless run has fewer Sends than the bound, so the bound also counts the last Send, which gives no
+/// Prepare.
 pub fn sends_are_bounded()
     ensures bounded { (n : ℕ → ℕ) (config : Config) (m : ℕ) (s t : Sending) → IsOpening n config s → Rounds n m s t → m + 1 ≤ bound n s }
     ensures sharper { (n : ℕ → ℕ) (config : Config) (m : ℕ) (s t : Sending) → IsOpening n config s → Rounds n m s t → m + work_left n t ≤ work_left n s }
     ensures quiet { (n : ℕ → ℕ) (config : Config) (m : ℕ) (s t : Sending) → IsOpening n config s → Rounds n m s t → IsQuiet n t }
 {}
 
-/// While bytes, money or a close are left, a Send can't give none; where nothing is left, it gives none, and all is done.
+/// While bytes, money or a close are left, a Send gives a Prepare. Where nothing is left it gives none, and each stream
+/// is done.
 pub fn a_send_stops_at_the_end()
     ensures goes { (n : ℕ → ℕ) (s : Sending) (limits : List Known) → IsQuiet n s → 0 < work_left n s → ¬ IsIdle s limits max_packet }
     ensures stops { (n : ℕ → ℕ) (s : Sending) (limits : List Known) (p : Load) → IsQuiet n s → work_left n s ≡ 0 → ¬ Sends s limits max_packet p (with_flight s p) }
@@ -50,16 +53,17 @@ pub fn a_send_stops_at_the_end()
     ensures done { (n : ℕ → ℕ) (s : Sending) (k : ℕ) (x : Outgoing) → IsQuiet n s → work_left n s ≡ 0 → outgoing_at s k ≡ Some x → IsDone (n k) x }
 {}
 
-/// What a receiver tells that had read all that went before is enough for the next Send: its windows of 65,536 and
-/// 1,048,576 bytes leave 16,000 past the longest load, and its receive max leaves room for all money that was offered.
+/// The limits in the reply of a receiver that had read everything before suffice for the next Send. Its windows of
+/// 65,536 and 1,048,576 bytes leave 16,000 beyond the longest packet, and its receive max leaves room for all money
+/// that was offered.
 pub fn a_reply_tells_enough()
     ensures { (n : ℕ → ℕ) (s : Sending) (limits : List Known) (p : Load) (told : List Known)
         → IsQuiet n s → Sends s limits max_packet p (with_flight s p) → Fills s limits max_packet p → IsSmall s → PeerTells s p told
         → TellsEnough (once_fulfilled s p) told }
 {}
 
-/// No frame of such a load breaks a rule of a receiver that mirrors the sender, its money goes where its shares say, and taking
-/// it leaves what was read.
+/// No frame of a lossless run's packet breaks a rule of a receiver that mirrors the sender. Its money is split as its
+/// shares say, and the packet does not change what was read.
 pub fn a_load_breaks_no_rule()
     ensures fine { (n : ℕ → ℕ) (s : Sending) (limits : List Known) (p : Load) (r : Receiving)
         → IsQuiet n s → Sends s limits max_packet p (with_flight s p) → IsMirrored s r → frames_fault r p.frames ≡ None }
@@ -70,20 +74,21 @@ pub fn a_load_breaks_no_rule()
     ensures split { (ms : List ℕ) → 0 < sum ms → parts (sum ms) ms ≡ ms }
 {}
 
-/// A reply tells the connection's limit, and the window of each stream that a frame of the request names.
+/// A reply has the connection's limit, and the window of each stream that a frame of the request names.
 pub fn a_reply_tells_each_window()
     ensures connection { (r : Receiving) (fs : List Known) → Contains (reply_frames r fs) (ConnectionMaxData (connection_limit r)) }
     ensures window { (r : Receiving) (fs : List Known) (k : ℕ)
         → 1 ≤ k → k ≤ 64 → may_name r k ≡ true → list_any (names k) fs ≡ true → Contains (reply_frames r fs) (StreamMaxData k (capped ((incoming_at r k).held.read + 65536))) }
 {}
 
-/// A receiver that is abreast of the sender fulfills each load of a quiet run.
+/// A receiver that is level with the sender (`IsAbreast`) fulfills each Prepare of a lossless run.
 pub fn a_load_is_fulfilled()
     ensures { (n : ℕ → ℕ) (s : Sending) (limits : List Known) (p : Load) (q : Packet) (r : Receiving)
         → IsQuiet n s → Sends s limits max_packet p (with_flight s p) → IsAbreast n s r → IsPacketOf p q → fault_of r q p.amount ≡ None }
 {}
 
-/// Its reply tells what it had read and credited, and so enough for the next Send.
+/// The reply of a receiver that is level with the sender (`IsAbreast`) has what it read and credited, and so suffices
+/// for the next Send.
 pub fn a_fulfill_tells_enough()
     ensures tells { (n : ℕ → ℕ) (s : Sending) (limits : List Known) (p : Load) (q : Packet) (r : Receiving)
         → IsQuiet n s → Sends s limits max_packet p (with_flight s p) → IsAbreast n s r → IsPacketOf p q → PeerTells s p (reply_frames (effect r q p.amount) (frames_of q)) }
@@ -92,30 +97,30 @@ pub fn a_fulfill_tells_enough()
         → TellsEnough (once_fulfilled s p) (reply_frames (effect r q p.amount) (frames_of q)) }
 {}
 
-/// Once such a load took effect a read takes all that the sender has then acknowledged.
+/// Once a packet of a lossless run took effect, a read can take everything that the sender then has acknowledged.
 pub fn a_load_is_read()
     ensures { (n : ℕ → ℕ) (s : Sending) (limits : List Known) (p : Load) (q : Packet) (r : Receiving) (k : ℕ) (y : Outgoing)
         → IsQuiet n s → Sends s limits max_packet p (with_flight s p) → Fills s limits max_packet p → IsAbreast n s r → IsPacketOf p q
         → outgoing_at (once_fulfilled s p) k ≡ Some y → (let h = (incoming_at (effect r q p.amount) k).held in h.read + length (run h) ≡ y.acked_end) }
 {}
 
-/// And no stream then holds more in a row than a packet has room for.
+/// Once a packet of a lossless run took effect, no stream has more unread bytes in a row than one packet has room for.
 pub fn a_load_is_short()
     ensures { (n : ℕ → ℕ) (s : Sending) (limits : List Known) (p : Load) (q : Packet) (r : Receiving) (k : ℕ)
         → IsQuiet n s → Sends s limits max_packet p (with_flight s p) → Fills s limits max_packet p → IsAbreast n s r → IsPacketOf p q
         → length (run (incoming_at (effect r q p.amount) k).held) ≤ 32739 }
 {}
 
-/// A receiver whose reader takes what it can is abreast again after each round.
+/// A receiver whose reader takes all it can is level with the sender again after each round.
 pub fn a_round_keeps_abreast()
     ensures { (n : ℕ → ℕ) (s t : Sending) (limits : List Known) (p : Load) (q : Packet) (r u : Receiving)
         → IsQuiet n s → Sends s limits max_packet p (with_flight s p) → Fills s limits max_packet p → IsAbreast n s r → IsPacketOf p q
         → IsReadOut (effect r q p.amount) u → IsWritten n (after_all_told (once_fulfilled s p) (reply_frames (effect r q p.amount) (frames_of q))) t → IsAbreast n t u }
 {}
 
-/// A run of both sides has no more Sends than the bound, with nothing assumed of what the receiver answers: from an opening
-/// and a receiver that is abreast of it, whatever was read out and written on. Where nothing is left, all bytes of each
-/// stream were read and all its money was credited.
+/// A run of both sides has no more Sends than the bound, whatever was read and written meanwhile. It begins at a start
+/// of the sender and at a receiver that is level with it. Nothing is assumed of the receiver's answers. Where nothing
+/// is left, all bytes of each stream were read and all its money was credited.
 pub fn exchanges_are_bounded()
     ensures bounded { (n : ℕ → ℕ) (config : Config) (m : ℕ) (s t : Sending) (r u : Receiving)
         → IsModest n → IsOpening n config s → IsAbreast n s r → Exchanges n m s r t u → m + 1 ≤ bound n s }
@@ -127,14 +132,14 @@ pub fn exchanges_are_bounded()
         → IsQuiet n s → IsAbreast n s r → work_left n s ≡ 0 → outgoing_at s k ≡ Some x → ((incoming_at r k).held.read ≡ n k) × ((incoming_at r k).credited ≡ x.offered) }
 {}
 
-/// Reads of each open stream, of as many bytes as it holds in a row, take all that can be read.
+/// Reads of each open stream, each of as many bytes as are there in a row, take everything that can be read.
 pub fn reads_take_all()
     ensures { (limit : ℕ) (r : Receiving) → length r.streams ≡ 65 → ((k : ℕ) → (incoming_at r k).held.aborted ≡ None) → ((k : ℕ) → length (run (incoming_at r k).held) ≤ limit)
         → IsReadOut r (read_each limit 0 65 r) }
 {}
 
-/// A write on a stream that is open, with what waits in a row, is taken as far as 262,144 bytes that are not acknowledged,
-/// and refused past them.
+/// A write on an open stream that was not closed is accepted where at most 262,144 bytes are then unacknowledged, and
+/// fewer than 2^63 bytes accepted in all. With more unacknowledged bytes it is refused with `Full`.
 pub fn a_write_is_taken_where_it_fits()
     ensures fits { (s : Sending) (k count : ℕ) (x : Outgoing) → outgoing_at s k ≡ Some x → IsRow x → is_closed x ≡ false → all_accepted s.streams + count < 2 ^ 63
         → x.accepted + count ≤ x.acked_end + 262144 → write_refusal s k count ≡ None }
@@ -142,20 +147,22 @@ pub fn a_write_is_taken_where_it_fits()
         → x.acked_end + 262144 < x.accepted + count → write_refusal s k count ≡ Some Full }
 {}
 
-/// A stream whose input was written as far as it fits, and closed where that was its end, is written on.
+/// A stream whose input was written as far as it fits, and closed where the input ended, is a continuation of its
+/// writes.
 pub fn a_stream_is_written_on()
     ensures more { (n : ℕ) (x : Outgoing) (more : List ℕ) → x.accepted + length more < n → x.acked_end + 262144 ≤ x.accepted + length more → IsRefilled n x (after_write more x) }
     ensures closed { (n : ℕ) (x : Outgoing) (more : List ℕ) → x.accepted + length more ≡ n → IsRefilled n x (after_clean (after_write more x)) }
 {}
 
-/// Calls that write what fits of each stream's input, and close it at its end, are a writing on, and change nothing else.
+/// Calls that write what fits of each stream's input, and close the stream at the input's end, continue the writes and
+/// change nothing else.
 pub fn calls_write_on()
     ensures { (input : ℕ → List ℕ) (e : EndState) → CanWrite (lengths input) e
         → (let g = write_each input 0 65 e in IsWritten (lengths input) e.sending g.sending × (g ≡ record e { sending = g.sending })) }
 {}
 
-/// Calls that open streams, with money and input for each, are an opening; the peer that lets that money come is abreast of
-/// it, and can tell so.
+/// Calls that open streams, with money and input for each, are a start. A peer that raised its receive max to that
+/// money is level with it, and can advertise it.
 pub fn calls_open()
     ensures opening { (role : Role) (keys : DerivedKeys) (own peer : List ℕ) (config : Config) (input : ℕ → List ℕ) (money : ℕ → ℕ) (count : ℕ)
         → MaySend config → IsModest (lengths input) → IsModest money → IsOpening (lengths input) config (begin_each input money count (new_end role keys own peer config)).sending }
@@ -166,27 +173,27 @@ pub fn calls_open()
         → (let f = allow_each money 0 65 (new_end (other role) keys peer own its_config) in AreJoined (begin_each input money count (new_end role keys own peer config)) f × CanTell f.receiving) }
 {}
 
-/// A receiver to which nothing came is abreast of an opening, where it lets all that is offered come.
+/// A receiver at which nothing arrived is level with a start, where its receive max lets all the offered money arrive.
 pub fn an_opening_is_abreast()
     ensures { (n : ℕ → ℕ) (config : Config) (s : Sending) (parity : ℕ) (kept : List ℕ)
         → IsOpening n config s → AllowsAll s (opened_receiving parity kept) → IsAbreast n s (opened_receiving parity kept) }
 {}
 
-/// What came is held, and a run of what is held in a row takes it all.
+/// What arrived is buffered, and a read of what is there in a row takes all of it.
 pub fn a_read_takes_all()
     ensures held { (xs : List ℕ) (o q : ℕ) (s : Held) → IsOn s → s.read ≤ q → o ≤ q → q < o + length xs → (b : ℕ) × (get (after_insert o xs s).bytes q ≡ Some b) }
     ensures run { (s : Held) (run : List ℕ) (end : ℕ) → IsRun s run → s.read ≤ end
         → ((q : ℕ) → s.read ≤ q → q < end → (b : ℕ) × (get s.bytes q ≡ Some b)) → ((q : ℕ) → end ≤ q → get s.bytes q ≡ None) → s.read + length run ≡ end }
 {}
 
-/// Between two ends of a connection with nothing between them a trip of bytes is an exchange: the load took effect there
-/// before the reads, and was acknowledged here before the writes.
+/// Between two ends without hops, a trip of bytes is an exchange: the packet took effect at the receiver before the
+/// reads, and was acknowledged at the sender before the writes.
 pub fn a_trip_is_an_exchange()
     ensures { (n : ℕ → ℕ) (e f g h : EndState) → IsQuiet n e.sending → IsAbreast n e.sending f.receiving → AreJoined e f → CanTell f.receiving → Trip n e f g h
         → Exchange n e.sending f.receiving g.sending h.receiving }
 {}
 
-/// So a run of trips has no more Sends than the bound; where nothing is left, all was delivered.
+/// A run of trips has no more Sends than the bound. Where nothing is left, everything was delivered.
 pub fn trips_are_bounded()
     ensures bounded { (n : ℕ → ℕ) (config : Config) (m : ℕ) (e f g h : EndState) → IsModest n → IsOpening n config e.sending → IsAbreast n e.sending f.receiving → AreJoined e f → CanTell f.receiving
         → Trips n m e f g h → m + 1 ≤ bound n e.sending }
@@ -196,7 +203,7 @@ pub fn trips_are_bounded()
         → Trips n m e f g h → work_left n g.sending ≡ 0 → outgoing_at g.sending k ≡ Some x → ((incoming_at h.receiving k).held.read ≡ n k) × ((incoming_at h.receiving k).credited ≡ x.offered) }
 {}
 
-/// So a run of two ends by their calls alone, from their opening on, has no more Sends than the bound; where nothing is left,
+/// A run of two ends by their calls alone, from their start, has no more Sends than the bound. Where nothing is left,
 /// each stream's input was read whole, and its money was credited.
 pub fn a_run_is_bounded()
     ensures bounded { (role : Role) (keys : DerivedKeys) (own peer : List ℕ) (config its_config : Config) (input : ℕ → List ℕ) (money : ℕ → ℕ) (count limit m : ℕ) (g h : EndState)

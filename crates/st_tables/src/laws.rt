@@ -1,4 +1,4 @@
-//! Laws of the definitions: each map is pinned by what it has at each number.
+//! Laws of the definitions: each map is determined by its value at each number.
 
 ghost use Rattle.st_tables.specs.Laws.{BytesArePutPointwise, SameIsPutPointwise, TableIsPointwise};
 
@@ -7,12 +7,12 @@ pub fn table_is_pointwise()
     ensures { TableIsPointwise }
 {}
 
-/// A map with bytes put in has them from their first number on, and elsewhere what it had.
+/// Putting bytes into a map gives it these bytes from their first number on. Its other values stay.
 pub fn bytes_are_put_pointwise()
     ensures { BytesArePutPointwise }
 {}
 
-/// A map with one value put in at a row of numbers has it there, and elsewhere what it had.
+/// Putting one value into a map at a range of numbers gives it that value there. Its other values stay.
 pub fn same_is_put_pointwise()
     ensures { SameIsPutPointwise }
 {}

@@ -1,6 +1,8 @@
-//! Finite maps from numbers, made of functions. A crate that keeps a map in arrays says which value stands at each number
-//! (`specs/Table.antt`: `table`), and what its calls do to the map value by value; the lemmas of `proofs/Tables.antt` join
-//! the two. The laws say that a table is the one map with its function's values. There is no code here.
+//! Laws of finite maps from numbers, for crates that store a map in arrays. There is no code here.
+//!
+//! Such a crate says which value stands at each number (`table` in `specs/Table.antt`), and what its calls do to the
+//! map, value by value. The lemmas of `proofs/Tables.antt` connect the two. By the laws, a table is the one map with
+//! its function's values.
 #![tactic(auto)]
 
 mod laws;

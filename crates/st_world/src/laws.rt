@@ -1,4 +1,4 @@
-//! What every run keeps, over the definitions alone. These functions do nothing: the contract is the law.
+//! Laws of every run, over the definitions alone. These functions do nothing: the contract is the law.
 
 ghost use Rattle.std.specs.Prelude.{◌≡◌, ℕ, ℤ, true, false, List, [], ◌∷◌, Some, length, slice_get};
 ghost use Rattle.st_hop.specs.declared.ticket.Open as tickets;
@@ -12,36 +12,39 @@ ghost use Rattle.st_world.specs.Steps.{Step, noted};
 ghost use Rattle.st_world.specs.Runs.{Chain, is_chain, Run, opening};
 ghost use Rattle.st_world.specs.Holds.{Holds, StaysRead};
 
-/// After any list of calls, arrivals, answers and faults over any chain of hops, with Prepares and answers lost, repeated
-/// and reordered at will: what was read of each stream is a prefix of what was written, and all of it where the reader was
-/// told the end; each end's credit is the sum of the Prepares that it fulfilled, each sequence once; each hop's claims and
-/// dues are the sums of the Prepares that were fulfilled over it; and on each link the claims less the dues are the
-/// Fulfills that were given and not taken. From a world on where a reader was told an end or an abort of a stream, no run
-/// reads more of it.
+/// What holds after any list of calls, arrivals, answers and faults over any chain of hops, where Prepares and answers
+/// may be lost, repeated and reordered:
+///
+/// - What was read of each stream is a prefix of what was written, and all of it where a read gave the end.
+/// - Each end's credit is the sum of the Prepares that it fulfilled, each sequence once.
+/// - Each hop's claims and dues are the sums of the Prepares that were fulfilled over it.
+/// - On each link the claims less the dues are the Fulfills that were sent and not taken.
+///
+/// Once a read gave the end or an abort of a stream, no run reads more of it.
 pub fn every_run_holds()
     ensures holds { (c : Chain) (events : List Event) (w : World) → Run (opening c) events w → Holds w }
     ensures stays { (c : Chain) (events more : List Event) (w v : World) → Run (opening c) events w → Run w more v → (side : Side) (k : ℕ) → StaysRead (ledger_at w side k) (ledger_at v side k) }
 {}
 
-/// An event that is met changes nothing in whether a core call found no memory: that is noted where one did, and only there.
+/// A world notes that a call of an end or a hop found no memory. An event whose call found memory leaves the note as it
+/// was, and one whose call found none sets it.
 pub fn want_of_memory_is_noted()
     ensures met { (c : Chain) (events : List Event) (w : World) → Run (opening c) events w → (event : Event) (told : Told) (v : World) → IsEvent event → Step w event told v → v.refused ≡ w.refused }
     ensures refused { (w : World) → (noted w).refused ≡ true }
 {}
 
-/// From the opening of a lawful chain each hop stays lawful in every run, with its two accounts: each account is within its
+/// In every run from the start of a lawful chain each hop stays lawful and has two accounts: each account is within its
 /// limit, and all sums are below 2^63.
 pub fn hops_stay_lawful()
     ensures { (c : Chain) (events : List Event) (w : World) → is_chain c ≡ true → Run (opening c) events w → (i : ℕ) (n : Node) → slice_get w.nodes i ≡ Some n → IsLawful n.state × (length n.state.accounts ≡ 2) }
 {}
 
-/// A Prepare that comes to a lawful hop with an account towards each end goes on, where it does, to the account towards the
-/// other end: a chain leaves none behind.
+/// A lawful hop with two accounts, one towards each end, forwards a Prepare only to the account towards the other end.
 pub fn prepares_go_across()
     ensures { (h : Hop) (way : Side) (bytes : List ℕ) (now : ℤ) → IsLawful h → length h.accounts ≡ 2 → (t : tickets.Open) (outgoing : ℕ) (text : List ℕ) → (arrived h (account_from way) bytes now).0 ≡ Forwards t outgoing text → outgoing ≡ account_to way }
 {}
 
-/// There are runs: over any chain a client opens its stream 1 and closes it.
+/// Runs exist: over any chain the client may open its stream 1 and close it.
 pub fn streams_open_and_close()
     ensures { (c : Chain) → (w : World) × Run (opening c) (OpenStream Client ∷ Close Client 1 ∷ []) w × ((ledger_at w Client 1).clean ≡ true) × (w.refused ≡ false) }
 {}
