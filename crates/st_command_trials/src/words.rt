@@ -116,7 +116,36 @@ fn receive_says_its_settings(rt: HostRuntime) {
     sure!(&rt; settings.listen == "[::1]:65535" && settings.token == "t2");
     sure!(&rt; settings.address == "example.bob" && settings.peer == "example.alice");
     sure!(&rt; settings.receive_max == 9_223_372_036_854_775_807 && settings.secret[31] == 31);
-    sure!(&rt; settings.totals.is_none());
+    sure!(&rt; settings.totals.is_none() && settings.patience.is_none());
+}
+
+/// The words of `receive` with one more.
+fn received(word: &'static str) -> [&'static str; 14] {
+    let mut words = LONGER;
+    words[..12].copy_from_slice(RECEIVE.as_slice());
+    words[12] = word;
+    words
+}
+
+/// A patience is 1 to 86,400 seconds.
+#[test]
+fn a_patience_is_said(rt: HostRuntime) {
+    for (word, seconds) in [("--patience=1", 1), ("--patience=86400", 86_400)] {
+        let words = received(word);
+        let Ok(Request::Receive(settings)) = read_words(rt.alloc(), &words[..13]) else {
+            assert!(rt; false, "the words are taken");
+            return;
+        };
+        sure!(&rt; settings.patience == Some(seconds));
+    }
+    for (word, status) in [
+        ("--patience=0", 2),
+        ("--patience=86401", 2),
+        ("--patience=+5", 98),
+    ] {
+        let words = received(word);
+        sure!(&rt; status_of(rt.alloc(), &words[..13]) == status, of word);
+    }
 }
 
 #[test]

@@ -1,4 +1,4 @@
-//! Why a line is refused, and why a run ends early.
+//! Why a line of input is refused, and why a run ends early.
 
 ghost use Rattle.std.specs.Prelude.{◌≡◌};
 ghost use Rattle.st_commands.specs.Errors.{number, inner, fault_number};
@@ -8,25 +8,25 @@ use st_reassembly::InboxError;
 use std::alloc::AllocError;
 use thiserror::Error;
 
-/// Why a line of `frames` changes nothing.
+/// Why a line of `frames` is refused. A refused line changes nothing.
 #[derive(Clone, Copy, Debug, PartialEq, Eq, Error)]
 pub enum LineError {
-    /// A character is no hexadecimal digit, or their number is odd.
+    /// A character is not a hexadecimal digit, or the number of digits is odd.
     #[error("the line is not hexadecimal")]
     NotHex,
-    /// The bytes are no plain STREAM packet of a Prepare.
+    /// The bytes are not the plain STREAM packet of a Prepare (RFC 0029).
     #[error("{0}")]
     Packet(FrameError),
-    /// A StreamData frame names stream 0 or one above 64.
+    /// A StreamData frame names a stream outside 1 to 64.
     #[error("the stream's number is not within 1 to 64")]
     StreamId,
-    /// A stream's inbox does not take the piece.
+    /// The inbox of a stream refuses the bytes of a frame.
     #[error("{0}")]
     Inbox(InboxError),
 }
 
 impl LineError {
-    /// The number by which the refusal is known.
+    /// The number of the refusal in the program's table: 95, 63, or that of the wrapped error.
     pub fn number(&self) -> u8
         ensures { result ≡ number self.now }
     {
@@ -38,7 +38,7 @@ impl LineError {
         }
     }
 
-    /// The first number that it wraps.
+    /// The number that the wrapped error carries, where there is one.
     pub fn inner(&self) -> Option<u64>
         ensures { result ≡ inner self.now }
     {
@@ -77,16 +77,16 @@ pub enum Fault {
     /// The writer failed.
     #[error("the output could not be written")]
     Output,
-    /// The turns ran out: too many reads and writes.
+    /// The allowed number of reads and writes was used up.
     #[error("the turns ran out")]
     Turns,
-    /// No memory for a line or for a text.
+    /// Memory for a line or for a text was refused.
     #[error("out of memory")]
     NoMemory,
 }
 
 impl Fault {
-    /// The number that `fault` prints.
+    /// The number of the fault, as the program prints it: 90, 91, 93 or 99.
     pub fn number(&self) -> u8
         ensures { result ≡ fault_number self.now }
     {

@@ -1,4 +1,4 @@
-//! The command `frames`: lines of hexadecimal in, refusals and each stream's longest run out.
+//! The command `frames`: it reads lines of hexadecimal digits, and writes refusals and the longest run of each stream.
 
 ghost use Rattle.std.specs.Prelude.{◌≡◌, ◌≢◌, ◌⊎◌, ◌||◌, true, false, is_some, take, ◌+◌, ◌^◌, ◌<◌, ◌≤◌, ◌++◌, ◌∷◌, [], ℕ, List, Option, OnOk, OnErr, IfOk, IfErr, IfSome, length, slice_index_or, slice_set, None};
 ghost use Rattle.std.specs.Io.KnownBytes.{Appends};
@@ -21,18 +21,18 @@ use std::alloc::{AllocError, Allocator};
 use std::io::{Read, Write};
 use std::marker::Model;
 
-/// How many calls of its reader and its writer a run makes at most, and then of its writer for errors.
+/// The most calls of its reader and its writer that a run makes, and then again of its writer for errors.
 pub const TURNS: u64 = 2_147_483_647;
 
-/// How many bytes are asked for at once.
+/// The number of bytes that one read asks for.
 const PIECE: usize = 4096;
 
-/// Whether a line was refused, once all of them were answered.
+/// Whether a line was refused, once all lines were read.
 #[derive(Clone, Copy, Debug, PartialEq, Eq)]
 pub enum Lines {
-    /// Every line with a text was taken.
+    /// Each line that is not empty was accepted.
     AllTaken,
-    /// A line was refused, and changed nothing.
+    /// At least one line was refused.
     SomeRefused,
 }
 
@@ -292,13 +292,14 @@ fn put_runs<A: Allocator + Copy, W: Write>(
     Ok(())
 }
 
-/// Answers each line of the reader's input, one plain STREAM packet of a Prepare (RFC 0029) in hexadecimal: a refused
-/// line changes nothing and is told at once; at the end each stream that an accepted StreamData frame named has its
-/// longest run written. Empty lines are skipped. Each call of a device takes one of `turns`, of which there are fewer
-/// than 2^32.
+/// Reads lines to the end of the input; each is a plain STREAM packet of a Prepare (RFC 0029) in hexadecimal. A line
+/// that is refused changes nothing and is reported at once; an empty line is skipped. At the end it writes the longest
+/// run of each stream that a StreamData frame of an accepted line named. Each call of a device takes one of `turns`,
+/// which is below 2^32.
 ///
-/// At a fault what was written is the beginning of such an answer. A fault of the reader or the writer is told exactly
-/// where it counted an error in this call, and that of the turns only where none is left.
+/// Fails with `Input` or `Output` exactly where the reader or the writer counted an error in this call, with `Turns`
+/// only where no call is left, and with `NoMemory` where memory is refused. What was written by then is the beginning
+/// of the answer.
 pub fn answer_frames<A: Allocator + Copy, R: Read, W: Write>(
     alloc: A,
     reader: &mut CountRead<R>,
@@ -329,7 +330,7 @@ pub fn answer_frames<A: Allocator + Copy, R: Read, W: Write>(
     Ok(Lines::AllTaken)
 }
 
-/// Writes a text, as far as the writer takes it.
+/// Writes a text, as far as the writer accepts it. A failure is ignored.
 pub fn say<E: Write>(errors: &mut CountWrite<E>, text: &str)
     ensures { Says text.now E.contents errors.old errors.new }
 {
@@ -337,7 +338,7 @@ pub fn say<E: Write>(errors: &mut CountWrite<E>, text: &str)
     let _ = put(errors, text.as_bytes(), &mut turns);
 }
 
-/// Tells a fault, as far as the writer takes it. The status of a fault.
+/// Writes the line of a fault, as far as the writer accepts it. Returns the exit status of a fault, 1.
 pub fn tell_fault<E: Write>(errors: &mut CountWrite<E>, fault: Fault) -> u8
     ensures { TellsFault fault E.contents errors.old errors.new result }
 {
@@ -345,8 +346,9 @@ pub fn tell_fault<E: Write>(errors: &mut CountWrite<E>, fault: Fault) -> u8
     1
 }
 
-/// The command `frames`. Its status is 0 where every line was taken, else 1; a fault is told to `errors` by its number. It
-/// makes at most 2^31 - 1 calls of the reader and the writer, and tells the fault of the turns where it made all of these.
+/// Runs the command `frames` and returns its exit status: 0 where each line was accepted, and else 1. A fault is
+/// reported on `errors` by its number. It makes at most 2^31 - 1 calls of the reader and the writer, and reports fault
+/// 93 where it used all of them.
 pub fn run_frames<A: Allocator + Copy, R: Read, W: Write, E: Write>(
     alloc: A,
     reader: &mut CountRead<R>,

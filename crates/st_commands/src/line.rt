@@ -1,4 +1,4 @@
-//! The line that is being read: no more of it is kept than the longest packet has digits.
+//! The line that is being read. It stores at most as many digits as the longest packet has.
 
 ghost use Rattle.std.specs.Prelude.{◌≡◌, ◌≢◌, ◌↔◌, ◌<◌, ◌≤◌, ◌+◌, ◌++◌, ◌∷◌, [], ◌^◌, ℕ, List, length, OnOk, IfOk, IsTrue};
 ghost use Rattle.std.specs.Bool.{OnTrue, OnFalse};
@@ -12,25 +12,27 @@ use std::marker::Model;
 /// The digits of the longest packet.
 const MAX_DIGITS: usize = 2 * MAX_PACKET;
 
-/// What ends a line.
+/// What ended a line.
 #[derive(Clone, Copy, Debug, PartialEq, Eq)]
 pub enum LineEnd {
+    /// A newline.
     Newline,
+    /// The end of the input.
     InputEnd,
 }
 
-/// What a line looks like so far.
+/// What the characters of a line are so far.
 #[derive(Clone, Copy, Debug, PartialEq, Eq)]
 pub enum Shape {
-    /// Hexadecimal digits alone.
+    /// Hexadecimal digits only.
     Digits,
-    /// Hexadecimal digits, and a carriage return that may belong to the line's end.
+    /// Hexadecimal digits, and then one carriage return, which may belong to the end of the line.
     DigitsAndReturn,
     /// Something else, whatever follows.
     NotHex,
 }
 
-/// The line so far: how many digits came, and the first `MAX_DIGITS` of them.
+/// The line so far: the number of its digits, and the first of them, at most `MAX_DIGITS`.
 #[derive(Drop)]
 pub struct LineSoFar<A: Allocator + Copy> {
     digits: Vec<u8, A>,
@@ -48,6 +50,7 @@ impl<A: Allocator + Copy> Model for LineSoFar<A> {
 }
 
 impl<A: Allocator + Copy> LineSoFar<A> {
+    /// Makes an empty line. Does not allocate.
     pub fn new(alloc: A) -> LineSoFar<A>
         ensures { result ≡ no_line }
     {
@@ -59,7 +62,7 @@ impl<A: Allocator + Copy> LineSoFar<A> {
         }
     }
 
-    /// The next line begins.
+    /// Empties the line, so that the next one can be read.
     pub fn clear(&mut self)
         ensures { self.new ≡ no_line }
     {
@@ -68,7 +71,7 @@ impl<A: Allocator + Copy> LineSoFar<A> {
         self.shape = Shape::Digits;
     }
 
-    /// Takes a byte of the line.
+    /// Appends a byte of the line. Fails where memory is refused.
     pub fn push(&mut self, byte: u8) -> Result<(), AllocError>
         requires byte { byte ≢ 10 }
         requires count { self.old.count + 1 < 2 ^ 64 }
@@ -127,7 +130,7 @@ impl<A: Allocator + Copy> LineSoFar<A> {
         }
     }
 
-    /// Whether the line has no text.
+    /// Whether the line, ended in this way, has no text.
     pub fn is_empty(&self, end: LineEnd) -> bool
         ensures { (line : List ℕ) → StandsFor self.now line → (IsTrue result ↔ (length (text_of_line end line) ≡ 0)) }
     {
@@ -137,7 +140,8 @@ impl<A: Allocator + Copy> LineSoFar<A> {
         self.count == 0
     }
 
-    /// The bytes that the line spells, or why it has none that are a packet.
+    /// The bytes that the line, ended in this way, spells. The inner error is `NotHex`, or `Packet` where the line is
+    /// longer than any packet. The outer error comes where memory is refused.
     pub fn bytes(&self, end: LineEnd) -> Result<Result<Vec<u8, A>, LineError>, AllocError>
         ensures { IfOk result (λ answer. (line : List ℕ) → StandsFor self.now line → Spells (λ v. v.items) (text_of_line end line) answer) }
     {

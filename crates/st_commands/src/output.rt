@@ -1,4 +1,4 @@
-//! Writing to a writer that counts its calls and its errors.
+//! How texts are written to a writer that counts its calls and its errors.
 
 ghost use Rattle.std.specs.Prelude.{◌≡◌, ◌≢◌, Err, IfErr, OnOk, true};
 ghost use Rattle.std.specs.Io.KnownBytes.{Appends, Keeps};
@@ -9,7 +9,7 @@ use crate::error::Fault;
 use st_oer::{CountWrite, FlushTurn, PutError, flush_turn, put_all};
 use std::io::Write;
 
-/// Flushes, in at most so many turns.
+/// Flushes the writer. Each call takes one of `turns`.
 fn flush<W: Write>(writer: &mut CountWrite<W>, turns: &mut u64) -> Result<(), Fault>
     ensures bytes { Keeps (W.contents (device_of writer.old)) (W.contents (device_of writer.new)) }
     ensures turns { TakesTurns (tally_of writer.old) (tally_of writer.new) turns.old turns.new }
@@ -30,7 +30,9 @@ fn flush<W: Write>(writer: &mut CountWrite<W>, turns: &mut u64) -> Result<(), Fa
     Err(Fault::Turns)
 }
 
-/// Writes a text whole and flushes, in at most so many turns. Each call of the writer takes one of them.
+/// Writes all of a text and flushes the writer. Each call of the writer takes one of `turns`; an empty text takes none.
+///
+/// Fails with `Output` where the writer fails, and with `Turns` where no call is left.
 pub fn put<W: Write>(writer: &mut CountWrite<W>, text: &[u8], turns: &mut u64) -> Result<(), Fault>
     ensures whole { OnOk result (Appends (W.contents (device_of writer.old)) (W.contents (device_of writer.new)) text.now) }
     ensures part { WritesPart text.now (W.contents (device_of writer.old)) (W.contents (device_of writer.new)) }

@@ -1,4 +1,4 @@
-//! The inboxes of a connection's streams.
+//! The inboxes of the streams of a connection.
 
 ghost use Rattle.std.specs.Prelude.{◌≡◌, ◌⊎◌, ◌<◌, ◌≤◌, ◌-◌, [], ◌∷◌, true, false, ℕ, List, length, replicate, slice_index_or, slice_set, None, Some, Ok, IfOk, IfErr, OnOk, OnErr, IsOkUnless, MatchOption};
 ghost use Rattle.std.specs.Option.{option_map, option_or, unwrap_or};
@@ -17,13 +17,13 @@ use st_reassembly::{Inbox, InboxError};
 use std::alloc::{AllocError, Allocator};
 use std::marker::Model;
 
-/// The streams of a connection, numbered from 1 (RFC 0029, this profile).
+/// The number of streams of a connection, which are numbered from 1 (a limit of this profile of RFC 0029).
 pub const STREAMS: usize = 64;
 
 /// The ILP packet type of a Prepare (RFC 0027).
 const PREPARE: u8 = 12;
 
-/// An inbox for each stream that a frame named.
+/// The inboxes of the streams that a frame named.
 #[derive(Drop)]
 pub struct Streams<A: Allocator + Copy> {
     inboxes: Vec<Option<Inbox<A>>, A>,
@@ -103,6 +103,7 @@ fn none_named<A: Allocator + Copy>(alloc: A) -> Result<Vec<Option<Inbox<A>>, A>,
 }
 
 impl<A: Allocator + Copy> Streams<A> {
+    /// Makes the state in which no frame has named a stream. Fails where memory is refused.
     pub fn new(alloc: A) -> Result<Streams<A>, AllocError>
         ensures { IfOk result (λ s. s ≡ opening) }
     {
@@ -265,7 +266,10 @@ impl<A: Allocator + Copy> Streams<A> {
         Ok(())
     }
 
-    /// Takes the packet of a line: all of its frames, or none.
+    /// Takes the packet of a line: the bytes of all its StreamData frames, or none of them (RFC 0029).
+    ///
+    /// Fails with `Packet` where the bytes are not a plain packet, with `StreamId` where a frame names a stream outside
+    /// 1 to 64, and with `Inbox` where an inbox refuses the bytes or memory is refused. Then nothing has changed.
     pub fn take_packet(&mut self, bytes: &[u8]) -> Result<(), LineError>
         ensures taken { OnOk result (after_packet self.old (by_packet (packet_at prepare bytes.now)) ≡ Ok self.new) }
         ensures refused { IfErr result (IsPacketError self.old (by_packet (packet_at prepare bytes.now))) }
@@ -283,7 +287,7 @@ impl<A: Allocator + Copy> Streams<A> {
         }
     }
 
-    /// How many streams there are.
+    /// The number of streams: 64.
     pub fn count(&self) -> usize
         ensures all { length self.now ≡ 64 }
         ensures count { result ≡ 64 }
@@ -291,7 +295,8 @@ impl<A: Allocator + Copy> Streams<A> {
         self.inboxes.len()
     }
 
-    /// The longest run of the stream at a place, where it was named. It counts as not named from then on.
+    /// The longest run of the stream at a place, where a frame named the stream: its bytes from offset 0 up to the
+    /// first gap. The stream counts as not named afterwards. Fails where memory is refused.
     pub fn take_run(&mut self, place: usize) -> Result<Option<Vec<u8, A>>, AllocError>
         requires { place < 64 }
         ensures run { IfOk result (λ bytes. option_map (λ v. v.items) bytes ≡ option_map run (slice_index_or self.old place None)) }

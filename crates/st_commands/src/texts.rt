@@ -7,7 +7,8 @@ ghost use Rattle.st_commands.specs.Texts.{fault_text, line_text, numbered_text, 
 use crate::error::{Fault, LineError};
 use std::alloc::{AllocError, Allocator};
 
-/// What a refused line prints.
+/// The line that reports a refused line of input, by its index and the number of its error. Fails where memory is
+/// refused.
 pub fn refused_line<A: Allocator + Copy>(
     alloc: A,
     index: u64,
@@ -57,7 +58,8 @@ fn wrapped_line<A: Allocator + Copy>(
     Ok(text)
 }
 
-/// What a stream prints of its run.
+/// The line that reports a stream: its number, the length of its run in bytes, and the run in hexadecimal. Fails where
+/// memory is refused.
 #[tactic(auto, using(crate::proofs::Pieces::pieces))]
 pub fn stream_line<A: Allocator + Copy>(
     alloc: A,
@@ -76,7 +78,7 @@ pub fn stream_line<A: Allocator + Copy>(
     Ok(text)
 }
 
-/// What a fault prints.
+/// The line that reports a fault.
 pub fn fault_line(fault: Fault) -> &'static str
     ensures { result.now ≡ fault_text (fault_number fault) }
 {

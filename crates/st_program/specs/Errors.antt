@@ -9,6 +9,7 @@ abbrev pub number : RunError → ℕ
 number (run.Fault x) = fault_number x
 number run.NoRandom = 90
 number run.NoListener = 80
+number run.NoHop = 35
 number run.BadTable = 96
 number run.BadOption = 98
 number (run.Transfer e) = transfer.number e

@@ -1,6 +1,11 @@
 -- What was read of an input.
-use Rattle.std.specs.Prelude.{◌≡◌, ℕ, Bool, true, List, ◌++◌, Option}
+use Rattle.std.specs.Prelude.{◌≡◌, ℕ, Bool, true, List, ◌++◌, Option, ⊤}
 use Rattle.std.specs.Io.KnownBytes.{Consumes, IsAtEnd}
+use Rattle.st_oer.specs.Faults.{count_after}
+use Rattle.st_oer.specs.declared.tally.Tally.{Tally}
+use Rattle.st_commands.specs.Endings.{most_turns}
+use Rattle.st_commands.specs.declared.error.Fault.{Fault}
+use Rattle.st_commands.specs.declared.error.Fault.TheVariants as fault
 
 -- a piece was read behind what there was, and the input is at its end if that is told: before and after are the bytes that
 -- were to come
@@ -9,3 +14,10 @@ pub record ReadsOn (before after : Option (List ℕ)) (old new : List ℕ) (ende
   pub grown : new ≡ old ++ piece
   pub taken : Consumes before after piece
   pub at_end : ended ≡ true → IsAtEnd after
+
+-- why an input was not read whole, by what its reader counted: it failed, or was read as often as may be; or memory was refused
+abbrev pub FailsToRead : Fault → (r s : Tally) → Type 0
+FailsToRead fault.Input r s = s.faults ≡ count_after 1 r.faults
+FailsToRead fault.Output r s = ⊥
+FailsToRead fault.Turns r s = s.calls ≡ count_after most_turns r.calls
+FailsToRead fault.NoMemory r s = ⊤

@@ -7,6 +7,9 @@ use Rattle.st_hop.specs.Table.{is_table}
 use Rattle.st_hop.specs.declared.route.Route.{Route}
 use Rattle.st_settings.specs.declared.line.AccountLine.{AccountLine}
 use Rattle.st_settings.specs.Table.{HasBad, Says}
+use Rattle.st_oer.specs.declared.tally.Tally.{Tally}
+use Rattle.st_commands.specs.declared.error.Fault.TheVariants as fault
+use Rattle.st_program.specs.Input.{FailsToRead}
 use Rattle.st_program.specs.declared.error.RunError.{RunError}
 use Rattle.st_program.specs.declared.error.RunError.TheVariants as run
 
@@ -17,6 +20,10 @@ SaysTable bytes xs rs = (is_utf8 bytes ≡ true) × Says (lines bytes) xs rs
 -- a hop of this address may have these accounts and routes
 abbrev pub is_hop : List ℕ → List AccountLine → List Route → Bool
 is_hop own xs rs = is_table own (map (λ x. x.terms) xs) (map way_seen rs)
+
+-- the bytes are a table
+abbrev pub SpellsTable : List ℕ → Type 0
+SpellsTable bytes = (xs : List AccountLine) × (rs : List Route) × SaysTable bytes xs rs
 
 -- the bytes are a table for a hop of this address
 abbrev pub HasTable : List ℕ → List ℕ → Type 0
@@ -29,18 +36,20 @@ LacksTable own bytes = (is_utf8 bytes ≡ false) ⊎ HasBad bytes
 
 -- why bytes give no table
 abbrev pub WhyNoTable : List ℕ → RunError → Type 0
-WhyNoTable bytes (run.Fault x) = ⊤
+WhyNoTable bytes (run.Fault x) = x ≡ fault.NoMemory
 WhyNoTable bytes run.NoRandom = ⊥
 WhyNoTable bytes run.NoListener = ⊥
+WhyNoTable bytes run.NoHop = ⊥
 WhyNoTable bytes run.BadTable = (is_utf8 bytes ≡ false) ⊎ HasBad bytes
 WhyNoTable bytes run.BadOption = ⊥
 WhyNoTable bytes (run.Transfer e) = ⊥
 
 -- why these accounts and routes give no hop
 abbrev pub WhyNoHop : List ℕ → List AccountLine → List Route → RunError → Type 0
-WhyNoHop own xs rs (run.Fault x) = ⊤
+WhyNoHop own xs rs (run.Fault x) = x ≡ fault.NoMemory
 WhyNoHop own xs rs run.NoRandom = ⊥
 WhyNoHop own xs rs run.NoListener = ⊥
+WhyNoHop own xs rs run.NoHop = ⊤
 WhyNoHop own xs rs run.BadTable = is_hop own xs rs ≡ false
 WhyNoHop own xs rs run.BadOption = ⊥
 WhyNoHop own xs rs (run.Transfer e) = ⊥
@@ -48,20 +57,22 @@ WhyNoHop own xs rs (run.Transfer e) = ⊥
 -- how a connector of this address may end that has these accounts and routes
 abbrev pub Serves : {T : Type 0} → List ℕ → List AccountLine → List Route → Result T RunError → Type 0
 Serves own xs rs (Ok x) = is_hop own xs rs ≡ true
-Serves own xs rs (Err (run.Fault x)) = ⊤
+Serves own xs rs (Err (run.Fault x)) = x ≡ fault.NoMemory
 Serves own xs rs (Err run.NoRandom) = ⊥
 Serves own xs rs (Err run.NoListener) = is_hop own xs rs ≡ true
+Serves own xs rs (Err run.NoHop) = ⊤
 Serves own xs rs (Err run.BadTable) = is_hop own xs rs ≡ false
 Serves own xs rs (Err run.BadOption) = ⊥
 Serves own xs rs (Err (run.Transfer e)) = is_hop own xs rs ≡ true
 
 -- how a connector of this address may end by its input: a bad table before anything is listened to, and nothing else as a
--- bad table; with a fault of the input or of memory at any time
-abbrev pub EndsBy : {T : Type 0} → List ℕ → Option (List ℕ) → Result T RunError → Type 0
-EndsBy own input (Ok x) = IfSome input (HasTable own)
-EndsBy own input (Err (run.Fault x)) = ⊤
-EndsBy own input (Err run.NoRandom) = ⊥
-EndsBy own input (Err run.NoListener) = IfSome input (HasTable own)
-EndsBy own input (Err run.BadTable) = IfSome input (LacksTable own)
-EndsBy own input (Err run.BadOption) = ⊥
-EndsBy own input (Err (run.Transfer e)) = IfSome input (HasTable own)
+-- bad table. A fault is one of memory, one that the input's reader counted, r before and s now, or comes after a good table
+abbrev pub EndsBy : {T : Type 0} → List ℕ → Option (List ℕ) → (r s : Tally) → Result T RunError → Type 0
+EndsBy own input r s (Ok x) = IfSome input (HasTable own)
+EndsBy own input r s (Err (run.Fault x)) = FailsToRead x r s ⊎ IfSome input (HasTable own)
+EndsBy own input r s (Err run.NoRandom) = ⊥
+EndsBy own input r s (Err run.NoListener) = IfSome input (HasTable own)
+EndsBy own input r s (Err run.NoHop) = IfSome input SpellsTable
+EndsBy own input r s (Err run.BadTable) = IfSome input (LacksTable own)
+EndsBy own input r s (Err run.BadOption) = ⊥
+EndsBy own input r s (Err (run.Transfer e)) = IfSome input (HasTable own)

@@ -1,7 +1,7 @@
 //! The command `connector`.
 
 ghost use Rattle.std.specs.Prelude.{◌≡◌, ◌⊎◌, true, Err, IfErr, IfOk};
-ghost use Rattle.st_oer.specs.Tallies.{device_of};
+ghost use Rattle.st_oer.specs.Tallies.{device_of, tally_of};
 ghost use Rattle.st_program.specs.Table.{EndsBy, SaysTable, Serves, WhyNoTable, is_hop};
 ghost use Rattle.st_desk.specs.Desk.{IsNew};
 ghost use Rattle.st_program.specs.declared.error.RunError.TheVariants.{BadOption};
@@ -14,7 +14,7 @@ use st_commands::{Fault, TURNS};
 use st_hop::HopState;
 use st_oer::{CountRead, utf8};
 use st_settings::{ConnectorSettings, Table, TableError, read_table};
-use st_transfer::{AccountTotals, connector_on};
+use st_transfer::{AccountTotals, ConnectTerms, ConnectorEnded, connector_on};
 use std::alloc::Global;
 use std::fs::{File, Files};
 use std::io::Read;
@@ -22,7 +22,7 @@ use std::net::{Net, TcpListener, TcpStream};
 use std::sync::Wait;
 use std::thread::Threads;
 
-/// The table in bytes.
+/// The table that bytes spell.
 fn table_in<'a>(alloc: Global, bytes: &'a [u8]) -> Result<Table<'a, Global>, RunError>
     ensures said { IfOk result (λ table. SaysTable bytes.now table.accounts.items table.routes.items) }
     ensures refused { IfErr result (WhyNoTable bytes.now) }
@@ -37,7 +37,8 @@ fn table_in<'a>(alloc: Global, bytes: &'a [u8]) -> Result<Table<'a, Global>, Run
     }
 }
 
-/// Serves by a table, of which the hop was made, and sets what it has of each account, where totals are asked for.
+/// Runs a connector over a hop that was made by the table, and sets the totals of each account where they are asked
+/// for.
 fn serve_by<
     N: Net<Listener = TcpListener, Stream = TcpStream> + Threads + Wait + std::time::Clock + Sync,
 >(
@@ -60,24 +61,26 @@ fn serve_by<
     let Ok(listener) = TcpListener::bind(rt, settings.listen) else {
         return Err(RunError::NoListener);
     };
-    match connector_on(
-        rt,
-        alloc,
-        listener,
-        hop,
-        &tokens,
-        &neighbours,
-        settings.requests,
-        settings.workers,
-        TURNS,
-        accounts.as_mut_slice(),
-    ) {
+    let terms = ConnectTerms {
+        tokens: &tokens,
+        neighbours: &neighbours,
+        requests: settings.requests,
+        workers: settings.workers,
+        turns: TURNS,
+    };
+    let ConnectorEnded {
+        result,
+        accounts: told,
+        ..
+    } = connector_on(rt, alloc, listener, hop, terms);
+    *accounts = told;
+    match result {
         Ok(_) => Ok(()),
         Err(error) => Err(RunError::Transfer(error)),
     }
 }
 
-/// Serves by a table.
+/// Runs a connector by a table.
 fn serve<
     N: Net<Listener = TcpListener, Stream = TcpStream> + Threads + Wait + std::time::Clock + Sync,
 >(
@@ -95,7 +98,7 @@ fn serve<
     }
 }
 
-/// Reads the table, and serves so many requests by it.
+/// Reads the table, and runs a connector by it.
 fn serve_input<
     R: Read,
     N: Net<Listener = TcpListener, Stream = TcpStream> + Threads + Wait + std::time::Clock + Sync,
@@ -106,7 +109,7 @@ fn serve_input<
     reader: &mut CountRead<R>,
     accounts: &mut Vec<AccountTotals>,
 ) -> Result<(), RunError>
-    ensures { EndsBy settings.now.own.now (R.remaining (device_of reader.old)) result }
+    ensures { EndsBy settings.now.own.now (R.remaining (device_of reader.old)) (tally_of reader.old) (tally_of reader.new) result }
 {
     let bytes = read_whole(alloc, reader)?;
     match table_in(alloc, &bytes) {
@@ -115,8 +118,8 @@ fn serve_input<
     }
 }
 
-/// Reads the table, serves so many requests by it, and tells what it has of each account where that is asked for. Where the
-/// file for it cannot be opened, nothing else is done.
+/// Reads the table, runs a connector by it, and writes the totals of each account where they are asked for. Where the
+/// file for the totals cannot be opened, nothing else is done.
 pub(crate) fn connector<
     R: Read,
     N: Net<Listener = TcpListener, Stream = TcpStream>
@@ -131,7 +134,7 @@ pub(crate) fn connector<
     settings: &ConnectorSettings<'_>,
     reader: &mut CountRead<R>,
 ) -> Result<(), RunError>
-    ensures { EndsBy settings.now.own.now (R.remaining (device_of reader.old)) result ⊎ ((result ≡ Err BadOption) × (reader.new ≡ reader.old)) }
+    ensures { EndsBy settings.now.own.now (R.remaining (device_of reader.old)) (tally_of reader.old) (tally_of reader.new) result ⊎ ((result ≡ Err BadOption) × (reader.new ≡ reader.old)) }
 {
     match totals_file(rt, settings.totals) {
         Ok(file) => {

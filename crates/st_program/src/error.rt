@@ -1,4 +1,4 @@
-//! Why a command ended before its work was done.
+//! The errors that end a command early.
 
 ghost use Rattle.std.specs.Prelude.{◌≡◌};
 ghost use Rattle.st_program.specs.Errors as errors;
@@ -11,28 +11,31 @@ use thiserror::Error;
 /// Why a command ended before its work was done.
 #[derive(Clone, Copy, Debug, PartialEq, Eq, Error)]
 pub enum RunError {
-    /// The input or the output failed or their turns ran out, or there was no memory.
+    /// The input or the output failed, the allowed number of I/O calls was used up, or memory was refused.
     #[error("{0}")]
     Fault(Fault),
-    /// The file that random bytes come from cannot be opened.
+    /// The file of random bytes cannot be opened.
     #[error("the file of random bytes cannot be opened")]
     NoRandom,
-    /// Nothing can listen at the address.
+    /// The command cannot listen at the address.
     #[error("nothing can listen at the address")]
     NoListener,
+    /// Memory for the hop of a connector was refused.
+    #[error("out of memory")]
+    NoHop,
     /// The table of a connector is bad.
     #[error("the table is bad")]
     BadTable,
     /// The text of an option is bad, or the file for totals that it names cannot be opened.
     #[error("an option is bad")]
     BadOption,
-    /// The transfer ended short.
+    /// The transfer failed.
     #[error("{0}")]
     Transfer(TransferError),
 }
 
 impl RunError {
-    /// The number that `fault` prints.
+    /// The number of the error, as the program prints it (`fault N`).
     pub fn number(&self) -> u8
         ensures { result ≡ errors.number self.now }
     {
@@ -40,6 +43,7 @@ impl RunError {
             RunError::Fault(fault) => fault.number(),
             RunError::NoRandom => 90,
             RunError::NoListener => 80,
+            RunError::NoHop => 35,
             RunError::BadTable => 96,
             RunError::BadOption => 98,
             RunError::Transfer(error) => error.number(),

@@ -1,4 +1,4 @@
-//! The hop of a connector, and who its neighbours are, by a table.
+//! The hop of a connector and its neighbours, made by a table.
 
 ghost use Rattle.std.specs.Prelude.{◌≡◌, true, IfErr, IfOk};
 ghost use Rattle.st_desk.specs.Desk.{IsNew};
@@ -26,11 +26,11 @@ pub(crate) fn hop_of(
     match HopState::new(alloc, own, &terms, &table.routes) {
         Ok(hop) => Ok(hop),
         Err(HopError::BadTable) => Err(RunError::BadTable),
-        Err(_) => Err(RunError::Fault(Fault::NoMemory)),
+        Err(_) => Err(RunError::NoHop),
     }
 }
 
-/// Where the Prepares of each account go.
+/// Where the Prepares for each account are sent.
 pub(crate) fn neighbours_of<'a>(
     alloc: Global,
     accounts: &[AccountLine<'a>],

@@ -1,22 +1,26 @@
-//! The whole of an input.
+//! How the whole input is read.
 
-ghost use Rattle.std.specs.Prelude.{◌≡◌, IfOk, IfSome};
+ghost use Rattle.std.specs.Prelude.{◌≡◌, ◌⊎◌, IfErr, IfOk, IfSome};
 ghost use Rattle.st_oer.specs.Tallies.{device_of, tally_of};
 ghost use Rattle.st_commands.specs.Endings.{fault_of, reader_faults};
-ghost use Rattle.st_program.specs.Input.{ReadsOn};
+ghost use Rattle.st_oer.specs.Faults.{count_after};
+ghost use Rattle.st_commands.specs.declared.error.Fault.TheVariants.{Input, NoMemory};
+ghost use Rattle.st_program.specs.Input.{FailsToRead, ReadsOn};
 
 use st_commands::{Fault, TURNS};
 use st_oer::{CountRead, ReadTurn, read_turn};
 use std::alloc::Global;
 use std::io::Read;
 
-/// How many bytes one read asks for.
+/// The number of bytes that one read asks for.
 const PIECE: usize = 4096;
 
-/// Appends what one read gives, in one turn. True where the input is at its end.
+/// Appends the bytes of one read. True where the input is at its end.
 fn read_more<R: Read>(reader: &mut CountRead<R>, bytes: &mut Vec<u8>) -> Result<bool, Fault>
     ensures more { IfOk result (ReadsOn (R.remaining (device_of reader.old)) (R.remaining (device_of reader.new)) bytes.old.items bytes.new.items) }
     ensures faults { (tally_of reader.new).faults ≡ reader_faults (fault_of result) (tally_of reader.old).faults }
+    ensures call { (tally_of reader.new).calls ≡ count_after 1 (tally_of reader.old).calls }
+    ensures why { IfErr result (λ e. (e ≡ Input) ⊎ (e ≡ NoMemory)) }
 {
     let mut buf = [0; PIECE];
     match read_turn(reader, &mut buf) {
@@ -37,6 +41,7 @@ pub(crate) fn read_whole<R: Read>(
 ) -> Result<Vec<u8>, Fault>
     ensures whole { IfOk result (λ bytes. IfSome (R.remaining (device_of reader.old)) (λ all. bytes.items ≡ all)) }
     ensures faults { (tally_of reader.new).faults ≡ reader_faults (fault_of result) (tally_of reader.old).faults }
+    ensures why { IfErr result (λ e. FailsToRead e (tally_of reader.old) (tally_of reader.new)) }
 {
     let mut bytes = Vec::new(alloc);
     for _ in 0..TURNS {

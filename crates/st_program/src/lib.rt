@@ -1,8 +1,8 @@
-//! The program `ilpstream`: it reads the words of the command line, and does what they ask for.
+//! The program `ilpstream`: it reads the arguments of the command line, and runs the command that they name.
 //!
-//! `run` takes the words, a reader, a writer and a writer for errors, beside the runtime that gives files, sockets, threads
-//! and the time. What words ask for is in st_words' specs/Words.antt; what each answer of the program is, in specs/.
-//! `ilpstream` hands it the words and the standard streams of a process.
+//! `run` takes the arguments, a reader, a writer and a writer for errors, and the runtime that gives files, sockets,
+//! threads and the time. What the arguments mean is in specs/Words.antt of st_words; what the program answers is in
+//! specs/. `ilpstream` calls it with the arguments and the standard streams of a process.
 #![tactic(auto)]
 
 mod connector;
@@ -14,6 +14,7 @@ mod process;
 mod program;
 mod receive;
 mod send;
+mod stdin;
 mod tell;
 mod totals;
 

@@ -1,4 +1,4 @@
-//! The program as a process runs it, over the words that the process was given.
+//! The program as a process runs it, with the arguments of that process.
 
 ghost use Rattle.std.specs.Prelude.{◌≡◌, ◌≤◌, ◌⊎◌, map};
 ghost use Rattle.st_oer.specs.Tallies.{tally_of};
@@ -7,6 +7,7 @@ ghost use Rattle.st_program.specs.Process.{LacksWords, ObeysSome, TellsTerminal}
 ghost use Rattle.st_program.specs.Texts.{not_utf8_text};
 
 use crate::program::run;
+use crate::stdin::{Interruptible, STDIN};
 use st_commands::{Fault, say, tell_fault};
 use st_oer::{CountRead, CountWrite};
 use st_words::{Request, read_words};
@@ -21,19 +22,20 @@ use std::sync::Wait;
 use std::thread::Threads;
 use std::{env, io};
 
-/// What a terminal is told before its lines are read.
+/// What is printed to a terminal before its lines are read.
 const WAITS: &str =
     "ilpstream: reads packets from the terminal, one a line in hexadecimal; Ctrl-D on a new line ends them\n";
 
-/// What is told of words that are no text.
+/// What is printed where an argument is not UTF-8.
 const NOT_UTF8: &str = "error: invalid UTF-8 was detected in one or more arguments\n";
 
-/// The words of the command line, of which the first is the program's name.
+/// The arguments of the command line; the first is the program's name.
 fn words<H: Env + Alloc>(host: &H) -> io::Result<Vec<String<H::A>, H::A>> {
     Ok(env::args(host)?.collect(host.alloc())?)
 }
 
-/// Tells why the words cannot be read. Status 2 for words that are not UTF-8, else that of the fault: want of memory.
+/// Reports why the arguments cannot be read. Status 2 where they are not UTF-8, and else that of fault 99, out of
+/// memory.
 fn refuse_words<E: Write>(errors: &mut CountWrite<E>, error: &io::Error) -> u8
     ensures { ((result ≡ 2) × Says not_utf8_text E.contents errors.old errors.new)
         ⊎ TellsFault Fault.NoMemory E.contents errors.old errors.new result }
@@ -45,7 +47,7 @@ fn refuse_words<E: Write>(errors: &mut CountWrite<E>, error: &io::Error) -> u8
     2
 }
 
-/// Tells whoever sits at the terminal, if the reader is one and the words ask for `frames`, what is waited for.
+/// Where the reader is a terminal and the arguments ask for `frames`, prints what the program waits for.
 fn tell_terminal<S: AsStr, E: Write>(
     alloc: Global,
     is_terminal: bool,
@@ -59,7 +61,7 @@ fn tell_terminal<S: AsStr, E: Write>(
     }
 }
 
-/// Does what the words ask for, once the terminal was told.
+/// Does what the arguments ask for, after the note for a terminal.
 fn obey<
     S: AsStr,
     R: Read,
@@ -89,9 +91,9 @@ fn obey<
     run(rt, alloc, words, reader, writer, errors)
 }
 
-/// Does what the words of the host ask for, as `run` does, and gives the status. Where they ask for `frames` and the reader
-/// is a terminal, as `is_terminal` says, `errors` is first told what is waited for. Words that are not UTF-8 have status 2,
-/// and want of memory for the words is the fault 99.
+/// Runs the program with the arguments of `host`, as `run` does, and returns its exit status. Where they ask for
+/// `frames` and the reader is a terminal (`is_terminal`), it first writes to `errors` what it waits for. Arguments that
+/// are not UTF-8 give status 2; where memory for the arguments is refused it reports fault 99.
 pub fn start<
     H: Env + Alloc,
     R: Read,
@@ -132,8 +134,9 @@ pub fn start<
     }
 }
 
-/// The program `ilpstream`, over the process's words and standard streams: `host` has these, and `rt`, the same runtime,
-/// gives files, sockets, threads and the time.
+/// Runs the program `ilpstream` and returns its exit code. `host` gives the arguments and the standard streams of the
+/// process; `rt`, the same runtime, gives files, sockets, threads and the time. A read of standard input for which
+/// nothing comes within 200 milliseconds is interrupted, and made again.
 pub fn ilpstream<
     N: Net<Listener = TcpListener, Stream = TcpStream>
         + Files<File = File>
@@ -144,7 +147,7 @@ pub fn ilpstream<
 >(host: &HostRuntime, rt: &N) -> ExitCode {
     let input = host.stdin();
     let is_terminal = input.is_terminal();
-    let mut reader = CountRead::new(input);
+    let mut reader = CountRead::new(Interruptible::new(input, STDIN));
     let mut writer = CountWrite::new(host.stdout());
     let mut errors = CountWrite::new(host.stderr());
     ExitCode::from(start(

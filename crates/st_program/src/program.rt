@@ -1,4 +1,4 @@
-//! The program, over its words and its three streams.
+//! The program, over its arguments and three streams.
 
 ghost use Rattle.std.specs.Prelude.{◌≡◌, ◌≤◌, ◌⊎◌, map, None, Some};
 ghost use Rattle.st_oer.specs.Tallies.{tally_of};
@@ -47,7 +47,7 @@ fn show<W: Write, E: Write>(
     }
 }
 
-/// Writes what is wrong with the words, as far as `errors` takes it. Status 2, or that of a fault.
+/// Writes what is wrong with the arguments, as far as `errors` accepts it. Status 2, or that of a fault.
 fn refuse<E: Write>(alloc: Global, errors: &mut CountWrite<E>, error: &Error) -> u8
     ensures { (result ≡ 2) ⊎ TellsFault Fault.NoMemory E.contents errors.old errors.new result }
 {
@@ -58,7 +58,7 @@ fn refuse<E: Write>(alloc: Global, errors: &mut CountWrite<E>, error: &Error) ->
     2
 }
 
-/// Tells what clap answers in place of taking the words.
+/// Reports what clap answers in place of a command.
 fn tell<W: Write, E: Write>(
     alloc: Global,
     writer: &mut CountWrite<W>,
@@ -115,10 +115,12 @@ fn obey<
     }
 }
 
-/// Does what the words ask for, of which the first is the program's name, and gives the status: 0 is done, 1 a run that
-/// refused a line or met a fault, 2 words that are refused. No words but the name ask for `frames`. Help and the version
-/// go to the writer, a mistake in the words to `errors`; an option whose text is bad is the fault 98, and want of memory
-/// for the words the fault 99.
+/// Runs the command that the arguments name and returns the exit status: 0 where it did its work, or printed help or
+/// the version; 1 where a line was refused or a fault ended the run; 2 where the arguments are refused. The first
+/// argument is the program's name. With no further argument it runs `frames`.
+///
+/// Help and the version are written to `writer`, a mistake in the arguments to `errors`. Fault 98 reports an option
+/// whose text is bad, and fault 99 that memory was refused.
 pub fn run<
     S: AsStr,
     R: Read,

@@ -11,13 +11,13 @@ use st_commands::TURNS;
 use st_end::Totals;
 use st_oer::CountWrite;
 use st_settings::ReceiveSettings;
-use st_transfer::{RuntimeClock, TransferError, receive_on, server_end};
+use st_transfer::{ReceiveTerms, RuntimeClock, TransferError, receive_on, server_end};
 use std::alloc::Global;
 use std::fs::{File, Files};
 use std::io::Write;
 use std::net::{Net, TcpListener, TcpStream};
 
-/// Takes what one sender sends, writes it to the output, and sets the totals of its end, if there was one.
+/// Receives from one sender, writes the bytes to the output, and sets the totals of its end, if there was one.
 fn transfer<W: Write, N: Net<Listener = TcpListener, Stream = TcpStream> + std::time::Clock>(
     rt: &N,
     alloc: Global,
@@ -39,25 +39,24 @@ fn transfer<W: Write, N: Net<Listener = TcpListener, Stream = TcpStream> + std::
         widest(),
     ) {
         Ok(end) => {
-            receive_on(
-                alloc,
-                listener,
-                settings.token,
-                end,
-                settings.receive_max,
-                writer,
-                RuntimeClock::new(rt),
-                TURNS,
-                totals,
-            )?;
+            let terms = ReceiveTerms {
+                token: settings.token,
+                receive_max: settings.receive_max,
+                patience: settings.patience,
+                turns: TURNS,
+            };
+            let clock = RuntimeClock::new(rt);
+            let ended = receive_on(rt, alloc, listener, end, writer, clock, terms);
+            *totals = ended.totals;
+            ended.result?;
             Ok(())
         }
         Err(error) => Err(RunError::Transfer(TransferError::End(error))),
     }
 }
 
-/// Takes what one sender sends, writes it to the output, and tells its end's totals where they are asked for. Where their file
-/// cannot be opened, nothing else is done.
+/// Receives from one sender, writes the bytes to the output, and writes the totals of its end where they are asked for.
+/// Where the file for the totals cannot be opened, nothing else is done.
 pub(crate) fn receive<
     W: Write,
     N: Net<Listener = TcpListener, Stream = TcpStream> + Files<File = File> + std::time::Clock,

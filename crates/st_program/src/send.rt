@@ -11,7 +11,7 @@ use st_end::Totals;
 use st_oer::CountRead;
 use st_sender::{EndConfig, MAX_IN_FLIGHT, MAX_PACKET_LIMIT, MAX_PACKETS};
 use st_settings::SendSettings;
-use st_transfer::{Neighbour, TransferError, client_end, send_on};
+use st_transfer::{Ended, Neighbour, SendTerms, TransferError, client_end, send_on};
 use std::alloc::Global;
 use std::fs::{File, Files};
 use std::io::Read;
@@ -19,7 +19,7 @@ use std::net::{Net, TcpListener, TcpStream};
 use std::sync::Wait;
 use std::thread::Threads;
 
-/// An end that sends as much at once as an end may.
+/// The configuration of an end that may have the most bytes and packets in flight.
 pub(crate) fn widest() -> EndConfig {
     let Some(config) = EndConfig::new(MAX_IN_FLIGHT, MAX_PACKETS, MAX_PACKET_LIMIT) else {
         unreachable!();
@@ -61,26 +61,26 @@ fn transfer<
         config,
     ) {
         Ok(end) => {
-            send_on(
-                rt,
-                alloc,
-                end,
+            let terms = SendTerms {
                 neighbour,
-                reader,
-                random,
-                settings.money,
-                settings.workers,
-                TURNS,
-                totals,
-            )?;
+                money: settings.money,
+                workers: settings.workers,
+                turns: TURNS,
+            };
+            let Ended {
+                result,
+                totals: then,
+            } = send_on(rt, alloc, end, reader, random, terms);
+            *totals = then;
+            result?;
             Ok(())
         }
         Err(error) => Err(RunError::Transfer(TransferError::End(error))),
     }
 }
 
-/// Sends the input and money to a receiver, and tells its end's totals where they are asked for. Where their file cannot be
-/// opened, nothing else is done.
+/// Sends the input and the money to a receiver, and writes the totals of its end where they are asked for. Where the
+/// file for the totals cannot be opened, nothing else is done.
 pub(crate) fn send<
     R: Read,
     N: Net<Listener = TcpListener, Stream = TcpStream>

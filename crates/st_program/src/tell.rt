@@ -1,4 +1,4 @@
-//! What is told of an end before the work was done.
+//! How the end of a command is reported.
 
 ghost use Rattle.std.specs.Prelude.{◌≡◌, ◌≤◌, IfOk, string_bytes};
 ghost use Rattle.st_commands.specs.Texts.{fault_text};
@@ -10,7 +10,7 @@ use st_oer::CountWrite;
 use std::alloc::{AllocError, Global};
 use std::io::Write;
 
-/// What a fault of this number prints.
+/// The line that reports the fault of this number.
 #[tactic(auto, using(crate::proofs::Pieces::pieces))]
 fn fault_line(alloc: Global, number: u8) -> Result<String, AllocError>
     ensures { IfOk result (λ text. string_bytes text ≡ fault_text number) }
@@ -19,7 +19,8 @@ fn fault_line(alloc: Global, number: u8) -> Result<String, AllocError>
     Ok(text)
 }
 
-/// Tells a fault of this number, as far as `errors` takes it, or that of want of memory. The status of a fault.
+/// Reports the fault of this number, as far as `errors` accepts it, or fault 99 where memory is refused. Returns the
+/// status of a fault.
 pub(crate) fn tell_number<E: Write>(alloc: Global, errors: &mut CountWrite<E>, number: u8) -> u8
     ensures { TellsNumber number E.contents errors.old errors.new result }
 {
@@ -30,7 +31,7 @@ pub(crate) fn tell_number<E: Write>(alloc: Global, errors: &mut CountWrite<E>, n
     1
 }
 
-/// Tells how a command ended, if by an error. Its status.
+/// Reports the error with which a command ended, where there is one. Returns the exit status.
 pub(crate) fn tell_end<E: Write>(
     alloc: Global,
     errors: &mut CountWrite<E>,

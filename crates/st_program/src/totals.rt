@@ -1,4 +1,4 @@
-//! The file in which a command tells its totals.
+//! The file to which a command writes its totals.
 
 ghost use Rattle.std.specs.Prelude.{◌≡◌, IfErr, IfOk, IsNone, IsSome, OnOk, Result, string_bytes, vec_len};
 ghost use Rattle.std.specs.Io.KnownBytes.{Appends};
@@ -16,7 +16,7 @@ use std::alloc::{AllocError, Global};
 use std::fs::{File, Files};
 use std::io::Write;
 
-/// The file of this name, made or emptied, where one was asked for. Refuses with `BadOption` where it cannot be opened.
+/// Creates or empties the file of this name, where one was asked for. Fails with `BadOption` where it cannot be opened.
 pub(crate) fn totals_file<N: Files<File = File>>(
     rt: &N,
     name: Option<&str>,
@@ -34,7 +34,7 @@ pub(crate) fn totals_file<N: Files<File = File>>(
     }
 }
 
-/// The totals of an end that did nothing yet.
+/// The totals of an end that has done nothing.
 pub(crate) fn nothing_yet() -> Totals {
     Totals {
         accepted: 0,
@@ -44,7 +44,7 @@ pub(crate) fn nothing_yet() -> Totals {
     }
 }
 
-/// Places for the totals of so many accounts.
+/// The totals of `count` accounts, all 0.
 pub(crate) fn places(alloc: Global, count: usize) -> Result<Vec<AccountTotals>, AllocError>
     ensures { IfOk result (λ places. vec_len places ≡ count) }
 {
@@ -59,7 +59,7 @@ pub(crate) fn places(alloc: Global, count: usize) -> Result<Vec<AccountTotals>, 
     Ok(places)
 }
 
-/// What an end's totals print.
+/// The lines that report the totals of an end.
 #[tactic(auto, using(crate::proofs::Pieces::pieces))]
 fn totals_text(alloc: Global, totals: &Totals) -> Result<String, AllocError>
     ensures { IfOk result (λ text. string_bytes text ≡ spec.totals_text (totals_seen totals.now)) }
@@ -76,7 +76,7 @@ fn totals_text(alloc: Global, totals: &Totals) -> Result<String, AllocError>
     Ok(text)
 }
 
-/// What the totals of the account of this number print.
+/// The line that reports the totals of the account of this number.
 #[tactic(auto, using(crate::proofs::Pieces::pieces), unfolding(crate::specs::Totals::account_text))]
 fn account_text(alloc: Global, number: usize, account: AccountTotals) -> Result<String, AllocError>
     ensures { IfOk result (λ text. string_bytes text ≡ spec.account_text number account) }
@@ -86,7 +86,7 @@ fn account_text(alloc: Global, number: usize, account: AccountTotals) -> Result<
     Ok(text)
 }
 
-/// What the totals of these accounts print, numbered from 0.
+/// The lines that report the totals of accounts, numbered from 0.
 fn accounts_text(alloc: Global, accounts: &[AccountTotals]) -> Result<String, AllocError>
     ensures { IfOk result (λ text. string_bytes text ≡ spec.accounts_text 0 accounts.now) }
 {
@@ -98,7 +98,7 @@ fn accounts_text(alloc: Global, accounts: &[AccountTotals]) -> Result<String, Al
     Ok(text)
 }
 
-/// Writes an end's totals whole.
+/// Writes the totals of an end.
 fn put_totals<W: Write>(
     alloc: Global,
     file: &mut CountWrite<W>,
@@ -111,7 +111,7 @@ fn put_totals<W: Write>(
     put(file, text.as_bytes(), &mut turns)
 }
 
-/// Writes the totals of accounts whole.
+/// Writes the totals of accounts.
 fn put_accounts<W: Write>(
     alloc: Global,
     file: &mut CountWrite<W>,
@@ -124,7 +124,7 @@ fn put_accounts<W: Write>(
     put(file, text.as_bytes(), &mut turns)
 }
 
-/// How a command ends whose totals were told so.
+/// The result of a command: its own error, or else that of writing its totals.
 fn ended_with(ended: Result<(), RunError>, told: Result<(), Fault>) -> Result<(), RunError>
     ensures { result ≡ spec.ended_with ended told }
 {
@@ -133,7 +133,8 @@ fn ended_with(ended: Result<(), RunError>, told: Result<(), Fault>) -> Result<()
     Ok(())
 }
 
-/// Tells an end's totals where a file was asked for, however the command ended: how it ends then.
+/// Writes the totals of an end where a file was asked for, however the command ended. Returns the result of the
+/// command.
 pub(crate) fn tell_totals<W: Write + Drop>(
     alloc: Global,
     file: Option<CountWrite<W>>,
@@ -149,7 +150,8 @@ pub(crate) fn tell_totals<W: Write + Drop>(
     }
 }
 
-/// Tells the totals of accounts where a file was asked for, however the command ended: how it ends then.
+/// Writes the totals of accounts where a file was asked for, however the command ended. Returns the result of the
+/// command.
 pub(crate) fn tell_accounts<W: Write + Drop>(
     alloc: Global,
     file: Option<CountWrite<W>>,

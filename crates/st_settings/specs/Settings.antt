@@ -1,5 +1,5 @@
 -- The settings that the texts of a command's options say.
-use Rattle.std.specs.Prelude.{◌≡◌, ℕ, ◌≤◌, ◌^◌, ◌-◌, true, List, Option, Ok, option_map}
+use Rattle.std.specs.Prelude.{◌≡◌, ℕ, ◌≤◌, ◌^◌, ◌-◌, true, ⊤, List, Option, Some, None, Ok, option_map}
 use Rattle.std.specs.Borrow.{Bor}
 use Rattle.hex.specs.Hex.{decode_sized}
 use Rattle.st_oer.specs.Address.{is_address}
@@ -18,6 +18,13 @@ use Rattle.st_settings.specs.Numbers.{IsNumber, IsHostPort, IsRate}
 pub record IsWithin (least most : ℕ) (text : List ℕ) (n : ℕ) : Type 0 where
   pub number : IsNumber most text n
   pub enough : least ≤ n
+
+-- an option is left out, and there is no number; or its text writes a number within these bounds
+abbrev pub IsChosen : (least most : ℕ) → Option (List ℕ) → Option ℕ → Type 0
+IsChosen least most None None = ⊤
+IsChosen least most None (Some n) = ⊥
+IsChosen least most (Some text) None = ⊥
+IsChosen least most (Some text) (Some n) = IsWithin least most text n
 
 -- the text is 64 hexadecimal digits, which write these bytes
 abbrev pub IsSecret : List ℕ → List ℕ → Type 0
@@ -82,6 +89,7 @@ pub record ReceiveTexts : Type 0 where
   pub address : List ℕ
   pub peer : List ℕ
   pub receive_max : List ℕ
+  pub patience : Option (List ℕ)
   pub totals : Option (List ℕ)
 
 abbrev pub receive_texts : ReceiveOptions → ReceiveTexts
@@ -92,6 +100,7 @@ receive_texts o = record {
   address = o.address.now;
   peer = o.peer.now;
   receive_max = o.receive_max.now;
+  patience = said o.patience;
   totals = said o.totals;
 }
 
@@ -139,6 +148,7 @@ pub record IsReceive (o : ReceiveTexts) (s : ReceiveSettings) : Type 0 where
   pub address : (s.address.now ≡ o.address) × (is_address o.address ≡ true)
   pub peer : (s.peer.now ≡ o.peer) × (is_address o.peer ≡ true)
   pub receive_max : IsWithin 0 most_money o.receive_max s.receive_max
+  pub patience : IsChosen 1 86_400 o.patience s.patience
   pub totals : said s.totals ≡ o.totals
 
 -- the texts ask `connector` for this

@@ -1,4 +1,4 @@
-//! Why there is no table.
+//! The errors of reading a connector's table.
 
 ghost use Rattle.std.specs.Prelude.{◌≡◌};
 ghost use Rattle.st_settings.specs.Errors as errors;
@@ -7,10 +7,10 @@ ghost use Rattle.st_settings.specs.declared.error.TableError.TheVariants.{NoMemo
 use std::alloc::{AllocError, AllocFailed};
 use thiserror::Error;
 
-/// Why a text is no table.
+/// Why a text is not a table.
 #[derive(Clone, Copy, Debug, PartialEq, Eq, Error)]
 pub enum TableError {
-    /// A line has words, and is neither an account nor a route.
+    /// A line is not empty, and is neither an account nor a route.
     #[error("a line is neither an account nor a route")]
     BadLine,
     /// Memory that the call asked for was refused.
@@ -19,7 +19,7 @@ pub enum TableError {
 }
 
 impl TableError {
-    /// The number by which the refusal is known: 96 or 99.
+    /// The error's number in the program's table of faults: 96 or 99.
     pub fn number(&self) -> u8
         ensures { result ≡ errors.number self.now }
     {

@@ -1,8 +1,9 @@
-//! What the words of the commands `local`, `send`, `receive` and `connector` say, and the connector's table.
+//! The settings of the commands `local`, `send`, `receive` and `connector`, from their arguments; and the connector's
+//! table.
 //!
-//! The texts of options go in; the settings come out, or `None` where a text is bad. What each text has to be is in specs/:
-//! numbers, HOST:PORT and rates (Numbers), the settings of each command (Settings), and the lines of a table (Table). No
-//! file, no socket and no clock is known here.
+//! The texts of the options are given, and the settings are returned, or `None` where a text is bad. What each text has
+//! to be is in specs/: numbers, HOST:PORT and rates (Numbers), the settings of each command (Settings), and the lines
+//! of a table (Table). This crate uses no file, no socket and no clock.
 #![tactic(auto)]
 
 mod error;
@@ -18,8 +19,8 @@ pub use line::{AccountLine, Neighbour};
 pub use number::read_number;
 pub use options::{ConnectorOptions, LocalOptions, ReceiveOptions, SendOptions};
 pub use settings::{
-    ConnectorSettings, LocalSettings, MAX_HOPS, MAX_LOSE, MAX_MONEY, MAX_REQUESTS, MAX_STREAMS,
-    MAX_WORKERS, ReceiveSettings, SendSettings,
+    ConnectorSettings, LocalSettings, MAX_HOPS, MAX_LOSE, MAX_MONEY, MAX_PATIENCE, MAX_REQUESTS,
+    MAX_STREAMS, MAX_WORKERS, ReceiveSettings, SendSettings,
 };
 pub use table::{Table, read_table};
 pub use text::{read_rate, read_secret};

@@ -17,27 +17,27 @@ use st_http::is_field_text;
 use st_oer::Rate;
 use std::alloc::{AllocError, Allocator};
 
-/// Where the Prepares for an account go.
+/// Where the Prepares for an account are sent.
 #[derive(Clone, Copy, Debug)]
 pub struct Neighbour<'a> {
-    /// As HOST:PORT.
+    /// The neighbour, written HOST:PORT.
     pub host: &'a str,
-    /// The token that it knows the connector by: 1 to 255 visible characters.
+    /// The bearer token by which the neighbour knows the connector: 1 to 255 visible characters.
     pub token: &'a str,
 }
 
 /// An account of a connector's table.
 #[derive(Clone, Copy, Debug)]
 pub struct AccountLine<'a> {
-    /// What it may owe, and what one Prepare from it may carry.
+    /// The most that the account may owe, and the most that one Prepare from it may carry, in units.
     pub terms: Account,
-    /// The token that it is known by: 1 to 255 visible characters.
+    /// The bearer token by which the connector knows the account: 1 to 255 visible characters.
     pub token: &'a str,
-    /// Where its Prepares go: `None` for an account that is never sent to.
+    /// Where the Prepares for the account are sent. `None` for an account to which none is sent.
     pub neighbour: Option<Neighbour<'a>>,
 }
 
-/// The words of a line: what stands between spaces.
+/// The parts of a line, which spaces separate.
 pub(crate) fn words_of<'a, A: Allocator + Copy>(
     alloc: A,
     line: &'a str,
@@ -49,7 +49,8 @@ pub(crate) fn words_of<'a, A: Allocator + Copy>(
         .collect(alloc)
 }
 
-/// Where an account's Prepares go, by the last two words of its line: nowhere by `- -`. `None` for words that say nothing.
+/// Where an account's Prepares are sent, by the last two parts of its line: nowhere by `- -`. `None` where they are not
+/// valid.
 fn leads_to<'a>(host: &'a str, token: &'a str) -> Option<Option<Neighbour<'a>>>
     ensures { MatchOption result ((n : Option Neighbour) → ¬ (Leads host.now token.now n)) (Leads host.now token.now) }
 {
@@ -85,7 +86,7 @@ fn account_by<'a>(
     })
 }
 
-/// The account that the words behind `account` say, or `None` exactly where they say none.
+/// The account that the parts behind `account` say. `None` exactly where they are not valid.
 pub(crate) fn account_of<'a>(words: &[&'a str]) -> Option<AccountLine<'a>>
     ensures { MatchOption result
         ((a : AccountLine) → ¬ (IsAccountLine (codes "account" ∷ map (λ w. w.now) words.now) a))
@@ -109,7 +110,7 @@ fn route_by<'a>(prefix: &'a str, account: &str, rate: Rate) -> Option<Route<'a>>
     })
 }
 
-/// The route that the words behind `route` say, or `None` exactly where they say none.
+/// The route that the parts behind `route` say. `None` exactly where they are not valid.
 pub(crate) fn route_of<'a>(words: &[&'a str]) -> Option<Route<'a>>
     ensures { MatchOption result
         ((r : Route) → ¬ (IsRouteLine (codes "route" ∷ map (λ w. w.now) words.now) r))

@@ -1,10 +1,10 @@
-//! Numbers in decimal digits.
+//! Numbers written in decimal digits.
 
 ghost use Rattle.std.specs.Prelude.{◌≡◌, ℕ, MatchOption};
 ghost use Rattle.st_settings.specs.Numbers.{IsNumber};
 
-/// The number that decimal digits write, where it is at most `most`: one digit or more, no sign and no space. Zeros may
-/// stand in front.
+/// The number that a text writes in decimal digits, where it is at most `most`. `None` where the text is empty, has
+/// another character than a digit, or writes a larger number. Leading zeros are allowed.
 pub fn read_number(text: &[u8], most: u64) -> Option<u64>
     ensures { MatchOption result ((n : ℕ) → ¬ (IsNumber most text.now n)) (IsNumber most text.now) }
 {

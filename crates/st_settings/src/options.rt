@@ -1,71 +1,73 @@
-//! The texts of options, as the words of a command give them.
+//! The texts of options, as the command line gives them.
 
-/// The texts of `local`.
+/// The texts of the options of `local`.
 #[derive(Clone, Copy, Debug)]
 pub struct LocalOptions<'a> {
-    /// `--hops`
+    /// The text of `--hops`.
     pub hops: &'a str,
-    /// `--lose`
+    /// The text of `--lose`.
     pub lose: &'a str,
-    /// `--streams`
+    /// The text of `--streams`.
     pub streams: &'a str,
 }
 
-/// The texts of `send`.
+/// The texts of the options of `send`.
 #[derive(Clone, Copy, Debug)]
 pub struct SendOptions<'a> {
-    /// `--to`
+    /// The text of `--to`.
     pub to: &'a str,
-    /// `--token`
+    /// The text of `--token`.
     pub token: &'a str,
-    /// `--secret`
+    /// The text of `--secret`.
     pub secret: &'a str,
-    /// `--address`
+    /// The text of `--address`.
     pub address: &'a str,
-    /// `--peer`
+    /// The text of `--peer`.
     pub peer: &'a str,
-    /// `--money`
+    /// The text of `--money`.
     pub money: &'a str,
-    /// `--workers`
+    /// The text of `--workers`.
     pub workers: &'a str,
-    /// `--random`
+    /// The text of `--random`.
     pub random: &'a str,
-    /// `--least`
+    /// The text of `--least`.
     pub least: &'a str,
-    /// `--totals`, where it is given.
+    /// The text of `--totals`, where it is given.
     pub totals: Option<&'a str>,
 }
 
-/// The texts of `receive`.
+/// The texts of the options of `receive`.
 #[derive(Clone, Copy, Debug)]
 pub struct ReceiveOptions<'a> {
-    /// `--listen`
+    /// The text of `--listen`.
     pub listen: &'a str,
-    /// `--token`
+    /// The text of `--token`.
     pub token: &'a str,
-    /// `--secret`
+    /// The text of `--secret`.
     pub secret: &'a str,
-    /// `--address`
+    /// The text of `--address`.
     pub address: &'a str,
-    /// `--peer`
+    /// The text of `--peer`.
     pub peer: &'a str,
-    /// `--receive-max`
+    /// The text of `--receive-max`.
     pub receive_max: &'a str,
-    /// `--totals`, where it is given.
+    /// The text of `--patience`, where it is given.
+    pub patience: Option<&'a str>,
+    /// The text of `--totals`, where it is given.
     pub totals: Option<&'a str>,
 }
 
-/// The texts of `connector`.
+/// The texts of the options of `connector`.
 #[derive(Clone, Copy, Debug)]
 pub struct ConnectorOptions<'a> {
-    /// `--listen`
+    /// The text of `--listen`.
     pub listen: &'a str,
-    /// `--own`
+    /// The text of `--own`.
     pub own: &'a str,
-    /// `--requests`
+    /// The text of `--requests`.
     pub requests: &'a str,
-    /// `--workers`
+    /// The text of `--workers`.
     pub workers: &'a str,
-    /// `--totals`, where it is given.
+    /// The text of `--totals`, where it is given.
     pub totals: Option<&'a str>,
 }

@@ -1,6 +1,6 @@
-//! What a command is asked to do.
+//! The settings of each command.
 
-ghost use Rattle.std.specs.Prelude.{◌≡◌, ℕ, true, false, MatchOption};
+ghost use Rattle.std.specs.Prelude.{◌≡◌, ℕ, Option, true, false, MatchOption};
 ghost use Rattle.st_oer.specs.Address as address;
 ghost use Rattle.st_http.specs.Texts as texts;
 ghost use Rattle.st_settings.specs.declared.settings.LocalSettings.{LocalSettings};
@@ -8,7 +8,7 @@ ghost use Rattle.st_settings.specs.declared.settings.SendSettings.{SendSettings}
 ghost use Rattle.st_settings.specs.declared.settings.ReceiveSettings.{ReceiveSettings};
 ghost use Rattle.st_settings.specs.declared.settings.ConnectorSettings.{ConnectorSettings};
 ghost use Rattle.st_settings.specs.Numbers.{IsHostPort};
-ghost use Rattle.st_settings.specs.Settings.{IsConnector, IsLocal, IsReceive, IsSend, IsWithin, connector_texts, local_texts, receive_texts, send_texts};
+ghost use Rattle.st_settings.specs.Settings.{IsChosen, IsConnector, IsLocal, IsReceive, IsSend, IsWithin, connector_texts, local_texts, receive_texts, said, send_texts};
 
 use crate::number::read_number;
 use crate::options::{ConnectorOptions, LocalOptions, ReceiveOptions, SendOptions};
@@ -18,36 +18,38 @@ use st_oer::{Rate, is_address};
 
 /// The most connectors between the two ends of `local`.
 pub const MAX_HOPS: u64 = 8;
-/// The most Prepares of which `local` loses one.
+/// The largest number N of `local --lose`, which drops each N-th Prepare.
 pub const MAX_LOSE: u64 = 1_000_000;
 /// The most streams of `local`.
 pub const MAX_STREAMS: u64 = 32;
-/// The greatest amount of money, in units.
+/// The largest amount of money, in units.
 pub const MAX_MONEY: u64 = (1 << 63) - 1;
-/// The most workers.
+/// The most worker threads of a command.
 pub const MAX_WORKERS: u64 = 16;
-/// The most requests that a connector may be asked to serve.
+/// The most seconds that `receive` can be asked to wait for a request: a day.
+pub const MAX_PATIENCE: u64 = 86_400;
+/// The most requests that a connector can be asked to answer.
 pub const MAX_REQUESTS: u64 = (1 << 31) - 1;
 
-/// What `local` is asked to do.
+/// The settings of `local`.
 #[derive(Clone, Copy, Debug)]
 pub struct LocalSettings {
-    /// Connectors between the two ends: 0 to 8, by default 1.
+    /// The number of connectors between the two ends: 0 to 8, by default 1.
     pub hops: u8,
-    /// Each Prepare of the client whose number this divides is lost: 0, the default, for none, to 1,000,000.
+    /// Each N-th Prepare of the client is dropped, N from 0 to 1,000,000; 0, the default, drops none.
     pub lose: u64,
-    /// Streams that the input is cut into: 1 to 32, by default 1.
+    /// The number of streams that the input is divided among: 1 to 32, by default 1.
     pub streams: u8,
 }
 
-/// What `send` is asked to do.
+/// The settings of `send`.
 #[derive(Clone, Copy, Debug)]
 pub struct SendSettings<'a> {
-    /// The neighbour, as HOST:PORT.
+    /// The neighbour that requests are sent to, written HOST:PORT.
     pub to: &'a str,
-    /// The token that the neighbour knows this end by: 1 to 255 visible characters.
+    /// The bearer token by which the neighbour knows this end: 1 to 255 visible characters.
     pub token: &'a str,
-    /// The secret of the connection.
+    /// The shared secret of the connection, 32 bytes (RFC 0029).
     pub secret: [u8; 32],
     /// This end's ILP address.
     pub address: &'a str,
@@ -55,47 +57,50 @@ pub struct SendSettings<'a> {
     pub peer: &'a str,
     /// The money that is offered on the stream, in units: 0, the default, to 2^63 - 1.
     pub money: u64,
-    /// Threads that send: 1 to 16, by default 4.
+    /// The number of threads that send: 1 to 16, by default 4.
     pub workers: u8,
-    /// The file that random bytes are read from, by default /dev/urandom.
+    /// The name of the file that random bytes are read from, by default /dev/urandom.
     pub random: &'a str,
-    /// The least that has to arrive for what is sent, rounded down: by default 1 to 1.
+    /// The lowest accepted rate: the units that have to arrive for the units that are sent, rounded down; by default 1
+    /// to 1.
     pub least: Rate,
-    /// The file that totals are told in, if one was asked for.
+    /// The name of the file that the totals are written to, where one was given.
     pub totals: Option<&'a str>,
 }
 
-/// What `receive` is asked to do.
+/// The settings of `receive`.
 #[derive(Clone, Copy, Debug)]
 pub struct ReceiveSettings<'a> {
-    /// Where requests are taken, as HOST:PORT.
+    /// The address at which requests are accepted, written HOST:PORT.
     pub listen: &'a str,
-    /// The token that a request has to have: 1 to 255 visible characters.
+    /// The bearer token that a request has to show: 1 to 255 visible characters.
     pub token: &'a str,
-    /// The secret of the connection.
+    /// The shared secret of the connection, 32 bytes (RFC 0029).
     pub secret: [u8; 32],
     /// This end's ILP address.
     pub address: &'a str,
     /// The sender's ILP address.
     pub peer: &'a str,
-    /// The most money that is taken on the stream, in units: 0, the default, to 2^63 - 1.
+    /// The most money that is accepted on the stream, in units: 0, the default, to 2^63 - 1.
     pub receive_max: u64,
-    /// The file that totals are told in, if one was asked for.
+    /// The number of seconds that may pass without a valid request: 1 to 86,400. `None`, the default, is any number.
+    pub patience: Option<u64>,
+    /// The name of the file that the totals are written to, where one was given.
     pub totals: Option<&'a str>,
 }
 
-/// What `connector` is asked to do.
+/// The settings of `connector`.
 #[derive(Clone, Copy, Debug)]
 pub struct ConnectorSettings<'a> {
-    /// Where requests are taken, as HOST:PORT.
+    /// The address at which requests are accepted, written HOST:PORT.
     pub listen: &'a str,
     /// The connector's own ILP address.
     pub own: &'a str,
-    /// Requests that are taken before it ends: 1 to 2^31 - 1.
+    /// The number of requests that are answered before the connector ends: 1 to 2^31 - 1.
     pub requests: u64,
-    /// Threads that serve: 1 to 16, by default 4.
+    /// The number of threads that answer: 1 to 16, by default 4.
     pub workers: u8,
-    /// The file that totals are told in, if one was asked for.
+    /// The name of the file that the totals are written to, where one was given.
     pub totals: Option<&'a str>,
 }
 
@@ -108,6 +113,19 @@ fn number(text: &str, least: u64, most: u64) -> Option<u64>
         return None;
     }
     Some(number)
+}
+
+/// The number that the text of an option writes, from `least` to `most`, where the option is given.
+fn chosen(text: Option<&str>, least: u64, most: u64) -> Option<Option<u64>>
+    ensures { MatchOption result ((n : Option ℕ) → ¬ (IsChosen least most (said text.entry) n)) (IsChosen least most (said text.entry)) }
+{
+    match text {
+        None => Some(None),
+        Some(text) => match number(text, least, most) {
+            Some(number) => Some(Some(number)),
+            None => None,
+        },
+    }
 }
 
 /// The text, where it is HOST:PORT.
@@ -136,7 +154,7 @@ fn address(text: &str) -> Option<&str>
 }
 
 impl LocalSettings {
-    /// What these texts say, or `None` exactly where one is bad.
+    /// The settings that the texts of the options write. `None` exactly where one of the texts is bad.
     pub fn read(options: &LocalOptions<'_>) -> Option<LocalSettings>
         ensures { MatchOption result ((s : LocalSettings) → ¬ (IsLocal (local_texts options.now) s)) (IsLocal (local_texts options.now)) }
     {
@@ -149,7 +167,7 @@ impl LocalSettings {
 }
 
 impl<'a> SendSettings<'a> {
-    /// What these texts say, or `None` exactly where one is bad.
+    /// The settings that the texts of the options write. `None` exactly where one of the texts is bad.
     pub fn read(options: &SendOptions<'a>) -> Option<SendSettings<'a>>
         ensures { MatchOption result ((s : SendSettings) → ¬ (IsSend (send_texts options.now) s)) (IsSend (send_texts options.now)) }
     {
@@ -169,7 +187,7 @@ impl<'a> SendSettings<'a> {
 }
 
 impl<'a> ReceiveSettings<'a> {
-    /// What these texts say, or `None` exactly where one is bad.
+    /// The settings that the texts of the options write. `None` exactly where one of the texts is bad.
     pub fn read(options: &ReceiveOptions<'a>) -> Option<ReceiveSettings<'a>>
         ensures { MatchOption result ((s : ReceiveSettings) → ¬ (IsReceive (receive_texts options.now) s)) (IsReceive (receive_texts options.now)) }
     {
@@ -180,13 +198,14 @@ impl<'a> ReceiveSettings<'a> {
             address: address(options.address)?,
             peer: address(options.peer)?,
             receive_max: number(options.receive_max, 0, MAX_MONEY)?,
+            patience: chosen(options.patience, 1, MAX_PATIENCE)?,
             totals: options.totals,
         })
     }
 }
 
 impl<'a> ConnectorSettings<'a> {
-    /// What these texts say, or `None` exactly where one is bad.
+    /// The settings that the texts of the options write. `None` exactly where one of the texts is bad.
     pub fn read(options: &ConnectorOptions<'a>) -> Option<ConnectorSettings<'a>>
         ensures { MatchOption result ((s : ConnectorSettings) → ¬ (IsConnector (connector_texts options.now) s)) (IsConnector (connector_texts options.now)) }
     {

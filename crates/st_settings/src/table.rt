@@ -10,12 +10,12 @@ use crate::line::{AccountLine, account_of, route_of, words_of};
 use st_hop::{Account, Route};
 use std::alloc::{AllocError, Allocator};
 
-/// The accounts of a connector, numbered from 0, and its routes, each in the order of the lines.
+/// The accounts of a connector, numbered from 0, and its routes, both in the order of their lines.
 #[derive(Drop)]
 pub struct Table<'a, A: Allocator + Copy> {
-    /// The accounts; a route names one by its place here.
+    /// The accounts. A route names one by its place in this list.
     pub accounts: Vec<AccountLine<'a>, A>,
-    /// The routes.
+    /// The routes: each sends the addresses within a prefix to an account, at a rate.
     pub routes: Vec<Route<'a>, A>,
 }
 
@@ -29,7 +29,7 @@ impl<'a, A: Allocator + Copy> Table<'a, A> {
         }
     }
 
-    /// What each account may owe and send, for a hop.
+    /// The limits of each account, as a hop needs them. Fails where memory is refused.
     pub fn terms(&self, alloc: A) -> Result<Vec<Account, A>, AllocError>
         ensures { IfOk result (λ terms. terms.items ≡ map (λ x. x.terms) self.now.accounts.items) }
     {
@@ -39,7 +39,7 @@ impl<'a, A: Allocator + Copy> Table<'a, A> {
             .collect(alloc)
     }
 
-    /// The token of each account, for a server.
+    /// The bearer token of each account, as a server needs them. Fails where memory is refused.
     pub fn tokens(&self, alloc: A) -> Result<Vec<&'a str, A>, AllocError>
         ensures { IfOk result (λ tokens. tokens.items ≡ map (λ x. x.token) self.now.accounts.items) }
     {
@@ -49,7 +49,7 @@ impl<'a, A: Allocator + Copy> Table<'a, A> {
             .collect(alloc)
     }
 
-    /// Takes what the words of a line say.
+    /// Takes a line, which is given as the texts between its spaces.
     fn take_line(&mut self, words: &[&'a str]) -> Result<(), TableError>
         ensures taken { OnOk result (Takes (map (λ w. w.now) words.now) self.old.accounts.items self.old.routes.items self.new.accounts.items self.new.routes.items) }
         ensures bad { IfErr result (λ e. e ≡ BadLine → IsBad (map (λ w. w.now) words.now)) }
@@ -76,9 +76,11 @@ impl<'a, A: Allocator + Copy> Table<'a, A> {
     }
 }
 
-/// The table that a text says, line by line: `account LIMIT MAX TOKEN HOST:PORT TOKEN`, where `- -` in place of the last
-/// two is an account that is never sent to, and `route PREFIX ACCOUNT`, with ` NUM DEN` behind it for a rate other than 1 to
-/// 1. Words stand between spaces; lines without words are skipped.
+/// Reads a table, line by line. An account is `account LIMIT MAX TOKEN HOST:PORT TOKEN`, with `- -` in place of the
+/// last two where nothing is sent to it. A route is `route PREFIX ACCOUNT`, with `NUM DEN` behind it for a rate other
+/// than 1 to 1. The parts of a line are separated by spaces; empty lines are skipped.
+///
+/// Fails with `BadLine` where a line is neither, and with `NoMemory` where memory is refused.
 pub fn read_table<'a, A: Allocator + Copy>(
     alloc: A,
     text: &'a str,

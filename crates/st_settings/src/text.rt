@@ -1,4 +1,4 @@
-//! The texts that options and lines are made of.
+//! The texts of which options and lines consist.
 
 ghost use Rattle.std.specs.Prelude.{◌≡◌, ℕ, List, MatchBool, MatchOption, Ok};
 ghost use Rattle.hex.specs.Hex.{decode_sized};
@@ -50,7 +50,8 @@ pub(crate) fn rate_of(num: &[u8], den: &[u8]) -> Option<Rate>
     Rate::new(num as u32, den as u32)
 }
 
-/// The rate that NUM:DEN writes: so many units out for so many in, each number from 1 to 2^32 - 1.
+/// The rate that a text NUM:DEN writes: NUM units out for DEN units in, each number from 1 to 2^32 - 1. `None` for any
+/// other text.
 pub fn read_rate(text: &str) -> Option<Rate>
     ensures { MatchOption result ((r : Ratio) → ¬ (IsRate text.now r)) (IsRate text.now) }
 {
@@ -58,7 +59,7 @@ pub fn read_rate(text: &str) -> Option<Rate>
     rate_of(num, den)
 }
 
-/// The 32 bytes that 64 hexadecimal digits write, in upper or lower case.
+/// The 32 bytes that 64 hexadecimal digits write, in upper or lower case. `None` for any other text.
 pub fn read_secret(text: &str) -> Option<[u8; 32]>
     ensures { MatchOption result ((bytes : List ℕ) → ¬ (decode_sized text.now 32 ≡ Ok bytes)) (λ bytes. decode_sized text.now 32 ≡ Ok bytes) }
 {

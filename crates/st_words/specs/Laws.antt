@@ -39,6 +39,7 @@ ReceiveSaysItsTexts = (listen token secret address peer : Text) → (refusals (r
       address = address;
       peer = peer;
       receive_max = codes "0";
+      patience = None;
       totals = None;
     }))
 

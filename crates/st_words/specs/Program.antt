@@ -53,6 +53,10 @@ with_listen s = with_rule s (required_rule (codes "listen"))
 abbrev pub with_money : Text → Shape → Shape
 with_money name s = with_rule s (with_default (codes "0") (number_rule name 0 most_money))
 
+-- how many seconds a receiver waits for a request, up to a day
+abbrev pub patience_rule : Rule
+patience_rule = number_rule (codes "patience") 1 86_400
+
 abbrev pub with_workers : Shape → Shape
 with_workers s = with_rule s (with_default (codes "4") (number_rule (codes "workers") 1 most_workers))
 
@@ -100,6 +104,7 @@ receive = record (new_shape (codes "receive")) {
       ∷ required_rule (codes "address")
       ∷ required_rule (codes "peer")
       ∷ with_default (codes "0") (number_rule (codes "receive-max") 0 most_money)
+      ∷ patience_rule
       ∷ totals_rule ∷ [];
 }
 

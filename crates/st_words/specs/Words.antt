@@ -41,6 +41,7 @@ receive_texts rows = record {
   address = value_of (codes "address") rows;
   peer = value_of (codes "peer") rows;
   receive_max = value_of (codes "receive-max") rows;
+  patience = first_of (codes "patience") rows;
   totals = first_of (codes "totals") rows;
 }
 

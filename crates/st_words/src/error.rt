@@ -1,12 +1,13 @@
-//! Why the words ask for nothing.
+//! Why the arguments ask for no command.
 
 use clap::Error;
 
-/// Why the words ask for nothing.
+/// Why the arguments ask for no command.
 #[derive(Debug, Drop)]
 pub enum WordsError {
-    /// clap refuses them, or they ask for help or the version: it has the text. Want of memory is one of its kinds.
+    /// clap refuses the arguments, or they ask for help or the version. The error has the text to print. Memory that
+    /// was refused is one of its kinds.
     Refused(Error),
-    /// An option's text is not what its place asks for: the fault 98.
+    /// The text of an option is not what the option asks for: fault 98.
     BadOption,
 }

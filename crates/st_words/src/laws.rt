@@ -1,9 +1,9 @@
-//! What plain words ask for, whatever the texts in them are.
+//! A law of the arguments of `send`, `receive` and `connector`.
 
 ghost use Rattle.st_words.specs.Laws.{ConnectorSaysItsTexts, ReceiveSaysItsTexts, SendSaysItsTexts};
 
-/// The texts behind `--to=` and its like are those that a command gets, whatever they are, and an option that is left out
-/// has its default: clap's rules make nothing else of them.
+/// States a law; it does nothing. A command gets the texts behind `--to=` and the other options exactly as they are,
+/// whatever they are; an option that is left out has its default.
 pub fn plain_words_say_their_texts()
     ensures send { SendSaysItsTexts }
     ensures receive { ReceiveSaysItsTexts }

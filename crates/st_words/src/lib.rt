@@ -1,8 +1,9 @@
-//! The words of the command line, as clap reads them.
+//! The arguments of the command line, as clap reads them.
 //!
-//! `read_words` takes the words and gives the command with its settings, or clap's refusal, or that an option's text is bad.
-//! The program and its commands, as clap reads words for them, are in specs/Program.antt; what words ask for is in
-//! specs/Words.antt, over the values that clap gives the options and st_settings' definitions of what they say.
+//! `read_words` takes the arguments and returns the command with its settings, or clap's refusal, or that the text of
+//! an option is bad. The program and its commands, as clap reads arguments for them, are in specs/Program.antt. What
+//! the arguments ask for is in specs/Words.antt, over the values that clap gives the options and st_settings'
+//! definitions of what they mean.
 #![tactic(auto)]
 
 mod error;

@@ -1,4 +1,4 @@
-//! The kinds of option that the commands have.
+//! The kinds of options that the commands have.
 
 ghost use Rattle.std.specs.Prelude.{◌≡◌, ◌≤◌, ◌<◌, ◌^◌, ℕ, List, [], ◌∷◌, false, IfOk};
 ghost use Rattle.clap.specs.Words.{app_of, rule_of, shape_of, with_subcommand};
@@ -8,7 +8,7 @@ ghost use Rattle.st_words.specs.Program.{HasShape, has_globals, number_rule, opt
 use clap::{Arg, ArgAction, Command, value_parser};
 use std::alloc::{AllocError, Global};
 
-/// An option `--NAME` with one value, which help calls `value`.
+/// An option `--NAME` with one value, which help shows as `value`.
 pub(crate) fn option<'a>(alloc: Global, name: &'a str, value: &'a str, help: &'a str) -> Arg<'a>
     ensures rule { rule_of result ≡ option_rule name.now }
     ensures own { result.global ≡ false }
@@ -20,7 +20,7 @@ pub(crate) fn option<'a>(alloc: Global, name: &'a str, value: &'a str, help: &'a
         .action(ArgAction::Set)
 }
 
-/// The option has to be there.
+/// The option, made mandatory.
 pub(crate) fn required<'a>(option: Arg<'a>) -> Arg<'a>
     ensures rule { rule_of result ≡ spec.with_required (rule_of option.entry) }
     ensures own { result.global ≡ option.entry.global }
@@ -28,7 +28,7 @@ pub(crate) fn required<'a>(option: Arg<'a>) -> Arg<'a>
     option.required(true)
 }
 
-/// The option has this value where it is left out.
+/// The option, with a default value.
 fn or<'a>(option: Arg<'a>, default: &'a str) -> Arg<'a>
     ensures rule { rule_of result ≡ spec.with_default default.now (rule_of option.entry) }
     ensures own { result.global ≡ option.entry.global }
@@ -36,7 +36,25 @@ fn or<'a>(option: Arg<'a>, default: &'a str) -> Arg<'a>
     option.default_value(default)
 }
 
-/// An option `--NAME` whose value is a whole number from `least` to `most`.
+/// An option `--NAME` whose value is a whole number from `least` to `most`, which help shows as `value`.
+pub(crate) fn ranged<'a>(
+    alloc: Global,
+    name: &'a str,
+    value: &'a str,
+    help: &'a str,
+    least: u32,
+    most: u64,
+) -> Arg<'a>
+    requires { most < 2 ^ 63 }
+    ensures rule { rule_of result ≡ number_rule name.now least most }
+    ensures own { result.global ≡ false }
+{
+    option(alloc, name, value, help).value_parser(value_parser!(u64).range(
+        i64::from(least)..=most as i64,
+    ))
+}
+
+/// An option `--NAME` whose value is a whole number from `least` to `most`, which help shows as `N`.
 pub(crate) fn number<'a>(
     alloc: Global,
     name: &'a str,
@@ -48,12 +66,10 @@ pub(crate) fn number<'a>(
     ensures rule { rule_of result ≡ number_rule name.now least most }
     ensures own { result.global ≡ false }
 {
-    option(alloc, name, "N", help).value_parser(value_parser!(u64).range(
-        i64::from(least)..=most as i64,
-    ))
+    ranged(alloc, name, "N", help, least, most)
 }
 
-/// The command with one option more.
+/// The command with one further option.
 pub(crate) fn with<'a>(command: Command<'a>, option: Arg<'a>) -> Result<Command<'a>, AllocError>
     requires { option.global ≡ false }
     ensures { IfOk result (λ c. (shape_of c ≡ with_rule (shape_of command.entry) (rule_of option.entry)) × (has_globals c ≡ has_globals command.entry)) }
@@ -61,7 +77,7 @@ pub(crate) fn with<'a>(command: Command<'a>, option: Arg<'a>) -> Result<Command<
     command.arg(option)
 }
 
-/// The command with one more, which has to be there.
+/// The command with one further option `--NAME`, which is mandatory.
 pub(crate) fn with_required<'a>(
     alloc: Global,
     command: Command<'a>,
@@ -75,7 +91,7 @@ pub(crate) fn with_required<'a>(
     with(command, required(option(alloc, name, value, help)))
 }
 
-/// The command with one more, which has this value where it is left out.
+/// The command with one further option, which has this default value.
 pub(crate) fn with_default<'a>(
     command: Command<'a>,
     option: Arg<'a>,
@@ -88,7 +104,7 @@ pub(crate) fn with_default<'a>(
     with(command, or(option, default))
 }
 
-/// The program with one command more.
+/// The program with one further command.
 pub(crate) fn with_command<'a>(
     program: Command<'a>,
     command: Command<'a>,

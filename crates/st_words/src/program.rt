@@ -4,15 +4,20 @@ ghost use Rattle.std.specs.Prelude.{◌≡◌, false, IfOk};
 ghost use Rattle.clap.specs.Words.{app_of, shape_of};
 ghost use Rattle.clap.specs.Simple.{new_shape};
 ghost use Rattle.st_words.specs.Program as spec;
-ghost use Rattle.st_words.specs.Program.{HasShape, has_globals, totals_rule, with_rule};
+ghost use Rattle.st_words.specs.Program.{HasShape, has_globals, patience_rule, totals_rule, with_rule};
 
-use crate::options::{number, option, required, with, with_command, with_default, with_required};
+use crate::options::{
+    number, option, ranged, required, with, with_command, with_default, with_required,
+};
 use crate::texts::{
     ACCOUNTS_HELP, AFTER_CONNECTOR_HELP, AFTER_FRAMES_HELP, AFTER_HELP, AFTER_LOCAL_HELP,
-    AFTER_RECEIVE_HELP, AFTER_SEND_HELP, LEAST_HELP, SECRET_HELP, TOKEN_HELP, TOTALS_HELP,
+    AFTER_RECEIVE_HELP, AFTER_SEND_HELP, LEAST_HELP, PATIENCE_HELP, SECRET_HELP, TOKEN_HELP,
+    TOTALS_HELP,
 };
 use clap::Command;
-use st_settings::{MAX_HOPS, MAX_LOSE, MAX_MONEY, MAX_REQUESTS, MAX_STREAMS, MAX_WORKERS};
+use st_settings::{
+    MAX_HOPS, MAX_LOSE, MAX_MONEY, MAX_PATIENCE, MAX_REQUESTS, MAX_STREAMS, MAX_WORKERS,
+};
 use std::alloc::{AllocError, Global};
 
 /// The program's version.
@@ -31,7 +36,7 @@ fn frames<'a>(alloc: Global) -> Command<'a>
     named(
         alloc,
         "frames",
-        "Reads STREAM packets in hexadecimal, one a line, and prints each stream's longest run",
+        "Reads STREAM packets in hexadecimal, one on each line, and prints each stream's longest run",
         AFTER_FRAMES_HELP,
     )
 }
@@ -42,21 +47,21 @@ fn local<'a>(alloc: Global) -> Result<Command<'a>, AllocError>
     let command = named(
         alloc,
         "local",
-        "Sends standard input through a connection in memory, to standard output",
+        "Sends standard input through a connection in memory to standard output",
         AFTER_LOCAL_HELP,
     );
-    let hops = "Connectors between the two ends, 0 to 8";
+    let hops = "Number of connectors between the two ends, 0 to 8";
     let hops = number(alloc, "hops", hops, 0, MAX_HOPS);
     let command = with_default(command, hops, "1")?;
-    let lose = "Each N-th Prepare that the client sends is lost, N from 0 to 1000000; 0 loses none";
+    let lose = "Drop each N-th Prepare that the client sends, N from 0 to 1000000; 0 drops none";
     let lose = number(alloc, "lose", lose, 0, MAX_LOSE);
     let command = with_default(command, lose, "0")?;
-    let streams = "Streams that the input is cut into, 1 to 32";
+    let streams = "Number of streams that the input is divided among, 1 to 32";
     let streams = number(alloc, "streams", streams, 1, MAX_STREAMS);
     with_default(command, streams, "1")
 }
 
-/// The command with what both ends of a transfer have to be told: the neighbour's token, the secret, and their addresses.
+/// The command with the options that both ends of a transfer need: the token, the secret and the two addresses.
 fn with_ends<'a>(
     alloc: Global,
     command: Command<'a>,
@@ -67,21 +72,21 @@ fn with_ends<'a>(
 {
     let command = with_required(alloc, command, "token", "TOKEN", TOKEN_HELP)?;
     let command = with_required(alloc, command, "secret", "HEX", SECRET_HELP)?;
-    let address = "This end's ILP address, up to 1023 characters";
+    let address = "ILP address of this end, at most 1023 characters";
     let command = with_required(alloc, command, "address", "ADDRESS", address)?;
     with_required(alloc, command, "peer", "ADDRESS", peer_help)
 }
 
-/// The command with where requests are taken.
+/// The command with the option for the address at which requests are accepted.
 fn with_listen<'a>(alloc: Global, command: Command<'a>) -> Result<Command<'a>, AllocError>
     requires { has_globals command ≡ false }
     ensures { IfOk result (HasShape (spec.with_listen (shape_of command.entry))) }
 {
-    let help = "Where requests are taken, a port up to 65535";
+    let help = "Host and port at which requests are accepted, the port at most 65535";
     with_required(alloc, command, "listen", "HOST:PORT", help)
 }
 
-/// The command with how much money goes over it, where it does not say so.
+/// The command with an option for an amount of money, by default 0.
 fn with_money<'a>(
     alloc: Global,
     command: Command<'a>,
@@ -94,7 +99,17 @@ fn with_money<'a>(
     with_default(command, number(alloc, name, help, 0, MAX_MONEY), "0")
 }
 
-/// The command with how many threads work for it.
+/// The command with the option for how long it waits for a request.
+fn with_patience<'a>(alloc: Global, command: Command<'a>) -> Result<Command<'a>, AllocError>
+    requires { has_globals command ≡ false }
+    ensures { IfOk result (HasShape (with_rule (shape_of command.entry) patience_rule)) }
+{
+    let help = PATIENCE_HELP;
+    let patience = ranged(alloc, "patience", "SECONDS", help, 1, MAX_PATIENCE);
+    with(command, patience)
+}
+
+/// The command with the option for the number of its threads.
 fn with_workers<'a>(
     alloc: Global,
     command: Command<'a>,
@@ -106,7 +121,7 @@ fn with_workers<'a>(
     with_default(command, number(alloc, "workers", help, 1, MAX_WORKERS), "4")
 }
 
-/// The command with where totals are told.
+/// The command with the option for the file of totals.
 fn with_totals<'a>(
     alloc: Global,
     command: Command<'a>,
@@ -118,23 +133,23 @@ fn with_totals<'a>(
     with(command, option(alloc, "totals", "FILE", help))
 }
 
-/// The command with whom a sender sends to.
+/// The command with the options that say where a sender sends to.
 fn with_peers<'a>(alloc: Global, command: Command<'a>) -> Result<Command<'a>, AllocError>
     requires { has_globals command ≡ false }
     ensures { IfOk result (HasShape (spec.with_peers (shape_of command.entry))) }
 {
-    let to = "The neighbour that requests go to, its port up to 65535";
+    let to = "Host and port of the neighbour to which requests are sent, the port at most 65535";
     let command = with_required(alloc, command, "to", "HOST:PORT", to)?;
-    let peer = "The receiver's ILP address, up to 1023 characters";
+    let peer = "ILP address of the receiver, at most 1023 characters";
     with_ends(alloc, command, peer)
 }
 
-/// The command with where a sender's random bytes come from, and what should arrive at least.
+/// The command with the options for a sender's random bytes and its lowest rate.
 fn with_sources<'a>(alloc: Global, command: Command<'a>) -> Result<Command<'a>, AllocError>
     requires { has_globals command ≡ false }
     ensures { IfOk result (HasShape (spec.with_sources (shape_of command.entry))) }
 {
-    let random = "Where random bytes are read from, twelve a packet";
+    let random = "File from which random bytes are read, 12 for each packet";
     let random = option(alloc, "random", "FILE", random);
     let command = with_default(command, random, "/dev/urandom")?;
     let least = option(alloc, "least", "NUM:DEN", LEAST_HELP);
@@ -147,9 +162,9 @@ fn send<'a>(alloc: Global) -> Result<Command<'a>, AllocError>
     let about = "Sends standard input and money to a receiver";
     let command = named(alloc, "send", about, AFTER_SEND_HELP);
     let command = with_peers(alloc, command)?;
-    let money = "Money that is offered, in units, 0 to 2^63 - 1";
+    let money = "Money to offer on the stream, in units, 0 to 2^63 - 1";
     let command = with_money(alloc, command, "money", money)?;
-    let command = with_workers(alloc, command, "Threads that send, 1 to 16")?;
+    let command = with_workers(alloc, command, "Number of threads that send, 1 to 16")?;
     let command = with_sources(alloc, command)?;
     with_totals(alloc, command, TOTALS_HELP)
 }
@@ -157,22 +172,23 @@ fn send<'a>(alloc: Global) -> Result<Command<'a>, AllocError>
 fn receive<'a>(alloc: Global) -> Result<Command<'a>, AllocError>
     ensures { IfOk result (HasShape spec.receive) }
 {
-    let about = "Takes what one sender sends, and writes it to standard output";
+    let about = "Receives data and money from one sender, and writes the data to standard output";
     let command = named(alloc, "receive", about, AFTER_RECEIVE_HELP);
     let command = with_listen(alloc, command)?;
-    let peer = "The sender's ILP address, up to 1023 characters";
+    let peer = "ILP address of the sender, at most 1023 characters";
     let command = with_ends(alloc, command, peer)?;
-    let most = "The most money that is taken, in units, 0 to 2^63 - 1";
+    let most = "The most money to accept on the stream, in units, 0 to 2^63 - 1";
     let command = with_money(alloc, command, "receive-max", most)?;
+    let command = with_patience(alloc, command)?;
     with_totals(alloc, command, TOTALS_HELP)
 }
 
-/// The command with how many requests a connector takes.
+/// The command with the option for the number of requests that a connector accepts.
 fn with_requests<'a>(alloc: Global, command: Command<'a>) -> Result<Command<'a>, AllocError>
     requires { has_globals command ≡ false }
     ensures { IfOk result (HasShape (spec.with_requests (shape_of command.entry))) }
 {
-    let help = "Requests that are taken before it ends, 1 to 2147483647";
+    let help = "Number of requests to accept before it ends, 1 to 2147483647";
     with(
         command,
         required(number(alloc, "requests", help, 1, MAX_REQUESTS)),
@@ -182,17 +198,21 @@ fn with_requests<'a>(alloc: Global, command: Command<'a>) -> Result<Command<'a>,
 fn connector<'a>(alloc: Global) -> Result<Command<'a>, AllocError>
     ensures { IfOk result (HasShape spec.connector) }
 {
-    let about = "Takes packets from neighbours and passes them on, by the table on standard input";
+    let about = "Accepts packets from neighbours and forwards them, by the table on standard input";
     let command = named(alloc, "connector", about, AFTER_CONNECTOR_HELP);
     let command = with_listen(alloc, command)?;
-    let own = "The connector's own ILP address, up to 1023 characters";
+    let own = "ILP address of the connector, at most 1023 characters";
     let command = with_required(alloc, command, "own", "ADDRESS", own)?;
     let command = with_requests(alloc, command)?;
-    let command = with_workers(alloc, command, "Threads that serve, 1 to 16")?;
+    let command = with_workers(
+        alloc,
+        command,
+        "Number of threads that answer requests, 1 to 16",
+    )?;
     with_totals(alloc, command, ACCOUNTS_HELP)
 }
 
-/// The program with the commands between machines.
+/// The program with the commands that work between machines.
 fn with_transfers<'a>(alloc: Global, program: Command<'a>) -> Result<Command<'a>, AllocError>
     ensures { IfOk result (λ c. app_of c ≡ spec.with_transfers (app_of program.entry)) }
 {
@@ -201,7 +221,7 @@ fn with_transfers<'a>(alloc: Global, program: Command<'a>) -> Result<Command<'a>
     with_command(program, connector(alloc)?)
 }
 
-/// The program, as clap reads words for it.
+/// The program, as clap reads arguments for it.
 pub(crate) fn program<'a>(alloc: Global) -> Result<Command<'a>, AllocError>
     ensures { IfOk result (λ command. app_of command ≡ spec.program) }
 {

@@ -1,4 +1,4 @@
-//! What the words of the command line ask for.
+//! What the arguments of the command line ask for.
 
 ghost use Rattle.std.specs.Prelude.{◌≡◌, IfOk, MatchOption, map};
 ghost use Rattle.clap.specs.Words.{FailsBy, first_of, found_of, rows_of, subcommand_rows_of};
@@ -17,18 +17,18 @@ use st_settings::{
 use std::alloc::Global;
 use std::convert::AsStr;
 
-/// What a run is asked to do.
+/// The command that a run is asked to do, with its settings.
 #[derive(Clone, Copy, Debug)]
 pub enum Request<'a> {
     /// `frames`, or no command.
     Frames,
-    /// `local`
+    /// `local`, with its settings.
     Local(LocalSettings),
-    /// `send`
+    /// `send`, with its settings.
     Send(SendSettings<'a>),
-    /// `receive`
+    /// `receive`, with its settings.
     Receive(ReceiveSettings<'a>),
-    /// `connector`
+    /// `connector`, with its settings.
     Connector(ConnectorSettings<'a>),
 }
 
@@ -83,6 +83,7 @@ fn receive<'a>(matches: &ArgMatches<'a>) -> ReceiveOptions<'a>
         address: value(matches, "address"),
         peer: value(matches, "peer"),
         receive_max: value(matches, "receive-max"),
+        patience: chosen(matches, "patience"),
         totals: chosen(matches, "totals"),
     }
 }
@@ -99,7 +100,8 @@ fn connector<'a>(matches: &ArgMatches<'a>) -> ConnectorOptions<'a>
     }
 }
 
-/// What a command is asked to do by the values of its options, or `None` where one is bad, or there is no such command.
+/// The command of this name with the settings that its options say. `None` where an option is bad, or there is no such
+/// command.
 fn request_of<'a>(name: &str, matches: &ArgMatches<'a>) -> Option<Request<'a>>
     ensures { MatchOption result (IsBad name.now (rows_of (found_of matches.now))) (Asks name.now (rows_of (found_of matches.now))) }
 {
@@ -118,7 +120,7 @@ fn request_of<'a>(name: &str, matches: &ArgMatches<'a>) -> Option<Request<'a>>
     }
 }
 
-/// What clap makes of the words, of which the first is the program's name.
+/// What clap makes of the arguments; the first is the program's name.
 fn parse<'a, S: AsStr>(alloc: Global, words: &'a [S]) -> Result<ArgMatches<'a>, Error>
     ensures kinds { FailsBy (refusals (map S.text words.now)) result }
     ensures command { IfOk result (λ m. subcommand_rows_of m ≡ command_of (map S.text words.now)) }
@@ -126,7 +128,7 @@ fn parse<'a, S: AsStr>(alloc: Global, words: &'a [S]) -> Result<ArgMatches<'a>, 
     program(alloc)?.try_get_matches_from(words)
 }
 
-/// What the command and its options ask for, or `None` where an option's text is bad.
+/// The command and its settings. `None` where the text of an option is bad.
 fn asked<'a>(matches: &ArgMatches<'a>) -> Option<Request<'a>>
     ensures { MatchOption result ((r : Request) → ¬ (AsksBy (subcommand_rows_of matches.now) r)) (AsksBy (subcommand_rows_of matches.now)) }
 {
@@ -136,8 +138,10 @@ fn asked<'a>(matches: &ArgMatches<'a>) -> Option<Request<'a>>
     }
 }
 
-/// What the words ask for, of which the first is the program's name. Words that clap refuses, and those that ask for help
-/// or the version, are its error; an option whose text is bad is the fault 98.
+/// Reads the arguments of the command line; the first is the program's name. Without a command the request is `Frames`.
+///
+/// Fails with `Refused` where clap refuses the arguments, where they ask for help or the version, and where memory is
+/// refused; with `BadOption` where the text of an option is bad.
 pub fn read_words<'a, S: AsStr>(alloc: Global, words: &'a [S]) -> Result<Request<'a>, WordsError>
     ensures { Reads (map S.text words.now) result }
 {
