@@ -1,33 +1,47 @@
 #!/usr/bin/env bash
 # Time and peak memory of `frames` over 8.4 million bytes of lines, which fill the windows of all 64 streams in frames of
-# at most 16,000 bytes (bench/frames_input.py), and, in the same run, of another build of the program over the same input:
-# the best of five runs of each. Needs GNU time. By hand, on a quiet machine: bench/frames.sh [OTHER_PROGRAM]
+# at most 16,000 bytes (bench/frames_input.py), beside a baseline in Rust (bench/frames_baseline.rs) and, where one is named,
+# another build of the program, over the same input: the best of seven runs of each, in turns. Each one's bytes a
+# second are also given as a part of the last one's. Needs GNU time, and `rustc` for the baseline. By hand, on a quiet machine:
+# bench/frames.sh [OTHER_PROGRAM]. PROGRAM names the program, where it is not the one of this repository.
 set -euo pipefail
 top=$(cd "$(dirname "$0")/.." && pwd)
-input=$(mktemp)
-answer=$(mktemp)
-trap 'rm -f "$input" "$answer"' EXIT
+program=${PROGRAM:-$top/crates/ilpstream/out/ilpstream}
+room=$(mktemp -d)
+trap 'rm -rf "$room"' EXIT
 
-"$top/bench/frames_input.py" >"$input"
-"$top/ilpstream" --version >&2 # builds it, where it is older than its sources
+"$top/bench/frames_input.py" >"$room/input"
+[ -n "${PROGRAM-}" ] || "$top/ilpstream" --version >&2 # builds it, where it is older than its sources
+programs=("$program" "$@")
+if command -v rustc >/dev/null; then
+    rustc -O -o "$room/baseline" "$top/bench/frames_baseline.rs"
+    programs+=("$room/baseline")
+else
+    echo "no rustc here, so there is no baseline" >&2
+fi
 
-measure() { # the program $1
-    local from to memory taken least=
-    for _ in 1 2 3 4 5; do
-        from=$(date +%s%N)
-        memory=$(/usr/bin/time -f %M "$1" frames 2>&1 <"$input" >"$answer")
-        to=$(date +%s%N)
-        taken=$((to - from))
-        if [ -z "$least" ] || [ "$taken" -lt "$least" ]; then
-            least=$taken
-        fi
-    done
-    awk -v program="$1" -v from="$(wc -c <"$input")" -v to="$(wc -c <"$answer")" -v taken="$least" -v memory="$memory" 'BEGIN {
-        printf "%s: %d bytes in, %d out, %.3f seconds, %d kB of memory\n", program, from, to, taken / 1e9, memory
-    }'
+measure() { # runs the program number $1, and appends the nanoseconds and the kilobytes of memory
+    local from memory
+    from=$(date +%s%N)
+    memory=$(/usr/bin/time -f %M "${programs[$1]}" frames 2>&1 <"$room/input" >"$room/answer.$1")
+    echo $(($(date +%s%N) - from)) "$memory" >>"$room/times.$1"
 }
 
-measure "$top/crates/ilpstream/out/ilpstream"
-if [ $# -gt 0 ]; then
-    measure "$1"
-fi
+for _ in 1 2 3 4 5 6 7; do
+    for number in "${!programs[@]}"; do
+        measure "$number"
+    done
+done
+least() {
+    sort -n "$room/times.$1" | head -n 1
+}
+last=$((${#programs[@]} - 1))
+for number in "${!programs[@]}"; do
+    cmp "$room/answer.0" "$room/answer.$number"
+    echo "$(least "$number") $(least $last)" | awk -v program="${programs[$number]##*/}" -v from="$(wc -c <"$room/input")" \
+        -v to="$(wc -c <"$room/answer.$number")" -v other="${programs[$last]##*/}" '{
+        printf "%s: %d bytes in, %d out, %.3f seconds, %.1f ns a byte, %d kB of memory, %.2f of %s\n",
+            program, from, to, $1 / 1e9, $1 / from, $2, $3 / $1, other
+    }'
+done
+echo "load average: $(cut -d' ' -f1-3 /proc/loadavg), $(nproc) cores"

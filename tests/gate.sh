@@ -1,7 +1,8 @@
 #!/usr/bin/env bash
-# The whole gate: `rt ci`, then the program that it built, run as whoever uses it does, the README's examples, and whether the
-# wrong bodies that only tests see, and those that are tried by hand, can still be made. Each line of `rt ci` on a crate bears
-# the minute that it came in; the line before the last tells what the whole took, the last counts all.
+# The whole gate: `rt ci`; then the program that it built, run as whoever uses it does; the documents' examples, numbers, links
+# and prose; and whether the wrong bodies that only tests see, and those that are tried by hand, can still be made. Each line
+# of `rt ci` on a crate bears the minute in which it was printed; the line before the last has the time of the whole, the last
+# counts all.
 set -u
 cd "$(dirname "$(readlink -f "${BASH_SOURCE[0]}")")/.." || exit 1
 log=$(mktemp)
@@ -30,12 +31,14 @@ status=${PIPESTATUS[0]}
 if [ -x crates/ilpstream/out/ilpstream ]; then
     tests/program.sh | tee -a "$log"
     [ "${PIPESTATUS[0]}" = 0 ] || status=1
+    tests/edges.py | tee -a "$log"
+    [ "${PIPESTATUS[0]}" = 0 ] || status=1
 else
     echo "the program was not built, so it was not run"
     echo "0 passed, 1 failed" | tee -a "$log"
     status=1
 fi
-for look in "tests/readme.py" "tests/seen_by_tests.py --look" "tests/refused_by_hand.py --look"; do
+for look in tests/readme.py tests/documents.py tests/prose.py "tests/seen_by_tests.py --look" "tests/refused_by_hand.py --look"; do
     $look | tee -a "$log"
     [ "${PIPESTATUS[0]}" = 0 ] || status=1
 done

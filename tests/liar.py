@@ -2,35 +2,16 @@
 """Runs `send` and `receive` with money, and with a peer between them that lies: liar.py PROGRAM. For each lie, told at each third
 exchange and at every one, and at each third beside a connector, a line says how both ended, how much of the input came, and
 what is wrong with that or with the sums that they told in the end, if anything is."""
-import os, re, socket, subprocess, sys, tempfile, threading, time
+import os, socket, subprocess, sys, tempfile, threading, time
+
+from peers import BOUND, SECRET, asked, ended, free_port, message, totals, use_up
 
 PROGRAM = sys.argv[1]
-SECRET = "000102030405060708090a0b0c0d0e0f101112131415161718191a1b1c1d1e1f"
 INPUT = bytes(n % 251 for n in range(70_000))
 WORDS = ["--token=t", f"--secret={SECRET}"]
 # What is offered; the most that is taken, of which a Prepare whose answer is lost takes a part again; the most that a connector
 # takes in one Prepare, and how many requests.
 MONEY, MOST, PIECE, REQUESTS = 500, 1_000_000, 100, 600
-# More seconds than any run may take.
-BOUND = 60
-
-
-def message(stream):
-    """One message of HTTP: its head with the empty line, and its body."""
-    head = b""
-    while not head.endswith(b"\r\n\r\n"):
-        byte = stream.recv(1)
-        if not byte:
-            return head, b""
-        head += byte
-    length = re.search(rb"(?i)content-length: *(\d+)", head)
-    body = b""
-    while length and len(body) < int(length[1]):
-        piece = stream.recv(65_536)
-        if not piece:
-            break
-        body += piece
-    return head, body
 
 
 def with_bit(body, place):
@@ -50,16 +31,6 @@ def iv_of(prepare):
     at += 1 + prepare[at]
     at += 1 if prepare[at] < 128 else 1 + prepare[at] - 128
     return prepare[at : at + 12]
-
-
-def asked(host, request):
-    """What the receiver answers to these bytes; nothing where it is gone."""
-    try:
-        with socket.create_connection(host, timeout=BOUND) as stream:
-            stream.sendall(request)
-            return message(stream)
-    except OSError:
-        return b"", b""
 
 
 class Liar:
@@ -130,25 +101,6 @@ class Liar:
             stream.sendall(head + body)
 
 
-def free_port():
-    with socket.create_server(("127.0.0.1", 0)) as it:
-        return it.getsockname()[1]
-
-
-def ended(process, bound):
-    """How a process ended: 0, or the number of its fault; else what is wrong with it."""
-    try:
-        _, errors = process.communicate(timeout=bound)
-    except subprocess.TimeoutExpired:
-        process.kill()
-        process.communicate()
-        return "waits"
-    fault = re.fullmatch(rb"fault (\d+)\n", errors)
-    if process.returncode == 1 and fault:
-        return fault[1].decode()
-    return "0" if process.returncode == 0 and not errors else f"WRONG {process.returncode} {errors!r}"
-
-
 def wait_for(port):
     for _ in range(500):
         try:
@@ -156,20 +108,6 @@ def wait_for(port):
             return
         except OSError:
             time.sleep(0.02)
-
-
-def totals(path):
-    """What a command told in its file of totals, by its words: `paid 500`, or `account 0 claims 500 dues 0 held 0`."""
-    try:
-        with open(path, encoding="ascii") as file:
-            lines = file.read().split("\n")[:-1]
-    except OSError:
-        return {}
-    found = {}
-    for words in map(str.split, lines):
-        front, words = ("", words) if len(words) == 2 else (" ".join(words[:2]) + " ", words[2:])
-        found.update({front + name: int(number) for name, number in zip(words[::2], words[1::2])})
-    return found
 
 
 class Transfer:
@@ -221,11 +159,8 @@ class Transfer:
 
     def ended_hub(self):
         """How the connector ended once the requests that it was to take are used up; 0 where there is none."""
-        while self.hub and self.hub.poll() is None:
-            try:
-                socket.create_connection(("127.0.0.1", self.hub_port)).close()
-            except OSError:
-                break
+        if self.hub:
+            use_up(self.hub, self.hub_port, "t")
         self.lying.listener.close()
         return ended(self.hub, BOUND) if self.hub else "0"
 

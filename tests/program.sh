@@ -88,13 +88,13 @@ done
 for words in --help -h help 'frames --help' 'frames -h' 'help frames'; do
     # shellcheck disable=SC2086
     run $words </dev/null
-    for part in 'Usage: ilpstream ' 'standard input until its end' README.md './ilpstream frames < examples/frames.txt'; do
+    for part in 'Usage: ilpstream ' 'standard input until its end' docs/ERRORS.md './ilpstream frames < examples/frames.txt'; do
         has "$words" "$out" "$part"
     done
     same "$words" $'\n0' "$err"$'\n'"$status"
 done
 run --help </dev/null
-for part in 'Usage: ilpstream [COMMAND]' 'Without a command it does `frames`' '  0  the command did its work' \
+for part in 'Usage: ilpstream [COMMAND]' 'Without a command it runs `frames`' '  0  the command did its work' \
     '  1  a line was refused' '  2  the arguments ask for no command' frames local send receive connector; do
     has 'help' "$out" "$part"
 done
@@ -111,7 +111,7 @@ names local '--hops <N>' '--streams <N>' '--lose <N>'
 names send '--to <HOST:PORT>' '--token <TOKEN>' '--secret <HEX>' '--address <ADDRESS>' '--peer <ADDRESS>' '--money <N>' \
     '--workers <N>' '--random <FILE>' '--least <NUM:DEN>' '--totals <FILE>'
 names receive '--listen <HOST:PORT>' '--token <TOKEN>' '--secret <HEX>' '--address <ADDRESS>' '--peer <ADDRESS>' \
-    '--receive-max <N>' '--totals <FILE>'
+    '--receive-max <N>' '--patience <SECONDS>' '--totals <FILE>'
 names connector '--listen <HOST:PORT>' '--own <ADDRESS>' '--requests <N>' '--workers <N>' '--totals <FILE>'
 
 for words in fames 'frames frames' '--frames' send; do
@@ -177,6 +177,7 @@ with 2 '--token=a b' "${receive[@]}" && bad_option
 with 3 --secret=g "${receive[@]}" && bad_option
 with 4 --address= "${receive[@]}" && bad_option
 with 5 --peer=.b "${receive[@]}" && bad_option
+words=("${receive[@]}" --patience=+5) && bad_option
 with 1 --listen=here "${connector[@]}" && bad_option
 with 2 '--own=test hub' "${connector[@]}" && bad_option
 # (a file for totals that cannot be opened, before the file of random bytes, the listener or the table is looked at)
@@ -197,6 +198,9 @@ for word in --money=9223372036854775808 --workers=0 --workers=17 --tokens=t; do
 done
 with 1 --money=1 "${send[@]}" && refused_words
 with 1 --receive-max=1 "${receive[@]}" && refused_words
+for word in --patience=0 --patience=86401 --patience=; do
+    words=("${receive[@]}" "$word") && refused_words
+done
 with 3 --requests=0 "${connector[@]}" && refused_words
 with 3 --workers=4 "${connector[@]}" && refused_words
 
@@ -238,13 +242,48 @@ same 'totals: no table' 'fault 96' "$(table=account && totals_of "${connector[@]
 left_by "${send[@]}" --totals=/dev/full <<<abc
 same 'a full file for totals, and a fault' $'\n--\nfault 90\n--\n1\nabc' "$(told)"$'\n'"$left"
 
-# A connector that is asked for one request and gets an empty connection, and cannot tell its totals.
+# A receiver that waits two seconds for a valid request ends after two seconds and before five: nobody connects, or the
+# connection sends nothing, or half a request, or one with another token.
+patient=(receive --listen=127.0.0.1:17773 --token=t "$secret" --address=test.b --peer=test.a --patience=2)
+silent() { # what is done meanwhile, in words that are evaluated
+    local began=$SECONDS
+    "$program" "${patient[@]}" >"$room/out" 2>"$room/err" &
+    eval "$2"
+    wait $!
+    same "$1" $'1\n\nfault 88' "$?"$'\n'"$(cat "$room/out")"$'\n'"$(cat "$room/err")"
+    same "the time of $1" 'in time' "$( ((SECONDS - began >= 2 && SECONDS - began < 5)) && echo in time)"
+}
+reach() { # a connection as descriptor 3, once somebody listens
+    for _ in {1..50}; do
+        if (exec 3<>"/dev/tcp/127.0.0.1/$1") 2>/dev/null; then break; fi
+        sleep 0.02
+    done
+    exec 3<>"/dev/tcp/127.0.0.1/$1"
+}
+silent 'a receiver that hears nothing' :
+silent 'a receiver with a silent connection' 'reach 17773'
+exec 3>&-
+silent 'a receiver with half a request' 'reach 17773; printf "POST /ilp HTTP/1.1\r\nHost" >&3'
+exec 3>&-
+silent 'a receiver with a token that is not its own' \
+    'reach 17773; printf "POST /ilp HTTP/1.1\r\nHost: h\r\nAuthorization: Bearer u\r\nContent-Length: 0\r\n\r\n" >&3'
+exec 3>&-
+
+# A sender that reaches nobody and whose input goes silent: it ends though more input may come.
+mkfifo "$room/pipe"
+exec 8<>"$room/pipe"
+printf abc >&8
+run send --to=127.0.0.1:1 --token=t "$secret" --address=test.a --peer=test.b <"$room/pipe"
+same 'a silent input and a failed connection' $'\n--\nfault 58\n--\n1' "$(told)"
+exec 8>&-
+
+# A connector that is asked for one request and gets one that it refuses, and cannot tell its totals.
 "$program" connector --listen=127.0.0.1:17772 --own=test.hub --requests=1 --totals=/dev/full <<<"$table" 2>"$room/err" &
-for _ in {1..100}; do
-    if (exec 3<>/dev/tcp/127.0.0.1/17772) 2>/dev/null; then break; fi
-    sleep 0.1
-done
-wait $!
+asked=$!
+reach 17772
+printf 'GET / HTTP/1.1\r\n\r\n' >&3
+exec 3>&-
+wait $asked
 same 'a full file for totals' $'1\nfault 91' "$?"$'\n'"$(cat "$room/err")"
 
 # A good table of which the read behind its last line fails: it stands at a terminal that goes away.

@@ -1,34 +1,217 @@
 #!/usr/bin/env python3
-"""Tells whether each block of Rattle in README.md stands, line for line, in a source of the crates, so that what a reader
-pastes is what the gate proved and ran. The last line counts the blocks."""
+"""Looks whether what the documents show is so.
+
+Each block ```rust of README, COMMANDS, OPERATING and LIBRARY stands, line for line, in a source of the crates, so that what a
+reader pastes is what the gate proved and ran.
+
+Each block ```console of them is run, by one bash in a directory that has nothing but `ilpstream`, the built program (which is
+on the PATH too), and the repository's `examples` and `README.md`. A line that begins with `$ ` is a command; where it ends with
+a backslash the next line goes on with it. All other lines are the output, standard output and standard error together, which
+is compared with that of the whole block. A line `...` stands for any lines, and a word `...` in a line for any text. A block
+has 60 seconds; what it left in the background is ended with it. Blocks ```sh and ```text are not run.
+
+Each link from a document of the repository to another leads to a file, and to a heading of it where it names one.
+
+`tests/readme.py FILE ..` looks at these documents alone. The last line counts the blocks and the documents with good links,
+and what is not so."""
 import glob
 import os
 import re
+import shutil
+import signal
+import subprocess
 import sys
+import tempfile
 
-TOP = os.path.join(os.path.dirname(os.path.realpath(__file__)), "..")
+TOP = os.path.realpath(os.path.join(os.path.dirname(os.path.realpath(__file__)), ".."))
+PROGRAM = f"{TOP}/crates/ilpstream/out/ilpstream"
+SHOWING = ["README.md", "docs/COMMANDS.md", "docs/OPERATING.md", "docs/LIBRARY.md"]
+SECONDS = 60
+FENCE = re.compile(r"^(\s*)```(\w*)\s*$")
 
 
-def plain(text):
-    """The lines without their indentation and the empty ones."""
-    return [line.strip() for line in text.splitlines() if line.strip()]
+def read(path):
+    with open(f"{TOP}/{path}", encoding="utf-8") as source:
+        return source.read()
 
 
-def main():
-    with open(f"{TOP}/README.md", encoding="utf-8") as readme:
-        blocks = re.findall(r"^```rust\n(.*?)^```$", readme.read(), re.M | re.S)
+def blocks(path, language):
+    """The blocks of a language in a document, each with the number of its first line."""
+    found, begun = [], None
+    for number, line in enumerate(read(path).splitlines(), 1):
+        fence = FENCE.match(line)
+        if fence and begun is None:
+            begun = (fence.group(2), number + 1, len(fence.group(1)), [])
+        elif fence:
+            if begun[0] == language:
+                found.append((begun[1], begun[3]))
+            begun = None
+        elif begun:
+            begun[3].append(line[begun[2]:] if line[:begun[2]].isspace() else line)
+    return found
+
+
+# ---- Rattle
+
+
+def plain(lines):
+    """The lines without their indentation and the empty ones, between two line ends."""
+    return "\n".join(["", *(line.strip() for line in lines if line.strip()), ""])
+
+
+def look_at_examples(paths):
+    """Whether each block of Rattle stands in a source."""
     sources = []
     for path in glob.glob(f"{TOP}/crates/*/src/**/*.rt", recursive=True):
         with open(path, encoding="utf-8") as source:
-            sources.append("\n".join(["", *plain(source.read()), ""]))
-    failed = 0
-    for block in blocks:
-        text = "\n".join(["", *plain(block), ""])
-        if not any(text in source for source in sources):
-            failed += 1
-            print(f"README.md: this block stands in no source:\n{block}")
-    print(f"{len(blocks) - failed} passed, {failed} failed")
-    return 1 if failed or not blocks else 0
+            sources.append(plain(source.read().splitlines()))
+    for path in paths:
+        for number, lines in blocks(path, "rust"):
+            text = plain(lines)
+            good = any(text in source for source in sources)
+            yield good, f"{path}:{number}: this block stands in no source:\n" + "\n".join(lines)
 
 
-sys.exit(main())
+# ---- the shell
+
+
+def commands_and_output(lines):
+    """The commands of a block as a script, and the lines that it has to print."""
+    script, wanted, goes_on = [], [], False
+    for line in lines:
+        if goes_on or line.startswith("$ "):
+            script.append(line if goes_on else line[2:])
+            goes_on = line.endswith("\\")
+        else:
+            wanted.append(line)
+    return "\n".join(script) + "\n", wanted
+
+
+def is_line(wanted, came):
+    """Whether a line is as wanted, where a word `...` stands for any text."""
+    pattern = r"(?:(?<=\s)|^)\.\.\.(?=\s|$)"
+    return re.fullmatch(".*".join(re.escape(part) for part in re.split(pattern, wanted)), came) is not None
+
+
+def is_output(wanted, came):
+    """Whether lines are as wanted, where a line `...` stands for any lines, or none."""
+    if not wanted:
+        return not came
+    if wanted[0].strip() == "...":
+        return any(is_output(wanted[1:], came[skipped:]) for skipped in range(len(came) + 1))
+    return bool(came) and is_line(wanted[0], came[0]) and is_output(wanted[1:], came[1:])
+
+
+def run(script):
+    """What a script prints in a directory of its own, and why it was stopped, if it was."""
+    room = tempfile.mkdtemp()
+    try:
+        os.symlink(PROGRAM, f"{room}/ilpstream")
+        os.symlink(f"{TOP}/examples", f"{room}/examples")
+        os.symlink(f"{TOP}/README.md", f"{room}/README.md")
+        environment = {**os.environ, "PATH": f"{room}:{os.environ['PATH']}", "LC_ALL": "C.UTF-8"}
+        with tempfile.TemporaryFile() as output:
+            # (a session of its own: what it starts is in its group, and in no other)
+            ran = subprocess.Popen(
+                ["bash", "-c", script],
+                cwd=room,
+                env=environment,
+                stdin=subprocess.DEVNULL,
+                stdout=output,
+                stderr=subprocess.STDOUT,
+                start_new_session=True,
+            )
+            why = ""
+            try:
+                ran.wait(SECONDS)
+            except subprocess.TimeoutExpired:
+                why = f"it did not end within {SECONDS} seconds"
+            try:
+                os.killpg(ran.pid, signal.SIGKILL)
+            except ProcessLookupError:
+                pass
+            ran.wait()
+            output.seek(0)
+            return output.read().decode("utf-8", "replace").splitlines(), why
+    finally:
+        shutil.rmtree(room, ignore_errors=True)
+
+
+def look_at_commands(paths):
+    """Whether each block of commands prints what stands below them."""
+    for path in paths:
+        for number, lines in blocks(path, "console"):
+            if not os.access(PROGRAM, os.X_OK):
+                yield False, f"{path}:{number}: the program was not built, so this block was not run"
+                continue
+            script, wanted = commands_and_output(lines)
+            came, why = run(script)
+            good = bool(script.strip()) and not why and is_output(wanted, came)
+            shown = "\n".join(came)
+            yield good, f"{path}:{number}: this block has another output{': ' if why else ''}{why}:\n" + "\n".join(lines) + f"\n-- it printed:\n{shown}"
+
+
+# ---- links
+
+
+def without_code(text):
+    """The lines of a document, of which those in blocks of code are empty."""
+    inside, lines = False, []
+    for line in text.splitlines():
+        fence = FENCE.match(line)
+        lines.append("" if inside or fence else line)
+        inside = inside != bool(fence)
+    return lines
+
+
+def anchors(path):
+    """The anchors of a document's headings, as they are made where the document is shown."""
+    found = {}
+    for line in without_code(read(path)):
+        heading = re.match(r"#+ +(.*?)(?: +#+)?$", line)
+        if heading:
+            text = re.sub(r"!?\[([^\]]*)\]\([^)]*\)", r"\1", heading.group(1)).replace("`", "").lower()
+            anchor = re.sub(r"[^\w\- ]", "", text).replace(" ", "-")
+            count = found.get(anchor, 0)
+            found[anchor] = count + 1
+            if count:
+                found[f"{anchor}-{count}"] = 1
+    return found
+
+
+def look_at_links(paths):
+    """Whether each link of a document leads to a file of the repository, and to a heading there."""
+    for path in paths:
+        good = True
+        for number, line in enumerate(without_code(read(path)), 1):
+            for target in re.findall(r"\]\(([^)\s]+)\)", re.sub(r"`[^`]*`", "", line)):
+                if re.match(r"[a-z]+:", target):
+                    continue
+                file, _, anchor = target.partition("#")
+                aim = os.path.normpath(os.path.join(os.path.dirname(path), file)) if file else path
+                if not os.path.exists(f"{TOP}/{aim}"):
+                    good = False
+                    yield good, f"{path}:{number}: there is no {aim}"
+                elif anchor and aim.endswith(".md") and anchor not in anchors(aim):
+                    good = False
+                    yield good, f"{path}:{number}: {aim} has no heading #{anchor}"
+        if good:
+            yield good, ""
+
+
+def main():
+    chosen = [os.path.relpath(os.path.realpath(path), TOP) for path in sys.argv[1:]]
+    showing = chosen or [path for path in SHOWING if os.path.exists(f"{TOP}/{path}")]
+    linking = chosen or sorted(os.path.relpath(path, TOP) for path in glob.glob(f"{TOP}/*.md") + glob.glob(f"{TOP}/docs/*.md"))
+    passed = failed = 0
+    for look in (look_at_examples(showing), look_at_commands(showing), look_at_links(linking)):
+        for good, finding in look:
+            passed, failed = passed + good, failed + (not good)
+            if not good:
+                print(finding)
+    print(f"{passed} passed, {failed} failed")
+    return 1 if failed or not passed else 0
+
+
+if __name__ == "__main__":
+    sys.exit(main())

@@ -1,0 +1,307 @@
+#!/usr/bin/env python3
+"""Compares docs/ERRORS.md and docs/LIMITS.md with the sources.
+
+ERRORS: the numbers and the variants of its tables are those of each `number` and `fault_number` in crates/*/specs, the
+numbers in brackets those of each `inner`; the reasons of an end, the codes of a hop's Rejects and the statuses of HTTP are
+those of their definitions. What is in one and not in the other is a finding.
+LIMITS: the value of each row is that of the constant, or stands in the definition, that the row names; and each constant of
+the crates below that is a whole number is in a row, or in OTHERS with the reason why it is no limit.
+Each finding is a line; the last line counts what was compared without a finding (tables for the most part), and findings."""
+import glob
+import os
+import re
+import sys
+
+TOP = os.path.realpath(os.path.join(os.path.dirname(os.path.realpath(__file__)), ".."))
+CODE = re.compile(r"`([^`]+)`")
+
+# The crates of the tests and of the measurements: what they count is no limit of the program.
+TESTS = re.compile(r"^(bench_\w+|hostile|seeds|refusing|\w+_trials)$")
+
+# Constants that are no limits, by crate and name.
+OTHERS = {
+    "numbers of a format": {
+        "st_frames": "CONNECTION_CLOSE CONNECTION_NEW_ADDRESS CONNECTION_MAX_DATA CONNECTION_DATA_BLOCKED STREAM_CLOSE "
+        "STREAM_MONEY STREAM_MAX_MONEY STREAM_MONEY_BLOCKED STREAM_DATA STREAM_MAX_DATA STREAM_DATA_BLOCKED VERSION",
+        "st_commands": "PREPARE",
+        "st_end": "PREPARE FULFILL REJECT",
+        "st_ilp": "PREPARE FULFILL REJECT",
+    },
+    "places of an array, one more than the streams, or one for each number of a byte": {
+        "st_receiver": "PLACES",
+        "st_reassembly": "PLACES WORDS",
+        "st_bounded": "NUMBERS",
+        "st_nodes": "NUMBERS",
+        "st_queues": "WRITE_RINGS",
+    },
+    "the number of the one stream that `send` and `receive` use": {"st_transfer": "STREAM"},
+}
+
+
+def read(path):
+    with open(f"{TOP}/{path}", encoding="utf-8") as source:
+        return source.read()
+
+
+def files(pattern):
+    return sorted(os.path.relpath(path, TOP) for path in glob.glob(f"{TOP}/{pattern}", recursive=True))
+
+
+class Count:
+    """Counts what was compared without a finding, and the findings, which it prints."""
+
+    def __init__(self):
+        self.passed = self.failed = self.before = 0
+
+    def check(self, good, finding):
+        if not good:
+            self.failed += 1
+            print(finding)
+
+    def compared(self):
+        """What was checked since the last call was one thing to compare."""
+        self.passed += self.failed == self.before
+        self.before = self.failed
+
+    def same(self, where, documented, defined, sources):
+        """Two mappings or sets that have to be equal, entry by entry."""
+        for key in sorted(set(documented) | set(defined), key=str):
+            name = " ".join(str(part) for part in key) if isinstance(key, tuple) else str(key)
+            if key not in defined:
+                self.check(False, f"{where}: {name} is not in {sources}")
+            elif key not in documented:
+                self.check(False, f"{where}: {name} of {sources} is missing")
+            elif isinstance(defined, dict) and documented[key] != defined[key]:
+                self.check(False, f"{where}: {name} has {documented[key]}, and {sources} has {defined[key]}")
+        self.compared()
+
+
+# ---- the tables of a document
+
+
+def tables(path):
+    """Each table as its header and its rows, each a list of cells, with the number of its line."""
+    found, header = [], None
+    for number, line in enumerate(read(path).splitlines(), 1):
+        if not line.startswith("|"):
+            header = None
+            continue
+        cells = [cell.strip() for cell in re.split(r"(?<!\\)\|", line.strip().strip("|"))]
+        if header is None:
+            header = cells
+            found.append((header, []))
+        elif not all(re.fullmatch(r":?-+:?", cell) for cell in cells):
+            found[-1][1].append((number, cells))
+    return found
+
+
+def rows_of(path, first, count):
+    """The rows of all tables whose first heading is this one."""
+    rows = [row for header, rows in tables(path) if header[0] == first for row in rows]
+    count.check(bool(rows), f"{path}: no table begins with '{first}'")
+    return rows
+
+
+def named(cell):
+    """The crate and the variant in a cell: `st_oer` `OerError::Short`."""
+    words = CODE.findall(cell)
+    return (words[0], words[1]) if len(words) > 1 else (cell, "?")
+
+
+# ---- the definitions of the refusals
+
+DEFINED = re.compile(r"^abbrev pub (number|fault_number|inner) : (?:\{[^}]*\} → )?(\w+)(?: \w+)? → (ℕ|Option ℕ)$", re.M)
+
+
+def refusals():
+    """Of each variant with a number: its number, or whose number it keeps; and whether it carries a number in brackets."""
+    numbers, kept, inner = set(), set(), set()
+    for path in files("crates/*/specs/*.antt"):
+        text = read(path)
+        crate = path.split("/")[1]
+        types = set(re.findall(rf"^use Rattle\.{crate}\.specs\.declared\.[\w.]*\.\{{(\w+)\}}$", text, re.M))
+        for function, kind, _ in DEFINED.findall(text):
+            if kind not in types:
+                continue
+            for pattern, value in re.findall(rf"^{function} (.*?) = (.*)$", text, re.M):
+                variant = f"{kind}::{pattern.strip('()').split()[0].split('.')[-1]}"
+                if re.fullmatch(r"\d+", value):
+                    numbers.add((int(value), crate, variant))
+                elif function == "inner" and value.startswith("Some"):
+                    inner.add((crate, variant))
+                elif function != "inner":
+                    kept.add((crate, variant))
+    return numbers, kept, inner
+
+
+def check_numbers(count):
+    where, sources = "docs/ERRORS.md", "crates/*/specs"
+    numbers, kept, inner = refusals()
+    count.check(len(numbers) > 90, f"{sources}: only {len(numbers)} numbers were read")
+    rows = rows_of(where, "Number", count)
+    documented = [(int(cells[0]), *named(cells[1])) for _, cells in rows]
+    count.same(where, set(documented), numbers, sources)
+    count.check(documented == sorted(documented), f"{where}: the numbers do not rise")
+    count.check(len(documented) == len(set(documented)), f"{where}: a row stands twice")
+    for line, cells in rows:
+        count.check(len(cells) == 4 and all(cells), f"{where}:{line}: a row without a cause, or without what to do")
+    count.compared()
+    rows = rows_of(where, "Variant", count)
+    count.same(where, {named(cells[0]) for _, cells in rows}, kept, f"{sources} (numbers that are kept)")
+    rows = rows_of(where, "Number with brackets", count)
+    count.same(where, {named(cells[1]) for _, cells in rows}, inner, f"{sources} (`inner`)")
+    own = {(crate, variant): number for number, crate, variant in numbers}
+    for line, cells in rows:
+        number = own.get(named(cells[1]))
+        count.check(cells[0].split("(")[0] == str(number), f"{where}:{line}: {cells[0]}, and the number is {number}")
+    count.compared()
+
+
+def check_names(count):
+    """The variants that other tables name beside a number: they have that number, or keep it of another."""
+    where = "docs/ERRORS.md"
+    numbers, kept, _ = refusals()
+    for first in ("Fault", "R"):
+        for line, cells in rows_of(where, first, count):
+            for name in CODE.findall(" ".join(cells[1:])):
+                known = {number for number, _, variant in numbers if variant == name}
+                number = int(cells[0].split("(")[0])
+                count.check(number in known, f"{where}:{line}: {name} has not the number {number}")
+        count.compared()
+
+
+def code(text):
+    """The three characters of a code that is spelled by their numbers."""
+    return "".join(chr(int(number)) for number in re.findall(r"\d+", text))
+
+
+def check_codes(count):
+    where = "docs/ERRORS.md"
+    # a hop's own Rejects
+    path = "crates/st_hop/specs/Refusals.antt"
+    defined = {
+        f"Refusal::{pattern.strip('()').split()[0]}": code(text)
+        for pattern, text in re.findall(r"^code_of (.*?) = ([\d∷ ]+\[\])", read(path), re.M)
+    }
+    rows = rows_of(where, "Code of a hop", count)
+    count.same(where, {named(cells[1])[1]: cells[0] for _, cells in rows}, defined, path)
+    # an end's reasons: those of st_ilp, st_keys and st_receiver but out of memory, and three of its own. A Prepare has neither
+    # a message nor a code
+    path = "crates/st_end/specs/Receiving.antt"
+    text = read(path)
+    codes = {name: code(value) for name, value in re.findall(r"^(\w+) = ([\d∷ ]+\[\])$", text, re.M)}
+    reasons = read("crates/st_receiver/specs/Reasons.antt")
+    codes.update({name: code(value) for name, value in re.findall(r"^(\w+) = ([\d∷ ]+\[\])$", reasons, re.M)})
+    defined = {int(reason): codes[name] for name, reason in re.findall(r"\bUnread (\w+) (\d+)", text)}
+    defined.update({int(reason): codes["f99"] for reason in re.findall(r"\bRejects p (\d+)", text)})
+    numbers = {(crate, variant): number for number, crate, variant in refusals()[0]}
+    unread = re.search(r"Unread (\w+) \(ilp\.number fault\)", text)
+    for (crate, variant), number in numbers.items():
+        if crate == "st_ilp" and variant.split("::")[1] not in ("NotUtf8", "Code", "NoMemory") and unread:
+            defined[number] = codes[unread.group(1)]
+    for pattern, name in re.findall(r"^code_unopened (.*?) = (?:reasons\.)?(\w+)$", text, re.M):
+        variant = pattern.strip("()").split()[0].split(".")[-1]
+        if variant != "NoMemory":
+            defined[numbers[("st_keys", f"KeyError::{variant}")]] = codes[name]
+    for variant, name in re.findall(r"^code_of (\w+) = (\w+)$", reasons, re.M):
+        if variant != "NoMemory":
+            defined[numbers[("st_receiver", f"Reason::{variant}")]] = codes[name]
+    rows = rows_of(where, "Reason", count)
+    count.same(where, {int(cells[0]): cells[1] for _, cells in rows}, defined, path)
+    # the statuses of HTTP
+    path = "crates/st_http/specs/Texts.antt"
+    defined = {"200"} | set(re.findall(r"status == (\d{3}) then codes", read(path)))
+    defined |= set(re.findall(r"refusal_text (\d{3})", read("crates/st_http/specs/Serves.antt")))
+    rows = rows_of(where, "HTTP status", count)
+    count.same(where, {cells[0] for _, cells in rows}, defined, path)
+
+
+# ---- the limits
+
+CONST = re.compile(r"^\s*(?:pub(?:\(\w+\))? )?const (\w+): ([iu](?:8|16|32|64|128|size)) = ([^;]+);", re.M)
+
+
+def constants():
+    """The text of each whole constant, by the path of its source and its name."""
+    found = {}
+    for path in files("crates/*/src/**/*.rt"):
+        if not TESTS.match(path.split("/")[1]):
+            for name, _, text in CONST.findall(read(path)):
+                found[path, name] = text
+    return found
+
+
+def value_of(text, path, known):
+    """The value of an expression of a source, or of a document: digits, + - * <<, powers, and constants."""
+    text = re.sub(r"\bas \w+", "", text)
+    text = re.sub(r"(?<=\d)[_,](?=\d{3})", "", text).replace("^", "**")
+    for name in re.findall(r"[A-Za-z]\w*", text):
+        near = [other for other in known if other[1] == name and other[0] == path]
+        near = near or [other for other in known if other[1] == name]
+        if len(near) != 1:
+            return None
+        text = re.sub(rf"\b{name}\b", str(value_of(known[near[0]], near[0][0], known)), text)
+    if not re.fullmatch(r"[\d\s+\-*()<]+", text):
+        return None
+    return eval(text, {"__builtins__": {}})  # digits and operators alone
+
+
+def definition(path, name):
+    """The text of a definition: from the line that names it to the next empty one."""
+    found = re.search(rf"^(?:\w+ )*(?:abbrev|unfoldable|record|data)? ?(?:pub )?(?:record )?{name}\b.*?(?=^\s*$|\Z)", read(path), re.M | re.S)
+    return found.group(0) if found else ""
+
+
+def stands_in(value, text):
+    """Whether a definition has this number, as it is, as a power of two less one, or as the bound below which it stays."""
+    numbers = {int(number.replace("_", "")) for number in re.findall(r"(?<![\w^])\d[\d_]*", text)}
+    powers = {2 ** int(power) for power in re.findall(r"2 \^ (\d+)", text)}
+    return value in numbers or value in powers or value + 1 in powers
+
+
+def check_limits(count):
+    where, known = "docs/LIMITS.md", constants()
+    count.check(len(known) > 60, f"crates: only {len(known)} constants were read")
+    told = set()
+    for header, rows in tables(where):
+        if header[0] != "Limit":
+            continue
+        for line, cells in rows:
+            name = CODE.search(cells[3])
+            link = re.search(r"\]\(\.\./([^)#]+)\)", cells[3])
+            if len(cells) != 5 or not all(cells) or not name or not link:
+                count.check(False, f"{where}:{line}: a row without value, unit, constant or source")
+                continue
+            name, path = name.group(1), link.group(1)
+            value = value_of(cells[1], path, known)
+            if (path, name) in known:
+                told.add((path, name))
+                real = value_of(known[path, name], path, known)
+                count.check(value == real and value is not None, f"{where}:{line}: {name} is {real}, and the row has {cells[1]}")
+            elif os.path.exists(f"{TOP}/{path}"):
+                text = definition(path, name)
+                count.check(bool(text) and value is not None and stands_in(value, text), f"{where}:{line}: {cells[1]} is not in {name} of {path}")
+            else:
+                count.check(False, f"{where}:{line}: there is no {path}")
+        count.compared()
+    others = {(crate, name) for group in OTHERS.values() for crate, names in group.items() for name in names.split()}
+    for path, name in known:
+        crate = path.split("/")[1]
+        count.check((path, name) in told or (crate, name) in others, f"{where}: {name} of {path} is missing")
+    for crate, name in others:
+        count.check(any(path.split("/")[1] == crate and name == other for path, other in known), f"OTHERS: there is no {name} in {crate}")
+    count.compared()
+
+
+def main():
+    count = Count()
+    check_numbers(count)
+    check_names(count)
+    check_codes(count)
+    check_limits(count)
+    print(f"{count.passed} passed, {count.failed} failed")
+    return 1 if count.failed else 0
+
+
+if __name__ == "__main__":
+    sys.exit(main())

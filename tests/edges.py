@@ -1,0 +1,798 @@
+#!/usr/bin/env python3
+"""Runs `send`, `receive` and `connector` at their edges: edges.py [PROGRAM [WORD]]. Links that fail and come back, peers that stop,
+many connections, too few threads and files. With a WORD, only the tests whose names have it. A line for each test says how long
+it took or what was measured, or what is wrong; the last line counts them. Tests that wait for a time-out run side by side."""
+import os, pty, re, resource, shutil, socket, subprocess, sys, tempfile, threading, time
+from concurrent.futures import ThreadPoolExecutor
+from itertools import chain
+
+from peers import HOST, SECRET, Peer, answer, asked, ended, free_port, free_ports, fulfill, listens, message
+from peers import prepare, request, totals, use_up
+
+TOP = os.path.join(os.path.dirname(os.path.realpath(__file__)), "..")
+PROGRAM = os.path.realpath(sys.argv[1] if len(sys.argv) > 1 else f"{TOP}/crates/ilpstream/out/ilpstream")
+STAY = 2_147_483_647  # requests of a connector that does not end by itself
+MANY = 200  # transfers at once
+AT_ONCE = 16  # tests that wait, side by side
+TESTS, WAITING = [], []
+
+
+class Wrong(Exception):
+    """What a test saw, where that is not right."""
+
+
+def want(is_so, told):
+    if not is_so:
+        raise Wrong(told)
+
+
+def test(*rows, waits=False):
+    """Has a function be a test, once for each row of its arguments; where it waits, beside others that do."""
+
+    def listed(function):
+        for row in rows or [()]:
+            words = " ".join(map(str, row))
+            (WAITING if waits else TESTS).append((f"{function.__name__.replace('_', ' ')} {words}".strip(), function, row))
+        return function
+
+    return listed
+
+
+def some_bytes(count):
+    return bytes(n % 251 for n in range(count % 251)) + bytes(range(251)) * (count // 251)
+
+
+class Play:
+    """What a test started, with a folder of its own. All of it ends with the test."""
+
+    def __init__(self):
+        self.folder = tempfile.TemporaryDirectory(prefix="edges-")
+        self.room, self.started, self.peers, self.open, self.count = self.folder.name, [], [], [], 0
+
+    def __enter__(self):
+        return self
+
+    def __exit__(self, *_):
+        for process in self.started:
+            if process.poll() is None:
+                process.kill()
+            process.wait()
+            if process.stderr:
+                process.stderr.close()
+        for it in self.peers + self.open:
+            it.close()
+        self.folder.cleanup()
+
+    def start(self, command, words, given=subprocess.DEVNULL, out=subprocess.DEVNULL, **how):
+        self.count += 1
+        totals = f"{self.room}/{self.count}.totals"
+        words = [how.pop("program", PROGRAM), command, *words, f"--totals={totals}"]
+        process = subprocess.Popen(words, stdin=given, stdout=out, stderr=subprocess.PIPE, **how)
+        process.totals = totals
+        self.started.append(process)
+        return process
+
+    def file(self, content):
+        """A file with these bytes, open for reading."""
+        file = tempfile.TemporaryFile(dir=self.room)
+        file.write(content)
+        file.seek(0)
+        self.open.append(file)
+        return file
+
+    def receive(self, *words, token="t", address="test.b", peer="test.a", most=1_000_000, port=None, **how):
+        """A receiver that listens; `out` is the path of what it writes."""
+        port = port or free_port()
+        path = f"{self.room}/{port}.out"
+        with open(path, "wb") as out:
+            ways = [f"--listen={HOST}:{port}", f"--token={token}", f"--address={address}", f"--peer={peer}"]
+            it = self.start("receive", [*ways, f"--secret={SECRET}", f"--receive-max={most}", *words], out=out, **how)
+        it.port, it.path = port, path
+        return until_it_listens(it)
+
+    def connector(self, table, *words, port=None, requests=STAY, **how):
+        """A connector that listens, with this table."""
+        port = port or free_port()
+        ways = [f"--listen={HOST}:{port}", "--own=test.hub", f"--requests={requests}"]
+        it = self.start("connector", [*ways, *words], given=self.file(table.encode()), **how)
+        it.port = port
+        return until_it_listens(it)
+
+    def before(self, receiver, *words, **how):
+        """A connector of two accounts: the sender's, and the receiver's or a peer's. It takes any money."""
+        return self.connector(table_to(receiver.port), *words, **how)
+
+    def send(self, port, given, *words, token="t", address="test.a", peer="test.b", **how):
+        if isinstance(given, bytes):
+            given = self.file(given)
+        ways = [f"--to={HOST}:{port}", f"--token={token}", f"--address={address}", f"--peer={peer}", f"--secret={SECRET}"]
+        return self.start("send", [*ways, *words], given=given, **how)
+
+    def peer(self, handle):
+        it = Peer(handle)
+        self.peers.append(it)
+        return it
+
+    def pipe(self):
+        """A silent input, and the file that it is written by."""
+        given, writer = os.pipe()
+        writer = os.fdopen(writer, "wb", buffering=0)
+        given = os.fdopen(given, "rb")
+        self.open += [writer, given]
+        return given, writer
+
+    def connect(self, port, content=b""):
+        """A connection on which so much is sent and then nothing."""
+        stream = socket.create_connection((HOST, port), timeout=60)
+        self.open.append(stream)
+        stream.sendall(content)
+        return stream
+
+    def knock(self, port):
+        """A connection that is closed at once, where one is taken."""
+        try:
+            self.connect(port).close()
+        except OSError:
+            pass
+
+
+def table_to(port):
+    return f"account 1000000000 1000000 t - -\naccount 0 0 u {HOST}:{port} t\nroute test.b 1\n"
+
+
+def until_it_listens(process):
+    until = time.monotonic() + 30
+    while time.monotonic() < until and process.poll() is None:
+        if listens(process.port):
+            return process
+        time.sleep(0.02)
+    raise Wrong(f"a command does not listen: {ended(process, 1)}")
+
+
+def whole(receiver, content, bound):
+    """A receiver ends well in these seconds, and wrote these bytes."""
+    told = ended(receiver, bound)
+    with open(receiver.path, "rb") as file:
+        came = file.read()
+    want(told == "0" and came == content, f"receive {told}, {len(came)} of {len(content)} bytes, {'' if content.startswith(came) else 'not '}a beginning")
+
+
+def stands(process, command):
+    """A command has not ended."""
+    if process.poll() is not None:
+        raise Wrong(f"{command} {ended(process, 1)}")
+
+
+def ends_well(process, bound):
+    told = ended(process, bound)
+    want(told == "0", f"send {told} in {bound} seconds")
+
+
+def transfer(sender, receiver, content, bound):
+    """Both ends of a transfer end well in these seconds, and all came. How long it took."""
+    begun = time.monotonic()
+    ends_well(sender, bound)
+    whole(receiver, content, 10)
+    return f"{time.monotonic() - begun:.1f} s"
+
+
+def pass_on(port, stream):
+    """Passes one request on to a receiver, and its answer back."""
+    head, body = message(stream)
+    if head:
+        stream.sendall(b"".join(asked((HOST, port), head + body)))
+
+
+def hold(stream):
+    """Waits until the other side closes a connection."""
+    while stream.recv(4_096):
+        pass
+
+
+def drip(stream, content=b"POST /ilp HTTP/1.1\r\nX: " + b"x" * 10_000):
+    """Sends a byte each second until the other side closes, or this one does."""
+    try:
+        for byte in content:
+            stream.sendall(bytes([byte]))
+            time.sleep(1)
+    except OSError:
+        pass
+
+
+# Two connectors that send to each other.
+
+
+@test((1,), (2,), (4,), (16,))
+def both_ways_by_workers(play, workers):
+    content = some_bytes(2_000_000)
+    hubs, ends, sends = dict(zip("ab", free_ports(2))), {}, {}
+    for side, other in ("ab", "ba"):
+        ends[side] = play.receive(token=f"r{side}", address=f"test.{side}.in", peer=f"test.{other}.out")
+    for side, other in ("ab", "ba"):
+        table = f"account 0 0 s{side} - -\naccount 0 0 {other}{side} {HOST}:{hubs[other]} {side}{other}\n"
+        table += f"account 0 0 none {HOST}:{ends[side].port} r{side}\nroute test.{other} 1\nroute test.{side} 2\n"
+        play.connector(table, f"--workers={workers}", port=hubs[side])
+    begun = time.monotonic()
+    for side, other in ("ab", "ba"):
+        sends[side] = play.send(hubs[side], content, token=f"s{side}", address=f"test.{side}.out", peer=f"test.{other}.in")
+    for side in "ab":
+        ends_well(sends[side], max(1, 60 - (time.monotonic() - begun)))
+    for side in "ab":
+        whole(ends[side], content, 10)
+    return f"{time.monotonic() - begun:.1f} s"
+
+
+# Connections that send nothing, or too slowly.
+
+
+def beside(play, port, count, each):
+    """Opens connections that send nothing, or a byte each second."""
+    for _ in range(count):
+        stream = play.connect(port)
+        if each == "a byte each second":
+            threading.Thread(target=drip, args=(stream,), daemon=True).start()
+
+
+@test((4, "nothing"), (20, "nothing"), (4, "a byte each second"), waits=True)
+def a_connector_beside_connections_that_send(play, count, each):
+    content = some_bytes(50_000)
+    receiver = play.receive()
+    hub = play.before(receiver)
+    beside(play, hub.port, count, each)
+    return transfer(play.send(hub.port, content), receiver, content, 15)
+
+
+@test(("nothing",), ("a byte each second",), waits=True)
+def a_receiver_beside_a_connection_that_sends(play, each):
+    content = some_bytes(50_000)
+    receiver = play.receive()
+    beside(play, receiver.port, 1, each)
+    return transfer(play.send(receiver.port, content), receiver, content, 45)
+
+
+@test(("connector",), ("receive",), waits=True)
+def a_slow_request_is_cut_off_by(play, command):
+    receiver = play.receive()
+    port = play.before(receiver).port if command == "connector" else receiver.port
+    stream, begun = play.connect(port), time.monotonic()
+    threading.Thread(target=drip, args=(stream,), daemon=True).start()
+    stream.settimeout(45)
+    try:
+        while stream.recv(4_096):
+            pass
+    except socket.timeout:
+        raise Wrong("not in 45 seconds") from None
+    except OSError:
+        pass
+    return f"{time.monotonic() - begun:.1f} s"
+
+
+# A connector that goes away.
+
+
+def feed(writer, content, seconds):
+    """Writes an input to a pipe over some seconds, and closes it."""
+    step = len(content) // 50 + 1
+    try:
+        for at in range(0, len(content), step):
+            writer.write(content[at : at + step])
+            time.sleep(seconds / 50)
+        writer.close()
+    except (OSError, ValueError):  # the sender, or the test, has ended
+        pass
+
+
+def cut_off(play, content):
+    """A transfer in whose middle the connector is stopped: the sender, the receiver, and the connector's port."""
+    receiver = play.receive()
+    hub = play.before(receiver)
+    given, writer = play.pipe()
+    sender = play.send(hub.port, given, "--money=500")
+    threading.Thread(target=feed, args=(writer, content, 2), daemon=True).start()
+    until = time.monotonic() + 30
+    while os.path.getsize(receiver.path) < len(content) // 4 and time.monotonic() < until:
+        time.sleep(0.01)
+    hub.kill()
+    hub.wait()
+    want(sender.poll() is None, "the transfer ended before its middle")
+    return sender, receiver, hub.port
+
+
+@test((1,), (5,), waits=True)
+def a_connector_gone_for_seconds(play, seconds):
+    content = some_bytes(4_000_000)
+    sender, receiver, port = cut_off(play, content)
+    time.sleep(seconds)
+    play.connector(table_to(receiver.port), port=port)
+    return f"{transfer(sender, receiver, content, 30)} from when it was back"
+
+
+@test(waits=True)
+def a_connector_gone_for_good(play):
+    sender, _, _ = cut_off(play, some_bytes(4_000_000))
+    begun = time.monotonic()
+    told = ended(sender, 60)
+    taken = time.monotonic() - begun
+    want(told == "58" and 5 < taken < 40, f"send {told} after {taken:.2f} s")
+    return f"58 after {taken:.1f} s"
+
+
+# Limits that nothing raises any more.
+
+
+def with_one_answer_lost(play, port):
+    """A peer that loses the first answer, the one to the money."""
+
+    def handle(number, stream):
+        if number == 1:
+            head, body = message(stream)
+            asked((HOST, port), head + body)
+        else:
+            pass_on(port, stream)
+
+    return play.peer(handle)
+
+
+@test(waits=True)
+def a_sender_that_no_limit_lets_go_on(play):
+    receiver = play.receive(most=500)
+    sender = play.send(with_one_answer_lost(play, receiver.port).port, some_bytes(10_000), "--money=500")
+    begun = time.monotonic()
+    told = ended(sender, 20)
+    want(told == "59", f"send {told} after {time.monotonic() - begun:.1f} s")
+    return f"59 after {time.monotonic() - begun:.1f} s"
+
+
+@test(waits=True)
+def a_receiver_that_nothing_comes_to(play):
+    content = some_bytes(10_000)
+    receiver = play.receive("--patience=3", most=500)
+    sender = play.send(with_one_answer_lost(play, receiver.port).port, content, "--money=500")
+    sent, begun = ended(sender, 20), time.monotonic()
+    received = ended(receiver, 20)
+    with open(receiver.path, "rb") as file:
+        came = file.read()
+    want((sent, received, came) == ("59", "88", content), f"send {sent}, receive {received}, {len(came)} bytes")
+    return f"88 after {time.monotonic() - begun:.1f} s"
+
+
+# Neighbours that do not take a connection, or stop in the middle of an answer.
+
+
+class Full(Peer):
+    """A peer whose queue of connections is full, so that the kernel drops further ones, until it begins to accept."""
+
+    def __init__(self, handle):
+        self.accepts, self.queued = threading.Event(), []
+        super().__init__(handle)
+        self.listener.listen(0)
+        while self.fills():
+            pass
+
+    def fills(self):
+        """Whether one more connection was taken."""
+        stream = socket.socket()
+        stream.settimeout(0.3)
+        self.queued.append(stream)
+        return stream.connect_ex((HOST, self.port)) == 0
+
+    def serve(self):
+        self.accepts.wait()
+        super().serve()
+
+    def begin(self):
+        for stream in self.queued:
+            stream.close()
+        self.accepts.set()
+
+    def close(self):
+        self.begin()
+        super().close()
+
+
+@test(waits=True)
+def a_sender_before_a_neighbour_that_takes_no_connection(play):
+    content = some_bytes(50_000)
+    receiver = play.receive()
+    full = Full(lambda _, stream: pass_on(receiver.port, stream))
+    play.peers.append(full)
+    sender = play.send(full.port, content, "--workers=1")
+    # The kernel repeats an attempt to connect, but not between 36 and 60 seconds after its first. A second attempt is needed.
+    time.sleep(36.5)
+    full.begin()
+    return f"{transfer(sender, receiver, content, 20)} from when it took them"
+
+
+def rejected(play, peer, seconds):
+    """How long a connector takes to answer a Prepare of so many seconds, of which this peer is the way on; and its answer."""
+    hub = play.before(peer)
+    begun = time.monotonic()
+    _, body = asked((HOST, hub.port), request("t", prepare(0, seconds, "test.b")), 20)
+    return time.monotonic() - begun, body
+
+
+@test(waits=True)
+def a_connector_before_a_neighbour_that_takes_no_connection(play):
+    full = Full(lambda _, stream: hold(stream))
+    play.peers.append(full)
+    taken, body = rejected(play, full, 5)
+    want(body[:1] == b"\x0e" and taken < 7, f"answer {body[:20]!r} after {taken:.1f} s")
+    return f"{body[2:5].decode()} after {taken:.1f} s of a Prepare of 5 s"
+
+
+def cut_answer(stream, part, head, body):
+    """Sends an answer up to a part of it, and waits for the other side to close; or all of it, a byte each second."""
+    if part == "a byte each second":
+        drip(stream, head + body)
+        return
+    ends = {"before it": 0, "in the head": 20, "behind the head": len(head), "in the body": len(head) + len(body) // 2}
+    stream.sendall((head + body)[: ends[part]])
+    hold(stream)
+
+
+PARTS = [("before it",), ("in the head",), ("behind the head",), ("in the body",), ("a byte each second",)]
+
+
+@test(*PARTS, waits=True)
+def a_sender_whose_neighbour_stops_an_answer(play, part):
+    content = some_bytes(50_000)
+    receiver = play.receive()
+
+    def handle(number, stream):
+        if number > 1:
+            pass_on(receiver.port, stream)
+        else:
+            head, body = message(stream)
+            cut_answer(stream, part, *asked((HOST, receiver.port), head + body))
+
+    sender = play.send(play.peer(handle).port, content, "--workers=1")
+    return transfer(sender, receiver, content, 45)
+
+
+@test(*PARTS, waits=True)
+def a_connector_whose_neighbour_stops_an_answer(play, part):
+    def handle(_, stream):
+        message(stream)
+        head, end, body = answer(fulfill()).partition(b"\r\n\r\n")
+        cut_answer(stream, part, head + end, body)
+
+    taken, body = rejected(play, play.peer(handle), 5)
+    want(body[:1] == b"\x0e" and taken < 7, f"answer {body[:20]!r} after {taken:.1f} s")
+    return f"{body[2:5].decode()} after {taken:.1f} s of a Prepare of 5 s"
+
+
+def cut_request(part):
+    whole = request("t", prepare(0, 30, "test.b"))
+    head = whole.index(b"\r\n\r\n") + 4
+    return whole[: {"in the head": 20, "behind the head": head, "in the body": head + 40}[part]]
+
+
+@test(("connector",), ("receive in the head",), ("receive behind the head",), ("receive in the body",), waits=True)
+def a_request_stops_at(play, command):
+    content = some_bytes(50_000)
+    receiver = play.receive()
+    command, _, part = command.partition(" ")
+    port = play.before(receiver).port if command == "connector" else receiver.port
+    for part in [part] if part else ["in the head", "behind the head", "in the body"] * 2:
+        play.connect(port, cut_request(part))
+    # A receiver serves one connection at a time, for at most 30 seconds.
+    return transfer(play.send(port, content), receiver, content, 15 if command == "connector" else 45)
+
+
+# Too few threads.
+
+
+def with_threads(count):
+    """A user of its own who may have that many threads in all. (The limit does not bind root.)"""
+
+    def limited():
+        resource.setrlimit(resource.RLIMIT_NPROC, (count, count))
+        if os.getuid() == 0:
+            user = 1_000_000 + os.getpid()
+            os.setgroups([])
+            os.setgid(user)
+            os.setuid(user)
+
+    return limited
+
+
+def for_all(play):
+    """A copy of the program that each user can run, in a folder in which each can make files."""
+    os.chmod(play.room, 0o777)
+    path = f"{play.room}/ilpstream"
+    shutil.copy(PROGRAM, path)
+    os.chmod(path, 0o755)
+    return path
+
+
+@test((1,), (3,), waits=True)
+def a_sender_whose_threads_are_at_most(play, count):
+    content = some_bytes(1_000_000)
+    receiver = play.receive()
+    sender = play.send(receiver.port, content, "--workers=16", preexec_fn=with_threads(count), program=for_all(play))
+    told = ended(sender, 30)
+    want(told in ("0", "99"), f"send {told} in 30 s")
+    if told == "0":
+        whole(receiver, content, 10)
+    return f"ends with {told}"
+
+
+@test((1,), (3,), waits=True)
+def a_connector_whose_threads_are_at_most(play, count):
+    content = some_bytes(50_000)
+    receiver = play.receive()
+    try:
+        hub = play.before(receiver, preexec_fn=with_threads(count), program=for_all(play))
+    except Wrong:
+        hub = play.started[-1]
+    if hub.poll() is None:
+        sender = play.send(hub.port, content)
+        until = time.monotonic() + 30
+        while hub.poll() is None and sender.poll() is None and time.monotonic() < until:
+            time.sleep(0.05)
+    if hub.poll() is not None:
+        told = ended(hub, 1)
+        want(told == "99", f"connector {told}")
+        return "ends with 99"
+    told = ended(sender, 1)
+    want(told == "0", f"send {told} in 30 s")
+    whole(receiver, content, 10)
+    return "the transfer went through it"
+
+
+# An input that gives nothing.
+
+
+def silent(play, kind):
+    """An open input that gave some bytes and gives nothing more."""
+    if kind == "pipe":
+        given, writer = play.pipe()
+    elif kind == "socket":
+        given, writer = (it.makefile("rwb", buffering=0) for it in socket.socketpair())
+        play.open += [given, writer]
+    else:
+        above, below = pty.openpty()
+        writer, given = os.fdopen(above, "r+b", buffering=0), os.fdopen(below, "r+b", buffering=0)
+        play.open += [writer, given]
+    writer.write(b"some bytes\n")
+    return given
+
+
+@test(("pipe",), ("socket",), ("terminal",), waits=True)
+def a_failed_connection_beside_a_silent(play, kind):
+    receiver = play.receive(address="test.other")
+    begun = time.monotonic()
+    told = ended(play.send(receiver.port, silent(play, kind)), 10)
+    taken = time.monotonic() - begun
+    want(told == "58" and taken < 3, f"send {told} after {taken:.1f} s")
+    return f"58 after {taken:.2f} s"
+
+
+@test(waits=True)
+def nobody_listens_beside_a_silent_pipe(play):
+    begun = time.monotonic()
+    told = ended(play.send(free_port(), silent(play, "pipe")), 40)
+    want(told == "58", f"send {told} in 40 s")
+    return f"58 after {time.monotonic() - begun:.1f} s"
+
+
+# Accepts that fail, and connections that send nothing.
+
+
+@test(("connector",), ("receive",))
+def an_accept_that_fails_at(play, command):
+    content = some_bytes(50_000)
+    receiver = play.receive()
+    it = play.before(receiver) if command == "connector" else receiver
+    low, high = resource.prlimit(it.pid, resource.RLIMIT_NOFILE)
+    # No file can be opened any more. A blocked accept has its number already, so that the first connections are still taken.
+    resource.prlimit(it.pid, resource.RLIMIT_NOFILE, (3, high))
+    for _ in range(20):
+        if it.poll() is None:
+            play.knock(it.port)
+        time.sleep(0.02)
+    stands(it, command)
+    resource.prlimit(it.pid, resource.RLIMIT_NOFILE, (low, high))
+    return transfer(play.send(it.port, content), receiver, content, 20)
+
+
+@test(waits=True)
+def a_connector_with_more_connections_than_files(play):
+    content = some_bytes(50_000)
+    receiver = play.receive()
+    hub = play.before(receiver, preexec_fn=lambda: resource.setrlimit(resource.RLIMIT_NOFILE, (24, 24)))
+    streams = [play.connect(hub.port) for _ in range(40)]
+    time.sleep(0.5)
+    for stream in streams:
+        stream.close()
+    stands(hub, "connector")
+    return transfer(play.send(hub.port, content), receiver, content, 20)
+
+
+@test()
+def connections_that_send_nothing_use_up_no_request(play):
+    hub = play.connector(table_to(1), requests=2)
+    for _ in range(8):
+        play.knock(hub.port)
+    time.sleep(1)
+    stands(hub, "connector")
+    for _ in range(2):
+        head, _ = asked((HOST, hub.port), request("t", prepare(0, 5, "test.x")))
+        want(head.startswith(b"HTTP/1.1 200 "), f"answer {head[:30]!r}")
+    told = ended(hub, 10)
+    want(told == "0", f"connector {told} behind its requests")
+    return "none"
+
+
+# What an idle sender takes, and the workers that there are.
+
+
+def processor_time(pid):
+    """The seconds that all threads of a process ran."""
+    taken = 0
+    for thread in os.listdir(f"/proc/{pid}/task"):
+        with open(f"/proc/{pid}/task/{thread}/schedstat", encoding="ascii") as file:
+            taken += int(file.read().split()[0])
+    return taken / 1e9
+
+
+@test((1,), (4,), (16,), waits=True)
+def an_idle_sender_by_workers(play, workers):
+    receiver = play.receive()
+    given, writer = play.pipe()
+    sender = play.send(receiver.port, given, f"--workers={workers}")
+    writer.write(b"first ")
+    until = time.monotonic() + 20
+    while os.path.getsize(receiver.path) < 6 and time.monotonic() < until:
+        time.sleep(0.02)
+    time.sleep(0.5)
+    before, begun = processor_time(sender.pid), time.monotonic()
+    time.sleep(3)
+    share = 100 * (processor_time(sender.pid) - before) / (time.monotonic() - begun)
+    writer.write(b"and last")
+    writer.close()
+    ends_well(sender, 10)
+    whole(receiver, b"first and last", 10)
+    want(share < 1, f"{share:.2f} % of a processor")
+    return f"{share:.2f} % of a processor"
+
+
+def threads(process):
+    with open(f"/proc/{process.pid}/status", encoding="ascii") as file:
+        return int(re.search(r"(?m)^Threads:\s*(\d+)$", file.read())[1])
+
+
+@test(("send",), ("connector",))
+def workers_are_threads_of(play, command):
+    found, receiver = {}, play.receive()
+    for workers in (1, 4, 16):
+        if command == "send":
+            it = play.send(receiver.port, play.pipe()[0], f"--workers={workers}")
+        else:
+            it = play.before(receiver, f"--workers={workers}")
+        time.sleep(0.7)
+        found[workers] = threads(it)
+    want(found[4] - found[1] == 3 and found[16] - found[1] == 15, f"threads by workers: {found}")
+    return f"threads by workers: {found}"
+
+
+@test((1,), (2,), (4,), waits=True)
+def exchanges_at_once_by_workers(play, workers):
+    content = some_bytes(400_000)
+    receiver = play.receive()
+    lock, open_now, most = threading.Lock(), [0], [0]
+
+    def handle(_, stream):
+        with lock:
+            open_now[0] += 1
+            most[0] = max(most[0], open_now[0])
+        time.sleep(0.1)
+        head, body = message(stream)
+        came = b"".join(asked((HOST, receiver.port), head + body))
+        with lock:
+            open_now[0] -= 1
+        stream.sendall(came)
+
+    told = transfer(play.send(play.peer(handle).port, content, f"--workers={workers}"), receiver, content, 40)
+    want(most[0] == workers, f"{most[0]} exchanges at once")
+    return told
+
+
+# Many transfers, and money.
+
+
+@test()
+def transfers_at_once(play):
+    ports, table = free_ports(MANY), ""
+    for n in range(MANY):
+        table += f"account 100000 1000 s{n} - -\naccount 0 0 none{n} {HOST}:{ports[n]} r{n}\nroute test.b.n{n} {2 * n + 1}\n"
+    contents = [some_bytes(20_000 + n) for n in range(MANY)]
+    ways = [{"address": f"test.a.n{n}", "peer": f"test.b.n{n}"} for n in range(MANY)]
+    ends = []
+    for n in range(MANY):
+        ends.append(play.receive(token=f"r{n}", address=f"test.b.n{n}", peer=f"test.a.n{n}", port=ports[n]))
+    hub = play.connector(table)
+    begun = time.monotonic()
+    sends = [play.send(hub.port, contents[n], "--money=10", "--workers=1", token=f"s{n}", **ways[n]) for n in range(MANY)]
+    for sender in sends:
+        ends_well(sender, max(1, 60 - (time.monotonic() - begun)))
+    taken = time.monotonic() - begun
+    for receiver, content in zip(ends, contents):
+        whole(receiver, content, 10)
+    return f"{MANY} in {taken:.1f} s"
+
+
+@test()
+def an_account_is_billed_what_its_token_sent(play):
+    content = some_bytes(50_000)
+    receiver = play.receive()
+    table = f"account 1000000 1000 x - -\naccount 1000000 1000 t - -\naccount 0 0 u {HOST}:{receiver.port} t\nroute test.b 2\n"
+    hub = play.connector(table, requests=200)
+    told = transfer(play.send(hub.port, content, "--money=500"), receiver, content, 20)
+    use_up(hub, hub.port, "x")
+    want(ended(hub, 10) == "0", "the connector does not end")
+    claims = {name: number for name, number in totals(hub.totals).items() if number}
+    want(claims == {"account 1 claims": 500, "account 2 dues": 500}, f"totals {claims}")
+    return told
+
+
+@test(("1:2", "0"), ("1:1", "58"))
+def least_with_a_rate_of_one_for_two(play, least, wanted):
+    content = some_bytes(1_000)
+    receiver = play.receive()
+    hub = play.connector(table_to(receiver.port).replace("route test.b 1", "route test.b 1 1 2"))
+    sender = play.send(hub.port, content, "--money=500", f"--least={least}")
+    told = ended(sender, 40)
+    want(told == wanted, f"send {told}")
+    if told == "0":
+        whole(receiver, content, 10)
+        want(totals(receiver.totals).get("credited") == 250, f"totals {totals(receiver.totals)}")
+    return f"send {told}"
+
+
+@test((0, 10), (3, 0), waits=True)
+def a_fulfill_after_seconds_of_two_is_booked_as(play, seconds, wanted):
+    def handle(_, stream):
+        message(stream)
+        time.sleep(seconds)
+        stream.sendall(answer(fulfill()))
+
+    hub = play.before(play.peer(handle), requests=2)
+    _, body = asked((HOST, hub.port), request("t", prepare(10, 2, "test.b")), 20)
+    want(body[:1] == (b"\x0d" if wanted else b"\x0e"), f"answer {body[:20]!r}")
+    # The late answer is there when the connector ends.
+    time.sleep(seconds / 2)
+    use_up(hub, hub.port, "t")
+    want(ended(hub, 10) == "0", "the connector does not end")
+    found = totals(hub.totals)
+    booked = [found.get("account 0 claims"), found.get("account 1 dues"), found.get("account 0 held")]
+    want(booked == [wanted, wanted, 0], f"totals {found}")
+    return body[2:5].decode() if not wanted else "fulfilled"
+
+
+def tried(name, function, row):
+    """A line that says what a test saw, and whether it passed."""
+    try:
+        with Play() as play:
+            return True, f"{name}: {function(play, *row)}"
+    except Wrong as wrong:
+        return False, f"{name}: WRONG: {wrong}"
+    except Exception as error:  # a test that breaks off is one that failed
+        return False, f"{name}: WRONG: {type(error).__name__}: {error}"
+
+
+def main():
+    word = sys.argv[2] if len(sys.argv) > 2 else ""
+    waiting, others = ([it for it in tests if word in it[0]] for tests in (WAITING, TESTS))
+    results = []
+    with ThreadPoolExecutor(max_workers=AT_ONCE) as pool:
+        begun = [pool.submit(tried, *it) for it in waiting]
+        for passed, told in chain((tried(*it) for it in others), (it.result() for it in begun)):
+            results.append(passed)
+            print(told, flush=True)
+    print(f"{results.count(True)} passed, {results.count(False)} failed")
+    return 0 if results and all(results) else 1
+
+
+if __name__ == "__main__":
+    sys.exit(main())
