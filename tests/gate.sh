@@ -6,7 +6,7 @@
 set -u
 cd "$(dirname "$(readlink -f "${BASH_SOURCE[0]}")")/.." || exit 1
 log=$(mktemp)
-trap 'rm -f "$log"' EXIT
+trap 'rm -f "$log" "$log.step"' EXIT
 
 # Puts the minutes since the start before each line that tells of a crate.
 stamped() {
@@ -28,20 +28,35 @@ fi
 
 rt ci | stamped | tee "$log"
 status=${PIPESTATUS[0]}
+
+# Runs a test, for at most so many minutes, and shows what it printed. It writes to a file, so that a process that it left behind
+# keeps nothing waiting. One that ends otherwise than well counts as failed, also where it was stopped before it printed a sum.
+step() {
+    local result=0
+    timeout "$1m" "${@:2}" >"$log.step" 2>&1 </dev/null || result=$?
+    cat "$log.step"
+    if [ "$result" != 0 ]; then
+        status=1
+        if ! grep -qE '^[0-9]+ passed, [1-9][0-9]* failed$' "$log.step"; then
+            printf '%s\n' "$2: status $result" '0 passed, 1 failed' | tee -a "$log.step"
+        fi
+    fi
+    cat "$log.step" >>"$log"
+}
+
 if [ -x crates/ilpstream/out/ilpstream ]; then
-    tests/program.sh | tee -a "$log"
-    [ "${PIPESTATUS[0]}" = 0 ] || status=1
-    tests/edges.py | tee -a "$log"
-    [ "${PIPESTATUS[0]}" = 0 ] || status=1
+    step 30 tests/program.sh
+    step 15 tests/edges.py
 else
     echo "the program was not built, so it was not run"
     echo "0 passed, 1 failed" | tee -a "$log"
     status=1
 fi
-for look in tests/readme.py tests/documents.py tests/prose.py "tests/seen_by_tests.py --look" "tests/refused_by_hand.py --look"; do
-    $look | tee -a "$log"
-    [ "${PIPESTATUS[0]}" = 0 ] || status=1
-done
+step 15 tests/readme.py
+step 5 tests/documents.py
+step 5 tests/prose.py
+step 5 tests/seen_by_tests.py --look
+step 5 tests/refused_by_hand.py --look
 
 echo "the gate took $((SECONDS / 60)) minutes on $processors cores"
 sed -nE 's/^([0-9]+) passed, ([0-9]+) failed$/\1 \2/p' "$log" | {

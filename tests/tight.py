@@ -3,17 +3,18 @@
 step above what the program just starts in to what it runs well in. A line for each command tells the ways in which its runs
 ended, each once, and what is wrong, if anything is: a run writes a beginning of what it should and tells a numbered fault, or it
 writes all and has status 0."""
-import os, re, resource, socket, subprocess, sys, tempfile, time
+import os, re, resource, subprocess, sys, tempfile, time
+
+from peers import HOST, SECRET, asked, free_port, listens, request
 
 PROGRAM = sys.argv[1]
-SECRET = "000102030405060708090a0b0c0d0e0f101112131415161718191a1b1c1d1e1f"
 INPUT = bytes(n % 251 for n in range(70_000))
 TABLE = b"account 500 500 alice - -\naccount 500 500 bob 127.0.0.1:9 hub\nroute example.bob 1\n"
 STEP = 64 * 1024
 # So many runs that end well end a sweep, and so many steps are too many.
 WELL, STEPS = 8, 1_000
-# More seconds than any run may take.
-BOUND = 60
+# More seconds than any run may take, and the seconds in which a connector is asked until it ends.
+BOUND, ASKED = 60, 2
 
 
 class Run:
@@ -61,20 +62,21 @@ def least():
     return high
 
 
-def free_port():
-    with socket.create_server(("127.0.0.1", 0)) as it:
-        return it.getsockname()[1]
-
-
-def listens(port, ran):
-    """Whether a process listens there before it ends."""
+def is_up(port, ran):
+    """Whether a process listens at a port before it ends."""
     while ran.poll() is None:
-        try:
-            socket.create_connection(("127.0.0.1", port)).close()
+        if listens(port):
             return True
-        except OSError:
-            time.sleep(0.005)
+        time.sleep(0.005)
     return False
+
+
+def ask(port, ran):
+    """Sends requests that hold no packet until a connector ends, for some seconds: one that has no memory for a request may leave
+    it without an answer, and does not count it."""
+    until = time.monotonic() + ASKED
+    while ran.poll() is None and time.monotonic() < until:
+        asked((HOST, port), request("alice", b"\0"), ASKED)
 
 
 def local(given):
@@ -90,8 +92,9 @@ def connector(table):
     def run(space):
         port = free_port()
         it = Run(["connector", f"--listen=127.0.0.1:{port}", "--own=example.hub", "--requests=1"], space, table)
-        listens(port, it.ran)
-        return it.ending(b"")
+        if is_up(port, it.ran):
+            ask(port, it.ran)
+        return it.ending(b"", 1)
 
     return run
 
@@ -105,7 +108,7 @@ def transfer(given, tight):
         receive = Run(
             ["receive", f"--listen=127.0.0.1:{port}", *own, "--address=test.b", "--peer=test.a"],
             space if tight == "receive" else 0)
-        if not listens(port, receive.ran):
+        if not is_up(port, receive.ran):
             return receive.ending(INPUT)
         send = Run(
             ["send", f"--to=127.0.0.1:{port}", *own, "--address=test.a", "--peer=test.b", "--workers=2"],
