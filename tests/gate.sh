@@ -6,7 +6,7 @@
 set -u
 cd "$(dirname "$(readlink -f "${BASH_SOURCE[0]}")")/.." || exit 1
 log=$(mktemp)
-trap 'rm -f "$log" "$log.step"' EXIT
+trap 'rm -f "$log" "$log.step" "$log.times"' EXIT
 
 # Puts the minutes since the start before each line that tells of a crate.
 stamped() {
@@ -26,8 +26,11 @@ if [ "$((available / processors))" -ge 4500000 ]; then
     export RT_JOBS=${RT_JOBS:-$processors}
 fi
 
+tests/times.py $$ >"$log.times" &
+times=$!
 rt ci | stamped | tee "$log"
 status=${PIPESTATUS[0]}
+kill "$times" && wait "$times"
 
 # Runs a test, for at most so many minutes, and shows what it printed. It writes to a file, so that a process that it left behind
 # keeps nothing waiting. One that ends otherwise than well counts as failed, also where it was stopped before it printed a sum.
@@ -58,6 +61,7 @@ step 5 tests/prose.py
 step 5 tests/seen_by_tests.py --look
 step 5 tests/refused_by_hand.py --look
 
+cat "$log.times"
 echo "the gate took $((SECONDS / 60)) minutes on $processors cores"
 sed -nE 's/^([0-9]+) passed, ([0-9]+) failed$/\1 \2/p' "$log" | {
     passed=0 failed=0

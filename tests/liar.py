@@ -3,6 +3,7 @@
 exchange and at every one, and at each third beside a connector, a line says how both ended, how much of the input came, and
 what is wrong with that or with the sums that they told in the end, if anything is."""
 import os, socket, subprocess, sys, tempfile, threading, time
+from concurrent.futures import ThreadPoolExecutor
 
 from peers import BOUND, SECRET, asked, ended, free_port, message, totals, use_up
 
@@ -12,6 +13,8 @@ WORDS = ["--token=t", f"--secret={SECRET}"]
 # What is offered; the most that is taken, of which a Prepare whose answer is lost takes a part again; the most that a connector
 # takes in one Prepare, and how many requests.
 MONEY, MOST, PIECE, REQUESTS = 500, 1_000_000, 100, 600
+# Runs at once.
+AT_ONCE = 6
 
 
 def with_bit(body, place):
@@ -230,13 +233,26 @@ LIES = [
     "another's request again",
 ]
 
-with tempfile.TemporaryDirectory() as room:
+
+
+def runs():
+    """What each line says, and the arguments of its run."""
     for lie in LIES:
-        for every in (3, 1):
-            told = "each third" if every == 3 else "every one"
-            print(f"{lie}, {told}: {run(lie, every, room)}", flush=True)
-    for before, told in (("hub", "before a connector"), ("receive", "behind a connector")):
+        yield f"{lie}, each third", (lie, 3), {}
+        yield f"{lie}, every one", (lie, 1), {}
+    for before, place in (("hub", "before a connector"), ("receive", "behind a connector")):
         for lie in LIES:
-            print(f"{lie}, each third, {told}: {run(lie, 3, room, True, before)}", flush=True)
-    print(f"a full disk as output: {run('', 3, room, out='/dev/full')}")
-    print(f"an input that fails: {run('', 3, room, given=room)}")
+            yield f"{lie}, each third, {place}", (lie, 3), {"hub": True, "before": before}
+    yield "a full disk as output", ("", 3), {"out": "/dev/full"}
+    yield "an input that fails", ("", 3), {"given": "/"}
+
+
+def line(text, words, terms):
+    with tempfile.TemporaryDirectory() as room:
+        return f"{text}: {run(*words, room, **terms)}"
+
+
+# A run in which 200 exchanges in a row fail waits for most of its ten seconds: some run beside one another.
+with ThreadPoolExecutor(AT_ONCE) as pool:
+    for told in pool.map(lambda it: line(*it), runs()):
+        print(told, flush=True)
