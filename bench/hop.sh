@@ -10,9 +10,9 @@
 # A Prepare is of one unit and has no data. st_hop has no limit of accounts, routes or open Prepares that these sizes meet.
 #
 # The best of the runs by the clock, less the best of as many runs in turns with them in which the same hop is made, with its
-# open Prepares, and nothing else arrives. Where another build of the program is named, it is measured in turns too. By hand,
-# on a quiet machine: bench/hop.sh [OTHER_PROGRAM]. PROGRAM names the program, where it is not the one of this repository;
-# RUNS is how many runs are made of each, 7 where it is not set.
+# open Prepares, and nothing else arrives. Where another build of the program is named, it is measured in turns with it, and
+# each rate is also given as a part of the other's. By hand, on a quiet machine: bench/hop.sh [OTHER_PROGRAM]. PROGRAM names
+# the program, where it is not the one of this repository; RUNS is how many runs are made of each, 7 where it is not set.
 set -euo pipefail
 top=$(cd "$(dirname "$0")/.." && pwd)
 program=${PROGRAM:-$top/crates/bench_hop/out/bench_hop}
@@ -40,8 +40,11 @@ is_answer() { # whether the program forwarded and fulfilled $1 Prepares, and rej
     [ "$answer" = "$1 forwarded, $1 fulfilled, $2 rejected" ] || { echo "a program printed: $answer" >&2 && exit 1; }
 }
 
-least() {
-    sort -n "$room/$1" | head -n 1
+taken() { # nanoseconds that the Prepares take program number $1
+    local before whole
+    before=$(sort -n "$room/before.$1" | head -n 1)
+    whole=$(sort -n "$room/whole.$1" | head -n 1)
+    echo $((whole > before ? whole - before : 1))
 }
 
 row() { # the row's name, the accounts, the Prepares that are open, fulfilled and rejected, and 1 where there is a long route
@@ -57,9 +60,9 @@ row() { # the row's name, the accounts, the Prepares that are open, fulfilled an
     done
     for number in "${!programs[@]}"; do
         [ ${#programs[@]} = 1 ] || printf '%s: ' "${programs[$number]}"
-        echo "$(least "before.$number") $(least "whole.$number")" | awk -v name="$name" -v prepares=$((fulfilled + rejected)) '{
-            taken = ($2 > $1 ? $2 - $1 : 1) / 1e9
-            printf "%s: %d Prepares, %.3f seconds, %.0f Prepares a second\n", name, prepares, taken, prepares / taken
+        echo "$(taken "$number") $(taken $((${#programs[@]} - 1)))" | awk -v name="$name" -v prepares=$((fulfilled + rejected)) '{
+            printf "%s: %d Prepares, %.3f seconds, %.0f Prepares a second", name, prepares, $1 / 1e9, prepares * 1e9 / $1
+            print $1 == $2 ? "" : sprintf(", %.2f of the other", $2 / $1)
         }'
     done
 }
