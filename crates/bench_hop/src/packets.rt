@@ -32,7 +32,7 @@ pub(crate) fn prefixes(alloc: Global, accounts: u64) -> Option<Vec<String>> {
 }
 
 /// A Prepare of one unit, without data.
-pub(crate) fn prepare_to(alloc: Global, destination: &str) -> Option<Vec<u8>> {
+fn prepare_to(alloc: Global, destination: &str) -> Option<Vec<u8>> {
     let prepare = Prepare {
         amount: 1,
         expiry: EXPIRY,
@@ -51,6 +51,14 @@ pub(crate) fn prepares(alloc: Global, accounts: u64) -> Option<Vec<Vec<u8>>> {
         let destination = format!(in alloc; "test.{next}.a").ok()?;
         all.push(prepare_to(alloc, &destination)?).ok()?;
     }
+    Some(all)
+}
+
+/// The one Prepare for an address of 1,023 characters that is no account's.
+pub(crate) fn prepares_nowhere(alloc: Global) -> Option<Vec<Vec<u8>>> {
+    let destination = long_address(alloc, "b")?;
+    let mut all = Vec::new(alloc);
+    all.push(prepare_to(alloc, &destination)?).ok()?;
     Some(all)
 }
 

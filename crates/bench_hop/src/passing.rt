@@ -1,6 +1,6 @@
 //! A hop, and Prepares that arrive there.
 
-use crate::packets::{fulfill, long_address, prefixes, prepare_to, prepares};
+use crate::packets::{fulfill, long_address, prefixes, prepares, prepares_nowhere};
 use st_hop::{Account, HopState, Outcome, Route, Verdict};
 use st_ilp::Moment;
 use std::alloc::Global;
@@ -116,19 +116,39 @@ fn pass(
     })
 }
 
+/// Prepares arrive for addresses within the routes: those that stay open, and those that are fulfilled.
+fn pass_routed(
+    alloc: Global,
+    hop: &mut HopState<Global>,
+    sizes: Sizes,
+    now: Moment,
+) -> Option<Counts> {
+    let prepares = prepares(alloc, sizes.accounts)?;
+    leave_open(hop, &prepares, sizes.open, now)?;
+    pass(alloc, hop, &prepares, sizes.fulfilled, now)
+}
+
+/// This number of Prepares arrive for an address to which no route leads.
+fn pass_nowhere(
+    alloc: Global,
+    hop: &mut HopState<Global>,
+    times: u64,
+    now: Moment,
+) -> Option<Counts> {
+    let prepares = prepares_nowhere(alloc)?;
+    pass(alloc, hop, &prepares, times, now)
+}
+
 /// Makes the hop, and passes what the sizes ask for. `None` where memory was refused, or a Prepare was to stay open and was not
 /// forwarded.
 pub(crate) fn pass_all(alloc: Global, sizes: Sizes) -> Option<Counts> {
     let now = Moment::new(0)?;
-    let prepares = prepares(alloc, sizes.accounts)?;
     let mut hop = new_hop(alloc, sizes)?;
-    leave_open(&mut hop, &prepares, sizes.open, now)?;
-    let passed = pass(alloc, &mut hop, &prepares, sizes.fulfilled, now)?;
-    let nowhere = [prepare_to(alloc, &long_address(alloc, "b")?)?];
-    let refused = pass(alloc, &mut hop, &nowhere, sizes.unreachable, now)?;
+    let routed = pass_routed(alloc, &mut hop, sizes, now)?;
+    let nowhere = pass_nowhere(alloc, &mut hop, sizes.unreachable, now)?;
     Some(Counts {
-        forwarded: passed.forwarded.saturating_add(refused.forwarded),
-        fulfilled: refused.fulfilled,
-        rejected: passed.rejected.saturating_add(refused.rejected),
+        forwarded: routed.forwarded.saturating_add(nowhere.forwarded),
+        fulfilled: nowhere.fulfilled,
+        rejected: routed.rejected.saturating_add(nowhere.rejected),
     })
 }
