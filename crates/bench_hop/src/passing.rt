@@ -139,16 +139,21 @@ fn pass_nowhere(
     pass(alloc, hop, &prepares, times, now)
 }
 
-/// Makes the hop, and passes what the sizes ask for. `None` where memory was refused, or a Prepare was to stay open and was not
-/// forwarded.
-pub(crate) fn pass_all(alloc: Global, sizes: Sizes) -> Option<Counts> {
+/// Passes what the sizes ask for through a new hop.
+fn pass_through(alloc: Global, hop: &mut HopState<Global>, sizes: Sizes) -> Option<Counts> {
     let now = Moment::new(0)?;
-    let mut hop = new_hop(alloc, sizes)?;
-    let routed = pass_routed(alloc, &mut hop, sizes, now)?;
-    let nowhere = pass_nowhere(alloc, &mut hop, sizes.unreachable, now)?;
+    let routed = pass_routed(alloc, hop, sizes, now)?;
+    let nowhere = pass_nowhere(alloc, hop, sizes.unreachable, now)?;
     Some(Counts {
         forwarded: routed.forwarded.saturating_add(nowhere.forwarded),
         fulfilled: nowhere.fulfilled,
         rejected: routed.rejected.saturating_add(nowhere.rejected),
     })
+}
+
+/// Makes the hop, and passes what the sizes ask for. `None` where memory was refused, or a Prepare was to stay open and was not
+/// forwarded.
+pub(crate) fn pass_all(alloc: Global, sizes: Sizes) -> Option<Counts> {
+    let mut hop = new_hop(alloc, sizes)?;
+    pass_through(alloc, &mut hop, sizes)
 }
