@@ -14,3 +14,4 @@ pub mod StepTies
 pub mod Handings
 pub mod FreshRings
 pub mod Tries
+pub mod Expiries

@@ -243,6 +243,27 @@ fn give_stream<N: HubName<A>, A: Allocator + Copy>(
     Pumped::Moved
 }
 
+// Moves what can be moved of one stream. One that is not open has nothing to move: the ends of its rings are here still,
+// and the end would refuse a write or a read.
+fn pump_stream<N: HubName<A>, A: Allocator + Copy>(
+    core: &mut EndState<A>,
+    writes: &mut Vec<WriteLane<A>, A>,
+    reads: &mut Vec<ReadLane<A>, A>,
+    place: usize,
+) -> Pumped
+    requires { AllLanes N.write_ring writes.old.items × AllReadLanes N.read_ring reads.old.items × (place < 64) }
+    ensures lanes { AllLanes N.write_ring writes.new.items × AllReadLanes N.read_ring reads.new.items }
+    ensures flows { Flows (flow_of core.old writes.old.items reads.old.items) (flow_of core.new writes.new.items reads.new.items) }
+{
+    if !core.has_stream(place as u8 + 1) {
+        return Pumped::Nothing;
+    }
+    if let Pumped::NoMemory = take_stream::<N, A>(core, writes, place) {
+        return Pumped::NoMemory;
+    }
+    give_stream::<N, A>(core, reads, place)
+}
+
 /// Moves what can be moved. At `NoMemory` what was moved stays moved, and the next item is where it was.
 pub(crate) fn pump<N: HubName<A>, A: Allocator + Copy>(
     core: &mut EndState<A>,
@@ -254,10 +275,7 @@ pub(crate) fn pump<N: HubName<A>, A: Allocator + Copy>(
     ensures flows { Flows (flow_of core.old writes.old.items reads.old.items) (flow_of core.new writes.new.items reads.new.items) }
 {
     for place in 0..usize::from(STREAMS) {
-        if let Pumped::NoMemory = take_stream::<N, A>(core, writes, place) {
-            return Pumped::NoMemory;
-        }
-        if let Pumped::NoMemory = give_stream::<N, A>(core, reads, place) {
+        if let Pumped::NoMemory = pump_stream::<N, A>(core, writes, reads, place) {
             return Pumped::NoMemory;
         }
     }

@@ -10,7 +10,7 @@ ghost use Rattle.st_end.specs.Receiving.{received};
 ghost use Rattle.st_end.specs.Seen.{received_seen};
 ghost use Rattle.st_hub.specs.Hub.{with_core};
 ghost use Rattle.st_hub.specs.Stalls.{Does, IsStalled};
-ghost use Rattle.st_hub.specs.Turns.{credited_by};
+ghost use Rattle.st_hub.specs.Turns.{credited_by, ExpiresAt, IsExpiryOf};
 ghost use Rattle.st_hub.specs.declared.error.HubError.TheVariants.{NoShareLeft, Stranger, MissingShare, NoMemory};
 
 use crate::error::HubError;
@@ -46,16 +46,30 @@ fn after(now: Moment) -> Moment
 pub struct Turn<A: Allocator + Copy> {
     flight: Flight,
     bytes: Vec<u8, A>,
-    // When the Prepare expires.
-    by: Moment,
+    // The moment that the bytes say.
+    expiry: Moment,
 }
 
 impl<A: Allocator + Copy> Model for Turn<A> {
-    ghost use Rattle.st_hub.specs.Turns.{Sent};
+    ghost use Rattle.st_hub.specs.Turns.{Sent, IsExpiryOf};
 
     ghost Value = { Sent };
 
     ghost view = { λ t. record { flight = t.flight; bytes = t.bytes.items } };
+
+    ghost invariant = { λ t. IsExpiryOf t.bytes.items t.expiry };
+}
+
+/// The turn of a Prepare that was made at this moment.
+fn turn_at<A: Allocator + Copy>(flight: Flight, bytes: Vec<u8, A>, made: Moment) -> Turn<A>
+    requires { ExpiresAt bytes.items (made +ℤ pos 30000) }
+    ensures { (result.flight ≡ flight) × (result.bytes ≡ bytes.items) }
+{
+    Turn {
+        flight,
+        bytes,
+        expiry: after(made),
+    }
 }
 
 impl<A: Allocator + Copy> Turn<A> {
@@ -66,9 +80,12 @@ impl<A: Allocator + Copy> Turn<A> {
         self.bytes.as_slice()
     }
 
-    /// The moment at which the Prepare expires: an answer that comes later is of no use.
-    pub fn expires(&self) -> Moment {
-        self.by
+    /// The moment at which the Prepare expires, as its bytes say (RFC 0027, expiresAt): an answer that comes later is of
+    /// no use. Its contract says so up to the last `Moment`, some minutes before the year 9999 ends.
+    pub fn expires(&self) -> Moment
+        ensures { IsExpiryOf self.now.bytes result }
+    {
+        self.expiry
     }
 
     /// Gives the turn up where no answer will be taken. What the Prepare carries stays in flight. Does not allocate.
@@ -76,7 +93,7 @@ impl<A: Allocator + Copy> Turn<A> {
         let Turn {
             flight,
             bytes: _,
-            by: _,
+            expiry: _,
         } = self;
         flight.abandon();
     }
@@ -148,11 +165,7 @@ impl<N: HubName<A>, A: Allocator + Copy> HubState<N, A> {
         let sent = streams.send(iv, now);
         publish(gauge, seat, streams);
         match sent {
-            Ok(Some((flight, bytes))) => Ok(Some(Turn {
-                flight,
-                bytes,
-                by: after(now),
-            })),
+            Ok(Some((flight, bytes))) => Ok(Some(turn_at(flight, bytes, now))),
             Ok(None) => Ok(None),
             Err(_) => Err(HubError::NoMemory),
         }
@@ -217,7 +230,7 @@ impl<N: HubName<A>, A: Allocator + Copy> HubState<N, A> {
         let Turn {
             flight,
             bytes: _,
-            by: _,
+            expiry: _,
         } = turn;
         if !self.streams.core().is_open(&flight) {
             flight.abandon();
