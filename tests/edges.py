@@ -540,6 +540,31 @@ def a_connector_whose_threads_are_at_most(play, count):
     return "the transfer went through it"
 
 
+@test(waits=True)
+def a_connector_counts_its_answers_with_t00(play):
+    def handle(_, stream):
+        message(stream)
+        stream.sendall(answer(fulfill()))
+
+    ways = {"requests": 5, "preexec_fn": with_threads(2), "program": for_all(play)}
+    try:
+        hub = play.before(play.peer(handle), "--workers=1", **ways)
+    except Wrong:
+        told = ended(play.started[-1], 1)
+        want(os.getuid() != 0 and told == "99", f"connector {told}")
+        return "ends with 99"
+    # No thread can be made beside the one that serves, so that only the last request is forwarded.
+    answers = [asked((HOST, hub.port), request("t", prepare(10, 30, "test.b")), 20)[1] for _ in range(5)]
+    want(ended(hub, 10) == "0", "the connector does not end")
+    refused = [it[2:5] for it in answers if it[:1] == b"\x0e"]
+    found = totals(hub.totals)
+    want(refused == [b"T00"] * 4 and answers[4] == fulfill(), f"answers {answers}")
+    want(found["overloaded"] == 4 and found["account 0 claims"] == 10, f"totals {found}")
+    with open(hub.totals, encoding="ascii") as file:
+        want(file.read().endswith("held 0\noverloaded 4\n"), "it is not the last line")
+    return "4 of 5"
+
+
 # An input that gives nothing.
 
 

@@ -1,5 +1,5 @@
 -- The totals that a command tells in a file, and how it ends then.
-use Rattle.std.specs.Prelude.{◌≡◌, ℕ, suc, List, [], ◌∷◌, ◌++◌, codes, decimal, Result, Ok, Err}
+use Rattle.std.specs.Prelude.{◌≡◌, ℕ, suc, List, [], ◌∷◌, ◌++◌, nat_eq, if◌then◌else◌, codes, decimal, Result, Ok, Err}
 use Rattle.st_commands.specs.declared.error.Fault.{Fault}
 use Rattle.st_end.specs.Totals.{Totals}
 use Rattle.st_transfer.specs.declared.accounts.AccountTotals.{AccountTotals}
@@ -20,6 +20,15 @@ account_text n a = codes "account " ++ decimal n ++ codes " claims " ++ decimal 
 unfoldable pub accounts_text : (first : ℕ) → List AccountTotals → List ℕ
 accounts_text n [] = []
 accounts_text n (a ∷ rest) = account_text n a ++ accounts_text (suc n) rest
+
+-- the line of the Prepares that were answered with T00 because too many threads were busy: `overloaded 3` and a newline, or
+-- none where there were none
+abbrev pub overloaded_text : ℕ → List ℕ
+overloaded_text n = if nat_eq n 0 then [] else codes "overloaded " ++ decimal n ++ 10 ∷ []
+
+-- all lines of a connector
+abbrev pub connector_text : List AccountTotals → (overloaded : ℕ) → List ℕ
+connector_text accounts n = accounts_text 0 accounts ++ overloaded_text n
 
 -- how a command ends whose totals were told so: a fault of its own goes before one of telling
 abbrev pub ended_with : Result (Unit {0}) RunError → Result (Unit {0}) Fault → Result (Unit {0}) RunError

@@ -9,12 +9,12 @@ ghost use Rattle.st_program.specs.declared.error.RunError.TheVariants.{BadOption
 use crate::error::RunError;
 use crate::hop::{hop_of, neighbours_of};
 use crate::input::read_whole;
-use crate::totals::{places, tell_accounts, totals_file};
+use crate::totals::{ConnectorTotals, places, tell_accounts, totals_file};
 use st_commands::{Fault, TURNS};
 use st_hop::HopState;
 use st_oer::{CountRead, utf8};
 use st_settings::{ConnectorSettings, Table, TableError, read_table};
-use st_transfer::{AccountTotals, ConnectTerms, ConnectorEnded, connector_on};
+use st_transfer::{ConnectTerms, ConnectorEnded, connector_on};
 use std::alloc::Global;
 use std::fs::{File, Files};
 use std::io::Read;
@@ -37,8 +37,7 @@ fn table_in<'a>(alloc: Global, bytes: &'a [u8]) -> Result<Table<'a, Global>, Run
     }
 }
 
-/// Runs a connector over a hop that was made by the table, and sets the totals of each account where they are asked
-/// for.
+/// Runs a connector over a hop that was made by the table, and sets its totals.
 fn serve_by<
     N: Net<Listener = TcpListener, Stream = TcpStream> + Threads + Wait + std::time::Clock + Sync,
 >(
@@ -47,7 +46,7 @@ fn serve_by<
     settings: &ConnectorSettings<'_>,
     table: &Table<'_, Global>,
     hop: HopState<Global>,
-    accounts: &mut Vec<AccountTotals>,
+    totals: &mut ConnectorTotals,
 ) -> Result<(), RunError>
     requires new { IsNew hop }
     requires made { is_hop settings.now.own.now table.now.accounts.items table.now.routes.items ≡ true }
@@ -56,7 +55,7 @@ fn serve_by<
     let tokens = table.tokens(alloc)?;
     let neighbours = neighbours_of(alloc, &table.accounts)?;
     if settings.totals.is_some() {
-        *accounts = places(alloc, table.accounts.len())?;
+        totals.accounts = places(alloc, table.accounts.len())?;
     }
     let Ok(listener) = TcpListener::bind(rt, settings.listen) else {
         return Err(RunError::NoListener);
@@ -70,10 +69,13 @@ fn serve_by<
     };
     let ConnectorEnded {
         result,
-        accounts: told,
-        ..
+        accounts,
+        overloaded,
     } = connector_on(rt, alloc, listener, hop, terms);
-    *accounts = told;
+    *totals = ConnectorTotals {
+        accounts,
+        overloaded,
+    };
     match result {
         Ok(_) => Ok(()),
         Err(error) => Err(RunError::Transfer(error)),
@@ -88,12 +90,12 @@ fn serve<
     alloc: Global,
     settings: &ConnectorSettings<'_>,
     table: &Table<'_, Global>,
-    accounts: &mut Vec<AccountTotals>,
+    totals: &mut ConnectorTotals,
 ) -> Result<(), RunError>
     ensures { Serves settings.now.own.now table.now.accounts.items table.now.routes.items result }
 {
     match hop_of(alloc, settings.own, table) {
-        Ok(hop) => serve_by(rt, alloc, settings, table, hop, accounts),
+        Ok(hop) => serve_by(rt, alloc, settings, table, hop, totals),
         Err(error) => Err(error),
     }
 }
@@ -107,19 +109,19 @@ fn serve_input<
     alloc: Global,
     settings: &ConnectorSettings<'_>,
     reader: &mut CountRead<R>,
-    accounts: &mut Vec<AccountTotals>,
+    totals: &mut ConnectorTotals,
 ) -> Result<(), RunError>
     ensures { EndsBy settings.now.own.now (R.remaining (device_of reader.old)) (tally_of reader.old) (tally_of reader.new) result }
 {
     let bytes = read_whole(alloc, reader)?;
     match table_in(alloc, &bytes) {
-        Ok(table) => serve(rt, alloc, settings, &table, accounts),
+        Ok(table) => serve(rt, alloc, settings, &table, totals),
         Err(error) => Err(error),
     }
 }
 
-/// Reads the table, runs a connector by it, and writes the totals of each account where they are asked for. Where the
-/// file for the totals cannot be opened, nothing else is done.
+/// Reads the table, runs a connector by it, and writes its totals where they are asked for. Where the file for the
+/// totals cannot be opened, nothing else is done.
 pub(crate) fn connector<
     R: Read,
     N: Net<Listener = TcpListener, Stream = TcpStream>
@@ -138,9 +140,12 @@ pub(crate) fn connector<
 {
     match totals_file(rt, settings.totals) {
         Ok(file) => {
-            let mut accounts = Vec::new(alloc);
-            let ended = serve_input(rt, alloc, settings, reader, &mut accounts);
-            tell_accounts(alloc, file, &accounts, ended)
+            let mut totals = ConnectorTotals {
+                accounts: Vec::new(alloc),
+                overloaded: 0,
+            };
+            let ended = serve_input(rt, alloc, settings, reader, &mut totals);
+            tell_accounts(alloc, file, &totals, ended)
         }
         Err(error) => Err(error),
     }

@@ -16,6 +16,15 @@ use std::alloc::{AllocError, Global};
 use std::fs::{File, Files};
 use std::io::Write;
 
+/// The totals of a connector.
+#[derive(Drop)]
+pub(crate) struct ConnectorTotals {
+    /// Those of each account, by the account's number. Empty where nothing is known of them.
+    pub(crate) accounts: Vec<AccountTotals>,
+    /// How many Prepares were answered with T00 because too many threads were busy.
+    pub(crate) overloaded: u64,
+}
+
 /// Creates or empties the file of this name, where one was asked for. Fails with `BadOption` where it cannot be opened.
 pub(crate) fn totals_file<N: Files<File = File>>(
     rt: &N,
@@ -98,6 +107,29 @@ fn accounts_text(alloc: Global, accounts: &[AccountTotals]) -> Result<String, Al
     Ok(text)
 }
 
+/// The line that reports how many Prepares were answered with T00 because too many threads were busy. Empty where there
+/// were none.
+#[tactic(auto, using(crate::proofs::Pieces::pieces))]
+fn overloaded_text(alloc: Global, overloaded: u64) -> Result<String, AllocError>
+    ensures { IfOk result (λ text. string_bytes text ≡ spec.overloaded_text overloaded) }
+{
+    if overloaded == 0 {
+        return Ok(String::new(alloc));
+    }
+    let text = format!(in alloc; "overloaded {overloaded}\n")?;
+    Ok(text)
+}
+
+/// The lines that report the totals of a connector.
+fn connector_text(alloc: Global, totals: &ConnectorTotals) -> Result<String, AllocError>
+    ensures { IfOk result (λ text. string_bytes text ≡ spec.connector_text totals.now.accounts.items totals.now.overloaded) }
+{
+    let mut text = accounts_text(alloc, &totals.accounts)?;
+    let last = overloaded_text(alloc, totals.overloaded)?;
+    text.push_str(last.as_str())?;
+    Ok(text)
+}
+
 /// Writes the totals of an end.
 fn put_totals<W: Write>(
     alloc: Global,
@@ -111,15 +143,15 @@ fn put_totals<W: Write>(
     put(file, text.as_bytes(), &mut turns)
 }
 
-/// Writes the totals of accounts.
+/// Writes the totals of a connector.
 fn put_accounts<W: Write>(
     alloc: Global,
     file: &mut CountWrite<W>,
-    accounts: &[AccountTotals],
+    totals: &ConnectorTotals,
 ) -> Result<(), Fault>
-    ensures { OnOk result (Appends (W.contents (device_of file.old)) (W.contents (device_of file.new)) (spec.accounts_text 0 accounts.now)) }
+    ensures { OnOk result (Appends (W.contents (device_of file.old)) (W.contents (device_of file.new)) (spec.connector_text totals.now.accounts.items totals.now.overloaded)) }
 {
-    let text = accounts_text(alloc, accounts)?;
+    let text = connector_text(alloc, totals)?;
     let mut turns = TURNS;
     put(file, text.as_bytes(), &mut turns)
 }
@@ -150,19 +182,18 @@ pub(crate) fn tell_totals<W: Write + Drop>(
     }
 }
 
-/// Writes the totals of accounts where a file was asked for, however the command ended. Returns the result of the
-/// command.
+/// Writes the totals of a connector where a file was asked for, however it ended. Returns the result of the command.
 pub(crate) fn tell_accounts<W: Write + Drop>(
     alloc: Global,
     file: Option<CountWrite<W>>,
-    accounts: &[AccountTotals],
+    totals: &ConnectorTotals,
     ended: Result<(), RunError>,
 ) -> Result<(), RunError>
     ensures none { IsNone file → result ≡ ended }
     ensures told { (told : Result (Unit {0}) Fault) × (result ≡ spec.ended_with ended told) }
 {
     match file {
-        Some(mut file) => ended_with(ended, put_accounts(alloc, &mut file, accounts)),
+        Some(mut file) => ended_with(ended, put_accounts(alloc, &mut file, totals)),
         None => ended,
     }
 }
