@@ -232,13 +232,13 @@ fn long_lines_are_refused(rt: HostRuntime) {
 
 /// The bytes 0 to n - 1 at 0 of streams 1 and 2, in a line that ends with a carriage return and a newline and in one that the
 /// end of the input ends, and a line of other characters between them; and what is written for them.
-fn straddling(rt: &impl Abort, alloc: Global, n: usize) -> (String, String) {
+fn straddling(rt: &impl Abort, alloc: Global, n: u8) -> (String, String) {
     let mut run = String::new(alloc);
     for byte in 0..n {
         let digits = format!(in alloc; "{byte:02x}").expect(rt, "memory");
         sure!(rt; run.push_str(&digits).is_ok());
     }
-    let frame = n + 5;
+    let frame = u16::from(n) + 5;
     let input = format!(in alloc; "{FRONT}14{frame:02x}01010100{n:02x}{run}\r\n0g0\r\n\n{FRONT}14{frame:02x}01020100{n:02x}{run}")
         .expect(rt, "memory");
     let shown = if n == 0 { "-" } else { run.as_str() };
