@@ -239,11 +239,13 @@ fn straddling(rt: &impl Abort, alloc: Global, n: u8) -> (String, String) {
         sure!(rt; run.push_str(&digits).is_ok());
     }
     let frame = u16::from(n) + 5;
-    let input = format!(in alloc; "{FRONT}14{frame:02x}01010100{n:02x}{run}\r\n0g0\r\n\n{FRONT}14{frame:02x}01020100{n:02x}{run}")
-        .expect(rt, "memory");
+    let input = format!(in alloc;
+        "{FRONT}14{frame:02x}01010100{n:02x}{run}\r\n0g0\r\n\n{FRONT}14{frame:02x}01020100{n:02x}{run}"
+    ).expect(rt, "memory");
     let shown = if n == 0 { "-" } else { run.as_str() };
-    let text = format!(in alloc; "line 2 refused 95\nstream 1 {n} {shown}\nstream 2 {n} {shown}\n")
-        .expect(rt, "memory");
+    let text = format!(in alloc;
+        "line 2 refused 95\nstream 1 {n} {shown}\nstream 2 {n} {shown}\n"
+    ).expect(rt, "memory");
     (input, text)
 }
 
@@ -269,7 +271,9 @@ fn zeros_by_length(rt: &impl Abort, alloc: Global) -> (String, String) {
         sure!(rt; input.push_str(&line).is_ok());
         if count > 0 {
             let number = if count % 2 == 1 { 95 } else { 20 };
-            let told = format!(in alloc; "line {} refused {number}\n", count + 1).expect(rt, "memory");
+            let told = format!(in alloc; "line {} refused {number}\n", count + 1).expect(
+                rt, "memory",
+            );
             sure!(rt; text.push_str(&told).is_ok());
         }
     }

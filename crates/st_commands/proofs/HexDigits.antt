@@ -1,7 +1,7 @@
 -- Digits by the table of their values.
-use Rattle.std.proofs.Common.{◌≡◌, ◌<◌, ℕ, ◌+◌, ◌*◌, ◌⊎◌, inl, inr, true, List, get_or, Option, Some, None, Result, Ok, Err, refl, ap, sym, ◌∙◌, arith, is_some, unwrap_or}
+use Rattle.std.proofs.Common.{◌≡◌, ◌<◌, ℕ, ◌+◌, ◌*◌, ◌⊎◌, inl, inr, true, List, get_or, Option, Some, None, Result, Ok, Err, refl, arith, is_some, unwrap_or}
 use Rattle.std.proofs.lemmas.List.FromFn.{get_or-map-range_with_len}
-use Rattle.hex.specs.Hex.{digit_or_error, hex_digit_value, is_hex_digit, pair_value, value_at, ◌>>=◌}
+use Rattle.hex.specs.Hex.{digit_or_error, hex_digit_value, is_hex_digit, pair_value, value_at}
 use Rattle.hex.specs.declared.error.FromHexError.{FromHexError}
 use Rattle.hex.specs.declared.error.FromHexError.TheVariants.{InvalidHexCharacter}
 use Rattle.st_commands.specs.Digits.{digit_code, digit_codes}
