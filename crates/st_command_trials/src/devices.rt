@@ -193,7 +193,17 @@ fn sound_sink(alloc: Global) -> Faulty<Sink> {
 
 /// The command over this input, with no fault of a device.
 pub(crate) fn answer_to<A: Allocator + Copy>(memory: A, alloc: Global, input: &str) -> Told {
-    let reader = Faulty::sound(input.as_bytes());
+    answer_by(memory, alloc, input, 4096)
+}
+
+/// The same, where a read gives at most `piece` bytes.
+pub(crate) fn answer_by<A: Allocator + Copy>(
+    memory: A,
+    alloc: Global,
+    input: &str,
+    piece: usize,
+) -> Told {
+    let reader = Faulty::new(input.as_bytes(), piece, 0, ErrorKind::Other);
     run_over(memory, reader, sound_sink(alloc), sound_sink(alloc))
 }
 

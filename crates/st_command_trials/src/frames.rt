@@ -1,6 +1,6 @@
 //! What the command `frames` answers. The expected texts follow from the README's table and from RFC 0029, section 5.
 
-use crate::devices::answer_to;
+use crate::devices::answer_by;
 use std::alloc::{AllocError, Global};
 use std::process::Abort;
 
@@ -51,10 +51,17 @@ const ANSWERED: [(&str, &str); 20] = [
     ("010c0101010001011406014101000161\n", "line 1 refused 63\n"),
 ];
 
-/// Whether this is written for an input, and no fault told: the status is 1 where it tells of a refused line.
-fn is_answered(alloc: Global, input: &str, text: &str) -> bool {
+/// Whether this is written for an input, and no fault told, where a read gives at most `piece` bytes: the status is 1 where it
+/// tells of a refused line.
+fn is_answered_by(alloc: Global, input: &str, text: &str, piece: usize) -> bool {
     let status = u8::from(text.contains("refused"));
-    answer_to(alloc, alloc, input).is(text, "", status)
+    answer_by(alloc, alloc, input, piece).is(text, "", status)
+}
+
+/// The same in reads of 4,096 bytes, over several of which a long line lies, and in reads as long as the command asks for,
+/// of which one has the longest line.
+fn is_answered(alloc: Global, input: &str, text: &str) -> bool {
+    is_answered_by(alloc, input, text, 4096) && is_answered_by(alloc, input, text, 1_000_000)
 }
 
 #[test]
@@ -220,5 +227,78 @@ fn long_lines_are_refused(rt: HostRuntime) {
     for (count, end, text) in rows {
         let input = zeros(&rt, rt.alloc(), count, end);
         sure!(&rt; is_answered(rt.alloc(), &input, text), count as u64);
+    }
+}
+
+/// The bytes 0 to n - 1 at 0 of streams 1 and 2, in a line that ends with a carriage return and a newline and in one that the
+/// end of the input ends, and a line of other characters between them; and what is written for them.
+fn straddling(rt: &impl Abort, alloc: Global, n: u8) -> (String, String) {
+    let mut run = String::new(alloc);
+    for byte in 0..n {
+        let digits = format!(in alloc; "{byte:02x}").expect(rt, "memory");
+        sure!(rt; run.push_str(&digits).is_ok());
+    }
+    let frame = u16::from(n) + 5;
+    let input = format!(in alloc;
+        "{FRONT}14{frame:02x}01010100{n:02x}{run}\r\n0g0\r\n\n{FRONT}14{frame:02x}01020100{n:02x}{run}"
+    ).expect(rt, "memory");
+    let shown = if n == 0 { "-" } else { run.as_str() };
+    let text = format!(in alloc;
+        "line 2 refused 95\nstream 1 {n} {shown}\nstream 2 {n} {shown}\n"
+    ).expect(rt, "memory");
+    (input, text)
+}
+
+/// Packets come in reads of every size, so that a read ends at each place of their lines.
+#[test]
+fn packets_straddle_reads(rt: HostRuntime) {
+    let alloc = rt.alloc();
+    for n in [2, 20] {
+        let (input, text) = straddling(&rt, alloc, n);
+        for piece in 1..=input.len() {
+            sure!(&rt; is_answered_by(alloc, &input, &text, piece), piece as u64);
+        }
+    }
+}
+
+/// Lines of 0 to 40 zeros, and what is written for them: of an odd number no byte can be read, and a packet that begins with 00
+/// is of another version.
+fn zeros_by_length(rt: &impl Abort, alloc: Global) -> (String, String) {
+    let mut input = String::new(alloc);
+    let mut text = String::new(alloc);
+    for count in 0..=40usize {
+        let line = zeros(rt, alloc, count, "\n");
+        sure!(rt; input.push_str(&line).is_ok());
+        if count > 0 {
+            let number = if count % 2 == 1 { 95 } else { 20 };
+            let told = format!(in alloc; "line {} refused {number}\n", count + 1).expect(
+                rt, "memory",
+            );
+            sure!(rt; text.push_str(&told).is_ok());
+        }
+    }
+    (input, text)
+}
+
+/// Lines of every length come in reads of every size.
+#[test]
+fn lines_of_every_length_straddle_reads(rt: HostRuntime) {
+    let alloc = rt.alloc();
+    let (input, text) = zeros_by_length(&rt, alloc);
+    for piece in 1..=90 {
+        sure!(&rt; is_answered_by(alloc, &input, &text, piece), piece as u64);
+    }
+}
+
+/// Two lines of the longest packet, of which the second lies across the end of the first read, whatever its size is. Each
+/// row: the size.
+#[test]
+fn a_long_line_straddles_two_reads(rt: HostRuntime) {
+    let alloc = rt.alloc();
+    let run = "61".repeat(alloc, 32_720).expect(&rt, "memory");
+    let (line, text) = longest(&rt, alloc, &run);
+    let input = line.repeat(alloc, 2).expect(&rt, "memory");
+    for piece in [32_739, 65_478, 65_479, 65_480, 65_481, 65_535, 65_536] {
+        sure!(&rt; is_answered_by(alloc, &input, &text, piece), piece as u64);
     }
 }

@@ -3,5 +3,7 @@ pub mod Overs
 pub mod OnePiece
 pub mod PiecesTold
 pub mod LinesSoFar
+pub mod HexDigits
+pub mod Newlines
 pub mod Progressing
 pub mod Spending

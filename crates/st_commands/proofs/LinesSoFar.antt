@@ -1,14 +1,14 @@
 -- What the line so far stands for.
-use Rattle.std.proofs.Common.{◌≡◌, ◌≢◌, ◌↔◌, ◌<◌, ◌≤◌, ℕ, zero, suc, nat_eq, ◌+◌, ◌-◌, ◌*◌, ◌%◌, ◌==◌, nat_lt, true, false, if◌then◌else◌, List, [], ◌∷◌, ◌++◌, length, take, slice_index, Result, Ok, Err, refl, sym, ap, subst, ◌∙◌, inl, inr, arith}
+use Rattle.std.proofs.Common.{◌≡◌, ◌≢◌, ◌↔◌, ◌<◌, ◌≤◌, ℕ, zero, suc, nat_eq, ◌+◌, ◌-◌, ◌*◌, ◌%◌, ◌==◌, nat_lt, true, false, if◌then◌else◌, List, [], ◌∷◌, ◌++◌, length, take, drop, slice_index, Result, Ok, Err, refl, sym, ap, subst, ◌∙◌, inl, inr, arith, append-nil}
 use Rattle.std.specs.List.{All, AllPass}
 use Rattle.std.specs.Bool.{IsTrue}
 use Rattle.std.specs.Char.{is_ascii_hexdigit}
 use Rattle.std.specs.Str.Lines.{strip_carriage_return}
 use Rattle.std.proofs.lemmas.Bool.{cases_lt, cases_eq}
 use Rattle.std.proofs.lemmas.Bool.Decides.{nat_tests}
-use Rattle.std.proofs.lemmas.List.{take_all, take-append-le, length-append, length-take, get_or_append_left, get_or-take}
-use Rattle.std.proofs.lemmas.List.Elements.{All-push}
-use Rattle.std.proofs.Math.Seq.{get_or-append_seam}
+use Rattle.std.proofs.lemmas.List.{take_all, take-append-le, length-append, length-drop, length-take, get_or_append_left, get_or-take}
+use Rattle.std.proofs.lemmas.List.Elements.{All-append, All-push}
+use Rattle.std.proofs.Math.Seq.{get_or-append_seam, take-append-add}
 use Rattle.std.proofs.lemmas.Grind.{common_steps}
 use Rattle.hex.specs.Hex.{decode_of, is_hex_digit}
 use Rattle.hex.specs.declared.error.FromHexError.{FromHexError}
@@ -21,7 +21,8 @@ use Rattle.st_commands.specs.declared.line.Shape.TheVariants as shape
 use Rattle.st_commands.specs.declared.line.LineEnd.{LineEnd}
 use Rattle.st_commands.specs.declared.line.LineEnd.TheVariants.{Newline, InputEnd}
 use Rattle.st_commands.specs.Answers.{packet_of_line, packet_of_bytes}
-use Rattle.st_commands.specs.LineSoFar.{LineState, AreDigits, HasOther, IsSpoiled, HasShape, StandsFor, most_digits, no_line, text_of_line, with_digit}
+use Rattle.st_commands.specs.Digits.{DoesNotDecode}
+use Rattle.st_commands.specs.LineSoFar.{LineState, AreDigits, HasOther, IsSpoiled, HasShape, StandsFor, most_digits, no_line, text_of_line, with_digit, with_digits}
 
 same_digit : (b : ℕ) → is_ascii_hexdigit b ≡ is_hex_digit b
 same_digit b = grind (arith, common_steps)
@@ -63,6 +64,51 @@ stands_with_digit s line b e hex ne h =
     let more = digits_more s line b hex (in_shape s line shape.Digits e h) in
     let is : HasShape s.shape (with_digit b s) (line ++ b ∷ []) = subst (λ (y : Shape). HasShape y (with_digit b s) (line ++ b ∷ [])) (sym e) more in
     record { one_line = one_more line b ne h.one_line; shape = is }
+
+take-zero : (xs : List ℕ) → take 0 xs ≡ []
+take-zero [] = refl
+take-zero (x ∷ xs) = refl
+
+-- all that is left
+pub rest_is : (n : ℕ) (xs : List ℕ) → take (length xs - n) (drop n xs) ≡ drop n xs
+rest_is n xs = take_all (length xs - n) (drop n xs) (omega (arith, length-drop n xs))
+
+-- the first m of a text, and more bytes
+kept_many : (m : ℕ) (ds text bs : List ℕ) → ds ≡ take m text → ds ++ take (m - length ds) bs ≡ take m (text ++ bs)
+kept_many m ds text bs e = elim (cases_lt (length text) m) [
+  | inl below ↦
+      let whole : ds ≡ text = e ∙ take_all m text (omega arith) in
+      let room : m ≡ length text + (m - length text) = omega (arith, below) in
+      let first : take m (text ++ bs) ≡ text ++ take (m - length text) bs = ap (λ (k : ℕ). take k (text ++ bs)) room ∙ take-append-add text bs (m - length text) in
+      rw whole (sym first)
+  | inr above ↦
+      let full : length ds ≡ m = ap length e ∙ (length-take m text ∙ omega arith) in
+      let room : m - length ds ≡ 0 = omega (arith, full) in
+      let none : take (m - length ds) bs ≡ [] = ap (λ (k : ℕ). take k bs) room ∙ take-zero bs in
+      ap (λ (l : List ℕ). ds ++ l) none ∙ (append-nil ds ∙ (e ∙ sym (take-append-le m text bs above)))
+]
+
+digits_many : (s : LineState) (text bs : List ℕ) → AllPass is_hex_digit bs → AreDigits s text → AreDigits (with_digits bs s) (text ++ bs)
+digits_many s text bs hex h = record {
+  hex = All-append (λ x. is_hex_digit x ≡ true) text bs h.hex hex;
+  count = rw (length-append, h.count) refl;
+  kept = kept_many most_digits s.digits text bs h.kept;
+}
+
+pub stands_with_digits : (s : LineState) (line bs : List ℕ) → s.shape ≡ shape.Digits → AllPass is_hex_digit bs → All (λ x. (x == 10) ≡ false) bs → StandsFor s line
+    → StandsFor (with_digits bs s) (line ++ bs)
+stands_with_digits s line bs e hex ne h =
+    let more = digits_many s line bs hex (in_shape s line shape.Digits e h) in
+    let is : HasShape s.shape (with_digits bs s) (line ++ bs) = subst (λ (y : Shape). HasShape y (with_digits bs s) (line ++ bs)) (sym e) more in
+    record { one_line = All-append (λ x. (x == 10) ≡ false) line bs h.one_line ne; shape = is }
+
+-- a line of no digits and nothing else
+pub no_bytes_yet : (s : LineState) (line : List ℕ) → s.shape ≡ shape.Digits → s.count ≡ 0 → StandsFor s line → line ≡ []
+no_bytes_yet s line e none h = none_of line (sym (in_shape s line shape.Digits e h).count ∙ none)
+  where
+    none_of : (l : List ℕ) → length l ≡ 0 → l ≡ []
+    none_of [] e = refl
+    none_of (b ∷ l) e = absurd (omega arith)
 
 spoiled_more : (line : List ℕ) (b : ℕ) → IsSpoiled line → IsSpoiled (line ++ b ∷ [])
 spoiled_more line b h =
@@ -189,6 +235,10 @@ no_packet text h = by_answer (decode_of text) refl
         let wrong : false ≡ true = rw h.no_digit at digit in
         absurd (cc)
     by_answer (Err error) e = refl
+
+pub undecoded_is_no_packet : (text : List ℕ) → DoesNotDecode (decode_of text) → packet_of_line text ≡ Err NotHex
+unfolding packet_of_line
+undecoded_is_no_packet text h = rw h.1 refl
 
 pub odd_is_no_packet : (s : LineState) (text : List ℕ) → s.count % 2 ≡ 1 → AreDigits s text → packet_of_line text ≡ Err NotHex
 unfolding packet_of_line

@@ -3,7 +3,7 @@ use Rattle.std.proofs.Common.{◌≡◌, ◌<◌, ℕ, zero, suc, List, [], ◌�
 use Rattle.std.specs.Prelude.{true, Result, Ok, Err, IfErr, OnOk, ◌-◌}
 use Rattle.std.specs.Option.{unwrap_or}
 use Rattle.std.specs.Result.{IsErr, IsErrAnd}
-use Rattle.std.proofs.lemmas.List.{get_or_read, set-set}
+use Rattle.std.proofs.lemmas.List.{get_or_read}
 use Rattle.st_reassembly.specs.Held.{Held, nothing_held}
 use Rattle.st_reassembly.specs.Inserting.{inserted}
 use Rattle.st_reassembly.specs.declared.error.InboxError.{InboxError}

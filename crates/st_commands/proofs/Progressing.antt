@@ -6,12 +6,12 @@ use Rattle.std.specs.Str.Lines.{lines, lines_of_parts, strip_carriage_return}
 use Rattle.std.specs.Io.KnownBytes.{Appends, Consumes, IsAtEnd, Keeps}
 use Rattle.std.proofs.KnownBytes.{Appends-trans, Appends-nil}
 use Rattle.std.proofs.lemmas.List.Splits.{slice_split_at, slice_split_none, length-slice_split}
-use Rattle.std.proofs.lemmas.List.{take-append-drop, take_all, take_more, drop_all, drop-set-lt}
+use Rattle.std.proofs.lemmas.List.{take-append-drop, take_all, drop_all, drop-set-lt}
 use Rattle.std.proofs.Math.Seq.{drop-cons}
 use Rattle.std.proofs.lemmas.Grind.{common_steps}
 use Rattle.hex.specs.Hex.{decode_of}
 use Rattle.st_frames.specs.Reading.{packet_at}
-use Rattle.std.proofs.Math.Seq.{take-append_seam}
+use Rattle.std.proofs.Math.Seq.{take-add, take-append_seam}
 use Rattle.st_commands.specs.declared.error.LineError.{LineError}
 use Rattle.st_commands.specs.declared.line.LineEnd.{LineEnd}
 use Rattle.st_commands.specs.Answers.{Answered, ended, skipped, taken, refused, no_memory, IsAnswer, after_line, packet_of_line, by_packet, prepare}
@@ -78,14 +78,14 @@ answers_line s t l (Some e) effect next noted = elim effect.2 [
   | inr wanting ↦ subst (λ (x : LineError). AnswersLine s l (line_text s.index x) t) (sym wanting.1) (answers_no_memory s t l effect.0 effect.1 wanting.0 next noted)
 ]
 
--- a byte within a line
-pub answers_byte : (s t : State) (b : ℕ) → t.index ≡ s.index → t.inboxes ≡ s.inboxes → t.refused ≡ s.refused → ((line : List ℕ) → StandsFor s.line line → StandsFor t.line (line ++ b ∷ []))
-    → AnswersPiece s (b ∷ []) [] t
-answers_byte s t b index inboxes flag stays = λ line stands. (
-  line ++ b ∷ [],
+-- bytes within a line
+pub answers_part : (s t : State) (bytes : List ℕ) → t.index ≡ s.index → t.inboxes ≡ s.inboxes → t.refused ≡ s.refused
+    → ((line : List ℕ) → StandsFor s.line line → StandsFor t.line (line ++ bytes)) → AnswersPiece s bytes [] t
+answers_part s t bytes index inboxes flag stays = λ line stands. (
+  line ++ bytes,
   stays line stands,
   λ left text any f.
-      let same : (line ++ b ∷ []) ++ left ≡ line ++ b ∷ left = append_assoc line (b ∷ []) left in
+      let same : (line ++ bytes) ++ left ≡ line ++ (bytes ++ left) = append_assoc line bytes left in
       let answered = rw (index, inboxes, same) at f.1 in
       let flags = rw flag at f.2 in
       (f.0, answered, flags),
@@ -100,6 +100,19 @@ answers_newline s t said fresh answers = λ line stands. (
       let a = answers line stands (lines left) text f.0 f.1 in
       let first : lines (line ++ 10 ∷ left) ≡ strip_carriage_return line ∷ lines left = lines-newline line left stands.one_line in
       (a.0, rw first a.1, a.2 ∙ f.2),
+)
+
+-- a line of which nothing came before, and its newline
+pub answers_whole : (s t : State) (bytes said : List ℕ) → t.line ≡ no_line → ((line : List ℕ) → StandsFor s.line line → line ≡ []) → All (λ b. (b == 10) ≡ false) bytes
+    → AnswersLine s (strip_carriage_return bytes) said t → AnswersPiece s (bytes ++ 10 ∷ []) said t
+answers_whole s t bytes said fresh none one answers = λ line stands. (
+  [],
+  stands_empty t.line fresh,
+  λ left text any f.
+      let a = answers (lines left) text f.0 f.1 in
+      let all : line ++ ((bytes ++ 10 ∷ []) ++ left) ≡ bytes ++ 10 ∷ left = ap (λ (l : List ℕ). l ++ ((bytes ++ 10 ∷ []) ++ left)) (none line stands) ∙ append_assoc bytes (10 ∷ []) left in
+      let first : lines (bytes ++ 10 ∷ left) ≡ strip_carriage_return bytes ∷ lines left = lines-newline bytes left one in
+      (a.0, rw (all, first) a.1, a.2 ∙ f.2),
 )
 
 -- a piece after a piece
@@ -292,21 +305,33 @@ pub some_text : (l : List ℕ) → (length l ≡ 0 → ⊥) → 0 < length l
 some_text [] h = absurd (h refl)
 some_text (b ∷ l) h = omega arith
 
--- a line was answered in steps: a after its packet, n after it was told, t with the next line
+-- a text was answered in steps: a after its packet, n after it was told, t with the next line
+text_answered : (s a n t : State) (text : List ℕ) (refusal : Option LineError) → a.index ≡ s.index → a.refused ≡ s.refused → n ≡ record a { refused = a.refused || is_some refusal }
+    → t ≡ record n { line = no_line; index = n.index + 1 } → HasEffect s.inboxes text refusal a.inboxes → AnswersLine s text (told s.index refusal) t
+text_answered s a n t text refusal index flag noted next effect =
+    let inboxes : t.inboxes ≡ a.inboxes = ap (λ (x : State). x.inboxes) next ∙ ap (λ (x : State). x.inboxes) noted in
+    let refused : t.refused ≡ (s.refused || is_some refusal) =
+    ap (λ (x : State). x.refused) next ∙ (ap (λ (x : State). x.refused) noted ∙ ap (λ (x : Bool). x || is_some refusal) flag) in
+    let later : t.index ≡ s.index + 1 = ap (λ (x : State). x.index) next ∙ (ap (λ (x : State). x.index + 1) noted ∙ ap (λ (i : ℕ). i + 1) index) in
+    answers_line s t text refusal (subst (λ (x : Inboxes). HasEffect s.inboxes text refusal x) (sym inboxes) effect) later refused
+
+-- the same, with what was written for it
+pub text_ended : (s a n t : State) (text before after : List ℕ) (refusal : Option LineError) → a.index ≡ s.index → a.refused ≡ s.refused
+    → n ≡ record a { refused = a.refused || is_some refusal } → t ≡ record n { line = no_line; index = n.index + 1 } → after ≡ before ++ told a.index refusal
+    → HasEffect s.inboxes text refusal a.inboxes → (said : List ℕ) × (after ≡ before ++ said) × AnswersLine s text said t
+text_ended s a n t text before after refusal index flag noted next put effect =
+    (told s.index refusal, put ∙ ap (λ (i : ℕ). before ++ told i refusal) index, text_answered s a n t text refusal index flag noted next effect)
+
+-- the same of each line that the state may stand for
 pub line_ended : (s a n t : State) (end : LineEnd) (before after : List ℕ) (refusal : Option LineError) → a.index ≡ s.index → a.refused ≡ s.refused
     → n ≡ record a { refused = a.refused || is_some refusal } → t ≡ record n { line = no_line; index = n.index + 1 } → after ≡ before ++ told a.index refusal
     → ((line : List ℕ) → StandsFor s.line line → HasEffect s.inboxes (text_of_line end line) refusal a.inboxes)
     → (said : List ℕ) × (after ≡ before ++ said) × ((line : List ℕ) → StandsFor s.line line → AnswersLine s (text_of_line end line) said t)
-line_ended s a n t end before after refusal index flag noted next put effect =
-    let inboxes : t.inboxes ≡ a.inboxes = ap (λ (x : State). x.inboxes) next ∙ ap (λ (x : State). x.inboxes) noted in
-    let refused : t.refused ≡ (s.refused || is_some refusal) =
-    ap (λ (x : State). x.refused) next ∙ (ap (λ (x : State). x.refused) noted ∙ ap (λ (x : Bool). x || is_some refusal) flag) in
-    let later : t.index ≡ s.index + 1 = ap (λ (x : State). x.index) next ∙ (ap (λ (x : State). x.index + 1) noted ∙ ap (λ (i : ℕ). i + 1) index) in (
-      told s.index refusal,
-      put ∙ ap (λ (i : ℕ). before ++ told i refusal) index,
-      λ line stands.
-          answers_line s t (text_of_line end line) refusal (subst (λ (x : Inboxes). HasEffect s.inboxes (text_of_line end line) refusal x) (sym inboxes) (effect line stands)) later refused,
-    )
+line_ended s a n t end before after refusal index flag noted next put effect = (
+  told s.index refusal,
+  put ∙ ap (λ (i : ℕ). before ++ told i refusal) index,
+  λ line stands. text_answered s a n t (text_of_line end line) refusal index flag noted next (effect line stands),
+)
 
 -- a piece was taken so far
 abbrev pub TakesTo : State → List ℕ → List ℕ → List ℕ → State → Type 0
@@ -323,13 +348,13 @@ begins_taken s t piece i before now after h same = (
       subst (λ (x : List ℕ). MayBegin s x h.0) whole (begins_piece s t (take i piece) h.0 (drop i piece ++ left) h.2),
 )
 
-pub takes_more : (s t r : State) (piece : List ℕ) (i : ℕ) (out next last : List ℕ) → i < length piece → TakesTo s (take i piece) out next t → TakesTo t (get_or piece i 0 ∷ []) next last r
-    → TakesTo s (take (i + 1) piece) out last r
-takes_more s t r piece i out next last lt first second =
-    let one : take (i + 1) piece ≡ take i piece ++ get_or piece i 0 ∷ [] = take_more piece i 0 lt in (
+pub takes_part : (s t r : State) (piece : List ℕ) (i n : ℕ) (out next last : List ℕ) → TakesTo s (take i piece) out next t → TakesTo t (take n (drop i piece)) next last r
+    → TakesTo s (take (i + n) piece) out last r
+takes_part s t r piece i n out next last first second =
+    let one : take (i + n) piece ≡ take i piece ++ take n (drop i piece) = take-add i n piece in (
       first.0 ++ second.0,
       second.1 ∙ (ap (λ (l : List ℕ). l ++ second.0) first.1 ∙ append_assoc out first.0 second.0),
-      rw one (answers_more s t r (take i piece) (get_or piece i 0 ∷ []) first.0 second.0 first.2 second.2),
+      rw one (answers_more s t r (take i piece) (take n (drop i piece)) first.0 second.0 first.2 second.2),
     )
 
 -- so much was written of the runs, of which those from place i on are left

@@ -3,6 +3,7 @@ pub mod Texts
 pub mod Inboxes
 pub mod Drafts
 pub mod Answers
+pub mod Digits
 pub mod LineSoFar
 pub mod Progress
 pub mod Endings

@@ -1,5 +1,5 @@
 -- What is kept of the line that is being read, and which lines it stands for.
-use Rattle.std.specs.Prelude.{◌≡◌, ◌≢◌, ℕ, ◌+◌, ◌*◌, ◌<◌, ◌⊎◌, false, ◌==◌, nat_lt, if◌then◌else◌, List, [], ◌∷◌, ◌++◌, length, take, slice_index, Result, Ok, Err}
+use Rattle.std.specs.Prelude.{◌≡◌, ◌≢◌, ℕ, ◌+◌, ◌-◌, ◌*◌, ◌<◌, ◌⊎◌, false, ◌==◌, nat_lt, if◌then◌else◌, List, [], ◌∷◌, ◌++◌, length, take, slice_index, Result, Ok, Err}
 use Rattle.std.specs.List.{All, AllPass}
 use Rattle.std.specs.Str.Lines.{strip_carriage_return}
 use Rattle.hex.specs.Hex.{decode_of, is_hex_digit}
@@ -28,6 +28,10 @@ most_digits = 2 * max_packet
 -- one digit more
 abbrev pub with_digit : ℕ → LineState → LineState
 with_digit b s = record s { digits = (if nat_lt (length s.digits) most_digits then s.digits ++ b ∷ [] else s.digits); count = s.count + 1 }
+
+-- several digits more
+abbrev pub with_digits : List ℕ → LineState → LineState
+with_digits bs s = record s { digits = s.digits ++ take (most_digits - length s.digits) bs; count = s.count + length bs }
 
 -- the text is of digits alone, which were counted, and the first of which were kept
 pub record AreDigits (s : LineState) (text : List ℕ) : Type 0 where

@@ -1,7 +1,9 @@
 //! The command `frames`: it reads lines of hexadecimal digits, and writes refusals and the longest run of each stream.
 
-ghost use Rattle.std.specs.Prelude.{◌≡◌, ◌≢◌, ◌⊎◌, ◌||◌, true, false, is_some, take, ◌+◌, ◌^◌, ◌<◌, ◌≤◌, ◌++◌, ◌∷◌, [], ℕ, List, Option, OnOk, OnErr, IfOk, IfErr, IfSome, length, slice_index_or, slice_set, None};
+ghost use Rattle.std.specs.Prelude.{◌≡◌, ◌≢◌, ◌⊎◌, ◌||◌, true, false, is_some, take, ◌+◌, ◌^◌, ◌<◌, ◌≤◌, ◌++◌, ◌∷◌, ◌==◌, [], ℕ, List, Option, OnOk, OnErr, IfOk, IfErr, IfSome, length, slice_index_or, slice_set, None};
 ghost use Rattle.std.specs.Io.KnownBytes.{Appends};
+ghost use Rattle.std.specs.List.{All};
+ghost use Rattle.std.specs.Str.Lines.{strip_carriage_return};
 ghost use Rattle.st_oer.specs.Faults.{count_after};
 ghost use Rattle.st_oer.specs.Tallies.{TakesTurns, device_of, tally_of};
 ghost use Rattle.st_frames.specs.Reading.{packet_at};
@@ -11,11 +13,13 @@ ghost use Rattle.st_commands.specs.Inboxes.{run_line, runs_text};
 ghost use Rattle.st_commands.specs.LineSoFar.{StandsFor, no_line, text_of_line};
 ghost use Rattle.st_commands.specs.Progress.{at_start, told, HasPacketEffect, HasEffect, AnswersLine, AnswersPiece, MayBegin, MayFollow, Covers, CoversLines, AfterTurn};
 
+use crate::digits::{decode, without_return};
 use crate::error::{Fault, LineError};
 use crate::line::{LineEnd, LineSoFar};
 use crate::output::put;
 use crate::streams::Streams;
 use crate::texts::{fault_line, refused_line, stream_line};
+use memchr::memchr;
 use st_oer::{CountRead, CountWrite, ReadTurn, read_turn};
 use std::alloc::{AllocError, Allocator};
 use std::io::{Read, Write};
@@ -25,7 +29,7 @@ use std::marker::Model;
 pub const TURNS: u64 = 2_147_483_647;
 
 /// The number of bytes that one read asks for.
-const PIECE: usize = 4096;
+const PIECE: usize = 65_536;
 
 /// Whether a line was refused, once all lines were read.
 #[derive(Clone, Copy, Debug, PartialEq, Eq)]
@@ -136,19 +140,81 @@ impl<A: Allocator + Copy> Reader<A> {
         self.index += 1;
     }
 
-    /// Takes the next byte.
-    fn push(&mut self, out: &mut Vec<u8, A>, byte: u8) -> Result<(), AllocError>
-        requires { self.old.index + self.old.line.count + 1 < 2 ^ 64 }
-        ensures answered { OnOk result ((said : List ℕ) × (out.new.items ≡ out.old.items ++ said) × AnswersPiece self.old (byte ∷ []) said self.new) }
-        ensures unchanged { OnErr result (out.new.items ≡ out.old.items) }
-        ensures bounded { OnOk result (self.new.index + self.new.line.count ≤ self.old.index + self.old.line.count + 1) }
+    /// Takes the text of a line that no byte was read of before, or says why it is refused.
+    fn answer_text(&mut self, text: &[u8]) -> Result<Option<LineError>, AllocError>
+        ensures effect { IfOk result (λ refusal. HasEffect self.old.inboxes text.now refusal self.new.inboxes) }
+        ensures rest { (self.new.index ≡ self.old.index) × (self.new.refused ≡ self.old.refused) }
     {
-        if byte == b'\n' {
-            self.end_line(out, LineEnd::Newline)?;
+        if text.is_empty() {
+            return Ok(None);
+        }
+        match decode(self.alloc, text)? {
+            Some(bytes) => Ok(self.take_packet(&bytes)),
+            None => Ok(Some(LineError::NotHex)),
+        }
+    }
+
+    /// Answers a line that one read gave whole, and begins the next.
+    fn take_line(&mut self, out: &mut Vec<u8, A>, line: &[u8]) -> Result<(), AllocError>
+        requires { self.old.index + 1 < 2 ^ 64 }
+        ensures answered { OnOk result ((said : List ℕ) × (out.new.items ≡ out.old.items ++ said) × AnswersLine self.old (strip_carriage_return line.now) said self.new) }
+        ensures unchanged { OnErr result (out.new.items ≡ out.old.items) }
+        ensures next { OnOk result ((self.new.line ≡ no_line) × (self.new.index ≡ self.old.index + 1)) }
+    {
+        let refusal = self.answer_text(without_return(line))?;
+        self.tell(out, refusal)?;
+        self.next_line();
+        Ok(())
+    }
+
+    /// Appends bytes of the line.
+    fn extend(&mut self, bytes: &[u8]) -> Result<(), AllocError>
+        requires bytes { All (λ b. (b == 10) ≡ false) bytes.now }
+        requires count { self.old.line.count + length bytes.now < 2 ^ 64 }
+        ensures answered { OnOk result (AnswersPiece self.old bytes.now [] self.new) }
+        ensures same { self.new.index ≡ self.old.index }
+        ensures bounded { OnOk result (self.new.line.count ≤ self.old.line.count + length bytes.now) }
+    {
+        self.line.extend(bytes)?;
+        Ok(())
+    }
+
+    /// Takes the last bytes of the line and its newline.
+    fn end_with(&mut self, out: &mut Vec<u8, A>, last: &[u8]) -> Result<(), AllocError>
+        requires last { All (λ b. (b == 10) ≡ false) last.now }
+        requires budget { self.old.index + self.old.line.count + length last.now + 1 < 2 ^ 64 }
+        ensures answered { OnOk result ((said : List ℕ) × (out.new.items ≡ out.old.items ++ said) × AnswersPiece self.old (last.now ++ 10 ∷ []) said self.new) }
+        ensures unchanged { OnErr result (out.new.items ≡ out.old.items) }
+        ensures next { OnOk result ((self.new.line ≡ no_line) × (self.new.index ≡ self.old.index + 1)) }
+    {
+        if self.line.is_fresh() {
+            self.take_line(out, last)?;
             return Ok(());
         }
-        self.line.push(byte)?;
+        self.extend(last)?;
+        self.end_line(out, LineEnd::Newline)?;
         Ok(())
+    }
+
+    /// Takes the bytes up to the first newline with it, or all of them where there is none. Returns how many it took.
+    fn take_part(&mut self, out: &mut Vec<u8, A>, bytes: &[u8]) -> Result<usize, AllocError>
+        requires some { 0 < length bytes.now }
+        requires budget { self.old.index + self.old.line.count + length bytes.now < 2 ^ 64 }
+        ensures answered { IfOk result (λ n. (said : List ℕ) × (out.new.items ≡ out.old.items ++ said) × AnswersPiece self.old (take n bytes.now) said self.new) }
+        ensures unchanged { OnErr result (out.new.items ≡ out.old.items) }
+        ensures taken { IfOk result (λ n. (0 < n) × (n ≤ length bytes.now)) }
+        ensures bounded { IfOk result (λ n. self.new.index + self.new.line.count ≤ self.old.index + self.old.line.count + n) }
+    {
+        match memchr(b'\n', bytes) {
+            Some(place) => {
+                self.end_with(out, &bytes[..place])?;
+                Ok(place + 1)
+            }
+            None => {
+                self.extend(bytes)?;
+                Ok(bytes.len())
+            }
+        }
     }
 
     /// Takes a piece of the input, and appends what it makes known.
@@ -158,8 +224,9 @@ impl<A: Allocator + Copy> Reader<A> {
         ensures part { (said : List ℕ) × (out.new.items ≡ out.old.items ++ said) × ((left : List ℕ) → MayBegin self.old (piece.now ++ left) said) }
         ensures bounded { OnOk result (self.new.index + self.new.line.count ≤ self.old.index + self.old.line.count + length piece.now) }
     {
-        for byte in piece {
-            self.push(out, *byte)?;
+        let mut from = 0;
+        while from < piece.len() {
+            from += self.take_part(out, &piece[from..])?;
         }
         Ok(())
     }
@@ -185,13 +252,14 @@ fn turn<A: Allocator + Copy, R: Read, W: Write>(
     reader: &mut CountRead<R>,
     writer: &mut CountWrite<W>,
     turns: &mut u64,
+    buf: &mut [u8; PIECE],
 ) -> Result<bool, Fault>
     requires { lines.old.index + lines.old.line.count < 2 ^ 63 }
     ensures covers { (input before : Option (List ℕ)) → Covers input (R.remaining (device_of reader.old)) before (W.contents (device_of writer.old)) lines.old
         → IfOk result (λ is_end. AfterTurn is_end input (R.remaining (device_of reader.new)) before (W.contents (device_of writer.new)) lines.new) }
     ensures part { (input before : Option (List ℕ)) → Covers input (R.remaining (device_of reader.old)) before (W.contents (device_of writer.old)) lines.old
         → OnErr result (IfSome input (λ bytes. BeginsAnswer bytes before (W.contents (device_of writer.new)))) }
-    ensures bounded { IfOk result (λ is_end. (is_end ≡ false) → lines.new.index + lines.new.line.count ≤ lines.old.index + lines.old.line.count + 4096) }
+    ensures bounded { IfOk result (λ is_end. (is_end ≡ false) → lines.new.index + lines.new.line.count ≤ lines.old.index + lines.old.line.count + 65536) }
     ensures reader_faults { (tally_of reader.new).faults ≡ reader_faults (fault_of result) (tally_of reader.old).faults }
     ensures writer_faults { (tally_of writer.new).faults ≡ writer_faults (fault_of result) (tally_of writer.old).faults }
     ensures flushed { OnOk result (StaysFlushed (tally_of writer.old) (tally_of writer.new)) }
@@ -199,9 +267,8 @@ fn turn<A: Allocator + Copy, R: Read, W: Write>(
     ensures reads { (tally_of reader.new).calls ≡ count_after 1 (tally_of reader.old).calls }
     ensures turns { TakesTurns (tally_of writer.old) (tally_of writer.new) turns.old turns.new }
 {
-    let mut buf = [0; PIECE];
     let mut out = Vec::new(lines.alloc);
-    match read_turn(reader, &mut buf) {
+    match read_turn(reader, buf) {
         ReadTurn::Again => Ok(false),
         ReadTurn::Fault => Err(Fault::Input),
         ReadTurn::End => {
@@ -236,9 +303,10 @@ fn answer_lines<A: Allocator + Copy, R: Read, W: Write>(
     ensures out_of_turns { IfErr result (λ e. (e ≡ Fault.Turns) → turns.new ≡ 0) }
     ensures turns { SpendsTurns (tally_of reader.old) (tally_of reader.new) (tally_of writer.old) (tally_of writer.new) turns.old turns.new }
 {
+    let mut buf = [0; PIECE];
     while *turns > 0 {
         *turns -= 1;
-        if turn(lines, reader, writer, turns)? {
+        if turn(lines, reader, writer, turns, &mut buf)? {
             return Ok(());
         }
     }

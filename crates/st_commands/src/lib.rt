@@ -7,6 +7,7 @@
 //! use `put`, `say` and `tell_fault` too.
 #![tactic(auto)]
 
+mod digits;
 mod error;
 mod frames;
 mod line;

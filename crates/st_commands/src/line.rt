@@ -1,9 +1,11 @@
 //! The line that is being read. It stores at most as many digits as the longest packet has.
 
-ghost use Rattle.std.specs.Prelude.{◌≡◌, ◌≢◌, ◌↔◌, ◌<◌, ◌≤◌, ◌+◌, ◌++◌, ◌∷◌, [], ◌^◌, ℕ, List, length, OnOk, IfOk, IsTrue};
+ghost use Rattle.std.specs.Prelude.{◌≡◌, ◌≢◌, ◌↔◌, ◌<◌, ◌≤◌, ◌+◌, ◌++◌, ◌∷◌, [], ◌^◌, ◌==◌, false, ℕ, List, length, OnOk, IfOk, IsTrue};
 ghost use Rattle.std.specs.Bool.{OnTrue, OnFalse};
-ghost use Rattle.st_commands.specs.LineSoFar.{with_digit, AreDigits, HasOther, StandsFor, Spells, no_line, text_of_line};
+ghost use Rattle.std.specs.List.{All};
+ghost use Rattle.st_commands.specs.LineSoFar.{with_digit, with_digits, AreDigits, HasOther, StandsFor, Spells, no_line, text_of_line};
 
+use crate::digits::{decode, digits_before};
 use crate::error::LineError;
 use st_frames::{FrameError, MAX_PACKET};
 use std::alloc::{AllocError, Allocator};
@@ -71,8 +73,67 @@ impl<A: Allocator + Copy> LineSoFar<A> {
         self.shape = Shape::Digits;
     }
 
-    /// Appends a byte of the line. Fails where memory is refused.
-    pub fn push(&mut self, byte: u8) -> Result<(), AllocError>
+    /// Whether no byte of the line was appended.
+    pub fn is_fresh(&self) -> bool
+        ensures { OnTrue result ((line : List ℕ) → StandsFor self.now line → line ≡ []) }
+    {
+        match self.shape {
+            Shape::Digits => self.count == 0,
+            Shape::DigitsAndReturn | Shape::NotHex => false,
+        }
+    }
+
+    /// Appends bytes of the line. Fails where memory is refused.
+    pub fn extend(&mut self, bytes: &[u8]) -> Result<(), AllocError>
+        requires bytes { All (λ b. (b == 10) ≡ false) bytes.now }
+        requires count { self.old.count + length bytes.now < 2 ^ 64 }
+        ensures line { OnOk result ((line : List ℕ) → StandsFor self.old line → StandsFor self.new (line ++ bytes.now)) }
+        ensures count { OnOk result (self.new.count ≤ self.old.count + length bytes.now) }
+    {
+        match self.shape {
+            Shape::Digits => self.extend_digits(bytes),
+            Shape::DigitsAndReturn | Shape::NotHex => self.push_each(bytes),
+        }
+    }
+
+    fn extend_digits(&mut self, bytes: &[u8]) -> Result<(), AllocError>
+        requires bytes { All (λ b. (b == 10) ≡ false) bytes.now }
+        requires count { self.old.count + length bytes.now < 2 ^ 64 }
+        requires shape { self.old.shape ≡ Shape.Digits }
+        ensures line { OnOk result ((line : List ℕ) → StandsFor self.old line → StandsFor self.new (line ++ bytes.now)) }
+        ensures count { OnOk result (self.new.count ≤ self.old.count + length bytes.now) }
+    {
+        let count = digits_before(bytes);
+        self.push_digits(&bytes[..count])?;
+        self.push_each(&bytes[count..])?;
+        Ok(())
+    }
+
+    /// Appends digits, of which it stores the first as long as there is room.
+    fn push_digits(&mut self, digits: &[u8]) -> Result<(), AllocError>
+        requires { self.old.count + length digits.now < 2 ^ 64 }
+        ensures { OnOk result (self.new ≡ with_digits digits.now self.old) }
+    {
+        let room = MAX_DIGITS.saturating_sub(self.digits.len());
+        let stored = digits.len().min(room);
+        self.digits.extend_from_slice(&digits[..stored])?;
+        self.count += digits.len() as u64;
+        Ok(())
+    }
+
+    fn push_each(&mut self, bytes: &[u8]) -> Result<(), AllocError>
+        requires bytes { All (λ b. (b == 10) ≡ false) bytes.now }
+        requires count { self.old.count + length bytes.now < 2 ^ 64 }
+        ensures line { OnOk result ((line : List ℕ) → StandsFor self.old line → StandsFor self.new (line ++ bytes.now)) }
+        ensures count { OnOk result (self.new.count ≤ self.old.count + length bytes.now) }
+    {
+        for byte in bytes {
+            self.push(*byte)?;
+        }
+        Ok(())
+    }
+
+    fn push(&mut self, byte: u8) -> Result<(), AllocError>
         requires byte { byte ≢ 10 }
         requires count { self.old.count + 1 < 2 ^ 64 }
         ensures line { OnOk result ((line : List ℕ) → StandsFor self.old line → StandsFor self.new (line ++ byte ∷ [])) }
@@ -161,10 +222,9 @@ impl<A: Allocator + Copy> LineSoFar<A> {
         if self.count > MAX_DIGITS as u64 {
             return Ok(Err(LineError::Packet(FrameError::TooLong)));
         }
-        match hex::decode(self.alloc, self.digits.as_slice()) {
-            Ok(bytes) => Ok(Ok(bytes)),
-            // An even number of digits decodes unless memory is wanting.
-            Err(_) => Err(AllocError),
+        match decode(self.alloc, self.digits.as_slice())? {
+            Some(bytes) => Ok(Ok(bytes)),
+            None => Ok(Err(LineError::NotHex)),
         }
     }
 }

@@ -1,7 +1,7 @@
 use Rattle.std.proofs.Common.{◌≡◌, List, [], ◌++◌, ℕ, take, subst, ap, refl, ◌∙◌}
 use Rattle.std.specs.Io.KnownBytes.{Appends}
 use Rattle.st_commands.specs.Endings.{WritesPart}
-use Rattle.st_commands.proofs.Progressing.{begins, begins_at_end, begins_in_piece, covers_ended, covers_piece, on_err}
+use Rattle.st_commands.proofs.Progressing.{begins, begins_at_end, begins_in_piece, covers_ended, covers_piece, covers_same, on_err}
 use Rattle.st_oer.specs.Tallies.{device_of}
 use Rattle.st_commands.proofs.frames.turn.Goals as goal
 
@@ -59,3 +59,7 @@ returns-in_err-fed-in-Bytes-clause-part g c = λ input before covers.
     (begins_in_piece input (g.R.Read.remaining (device_of c.args.reader.now)) (g.R.Read.remaining (device_of c.read_turn.new.reader)) before (g.W.Write.contents (device_of c.args.writer.now)) (g.W.Write.contents (device_of c.put-in-Bytes.new.writer))
     c.args.lines.now (take c.in-Bytes.n c.read_turn.new.buf) a.0 covers c.in-Bytes.ensures.1 a.2
     (subst (λ (x : List ℕ). WritesPart x (g.W.Write.contents (device_of c.args.writer.now)) (g.W.Write.contents (device_of c.put-in-Bytes.new.writer))) text c.put-in-Bytes.ensures.part))
+
+pub returns-in-Again-clause-covers : goal.returns-in-Again-clause-covers
+returns-in-Again-clause-covers g c = λ input before covers.
+    covers_same input (g.R.Read.remaining (device_of c.args.reader.now)) (g.R.Read.remaining (device_of c.read_turn.new.reader)) before (g.W.Write.contents (device_of c.args.writer.now)) c.args.lines.now covers c.in-Again.ensures.0

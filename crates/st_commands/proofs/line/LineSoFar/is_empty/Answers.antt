@@ -1,4 +1,4 @@
-use Rattle.std.proofs.Common.{ap, sym, ◌∙◌}
+use Rattle.std.proofs.Common.{ap}
 use Rattle.st_commands.specs.LineSoFar.{LineState, text_of_line}
 use Rattle.st_commands.proofs.LinesSoFar.{counted, never_empty}
 use Rattle.st_commands.proofs.line.LineSoFar.is_empty.Goals as goal
