@@ -40,6 +40,12 @@ def free_port():
     return free_ports(1)[0]
 
 
+def give_back(ports):
+    """These ports may be given again: a run that lasts would else give all that there are."""
+    with GIVING:
+        GIVEN.difference_update(ports)
+
+
 def listens(port):
     """Whether a process listens at a port, by the kernel's list, so that no connection is made to find out."""
     with open("/proc/net/tcp", encoding="ascii") as file:
@@ -116,18 +122,23 @@ def use_up(process, port, token):
 
 
 class Peer:
-    """Listens at a port of its own, and has `handle(number, stream)` handle each connection in a thread, numbered from 1."""
+    """Listens at a port, of its own where none is given, and has `handle(number, stream)` handle each connection in a thread,
+    numbered from 1."""
 
-    def __init__(self, handle):
+    def __init__(self, handle, port=0):
         self.handle, self.number = handle, 0
-        self.listener = socket.create_server((HOST, 0), backlog=128)
+        self.listen(port)
+
+    def listen(self, port):
+        self.listener = socket.create_server((HOST, port), backlog=128)
         self.port = self.listener.getsockname()[1]
         threading.Thread(target=self.serve, daemon=True).start()
 
     def serve(self):
+        listener = self.listener
         while True:
             try:
-                stream, _ = self.listener.accept()
+                stream, _ = listener.accept()
             except OSError:
                 return
             self.number += 1
