@@ -109,6 +109,11 @@ def prepare(amount, seconds, address, preimage=bytes(32)):
     return b"\x0c" + octets(amount.to_bytes(8, "big") + text.encode() + condition + octets(address.encode()) + octets(b""))
 
 
+def fields_at(packet):
+    """Where the fields of an ILP packet begin: behind its type and its length (RFC 0027, RFC 0030)."""
+    return 2 if packet[1] < 128 else 2 + packet[1] - 128
+
+
 def fulfill(preimage=bytes(32)):
     """An ILP Fulfill without data."""
     return b"\x0d" + octets(preimage + octets(b""))

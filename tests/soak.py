@@ -6,8 +6,8 @@ are stopped for some seconds or killed. What is wrong is printed with the round'
 and its open files, threads and memory are looked at. A summary is printed each minute, and at the end `N rounds, M wrong`."""
 import collections, dataclasses, glob, os, random, re, resource, select, signal, socket, sys, tempfile, threading, time, traceback
 
-from edges import HOST, STAY, Play, Wrong, feed, hold, processor_time, some_bytes, threads, want
-from peers import Peer, asked, ended, free_ports, give_back, message, prepare, request, totals, use_up
+from edges import HOST, STAY, Play, Wrong, feed, hold, some_bytes, threads, want
+from peers import Peer, ended, fields_at, free_ports, give_back, message, prepare, request, totals, use_up
 
 PROGRAM = os.path.realpath(sys.argv[1]) if len(sys.argv) > 1 else ""
 AT_ONCE = 3  # rounds side by side
@@ -17,7 +17,8 @@ LIFE = 25  # seconds below which no exchange has timed out: a connector waits 29
 SILENCE = 31  # seconds until an exchange with a silent neighbour has ended
 GONE = 6  # seconds in which neighbours may be gone, so that a sender stays: 200 failures take some ten
 SLACK = 10  # seconds that a process may be late on a machine that has other work
-SPEEDS = 40_000, 1_000_000  # bytes a second over a connector: about those of an unproved and of a proved program
+SPEEDS = 20_000, 2_000_000  # bytes a second over a connector: about those of an unproved and of a proved program
+WORK = 300  # seconds by which a bound is longer at most, where the processes of a round run or wait for a processor meanwhile
 AMPLE = 1_000_000  # units that no transfer reaches, however many of its answers are lost
 KILLED = {"WRONG -9 b''": "killed", "WRONG -15 b''": "killed"}
 
@@ -56,7 +57,7 @@ class Plan:
 
 
 SHAPES = ["direct", "one", "one", "two", "both", "many", "stays", "stays", "stays"]
-SIZES = [0, 1, 100, 15_999, 16_000, 16_001, 16_384, 16_385, 65_535, 65_536, 65_537, 131_072]
+SIZES = [0, 1, 100, 16_000, 16_001, 16_384, 16_385, 65_535, 65_536, 65_537, 131_072, 1_000_000]
 REQUEST_PARTS = ["before it", "in the head", "behind the head", "in the body"]
 HOSTILE = ["nothing", "half a head", "half a body", "garbage", "another token", "too long", "no packet", "closed at once"]
 
@@ -69,7 +70,7 @@ def draw_paths(rng, shape, lanes):
 
 
 def draw_transfer(rng, largest, share):
-    sizes = [size for size in SIZES if size <= largest] + [rng.randrange(largest + 1)] * 4
+    sizes = [size for size in SIZES if size <= largest] + [rng.randrange(most) for most in (largest, largest, 5_000)]
     money = rng.choice([0, 0, 1, 500, 1_000, rng.randrange(1_001)])
     most = rng.choice([AMPLE, AMPLE, AMPLE, money, money // 2])
     pause = rng.choice([0, 0, 0, rng.uniform(0.2, 3)])
@@ -113,7 +114,7 @@ def draw(rng, speed, lanes):
     if shape != "stays":
         lanes = range(rng.choice([2, 3, 4]) if shape == "many" else 1)
     paths = draw_paths(rng, shape, lanes)
-    largest = 4 * speed
+    largest = min(4_000_000, 4 * speed)
     transfers = [draw_transfer(rng, largest, 1 / len(paths)) for _ in paths]
     plan = Plan(shape, paths, transfers, {name: rng.choice([1, 2, 4, 16]) for name in "AB"})
     draw_money(rng, plan)
@@ -133,7 +134,9 @@ class Relay(Peer):
 
     def __init__(self, rng, share, silences, target, port=0):
         self.rng, self.share, self.silences, self.target = rng, share, silences, target
-        self.lock, self.hears, self.lost = threading.Lock(), threading.Event(), 0
+        self.lock, self.hears = threading.Lock(), threading.Event()
+        # Lost answers, the units of those that were Fulfills, and the requests that a neighbour may have taken without an answer.
+        self.lost, self.units, self.unknown = 0, 0, 0
         self.hears.set()
         super().__init__(self.pass_one, port)
 
@@ -146,9 +149,14 @@ class Relay(Peer):
             self.silences -= then == "hold"
             return self.rng.choice(["request", "answer"]), self.rng.choice(REQUEST_PARTS), then
 
-    def lose(self):
+    def lose(self, request, answer):
         with self.lock:
             self.lost += 1
+            if not answer:
+                self.unknown += 1
+            elif answer[1][:1] == b"\x0d":
+                at = fields_at(request)
+                self.units += int.from_bytes(request[at : at + 8], "big")
 
     def pass_one(self, _, stream):
         self.hears.wait()
@@ -160,8 +168,8 @@ class Relay(Peer):
             self.cut(stream, head, body, part, then)
             return
         answer = self.ask(head + body, side == "request")
-        if len(answer) == 0 or has_left(stream) or (side == "answer" and then != "slow"):
-            self.lose()
+        if not answer or has_left(stream) or (side == "answer" and then != "slow"):
+            self.lose(body, answer)
         if answer and side == "answer":
             spoil(stream, *answer, part, then)
         elif answer:
@@ -245,6 +253,18 @@ def spoil(stream, head, body, part, then):
     finish(stream, then)
 
 
+def busy(process, fields=2):
+    """The seconds for which the threads of a process ran (the first field of the kernel's account) or waited for a processor."""
+    taken = 0
+    try:
+        for thread in os.listdir(f"/proc/{process.pid}/task"):
+            with open(f"/proc/{process.pid}/task/{thread}/schedstat", encoding="ascii") as file:
+                taken += sum(map(int, file.read().split()[:fields]))
+    except OSError:  # it has ended
+        pass
+    return taken / 1e9
+
+
 def hostile(token, kind):
     """What a connection sends that brings no packet, and how an answer to it begins, where there is one."""
     good = request(token, prepare(0, 30, "test.nobody"))
@@ -266,45 +286,43 @@ def hostile(token, kind):
 class Round:
     """The processes of a round, its relays and what happened to them. `stays` is the connector that stays."""
 
-    def __init__(self, plan, seed, play, stays=None):
+    def __init__(self, plan, seed, speed, play, stays):
+        self.speed, self.slack = speed, SLACK if speed == SPEEDS[0] else SLACK / 2
         self.plan, self.play, self.stays, self.rng = plan, play, stays, random.Random(f"{seed} relays")
-        self.nodes, self.relays, self.killed, self.stopped, self.wrong = {}, {}, set(), set(), []
-        self.ports, self.contents, self.ends, self.taken, self.used_up = {}, {}, {}, 0, False
-        self.killed_hubs, self.begun, self.given = set(), time.monotonic(), []
+        self.nodes, self.relays, self.killed, self.wrong = {}, {}, set(), []
+        self.ports, self.contents, self.ends, self.sent, self.taken, self.used_up = {}, {}, {}, 0, 0, False
+        self.killed_hubs, self.dismissed, self.given, self.exact = set(), set(), [], 0
         self.endless = {whom for _, what, whom, _ in plan.events if what in ("kill", "term")}
         play.secret = bytes(self.rng.randrange(256) for _ in range(32)).hex()
 
     def port_of(self, link):
+        """Where the first node of a link sends to."""
         return self.relays[link].port if link in self.relays else self.ports[link[1]]
 
+    def own_hubs(self):
+        return [hub for hub in self.plan.hubs() if hub != "L"]
+
     def begin(self):
+        """Starts all, from the receivers to the senders."""
         plan = self.plan
-        names = [node for path in plan.paths for node in path[1:] if node != "L"]
-        self.given = free_ports(len(set(names)))
-        self.ports = dict(zip(sorted(set(names)), self.given))
+        names = sorted({node for path in plan.paths for node in path[1:]} - {"L"})
+        self.given = free_ports(len(names))
+        self.ports = {"L": self.stays.port, **dict(zip(names, self.given))}
+        # The connector that stays sends to ports that do not change: a receiver, or the relay before it, listens there.
+        self.ports.update({other: self.stays.ports[other] for hub, other in set(plan.links()) - set(plan.relays) if hub == "L"})
         for link in plan.relays:
             self.relay(link)
-        for path in plan.paths:
-            if path[1] == "L" and ("L", path[2]) not in plan.relays:
-                self.ports[path[2]] = self.stays.ports[path[2]]
         for path, it in zip(plan.paths, plan.transfers):
             self.receive(path, it)
-        for hub in plan.hubs():
-            if hub != "L":
-                self.connector(hub)
-        self.began = time.monotonic()
+        for hub in self.own_hubs():
+            self.connector(hub)
+        self.began, self.stayed = time.monotonic(), busy(self.stays.process)
         for path, it in zip(plan.paths, plan.transfers):
             self.send(path, it)
 
     def relay(self, link):
-        if link[1] == "L":
-            target = self.stays.port
-        else:
-            target = self.ports[link[1]]
         port = self.stays.ports[link[1]] if link[0] == "L" else 0
-        share, silences = self.plan.relays[link]
-        rng = random.Random(self.rng.random())
-        self.relays[link] = Relay(rng, share, silences, target, port)
+        self.relays[link] = Relay(random.Random(self.rng.random()), *self.plan.relays[link], self.ports[link[1]], port)
         self.play.peers.append(self.relays[link])
 
     def receive(self, path, it):
@@ -348,16 +366,13 @@ class Round:
 
     def send(self, path, it):
         name, link = path[0], (path[0], path[1])
-        port = self.relays[link].port if link in self.relays else self.stays.port if path[1] == "L" else self.ports[path[1]]
-        self.contents[path[-1]] = content = some_bytes(it.size)
+        given = self.contents[path[-1]] = content = some_bytes(it.size)
+        if it.pause:
+            given, writer = self.play.pipe()
+            threading.Thread(target=feed, args=(writer, content, it.pause), daemon=True).start()
         words = [f"--money={it.money}", f"--workers={it.workers}", f"--least={self.plan.least}"]
         ways = {"token": "-".join(link), "address": f"test.{name}", "peer": f"test.{path[-1]}"}
-        if not it.pause:
-            self.nodes[name] = self.play.send(port, content, *words, **ways)
-            return
-        given, writer = self.play.pipe()
-        self.nodes[name] = self.play.send(port, given, *words, **ways)
-        threading.Thread(target=feed, args=(writer, content, it.pause), daemon=True).start()
+        self.nodes[name] = self.play.send(self.port_of(link), given, *words, **ways)
 
     # What happens.
 
@@ -419,11 +434,10 @@ class Round:
 
     def intrude(self, node, kind, seconds):
         """A connection to a node that brings no packet: what it is answered with is looked at."""
-        port = self.stays.port if node == "L" else self.ports[node]
         before = next(path[path.index(node) - 1] for path in self.plan.paths if node in path)
         content, begins = hostile(f"{before}-{node}", kind)
         try:
-            stream = self.play.connect(port, content)
+            stream = self.play.connect(self.ports[node], content)
             if kind == "closed at once":
                 stream.close()
                 return
@@ -444,38 +458,52 @@ class Round:
 
     def delays(self):
         """For how many seconds events may keep a request from its receiver."""
-        return sum(how if what in ("gone", "deaf", "stop") else how[1] if what == "hostile" else how or 0 for _, what, _, how in self.plan.events)
+        return sum(how[1] if what == "hostile" else how or 0 for _, what, _, how in self.plan.events)
 
-    def bound(self, speed):
-        """For how many seconds a sender may last."""
-        work = sum(it.size / speed + it.pause + 0.3 * it.money / self.plan.packet for it in self.plan.transfers)
+    def bound(self):
+        """For how many seconds a sender may last: 200 failures, each packet, and what keeps it from them."""
+        packets = 200 + sum(it.size / 16_000 + it.money / self.plan.packet for it in self.plan.transfers)
+        spoiled = sum(share for share, _ in self.plan.relays.values())
         largest = max(min(it.size, 16_000) for it in self.plan.transfers)
-        failures = 200 * (0.05 + 0.8 * largest / speed + 0.3 * sum(share for share, _ in self.plan.relays.values()))
-        return 20 + SLACK + 8 * work + failures + SILENCE * self.silences() + self.delays()
+        work = packets * (0.05 + largest / self.speed + 0.3 * spoiled)
+        return 10 + SLACK + work + sum(it.pause for it in self.plan.transfers) + SILENCE * self.silences() + self.delays()
 
-    def wait(self, speed):
+    def wait(self):
         """Waits for all processes, each for as long as it may last."""
         last = max([at for at, *_ in self.plan.events], default=0)
-        until = self.began + last + self.bound(speed)
+        until = self.began + last + self.bound()
         for path in self.plan.paths:
             self.end(path[0], max(1, until - time.monotonic()))
+        self.sent = time.monotonic() - self.began
         for path, it in zip(self.plan.paths, self.plan.transfers):
-            receiver = self.nodes[path[-1]]
             if self.ends[path[0]] != "0" and it.patience > SLACK:
                 time.sleep(0.3)
-                self.killed.add(path[-1])
-                receiver.terminate()
+                self.dismiss(path[-1])
             self.end(path[-1], it.patience + SLACK + (SILENCE if self.silences() else 0))
         self.taken = time.monotonic() - self.began
         for it in self.play.open + list(self.relays.values()):
             it.close()
-        for hub in self.plan.hubs():
-            if hub != "L":
-                self.end_hub(hub)
+        for hub in self.own_hubs():
+            self.end_hub(hub)
+
+    def dismiss(self, name):
+        """Stops a receiver that would wait for long, because its sender has ended without success."""
+        if self.nodes[name].poll() is None:
+            self.nodes[name].terminate()
+            self.dismissed.add(name)
+
+    def work(self):
+        """The seconds for which the processes that there are ran, or waited for a processor."""
+        stays = busy(self.stays.process) - self.stayed if "L" in self.plan.hubs() else 0
+        return min(WORK, stays + sum(busy(process) for process in self.nodes.values()))
 
     def end(self, name, bound):
-        told = ended(self.nodes[name], bound)
-        if name in self.killed:
+        """Waits for a process. The time for which the machine keeps it from going on does not count."""
+        process, until = self.nodes[name], time.monotonic() + bound
+        while process.poll() is None and (time.monotonic() < until or time.monotonic() < until + self.work()):
+            time.sleep(0.05)
+        told = ended(process, 0.1)
+        if name in self.killed | self.dismissed:
             told = KILLED.get(told, told)
         self.ends[name] = told
 
@@ -487,7 +515,12 @@ class Round:
             hub.kill()
         else:
             self.used_up |= hub.poll() is not None
-            use_up(hub, hub.port, f"{self.neighbours(name)[0]}-{name}")
+            token = f"{self.neighbours(name)[0]}-{name}"
+            asking = [threading.Thread(target=use_up, args=(hub, hub.port, token), daemon=True) for _ in range(8)]
+            for it in asking:
+                it.start()
+            for it in asking:
+                it.join()
         self.end(name, 60)
 
     # What is asserted.
@@ -495,15 +528,15 @@ class Round:
     def check(self):
         for name, told in self.ends.items():
             kinds = {"s": ("0", "58", "59"), "r": ("0", "88")}.get(name[0], ("0",))
-            if told not in kinds and not (told == "killed" and name in self.killed):
+            if told not in kinds and told != "killed":
                 self.wrong.append(f"{name} ends with {told}")
         for path, it in zip(self.plan.paths, self.plan.transfers):
             self.check_bytes(path, it)
             self.check_patience(path, it)
             self.check_money(path, it)
             self.check_success(path, it)
-        for hub in self.plan.hubs():
-            if hub != "L" and hub not in self.killed_hubs:
+        for hub in self.own_hubs():
+            if hub not in self.killed_hubs:
                 self.check_hub(hub)
         for link in self.plan.links():
             self.check_link(link)
@@ -521,10 +554,9 @@ class Round:
         sent, received = self.ends[path[0]], self.ends[path[-1]]
         told = f"{path[0]} {sent}, {path[-1]} {received}, {len(came)} of {len(content)} bytes"
         self.expect(content.startswith(came), f"no beginning: {told}")
-        if received == "0" or (sent == "0" and path[-1] not in self.killed):
+        if received == "0" or (sent == "0" and received != "killed"):
             self.expect(came == content and received == "0", f"not whole: {told}")
-        if sent == "59" and self.arrives(it) <= it.most:
-            self.expect(self.is_short(it), f"stalls: {told}")
+        self.expect(sent != "59" or it.most < AMPLE, f"stalls: {told}")
         if received == "0" and not self.may_lose(path):
             self.expect(sent == "0", f"one side alone: {told}")
         ends = [totals(self.nodes[name].totals) for name in (path[0], path[-1])]
@@ -542,14 +574,7 @@ class Round:
         self.expect(lasted > it.patience - 0.1, f"{path[-1]} 88 after {lasted:.1f} of {it.patience} s")
         if self.ends[path[0]] != "killed" and not self.plan.relays and not self.plan.events:
             late = by - os.stat(sender.totals).st_mtime - it.patience
-            self.expect(late < 5, f"{path[-1]} 88 {late:.1f} s later than its patience")
-
-    def arrives(self, it):
-        return -(-it.money * self.plan.rate[0] ** 2 // self.plan.rate[1] ** 2) if self.plan.rate[0] > self.plan.rate[1] else it.money
-
-    def is_short(self, it):
-        """Whether a lost answer may use up what the receiver takes."""
-        return it.most < AMPLE
+            self.expect(late < SLACK, f"{path[-1]} 88 {late:.1f} s later than its patience")
 
     def check_money(self, path, it):
         sent, received = (totals(self.nodes[name].totals) for name in (path[0], path[-1]))
@@ -560,24 +585,27 @@ class Round:
         if self.ends[path[0]] == "0":
             self.expect(sent.get("paid") == it.money and sent.get("accepted") == it.size, f"{path[0]} 0 and {sent}")
 
+    def is_quick(self):
+        """Whether no exchange can have timed out: each began while its sender ran, or was left behind by one that was killed."""
+        return (self.taken if any(name[0] == "s" for name in self.killed) else self.sent) <= LIFE
+
     def may_lose(self, path):
         """Whether an answer on the way of a transfer may have been lost."""
         links = list(zip(path, path[1:]))
-        return self.taken > LIFE or self.used_up or bool(set(path) & (self.killed | self.killed_hubs)) or any(
-            link in self.relays and self.relays[link].lost for link in links
-        )
+        is_lossy = any(link in self.relays and self.relays[link].lost for link in links)
+        return is_lossy or not self.is_quick() or self.used_up or bool(set(path) & (self.killed | self.killed_hubs))
 
     def spoiled(self, path, it):
         """Why a transfer may fail, if anything is why."""
         down = sum(how for _, what, whom, how in self.plan.events if what == "gone" and set(whom) <= set(path))
         down += sum(how or 99 for _, what, whom, how in self.plan.events if what in ("kill", "term") and whom in path)
-        quiet = self.delays() + SILENCE * self.silences() + it.pause + 6
+        quiet = self.delays() + SILENCE * self.silences() + it.pause + self.slack
         return {
             "killed": bool({path[0], path[-1]} & self.killed) or down > GONE or self.used_up,
             "impatient": it.patience < quiet,
-            "poor": it.most < self.arrives(it) or (it.most < AMPLE and self.may_lose(path)),
+            "poor": it.most < it.money or (it.most < AMPLE and self.may_lose(path)),
             "limited": self.plan.limit < 10**12 and self.may_lose(path),
-            "rate": self.plan.rate != (1, 1) and self.plan.least == "1:1" and self.plan.rate[0] < self.plan.rate[1] and it.money > 0,
+            "little arrives": self.plan.rate[0] < self.plan.rate[1] and self.plan.least == "1:1" and it.money > 0,
         }
 
     def check_success(self, path, it):
@@ -585,7 +613,7 @@ class Round:
         pair = self.ends[path[0]], self.ends[path[-1]]
         if not why:
             allowed = [("0", "0"), ("58", "0")] if self.may_lose(path) else [("0", "0")]
-            self.expect(pair in allowed, f"{path[0]} {pair[0]}, {path[-1]} {pair[1]}, and nothing kept them from success")
+            self.expect(pair in allowed, f"{path[0]} {pair[0]}, {path[-1]} {pair[1]}, and nothing kept them from it")
         elif why == ["poor"] and not self.may_lose(path) and it.patience <= SLACK:
             self.expect(pair == ("59", "88"), f"{path[0]} {pair[0]}, {path[-1]} {pair[1]} where the receiver takes too little")
             self.expect(self.output(path[-1]) == self.contents[path[-1]], f"{path[-1]} is not whole where it takes too little")
@@ -609,11 +637,16 @@ class Round:
         return found.get(f"account {self.neighbours(name).index(other)} {word}")
 
     def check_link(self, link):
+        """Both sides of a link report the same, but for the Fulfills that were lost between them."""
         gave, took = self.amount(link, link[0]), self.amount(link, link[1])
         if gave is None or took is None:
             return
-        is_exact = self.taken <= LIFE and not (link in self.relays and self.relays[link].lost) and not set(link) & self.killed
-        self.expect(gave == took if is_exact else gave <= took, f"{link[0]} says {gave} and {link[1]} says {took}")
+        relay = self.relays.get(link)
+        lost = relay.units if relay else 0
+        is_exact = self.is_quick() and not (relay and relay.unknown) and not set(link) & self.killed
+        told = f"{link[0]} says {gave} and {link[1]} says {took}, and {lost} were lost"
+        self.expect(gave + lost == took if is_exact else gave <= took, told)
+        self.exact += is_exact
 
 
 # The connector that stays.
@@ -645,10 +678,13 @@ class Stays:
 
     def look(self):
         """Notes open files, threads and memory in kB."""
-        pid = self.process.pid
-        with open(f"/proc/{pid}/status", encoding="ascii") as file:
-            memory = int(re.search(r"(?m)^VmRSS:\s*(\d+)", file.read())[1])
-        self.seen.append((time.monotonic(), len(os.listdir(f"/proc/{pid}/fd")), threads(self.process), memory))
+        place = f"/proc/{self.process.pid}"
+        try:
+            with open(f"{place}/status", encoding="ascii") as file:
+                memory = int(re.search(r"(?m)^VmRSS:\s*(\d+)", file.read())[1])
+            self.seen.append((time.monotonic(), len(os.listdir(f"{place}/fd")), threads(self.process), memory))
+        except (OSError, TypeError):  # it has ended
+            pass
 
     def grows(self):
         """What has grown. The least of the last five minutes is compared with what a connector needs that waits (files, threads)
@@ -683,7 +719,7 @@ class Soak:
             want(ended(play.send(hub.port, content), 120) == "0" and ended(receiver, 20) == "0", "the first transfer fails")
             speed = len(content) / (time.monotonic() - begun)
         # One of two, so that a seed draws the same rounds again.
-        self.speed = SPEEDS[speed > 10 * SPEEDS[0]]
+        self.speed = SPEEDS[speed > 20 * SPEEDS[0]]
         print(f"seed {self.seed}: {speed:.0f} bytes a second over a connector, taken for {self.speed}", flush=True)
 
     def one(self, number, stays):
@@ -693,11 +729,11 @@ class Soak:
         lanes = stays.take(rng.choice([1, 1, 2]))
         plan = draw(rng, self.speed, lanes)
         with Play() as play:
-            it = Round(plan, seed, play, stays)
+            it = Round(plan, seed, self.speed, play, stays)
             try:
                 it.begin()
                 it.happen()
-                it.wait(self.speed)
+                it.wait()
                 it.check()
                 self.count(it)
             except Wrong as error:
@@ -718,6 +754,8 @@ class Soak:
                 self.tally[what] += 1
             self.tally["answers lost"] += sum(relay.lost for relay in it.relays.values())
             self.tally["used up"] += it.used_up
+            self.tally["links compared exactly"] += it.exact
+            self.tally["units lost"] += sum(relay.units for relay in it.relays.values())
 
     def report(self, seed, it):
         for path in glob.glob("core*"):
@@ -741,15 +779,17 @@ class Soak:
                 time.sleep(0.2)
 
     def processors(self, stays):
+        """The seconds of a processor that were used."""
         used = [resource.getrusage(who) for who in (resource.RUSAGE_SELF, resource.RUSAGE_CHILDREN)]
-        return sum(it.ru_utime + it.ru_stime for it in used) + processor_time(stays.process.pid)
+        return sum(it.ru_utime + it.ru_stime for it in used) + busy(stays.process, 1)
 
     def summary(self, stays):
         told, is_more = stays.grows()
         counts = ", ".join(f"{name} {count}" for name, count in sorted(self.tally.items()))
         taken = time.monotonic() - self.begun
         share = f"{self.processors(stays) / taken:.2f} processors"
-        print(f"{taken / 60:.0f} min: {self.rounds} rounds, {self.wrong} wrong; {share}; {counts}; the connector that stays: {told}", flush=True)
+        ended_so_far = f"{taken / 60:.0f} min: {self.rounds} rounds, {self.wrong} wrong"
+        print(f"{ended_so_far}; {share}; {counts}; the connector that stays: {told}", flush=True)
         if is_more:
             self.wrong += 1
             print(f"WRONG the connector that stays grows: {told}; {stays.seen[:: max(1, len(stays.seen) // 20)]}", flush=True)
@@ -761,15 +801,17 @@ class Soak:
             for it in workers:
                 it.start()
             told = self.begun
-            while any(it.is_alive() for it in workers):
+            while any(it.is_alive() for it in workers) and stays.process.poll() is None:
                 time.sleep(1)
-                if stays.process.poll() is not None:
-                    raise Wrong(f"the connector that stays {ended(stays.process, 1)}")
                 stays.look()
                 if time.monotonic() > told + 60:
                     told += 60
                     self.summary(stays)
+            self.seconds = 0  # where the connector ended, the rounds that there are end too
+            for it in workers:
+                it.join()
             self.summary(stays)
+            want(stays.process.poll() is None, f"the connector that stays {ended(stays.process, 1) if stays.process.poll() else ''}")
 
 
 def main():
