@@ -48,6 +48,7 @@ class Play:
     def __init__(self):
         self.folder = tempfile.TemporaryDirectory(prefix="edges-")
         self.room, self.started, self.peers, self.open, self.count = self.folder.name, [], [], [], 0
+        self.secret = SECRET
 
     def __enter__(self):
         return self
@@ -86,7 +87,7 @@ class Play:
         path = f"{self.room}/{port}.out"
         with open(path, "wb") as out:
             ways = [f"--listen={HOST}:{port}", f"--token={token}", f"--address={address}", f"--peer={peer}"]
-            it = self.start("receive", [*ways, f"--secret={SECRET}", f"--receive-max={most}", *words], out=out, **how)
+            it = self.start("receive", [*ways, f"--secret={self.secret}", f"--receive-max={most}", *words], out=out, **how)
         it.port, it.path = port, path
         return until_it_listens(it)
 
@@ -105,7 +106,7 @@ class Play:
     def send(self, port, given, *words, token="t", address="test.a", peer="test.b", **how):
         if isinstance(given, bytes):
             given = self.file(given)
-        ways = [f"--to={HOST}:{port}", f"--token={token}", f"--address={address}", f"--peer={peer}", f"--secret={SECRET}"]
+        ways = [f"--to={HOST}:{port}", f"--token={token}", f"--address={address}", f"--peer={peer}", f"--secret={self.secret}"]
         return self.start("send", [*ways, *words], given=given, **how)
 
     def peer(self, handle):

@@ -5,7 +5,7 @@ what is wrong with that or with the sums that they told in the end, if anything 
 import os, socket, subprocess, sys, tempfile, threading, time
 from concurrent.futures import ThreadPoolExecutor
 
-from peers import BOUND, SECRET, asked, ended, free_port, message, totals, use_up
+from peers import BOUND, SECRET, asked, ended, fields_at, free_port, message, totals, use_up
 
 PROGRAM = sys.argv[1]
 INPUT = bytes(n % 251 for n in range(70_000))
@@ -21,11 +21,6 @@ def with_bit(body, place):
     """The same bytes, one bit of the one at a place turned."""
     place %= len(body)
     return body[:place] + bytes([body[place] ^ 1]) + body[place + 1 :]
-
-
-def fields_at(packet):
-    """Where the fields of an ILP packet begin: behind its type and its length (RFC 0027, RFC 0030)."""
-    return 2 if packet[1] < 128 else 2 + packet[1] - 128
 
 
 def iv_of(prepare):

@@ -40,6 +40,12 @@ def free_port():
     return free_ports(1)[0]
 
 
+def give_back(ports):
+    """These ports may be given again: a run that lasts would else give all that there are."""
+    with GIVING:
+        GIVEN.difference_update(ports)
+
+
 def listens(port):
     """Whether a process listens at a port, by the kernel's list, so that no connection is made to find out."""
     with open("/proc/net/tcp", encoding="ascii") as file:
@@ -103,6 +109,11 @@ def prepare(amount, seconds, address, preimage=bytes(32)):
     return b"\x0c" + octets(amount.to_bytes(8, "big") + text.encode() + condition + octets(address.encode()) + octets(b""))
 
 
+def fields_at(packet):
+    """Where the fields of an ILP packet begin: behind its type and its length (RFC 0027, RFC 0030)."""
+    return 2 if packet[1] < 128 else 2 + packet[1] - 128
+
+
 def fulfill(preimage=bytes(32)):
     """An ILP Fulfill without data."""
     return b"\x0d" + octets(preimage + octets(b""))
@@ -116,18 +127,23 @@ def use_up(process, port, token):
 
 
 class Peer:
-    """Listens at a port of its own, and has `handle(number, stream)` handle each connection in a thread, numbered from 1."""
+    """Listens at a port, of its own where none is given, and has `handle(number, stream)` handle each connection in a thread,
+    numbered from 1."""
 
-    def __init__(self, handle):
+    def __init__(self, handle, port=0):
         self.handle, self.number = handle, 0
-        self.listener = socket.create_server((HOST, 0), backlog=128)
+        self.listen(port)
+
+    def listen(self, port):
+        self.listener = socket.create_server((HOST, port), backlog=128)
         self.port = self.listener.getsockname()[1]
         threading.Thread(target=self.serve, daemon=True).start()
 
     def serve(self):
+        listener = self.listener
         while True:
             try:
-                stream, _ = self.listener.accept()
+                stream, _ = listener.accept()
             except OSError:
                 return
             self.number += 1
