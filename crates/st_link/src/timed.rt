@@ -8,11 +8,16 @@ use std::time::{Clock, Duration, Instant};
 /// A stream with one deadline for all of its calls. Before each read and each write the stream's time-out is set to what is
 /// left until the deadline. From the deadline on each call fails with `ErrorKind::TimedOut`, and so does each call where the
 /// clock cannot be read.
+///
+/// Where a time for an answer is set, the first write moves the deadline to at least that time from then on, once: what was
+/// read until shortly before the deadline can still be answered.
 #[derive(Drop)]
 pub struct Timed<'r, S, R: Clock> {
     stream: S,
     clock: &'r R,
     deadline: Option<Instant>,
+    // The least time for the writes, until the first of them.
+    answer: Option<Duration>,
 }
 
 /// The moment that is `time` from now, where the clock can be read.
@@ -33,13 +38,32 @@ impl<'r, S, R: Clock> Timed<'r, S, R> {
         Timed::until(stream, clock, deadline_in(clock, time))
     }
 
+    /// The stream, of which all calls together may take `time`, and the writes at least `answer` from the first of them on.
+    pub fn answering(stream: S, clock: &'r R, time: Duration, answer: Duration) -> Timed<'r, S, R> {
+        Timed {
+            stream,
+            clock,
+            deadline: deadline_in(clock, time),
+            answer: Some(answer),
+        }
+    }
+
     /// The stream with this deadline. Where there is none each call fails.
     pub(crate) fn until(stream: S, clock: &'r R, deadline: Option<Instant>) -> Timed<'r, S, R> {
         Timed {
             stream,
             clock,
             deadline,
+            answer: None,
         }
+    }
+
+    /// What is left for a write. The first moves the deadline where it is sooner than the time for an answer.
+    fn left_to_write(&mut self) -> Option<Duration> {
+        if let Some(time) = self.answer.take() {
+            self.deadline = self.deadline.max(deadline_in(self.clock, time));
+        }
+        left_until(self.clock, self.deadline)
     }
 }
 
@@ -60,7 +84,7 @@ impl<S: Write + OpenStream, R: Clock> Write for Timed<'_, S, R> {
     ghost contents = { λ s. S.contents s.stream };
 
     fn write(&mut self, buf: &[u8]) -> io::Result<usize> {
-        let left = left_until(self.clock, self.deadline);
+        let left = self.left_to_write();
         if left.is_none() {
             return Err(io::Error::from(ErrorKind::TimedOut));
         }

@@ -122,7 +122,8 @@ where
 /// cleanly and the request that brought its end was answered.
 ///
 /// `clock` gives the moments at which Prepares arrive. `rt` is the runtime that measures time: a request may take 30
-/// seconds as a whole, and no longer than the receiver's patience. A valid request is one that is answered by the end:
+/// seconds to arrive, and no longer than the receiver's patience; its answer may be written until then, and for 5 seconds
+/// at least. A valid request is one that is answered by the end:
 /// the patience begins again once what it brought is written. After each request, stream 1 and the output together are
 /// called at most `terms.turns` times. A connection that fails, is cut off, is too slow or uses up its I/O calls ends
 /// alone.

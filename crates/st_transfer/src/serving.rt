@@ -20,6 +20,9 @@ const TRIES: u32 = 100;
 /// How many milliseconds pass between two tries.
 const PAUSE: u64 = 10;
 
+/// How many seconds there are at least to write an answer.
+const WRITE_SECONDS: u64 = 5;
+
 /// Accepts the next connection of a listener. Where that fails, for example because the process has no file descriptor
 /// left, it tries again after 10 milliseconds. Fails with `Accept` after 100 failures in a row.
 pub(crate) fn accept_next<L: OpenListener>(
@@ -44,7 +47,7 @@ pub(crate) struct ServeTerms<'a> {
     pub(crate) tokens: &'a [&'a str],
     /// The most I/O calls.
     pub(crate) turns: u64,
-    /// How long it may take as a whole, up to 30 seconds.
+    /// How long the request may take to arrive, up to 30 seconds.
     pub(crate) time: Duration,
 }
 
@@ -68,7 +71,8 @@ fn serve_stream<S: Read + Write, T: Answerer>(
 }
 
 /// Reads one request from a connection, has it answered where it is valid, and writes the response (RFC 0035, the
-/// synchronous mode). What fails on the connection ends it alone.
+/// synchronous mode). The response may be written until the time of the terms is over, and for 5 seconds at least: a
+/// request that changed something has its answer also where it arrived at the last moment. What fails on the connection ends it alone.
 ///
 /// Returns whether a request came whole, be it answered or refused. False where the connection ended, failed or was
 /// silent before that, and where memory for its buffer is refused.
@@ -84,7 +88,8 @@ pub(crate) fn serve_within<S: Read + Write + OpenStream + Drop, T: Answerer>(
 {
     let _ = stream.set_nodelay(true);
     let time = terms.time.min(Duration::from_secs(ANSWER_SECONDS));
-    let Ok(buffered) = Buffered::new(alloc, Timed::new(stream, rt, time)) else {
+    let timed = Timed::answering(stream, rt, time, Duration::from_secs(WRITE_SECONDS));
+    let Ok(buffered) = Buffered::new(alloc, timed) else {
         return false;
     };
     let mut stream = Counting::new(buffered);
@@ -92,8 +97,8 @@ pub(crate) fn serve_within<S: Read + Write + OpenStream + Drop, T: Answerer>(
 }
 
 /// Reads one request from a connection, has it answered where it is valid, and writes the response (RFC 0035, the
-/// synchronous mode). All of it may take 30 seconds, and at most `turns` I/O calls. What fails on the connection ends it
-/// alone.
+/// synchronous mode). The request may take 30 seconds, the response as long as is left of them and 5 seconds at least, and
+/// both together `turns` I/O calls. What fails on the connection ends it alone.
 ///
 /// Returns whether a request came whole, be it answered or refused. False where the connection ended, failed or was
 /// silent before that, and where memory for its buffer is refused.
