@@ -539,7 +539,11 @@ class Round:
             if hub not in self.killed_hubs:
                 self.check_hub(hub)
         for link in self.plan.links():
-            self.check_link(link)
+            if "L" not in link:
+                self.compare([link])
+        for path in self.plan.paths:
+            if "L" in path:
+                self.compare(list(zip(path, path[1:])))
 
     def expect(self, is_so, told):
         if not is_so:
@@ -627,7 +631,7 @@ class Round:
 
     def amount(self, link, name):
         """What one side of a link reports of the money that went over it; None where it reports nothing."""
-        if name in self.killed_hubs or name == "L":
+        if name in self.killed_hubs:
             return None
         found = totals(self.nodes[name].totals)
         if name[0] in "sr":
@@ -636,15 +640,16 @@ class Round:
         word = "dues" if name == link[0] else "claims"
         return found.get(f"account {self.neighbours(name).index(other)} {word}")
 
-    def check_link(self, link):
-        """Both sides of a link report the same, but for the Fulfills that were lost between them."""
-        gave, took = self.amount(link, link[0]), self.amount(link, link[1])
+    def compare(self, links):
+        """Both ends of links in a row report the same, but for the Fulfills that were lost there."""
+        first, last = links[0][0], links[-1][1]
+        gave, took = self.amount(links[0], first), self.amount(links[-1], last)
         if gave is None or took is None:
             return
-        relay = self.relays.get(link)
-        lost = relay.units if relay else 0
-        is_exact = self.is_quick() and not (relay and relay.unknown) and not set(link) & self.killed
-        told = f"{link[0]} says {gave} and {link[1]} says {took}, and {lost} were lost"
+        relays = [self.relays[link] for link in links if link in self.relays]
+        lost = sum(relay.units for relay in relays)
+        is_exact = self.is_quick() and not any(relay.unknown for relay in relays) and not {first, last} & self.killed
+        told = f"{first} says {gave} and {last} says {took}, and {lost} were lost"
         self.expect(gave + lost == took if is_exact else gave <= took, told)
         self.exact += is_exact
 
@@ -811,7 +816,8 @@ class Soak:
             for it in workers:
                 it.join()
             self.summary(stays)
-            want(stays.process.poll() is None, f"the connector that stays {ended(stays.process, 1) if stays.process.poll() else ''}")
+            if stays.process.poll() is not None:
+                raise Wrong(f"the connector that stays {ended(stays.process, 1)}")
 
 
 def main():
@@ -821,8 +827,8 @@ def main():
     with tempfile.TemporaryDirectory(prefix="soak-") as room:
         os.chdir(room)
         soak = Soak(float(sys.argv[2]), seed)
-        soak.measure()
         try:
+            soak.measure()
             if number:
                 with Play() as play:
                     soak.one(int(number), Stays(play, 4))
