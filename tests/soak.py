@@ -18,7 +18,7 @@ SILENCE = 31  # seconds until an exchange with a silent neighbour has ended
 GONE = 6  # seconds in which neighbours may be gone, so that a sender stays: 200 failures take some ten
 SLACK = 10  # seconds that a process may be late on a machine that has other work
 SPEEDS = 20_000, 2_000_000  # bytes a second over a connector: about those of an unproved and of a proved program
-WORK = 300  # seconds by which a bound is longer at most, where the processes of a round run or wait for a processor meanwhile
+WORK = 600  # seconds by which a bound is longer at most, where the processes of a round run or wait for a processor meanwhile
 AMPLE = 1_000_000  # units that no transfer reaches, however many of its answers are lost
 KILLED = {"WRONG -9 b''": "killed", "WRONG -15 b''": "killed"}
 
@@ -493,9 +493,10 @@ class Round:
             self.dismissed.add(name)
 
     def work(self):
-        """The seconds for which the processes that there are ran, or waited for a processor."""
+        """By how many seconds a bound is longer: four times those for which the processes that there are ran, or waited for a
+        processor. (A thread that waits for another one, which waits for a processor, is not in the kernel's account.)"""
         stays = busy(self.stays.process) - self.stayed if "L" in self.plan.hubs() else 0
-        return min(WORK, stays + sum(busy(process) for process in self.nodes.values()))
+        return min(WORK, 4 * (stays + sum(busy(process) for process in self.nodes.values())))
 
     def end(self, name, bound):
         """Waits for a process. The time for which the machine keeps it from going on does not count."""
