@@ -18,7 +18,7 @@ SILENCE = 31  # seconds until an exchange with a silent neighbour has ended
 GONE = 6  # seconds in which neighbours may be gone, so that a sender stays: 200 failures take some ten
 SLACK = 10  # seconds that a process may be late on a machine that has other work
 SPEEDS = 20_000, 2_000_000  # bytes a second over a connector: about those of an unproved and of a proved program
-WORK = 300  # seconds by which a bound is longer at most, where the processes of a round run or wait for a processor meanwhile
+WORK = 600  # seconds by which a bound is longer at most, where the processes of a round run or wait for a processor meanwhile
 AMPLE = 1_000_000  # units that no transfer reaches, however many of its answers are lost
 KILLED = {"WRONG -9 b''": "killed", "WRONG -15 b''": "killed"}
 
@@ -493,9 +493,10 @@ class Round:
             self.dismissed.add(name)
 
     def work(self):
-        """The seconds for which the processes that there are ran, or waited for a processor."""
+        """By how many seconds a bound is longer: four times those for which the processes that there are ran, or waited for a
+        processor. (A thread that waits for another one, which waits for a processor, is not in the kernel's account.)"""
         stays = busy(self.stays.process) - self.stayed if "L" in self.plan.hubs() else 0
-        return min(WORK, stays + sum(busy(process) for process in self.nodes.values()))
+        return min(WORK, 4 * (stays + sum(busy(process) for process in self.nodes.values())))
 
     def end(self, name, bound):
         """Waits for a process. The time for which the machine keeps it from going on does not count."""
@@ -539,7 +540,11 @@ class Round:
             if hub not in self.killed_hubs:
                 self.check_hub(hub)
         for link in self.plan.links():
-            self.check_link(link)
+            if "L" not in link:
+                self.compare([link])
+        for path in self.plan.paths:
+            if "L" in path:
+                self.compare(list(zip(path, path[1:])))
 
     def expect(self, is_so, told):
         if not is_so:
@@ -627,7 +632,7 @@ class Round:
 
     def amount(self, link, name):
         """What one side of a link reports of the money that went over it; None where it reports nothing."""
-        if name in self.killed_hubs or name == "L":
+        if name in self.killed_hubs:
             return None
         found = totals(self.nodes[name].totals)
         if name[0] in "sr":
@@ -636,15 +641,16 @@ class Round:
         word = "dues" if name == link[0] else "claims"
         return found.get(f"account {self.neighbours(name).index(other)} {word}")
 
-    def check_link(self, link):
-        """Both sides of a link report the same, but for the Fulfills that were lost between them."""
-        gave, took = self.amount(link, link[0]), self.amount(link, link[1])
+    def compare(self, links):
+        """Both ends of links in a row report the same, but for the Fulfills that were lost there."""
+        first, last = links[0][0], links[-1][1]
+        gave, took = self.amount(links[0], first), self.amount(links[-1], last)
         if gave is None or took is None:
             return
-        relay = self.relays.get(link)
-        lost = relay.units if relay else 0
-        is_exact = self.is_quick() and not (relay and relay.unknown) and not set(link) & self.killed
-        told = f"{link[0]} says {gave} and {link[1]} says {took}, and {lost} were lost"
+        relays = [self.relays[link] for link in links if link in self.relays]
+        lost = sum(relay.units for relay in relays)
+        is_exact = self.is_quick() and not any(relay.unknown for relay in relays) and not {first, last} & self.killed
+        told = f"{first} says {gave} and {last} says {took}, and {lost} were lost"
         self.expect(gave + lost == took if is_exact else gave <= took, told)
         self.exact += is_exact
 
@@ -811,7 +817,8 @@ class Soak:
             for it in workers:
                 it.join()
             self.summary(stays)
-            want(stays.process.poll() is None, f"the connector that stays {ended(stays.process, 1) if stays.process.poll() else ''}")
+            if stays.process.poll() is not None:
+                raise Wrong(f"the connector that stays {ended(stays.process, 1)}")
 
 
 def main():
@@ -821,8 +828,8 @@ def main():
     with tempfile.TemporaryDirectory(prefix="soak-") as room:
         os.chdir(room)
         soak = Soak(float(sys.argv[2]), seed)
-        soak.measure()
         try:
+            soak.measure()
             if number:
                 with Play() as play:
                     soak.one(int(number), Stays(play, 4))
