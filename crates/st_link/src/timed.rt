@@ -1,5 +1,7 @@
 //! A stream whose calls end by a deadline.
 
+ghost use Rattle.std.specs.Prelude.{◌≡◌};
+
 use std::io;
 use std::io::{ErrorKind, Read, Write};
 use std::net::OpenStream;
@@ -59,7 +61,9 @@ impl<'r, S, R: Clock> Timed<'r, S, R> {
     }
 
     /// What is left for a write. The first moves the deadline where it is sooner than the time for an answer.
-    fn left_to_write(&mut self) -> Option<Duration> {
+    fn left_to_write(&mut self) -> Option<Duration>
+        ensures { self.new.stream ≡ self.old.stream }
+    {
         if let Some(time) = self.answer.take() {
             self.deadline = self.deadline.max(deadline_in(self.clock, time));
         }
