@@ -268,25 +268,6 @@ def a_slow_request_is_cut_off_by(play, command):
     return f"{time.monotonic() - begun:.1f} s"
 
 
-@test(waits=True)
-def a_request_that_takes_33_seconds(play):
-    """It arrives in 25 seconds, and the next neighbour fulfills it 8 seconds later: the answer may still be written."""
-
-    def handle(_, stream):
-        message(stream)
-        time.sleep(8)
-        stream.sendall(answer(fulfill()))
-
-    hub = play.before(play.peer(handle))
-    content = request("t", prepare(10, 60, "test.b"))
-    stream = play.connect(hub.port, content[:-1])
-    time.sleep(25)
-    stream.sendall(content[-1:])
-    head, body = message(stream)
-    want(body[:1] == b"\x0d", f"answer {head[:40]!r} {body[:20]!r}")
-    return "fulfilled"
-
-
 # A connector that goes away.
 
 
