@@ -577,7 +577,7 @@ class Round:
         by = os.stat(receiver.totals).st_mtime
         lasted = by - receiver.begun
         self.expect(lasted > it.patience - 0.1, f"{path[-1]} 88 after {lasted:.1f} of {it.patience} s")
-        if self.ends[path[0]] != "killed" and not self.plan.relays and not self.plan.events:
+        if self.ends[path[0]] in ("0", "58", "59") and not self.plan.relays and not self.plan.events:
             late = by - os.stat(sender.totals).st_mtime - it.patience
             self.expect(late < SLACK, f"{path[-1]} 88 {late:.1f} s later than its patience")
 
