@@ -516,13 +516,14 @@ class Round:
             hub.kill()
         else:
             self.used_up |= hub.poll() is not None
-            token = f"{self.neighbours(name)[0]}-{name}"
-            asking = [threading.Thread(target=use_up, args=(hub, hub.port, token), daemon=True) for _ in range(8)]
-            for it in asking:
-                it.start()
-            for it in asking:
-                it.join()
+            for _ in range(8):
+                threading.Thread(target=self.ask, args=(hub, f"{self.neighbours(name)[0]}-{name}"), daemon=True).start()
         self.end(name, 60)
+
+    def ask(self, hub, token):
+        """Uses up the requests of a connector."""
+        while hub.poll() is None:
+            use_up(hub, hub.port, token)
 
     # What is asserted.
 
