@@ -516,13 +516,14 @@ class Round:
             hub.kill()
         else:
             self.used_up |= hub.poll() is not None
-            token = f"{self.neighbours(name)[0]}-{name}"
-            asking = [threading.Thread(target=use_up, args=(hub, hub.port, token), daemon=True) for _ in range(8)]
-            for it in asking:
-                it.start()
-            for it in asking:
-                it.join()
+            for _ in range(8):
+                threading.Thread(target=self.ask, args=(hub, f"{self.neighbours(name)[0]}-{name}"), daemon=True).start()
         self.end(name, 60)
+
+    def ask(self, hub, token):
+        """Uses up the requests of a connector."""
+        while hub.poll() is None:
+            use_up(hub, hub.port, token)
 
     # What is asserted.
 
@@ -577,7 +578,7 @@ class Round:
         by = os.stat(receiver.totals).st_mtime
         lasted = by - receiver.begun
         self.expect(lasted > it.patience - 0.1, f"{path[-1]} 88 after {lasted:.1f} of {it.patience} s")
-        if self.ends[path[0]] != "killed" and not self.plan.relays and not self.plan.events:
+        if self.ends[path[0]] in ("0", "58", "59") and not self.plan.relays and not self.plan.events:
             late = by - os.stat(sender.totals).st_mtime - it.patience
             self.expect(late < SLACK, f"{path[-1]} 88 {late:.1f} s later than its patience")
 
