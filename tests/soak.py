@@ -132,7 +132,7 @@ def draw(rng, speed, lanes):
 class Relay(Peer):
     """Passes each request on to a neighbour, and its answer back, but for those that it cuts off, slows down or keeps."""
 
-    def __init__(self, rng, share, silences, target, port=0):
+    def __init__(self, rng, share, silences, target, port):
         self.rng, self.share, self.silences, self.target = rng, share, silences, target
         self.lock, self.hears = threading.Lock(), threading.Event()
         # Lost answers, the units of those that were Fulfills, and the requests that a neighbour may have taken without an answer.
@@ -306,12 +306,14 @@ class Round:
         """Starts all, from the receivers to the senders."""
         plan = self.plan
         names = sorted({node for path in plan.paths for node in path[1:]} - {"L"})
-        self.given = free_ports(len(names))
+        # (relays too, so that no outgoing connection takes the port of one while it is gone)
+        self.given = free_ports(len(names) + len(plan.relays))
+        relay_ports = self.given[len(names) :]
         self.ports = {"L": self.stays.port, **dict(zip(names, self.given))}
         # The connector that stays sends to ports that do not change: a receiver, or the relay before it, listens there.
         self.ports.update({other: self.stays.ports[other] for hub, other in set(plan.links()) - set(plan.relays) if hub == "L"})
-        for link in plan.relays:
-            self.relay(link)
+        for link, port in zip(plan.relays, relay_ports):
+            self.relay(link, port)
         for path, it in zip(plan.paths, plan.transfers):
             self.receive(path, it)
         for hub in self.own_hubs():
@@ -320,8 +322,8 @@ class Round:
         for path, it in zip(plan.paths, plan.transfers):
             self.send(path, it)
 
-    def relay(self, link):
-        port = self.stays.ports[link[1]] if link[0] == "L" else 0
+    def relay(self, link, port):
+        port = self.stays.ports[link[1]] if link[0] == "L" else port
         self.relays[link] = Relay(random.Random(self.rng.random()), *self.plan.relays[link], self.ports[link[1]], port)
         self.play.peers.append(self.relays[link])
 
