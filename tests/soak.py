@@ -439,15 +439,11 @@ class Round:
         before = next(path[path.index(node) - 1] for path in self.plan.paths if node in path)
         content, begins = hostile(f"{before}-{node}", kind)
         try:
-            stream = self.play.connect(self.ports[node], content)
-            if kind == "closed at once":
-                stream.close()
-                return
-            stream.settimeout(seconds)
-            told = stream.recv(13)
-            if told and not (begins and begins.startswith(told)):
-                self.wrong.append(f"{node} answers {told!r} to {kind}")
-            stream.close()
+            with self.play.connect(self.ports[node], content) as stream:
+                stream.settimeout(0 if kind == "closed at once" else seconds)
+                told = stream.recv(13)
+                if told and not (begins and begins.startswith(told)):
+                    self.wrong.append(f"{node} answers {told!r} to {kind}")
         except OSError:
             pass
 
