@@ -203,8 +203,14 @@ class Relay(Peer):
     def resume(self, kind):
         if kind == "deaf":
             self.hears.set()
-        else:
-            self.listen(self.port)
+            return
+        for _ in range(50):  # the last listener may not have ended yet
+            try:
+                self.listen(self.port)
+                return
+            except OSError:
+                time.sleep(0.02)
+        raise OSError(f"port {self.port} stays taken")
 
 
 def is_whole(head, body):
