@@ -1,7 +1,8 @@
 #!/usr/bin/env python3
-"""How much of the processor a gate takes: times.py PROCESS. It looks at the processes below this one once a second until that ends
-or this gets SIGTERM, and then prints, for each crate, the processor's seconds of its proof, of its tests, which are proved too, and of its
-must-fail edits; then those of compilers and of what they built; and the sums. What a process takes in its last second is missed."""
+"""How much of the processor a gate takes: times.py PROCESS. It looks at the processes below this one once a second until that
+ends or this gets SIGTERM, and then prints, for each crate, the processor's seconds of its proof, of its tests, which are proved
+too, and of its must-fail edits; then those of compilers and of what they built; and the sums. What a process takes in its last
+second is missed."""
 import os, signal, sys, time
 from collections import defaultdict
 
