@@ -243,12 +243,21 @@ def a_connector_beside_connections_that_send(play, count, each):
     return transfer(play.send(hub.port, content), receiver, content, 15)
 
 
-@test(("nothing",), ("a byte each second",), waits=True)
-def a_receiver_beside_a_connection_that_sends(play, each):
+@test((1, "nothing"), (300, "nothing"), (4, "a byte each second"), waits=True)
+def a_receiver_beside_connections_that_send(play, count, each):
     content = some_bytes(50_000)
     receiver = play.receive()
-    beside(play, receiver.port, 1, each)
-    return transfer(play.send(receiver.port, content), receiver, content, 45)
+    beside(play, receiver.port, count, each)
+    return transfer(play.send(receiver.port, content), receiver, content, 15)
+
+
+@test(waits=True)
+def a_receiver_with_patience_beside_a_silent_connection(play):
+    content = some_bytes(50_000)
+    receiver = play.receive("--patience=4")
+    beside(play, receiver.port, 1, "nothing")
+    time.sleep(1)
+    return transfer(play.send(receiver.port, content), receiver, content, 15)
 
 
 @test(("connector",), ("receive",), waits=True)
@@ -633,6 +642,17 @@ def a_connector_with_more_connections_than_files(play):
         stream.close()
     stands(hub, "connector")
     return transfer(play.send(hub.port, content), receiver, content, 20)
+
+
+@test(waits=True)
+def a_receiver_with_more_connections_than_files(play):
+    content = some_bytes(50_000)
+    receiver = play.receive(preexec_fn=lambda: resource.setrlimit(resource.RLIMIT_NOFILE, (24, 24)))
+    for _ in range(40):
+        play.connect(receiver.port)
+    time.sleep(0.5)
+    stands(receiver, "receive")
+    return transfer(play.send(receiver.port, content), receiver, content, 20)
 
 
 @test()

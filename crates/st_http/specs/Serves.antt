@@ -1,5 +1,5 @@
 -- What is written to a stream, from what was read of it.
-use Rattle.std.specs.Prelude.{◌≡◌, ℕ, ◌⊎◌, List, Option, Some, None, ⊤}
+use Rattle.std.specs.Prelude.{◌≡◌, ℕ, ◌⊎◌, List, Option, Some, None, Result, Ok, Err, ⊤}
 use Rattle.std.specs.Io.KnownBytes.{Appends}
 use Rattle.st_http.specs.declared.error.HttpError.{HttpError}
 use Rattle.st_http.specs.declared.error.HttpError.TheVariants.{ReadFault, WriteFault, BadHead, Status, TooLong, Cut, Turns, NoMemory}
@@ -68,3 +68,15 @@ ExplainsServe {S} {T} k gives tokens began now old new e =
     ExplainsNoResponse gives tokens (reads k began now) old new e
     ⊎ ((asked : S) × (text : List ℕ) × IsDue gives tokens (reads k began asked) old new text
     × ExplainsWrite (k.contents asked) (k.contents now) text e)
+
+-- a response was written whole; or there was no memory for it, or a write failed, or the turns were used up
+abbrev pub Responds : {T : Type 0} → (before after : Option (List ℕ)) → (text : List ℕ) → Result T HttpError → Type 0
+Responds before after text (Ok x) = Appends before after text
+Responds before after text (Err NoMemory) = after ≡ before
+Responds before after text (Err ReadFault) = ⊥
+Responds before after text (Err (WriteFault sent)) = ExplainsWrite before after text (WriteFault sent)
+Responds before after text (Err BadHead) = ⊥
+Responds before after text (Err (Status code)) = ⊥
+Responds before after text (Err TooLong) = ⊥
+Responds before after text (Err Cut) = ⊥
+Responds before after text (Err Turns) = ExplainsWrite before after text Turns

@@ -29,5 +29,5 @@ pub use laws::{
     refusals_stay, wants_what_is_left,
 };
 pub use reading::Reading;
-pub use server::serve_one;
-pub use texts::is_field_text;
+pub use server::{refuse, respond, serve_one};
+pub use texts::{answer_text, is_field_text, refusal_text, request_text};

@@ -6,7 +6,8 @@ ghost use Rattle.st_http.specs.Progress.{account_of, body_of};
 ghost use Rattle.st_http.specs.Reads.{SpendsTurns, faults_told};
 ghost use Rattle.st_http.specs.declared.error.HttpError.TheVariants.{Turns};
 ghost use Rattle.st_oer.specs.Tallies.{TakesTurns, device_of, tally_of};
-ghost use Rattle.st_http.specs.Serves.{IsCalled, IsDue, IsServed, ExplainsNoResponse, ExplainsServe};
+ghost use Rattle.st_http.specs.Serves.{IsCalled, IsDue, IsServed, ExplainsNoResponse, ExplainsServe, Responds};
+ghost use Rattle.st_http.specs.Texts as spec;
 
 use crate::answerer::Answerer;
 use crate::error::HttpError;
@@ -17,7 +18,9 @@ use st_oer::Counting;
 use std::alloc::{AllocError, Allocator, Global};
 use std::io::{Read, Write};
 
-/// The response to a lawful request, which the answerer is asked for.
+/// Has a request answered that has come whole, and returns the response: that of `answer_text`, or of `refusal_text` with
+/// status 500 where there is no answer. Fails where memory for the response is refused. The answerer was asked once in any
+/// case.
 fn answered<T: Answerer, A: Allocator + Copy>(
     alloc: A,
     reading: &Reading<'_, A>,
@@ -95,5 +98,50 @@ pub fn serve_one<S: Read + Write, T: Answerer, A: Allocator + Copy>(
     match response_to_next(alloc, global, stream, tokens, answerer, &mut left) {
         Ok(text) => write_message(stream, &text, &mut left),
         Err(error) => Err(error),
+    }
+}
+
+/// Has a request answered that has come whole, and writes the response to a stream (RFC 0035, the synchronous mode). This
+/// is the second half of `serve_one`, for a caller that reads several requests at once. The answerer is asked once. Each
+/// call of the stream takes one of `turns`. The response is stored by `alloc`.
+///
+/// Fails with `WriteFault`, `Turns` or `NoMemory`. After an error the stream is not to be used again.
+pub fn respond<S: Write, T: Answerer, A: Allocator + Copy>(
+    alloc: A,
+    stream: &mut Counting<S>,
+    reading: &Reading<'_, A>,
+    answerer: &mut T,
+    turns: &mut u64,
+) -> Result<(), HttpError>
+    requires account { IsSome (account_of reading.now.standing) }
+    requires body { IsSome (body_of reading.now.standing) }
+    ensures called { (text : List ℕ) × IsCalled T.gives reading.now.standing answerer.old answerer.new text
+        × Responds (S.contents (device_of stream.old)) (S.contents (device_of stream.new)) text result }
+    ensures faults { (tally_of stream.new).faults ≡ faults_told result (tally_of stream.old).faults }
+    ensures turns { TakesTurns (tally_of stream.old) (tally_of stream.new) turns.old turns.new }
+{
+    match answered(alloc, reading, answerer) {
+        Ok(text) => write_message(stream, &text, turns),
+        Err(_) => Err(HttpError::NoMemory),
+    }
+}
+
+/// Refuses a request by this status, which is not 200: writes a response with an empty body to a stream. Each call of the
+/// stream takes one of `turns`. The response is stored by `alloc`.
+///
+/// Fails with `WriteFault`, `Turns` or `NoMemory`. After an error the stream is not to be used again.
+pub fn refuse<S: Write, A: Allocator + Copy>(
+    alloc: A,
+    stream: &mut Counting<S>,
+    status: u16,
+    turns: &mut u64,
+) -> Result<(), HttpError>
+    ensures written { Responds (S.contents (device_of stream.old)) (S.contents (device_of stream.new)) (spec.refusal_text status) result }
+    ensures faults { (tally_of stream.new).faults ≡ faults_told result (tally_of stream.old).faults }
+    ensures turns { TakesTurns (tally_of stream.old) (tally_of stream.new) turns.old turns.new }
+{
+    match refusal_text(alloc, status) {
+        Ok(text) => write_message(stream, &text, turns),
+        Err(_) => Err(HttpError::NoMemory),
     }
 }

@@ -1,5 +1,7 @@
 -- What an end that is asked answers.
-use Rattle.std.specs.Prelude.{◌≡◌, ◌⊎◌, ℕ, ℤ, List, Option, Some, None}
+use Rattle.std.specs.Prelude.{◌≡◌, ◌⊎◌, ℕ, ℤ, List, Option, Some, None, IsSome}
+use Rattle.st_http.specs.Message.{Standing}
+use Rattle.st_http.specs.Progress.{account_of, body_of}
 use Rattle.st_end.specs.State.{EndState}
 use Rattle.st_end.specs.Receiving.{Received, received, t00_text}
 
@@ -15,3 +17,7 @@ Answers a bytes None b = b ≡ a
 -- an answerer was asked once, or not at all
 abbrev pub AskedOnce : {T : Type 0} → (T → ℕ → List ℕ → Option (List ℕ) → T → Type 0) → T → T → Type 0
 AskedOnce gives old new = (new ≡ old) ⊎ ((account : ℕ) × (body : List ℕ) × (answer : Option (List ℕ)) × gives old account body answer new)
+
+-- a request has come whole: it has an account and a body
+abbrev pub IsWholeAt : Standing → Type 0
+IsWholeAt standing = IsSome (account_of standing) × IsSome (body_of standing)

@@ -17,6 +17,7 @@ mod ends;
 mod error;
 mod inlet;
 mod ivs;
+mod lobby;
 mod neighbour;
 mod receive;
 mod receiver;

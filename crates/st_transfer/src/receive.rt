@@ -1,17 +1,18 @@
 //! The command `receive`.
 
-ghost use Rattle.std.specs.Prelude.{◌≡◌, ◌+◌, ◌<◌, true, OnOk, IfErr, IsSome, MatchResult, Err};
+ghost use Rattle.std.specs.Prelude.{◌≡◌, ◌<◌, true, OnOk, IsSome, Err};
 ghost use Rattle.st_oer.specs.Tallies.{device_of, tally_of};
 ghost use Rattle.st_end.specs.Calls as calls;
 ghost use Rattle.st_end.specs.Seen.{totals_seen};
+ghost use Rattle.st_transfer.specs.Answering.{IsWholeAt};
 ghost use Rattle.st_transfer.specs.Keeping.{IsAsked, Receives, ReceivesFrom, TellsTotals, faults_told, file_stream};
 ghost use Rattle.st_transfer.specs.declared.error.TransferError.TheVariants.{Accept, Silent, Turns};
 
 use crate::delivery::{Delivered, STREAM, deliver};
 use crate::ended::Ended;
 use crate::error::TransferError;
+use crate::lobby::{Guest, Lobby};
 use crate::receiver::Receiver;
-use crate::serving::{ServeTerms, accept_next, serve_within};
 use crate::terms::ReceiveTerms;
 use crate::waiting::{AwaitListener, Patience};
 use st_desk::Clock;
@@ -21,44 +22,24 @@ use std::alloc::Global;
 use std::io::{Read, Write};
 use std::net::OpenStream;
 
-/// Waits for the next connection, and serves its request. `connections` is the number of those that may be accepted.
-fn serve_next<L: AwaitListener, K: Clock>(
-    rt: &impl std::time::Clock,
-    listener: &L,
-    patience: &Patience,
+/// Has the request of a connection answered by the end, and writes the response.
+fn serve_guest<S: Read + Write + OpenStream + Drop, R: std::time::Clock, K: Clock>(
+    guest: Guest<'_, S, R>,
     receiver: &mut Receiver<K>,
-    terms: ReceiveTerms<'_>,
-    connections: &mut u64,
-) -> Result<(), TransferError>
-where
-    L::Stream: Read + Write + OpenStream,
-    requires { 0 < connections.old }
-    ensures asked { IsAsked receiver.old receiver.new }
-    ensures silent { IfErr result (λ e. e ≡ Silent → IsSome patience.now.time) }
-    ensures connections { MatchResult result (λ _. connections.new + 1 ≡ connections.old) (λ _. connections.new ≡ connections.old) }
+)
+    requires { IsWholeAt guest.entry.reading.standing }
+    ensures { IsAsked receiver.old receiver.new }
 {
-    let time = patience.wait(rt, listener)?;
-    let stream = accept_next(rt, listener)?;
-    *connections -= 1;
-    let tokens = [terms.token];
-    let terms = ServeTerms {
-        tokens: &tokens,
-        turns: terms.turns,
-        time,
-    };
-    serve_within(rt, receiver.alloc, stream, receiver, terms);
-    Ok(())
+    guest.answer(receiver.alloc, receiver);
 }
 
-/// Takes requests and writes what arrives, until the stream ended. `connections` is the number of those that may be
-/// accepted.
-fn receive_all<L: AwaitListener, W: Write, K: Clock>(
-    rt: &impl std::time::Clock,
-    listener: &L,
+/// Takes requests and writes what arrives, until the stream ended.
+fn receive_all<L: AwaitListener, R: std::time::Clock, W: Write, K: Clock>(
+    rt: &R,
+    lobby: &mut Lobby<'_, L, R>,
     receiver: &mut Receiver<K>,
     writer: &mut Counting<W>,
     terms: ReceiveTerms<'_>,
-    connections: &mut u64,
 ) -> Result<u64, TransferError>
 where
     L::Stream: Read + Write + OpenStream,
@@ -66,35 +47,32 @@ where
     ensures flushed { OnOk result ((tally_of writer.new).flushed ≡ true) }
     ensures faults { (tally_of writer.new).faults ≡ faults_told result (tally_of writer.old).faults }
     ensures patient { result ≡ Err Silent → IsSome terms.entry.patience }
-    ensures turned { result ≡ Err Turns → connections.new ≡ 0 }
-    ensures unaccepted { result ≡ Err Accept → 0 < connections.new }
+    ensures turned { result ≡ Err Turns → lobby.new.left ≡ 0 }
+    ensures unaccepted { result ≡ Err Accept → 0 < lobby.new.left }
 {
     let mut written = 0;
     let mut patience = Patience::new(rt, terms.patience);
-    while *connections > 0 {
-        let mut left = terms.turns;
-        let asked = receiver.asked;
-        match serve_next(rt, listener, &patience, receiver, terms, connections) {
-            Ok(()) => {}
+    'requests: loop {
+        let guest = match lobby.next(&patience) {
+            Ok(guest) => guest,
             Err(TransferError::Silent) => return Err(TransferError::Silent),
+            Err(TransferError::Turns) => return Err(TransferError::Turns),
             Err(_) => return Err(TransferError::Accept),
-        }
+        };
+        serve_guest(guest, receiver);
+        let mut left = terms.turns;
         match deliver(&mut receiver.end, writer, &mut written, &mut left) {
-            Ok(Delivered::More) => {}
+            Ok(Delivered::More) => patience.renew(rt),
             Ok(Delivered::Whole) => return Ok(written),
             Err(error) => return Err(error),
         }
-        if receiver.asked != asked {
-            patience.renew(rt);
-        }
     }
-    Err(TransferError::Turns)
 }
 
 /// Sets the stream's receive maximum, then takes requests and writes what arrives.
-fn receive_from<L: AwaitListener, W: Write, K: Clock>(
-    rt: &impl std::time::Clock,
-    listener: &L,
+fn receive_from<L: AwaitListener, R: std::time::Clock, W: Write, K: Clock>(
+    rt: &R,
+    lobby: &mut Lobby<'_, L, R>,
     receiver: &mut Receiver<K>,
     writer: &mut Counting<W>,
     terms: ReceiveTerms<'_>,
@@ -107,10 +85,7 @@ where
     ensures patient { result ≡ Err Silent → IsSome terms.entry.patience }
 {
     match receiver.end.set_receive_max(STREAM, terms.receive_max) {
-        Ok(()) => {
-            let mut connections = terms.turns;
-            receive_all(rt, listener, receiver, writer, terms, &mut connections)
-        }
+        Ok(()) => receive_all(rt, lobby, receiver, writer, terms),
         Err(error) => Err(TransferError::End(error)),
     }
 }
@@ -118,22 +93,22 @@ where
 /// Runs a receiver: answers the requests with the bearer token of the terms that arrive at `listener`, one after
 /// another, over ILP over HTTP (RFC 0035, the synchronous mode). The answers come from `end`, which sends no Prepare of
 /// its own. The bytes that arrive on stream 1 are written to `writer` (RFC 0029): after each request what can be read
-/// then, before the next connection is accepted. The result is the number of bytes written, once the stream ended
+/// then, before the next request is answered. The result is the number of bytes written, once the stream ended
 /// cleanly and the request that brought its end was answered.
 ///
-/// `clock` gives the moments at which Prepares arrive. `rt` is the runtime that measures time: a request may take 30
-/// seconds to arrive, and no longer than the receiver's patience; its answer may be written until then, and for 5 seconds
-/// at least. A valid request is one that is answered by the end:
-/// the patience begins again once what it brought is written. After each request, stream 1 and the output together are
-/// called at most `terms.turns` times. A connection that fails, is cut off, is too slow or uses up its I/O calls ends
-/// alone.
+/// Up to 256 connections are read at once, so that none that is silent or slow holds up another; where one more comes,
+/// the oldest is closed. `clock` gives the moments at which Prepares arrive. `rt` is the runtime that measures time: a
+/// request may take 30 seconds to arrive, and no longer than the receiver's patience; its answer may be written until
+/// then, and for 5 seconds at least. A valid request is one that is answered by the end: the patience begins again once
+/// what it brought is written. After each request, stream 1 and the output together are called at most `terms.turns`
+/// times. A connection that fails, is cut off, is too slow or uses up its I/O calls ends alone.
 ///
-/// The result is `Accept` where the listener gives no connection 100 times in a row; `Silent` where no valid request
-/// arrived for as long as the patience lasts; `Turns` after the last connection; `File` where the output fails or its
-/// calls are used up, and where the peer aborted the stream; `End` where `end` refuses the receive maximum, or memory to
-/// read the stream is refused. What arrived before is written.
-pub fn receive_on<L: AwaitListener + Drop, W: Write, K: Clock + Drop>(
-    rt: &impl std::time::Clock,
+/// The result is `Accept` where the listener gives no connection 100 times in a row while none is open; `Silent` where no
+/// valid request arrived for as long as the patience lasts; `Turns` after the last connection; `File` where the output
+/// fails or its calls are used up, and where the peer aborted the stream; `End` where `end` refuses the receive maximum,
+/// or memory to read the stream is refused. What arrived before is written.
+pub fn receive_on<L: AwaitListener + Drop, R: std::time::Clock, W: Write, K: Clock + Drop>(
+    rt: &R,
     alloc: Global,
     listener: L,
     end: EndState<Global>,
@@ -148,13 +123,10 @@ where
     ensures faults { (tally_of writer.new).faults ≡ faults_told result.result (tally_of writer.old).faults }
     ensures patient { result.result ≡ Err Silent → IsSome terms.entry.patience }
 {
-    let mut receiver = Receiver {
-        end,
-        clock,
-        alloc,
-        asked: 0,
-    };
-    let result = receive_from(rt, &listener, &mut receiver, writer, terms);
+    let mut receiver = Receiver { end, clock, alloc };
+    let tokens = [terms.token];
+    let mut lobby = Lobby::new(rt, alloc, &listener, &tokens, terms.turns);
+    let result = receive_from(rt, &mut lobby, &mut receiver, writer, terms);
     Ended {
         result,
         totals: receiver.end.totals(),

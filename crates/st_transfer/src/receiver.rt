@@ -12,8 +12,6 @@ pub(crate) struct Receiver<K: Clock> {
     pub(crate) end: EndState<Global>,
     pub(crate) clock: K,
     pub(crate) alloc: Global,
-    /// The number of requests that it was asked to answer.
-    pub(crate) asked: u64,
 }
 
 impl<K: Clock> Answerer for Receiver<K> {
@@ -22,7 +20,6 @@ impl<K: Clock> Answerer for Receiver<K> {
     ghost gives = { λ old _ body answer new. Answers old.end body answer new.end };
 
     fn answer(&mut self, _account: usize, body: &[u8]) -> Option<Vec<u8>> {
-        self.asked = self.asked.saturating_add(1);
         let now = self.clock.now();
         match self.end.receive(body, now) {
             Ok(Received { bytes, .. }) => Some(bytes),

@@ -17,11 +17,11 @@ use std::time::{Clock, Duration};
 /// How often in a row `accept` may fail.
 const TRIES: u32 = 100;
 
-/// How many milliseconds pass between two tries.
-const PAUSE: u64 = 10;
+/// How many milliseconds pass between two tries of a call that failed.
+pub(crate) const PAUSE: u64 = 10;
 
 /// How many seconds there are at least to write an answer.
-const WRITE_SECONDS: u64 = 5;
+pub(crate) const WRITE_SECONDS: u64 = 5;
 
 /// Accepts the next connection of a listener. Where that fails, for example because the process has no file descriptor
 /// left, it tries again after 10 milliseconds. Fails with `Accept` after 100 failures in a row.
@@ -40,60 +40,24 @@ pub(crate) fn accept_next<L: OpenListener>(
     Err(TransferError::Accept)
 }
 
-/// How the request of a connection is served.
-#[derive(Clone, Copy)]
-pub(crate) struct ServeTerms<'a> {
-    /// The bearer token of each account.
-    pub(crate) tokens: &'a [&'a str],
-    /// The most I/O calls.
-    pub(crate) turns: u64,
-    /// How long the request may take to arrive, up to 30 seconds.
-    pub(crate) time: Duration,
-}
-
 /// Reads one request from a stream, has it answered where it is valid, and writes the response. Returns whether a request
 /// came whole.
 #[tactic(auto, using(crate::proofs::Unanswered::asked_served))]
 fn serve_stream<S: Read + Write, T: Answerer>(
     alloc: Global,
     stream: &mut Counting<S>,
+    tokens: &[&str],
     answerer: &mut T,
-    terms: ServeTerms<'_>,
+    turns: u64,
 ) -> bool
     ensures asked { AskedOnce T.gives answerer.old answerer.new }
     ensures unasked { MatchBool result ⊤ (answerer.new ≡ answerer.old) }
 {
-    match serve_one(alloc, alloc, stream, terms.tokens, answerer, terms.turns) {
+    match serve_one(alloc, alloc, stream, tokens, answerer, turns) {
         Ok(()) => true,
         Err(HttpError::ReadFault | HttpError::Cut) => false,
         Err(_) => true,
     }
-}
-
-/// Reads one request from a connection, has it answered where it is valid, and writes the response (RFC 0035, the
-/// synchronous mode). The response may be written until the time of the terms is over, and for 5 seconds at least: a
-/// request that changed something has its answer also where it arrived at the last moment. What fails on the connection ends it alone.
-///
-/// Returns whether a request came whole, be it answered or refused. False where the connection ended, failed or was
-/// silent before that, and where memory for its buffer is refused.
-pub(crate) fn serve_within<S: Read + Write + OpenStream + Drop, T: Answerer>(
-    rt: &impl Clock,
-    alloc: Global,
-    stream: S,
-    answerer: &mut T,
-    terms: ServeTerms<'_>,
-) -> bool
-    ensures asked { AskedOnce T.gives answerer.old answerer.new }
-    ensures unasked { MatchBool result ⊤ (answerer.new ≡ answerer.old) }
-{
-    let _ = stream.set_nodelay(true);
-    let time = terms.time.min(Duration::from_secs(ANSWER_SECONDS));
-    let timed = Timed::answering(stream, rt, time, Duration::from_secs(WRITE_SECONDS));
-    let Ok(buffered) = Buffered::new(alloc, timed) else {
-        return false;
-    };
-    let mut stream = Counting::new(buffered);
-    serve_stream(alloc, &mut stream, answerer, terms)
 }
 
 /// Reads one request from a connection, has it answered where it is valid, and writes the response (RFC 0035, the
@@ -113,16 +77,12 @@ pub(crate) fn serve_on<S: Read + Write + OpenStream + Drop, T: Answerer>(
     ensures asked { AskedOnce T.gives answerer.old answerer.new }
     ensures unasked { MatchBool result ⊤ (answerer.new ≡ answerer.old) }
 {
+    let _ = stream.set_nodelay(true);
     let time = Duration::from_secs(ANSWER_SECONDS);
-    serve_within(
-        rt,
-        alloc,
-        stream,
-        answerer,
-        ServeTerms {
-            tokens,
-            turns,
-            time,
-        },
-    )
+    let timed = Timed::answering(stream, rt, time, Duration::from_secs(WRITE_SECONDS));
+    let Ok(buffered) = Buffered::new(alloc, timed) else {
+        return false;
+    };
+    let mut stream = Counting::new(buffered);
+    serve_stream(alloc, &mut stream, tokens, answerer, turns)
 }

@@ -4,35 +4,49 @@ ghost use Rattle.std.specs.Prelude.{◌≡◌, IsSome, IfErr};
 ghost use Rattle.st_transfer.specs.declared.error.TransferError.TheVariants.{Silent};
 
 use crate::error::TransferError;
-use libc::net::{POLLIN, poll};
-use libc::types::pollfd;
-use std::net::{OpenListener, TcpListener};
+use std::net::{OpenListener, TcpListener, TcpStream};
 use std::os::fd::AsRawFd;
 use std::time::{Clock, Duration, Instant};
 
-/// A listener that can say whether a connection waits to be accepted.
+/// A listener for whose connections `poll` can wait.
 pub trait AwaitListener: OpenListener {
-    /// Waits until a connection can be accepted, for at most `time`. False where none can be then. A listener that
-    /// cannot say so returns true at once: its `accept` waits.
-    fn await_connection(&self, _time: Duration) -> bool {
-        true
+    /// The listener's file descriptor. `None` where `poll` cannot wait for it: then one connection after another is
+    /// accepted and read, and each call waits.
+    fn descriptor(&self) -> Option<i32> {
+        None
+    }
+
+    /// The file descriptor of one of its connections. `None` where `poll` cannot wait for it.
+    fn descriptor_of(_stream: &Self::Stream) -> Option<i32> {
+        None
     }
 }
 
 impl AwaitListener for TcpListener {
-    fn await_connection(&self, time: Duration) -> bool {
-        let mut fds = [pollfd {
-            fd: self.as_raw_fd(),
-            events: POLLIN,
-            revents: 0,
-        }];
-        poll(&mut fds, millis_of(time)) > 0
+    fn descriptor(&self) -> Option<i32> {
+        Some(self.as_raw_fd())
+    }
+
+    fn descriptor_of(stream: &TcpStream) -> Option<i32> {
+        Some(stream.as_raw_fd())
     }
 }
 
 /// A time in whole milliseconds, rounded up, as `poll` takes it.
-fn millis_of(time: Duration) -> i32 {
+pub(crate) fn millis_of(time: Duration) -> i32 {
     i32::try_from(time.as_millis().saturating_add(1)).unwrap_or(i32::MAX)
+}
+
+/// The moment that is `time` from now, where the clock can be read.
+pub(crate) fn deadline_in(rt: &impl Clock, time: Duration) -> Option<Instant> {
+    Instant::now(rt).ok()?.checked_add(time)
+}
+
+/// What is left until a deadline. `None` where it has passed, or where the clock cannot be read.
+pub(crate) fn left_until(rt: &impl Clock, deadline: Option<Instant>) -> Option<Duration> {
+    let now = Instant::now(rt).ok()?;
+    let left = deadline?.checked_duration_since(now)?;
+    if left.is_zero() { None } else { Some(left) }
 }
 
 /// How long a receiver waits for a request, and until when.
@@ -64,37 +78,21 @@ impl Patience {
         ensures { self.new.time ≡ self.old.time }
     {
         if let Some(time) = self.time {
-            self.deadline = Instant::now(rt).ok().and_then(|now| now.checked_add(time));
+            self.deadline = deadline_in(rt, time);
         }
     }
 
-    /// What is left of it. `None` where it is over, or where the clock cannot be read.
-    fn left(&self, rt: &impl Clock) -> Option<Duration> {
-        let now = Instant::now(rt).ok()?;
-        let left = self.deadline?.checked_duration_since(now)?;
-        if left.is_zero() { None } else { Some(left) }
-    }
-
-    /// Waits until a connection can be accepted. Returns how long its request may take. Fails with `Silent` where the
-    /// patience is over before, and never where it has no end.
-    pub(crate) fn wait<L: AwaitListener>(
-        &self,
-        rt: &impl Clock,
-        listener: &L,
-    ) -> Result<Duration, TransferError>
-        ensures silent { IfErr result (λ e. (e ≡ Silent) × IsSome self.now.time) }
+    /// What is left of it. `None` where it has no end. Fails with `Silent` where it is over, or where the clock cannot be
+    /// read.
+    pub(crate) fn left(&self, rt: &impl Clock) -> Result<Option<Duration>, TransferError>
+        ensures { IfErr result (λ e. (e ≡ Silent) × IsSome self.now.time) }
     {
         if self.time.is_none() {
-            return Ok(Duration::MAX);
+            return Ok(None);
         }
-        for _ in 0..u64::MAX {
-            let Some(left) = self.left(rt) else {
-                break;
-            };
-            if listener.await_connection(left) {
-                return self.left(rt).ok_or(TransferError::Silent);
-            }
+        match left_until(rt, self.deadline) {
+            Some(left) => Ok(Some(left)),
+            None => Err(TransferError::Silent),
         }
-        Err(TransferError::Silent)
     }
 }
