@@ -1,5 +1,6 @@
 pub mod Errors
 pub mod Crew
+pub mod Lobby
 pub mod Moments
 pub mod Accounts
 pub mod Answering

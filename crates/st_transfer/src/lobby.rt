@@ -3,6 +3,7 @@
 ghost use Rattle.std.specs.Prelude.{◌≡◌, ◌+◌, ◌<◌, ◌≤◌, IsSome, IsTrue, IfErr, IfOk, IfSome, IsOkUnless, MatchOption, OnErr, Err, vec_len};
 ghost use Rattle.st_http.specs.Progress.{account_of, body_of};
 ghost use Rattle.st_transfer.specs.Answering.{AskedOnce, IsWholeAt};
+ghost use Rattle.st_transfer.specs.Lobby.{IsOfLobby};
 ghost use Rattle.st_transfer.specs.declared.error.TransferError.TheVariants.{Accept, Silent, Turns};
 
 use crate::error::TransferError;
@@ -75,7 +76,7 @@ impl<S: Read + Write + OpenStream + Drop, R: Clock> Guest<'_, S, R> {
 
     /// Has the request answered, writes the response, and ends the connection. What fails on the connection ends it alone.
     pub(crate) fn answer<T: Answerer>(self, alloc: Global, answerer: &mut T)
-        requires { IsWholeAt self.entry.reading.standing }
+        requires { IsWholeAt self.reading.standing }
         ensures { AskedOnce T.gives answerer.old answerer.new }
     {
         let Guest {
@@ -313,6 +314,7 @@ where
         ensures silent { IfErr result (λ e. e ≡ Silent → IsSome patience.now.time) }
         ensures turned { result ≡ Err Turns → self.new.left ≡ 0 }
         ensures unaccepted { result ≡ Err Accept → 0 < self.new.left }
+        ensures known { IfErr result IsOfLobby }
     {
         for _ in 0..u64::MAX {
             if self.left == 0 && self.guests.is_empty() {

@@ -27,7 +27,7 @@ fn serve_guest<S: Read + Write + OpenStream + Drop, R: std::time::Clock, K: Cloc
     guest: Guest<'_, S, R>,
     receiver: &mut Receiver<K>,
 )
-    requires { IsWholeAt guest.entry.reading.standing }
+    requires { IsWholeAt guest.reading.standing }
     ensures { IsAsked receiver.old receiver.new }
 {
     guest.answer(receiver.alloc, receiver);
@@ -57,7 +57,8 @@ where
             Ok(guest) => guest,
             Err(TransferError::Silent) => return Err(TransferError::Silent),
             Err(TransferError::Turns) => return Err(TransferError::Turns),
-            Err(_) => return Err(TransferError::Accept),
+            Err(TransferError::Accept) => return Err(TransferError::Accept),
+            Err(_) => unreachable!(),
         };
         serve_guest(guest, receiver);
         let mut left = terms.turns;

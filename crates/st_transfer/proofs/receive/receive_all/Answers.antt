@@ -5,40 +5,40 @@ use Rattle.st_oer.specs.Tallies.{device_of}
 use Rattle.st_transfer.proofs.Keeping.{kept_asked, kept_none}
 use Rattle.st_transfer.proofs.receive.receive_all.Goals as goal
 
-pub loop-requests-init : goal.loop-requests-init
-loop-requests-init g c = record {
+pub requests-init : goal.requests-init
+requests-init g c = record {
   kept = kept_none c.args.receiver.now.end (g.W.Write.contents (device_of c.args.writer.now));
   faults = refl;
   patient = c.new-patience.ensures;
 }
 
 pub returns-in-Err-Silent-clause-told : goal.returns-in-Err-Silent-clause-told
-returns-in-Err-Silent-clause-told g c = (c.loop-requests.written, c.loop-requests.invariant.kept)
+returns-in-Err-Silent-clause-told g c = (c.requests.written, c.requests.invariant.kept)
 
 pub returns-in-Err-Turns-clause-told : goal.returns-in-Err-Turns-clause-told
-returns-in-Err-Turns-clause-told g c = (c.loop-requests.written, c.loop-requests.invariant.kept)
+returns-in-Err-Turns-clause-told g c = (c.requests.written, c.requests.invariant.kept)
 
-pub returns-in-Err-clause-told : goal.returns-in-Err-clause-told
-returns-in-Err-clause-told g c = (c.loop-requests.written, c.loop-requests.invariant.kept)
+pub returns-in-Err-Accept-clause-told : goal.returns-in-Err-Accept-clause-told
+returns-in-Err-Accept-clause-told g c = (c.requests.written, c.requests.invariant.kept)
 
 pub returns-in-Ok-Whole-clause-told : goal.returns-in-Ok-Whole-clause-told
 returns-in-Ok-Whole-clause-told g c =
     let before = g.W.Write.contents (device_of c.args.writer.now) in
-    let asked = kept_asked c.loop-requests.receiver c.serve_guest.new.receiver c.args.receiver.now.end before (g.W.Write.contents (device_of c.loop-requests.writer)) c.loop-requests.written c.loop-requests.invariant.kept c.serve_guest.ensures in
+    let asked = kept_asked c.requests.receiver c.serve_guest.new.receiver c.args.receiver.now.end before (g.W.Write.contents (device_of c.requests.writer)) c.requests.written c.requests.invariant.kept c.serve_guest.ensures in
     rw c.in-Ok-Whole.field-0-is at (c.in-Ok-Whole.ensures.kept c.args.receiver.now.end before asked)
 
 pub returns-in-Err-deliver-clause-told : goal.returns-in-Err-deliver-clause-told
 returns-in-Err-deliver-clause-told g c =
     let before = g.W.Write.contents (device_of c.args.writer.now) in
-    let asked = kept_asked c.loop-requests.receiver c.serve_guest.new.receiver c.args.receiver.now.end before (g.W.Write.contents (device_of c.loop-requests.writer)) c.loop-requests.written c.loop-requests.invariant.kept c.serve_guest.ensures in
+    let asked = kept_asked c.requests.receiver c.serve_guest.new.receiver c.args.receiver.now.end before (g.W.Write.contents (device_of c.requests.writer)) c.requests.written c.requests.invariant.kept c.serve_guest.ensures in
     c.in-Err-deliver.ensures.kept c.args.receiver.now.end before asked
 
-pub loop-requests-preserved : goal.loop-requests-preserved
-loop-requests-preserved g c =
+pub requests-preserved : goal.requests-preserved
+requests-preserved g c =
     let before = g.W.Write.contents (device_of c.args.writer.now) in
-    let asked = kept_asked c.loop-requests.receiver c.serve_guest.new.receiver c.args.receiver.now.end before (g.W.Write.contents (device_of c.loop-requests.writer)) c.loop-requests.written c.loop-requests.invariant.kept c.serve_guest.ensures in
+    let asked = kept_asked c.requests.receiver c.serve_guest.new.receiver c.args.receiver.now.end before (g.W.Write.contents (device_of c.requests.writer)) c.requests.written c.requests.invariant.kept c.serve_guest.ensures in
     record {
       kept = rw c.in-Ok-More.field-0-is at (c.in-Ok-More.ensures.kept c.args.receiver.now.end before asked);
-      faults = c.in-Ok-More.ensures.faults ∙ c.loop-requests.invariant.faults;
-      patient = λ some. c.loop-requests.invariant.patient (subst (λ (o : Option Duration). IsSome o) c.renew.ensures some);
+      faults = c.in-Ok-More.ensures.faults ∙ c.requests.invariant.faults;
+      patient = λ some. c.requests.invariant.patient (subst (λ (o : Option Duration). IsSome o) c.renew.ensures some);
     }

@@ -4,12 +4,12 @@ use Rattle.st_oer.specs.Tallies.{device_of, tally_of}
 use Rattle.st_transfer.specs.Keeping.{Kept}
 use Rattle.st_transfer.proofs.receive.receive_all.Given as goal
 
-abbrev pub invariant-loop-requests : goal.invariant-loop-requests
-invariant-loop-requests g l = record {
+abbrev pub invariant-requests : goal.invariant-requests
+invariant-requests g l = record {
   kept : Kept l.fn.receiver.end (g.W.Write.contents (device_of l.fn.writer)) l.receiver.end (g.W.Write.contents (device_of l.writer)) l.written;
   faults : (tally_of l.writer).faults ≡ (tally_of l.fn.writer).faults;
   patient : IsSome l.patience.time → IsSome l.terms.patience;
 }
 
-abbrev pub decreases-loop-requests : goal.decreases-loop-requests
-decreases-loop-requests g l = l.lobby.left + vec_len l.lobby.guests
+abbrev pub decreases-requests : goal.decreases-requests
+decreases-requests g l = l.lobby.left + vec_len l.lobby.guests

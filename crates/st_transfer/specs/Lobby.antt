@@ -1,0 +1,18 @@
+-- Why a receiver has no further request.
+use Rattle.std.specs.Prelude.{⊤}
+use Rattle.st_transfer.specs.declared.error.TransferError.{TransferError}
+use Rattle.st_transfer.specs.declared.error.TransferError.TheVariants.{Failed, Stalled, Rings, Accept, Turns, Silent, IvFault, NoMemory, End, Desk, File}
+
+-- the listener gave no connection, the connections are used up, or nothing came
+abbrev pub IsOfLobby : TransferError → Type 0
+IsOfLobby Failed = ⊥
+IsOfLobby Stalled = ⊥
+IsOfLobby Rings = ⊥
+IsOfLobby Accept = ⊤
+IsOfLobby Turns = ⊤
+IsOfLobby Silent = ⊤
+IsOfLobby IvFault = ⊥
+IsOfLobby NoMemory = ⊥
+IsOfLobby (End e) = ⊥
+IsOfLobby (Desk e) = ⊥
+IsOfLobby (File e) = ⊥
