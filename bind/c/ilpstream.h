@@ -7,8 +7,8 @@
  * handle of another kind is ILP_MISUSE too. A handle is used by one thread, the one that made it.
  *
  * Codes. Each call returns ILP_DONE or another number. ILP_IDLE, ILP_ENDED, ILP_ABORTED and ILP_ONWARD are answers. All others
- * are refusals: what the handle is of is then as before the call. A number out of its range, as a stream above 255 or a time
- * before the year 0, is ILP_ARGUMENT. Where a call does not return the code for which a parameter is described, what that
+ * are refusals: what the handle is of is then as before the call. A number out of its range, as a stream above 255 or a
+ * negative time, is ILP_ARGUMENT. Where a call does not return the code for which a parameter is described, what that
  * parameter points to has no meaning.
  *
  * Bytes that a call gives are put out: they stay in the handle until the next call that puts out bytes, and ilp_output copies
@@ -23,7 +23,8 @@
  * malloc, realloc and free do not give and take as the C standard says. Two packets of a connection with the same IV give
  * away their contents and the key of their authentication: see ilp_end_send.
  *
- * Units. Amounts are in the smallest unit of the asset of their link. Times are milliseconds after 1970-01-01 00:00 UTC. */
+ * Units. Amounts are in the smallest unit of the asset of their link. Times are milliseconds since 1970-01-01 00:00 UTC, from
+ * 0 to 253,402,300,000,000. */
 #ifndef ILPSTREAM_H
 #define ILPSTREAM_H
 #include <stddef.h>
@@ -77,7 +78,7 @@ enum { ILP_CLIENT = 0, ILP_SERVER = 1 };
 /* How an end sends. `in_flight` is how many Prepares may wait for their answer at once, 1 to 64; `packets` how many it sends
  * in all, 1 to 2^31 - 1; `packet_limit` the greatest amount of one Prepare at the start, 1 to 2^63 - 1. The prepare amount of
  * a packet, which is the least that has to arrive (RFC 0029, section 5.2), is its amount times `least_num` / `least_den`,
- * rounded down; `least_den` is not 0. */
+ * rounded down; neither of the two is 0, and 1 / 1 has all of it arrive. */
 typedef struct ilp_end_config {
     size_t in_flight;
     uint64_t packets;
@@ -110,8 +111,8 @@ ilp_code ilp_end_abort(ilp_end *end, uint32_t stream, uint32_t code);
 /* Offers `amount` units on a stream, beside what was offered before. ILP_NO_STREAM, ILP_CLOSED, ILP_AMOUNT, ILP_FAILED. */
 ilp_code ilp_end_offer(ilp_end *end, uint32_t stream, uint64_t amount);
 
-/* Lets a stream receive up to `amount` units in all; it is never lowered, and 0 at the start. ILP_NO_STREAM, ILP_CLOSED,
- * ILP_FAILED. */
+/* Lets a stream receive up to `amount` units in all; before the first such call it receives none. The stream is open, or one
+ * that the peer may open. ILP_NO_STREAM. */
 ilp_code ilp_end_set_receive_max(ilp_end *end, uint32_t stream, uint64_t amount);
 
 /* Puts out the first bytes that can be read on a stream, at most `max`, which is not 0. ILP_DONE: `len` is how many, at least
@@ -121,7 +122,7 @@ ilp_code ilp_end_read(ilp_end *end, uint32_t stream, size_t max, size_t *len, ui
 
 /* Puts out the bytes of the next ILP Prepare, which is to be sent to the peer: `len` is how many, and `flight` the number by
  * which the answer is reported. `iv` has 12 bytes: no two packets of a connection, of either end, may have the same, so take
- * them from the system's random bytes. `now` is the time: the Prepare expires some seconds later. ILP_IDLE: nothing is to
+ * them from the system's random bytes. `now` is the time; the Prepare expires 30 seconds later. ILP_IDLE: nothing is to
  * be sent now. ILP_NO_MEMORY. */
 ilp_code ilp_end_send(ilp_end *end, const uint8_t iv[12], int64_t now, uint64_t *flight, size_t *len);
 
@@ -183,7 +184,7 @@ typedef struct ilp_account {
 
 /* A route. Its prefix, an ILP address, is the next `prefix_len` bytes of a text that all routes share. `account` is where a
  * Prepare goes on to whose destination has the prefix; where several do, the longest one counts. The amount that goes on is
- * that which arrived times `num` / `den`, rounded down; `den` is not 0. */
+ * that which arrived times `num` / `den`, rounded down; neither of the two is 0. */
 typedef struct ilp_route {
     size_t prefix_len;
     size_t account;
@@ -192,8 +193,8 @@ typedef struct ilp_route {
 } ilp_route;
 
 /* Makes a hop in an empty handle: its own ILP address, its accounts, numbered from 0, and its routes, whose prefixes stand one
- * after another in `prefixes`. Nothing is owed yet. ILP_ARGUMENT where `own` or a prefix is no ILP address, a `den` is 0, or
- * the lengths of the prefixes are not together `prefixes_len`; ILP_BAD_TABLE; ILP_MISUSE where the handle is not empty;
+ * after another in `prefixes`. Nothing is owed yet. ILP_ARGUMENT where `own` or a prefix is no ILP address, a `num` or
+ * `den` is 0, or the lengths of the prefixes are not together `prefixes_len`; ILP_BAD_TABLE; ILP_MISUSE where the handle is not empty;
  * ILP_HOP_NO_MEMORY. */
 ilp_code ilp_hop_new(ilp_hop *hop, const uint8_t *own, size_t own_len, const ilp_account *accounts, size_t accounts_len,
                      const uint8_t *prefixes, size_t prefixes_len, const ilp_route *routes, size_t routes_len);

@@ -1,4 +1,4 @@
-//! What C keeps of a state.
+//! What a host keeps of an object: its address.
 
 ghost use Rattle.std.specs.Prelude.{◌≡◌, Option, Some, None, MatchOption};
 ghost use Rattle.std.specs.Coded.{coded_option};
@@ -10,7 +10,7 @@ use st_loose::Loose;
 use std::alloc::Global;
 use std::marker::Model;
 
-/// What C keeps: nothing, or the address of a state.
+/// What a host keeps: null, or the address of an object, which the handle owns. For C it is a struct of one pointer.
 #[repr(C)]
 pub struct Handle {
     at: *mut u8,
@@ -25,7 +25,7 @@ impl Model for Handle {
 }
 
 impl Handle {
-    pub fn empty(alloc: Global) -> Handle
+    fn empty(alloc: Global) -> Handle
         ensures { result.state ≡ None }
     {
         Handle {
@@ -34,7 +34,7 @@ impl Handle {
         }
     }
 
-    pub fn of(state: Loose<Object, Global>) -> Handle
+    fn of(state: Loose<Object, Global>) -> Handle
         ensures { result.state ≡ Some state.value }
     {
         let Loose { at, alloc } = state;
@@ -44,7 +44,7 @@ impl Handle {
         }
     }
 
-    pub fn into_loose(self) -> Option<Loose<Object, Global>>
+    fn into_loose(self) -> Option<Loose<Object, Global>>
         ensures { MatchOption result (self.state ≡ None) (λ l. self.state ≡ Some l.value) }
     {
         let Handle { at, alloc } = self;
@@ -58,7 +58,7 @@ impl Handle {
         }
     }
 
-    pub fn into_box(self) -> Option<Box<Object>>
+    fn into_box(self) -> Option<Box<Object>>
         ensures { MatchOption result (self.state ≡ None) (λ b. self.state ≡ Some b.value) }
     {
         match self.into_loose() {
@@ -67,6 +67,7 @@ impl Handle {
         }
     }
 
+    /// Takes the object out, and leaves the handle empty.
     pub fn take(&mut self, alloc: Global) -> Option<Box<Object>>
         ensures taken { MatchOption result (self.old.state ≡ None) (λ b. self.old.state ≡ Some b.value) }
         ensures empty { self.new.state ≡ None }
@@ -74,17 +75,18 @@ impl Handle {
         std::mem::replace(self, Handle::empty(alloc)).into_box()
     }
 
-    pub fn put(&mut self, state: Box<Object>)
-        ensures { self.new.state ≡ Some state.value }
+    /// Puts an object in. What the handle was of is freed.
+    pub fn put(&mut self, object: Box<Object>)
+        ensures { self.new.state ≡ Some object.value }
     {
-        *self = Handle::of(Loose::of(state));
+        *self = Handle::of(Loose::of(object));
     }
 }
 
 impl Drop for Handle {
     fn drop(self) {
-        if let Some(state) = self.into_box() {
-            drop(state);
+        if let Some(object) = self.into_box() {
+            drop(object);
         }
     }
 }
