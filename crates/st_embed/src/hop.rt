@@ -2,7 +2,7 @@
 
 ghost use Rattle.std.specs.Prelude.{◌≡◌, ◌↔◌, ◌<◌, ◌++◌, ◌∷◌, [], ℕ, pos, length, map, nat_lt, Some, None, OnErr, IfOk, IsTrue, IsOk, IsOkUnless, IsErrOf, MatchBool, MatchOption};
 ghost use Rattle.st_hop.specs.declared.ticket.Open as open_ticket;
-ghost use Rattle.st_hop.specs.Seen.{way_seen};
+ghost use Rattle.st_hop.specs.Seen.{way_seen, outcome_seen};
 ghost use Rattle.st_hop.specs.Table.{is_table, new_hop};
 ghost use Rattle.st_hop.specs.Tickets.{IsAmong};
 ghost use Rattle.st_embed.specs.Hops.{IsNewHop, IsSameHop, IsTicket, HasNoTicket, Arrives, IsSettled, IsAbandoned};
@@ -144,9 +144,21 @@ impl HostHop {
         }
     }
 
+    /// Ends a Prepare that went on under this number, and puts out the answer to the Prepare that had come. Whether an open
+    /// ticket has this number.
+    fn close(&mut self, number: u64, outcome: Outcome<Global>, now: Moment) -> bool
+        ensures { MatchBool result (IsSettled self.old self.new number (outcome_seen outcome) now) (HasNoTicket self.old.state self.old.tickets.items number × (self.new ≡ self.old)) }
+    {
+        let Some(place) = place_of(&self.state, &self.tickets, number) else {
+            return false;
+        };
+        let ticket = self.tickets.remove(place).spend();
+        self.output = self.state.settle(ticket, outcome, now);
+        true
+    }
+
     /// Takes the bytes that came back to a Prepare that went on under this number, and puts out the answer to the Prepare
-    /// that had come. `false` exactly where no open ticket has this number. Fails where memory is refused, and only for a
-    /// number that an open ticket has.
+    /// that had come. `false` exactly where no open ticket has this number. Fails where memory is refused.
     pub fn settle(
         &mut self,
         alloc: Global,
@@ -157,13 +169,8 @@ impl HostHop {
         ensures settled { IfOk result (λ found. MatchBool found (IsSettled self.old self.new number (Some bytes.now) now) (HasNoTicket self.old.state self.old.tickets.items number × (self.new ≡ self.old))) }
         ensures unchanged { OnErr result (self.new ≡ self.old) }
     {
-        let Some(place) = place_of(&self.state, &self.tickets, number) else {
-            return Ok(false);
-        };
         let outcome = Outcome::Answered(Vec::from_slice(alloc, bytes)?);
-        let ticket = self.tickets.remove(place).spend();
-        self.output = self.state.settle(ticket, outcome, now);
-        Ok(true)
+        Ok(self.close(number, outcome, now))
     }
 
     /// No bytes came back to a Prepare that went on under this number: puts out the answer to the Prepare that had come.
@@ -171,12 +178,7 @@ impl HostHop {
     pub fn fault(&mut self, number: u64, now: Moment) -> bool
         ensures { MatchBool result (IsSettled self.old self.new number None now) (HasNoTicket self.old.state self.old.tickets.items number × (self.new ≡ self.old)) }
     {
-        let Some(place) = place_of(&self.state, &self.tickets, number) else {
-            return false;
-        };
-        let ticket = self.tickets.remove(place).spend();
-        self.output = self.state.settle(ticket, Outcome::Fault, now);
-        true
+        self.close(number, Outcome::Fault, now)
     }
 
     /// Gives up a ticket without an answer. The amount stays reserved. Whether an open ticket has this number.
