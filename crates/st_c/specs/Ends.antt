@@ -1,5 +1,5 @@
 -- What a call on a handle of an end answers and leaves.
-use Rattle.std.specs.Prelude.{◌≡◌, ◌≢◌, ◌⊎◌, ◌++◌, ◌<◌, ℕ, ℤ, Bool, true, List, [], ◌∷◌, length, Option, Some, None, Result, Ok, Err, IfOk}
+use Rattle.std.specs.Prelude.{◌≡◌, ◌⊎◌, ◌++◌, ◌<◌, ℕ, zero, suc, ℤ, Bool, true, List, [], ◌∷◌, length, Option, Some, None, Result, Ok, Err, IfOk}
 use Rattle.st_oer.specs.Address.{is_address}
 use Rattle.st_oer.specs.Ratios.{IsRatio, ratio}
 use Rattle.st_keys.specs.Keys.{keys_of}
@@ -34,8 +34,8 @@ no_memory = 54
 -- ---- a new end
 
 abbrev pub role_of : ℕ → Role
-role_of 0 = Client
-role_of n = Server
+role_of zero = Client
+role_of (suc n) = Server
 
 abbrev pub config_of : HostConfig → Config
 config_of c = with_least (ratio c.least_num c.least_den) (config c.in_flight c.packets c.packet_limit)
@@ -73,8 +73,8 @@ Numbers old new code answer defined = KeepsRest old new × ((r : Result ℕ EndE
 abbrev pub Says : (old new : HostEnd) → (code answer : ℕ) → Bool → Type 0
 Says old new code answer value = (new ≡ old) × ((code ≡ done) × (answer ≡ flag value))
 
-abbrev pub Totals : (old new : HostEnd) → (code : ℕ) → HostTotals → Type 0
-Totals old new code t =
+abbrev pub SaysTotals : (old new : HostEnd) → (code : ℕ) → HostTotals → Type 0
+SaysTotals old new code t =
     (new ≡ old) × ((code ≡ done) × (totals.totals old.state ≡ record { accepted = t.accepted; delivered = t.delivered; credited = t.credited; paid = t.paid }))
 
 -- ---- reading

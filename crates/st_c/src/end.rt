@@ -7,7 +7,7 @@ ghost use Rattle.st_end.specs.Totals as totals;
 ghost use Rattle.st_oer.specs.Ratios.{IsRatio, ratio};
 ghost use Rattle.st_sender.specs.Configs.{IsConfig, config};
 ghost use Rattle.st_c.specs.Handles.{OnEnd, IfFits, IfMoment, is_byte, is_abort, flag, Copies};
-ghost use Rattle.st_c.specs.Ends.{IsEndMade, Answers, Numbers, Says, Totals, Reads, Sends, Receives, Sequence, Spends, Faults, role_of, config_of};
+ghost use Rattle.st_c.specs.Ends.{IsEndMade, Answers, Numbers, Says, SaysTotals, Reads, Sends, Receives, Sequence, Spends, Faults, role_of, config_of};
 
 use crate::arguments::address;
 use crate::handle::{copy_out, is_empty, put_new};
@@ -379,7 +379,7 @@ pub struct HostTotals {
 /// What an end did so far.
 #[unsafe(no_mangle)]
 pub extern "C" fn ilp_end_totals(alloc: Global, handle: &mut Handle, totals: &mut HostTotals) -> u32
-    ensures { OnEnd handle.old.state handle.new.state result (λ old new. Totals old new result totals.new) }
+    ensures { OnEnd handle.old.state handle.new.state result (λ old new. SaysTotals old new result totals.new) }
 {
     on_end!(alloc, handle, end => {
         let Totals {
