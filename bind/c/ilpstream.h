@@ -4,7 +4,8 @@
  * Handles. A handle is a struct of one pointer. It begins as {0}, which is the handle of nothing, and *_new fills it. It may
  * be moved, and must not be copied: of two copies one would be freed under the other. ilp_free frees what it is of and leaves
  * it empty, so that a second ilp_free of the same variable does nothing, and any other call on it is ILP_MISUSE. A call on a
- * handle of another kind is ILP_MISUSE too. A handle is used by one thread, the one that made it.
+ * handle of another kind is ILP_MISUSE too. One call at a time has a handle. It may be passed to another thread, by a lock, by
+ * that thread's start or end, or by a sequentially consistent atomic: that it may is proved.
  *
  * Codes. Each call returns ILP_DONE or another number. ILP_IDLE, ILP_ENDED, ILP_ABORTED and ILP_ONWARD are answers. All others
  * are refusals: what the handle is of is then as before the call. A number out of its range, as a stream above 255 or a
@@ -19,7 +20,7 @@
  * other number, the answer is ILP_UNKNOWN.
  *
  * What no number refuses, and the caller has to take care of: a pointer that is null or dangles, also one to no bytes;
- * parameters that overlap; a handle that does not begin as {0}, that is copied, or that two threads use; memory that
+ * parameters that overlap; a handle that does not begin as {0}, that is copied, or that two threads use at once; memory that
  * malloc, realloc and free do not give and take as the C standard says. Two packets of a connection with the same IV give
  * away their contents and the key of their authentication: see ilp_end_send.
  *

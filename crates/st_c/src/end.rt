@@ -1,13 +1,17 @@
 //! Calls on an end of a connection (RFC 0029).
 
-ghost use Rattle.std.specs.Prelude.{◌≡◌, ◌<◌, length, nat_lt, Some, None, MatchOption};
+ghost use Rattle.std.specs.Prelude.{◌≡◌, ◌<◌, ◌⊎◌, length, nat_lt, Some, None, MatchOption, MatchResult};
 ghost use Rattle.st_end.specs.Calls as calls;
 ghost use Rattle.st_end.specs.Receiving.{t00_text};
+ghost use Rattle.st_end.specs.State.{new_end};
 ghost use Rattle.st_end.specs.Totals as totals;
+ghost use Rattle.st_keys.specs.Keys.{keys_of};
 ghost use Rattle.st_oer.specs.Ratios.{IsRatio, ratio};
 ghost use Rattle.st_sender.specs.Configs.{IsConfig, config};
+ghost use Rattle.st_embed.specs.Codes.{argument};
+ghost use Rattle.st_embed.specs.Ends.{IsNewEnd};
 ghost use Rattle.st_c.specs.Handles.{OnEnd, IfFits, IfMoment, is_byte, is_abort, flag, Copies};
-ghost use Rattle.st_c.specs.Ends.{IsEndMade, Answers, Numbers, Says, SaysTotals, Reads, Sends, Receives, Sequence, Spends, Faults, role_of, config_of};
+ghost use Rattle.st_c.specs.Ends.{AreTerms, IsEndMade, Answers, Numbers, Says, SaysTotals, Reads, Sends, Receives, Sequence, Spends, Faults, role_of, config_of, no_memory};
 
 use crate::arguments::address;
 use crate::handle::{copy_out, is_empty, put_new};
@@ -73,6 +77,35 @@ fn config(terms: &HostConfig) -> Option<EndConfig>
     Some(config.with_least(least))
 }
 
+/// The end of these terms. Fails with `ARGUMENT` exactly where they are none, and else with 54 where memory is refused.
+fn end_of(
+    alloc: Global,
+    role: u32,
+    secret: &[u8; 32],
+    own: &[u8],
+    peer: &[u8],
+    config: &HostConfig,
+) -> Result<HostEnd, u32>
+    ensures { MatchResult result (λ e. AreTerms role own.now peer.now config.now × IsNewEnd (new_end (role_of role) (keys_of secret.now) own.now peer.now (config_of config.now)) e) (λ code. (code ≡ no_memory) ⊎ ((code ≡ argument) × (¬ AreTerms role own.now peer.now config.now))) }
+{
+    let Some(role) = self::role(role) else {
+        return Err(ARGUMENT);
+    };
+    let Some(own) = address(own) else {
+        return Err(ARGUMENT);
+    };
+    let Some(peer) = address(peer) else {
+        return Err(ARGUMENT);
+    };
+    let Some(config) = self::config(config) else {
+        return Err(ARGUMENT);
+    };
+    match HostEnd::new(alloc, role, *secret, own, peer, config) {
+        Ok(end) => Ok(end),
+        Err(error) => Err(u32::from(error.number())),
+    }
+}
+
 /// Makes an end in an empty handle. Role 0 is a client, whose own streams are odd, and 1 a server. `own` and `peer` are
 /// ILP addresses (RFC 0015).
 ///
@@ -93,24 +126,11 @@ pub extern "C" fn ilp_end_new(
     if !is_empty(alloc, handle) {
         return MISUSE;
     }
-    let Some(role) = self::role(role) else {
-        return ARGUMENT;
-    };
-    let Some(own) = address(own) else {
-        return ARGUMENT;
-    };
-    let Some(peer) = address(peer) else {
-        return ARGUMENT;
-    };
-    let Some(config) = self::config(config) else {
-        return ARGUMENT;
-    };
     let no_memory = u32::from(EndError::NoMemory.number());
-    let made = match HostEnd::new(alloc, role, *secret, own, peer, config) {
-        Ok(end) => Ok(Object::End(end)),
-        Err(error) => Err(u32::from(error.number())),
-    };
-    put_new(alloc, handle, made, no_memory)
+    match end_of(alloc, role, secret, own, peer, config) {
+        Ok(end) => put_new(alloc, handle, Object::End(end), no_memory),
+        Err(code) => code,
+    }
 }
 
 /// Opens the next of this end's own streams, whose number is `stream`.
@@ -326,6 +346,19 @@ fn host_received(len: usize, answered: Answered) -> HostReceived
     }
 }
 
+/// Puts out the answer to a Prepare, and reports what it is.
+fn receive(end: &mut HostEnd, bytes: &[u8], now: Moment, received: &mut HostReceived) -> u32
+    ensures { Receives end.old end.new bytes.now now result received.new }
+{
+    match end.receive(bytes, now) {
+        Ok(answered) => {
+            *received = host_received(end.output.len(), answered);
+            DONE
+        }
+        Err(error) => u32::from(error.number()),
+    }
+}
+
 /// Puts out the answer to the bytes of a Prepare that came at the moment `now`. 54 where memory is refused.
 #[unsafe(no_mangle)]
 pub extern "C" fn ilp_end_receive(
@@ -340,13 +373,7 @@ pub extern "C" fn ilp_end_receive(
     let Some(now) = Moment::new(now) else {
         return ARGUMENT;
     };
-    on_end!(alloc, handle, end => match end.receive(bytes, now) {
-        Ok(answered) => {
-            *received = host_received(end.output.len(), answered);
-            DONE
-        }
-        Err(error) => u32::from(error.number()),
-    })
+    on_end!(alloc, handle, end => receive(end, bytes, now, received))
 }
 
 /// Copies a Reject T00 that is kept ready to the front of a buffer; `len` is how many bytes it has.

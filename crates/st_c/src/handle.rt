@@ -1,6 +1,6 @@
 //! Handles of any kind.
 
-ghost use Rattle.std.specs.Prelude.{◌≡◌, ◌⊎◌, ◌≤◌, length, is_none, Some, None, MatchResult};
+ghost use Rattle.std.specs.Prelude.{◌≡◌, ◌⊎◌, ◌≤◌, length, is_none, Some, None};
 ghost use Rattle.st_embed.specs.Codes.{done};
 ghost use Rattle.st_c.specs.Handles.{Copies, PutsOut};
 
@@ -21,20 +21,11 @@ pub(crate) fn is_empty(alloc: Global, handle: &mut Handle) -> bool
     }
 }
 
-/// Puts a new object into an empty handle, where it was made and there is memory for it.
-pub(crate) fn put_new(
-    alloc: Global,
-    handle: &mut Handle,
-    made: Result<Object, u32>,
-    no_memory: u32,
-) -> u32
+/// Puts a new object into an empty handle, where there is memory for it.
+pub(crate) fn put_new(alloc: Global, handle: &mut Handle, object: Object, no_memory: u32) -> u32
     requires { handle.old.state ≡ None }
-    ensures { MatchResult made (λ object. ((result ≡ done) × (handle.new.state ≡ Some object)) ⊎ ((result ≡ no_memory) × (handle.new.state ≡ None))) (λ code. (result ≡ code) × (handle.new.state ≡ None)) }
+    ensures { ((result ≡ done) × (handle.new.state ≡ Some object)) ⊎ ((result ≡ no_memory) × (handle.new.state ≡ None)) }
 {
-    let object = match made {
-        Ok(object) => object,
-        Err(code) => return code,
-    };
     match Box::new(alloc, object) {
         Ok(object) => {
             handle.put(object);

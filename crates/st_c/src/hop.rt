@@ -75,11 +75,10 @@ pub extern "C" fn ilp_hop_new(
         return MISUSE;
     }
     let no_memory = u32::from(HopError::NoMemory.number());
-    let made = match hop_of(alloc, own, accounts, prefixes, routes) {
-        Ok(hop) => Ok(Object::Hop(hop)),
-        Err(code) => Err(code),
-    };
-    put_new(alloc, handle, made, no_memory)
+    match hop_of(alloc, own, accounts, prefixes, routes) {
+        Ok(hop) => put_new(alloc, handle, Object::Hop(hop), no_memory),
+        Err(code) => code,
+    }
 }
 
 /// What a hop did with a Prepare.

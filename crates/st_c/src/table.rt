@@ -42,12 +42,12 @@ pub(crate) fn accounts_of(
 ) -> Result<Vec<Account>, AllocError>
     ensures { IfOk result (λ kept. kept.items ≡ map account_of accounts.now) }
 {
-    let mut kept = Vec::with_capacity(alloc, accounts.len())?;
+    let mut kept = Vec::new(alloc);
     for account in accounts {
-        kept.push_reserved(Account {
+        kept.push(Account {
             limit: account.limit,
             max_packet: account.max_packet,
-        });
+        })?;
     }
     Ok(kept)
 }

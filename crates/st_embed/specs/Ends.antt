@@ -1,5 +1,5 @@
 -- What a call on an end's flights and bytes leaves.
-use Rattle.std.specs.Prelude.{◌≡◌, ℕ, Bool, true, List, [], Option, Some, None, Result, Ok, Err, slice_get}
+use Rattle.std.specs.Prelude.{◌≡◌, ℕ, true, List, [], Option, Some, Result, Ok, Err, slice_get}
 use Rattle.std.specs.List.{remove}
 use Rattle.st_receiver.specs.Reading as reading
 use Rattle.st_end.specs.declared.error.EndError.{EndError}
