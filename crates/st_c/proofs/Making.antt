@@ -18,7 +18,7 @@ use Rattle.st_c.specs.Ends.{AreTerms, IsEndMade, config_of, no_memory, role_of}
 use Rattle.st_c.specs.Hops.{IsHopMade, account_of, are_routes, hop_no_memory, ways_of}
 
 -- an object is put into the handle, or memory is refused for it
-Put : Object → (code : ℕ) (new : Option Object) (refused : ℕ) → Type 0
+abbrev pub Put : Object → (code : ℕ) (new : Option Object) (refused : ℕ) → Type 0
 Put o code new refused = ((code ≡ done) × (new ≡ Some o)) ⊎ ((code ≡ refused) × (new ≡ None))
 
 module _ (role : ℕ) (secret own peer : List ℕ) (c : HostConfig) (new : Option Object) (code : ℕ) (e : HostEnd) (terms : AreTerms role own peer c) (made : IsNewEnd (new_end (role_of role) (keys_of secret) own peer (config_of c)) e) where
@@ -26,13 +26,15 @@ module _ (role : ℕ) (secret own peer : List ℕ) (c : HostConfig) (new : Optio
   end_put (inl p) = inl (p.0, (terms, (e, (p.1, made))))
   end_put (inr q) = inr (inl q)
 
-  pub end_made : (old : Option Object) → old ≡ None → Put (End e) code new no_memory → IsEndMade role secret own peer c old new code
-  end_made old is put = subst (λ (s : Option Object). IsEndMade role secret own peer c s new code) (sym is) (end_put put)
+  pub end_made : (old : Option Object) → old ≡ None → (refused : ℕ) → refused ≡ no_memory → Put (End e) code new refused → IsEndMade role secret own peer c old new code
+  end_made old is refused same put =
+      subst (λ (s : Option Object). IsEndMade role secret own peer c s new code) (sym is) (end_put (subst (Put (End e) code new) same put))
 
 module _ (own : List ℕ) (accounts : List HostAccount) (text : List ℕ) (routes : List HostRoute) (new : Option Object) (code : ℕ) (h : HostHop) (table : is_table own (map account_of accounts) (ways_of text routes) ≡ true) (cut : are_routes text routes ≡ true) (made : IsNewHop (new_hop own (map account_of accounts) (ways_of text routes)) h) where
   hop_put : Put (Hop h) code new hop_no_memory → IsHopMade own accounts text routes None new code
   hop_put (inl p) = inl (p.0, (table, (cut, (h, (p.1, made)))))
   hop_put (inr q) = inr (inl q)
 
-  pub hop_made : (old : Option Object) → old ≡ None → Put (Hop h) code new hop_no_memory → IsHopMade own accounts text routes old new code
-  hop_made old is put = subst (λ (s : Option Object). IsHopMade own accounts text routes s new code) (sym is) (hop_put put)
+  pub hop_made : (old : Option Object) → old ≡ None → (refused : ℕ) → refused ≡ hop_no_memory → Put (Hop h) code new refused → IsHopMade own accounts text routes old new code
+  hop_made old is refused same put =
+      subst (λ (s : Option Object). IsHopMade own accounts text routes s new code) (sym is) (hop_put (subst (Put (Hop h) code new) same put))

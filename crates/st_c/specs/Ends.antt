@@ -18,7 +18,7 @@ use Rattle.st_end.specs.Receiving as receiving
 use Rattle.st_end.specs.Sending.{Goes, GoesNone}
 use Rattle.st_end.specs.Answers.{pays}
 use Rattle.st_end.specs.Totals as totals
-use Rattle.st_embed.specs.Codes.{code_of, done, idle, misuse, argument, unknown, ended, aborted}
+use Rattle.st_embed.specs.Codes.{code_of, done, idle, argument, unknown, ended, aborted}
 use Rattle.st_embed.specs.Ends.{IsNewEnd, IsSameEnd, IsSpent, HasNoFlight}
 use Rattle.st_embed.specs.declared.object.Object.{Object}
 use Rattle.st_embed.specs.declared.object.Object.TheVariants.{End}

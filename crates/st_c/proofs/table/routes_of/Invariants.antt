@@ -1,4 +1,4 @@
-use Rattle.std.proofs.Common.{◌≡◌, ◌++◌, length, map, drop}
+use Rattle.std.proofs.Common.{◌≡◌, ◌++◌, map, drop}
 use Rattle.st_hop.specs.Seen.{way_seen}
 use Rattle.st_c.specs.Hops.{ways_of, are_routes}
 use Rattle.st_c.proofs.table.routes_of.Given as goal
