@@ -2,8 +2,9 @@
 """Compares docs/ERRORS.md and docs/LIMITS.md with the sources.
 
 ERRORS: the numbers and the variants of its tables are those of each `number` and `fault_number` in crates/*/specs, the
-numbers in brackets those of each `inner`; the reasons of an end, the codes of a hop's Rejects and the statuses of HTTP are
-those of their definitions. What is in one and not in the other is a finding.
+numbers in brackets those of each `inner`; the reasons of an end, the codes of a hop's Rejects, the statuses of HTTP and the
+numbers that calls of the library for C return are those of their definitions. What is in one and not in the other is a
+finding.
 LIMITS: the value of each row is that of the constant, or stands in the definition, that the row names; and each constant of
 the crates below that is a whole number is in a row, or in OTHERS with the reason why it is no limit.
 Each finding is a line; the last line counts what was compared without a finding (tables for the most part), and findings."""
@@ -34,6 +35,7 @@ OTHERS = {
         "st_nodes": "NUMBERS",
         "st_queues": "WRITE_RINGS",
     },
+    "numbers that calls return": {"st_embed": "DONE IDLE MISUSE ARGUMENT ROOM UNKNOWN ENDED ABORTED ONWARD"},
     "the number of the one stream that `send` and `receive` use": {"st_transfer": "STREAM"},
 }
 
@@ -216,6 +218,20 @@ def check_codes(count):
     count.same(where, {cells[0] for _, cells in rows}, defined, path)
 
 
+def check_calls(count):
+    """The numbers that calls of the library for C return, and their names."""
+    where, path = "docs/ERRORS.md", "crates/st_embed/specs/Codes.antt"
+    defined = {int(number): name.upper() for name, number in re.findall(r"^(\w+) = (\d+)$", read(path), re.M)}
+    count.check(len(defined) > 8, f"{path}: only {len(defined)} numbers were read")
+    rows = rows_of(where, "Number of a call", count)
+    count.same(where, {int(cells[0]): cells[1].strip("`") for _, cells in rows}, defined, path)
+    others = {number for number, _, _ in refusals()[0]}
+    count.check(not others & set(defined), f"{path}: {sorted(others & set(defined))} are numbers of other refusals")
+    for line, cells in rows:
+        count.check(len(cells) == 4 and all(cells), f"{where}:{line}: a row without when it comes, or without what to do")
+    count.compared()
+
+
 # ---- the limits
 
 CONST = re.compile(r"^\s*(?:pub(?:\(\w+\))? )?const (\w+): ([iu](?:8|16|32|64|128|size)) = ([^;]+);", re.M)
@@ -298,6 +314,7 @@ def main():
     check_numbers(count)
     check_names(count)
     check_codes(count)
+    check_calls(count)
     check_limits(count)
     print(f"{count.passed} passed, {count.failed} failed")
     return 1 if count.failed else 0

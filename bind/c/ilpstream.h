@@ -1,0 +1,244 @@
+/* Interledger STREAM (RFC 0029) and the connector between its ends (RFC 0027): ends of a connection and hops, proved in
+ * Rattle, for hosts in C. There is no I/O here, no clock, no thread and no random number: bytes, times and IVs are arguments.
+ *
+ * Handles. A handle is a struct of one pointer. It begins as {0}, which is the handle of nothing, and *_new fills it. It may
+ * be moved, and must not be copied: of two copies one would be freed under the other. ilp_free frees what it is of and leaves
+ * it empty, so that a second ilp_free of the same variable does nothing, and any other call on it is ILP_MISUSE. A call on a
+ * handle of another kind is ILP_MISUSE too. One call at a time has a handle. It may be passed to another thread, by a lock, by
+ * that thread's start or end, or by a sequentially consistent atomic: that it may is proved.
+ *
+ * Codes. Each call returns ILP_DONE or another number. ILP_IDLE, ILP_ENDED, ILP_ABORTED and ILP_ONWARD are answers. All others
+ * are refusals: what the handle is of is then as before the call. A number out of its range, as a stream above 255 or a
+ * negative time, is ILP_ARGUMENT. Where a call does not return the code for which a parameter is described, what that
+ * parameter points to has no meaning.
+ *
+ * Bytes that a call gives are put out: they stay in the handle until the next call that puts out bytes, and ilp_output copies
+ * them, as often as it is called. A call that puts out bytes also says how many.
+ *
+ * Flights and tickets. ilp_end_send says a number of the flight, and ilp_hop_arrive a number of the ticket. Each is settled
+ * once: by ilp_end_answer or ilp_end_fault, and by ilp_hop_settle, ilp_hop_fault or ilp_hop_abandon. Afterwards, and for any
+ * other number, the answer is ILP_UNKNOWN.
+ *
+ * What no number refuses, and the caller has to take care of: a pointer that is null or dangles, also one to no bytes;
+ * parameters that overlap; a handle that does not begin as {0}, that is copied, or that two threads use at once; memory that
+ * malloc, realloc and free do not give and take as the C standard says. Two packets of a connection with the same IV give
+ * away their contents and the key of their authentication: see ilp_end_send.
+ *
+ * Units. Amounts are in the smallest unit of the asset of their link. Times are milliseconds since 1970-01-01 00:00 UTC, from
+ * 0 to 253,402,300,000,000. */
+#ifndef ILPSTREAM_H
+#define ILPSTREAM_H
+#include <stddef.h>
+#include <stdint.h>
+#ifdef __cplusplus
+extern "C" {
+#endif
+
+/* What a call returns; docs/ERRORS.md says more of each. */
+typedef uint32_t ilp_code;
+enum {
+    ILP_DONE = 0,            /* the call did what it is for */
+    /* refusals of a hop */
+    ILP_BAD_TABLE = 34,      /* a prefix stands twice, a route names no account, or a limit is above 2^63 - 1 */
+    ILP_HOP_NO_MEMORY = 35,  /* out of memory */
+    ILP_NO_ACCOUNT = 36,     /* there is no account of this number */
+    /* refusals of an end */
+    ILP_NO_STREAM = 50,      /* the stream is not open, or all stream numbers of this end are used: 32 */
+    ILP_CLOSED = 51,         /* the stream was closed or aborted at this end, or the peer closed the connection */
+    ILP_FULL = 52,           /* more than 262,144 bytes of the stream would wait for an acknowledgement */
+    ILP_AMOUNT = 53,         /* all offers together would be 2^63 units or more */
+    ILP_NO_MEMORY = 54,      /* out of memory */
+    ILP_FAILED = 58,         /* the connection failed */
+    /* answers and refusals of this boundary */
+    ILP_IDLE = 100,          /* nothing is to be sent, or can be read yet */
+    ILP_MISUSE = 101,        /* the handle is empty, or of another kind; for *_new, it is not empty */
+    ILP_ARGUMENT = 102,      /* an argument is out of its range */
+    ILP_ROOM = 103,          /* the buffer is too small; nothing was copied */
+    ILP_UNKNOWN = 104,       /* there is no such open flight or ticket */
+    ILP_ENDED = 105,         /* all bytes were read, and the peer closed the stream */
+    ILP_ABORTED = 106,       /* the peer aborted the stream */
+    ILP_ONWARD = 107         /* the bytes go on to another account */
+};
+
+/* ---- handles of any kind */
+
+/* Frees what a handle is of, and leaves it empty. The parameter is the address of a handle: ilp_free(&end). */
+void ilp_free(void *handle);
+
+/* Copies the bytes that the last call put out to the front of a buffer of `room` bytes; `len` is how many they are. ILP_ROOM
+ * where the buffer has fewer: then nothing is copied, and `len` is how many are needed. Before the first call that puts out
+ * bytes there are none. The bytes stay put out. */
+ilp_code ilp_output(void *handle, uint8_t *out, size_t room, size_t *len);
+
+/* ---- an end of a STREAM connection (RFC 0029) */
+
+typedef struct ilp_end { void *inner; } ilp_end;
+
+enum { ILP_CLIENT = 0, ILP_SERVER = 1 };
+
+/* How an end sends. `in_flight` is how many Prepares may wait for their answer at once, 1 to 64; `packets` how many it sends
+ * in all, 1 to 2^31 - 1; `packet_limit` the greatest amount of one Prepare at the start, 1 to 2^63 - 1. The prepare amount of
+ * a packet, which is the least that has to arrive (RFC 0029, section 5.2), is its amount times `least_num` / `least_den`,
+ * rounded down; neither of the two is 0, and 1 / 1 has all of it arrive. */
+typedef struct ilp_end_config {
+    size_t in_flight;
+    uint64_t packets;
+    uint64_t packet_limit;
+    uint32_t least_num;
+    uint32_t least_den;
+} ilp_end_config;
+
+/* Makes an end in an empty handle. `role` is ILP_CLIENT, whose streams are odd, or ILP_SERVER, whose streams are even.
+ * `secret` has 32 bytes, which both ends share. `own` and `peer` are the ILP addresses (RFC 0015) of this end and of the
+ * other, of `own_len` and `peer_len` bytes. ILP_ARGUMENT where one of them is none, or a number is out of its range;
+ * ILP_MISUSE where the handle is not empty; ILP_NO_MEMORY. */
+ilp_code ilp_end_new(ilp_end *end, uint32_t role, const uint8_t secret[32], const uint8_t *own, size_t own_len,
+                     const uint8_t *peer, size_t peer_len, const ilp_end_config *config);
+
+/* Opens the next of this end's own streams, of which `stream` is the number: 1, 3, .. of a client and 2, 4, .. of a server,
+ * at most 64. ILP_NO_STREAM where all are used; ILP_CLOSED, ILP_FAILED, ILP_NO_MEMORY. */
+ilp_code ilp_end_open_stream(ilp_end *end, uint32_t *stream);
+
+/* Takes `len` bytes that are to be sent on a stream: all of them, or none where it is refused. ILP_NO_STREAM, ILP_CLOSED,
+ * ILP_FULL, ILP_FAILED, ILP_NO_MEMORY. */
+ilp_code ilp_end_write(ilp_end *end, uint32_t stream, const uint8_t *bytes, size_t len);
+
+/* Closes a stream once all that was written and offered is delivered. ILP_NO_STREAM, ILP_CLOSED, ILP_FAILED. */
+ilp_code ilp_end_close(ilp_end *end, uint32_t stream);
+
+/* Aborts a stream with a code of RFC 0029, section 5.4, other than 1: 0 to 255. ILP_NO_STREAM, ILP_CLOSED, ILP_FAILED. */
+ilp_code ilp_end_abort(ilp_end *end, uint32_t stream, uint32_t code);
+
+/* Offers `amount` units on a stream, beside what was offered before. ILP_NO_STREAM, ILP_CLOSED, ILP_AMOUNT, ILP_FAILED. */
+ilp_code ilp_end_offer(ilp_end *end, uint32_t stream, uint64_t amount);
+
+/* Lets a stream receive up to `amount` units in all; before the first such call it receives none. The stream is open, or one
+ * that the peer may open. ILP_NO_STREAM. */
+ilp_code ilp_end_set_receive_max(ilp_end *end, uint32_t stream, uint64_t amount);
+
+/* Puts out the first bytes that can be read on a stream, at most `max`, which is not 0. ILP_DONE: `len` is how many, at least
+ * 1. ILP_IDLE: none yet. ILP_ENDED: all were read, and the peer closed the stream. ILP_ABORTED: the peer aborted the stream,
+ * and `code` is its code. ILP_NO_STREAM, ILP_NO_MEMORY. */
+ilp_code ilp_end_read(ilp_end *end, uint32_t stream, size_t max, size_t *len, uint64_t *code);
+
+/* Puts out the bytes of the next ILP Prepare, which is to be sent to the peer: `len` is how many, and `flight` the number by
+ * which the answer is reported. `iv` has 12 bytes: no two packets of a connection, of either end, may have the same, so take
+ * them from the system's random bytes. `now` is the time; the Prepare expires 30 seconds later. ILP_IDLE: nothing is to
+ * be sent now. ILP_NO_MEMORY. */
+ilp_code ilp_end_send(ilp_end *end, const uint8_t iv[12], int64_t now, uint64_t *flight, size_t *len);
+
+/* Takes the `len` bytes of the answer to a flight: `fulfilled` is 1 where they are a Fulfill whose fulfillment fits, else 0.
+ * The bytes are decrypted where they lie. ILP_UNKNOWN. */
+ilp_code ilp_end_answer(ilp_end *end, uint64_t flight, uint8_t *bytes, size_t len, uint32_t *fulfilled);
+
+/* No answer came to a flight, and none is waited for: what it carries is sent again. ILP_UNKNOWN. */
+ilp_code ilp_end_fault(ilp_end *end, uint64_t flight);
+
+/* What an end did with a Prepare. `len` is how many bytes its answer has. `reason` is 0 for a Fulfill, and else why it is a
+ * Reject (docs/ERRORS.md, "Of an end"). `amount` is the amount of the Prepare, 0 where it cannot be read. `opened` is 1 where
+ * its STREAM packet was decrypted and read, else 0; `sequence` is then the number of that packet. */
+typedef struct ilp_received {
+    size_t len;
+    uint64_t amount;
+    uint64_t sequence;
+    uint32_t reason;
+    uint32_t opened;
+} ilp_received;
+
+/* Puts out the answer to the `len` bytes of an ILP Prepare that came from the peer at the time `now`; the answer is to be sent
+ * back. ILP_NO_MEMORY: answer it with the bytes of ilp_end_t00, and the peer sends again. */
+ilp_code ilp_end_receive(ilp_end *end, const uint8_t *bytes, size_t len, int64_t now, ilp_received *received);
+
+/* Copies a Reject T00 that is kept ready, for use where memory is refused, as ilp_output does. */
+ilp_code ilp_end_t00(ilp_end *end, uint8_t *out, size_t room, size_t *len);
+
+/* What an end did so far. `accepted` is how many bytes were written at this end, and `delivered` how many it gave to its
+ * reader; `credited` is how many units it received, and `paid` how many of its own were fulfilled. */
+typedef struct ilp_totals {
+    uint64_t accepted;
+    uint64_t delivered;
+    uint64_t credited;
+    uint64_t paid;
+} ilp_totals;
+
+ilp_code ilp_end_totals(ilp_end *end, ilp_totals *totals);
+
+/* `answer` is 1 where a stream is open at this end, else 0. */
+ilp_code ilp_end_has_stream(ilp_end *end, uint32_t stream, uint32_t *answer);
+
+/* `answer` is 1 where this end's own close of a stream was fulfilled, else 0. */
+ilp_code ilp_end_settled(ilp_end *end, uint32_t stream, uint32_t *answer);
+
+/* `answer` is 1 where the connection failed, else 0: 200 Prepares in a row without a Fulfill, or a final Reject code. */
+ilp_code ilp_end_is_failed(ilp_end *end, uint32_t *answer);
+
+/* ---- a hop: the connector between a sender and a receiver (RFC 0027) */
+
+typedef struct ilp_hop { void *inner; } ilp_hop;
+
+/* A neighbour's terms. `limit` is how much it may owe the hop beyond what the hop owes it, at most 2^63 - 1; `max_packet` the
+ * greatest amount of one Prepare from it. Both in units of its link. */
+typedef struct ilp_account {
+    uint64_t limit;
+    uint64_t max_packet;
+} ilp_account;
+
+/* A route. Its prefix, an ILP address, is the next `prefix_len` bytes of a text that all routes share. `account` is where a
+ * Prepare goes on to whose destination has the prefix; where several do, the longest one counts. The amount that goes on is
+ * that which arrived times `num` / `den`, rounded down; neither of the two is 0. */
+typedef struct ilp_route {
+    size_t prefix_len;
+    size_t account;
+    uint32_t num;
+    uint32_t den;
+} ilp_route;
+
+/* Makes a hop in an empty handle: its own ILP address, its accounts, numbered from 0, and its routes, whose prefixes stand one
+ * after another in `prefixes`. Nothing is owed yet. ILP_ARGUMENT where `own` or a prefix is no ILP address, a `num` or
+ * `den` is 0, or the lengths of the prefixes are not together `prefixes_len`; ILP_BAD_TABLE; ILP_MISUSE where the handle is not empty;
+ * ILP_HOP_NO_MEMORY. */
+ilp_code ilp_hop_new(ilp_hop *hop, const uint8_t *own, size_t own_len, const ilp_account *accounts, size_t accounts_len,
+                     const uint8_t *prefixes, size_t prefixes_len, const ilp_route *routes, size_t routes_len);
+
+/* What a hop did with a Prepare. `len` is how many bytes were put out. Where they go on, `ticket` is the number by which the
+ * answer is reported, and `account` the one that they go on to. */
+typedef struct ilp_arrived {
+    size_t len;
+    size_t account;
+    uint64_t ticket;
+} ilp_arrived;
+
+/* Takes the `len` bytes of an ILP Prepare that came from an account at the time `now`. ILP_DONE: what was put out is a Reject,
+ * which is to be sent back. ILP_ONWARD: it is a Prepare, which is to be sent on to another account; the amount is held
+ * against the first one until the ticket is settled. ILP_NO_ACCOUNT. ILP_HOP_NO_MEMORY: answer it with the bytes of
+ * ilp_hop_t00, and the sender sends again. */
+ilp_code ilp_hop_arrive(ilp_hop *hop, size_t account, const uint8_t *bytes, size_t len, int64_t now, ilp_arrived *arrived);
+
+/* Takes the `len` bytes of the answer to a Prepare that went on under a ticket, and puts out the answer to the Prepare that had
+ * come: `answer_len` is how many bytes it has. A Fulfill that fits and came in time is booked; all else is a Reject. What was
+ * held is released. ILP_UNKNOWN, ILP_HOP_NO_MEMORY. */
+ilp_code ilp_hop_settle(ilp_hop *hop, uint64_t ticket, const uint8_t *bytes, size_t len, int64_t now, size_t *answer_len);
+
+/* The same where no answer came, and none is waited for: what is put out is a Reject T01. ILP_UNKNOWN. */
+ilp_code ilp_hop_fault(ilp_hop *hop, uint64_t ticket, size_t *answer_len);
+
+/* Gives up a ticket without an answer. The amount stays held. ILP_UNKNOWN. */
+ilp_code ilp_hop_abandon(ilp_hop *hop, uint64_t ticket);
+
+/* Copies a Reject T00 that is kept ready, for use where memory is refused, as ilp_output does. */
+ilp_code ilp_hop_t00(ilp_hop *hop, uint8_t *out, size_t room, size_t *len);
+
+/* What an account owes the hop, what the hop owes it, and what is held against it, in units of its link. */
+typedef struct ilp_balances {
+    uint64_t claims;
+    uint64_t dues;
+    uint64_t held;
+} ilp_balances;
+
+/* ILP_NO_ACCOUNT. */
+ilp_code ilp_hop_balances(ilp_hop *hop, size_t account, ilp_balances *balances);
+
+#ifdef __cplusplus
+}
+#endif
+#endif

@@ -1,0 +1,246 @@
+//! Calls on a hop: the connector between two neighbours (RFC 0027).
+
+ghost use Rattle.std.specs.Prelude.{◌≡◌, ◌⊎◌, ◌&&◌, ◌<◌, true, false, length, map, nat_lt, pos, Some, None, Err, IfOk, IsOk, MatchBool, MatchResult};
+ghost use Rattle.st_oer.specs.Address.{is_address};
+ghost use Rattle.st_hop.specs.Refusals.{t00_text};
+ghost use Rattle.st_hop.specs.Table.{is_table, new_hop};
+ghost use Rattle.st_embed.specs.Codes.{argument};
+ghost use Rattle.st_embed.specs.Hops.{IsNewHop};
+ghost use Rattle.st_c.specs.Handles.{OnHop, IfMoment, Copies};
+ghost use Rattle.st_c.specs.Hops.{IsHopMade, HopArrives, Closes, Settles, Abandons, Balances, AreBalances, account_of, ways_of, are_routes, hop_no_memory, bad_table};
+
+use crate::arguments::address;
+use crate::handle::{copy_out, is_empty, put_new};
+use crate::table::{HostAccount, HostRoute, accounts_of, routes_of};
+use st_embed::{ARGUMENT, DONE, Handle, HostHop, MISUSE, ONWARD, Object, UNKNOWN, Way};
+use st_hop::HopError;
+use st_ilp::Moment;
+use std::alloc::{AllocError, Global};
+
+/// What is done with the hop of a handle. A handle of anything else is refused.
+macro_rules! on_hop {
+    ($alloc:ident, $handle:ident, $hop:ident => $body:expr) => {{
+        let Some(mut object) = $handle.take($alloc) else {
+            return MISUSE;
+        };
+        let code = match &mut *object {
+            Object::Hop($hop) => $body,
+            _ => MISUSE,
+        };
+        $handle.put(object);
+        code
+    }};
+}
+
+/// The hop of a table.
+fn hop_of(
+    alloc: Global,
+    own: &[u8],
+    accounts: &[HostAccount],
+    text: &[u8],
+    routes: &[HostRoute],
+) -> Result<HostHop, u32>
+    ensures { MatchResult result (λ h. (is_table own.now (map account_of accounts.now) (ways_of text.now routes.now) ≡ true) × ((are_routes text.now routes.now ≡ true) × IsNewHop (new_hop own.now (map account_of accounts.now) (ways_of text.now routes.now)) h)) (λ code. (code ≡ hop_no_memory) ⊎ (((code ≡ argument) × (is_address own.now && are_routes text.now routes.now ≡ false)) ⊎ ((code ≡ bad_table) × (is_table own.now (map account_of accounts.now) (ways_of text.now routes.now) ≡ false)))) }
+{
+    let Some(own) = address(own) else {
+        return Err(ARGUMENT);
+    };
+    let routes = routes_of(alloc, text, routes)?;
+    let Ok(accounts) = accounts_of(alloc, accounts) else {
+        return Err(u32::from(HopError::NoMemory.number()));
+    };
+    match HostHop::new(alloc, own, &accounts, &routes) {
+        Ok(hop) => Ok(hop),
+        Err(error) => Err(u32::from(error.number())),
+    }
+}
+
+/// Makes a hop in an empty handle: its ILP address (RFC 0015), its accounts and its routes, whose prefixes stand one
+/// after another in `prefixes`.
+///
+/// `MISUSE` where the handle is not empty; `ARGUMENT` where an address is none, a rate has a 0, or `prefixes` is not the
+/// prefixes; 34 where the table is bad; 35 where memory is refused.
+#[unsafe(no_mangle)]
+pub extern "C" fn ilp_hop_new(
+    alloc: Global,
+    handle: &mut Handle,
+    own: &[u8],
+    accounts: &[HostAccount],
+    prefixes: &[u8],
+    routes: &[HostRoute],
+) -> u32
+    ensures { IsHopMade own.now accounts.now prefixes.now routes.now handle.old.state handle.new.state result }
+{
+    if !is_empty(alloc, handle) {
+        return MISUSE;
+    }
+    let no_memory = u32::from(HopError::NoMemory.number());
+    match hop_of(alloc, own, accounts, prefixes, routes) {
+        Ok(hop) => put_new(alloc, handle, Object::Hop(hop), no_memory),
+        Err(code) => code,
+    }
+}
+
+/// What a hop did with a Prepare.
+#[repr(C)]
+#[derive(Clone, Copy, Debug, Drop)]
+pub struct HostArrived {
+    /// How many bytes were put out.
+    pub len: usize,
+    /// The index of the account that they go on to.
+    pub account: usize,
+    /// The number of the ticket under which they go on.
+    pub ticket: u64,
+}
+
+/// Takes the bytes of a Prepare from an account at the moment `now`. Puts out the Reject that answers it, or, with
+/// `ONWARD`, the Prepare that goes on to another account under a ticket.
+///
+/// 36 where there is no such account; 35 where memory is refused.
+#[unsafe(no_mangle)]
+pub extern "C" fn ilp_hop_arrive(
+    alloc: Global,
+    handle: &mut Handle,
+    account: usize,
+    bytes: &[u8],
+    now: i64,
+    arrived: &mut HostArrived,
+) -> u32
+    ensures { IfMoment now handle.old.state handle.new.state result (OnHop handle.old.state handle.new.state result (λ old new. HopArrives old new account bytes.now now result arrived.new)) }
+{
+    let Some(now) = Moment::new(now) else {
+        return ARGUMENT;
+    };
+    on_hop!(alloc, handle, hop => match hop.arrive(account, bytes, now) {
+        Ok(Way::Back) => {
+            *arrived = HostArrived {
+                len: hop.output.len(),
+                account: 0,
+                ticket: 0,
+            };
+            DONE
+        }
+        Ok(Way::Onward { ticket, account }) => {
+            *arrived = HostArrived {
+                len: hop.output.len(),
+                account,
+                ticket,
+            };
+            ONWARD
+        }
+        Err(error) => u32::from(error.number()),
+    })
+}
+
+/// Takes the bytes that came back to a Prepare that went on under a ticket, at the moment `now`. Puts out the answer to
+/// the Prepare that had come; `len` is how many bytes it has.
+///
+/// `UNKNOWN` where no open ticket has this number; 35 where memory is refused.
+#[unsafe(no_mangle)]
+pub extern "C" fn ilp_hop_settle(
+    alloc: Global,
+    handle: &mut Handle,
+    ticket: u64,
+    bytes: &[u8],
+    now: i64,
+    len: &mut usize,
+) -> u32
+    ensures { IfMoment now handle.old.state handle.new.state result (OnHop handle.old.state handle.new.state result (λ old new. Settles old new ticket bytes.now now result len.new)) }
+{
+    let Some(now) = Moment::new(now) else {
+        return ARGUMENT;
+    };
+    on_hop!(alloc, handle, hop => match hop.settle(alloc, ticket, bytes, now) {
+        Ok(true) => {
+            *len = hop.output.len();
+            DONE
+        }
+        Ok(false) => UNKNOWN,
+        Err(AllocError) => u32::from(HopError::NoMemory.number()),
+    })
+}
+
+/// No bytes came back to a Prepare that went on under a ticket. Puts out the Reject that answers the Prepare that had
+/// come; `len` is how many bytes it has. `UNKNOWN` exactly where no open ticket has this number.
+#[unsafe(no_mangle)]
+pub extern "C" fn ilp_hop_fault(
+    alloc: Global,
+    handle: &mut Handle,
+    ticket: u64,
+    len: &mut usize,
+) -> u32
+    ensures { OnHop handle.old.state handle.new.state result (λ old new. Closes old new ticket None (pos 0) result len.new) }
+{
+    let Some(now) = Moment::new(0) else {
+        return ARGUMENT;
+    };
+    on_hop!(alloc, handle, hop => if hop.fault(ticket, now) {
+        *len = hop.output.len();
+        DONE
+    } else {
+        UNKNOWN
+    })
+}
+
+/// Gives up a ticket without an answer. The amount stays reserved. `UNKNOWN` exactly where no open ticket has this number.
+#[unsafe(no_mangle)]
+pub extern "C" fn ilp_hop_abandon(alloc: Global, handle: &mut Handle, ticket: u64) -> u32
+    ensures { OnHop handle.old.state handle.new.state result (λ old new. Abandons old new ticket result) }
+{
+    on_hop!(alloc, handle, hop => if hop.abandon(ticket) { DONE } else { UNKNOWN })
+}
+
+/// Copies a Reject T00 that is kept ready to the front of a buffer; `len` is how many bytes it has.
+#[unsafe(no_mangle)]
+pub extern "C" fn ilp_hop_t00(
+    alloc: Global,
+    handle: &mut Handle,
+    out: &mut [u8],
+    len: &mut usize,
+) -> u32
+    ensures { OnHop handle.old.state handle.new.state result (λ old new. (new ≡ old) × Copies (t00_text old.state.own) out.old out.new result len.new) }
+{
+    on_hop!(alloc, handle, hop => copy_out(hop.state.t00(), out, len))
+}
+
+/// What an account and the hop owe each other, in units of their link.
+#[repr(C)]
+#[derive(Clone, Copy, Debug, Drop)]
+pub struct HostBalances {
+    /// What the account owes the hop.
+    pub claims: u64,
+    /// What the hop owes the account.
+    pub dues: u64,
+    /// What is held against the account.
+    pub held: u64,
+}
+
+/// The balances of an account.
+fn balances_of(hop: &HostHop, account: usize) -> Result<HostBalances, HopError>
+    ensures { MatchBool (nat_lt account (length hop.now.state.accounts)) (IfOk result (AreBalances hop.now account) × IsOk result) (result ≡ Err HopError.NoAccount) }
+{
+    Ok(HostBalances {
+        claims: hop.state.claims(account)?,
+        dues: hop.state.dues(account)?,
+        held: hop.state.held(account)?,
+    })
+}
+
+/// The balances of an account. 36 where there is no such account.
+#[unsafe(no_mangle)]
+pub extern "C" fn ilp_hop_balances(
+    alloc: Global,
+    handle: &mut Handle,
+    account: usize,
+    balances: &mut HostBalances,
+) -> u32
+    ensures { OnHop handle.old.state handle.new.state result (λ old new. Balances old new account result balances.new) }
+{
+    on_hop!(alloc, handle, hop => match balances_of(hop, account) {
+        Ok(found) => {
+            *balances = found;
+            DONE
+        }
+        Err(error) => u32::from(error.number()),
+    })
+}

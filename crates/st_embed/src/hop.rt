@@ -1,0 +1,194 @@
+//! A hop, with the tickets that wait for their answer and the bytes that were put out.
+
+ghost use Rattle.std.specs.Prelude.{◌≡◌, ◌↔◌, ◌<◌, ◌++◌, ◌∷◌, [], ℕ, pos, length, map, nat_lt, Some, None, OnErr, IfOk, IsTrue, IsOk, IsOkUnless, IsErrOf, MatchBool, MatchOption};
+ghost use Rattle.st_hop.specs.declared.ticket.Open as open_ticket;
+ghost use Rattle.st_hop.specs.Seen.{way_seen, outcome_seen};
+ghost use Rattle.st_hop.specs.Table.{is_table, new_hop};
+ghost use Rattle.st_hop.specs.Tickets.{IsAmong};
+ghost use Rattle.st_embed.specs.Hops.{IsNewHop, IsSameHop, IsTicket, HasNoTicket, Arrives, IsSettled, IsAbandoned};
+
+use st_hop::{Account, HopError, HopState, Outcome, Route, Ticket, Verdict};
+use st_ilp::Moment;
+use std::alloc::{AllocError, Global};
+use std::marker::Model;
+
+/// A ticket that waits for its answer. Where its owner is freed it is abandoned.
+pub struct KeptTicket {
+    ticket: Ticket,
+}
+
+impl Model for KeptTicket {
+    ghost use Rattle.st_hop.specs.declared.ticket.Open as open_ticket;
+
+    ghost Value = { open_ticket.Open };
+
+    ghost view = { λ k. k.ticket };
+}
+
+impl Drop for KeptTicket {
+    fn drop(self) {
+        let KeptTicket { ticket } = self;
+        ticket.abandon();
+    }
+}
+
+impl KeptTicket {
+    fn new(ticket: Ticket) -> KeptTicket
+        ensures { result ≡ ticket }
+    {
+        KeptTicket { ticket }
+    }
+
+    fn number(&self) -> u64
+        ensures { result ≡ self.now.number }
+    {
+        self.ticket.read().number
+    }
+
+    fn is_open(&self, state: &HopState<Global>) -> bool
+        ensures { IsTrue result ↔ IsAmong state.now.tickets self.now }
+    {
+        state.is_open(&self.ticket)
+    }
+
+    fn spend(self) -> Ticket
+        ensures { result ≡ self }
+    {
+        let KeptTicket { ticket } = self;
+        ticket
+    }
+}
+
+/// Where an open ticket of this number stands.
+fn place_of(state: &HopState<Global>, kept: &[KeptTicket], number: u64) -> Option<usize>
+    ensures { MatchOption result (HasNoTicket state.now kept.now number) (λ place. (t : open_ticket.Open) × IsTicket state.now kept.now number place t) }
+{
+    for (place, ticket) in kept.iter().enumerate() {
+        if ticket.number() == number && ticket.is_open(state) {
+            return Some(place);
+        }
+    }
+    None
+}
+
+/// What became of a Prepare, beside the bytes that were put out.
+#[derive(Clone, Copy, Debug, PartialEq, Eq)]
+pub enum Way {
+    /// They answer it.
+    Back,
+    /// They go on to an account, under the number of a ticket.
+    Onward {
+        /// The number of the ticket.
+        ticket: u64,
+        /// The index of the account.
+        account: usize,
+    },
+}
+
+/// A hop, the tickets that it gave out and that are not spent, and the bytes that were put out.
+#[derive(Drop)]
+pub struct HostHop {
+    /// The hop.
+    pub state: HopState<Global>,
+    /// Its open tickets, in the order in which they were given out.
+    pub tickets: Vec<KeptTicket>,
+    /// The bytes that the last call put out.
+    pub output: Vec<u8>,
+}
+
+impl HostHop {
+    /// A hop with this address, these accounts and these routes. Fails as `HopState::new` does.
+    pub fn new(
+        alloc: Global,
+        own: &str,
+        accounts: &[Account],
+        routes: &[Route<'_>],
+    ) -> Result<HostHop, HopError>
+        ensures made { IfOk result (λ k. IsNewHop (new_hop own.now accounts.now (map way_seen routes.now)) k) }
+        ensures refused { MatchBool (is_table own.now accounts.now (map way_seen routes.now)) (IsOkUnless result HopError.NoMemory) (IsErrOf result HopError.BadTable) }
+    {
+        Ok(HostHop {
+            state: HopState::new(alloc, own, accounts, routes)?,
+            tickets: Vec::new(alloc),
+            output: Vec::new(alloc),
+        })
+    }
+
+    /// Takes the bytes of a Prepare from an account. Puts out the bytes that answer it, or that go on. Fails with
+    /// `NoAccount` where there is no account with this index, and otherwise with `NoMemory` where memory is refused.
+    pub fn arrive(&mut self, account: usize, bytes: &[u8], now: Moment) -> Result<Way, HopError>
+        ensures refused { MatchBool (nat_lt account (length self.old.state.accounts)) (IsOkUnless result HopError.NoMemory) (IsErrOf result HopError.NoAccount) }
+        ensures arrived { IfOk result (λ way. Arrives self.old account bytes.now now way self.new) }
+        ensures unchanged { OnErr result (IsSameHop self.old self.new) }
+    {
+        let _claims = self.state.claims(account)?;
+        self.tickets.reserve(1)?;
+        match self.state.arrive(account, bytes, now)? {
+            Verdict::Answer(answer) => {
+                self.output = answer;
+                Ok(Way::Back)
+            }
+            Verdict::Forward {
+                ticket,
+                account,
+                bytes,
+            } => {
+                let number = ticket.read().number;
+                self.tickets.push_reserved(KeptTicket::new(ticket));
+                self.output = bytes;
+                Ok(Way::Onward {
+                    ticket: number,
+                    account,
+                })
+            }
+        }
+    }
+
+    /// Ends a Prepare that went on under this number, and puts out the answer to the Prepare that had come. Whether an open
+    /// ticket has this number.
+    fn close(&mut self, number: u64, outcome: Outcome<Global>, now: Moment) -> bool
+        ensures { MatchBool result (IsSettled self.old self.new number (outcome_seen outcome) now) (HasNoTicket self.old.state self.old.tickets.items number × (self.new ≡ self.old)) }
+    {
+        let Some(place) = place_of(&self.state, &self.tickets, number) else {
+            return false;
+        };
+        let ticket = self.tickets.remove(place).spend();
+        self.output = self.state.settle(ticket, outcome, now);
+        true
+    }
+
+    /// Takes the bytes that came back to a Prepare that went on under this number, and puts out the answer to the Prepare
+    /// that had come. `false` exactly where no open ticket has this number. Fails where memory is refused.
+    pub fn settle(
+        &mut self,
+        alloc: Global,
+        number: u64,
+        bytes: &[u8],
+        now: Moment,
+    ) -> Result<bool, AllocError>
+        ensures settled { IfOk result (λ found. MatchBool found (IsSettled self.old self.new number (Some bytes.now) now) (HasNoTicket self.old.state self.old.tickets.items number × (self.new ≡ self.old))) }
+        ensures unchanged { OnErr result (self.new ≡ self.old) }
+    {
+        let outcome = Outcome::Answered(Vec::from_slice(alloc, bytes)?);
+        Ok(self.close(number, outcome, now))
+    }
+
+    /// No bytes came back to a Prepare that went on under this number: puts out the answer to the Prepare that had come.
+    /// Whether an open ticket has this number.
+    pub fn fault(&mut self, number: u64, now: Moment) -> bool
+        ensures { MatchBool result (IsSettled self.old self.new number None now) (HasNoTicket self.old.state self.old.tickets.items number × (self.new ≡ self.old)) }
+    {
+        self.close(number, Outcome::Fault, now)
+    }
+
+    /// Gives up a ticket without an answer. The amount stays reserved. Whether an open ticket has this number.
+    pub fn abandon(&mut self, number: u64) -> bool
+        ensures { MatchBool result (IsAbandoned self.old self.new number) (HasNoTicket self.old.state self.old.tickets.items number × (self.new ≡ self.old)) }
+    {
+        let Some(place) = place_of(&self.state, &self.tickets, number) else {
+            return false;
+        };
+        self.tickets.remove(place).spend().abandon();
+        true
+    }
+}
