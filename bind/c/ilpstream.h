@@ -435,8 +435,8 @@ typedef struct ilp_reading {
 
 /* Takes the next `len` bytes of a message. ILP_DONE: it is whole, and its body is put out. ILP_IDLE: it is not whole yet.
  * ILP_STATUS: a request is refused by a status, or a response has a status other than 200. ILP_BAD_HEAD, ILP_TOO_LONG: a
- * response is refused. These stay, whatever bytes follow. ILP_HTTP_NO_MEMORY: no byte was taken. Each call reads the message
- * from its start, so that some thousand bytes at once cost less than single ones. */
+ * response is refused. Where it is refused, or ILP_HTTP_NO_MEMORY, no byte was taken. Each call reads the message from its
+ * start, so that some thousand bytes at once cost less than single ones. */
 ilp_code ilp_message_feed(ilp_message *message, const uint8_t *bytes, size_t len, ilp_reading *reading);
 
 /* Writes a POST request, a response 200, and a response of another status, as ilp_prepare_write writes a packet.
