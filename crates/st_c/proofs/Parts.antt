@@ -25,12 +25,12 @@ between bytes front part rest start is begins =
 pub last_part : (bytes front part : List ℕ) → bytes ≡ front ++ octets part → IsPart bytes (length bytes - length part) (length part) part
 last_part bytes front part is =
     between bytes (front ++ length_bytes (length part)) part [] (length bytes - length part)
-        (is ∙ sym (append_assoc front (length_bytes (length part)) part) ∙ ap (λ xs. (front ++ length_bytes (length part)) ++ xs) (sym (append-nil part))) (omega arith)
+    (is ∙ sym (append_assoc front (length_bytes (length part)) part) ∙ ap (λ xs. (front ++ length_bytes (length part)) ++ xs) (sym (append-nil part))) (omega arith)
 
 pub part_before : (bytes front part rest : List ℕ) (start : ℕ) → bytes ≡ front ++ (octets part ++ rest) → start ≡ length bytes - length rest - length part → IsPart bytes start (length part) part
 part_before bytes front part rest start is begins =
     between bytes (front ++ length_bytes (length part)) part rest start
-        (is ∙ ap (λ xs. front ++ xs) (append_assoc (length_bytes (length part)) part rest) ∙ sym (append_assoc front (length_bytes (length part)) (part ++ rest))) begins
+    (is ∙ ap (λ xs. front ++ xs) (append_assoc (length_bytes (length part)) part rest) ∙ sym (append_assoc front (length_bytes (length part)) (part ++ rest))) begins
 
 -- ---- Prepare
 

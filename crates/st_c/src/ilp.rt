@@ -139,13 +139,7 @@ fn fulfill_told(bytes: &[u8], fulfillment: [u8; 32], payload: &[u8]) -> HostAnsw
 }
 
 /// The struct of a Reject that these bytes are.
-fn reject_told(
-    bytes: &[u8],
-    code: [u8; 3],
-    by: &str,
-    message: &str,
-    payload: &[u8],
-) -> HostAnswer
+fn reject_told(bytes: &[u8], code: [u8; 3], by: &str, message: &str, payload: &[u8]) -> HostAnswer
     requires { bytes.now ≡ answer_text (Rejected code by.now message.now payload.now) }
     ensures { IsAnswerIn bytes.now (Rejected code by.now message.now payload.now) result }
 {
