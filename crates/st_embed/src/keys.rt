@@ -60,12 +60,12 @@ impl Sealer {
         tag_place.copy_from_slice(&self.seal_text(iv, text));
     }
 
-    /// Decrypts a payload in place: afterwards its bytes from `OVERHEAD` on are the plain text.
-    fn unseal_payload(&self, payload: &mut [u8]) -> Result<(), KeyError>
-        ensures exact { MatchResult result (λ _. unsealed self.now payload.old ≡ Ok (ciphertext_of payload.new)) (λ e. unsealed self.now payload.old ≡ Err e) }
-        ensures long { OnOk result (OVERHEAD ≤ length payload.old) }
+    /// Decrypts a payload in place, and copies its text.
+    fn unseal_text(&self, alloc: Global, payload: &mut [u8]) -> Result<Vec<u8>, KeyError>
+        ensures { MatchResult result (λ text. unsealed self.now payload.old ≡ Ok text.items) (λ e. (e ≡ KeyError.NoMemory) ⊎ (unsealed self.now payload.old ≡ Err e)) }
     {
-        self.keys.unseal_payload(payload)
+        self.keys.unseal_payload(payload)?;
+        Ok(Vec::from_slice(alloc, &payload[OVERHEAD..])?)
     }
 
     fn fulfillment(&self, payload: &[u8]) -> [u8; 32]
@@ -132,8 +132,7 @@ impl HostKeys {
         ensures unchanged { OnErr result (self.new ≡ self.old) }
     {
         let mut copy = Vec::from_slice(alloc, payload)?;
-        self.keys.unseal_payload(&mut copy)?;
-        self.output = Vec::from_slice(alloc, &copy[OVERHEAD..])?;
+        self.output = self.keys.unseal_text(alloc, &mut copy)?;
         Ok(())
     }
 

@@ -46,7 +46,11 @@ pub enum Progress {
 }
 
 /// What a reading that has not begun makes of bytes.
-fn read_with(alloc: Global, reading: &mut Reading<'_, Global>, given: &[u8]) -> Result<Found, HttpError>
+fn read_with(
+    alloc: Global,
+    reading: &mut Reading<'_, Global>,
+    given: &[u8],
+) -> Result<Found, HttpError>
     requires { reading.old.taken ≡ [] }
     ensures { FindsIn reading.old.expected given.now result }
 {

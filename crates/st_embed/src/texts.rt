@@ -6,12 +6,7 @@ ghost use Rattle.st_http.specs.Texts as spec;
 use std::alloc::{AllocError, Global};
 
 /// The head of a request to this host, with this token and a body of this size.
-fn request_head(
-    alloc: Global,
-    host: &str,
-    token: &str,
-    size: usize,
-) -> Result<String, AllocError>
+fn request_head(alloc: Global, host: &str, token: &str, size: usize) -> Result<String, AllocError>
     ensures { IfOk result (λ text. string_bytes text ≡ spec.request_head host.now token.now size) }
 {
     let text = format!(in alloc;
