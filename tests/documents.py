@@ -27,6 +27,7 @@ OTHERS = {
         "st_commands": "PREPARE",
         "st_end": "PREPARE FULFILL REJECT",
         "st_ilp": "PREPARE FULFILL REJECT",
+        "st_c": "FULFILL REJECT",
     },
     "places of an array, one more than the streams, or one for each number of a byte": {
         "st_receiver": "PLACES",

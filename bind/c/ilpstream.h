@@ -38,6 +38,27 @@ extern "C" {
 typedef uint32_t ilp_code;
 enum {
     ILP_DONE = 0,            /* the call did what it is for */
+    /* refusals of reading and writing ILP packets */
+    ILP_OER = 10,              /* a field, or the octets around the fields, are malformed (RFC 0030) */
+    ILP_KIND = 11,             /* the packet is of another kind */
+    ILP_EXPIRY = 12,           /* an expiry is no date and time of the years 0000 to 9999 */
+    ILP_ADDRESS = 13,          /* an address is malformed */
+    ILP_DATA_TOO_LONG = 14,    /* the data has more than 32,767 bytes, or a message to be written more than 8,191 */
+    ILP_NOT_UTF8 = 15,         /* a message is not UTF-8 */
+    ILP_CODE = 16,             /* an error code has a character outside ! to ~ */
+    ILP_TRAILING = 17,         /* bytes follow the last field or the packet */
+    ILP_PACKET_NO_MEMORY = 18, /* out of memory */
+    /* refusals of reading and writing STREAM packets */
+    ILP_FRAMES_VERSION = 20,   /* the packet is of another version of STREAM */
+    ILP_FRAMES_KIND = 21,      /* the packet is of another kind than the ILP packet that carried it */
+    ILP_FRAMES_OER = 22,       /* a number, or the type or the length of a frame, is malformed (RFC 0030) */
+    ILP_FRAME_FORMAT = 23,     /* a known frame is malformed */
+    ILP_FRAMES_TOO_LONG = 24,  /* the packet has more than 32,739 bytes */
+    ILP_FRAMES_NO_MEMORY = 25, /* out of memory */
+    /* refusals of keys */
+    ILP_SHORT = 30,            /* the payload has fewer than 28 bytes: no IV and tag */
+    ILP_TAG = 31,              /* the tag of the payload is wrong */
+    ILP_KEYS_NO_MEMORY = 33,   /* out of memory */
     /* refusals of a hop */
     ILP_BAD_TABLE = 34,      /* a prefix stands twice, a route names no account, or a limit is above 2^63 - 1 */
     ILP_HOP_NO_MEMORY = 35,  /* out of memory */
@@ -49,6 +70,11 @@ enum {
     ILP_AMOUNT = 53,         /* all offers together would be 2^63 units or more */
     ILP_NO_MEMORY = 54,      /* out of memory */
     ILP_FAILED = 58,         /* the connection failed */
+    /* refusals of a message of HTTP */
+    ILP_BAD_HEAD = 82,         /* the head of a response is malformed */
+    ILP_STATUS = 83,           /* a request is refused by a status, or a response has a status other than 200 */
+    ILP_TOO_LONG = 84,         /* the body of a response is longer than 65,535 bytes */
+    ILP_HTTP_NO_MEMORY = 87,   /* out of memory */
     /* answers and refusals of this boundary */
     ILP_IDLE = 100,          /* nothing is to be sent, or can be read yet */
     ILP_MISUSE = 101,        /* the handle is empty, or of another kind; for *_new, it is not empty */
@@ -237,6 +263,189 @@ typedef struct ilp_balances {
 
 /* ILP_NO_ACCOUNT. */
 ilp_code ilp_hop_balances(ilp_hop *hop, size_t account, ilp_balances *balances);
+
+/* ---- keys of a connection: sealed packets, fulfillments and conditions (RFC 0029, RFC 0027) */
+
+typedef struct ilp_keys { void *inner; } ilp_keys;
+
+/* Makes the keys of a connection in an empty handle, from the shared secret. The secret is not stored. ILP_MISUSE where the
+ * handle is not empty; ILP_KEYS_NO_MEMORY. */
+ilp_code ilp_keys_new(ilp_keys *keys, const uint8_t secret[32]);
+
+/* Puts out the payload of a plain text of `len` bytes: the IV, the tag of 16 bytes, and the ciphertext. `payload_len` is how
+ * many bytes it has: 28 more than the text. The text is not looked at; that of a packet is what ilp_packet_write puts out.
+ * No two payloads of a connection may have the same IV. ILP_KEYS_NO_MEMORY. */
+ilp_code ilp_keys_seal(ilp_keys *keys, const uint8_t iv[12], const uint8_t *text, size_t len, size_t *payload_len);
+
+/* Puts out the plain text of a payload of `len` bytes. `text_len` is how many bytes it has: 28 less than the payload.
+ * ILP_SHORT: the payload has fewer than 28 bytes. ILP_TAG: its tag does not match its ciphertext. ILP_KEYS_NO_MEMORY. */
+ilp_code ilp_keys_open(ilp_keys *keys, const uint8_t *payload, size_t len, size_t *text_len);
+
+/* The fulfillment of a Prepare whose data is this payload of `len` bytes, as it is sent. */
+ilp_code ilp_keys_fulfillment(ilp_keys *keys, const uint8_t *payload, size_t len, uint8_t fulfillment[32]);
+
+/* The condition of a fulfillment: its SHA-256 digest. It needs no handle, and is never refused. */
+void ilp_condition(const uint8_t fulfillment[32], uint8_t condition[32]);
+
+/* ---- ILP packets (RFC 0027, RFC 0030)
+ *
+ * These calls need no handle and keep nothing. In a struct, a part of a packet is `.._at`, where it begins in the bytes that
+ * were read, and `.._len`, how many bytes it has. What is written goes to the front of the caller's buffer of `room` bytes,
+ * and `len` is how many bytes that are. ILP_ROOM where the buffer has fewer: then nothing is written, and `len` is how many
+ * are needed. */
+
+/* An ILP Prepare. `amount` is in units of the asset that the two neighbours share, `expiry` a time. `condition` is the SHA-256
+ * digest of the fulfillment. The destination is the ILP address of the receiver (RFC 0015), and the payload is data for it:
+ * at most 32,767 bytes. */
+typedef struct ilp_prepare {
+    uint64_t amount;
+    int64_t expiry;
+    uint8_t condition[32];
+    size_t destination_at;
+    size_t destination_len;
+    size_t payload_at;
+    size_t payload_len;
+} ilp_prepare;
+
+/* The answer to a Prepare. `kind` is 13 for a Fulfill, which has a fulfillment, and 14 for a Reject. A Reject has a code of
+ * three characters, such as F02; triggeredBy (`by`), the address of the node that made it, or nothing; and a message for
+ * people, in UTF-8. The parts that the other kind has are 0. The payload is data for the sender of the Prepare: at most 32,767
+ * bytes. */
+typedef struct ilp_answer {
+    uint32_t kind;
+    uint8_t fulfillment[32];
+    uint8_t code[3];
+    size_t by_at;
+    size_t by_len;
+    size_t message_at;
+    size_t message_len;
+    size_t payload_at;
+    size_t payload_len;
+} ilp_answer;
+
+/* Reads all of the `len` bytes as a Prepare. ILP_OER, ILP_KIND, ILP_EXPIRY, ILP_ADDRESS, ILP_DATA_TOO_LONG, ILP_TRAILING: the
+ * first fault. */
+ilp_code ilp_prepare_read(const uint8_t *bytes, size_t len, ilp_prepare *prepare);
+
+/* Reads all of the `len` bytes as a Fulfill or a Reject. ILP_OER, ILP_KIND, ILP_CODE, ILP_ADDRESS, ILP_NOT_UTF8,
+ * ILP_DATA_TOO_LONG, ILP_TRAILING: the first fault. */
+ilp_code ilp_answer_read(const uint8_t *bytes, size_t len, ilp_answer *answer);
+
+/* Writes a Prepare. ILP_ARGUMENT where the destination is not UTF-8; ILP_EXPIRY where the year is outside 0000 to 9999;
+ * ILP_ADDRESS where the destination is no ILP address; ILP_DATA_TOO_LONG; ILP_PACKET_NO_MEMORY. */
+ilp_code ilp_prepare_write(uint64_t amount, int64_t expiry, const uint8_t condition[32], const uint8_t *destination,
+                           size_t destination_len, const uint8_t *payload, size_t payload_len, uint8_t *out, size_t room,
+                           size_t *len);
+
+/* Writes a Fulfill. ILP_DATA_TOO_LONG, ILP_PACKET_NO_MEMORY. */
+ilp_code ilp_fulfill_write(const uint8_t fulfillment[32], const uint8_t *payload, size_t payload_len, uint8_t *out,
+                           size_t room, size_t *len);
+
+/* Writes a Reject. ILP_ARGUMENT where `by` or the message is not UTF-8; ILP_CODE where the code has a character outside ! to ~;
+ * ILP_ADDRESS where `by` is neither empty nor an ILP address; ILP_DATA_TOO_LONG where the message has more than 8,191 bytes or
+ * the payload more than 32,767; ILP_PACKET_NO_MEMORY. */
+ilp_code ilp_reject_write(const uint8_t code[3], const uint8_t *by, size_t by_len, const uint8_t *message, size_t message_len,
+                          const uint8_t *payload, size_t payload_len, uint8_t *out, size_t room, size_t *len);
+
+/* ---- plain STREAM packets, frame by frame (RFC 0029, section 5) */
+
+typedef struct ilp_packet { void *inner; } ilp_packet;
+
+/* `kind` is that of the ILP packet that carries it: 12 Prepare, 13 Fulfill, 14 Reject. `amount` is in a Prepare the least that
+ * the receiver should accept, and in a reply what arrived. `frames` is how many known frames it has. */
+typedef struct ilp_header {
+    uint64_t sequence;
+    uint64_t amount;
+    size_t frames;
+    uint32_t kind;
+} ilp_header;
+
+/* A frame of one of the eleven types that are read. The type says which parts it has; the others are 0.
+ *   0x01 ConnectionClose        code; data: a message in UTF-8
+ *   0x02 ConnectionNewAddress   data: an ILP address, or nothing
+ *   0x03 ConnectionMaxData      first: the most bytes that are accepted over all streams
+ *   0x04 ConnectionDataBlocked  first: the sum of offsets that is wanted
+ *   0x10 StreamClose            stream; code; data: a message in UTF-8
+ *   0x11 StreamMoney            stream; first: shares
+ *   0x12 StreamMaxMoney         stream; first: the most that is accepted; second: what was received
+ *   0x13 StreamMoneyBlocked     stream; first: the most that is to be sent; second: what was sent
+ *   0x14 StreamData             stream; first: the offset; data: the bytes
+ *   0x15 StreamMaxData          stream; first: the offset below which bytes are accepted
+ *   0x16 StreamDataBlocked      stream; first: the offset up to which bytes are to be sent
+ * `index` is its place among all frames of a packet that was read, unknown ones counted, from 0. */
+typedef struct ilp_frame {
+    uint64_t index;
+    uint64_t stream;
+    uint64_t first;
+    uint64_t second;
+    size_t data_len;
+    uint32_t type;
+    uint32_t code;
+} ilp_frame;
+
+/* Makes a packet without frames in an empty handle. ILP_ARGUMENT where `kind` is not 12, 13 or 14; ILP_MISUSE where the handle
+ * is not empty; ILP_FRAMES_NO_MEMORY. */
+ilp_code ilp_packet_new(ilp_packet *packet, uint32_t kind, uint64_t sequence, uint64_t amount);
+
+/* Makes a packet in an empty handle from all of the `len` bytes, which an ILP packet of this kind carried. Frames of unknown
+ * types, and bytes after the last frame, are left out. ILP_ARGUMENT, ILP_MISUSE as above; ILP_FRAMES_TOO_LONG,
+ * ILP_FRAMES_VERSION, ILP_FRAMES_KIND, ILP_FRAMES_OER, ILP_FRAME_FORMAT: the first fault; ILP_FRAMES_NO_MEMORY. */
+ilp_code ilp_packet_read(ilp_packet *packet, uint32_t kind, const uint8_t *bytes, size_t len);
+
+ilp_code ilp_packet_header(ilp_packet *packet, ilp_header *header);
+
+/* The known frame at a place, counted from 0; its data is put out. ILP_ARGUMENT where there is none; ILP_FRAMES_NO_MEMORY. */
+ilp_code ilp_packet_frame(ilp_packet *packet, size_t place, ilp_frame *frame);
+
+/* Adds a frame behind the others. Its `index`, and parts that its type does not have, are not looked at; `data` has
+ * `data_len` bytes, and not those that the struct says. ILP_ARGUMENT where there is no such type, the code is above 255, or
+ * data that has to be UTF-8 is not; ILP_FRAMES_NO_MEMORY. */
+ilp_code ilp_packet_push(ilp_packet *packet, const ilp_frame *frame, const uint8_t *data, size_t data_len);
+
+/* Puts out the bytes of a packet; `len` is how many. ILP_FRAME_FORMAT where the address of a ConnectionNewAddress is none;
+ * ILP_FRAMES_TOO_LONG above 32,739 bytes; ILP_FRAMES_NO_MEMORY. */
+ilp_code ilp_packet_write(ilp_packet *packet, size_t *len);
+
+/* ---- ILP over HTTP (RFC 0035): messages that come in pieces, and the texts that are sent
+ *
+ * A head has at most 8,192 bytes and 64 fields, a body at most 65,535 bytes. A stream carries one exchange. */
+
+typedef struct ilp_message { void *inner; } ilp_message;
+
+/* Begins to read a request in an empty handle. `lengths[i]` is how many bytes the bearer token of account i has; the tokens
+ * stand one after another in `tokens`, and are copied. ILP_ARGUMENT where the lengths are not together `tokens_len`, or a
+ * token is not UTF-8; ILP_MISUSE where the handle is not empty; ILP_HTTP_NO_MEMORY. */
+ilp_code ilp_request_new(ilp_message *request, const uint8_t *tokens, size_t tokens_len, const size_t *lengths,
+                         size_t lengths_len);
+
+/* Begins to read a response in an empty handle. ILP_MISUSE where the handle is not empty; ILP_HTTP_NO_MEMORY. */
+ilp_code ilp_response_new(ilp_message *response);
+
+/* What the bytes of a message are so far. ILP_DONE: `taken` is how many of them are the message, `body_len` how many bytes were
+ * put out, and `account` that of a request, by the place of its token. ILP_IDLE: `wants` is how many bytes to ask for next:
+ * at least 1, and never more than the message must still have. ILP_STATUS: `status` is the status that answers a request, or
+ * that a response has. All else is 0. */
+typedef struct ilp_reading {
+    size_t wants;
+    size_t taken;
+    size_t account;
+    size_t body_len;
+    uint32_t status;
+} ilp_reading;
+
+/* Takes the next `len` bytes of a message. ILP_DONE: it is whole, and its body is put out. ILP_IDLE: it is not whole yet.
+ * ILP_STATUS: a request is refused by a status, or a response has a status other than 200. ILP_BAD_HEAD, ILP_TOO_LONG: a
+ * response is refused. Where it is refused, or ILP_HTTP_NO_MEMORY, no byte was taken. Each call reads the message from its
+ * start, so that some thousand bytes at once cost less than single ones. */
+ilp_code ilp_message_feed(ilp_message *message, const uint8_t *bytes, size_t len, ilp_reading *reading);
+
+/* Writes a POST request, a response 200, and a response of another status, as ilp_prepare_write writes a packet.
+ * ILP_ARGUMENT where the host or the token is not 1 to 255 characters from ! to ~, or the status is not 400 to 599;
+ * ILP_HTTP_NO_MEMORY. */
+ilp_code ilp_request_text(const uint8_t *host, size_t host_len, const uint8_t *token, size_t token_len, const uint8_t *body,
+                          size_t body_len, uint8_t *out, size_t room, size_t *len);
+ilp_code ilp_answer_text(const uint8_t *body, size_t body_len, uint8_t *out, size_t room, size_t *len);
+ilp_code ilp_refusal_text(uint32_t status, uint8_t *out, size_t room, size_t *len);
 
 #ifdef __cplusplus
 }

@@ -1,2 +1,4 @@
 mod Addresses
 mod Making
+mod Parts
+mod Made

@@ -2,13 +2,17 @@
 use Rattle.std.specs.Prelude.{ℕ, List, Option, Some, None}
 use Rattle.st_embed.specs.declared.end.HostEnd.{HostEnd}
 use Rattle.st_embed.specs.declared.hop.HostHop.{HostHop}
+use Rattle.st_embed.specs.declared.keys.HostKeys.{HostKeys}
+use Rattle.st_embed.specs.declared.message.HostMessage.{HostMessage}
 use Rattle.st_embed.specs.declared.object.Object.{Object}
-use Rattle.st_embed.specs.declared.object.Object.TheVariants.{End, Hop}
+use Rattle.st_embed.specs.declared.object.Object.TheVariants.{End, Hop, Keys, Message}
 
 -- the bytes that the last call put out
 abbrev pub output_of : Object → List ℕ
 output_of (End e) = e.output.items
 output_of (Hop h) = h.output.items
+output_of (Keys k) = k.output.items
+output_of (Message m) = m.output.items
 
 -- the end that a handle is of
 abbrev pub end_in : Option Object → Option HostEnd
@@ -19,3 +23,13 @@ end_in other = None
 abbrev pub hop_in : Option Object → Option HostHop
 hop_in (Some (Hop h)) = Some h
 hop_in other = None
+
+-- the keys that a handle is of
+abbrev pub keys_in : Option Object → Option HostKeys
+keys_in (Some (Keys k)) = Some k
+keys_in other = None
+
+-- the message that a handle is of
+abbrev pub message_in : Option Object → Option HostMessage
+message_in (Some (Message m)) = Some m
+message_in other = None
