@@ -10,7 +10,10 @@ fn main() {
     let archive = folder.join("libilpstream_bare.a");
     println!("cargo::rerun-if-changed={}", archive.display());
     if !archive.is_file() {
-        println!("cargo::warning={} is missing: run bind/build", archive.display());
+        println!(
+            "cargo::warning={} is missing: run bind/build",
+            archive.display()
+        );
     }
     println!("cargo::rustc-link-search=native={}", folder.display());
     println!("cargo::rustc-link-lib=static=ilpstream_bare");

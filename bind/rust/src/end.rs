@@ -146,7 +146,14 @@ impl End {
         config: EndConfig,
     ) -> Result<End, Error> {
         let mut handle = Handle::empty();
-        done(raw::end_new(&mut handle, role as u32, secret, own, peer, &config))?;
+        done(raw::end_new(
+            &mut handle,
+            role as u32,
+            secret,
+            own,
+            peer,
+            &config,
+        ))?;
         Ok(End { handle })
     }
 
@@ -173,7 +180,11 @@ impl End {
     /// Aborts a stream with a code of RFC 0029, section 5.4. [`Error::Argument`] for 1, which is that of a clean close;
     /// [`Error::NoStream`], [`Error::Closed`], [`Error::ConnectionFailed`].
     pub fn abort(&mut self, stream: u8, code: u8) -> Result<(), Error> {
-        done(raw::ilp_end_abort(&mut self.handle, stream.into(), code.into()))
+        done(raw::ilp_end_abort(
+            &mut self.handle,
+            stream.into(),
+            code.into(),
+        ))
     }
 
     /// Offers units on a stream, beside what was offered before. [`Error::NoStream`], [`Error::Closed`],
@@ -185,7 +196,11 @@ impl End {
     /// Lets a stream receive up to an amount in all, which is 0 at the start and is never lowered. [`Error::NoStream`],
     /// [`Error::Closed`], [`Error::ConnectionFailed`].
     pub fn set_receive_max(&mut self, stream: u8, amount: u64) -> Result<(), Error> {
-        done(raw::ilp_end_set_receive_max(&mut self.handle, stream.into(), amount))
+        done(raw::ilp_end_set_receive_max(
+            &mut self.handle,
+            stream.into(),
+            amount,
+        ))
     }
 
     /// The next bytes of a stream, at most `max`, which is not 0. [`Error::NoStream`], [`Error::OutOfMemory`].
@@ -219,7 +234,12 @@ impl End {
     /// the flight is not open.
     pub fn answer(&mut self, flight: Flight, bytes: &mut [u8]) -> Result<bool, Error> {
         let mut fulfilled = 0;
-        done(raw::end_answer(&mut self.handle, flight.0, bytes, &mut fulfilled))?;
+        done(raw::end_answer(
+            &mut self.handle,
+            flight.0,
+            bytes,
+            &mut fulfilled,
+        ))?;
         Ok(fulfilled == 1)
     }
 
@@ -231,7 +251,12 @@ impl End {
     /// What answers a Prepare of the peer. [`Error::OutOfMemory`]: answer it with [`End::t00`], and the peer sends again.
     pub fn receive(&mut self, bytes: &[u8], now: i64) -> Result<Received, Error> {
         let mut received = raw::Received::default();
-        done(raw::end_receive(&mut self.handle, bytes, now, &mut received))?;
+        done(raw::end_receive(
+            &mut self.handle,
+            bytes,
+            now,
+            &mut received,
+        ))?;
         Ok(Received {
             bytes: output(&mut self.handle, received.len)?,
             reason: received.reason,

@@ -128,7 +128,13 @@ impl Hop {
     /// after which it still is.
     pub fn settle(&mut self, ticket: Ticket, bytes: &[u8], now: i64) -> Result<Vec<u8>, Error> {
         let mut len = 0;
-        done(raw::hop_settle(&mut self.handle, ticket.0, bytes, now, &mut len))?;
+        done(raw::hop_settle(
+            &mut self.handle,
+            ticket.0,
+            bytes,
+            now,
+            &mut len,
+        ))?;
         output(&mut self.handle, len)
     }
 
@@ -152,7 +158,11 @@ impl Hop {
     /// What an account owes the hop, what the hop owes it, and what is held against it. [`Error::NoAccount`].
     pub fn balances(&mut self, account: usize) -> Result<Balances, Error> {
         let mut balances = Balances::default();
-        done(raw::ilp_hop_balances(&mut self.handle, account, &mut balances))?;
+        done(raw::ilp_hop_balances(
+            &mut self.handle,
+            account,
+            &mut balances,
+        ))?;
         Ok(balances)
     }
 }

@@ -168,7 +168,18 @@ pub(crate) fn end_new(
     config: &EndConfig,
 ) -> u32 {
     let (own_at, peer_at) = (own.as_ptr(), peer.as_ptr());
-    unsafe { ilp_end_new(end, role, secret, own_at, own.len(), peer_at, peer.len(), config) }
+    unsafe {
+        ilp_end_new(
+            end,
+            role,
+            secret,
+            own_at,
+            own.len(),
+            peer_at,
+            peer.len(),
+            config,
+        )
+    }
 }
 
 pub(crate) fn end_write(end: &mut Handle, stream: u32, bytes: &[u8]) -> u32 {

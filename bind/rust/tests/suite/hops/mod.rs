@@ -1,0 +1,3 @@
+//! A hop.
+
+mod between_ends;
