@@ -3,4 +3,5 @@
 
 mod ends;
 mod hops;
+mod hostile;
 mod seeds;

@@ -1,6 +1,6 @@
 //! Numbers by a seed, and runs by all processors.
 
-use std::panic::catch_unwind;
+use std::panic::{RefUnwindSafe, catch_unwind};
 use std::sync::atomic::{AtomicU64, Ordering};
 use std::thread;
 
@@ -21,6 +21,29 @@ impl Numbers {
         second ^ (second >> 31)
     }
 
+    /// One of these byte lists; the empty one where there is none.
+    pub fn pick<'a>(&mut self, lists: &[&'a [u8]]) -> &'a [u8] {
+        let place = self.place(lists.len());
+        lists.get(place).copied().unwrap_or(&[])
+    }
+
+    /// One of these numbers; 0 where there is none.
+    pub fn choice(&mut self, list: &[u64]) -> u64 {
+        let place = self.place(list.len());
+        list.get(place).copied().unwrap_or(0)
+    }
+
+    /// A byte: half of the time one of `common`, and else any byte.
+    pub fn byte(&mut self, common: &[u8]) -> u8 {
+        let number = self.next();
+        if number & 0x100 == 0 {
+            let place = self.place(common.len());
+            common.get(place).copied().unwrap_or(0)
+        } else {
+            (number & 0xff) as u8
+        }
+    }
+
     /// The next number below a bound, or 0 where that is 0.
     pub fn below(&mut self, bound: u64) -> u64 {
         self.next().checked_rem(bound).unwrap_or(0)
@@ -33,7 +56,7 @@ impl Numbers {
 }
 
 /// Runs a test for each seed below a bound, by as many threads as there are processors. A seed that fails is named.
-pub fn for_each(seeds: u64, run: fn(u64)) {
+pub fn for_each(seeds: u64, run: impl Fn(u64) + Sync + RefUnwindSafe) {
     let next = AtomicU64::new(0);
     let work = || {
         loop {
