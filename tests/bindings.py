@@ -64,7 +64,7 @@ def rust_structs(text):
     return {
         name: {
             field: kind
-            for field, kind in re.findall(r"^ +(?:pub )?(\w+): ([^,]+),$", re.sub(r"//.*", "", body), re.M)
+            for field, kind in re.findall(r"^ +(?:pub )?(?:r#)?(\w+): ([^,]+),$", re.sub(r"//.*", "", body), re.M)
         }
         for name, body in re.findall(pattern, text, re.S)
     }
@@ -113,7 +113,7 @@ def exports(text):
 def declared_rust(text):
     blocks = "\n".join(re.findall(r'^unsafe extern "C" \{\n(.*?)^\}', text, re.S | re.M))
     structs = "\n".join(re.findall(r"#\[repr\(C\)\].*?\n\}", text, re.S))
-    calls = rust_calls(structs + blocks, r"\bfn (ilp_\w+)\((.*?)\)(?: -> (\w+))?;")
+    calls = rust_calls(structs + blocks, r"\bfn (ilp_\w+)\((.*?)\)(?:\s+-> (\w+))?;")
     return calls
 
 

@@ -2,8 +2,6 @@
 
 from ctypes import POINTER, Structure, c_char_p, c_int64, c_size_t, c_uint8, c_uint32, c_uint64, c_void_p
 
-__all__ = ["Account", "Arrived", "Balances", "CALLS", "Config", "Handle", "Received", "Route", "Totals"]
-
 
 class Handle(Structure):
     """Nothing, or the address of an object."""
@@ -51,10 +49,63 @@ class Balances(Structure):
     _fields_ = [("claims", c_uint64), ("dues", c_uint64), ("held", c_uint64)]
 
 
+class Prepare(Structure):
+    _fields_ = [
+        ("amount", c_uint64),
+        ("expiry", c_int64),
+        ("condition", c_uint8 * 32),
+        ("destination_at", c_size_t),
+        ("destination_len", c_size_t),
+        ("payload_at", c_size_t),
+        ("payload_len", c_size_t),
+    ]
+
+
+class Answer(Structure):
+    _fields_ = [
+        ("kind", c_uint32),
+        ("fulfillment", c_uint8 * 32),
+        ("code", c_uint8 * 3),
+        ("by_at", c_size_t),
+        ("by_len", c_size_t),
+        ("message_at", c_size_t),
+        ("message_len", c_size_t),
+        ("payload_at", c_size_t),
+        ("payload_len", c_size_t),
+    ]
+
+
+class Header(Structure):
+    _fields_ = [("sequence", c_uint64), ("amount", c_uint64), ("frames", c_size_t), ("kind", c_uint32)]
+
+
+class Frame(Structure):
+    _fields_ = [
+        ("index", c_uint64),
+        ("stream", c_uint64),
+        ("first", c_uint64),
+        ("second", c_uint64),
+        ("data_len", c_size_t),
+        ("type", c_uint32),
+        ("code", c_uint32),
+    ]
+
+
+class Reading(Structure):
+    _fields_ = [
+        ("wants", c_size_t),
+        ("taken", c_size_t),
+        ("account", c_size_t),
+        ("body_len", c_size_t),
+        ("status", c_uint32),
+    ]
+
+
 _handle = POINTER(Handle)
 _array = c_char_p  # of as many bytes as the call takes
 _bytes = (c_char_p, c_size_t)
 _room = (POINTER(c_uint8), c_size_t)
+_out = POINTER(c_uint8)  # an array of as many bytes as the call gives
 _u32, _u64, _size = POINTER(c_uint32), POINTER(c_uint64), POINTER(c_size_t)
 
 # What each call returns, and its parameters.
@@ -88,4 +139,26 @@ CALLS = {
     "ilp_hop_abandon": (c_uint32, (_handle, c_uint64)),
     "ilp_hop_t00": (c_uint32, (_handle, *_room, _size)),
     "ilp_hop_balances": (c_uint32, (_handle, c_size_t, POINTER(Balances))),
+    "ilp_keys_new": (c_uint32, (_handle, _array)),
+    "ilp_keys_seal": (c_uint32, (_handle, _array, *_bytes, _size)),
+    "ilp_keys_open": (c_uint32, (_handle, *_bytes, _size)),
+    "ilp_keys_fulfillment": (c_uint32, (_handle, *_bytes, _out)),
+    "ilp_condition": (None, (_array, _out)),
+    "ilp_prepare_read": (c_uint32, (*_bytes, POINTER(Prepare))),
+    "ilp_answer_read": (c_uint32, (*_bytes, POINTER(Answer))),
+    "ilp_prepare_write": (c_uint32, (c_uint64, c_int64, _array, *_bytes, *_bytes, *_room, _size)),
+    "ilp_fulfill_write": (c_uint32, (_array, *_bytes, *_room, _size)),
+    "ilp_reject_write": (c_uint32, (_array, *_bytes, *_bytes, *_bytes, *_room, _size)),
+    "ilp_packet_new": (c_uint32, (_handle, c_uint32, c_uint64, c_uint64)),
+    "ilp_packet_read": (c_uint32, (_handle, c_uint32, *_bytes)),
+    "ilp_packet_header": (c_uint32, (_handle, POINTER(Header))),
+    "ilp_packet_frame": (c_uint32, (_handle, c_size_t, POINTER(Frame))),
+    "ilp_packet_push": (c_uint32, (_handle, POINTER(Frame), *_bytes)),
+    "ilp_packet_write": (c_uint32, (_handle, _size)),
+    "ilp_request_new": (c_uint32, (_handle, *_bytes, _size, c_size_t)),
+    "ilp_response_new": (c_uint32, (_handle,)),
+    "ilp_message_feed": (c_uint32, (_handle, *_bytes, POINTER(Reading))),
+    "ilp_request_text": (c_uint32, (*_bytes, *_bytes, *_bytes, *_room, _size)),
+    "ilp_answer_text": (c_uint32, (*_bytes, *_room, _size)),
+    "ilp_refusal_text": (c_uint32, (c_uint32, *_room, _size)),
 }

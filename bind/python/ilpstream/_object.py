@@ -33,6 +33,24 @@ class Code(enum.IntEnum):
     """What a call returns (docs/ERRORS.md)."""
 
     DONE = 0
+    OER = 10
+    KIND = 11
+    EXPIRY = 12
+    ADDRESS = 13
+    DATA_TOO_LONG = 14
+    NOT_UTF8 = 15
+    CODE = 16
+    TRAILING = 17
+    PACKET_NO_MEMORY = 18
+    FRAMES_VERSION = 20
+    FRAMES_KIND = 21
+    FRAMES_OER = 22
+    FRAME_FORMAT = 23
+    FRAMES_TOO_LONG = 24
+    FRAMES_NO_MEMORY = 25
+    SHORT = 30
+    TAG = 31
+    KEYS_NO_MEMORY = 33
     BAD_TABLE = 34
     HOP_NO_MEMORY = 35
     NO_ACCOUNT = 36
@@ -42,6 +60,10 @@ class Code(enum.IntEnum):
     AMOUNT = 53
     NO_MEMORY = 54
     FAILED = 58
+    BAD_HEAD = 82
+    STATUS = 83
+    TOO_LONG = 84
+    HTTP_NO_MEMORY = 87
     IDLE = 100
     MISUSE = 101
     ARGUMENT = 102
@@ -53,6 +75,28 @@ class Code(enum.IntEnum):
 
 
 _TEXTS = {
+    Code.OER: "a field of the ILP packet is malformed",
+    Code.KIND: "the ILP packet is of another kind",
+    Code.EXPIRY: "the expiry is no date and time",
+    Code.ADDRESS: "an ILP address is malformed",
+    Code.DATA_TOO_LONG: "the data or the message is too long",
+    Code.NOT_UTF8: "the message is not UTF-8",
+    Code.CODE: "the error code has another character",
+    Code.TRAILING: "bytes follow the packet",
+    Code.PACKET_NO_MEMORY: "out of memory for an ILP packet",
+    Code.FRAMES_VERSION: "the STREAM packet is of another version",
+    Code.FRAMES_KIND: "the STREAM packet is of another kind",
+    Code.FRAMES_OER: "a number of the STREAM packet is malformed",
+    Code.FRAME_FORMAT: "a frame is malformed",
+    Code.FRAMES_TOO_LONG: "the STREAM packet is too long",
+    Code.FRAMES_NO_MEMORY: "out of memory for a STREAM packet",
+    Code.SHORT: "the payload is too short",
+    Code.TAG: "the tag of the payload is wrong",
+    Code.KEYS_NO_MEMORY: "out of memory for a payload",
+    Code.BAD_HEAD: "the head of the response is malformed",
+    Code.STATUS: "the message has another status than 200",
+    Code.TOO_LONG: "the body of the response is too long",
+    Code.HTTP_NO_MEMORY: "out of memory for a message",
     Code.BAD_TABLE: "the table of the hop is bad",
     Code.HOP_NO_MEMORY: "the hop is out of memory",
     Code.NO_ACCOUNT: "there is no such account",

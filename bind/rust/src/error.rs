@@ -46,6 +46,42 @@ macro_rules! refusals {
 }
 
 refusals! {
+    /// A field of an ILP packet, or the octets around the fields, are malformed (RFC 0030).
+    Oer = 10, "a field of the ILP packet is malformed";
+    /// The ILP packet is of another kind.
+    Kind = 11, "the ILP packet is of another kind";
+    /// An expiry is no date and time of the years 0000 to 9999.
+    Expiry = 12, "the expiry is no date and time";
+    /// An ILP address is malformed.
+    Address = 13, "an ILP address is malformed";
+    /// The data has more than 32,767 bytes, or a message to be written more than 8,191.
+    DataTooLong = 14, "the data or the message is too long";
+    /// A message is not UTF-8.
+    NotUtf8 = 15, "the message is not UTF-8";
+    /// An error code has a character outside `!` to `~`.
+    Code = 16, "the error code has another character";
+    /// Bytes follow the last field or the packet.
+    Trailing = 17, "bytes follow the packet";
+    /// There is no memory for an ILP packet.
+    PacketOutOfMemory = 18, "out of memory for an ILP packet";
+    /// The STREAM packet is of another version.
+    FramesVersion = 20, "the STREAM packet is of another version";
+    /// The STREAM packet is of another kind than the ILP packet that carried it.
+    FramesKind = 21, "the STREAM packet is of another kind";
+    /// A number, or the type or the length of a frame, is malformed (RFC 0030).
+    FramesOer = 22, "a number of the STREAM packet is malformed";
+    /// A known frame is malformed.
+    FrameFormat = 23, "a frame is malformed";
+    /// The STREAM packet has more than 32,739 bytes.
+    FramesTooLong = 24, "the STREAM packet is too long";
+    /// There is no memory for a STREAM packet.
+    FramesOutOfMemory = 25, "out of memory for a STREAM packet";
+    /// The payload has fewer than 28 bytes: no IV and tag.
+    Short = 30, "the payload is too short";
+    /// The tag of the payload is wrong.
+    Tag = 31, "the tag of the payload is wrong";
+    /// There is no memory for keys or a payload.
+    KeysOutOfMemory = 33, "out of memory for a payload";
     /// The table of a hop: a prefix stands twice, a route names no account, or a limit is above 2^63 - 1.
     BadTable = 34, "the table of the hop is bad";
     /// A hop is out of memory.
@@ -64,6 +100,14 @@ refusals! {
     OutOfMemory = 54, "out of memory";
     /// The connection failed.
     ConnectionFailed = 58, "the connection failed";
+    /// The head of a response is malformed.
+    BadHead = 82, "the head of the response is malformed";
+    /// A request is refused by a status, or a response has a status other than 200.
+    Status = 83, "the message has another status than 200";
+    /// The body of a response is longer than 65,535 bytes.
+    BodyTooLong = 84, "the body of the response is too long";
+    /// There is no memory for a message of HTTP.
+    HttpOutOfMemory = 87, "out of memory for a message";
     /// The handle is empty, or of another kind.
     Misuse = 101, "the handle is of another kind";
     /// An argument is out of its range.

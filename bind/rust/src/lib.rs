@@ -2,6 +2,8 @@
 //!
 //! - [`End`] is one side of a connection: it sends and receives bytes and money on streams.
 //! - [`Hop`] is a connector: it sends Prepares on, and keeps what each neighbour owes.
+//! - [`Keys`], [`Prepare`], [`Answer`], [`Packet`] and [`Frame`] are what their packets are made of.
+//! - [`Request`] and [`Response`] read ILP over HTTP (RFC 0035), and [`request_text`] and its like write it.
 //! - [`Ivs`] reads what a call needs of random bytes, and [`now`] the time.
 //!
 //! There is no I/O in an end or a hop, no clock and no thread: bytes, times and IVs are arguments. Each call that is refused
@@ -20,8 +22,12 @@
 mod end;
 mod error;
 mod hop;
+mod http;
+mod ilp;
 mod ivs;
+mod keys;
 mod output;
+mod packet;
 #[allow(unsafe_code)]
 mod raw;
 #[cfg(feature = "refusing")]
@@ -30,4 +36,8 @@ pub mod refusing;
 pub use end::{End, EndConfig, Flight, Outgoing, Read, Received, Role, Totals};
 pub use error::Error;
 pub use hop::{Account, Balances, Hop, Route, Ticket, Verdict};
+pub use http::{Progress, Request, Response, answer_text, refusal_text, request_text};
+pub use ilp::{Answer, Prepare};
 pub use ivs::{Ivs, now};
+pub use keys::{Keys, condition};
+pub use packet::{Frame, Header, Kind, Packet};

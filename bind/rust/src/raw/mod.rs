@@ -61,6 +61,68 @@ pub(crate) struct Route {
     pub den: u32,
 }
 
+/// A Prepare that was read: where its parts begin, and how many bytes they have.
+#[repr(C)]
+#[derive(Clone, Copy, Default)]
+pub(crate) struct Prepare {
+    pub amount: u64,
+    pub expiry: i64,
+    pub condition: [u8; 32],
+    pub destination_at: usize,
+    pub destination_len: usize,
+    pub payload_at: usize,
+    pub payload_len: usize,
+}
+
+/// A Fulfill or a Reject that was read.
+#[repr(C)]
+#[derive(Clone, Copy, Default)]
+pub(crate) struct Answer {
+    pub kind: u32,
+    pub fulfillment: [u8; 32],
+    pub code: [u8; 3],
+    pub by_at: usize,
+    pub by_len: usize,
+    pub message_at: usize,
+    pub message_len: usize,
+    pub payload_at: usize,
+    pub payload_len: usize,
+}
+
+/// The numbers of a STREAM packet.
+#[repr(C)]
+#[derive(Clone, Copy, Default)]
+pub(crate) struct Header {
+    pub sequence: u64,
+    pub amount: u64,
+    pub frames: usize,
+    pub kind: u32,
+}
+
+/// A frame, whose data stand elsewhere.
+#[repr(C)]
+#[derive(Clone, Copy, Default)]
+pub(crate) struct Frame {
+    pub index: u64,
+    pub stream: u64,
+    pub first: u64,
+    pub second: u64,
+    pub data_len: usize,
+    pub r#type: u32,
+    pub code: u32,
+}
+
+/// What the bytes of a message are so far.
+#[repr(C)]
+#[derive(Clone, Copy, Default)]
+pub(crate) struct Reading {
+    pub wants: usize,
+    pub taken: usize,
+    pub account: usize,
+    pub body_len: usize,
+    pub status: u32,
+}
+
 unsafe extern "C" {
     safe fn ilp_free(handle: &mut Handle);
     fn ilp_output(handle: &mut Handle, out: *mut u8, room: usize, len: &mut usize) -> u32;
@@ -151,6 +213,114 @@ unsafe extern "C" {
         account: usize,
         balances: &mut Balances,
     ) -> u32;
+
+    pub(crate) safe fn ilp_keys_new(keys: &mut Handle, secret: &[u8; 32]) -> u32;
+    fn ilp_keys_seal(
+        keys: &mut Handle,
+        iv: &[u8; 12],
+        text: *const u8,
+        len: usize,
+        payload_len: &mut usize,
+    ) -> u32;
+    fn ilp_keys_open(
+        keys: &mut Handle,
+        payload: *const u8,
+        len: usize,
+        text_len: &mut usize,
+    ) -> u32;
+    fn ilp_keys_fulfillment(
+        keys: &mut Handle,
+        payload: *const u8,
+        len: usize,
+        fulfillment: &mut [u8; 32],
+    ) -> u32;
+    pub(crate) safe fn ilp_condition(fulfillment: &[u8; 32], condition: &mut [u8; 32]);
+
+    fn ilp_prepare_read(bytes: *const u8, len: usize, prepare: &mut Prepare) -> u32;
+    fn ilp_answer_read(bytes: *const u8, len: usize, answer: &mut Answer) -> u32;
+    fn ilp_prepare_write(
+        amount: u64,
+        expiry: i64,
+        condition: &[u8; 32],
+        destination: *const u8,
+        destination_len: usize,
+        payload: *const u8,
+        payload_len: usize,
+        out: *mut u8,
+        room: usize,
+        len: &mut usize,
+    ) -> u32;
+    fn ilp_fulfill_write(
+        fulfillment: &[u8; 32],
+        payload: *const u8,
+        payload_len: usize,
+        out: *mut u8,
+        room: usize,
+        len: &mut usize,
+    ) -> u32;
+    fn ilp_reject_write(
+        code: &[u8; 3],
+        by: *const u8,
+        by_len: usize,
+        message: *const u8,
+        message_len: usize,
+        payload: *const u8,
+        payload_len: usize,
+        out: *mut u8,
+        room: usize,
+        len: &mut usize,
+    ) -> u32;
+
+    pub(crate) safe fn ilp_packet_new(
+        packet: &mut Handle,
+        kind: u32,
+        sequence: u64,
+        amount: u64,
+    ) -> u32;
+    fn ilp_packet_read(packet: &mut Handle, kind: u32, bytes: *const u8, len: usize) -> u32;
+    pub(crate) safe fn ilp_packet_header(packet: &mut Handle, header: &mut Header) -> u32;
+    pub(crate) safe fn ilp_packet_frame(
+        packet: &mut Handle,
+        place: usize,
+        frame: &mut Frame,
+    ) -> u32;
+    fn ilp_packet_push(packet: &mut Handle, frame: &Frame, data: *const u8, data_len: usize)
+    -> u32;
+    pub(crate) safe fn ilp_packet_write(packet: &mut Handle, len: &mut usize) -> u32;
+
+    fn ilp_request_new(
+        request: &mut Handle,
+        tokens: *const u8,
+        tokens_len: usize,
+        lengths: *const usize,
+        lengths_len: usize,
+    ) -> u32;
+    pub(crate) safe fn ilp_response_new(response: &mut Handle) -> u32;
+    fn ilp_message_feed(
+        message: &mut Handle,
+        bytes: *const u8,
+        len: usize,
+        reading: &mut Reading,
+    ) -> u32;
+    fn ilp_request_text(
+        host: *const u8,
+        host_len: usize,
+        token: *const u8,
+        token_len: usize,
+        body: *const u8,
+        body_len: usize,
+        out: *mut u8,
+        room: usize,
+        len: &mut usize,
+    ) -> u32;
+    fn ilp_answer_text(
+        body: *const u8,
+        body_len: usize,
+        out: *mut u8,
+        room: usize,
+        len: &mut usize,
+    ) -> u32;
+    fn ilp_refusal_text(status: u32, out: *mut u8, room: usize, len: &mut usize) -> u32;
 }
 
 // SAFETY of each call below: each pointer and the length behind it are those of one slice.
@@ -252,4 +422,135 @@ pub(crate) fn hop_settle(
 
 pub(crate) fn hop_t00(hop: &mut Handle, out: &mut [u8], len: &mut usize) -> u32 {
     unsafe { ilp_hop_t00(hop, out.as_mut_ptr(), out.len(), len) }
+}
+
+pub(crate) fn keys_seal(
+    keys: &mut Handle,
+    iv: &[u8; 12],
+    text: &[u8],
+    payload_len: &mut usize,
+) -> u32 {
+    unsafe { ilp_keys_seal(keys, iv, text.as_ptr(), text.len(), payload_len) }
+}
+
+pub(crate) fn keys_open(keys: &mut Handle, payload: &[u8], text_len: &mut usize) -> u32 {
+    unsafe { ilp_keys_open(keys, payload.as_ptr(), payload.len(), text_len) }
+}
+
+pub(crate) fn keys_fulfillment(
+    keys: &mut Handle,
+    payload: &[u8],
+    fulfillment: &mut [u8; 32],
+) -> u32 {
+    unsafe { ilp_keys_fulfillment(keys, payload.as_ptr(), payload.len(), fulfillment) }
+}
+
+pub(crate) fn prepare_read(bytes: &[u8], prepare: &mut Prepare) -> u32 {
+    unsafe { ilp_prepare_read(bytes.as_ptr(), bytes.len(), prepare) }
+}
+
+pub(crate) fn answer_read(bytes: &[u8], answer: &mut Answer) -> u32 {
+    unsafe { ilp_answer_read(bytes.as_ptr(), bytes.len(), answer) }
+}
+
+pub(crate) fn prepare_write(
+    prepare: &crate::ilp::Prepare<'_>,
+    out: &mut [u8],
+    len: &mut usize,
+) -> u32 {
+    unsafe {
+        ilp_prepare_write(
+            prepare.amount,
+            prepare.expiry,
+            &prepare.condition,
+            prepare.destination.as_ptr(),
+            prepare.destination.len(),
+            prepare.payload.as_ptr(),
+            prepare.payload.len(),
+            out.as_mut_ptr(),
+            out.len(),
+            len,
+        )
+    }
+}
+
+pub(crate) fn fulfill_write(
+    fulfillment: &[u8; 32],
+    payload: &[u8],
+    out: &mut [u8],
+    len: &mut usize,
+) -> u32 {
+    let (at, room) = (out.as_mut_ptr(), out.len());
+    unsafe { ilp_fulfill_write(fulfillment, payload.as_ptr(), payload.len(), at, room, len) }
+}
+
+pub(crate) fn reject_write(
+    code: &[u8; 3],
+    by: &str,
+    message: &str,
+    payload: &[u8],
+    out: &mut [u8],
+    len: &mut usize,
+) -> u32 {
+    unsafe {
+        ilp_reject_write(
+            code,
+            by.as_ptr(),
+            by.len(),
+            message.as_ptr(),
+            message.len(),
+            payload.as_ptr(),
+            payload.len(),
+            out.as_mut_ptr(),
+            out.len(),
+            len,
+        )
+    }
+}
+
+pub(crate) fn packet_read(packet: &mut Handle, kind: u32, bytes: &[u8]) -> u32 {
+    unsafe { ilp_packet_read(packet, kind, bytes.as_ptr(), bytes.len()) }
+}
+
+pub(crate) fn packet_push(packet: &mut Handle, frame: &Frame, data: &[u8]) -> u32 {
+    unsafe { ilp_packet_push(packet, frame, data.as_ptr(), data.len()) }
+}
+
+pub(crate) fn request_new(request: &mut Handle, tokens: &str, lengths: &[usize]) -> u32 {
+    let (at, len) = (lengths.as_ptr(), lengths.len());
+    unsafe { ilp_request_new(request, tokens.as_ptr(), tokens.len(), at, len) }
+}
+
+pub(crate) fn message_feed(message: &mut Handle, bytes: &[u8], reading: &mut Reading) -> u32 {
+    unsafe { ilp_message_feed(message, bytes.as_ptr(), bytes.len(), reading) }
+}
+
+pub(crate) fn request_text(
+    host: &str,
+    token: &str,
+    body: &[u8],
+    out: &mut [u8],
+    len: &mut usize,
+) -> u32 {
+    unsafe {
+        ilp_request_text(
+            host.as_ptr(),
+            host.len(),
+            token.as_ptr(),
+            token.len(),
+            body.as_ptr(),
+            body.len(),
+            out.as_mut_ptr(),
+            out.len(),
+            len,
+        )
+    }
+}
+
+pub(crate) fn answer_text(body: &[u8], out: &mut [u8], len: &mut usize) -> u32 {
+    unsafe { ilp_answer_text(body.as_ptr(), body.len(), out.as_mut_ptr(), out.len(), len) }
+}
+
+pub(crate) fn refusal_text(status: u32, out: &mut [u8], len: &mut usize) -> u32 {
+    unsafe { ilp_refusal_text(status, out.as_mut_ptr(), out.len(), len) }
 }
