@@ -5,11 +5,11 @@ The exports of crates/st_c/src are compared, type by type and field by field, wi
 bind/rust and with those of bind/python; the numbers of the header with crates/st_embed, docs/ERRORS.md, bind/rust and
 bind/python. Then one difference is planted in each of them, which the comparison has to find.
 
-Then bind/build takes the archive that `rt ci` or `rt lib` built, or the one that is named, and what is built with it is run:
-the example in C, also under valgrind and with AddressSanitizer; the tests, the documents' examples and the programs of
-bind/rust; the examples of bind/python, where it lies and as `pip` installs it.
+Then bind/build builds the archive, over what `rt ci` proved, or takes the one that is named, and what is built with it is run:
+the commands of docs/EMBEDDING.md; the example in C under valgrind and with AddressSanitizer; the tests of bind/rust and the
+examples of its documentation; the examples in the documentation of bind/python.
 
-tests/bindings.py                the archive is crates/st_c/out/libst_c.a
+tests/bindings.py                builds the archive by bind/build
 tests/bindings.py --look         compares alone, and runs nothing
 tests/bindings.py ARCHIVE        takes this archive
 
@@ -17,7 +17,6 @@ ILPSTREAM_HOSTILE says how many hostile inputs each reader is given. Each findin
 and what was not."""
 import ctypes
 import glob
-import importlib.util
 import os
 import re
 import shutil
@@ -25,10 +24,14 @@ import subprocess
 import sys
 import tempfile
 
+import readme
+
 TOP = os.path.realpath(os.path.join(os.path.dirname(os.path.realpath(__file__)), ".."))
 HEADER, ERRORS, CODES = "bind/c/ilpstream.h", "docs/ERRORS.md", "crates/st_embed/src/code.rt"
 RUST, PYTHON = "bind/rust/src", "bind/python/ilpstream/_declared.py"
 SECONDS = 600
+# How long the archive may take, which is proved once more where nothing of it was kept.
+BUILD_SECONDS = 1_500
 
 
 def read(path):
@@ -279,7 +282,7 @@ class Count:
         if not good:
             print(finding, flush=True)
 
-    def run(self, name, words, wanted="", folder=TOP, **environment):
+    def run(self, name, words, wanted="", folder=TOP, seconds=SECONDS, **environment):
         """Runs a command, whose output has to have this text, and whose status 0."""
         try:
             ran = subprocess.run(
@@ -291,7 +294,7 @@ class Count:
                 stderr=subprocess.STDOUT,
                 text=True,
                 errors="replace",
-                timeout=SECONDS,
+                timeout=seconds,
             )
             output, status = ran.stdout, ran.returncode
         except (OSError, subprocess.TimeoutExpired) as error:
@@ -310,7 +313,6 @@ def run_c(count, out, room):
     source = f"{TOP}/bind/c/two_ends.c"
     if count.run("the example in C", [*words, source, f"{out}/libilpstream.a", "-o", program]) is None:
         return
-    count.run("the example in C", [program], WHOLE)
     if shutil.which("valgrind"):
         flags = ["--quiet", "--error-exitcode=9", "--leak-check=full", "--show-leak-kinds=all"]
         count.run("the example in C under valgrind", ["valgrind", *flags, program], WHOLE)
@@ -332,9 +334,6 @@ def run_rust(count, out):
         return
     for passed in re.findall(r"^test result: ok\. (\d+) passed", tests, re.M):
         count.passed += int(passed)
-    for example in ("two_ends",):
-        words = ["cargo", "run", "--offline", "--release", "--quiet", "--example", example]
-        count.run(f"the example {example} in Rust", words, WHOLE, folder, **places)
     words = ["cargo", "test", "--offline", "--release", "--no-run", "--test", "suite"]
     built = count.run("the tests in Rust", words, "Executable", folder, **places)
     binary = re.search(r"Executable .*\((.*?)\)", built or "")
@@ -344,7 +343,7 @@ def run_rust(count, out):
         count.run("tests in Rust under valgrind", words, "passed", folder)
 
 
-def run_python(count, out, room):
+def run_python(count, out):
     folder, places = f"{TOP}/bind/python", {"ILPSTREAM_SO": f"{out}/libilpstream.so", "PYTHONDONTWRITEBYTECODE": "1"}
     look = (
         "import doctest, importlib, pkgutil, sys, ilpstream\n"
@@ -354,26 +353,28 @@ def run_python(count, out, room):
         "sys.exit(any(it.failed for it in results) or not any(it.attempted for it in results))\n"
     )
     count.run("the examples of the Python module", [sys.executable, "-c", look], "examples", folder, **places)
-    example = f"{folder}/examples/two_ends.py"
-    count.run("the example in Python", [sys.executable, example], WHOLE, room, PYTHONPATH=folder, **places)
-    site = f"{room}/site"
-    words = [sys.executable, "-m", "pip", "install", "--no-index", "--no-build-isolation", "--target", site, folder]
-    if count.run("pip", words, "Successfully installed ilpstream", room, ILPSTREAM_OUT=out) is not None:
-        count.run("the example in Python as installed", [sys.executable, example], WHOLE, room, PYTHONPATH=site)
+
+
+def run_document(count):
+    """The commands of docs/EMBEDDING.md."""
+    for good, finding in readme.look_at_commands([readme.EMBEDDING], SECONDS):
+        count.add(good, finding)
 
 
 def main():
     count = Count()
     compare(count)
     if "--look" not in sys.argv[1:]:
-        archive = os.path.realpath(sys.argv[1]) if sys.argv[1:] else f"{TOP}/crates/st_c/out/libst_c.a"
+        build = [f"{TOP}/bind/build", *(["--archive", os.path.realpath(sys.argv[1])] if sys.argv[1:] else [])]
         room = tempfile.mkdtemp()
         try:
-            out = f"{room}/out"
-            if count.run("bind/build", [f"{TOP}/bind/build", "--archive", archive], "libilpstream.so", OUT=out) is not None:
+            out = f"{TOP}/bind/out"
+            built = count.run("bind/build", build, "libilpstream.so", seconds=BUILD_SECONDS)
+            if built is not None:
                 run_c(count, out, room)
                 run_rust(count, out)
-                run_python(count, out, room)
+                run_python(count, out)
+                run_document(count)
         finally:
             shutil.rmtree(room, ignore_errors=True)
     print(f"{count.passed} passed, {count.failed} failed")
