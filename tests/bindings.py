@@ -323,17 +323,72 @@ def run_c(count, out, room):
         count.run("the example in C with AddressSanitizer", [sanitized], WHOLE)
 
 
+class Listening:
+    """A program that listens, and says where on its first line of standard error."""
+
+    def __init__(self, words, given=None, output=subprocess.DEVNULL):
+        self.process = subprocess.Popen(
+            words, stdin=subprocess.PIPE, stdout=output, stderr=subprocess.PIPE, text=True
+        )
+        if given:
+            self.process.stdin.write(given)
+        self.process.stdin.close()
+        self.address = self.process.stderr.readline().removeprefix("listening on ").strip()
+
+    def end(self, seconds=60):
+        """What else it said on standard error."""
+        try:
+            self.process.wait(seconds)
+        except subprocess.TimeoutExpired:
+            pass
+        self.process.kill()
+        return self.process.stderr.read()
+
+    def stop(self):
+        self.process.terminate()
+        self.process.wait()
+
+
+def run_chain(count, room):
+    """The examples of bind/rust on one machine: a sender, a connector and a receiver."""
+    examples, secret = f"{TOP}/bind/rust/target/release/examples", os.urandom(32).hex()
+    sent, names = os.urandom(1 << 20), ["example.bob", "example.alice"]
+    with open(f"{room}/sent", "wb") as file:
+        file.write(sent)
+    with open(f"{room}/got", "wb") as got:
+        words = [f"{examples}/receiver", "127.0.0.1:0", "hub-at-bob", secret, *names, "500"]
+        receiver = Listening(words, output=got)
+        table = f"account 1000 500 alice-at-hub\naccount 0 0 bob-at-hub {receiver.address} hub-at-bob\nroute example.bob 1\n"
+        with open(f"{room}/balances", "w") as balances:
+            connector = Listening([f"{examples}/connector", "127.0.0.1:0", "example.hub"], table, balances)
+            words = [f"{examples}/sender", connector.address, "alice-at-hub", secret, *reversed(names), "500"]
+            with open(f"{room}/sent", "rb") as source:
+                ran = subprocess.run(words, stdin=source, stderr=subprocess.PIPE, text=True, timeout=SECONDS)
+            credited = receiver.end()
+            connector.stop()
+    with open(f"{room}/got", "rb") as file:
+        is_whole = file.read() == sent
+    with open(f"{room}/balances") as file:
+        last = file.read().splitlines()[-2:]
+    wanted = ["account 0 claims 500 dues 0 held 0", "account 1 claims 0 dues 500 held 0"]
+    good = is_whole and last == wanted and ran.stderr.endswith("paid 500\n") and credited.endswith("credited 500\n")
+    count.add(good, f"the chain of bind/rust: whole {is_whole}, {last}, {ran.stderr!r}, {credited!r}")
+
+
 # The tests that valgrind sees: those of refused memory.
 VALGRIND = ["memory", "both_ways", "between_ends"]
 
 
-def run_rust(count, out):
+def run_rust(count, out, room):
     folder, places = f"{TOP}/bind/rust", {"ILPSTREAM_OUT": out}
     tests = count.run("the tests in Rust", ["cargo", "test", "--offline", "--release", "--quiet"], "passed", folder, **places)
     if tests is None:
         return
     for passed in re.findall(r"^test result: ok\. (\d+) passed", tests, re.M):
         count.passed += int(passed)
+    words = ["cargo", "build", "--offline", "--release", "--examples"]
+    if count.run("the examples in Rust", words, "Finished", folder, **places) is not None:
+        run_chain(count, room)
     words = ["cargo", "test", "--offline", "--release", "--no-run", "--test", "suite"]
     built = count.run("the tests in Rust", words, "Executable", folder, **places)
     binary = re.search(r"Executable .*\((.*?)\)", built or "")
@@ -372,7 +427,7 @@ def main():
             built = count.run("bind/build", build, "libilpstream.so", seconds=BUILD_SECONDS)
             if built is not None:
                 run_c(count, out, room)
-                run_rust(count, out)
+                run_rust(count, out, room)
                 run_python(count, out)
                 run_document(count)
         finally:
