@@ -1,7 +1,8 @@
-//! Worked connections.
+//! Worked connections and packets, from bytes to bytes.
 
-use super::{config, new_end};
-use ilpstream::{End, Error, Read, Role};
+use super::{SECRET, config, new_end};
+use crate::hostile::plain::stream::{PlainFrame, packet_bytes};
+use ilpstream::{Answer, End, Error, Keys, Prepare, Read, Received, Role, condition};
 
 fn end(role: Role) -> End {
     new_end(role, config(16, 100, 1_000)).unwrap()
@@ -63,4 +64,90 @@ fn what_a_caller_may_get_wrong_is_refused() {
     assert_eq!(bad.err(), Some(Error::Argument));
     let bad = End::new(Role::Client, &[0; 32], "test.a", "test.b", config(0, 1, 1));
     assert_eq!(bad.err(), Some(Error::Argument));
+}
+
+const IV: [u8; 12] = [0, 1, 2, 3, 4, 5, 6, 7, 8, 9, 10, 11];
+
+/// The plain packet of the answer to "hi" on stream 1 (RFC 0029, section 5.3), but for its kind: what the connection and stream 1
+/// take.
+const HI_REPLY: [u8; 30] = [
+    0x01, 0x0d, 0x01, 0x01, 0x01, 0x00, 0x01, 0x03, 0x03, 0x04, 0x03, 0x10, 0x00, 0x00, 0x15, 0x06,
+    0x01, 0x01, 0x03, 0x01, 0x00, 0x00, 0x12, 0x06, 0x01, 0x01, 0x01, 0x00, 0x01, 0x00,
+];
+
+const HI: PlainFrame<'static> = PlainFrame {
+    index: 0,
+    kind: 0x14,
+    numbers: [1, 0, 0],
+    bytes: b"hi",
+};
+
+const CLOSE: PlainFrame<'static> = PlainFrame {
+    index: 0,
+    kind: 0x01,
+    numbers: [9, 0, 0],
+    bytes: b"",
+};
+
+/// The bytes of a Prepare of 0 with the sealed packet of this frame, under its own condition or one that nobody fulfills.
+fn prepare(sequence: u64, frame: PlainFrame<'_>, is_probe: bool) -> Vec<u8> {
+    let mut keys = Keys::new(&SECRET).unwrap();
+    let payload = keys
+        .seal(&IV, &packet_bytes(12, sequence, 0, &[frame]))
+        .unwrap();
+    let own = condition(&keys.fulfillment(&payload).unwrap());
+    let prepare = Prepare {
+        amount: 0,
+        expiry: 30_000,
+        condition: if is_probe { [0; 32] } else { own },
+        destination: "test.b",
+        payload: &payload,
+    };
+    prepare.write().unwrap()
+}
+
+fn receive(end: &mut End, bytes: &[u8]) -> Received {
+    end.receive(bytes, 0).unwrap()
+}
+
+/// Whether an answer is of this kind, and its packet says what the one to "hi" does.
+fn is_reply_to_hi(received: &Received, kind: u8) -> bool {
+    let payload = match Answer::read(&received.bytes).unwrap() {
+        Answer::Fulfill { payload, .. } | Answer::Reject { payload, .. } => payload,
+    };
+    let mut want = HI_REPLY;
+    want[1] = kind;
+    let plain = Keys::new(&SECRET).unwrap().open(payload).unwrap();
+    received.bytes[0] == kind && received.sequence == Some(1) && plain == want
+}
+
+#[test]
+fn hi_is_fulfilled_and_read() {
+    let mut server = end(Role::Server);
+    let hi = prepare(1, HI, false);
+    let received = receive(&mut server, &hi);
+    assert_eq!(received.reason, 0);
+    assert!(is_reply_to_hi(&received, 13));
+    assert_eq!(server.read(1, 10), Ok(Read::Bytes(b"hi".to_vec())));
+    assert_eq!(receive(&mut server, &hi).reason, 60);
+    assert_eq!(server.totals().unwrap().delivered, 2);
+}
+
+#[test]
+fn a_closed_connection_is_read_and_not_written() {
+    let mut server = end(Role::Server);
+    assert_eq!(receive(&mut server, &prepare(1, HI, false)).reason, 0);
+    assert_eq!(receive(&mut server, &prepare(5, CLOSE, false)).reason, 0);
+    assert_eq!(server.read(1, 10), Ok(Read::Aborted(9)));
+    assert_eq!(server.write(1, b"x"), Err(Error::Closed));
+    assert_eq!(receive(&mut server, &prepare(6, HI, false)).reason, 66);
+}
+
+#[test]
+fn a_rate_probe_is_answered_and_delivers_nothing() {
+    let mut server = end(Role::Server);
+    let received = receive(&mut server, &prepare(1, HI, true));
+    assert_eq!(received.reason, 55);
+    assert!(is_reply_to_hi(&received, 14));
+    assert_eq!(server.has_stream(1), Ok(false));
 }

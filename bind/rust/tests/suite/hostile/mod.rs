@@ -11,9 +11,16 @@ use std::env;
 use std::fmt::Debug;
 use std::sync::Mutex;
 
+mod answers;
+mod ends;
 mod hops;
-mod plain;
+mod http;
+mod ilp;
+pub(crate) mod plain;
+mod plain_end;
 mod plain_hop;
+mod samples;
+mod stream;
 
 /// How many inputs one hop or end is given before a new one is made.
 const STEPS: u64 = 20;

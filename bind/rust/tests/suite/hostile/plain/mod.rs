@@ -5,13 +5,14 @@
 //! profile's order of refusals.
 
 pub mod answers;
+pub mod http;
 pub mod ilp;
 mod met;
 pub mod oer;
 pub mod prepares;
 mod refusal;
 mod samples;
+pub mod stream;
 
 pub use met::Met;
-pub use refusal::Refusal;
 pub use samples::{EDGES, Samples, changed_at};

@@ -28,12 +28,6 @@ pub fn uint8(bytes: &[u8]) -> Result<(u8, &[u8]), u64> {
     }
 }
 
-/// A number of eight bytes, and the bytes behind it. Fails with 1 where there are fewer.
-pub fn uint64(bytes: &[u8]) -> Result<(u64, &[u8]), u64> {
-    let (digits, rest) = fixed(bytes, 8)?;
-    Ok((number(digits), rest))
-}
-
 /// A length: one byte below 128, or 128 more than the count of the bytes that write it.
 pub fn length(bytes: &[u8]) -> Result<(u64, &[u8]), u64> {
     let (first, rest) = uint8(bytes)?;

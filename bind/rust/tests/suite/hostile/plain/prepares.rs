@@ -50,7 +50,7 @@ pub struct Offer<'a> {
 }
 
 /// Appends bytes with their length, of at most two bytes.
-pub(crate) fn put_octets(out: &mut Vec<u8>, bytes: &[u8]) {
+pub(super) fn put_octets(out: &mut Vec<u8>, bytes: &[u8]) {
     let [.., high, low] = (bytes.len() as u64).to_be_bytes();
     if bytes.len() < 128 {
         out.push(low);
