@@ -7,7 +7,11 @@ secret of 31 bytes, raises `ValueError`."""
 
 from ._end import Aborted, End, Outgoing, Received, Role, Totals
 from ._hop import Account, Answer, Balances, Forward, Hop, Route
+from ._http import Request, Response, Status, Wants, Whole, answer_text, refusal_text, request_text
+from ._ilp import Fulfill, Prepare, Reject, read_answer
+from ._keys import Keys, condition
 from ._object import Code, IlpError
+from ._packet import Frame, Kind, Packet
 
 __all__ = [
     "Aborted",
@@ -17,11 +21,28 @@ __all__ = [
     "Code",
     "End",
     "Forward",
+    "Frame",
+    "Fulfill",
     "Hop",
     "IlpError",
+    "Keys",
+    "Kind",
     "Outgoing",
+    "Packet",
+    "Prepare",
     "Received",
+    "Reject",
+    "Request",
+    "Response",
     "Role",
     "Route",
+    "Status",
     "Totals",
+    "Wants",
+    "Whole",
+    "answer_text",
+    "condition",
+    "read_answer",
+    "refusal_text",
+    "request_text",
 ]

@@ -6,6 +6,7 @@ import ctypes
 import enum
 import os
 import threading
+from collections.abc import Callable
 from ctypes import byref, c_size_t, c_uint8, c_uint32
 from types import TracebackType
 from typing import TypeVar
@@ -148,6 +149,19 @@ def moment(now: int) -> int:
     return now
 
 
+def written(call: Callable[..., int], *arguments: object) -> bytes:
+    """The bytes that a call writes into a buffer, which it says the length of, also where there is no room for them."""
+    length = c_size_t()
+    answer = call(*arguments, (c_uint8 * 0)(), 0, byref(length))
+    if answer == Code.DONE:
+        return b""
+    if answer != Code.ROOM:
+        raise IlpError(answer)
+    out = (c_uint8 * length.value)()
+    done(call(*arguments, out, length.value, byref(length)))
+    return bytes(out)
+
+
 Self = TypeVar("Self", bound="Object")
 
 
@@ -189,14 +203,7 @@ class Object:
 
     def _text(self, name: str) -> bytes:
         """The bytes that a call copies."""
-        length = c_size_t()
-        call = getattr(lib, name)
-        answer = call(self._at(), (c_uint8 * 0)(), 0, byref(length))
-        if answer not in (Code.DONE, Code.ROOM):
-            raise IlpError(answer)
-        out = (c_uint8 * length.value)()
-        done(call(self._at(), out, length.value, byref(length)))
-        return bytes(out)
+        return written(getattr(lib, name), self._at())
 
     def _answered(self, name: str, *arguments: int) -> bool:
         answer = c_uint32()
