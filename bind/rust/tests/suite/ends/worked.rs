@@ -1,8 +1,9 @@
 //! Worked connections and packets, from bytes to bytes.
 
 use super::{SECRET, config, new_end};
+use crate::hostile::plain::seal::{PlainKeys, sha256};
 use crate::hostile::plain::stream::{PlainFrame, packet_bytes};
-use ilpstream::{Answer, End, Error, Keys, Prepare, Read, Received, Role, condition};
+use ilpstream::{Answer, End, Error, Prepare, Read, Received, Role};
 
 fn end(role: Role) -> End {
     new_end(role, config(16, 100, 1_000)).unwrap()
@@ -91,11 +92,9 @@ const CLOSE: PlainFrame<'static> = PlainFrame {
 
 /// The bytes of a Prepare of 0 with the sealed packet of this frame, under its own condition or one that nobody fulfills.
 fn prepare(sequence: u64, frame: PlainFrame<'_>, is_probe: bool) -> Vec<u8> {
-    let mut keys = Keys::new(&SECRET).unwrap();
-    let payload = keys
-        .seal(&IV, &packet_bytes(12, sequence, 0, &[frame]))
-        .unwrap();
-    let own = condition(&keys.fulfillment(&payload).unwrap());
+    let keys = PlainKeys::of(&SECRET);
+    let payload = keys.seal(&IV, &packet_bytes(12, sequence, 0, &[frame]));
+    let own = sha256(&keys.fulfillment(&payload));
     let prepare = Prepare {
         amount: 0,
         expiry: 30_000,
@@ -117,7 +116,7 @@ fn is_reply_to_hi(received: &Received, kind: u8) -> bool {
     };
     let mut want = HI_REPLY;
     want[1] = kind;
-    let plain = Keys::new(&SECRET).unwrap().open(payload).unwrap();
+    let plain = PlainKeys::of(&SECRET).open(payload).unwrap();
     received.bytes[0] == kind && received.sequence == Some(1) && plain == want
 }
 

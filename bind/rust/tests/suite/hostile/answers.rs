@@ -4,10 +4,11 @@ use super::ends::{OWN, PEER, SECRET};
 use super::plain::Met;
 use super::plain::answers::{ANSWERS, fulfill_bytes, reject_bytes};
 use super::plain::ilp::{self, PlainAnswer};
+use super::plain::seal::PlainKeys;
 use super::plain::stream::{PlainFrame, packet_bytes};
 use super::{STEPS, inputs, run_all, sure_at};
 use crate::seeds::Numbers;
-use ilpstream::{End, EndConfig, Error, Keys, Outgoing, Role};
+use ilpstream::{End, EndConfig, Error, Outgoing, Role};
 
 /// A client that has bytes and money to send.
 fn new_client() -> End {
@@ -24,7 +25,7 @@ fn new_client() -> End {
 }
 
 /// The sealed packet of a Fulfill, with the limits of a peer that takes what comes.
-fn reply(keys: &mut Keys, numbers: &mut Numbers, iv: [u8; 12]) -> Vec<u8> {
+fn reply(keys: &PlainKeys, numbers: &mut Numbers, iv: [u8; 12]) -> Vec<u8> {
     let sequence = numbers.choice(&[1, 2, 3, 4]);
     let frame = |kind, numbers| PlainFrame {
         index: 0,
@@ -39,11 +40,10 @@ fn reply(keys: &mut Keys, numbers: &mut Numbers, iv: [u8; 12]) -> Vec<u8> {
         frame(0x12, [1, receive_max, received]),
     ];
     keys.seal(&iv, &packet_bytes(13, sequence, 0, &limits))
-        .unwrap()
 }
 
 /// The Fulfill of a Prepare, with a sealed packet, or sometimes with other data.
-fn fulfill(keys: &mut Keys, numbers: &mut Numbers, iv: [u8; 12], prepare: &[u8]) -> Vec<u8> {
+fn fulfill(keys: &PlainKeys, numbers: &mut Numbers, iv: [u8; 12], prepare: &[u8]) -> Vec<u8> {
     let payload = match ilp::prepare(prepare) {
         Ok(prepare) => prepare.payload,
         Err(_) => &[],
@@ -53,7 +53,7 @@ fn fulfill(keys: &mut Keys, numbers: &mut Numbers, iv: [u8; 12], prepare: &[u8])
         0 => b"short".as_slice(),
         _ => reply.as_slice(),
     };
-    fulfill_bytes(&keys.fulfillment(payload).unwrap(), data)
+    fulfill_bytes(&keys.fulfillment(payload), data)
 }
 
 /// A Reject with one of the codes that count for a sender.
@@ -80,7 +80,7 @@ fn changed(numbers: &mut Numbers, bytes: &[u8]) -> Vec<u8> {
 }
 
 /// What comes back to a Prepare.
-fn answer(keys: &mut Keys, numbers: &mut Numbers, iv: [u8; 12], prepare: &[u8]) -> Vec<u8> {
+fn answer(keys: &PlainKeys, numbers: &mut Numbers, iv: [u8; 12], prepare: &[u8]) -> Vec<u8> {
     match numbers.below(8) {
         0..=2 => fulfill(keys, numbers, iv, prepare),
         3 | 4 => {
@@ -136,7 +136,7 @@ fn note(want: Does, amount: u64, paid: &mut u64, met: &mut Met) {
 
 /// Whether an end does with what comes back to its next Prepare what the rules say. It paid this much before.
 fn is_done(
-    keys: &mut Keys,
+    keys: &PlainKeys,
     end: &mut End,
     numbers: &mut Numbers,
     paid: &mut u64,
@@ -156,7 +156,7 @@ fn is_done(
     };
     iv[11] = 1;
     let mut bytes = answer(keys, numbers, iv, &prepare);
-    let want = done_by(&bytes, &keys.fulfillment(plain.payload).unwrap());
+    let want = done_by(&bytes, &keys.fulfillment(plain.payload));
     note(want, plain.amount, paid, met);
     end.answer(flight, &mut bytes) == Ok(want == Does::Pays)
         && end.answer(flight, &mut bytes) == Err(Error::Unknown)
@@ -165,7 +165,7 @@ fn is_done(
 
 /// All steps of a seed, at one end after another.
 fn runs(seed: u64, met: &mut Met) {
-    let mut keys = Keys::new(&SECRET).unwrap();
+    let keys = PlainKeys::of(&SECRET);
     let mut numbers = Numbers::of(seed);
     let mut end = new_client();
     let mut paid = 0;
@@ -174,7 +174,7 @@ fn runs(seed: u64, met: &mut Met) {
             end = new_client();
             paid = 0;
         }
-        let agrees = is_done(&mut keys, &mut end, &mut numbers, &mut paid, met);
+        let agrees = is_done(&keys, &mut end, &mut numbers, &mut paid, met);
         sure_at(
             agrees && end.totals().unwrap().paid == paid,
             seed,

@@ -2,13 +2,14 @@
 
 use super::plain::ilp::{self, PlainAnswer, PlainPrepare};
 use super::plain::prepares::{EXPIRIES, EXPIRY, Offer, PREPARES, prepare_bytes};
+use super::plain::seal::{PlainKeys, sha256};
 use super::plain::stream::{PlainFrame, PlainPacket, packet, packet_bytes};
 use super::plain::{EDGES, Met, changed_at};
 use super::plain_end::{PlainEnd, PlainStream};
 use super::samples::PACKETS;
 use super::{STEPS, inputs, run_all, sure_at};
 use crate::seeds::Numbers;
-use ilpstream::{End, EndConfig, Keys, Read, Received, Role, condition};
+use ilpstream::{End, EndConfig, Read, Received, Role};
 
 pub(crate) const SECRET: [u8; 32] = [0; 32];
 
@@ -32,16 +33,16 @@ struct Sealed {
 }
 
 /// Seals any bytes.
-fn seal_bytes(keys: &mut Keys, numbers: &mut Numbers, plain: Vec<u8>) -> Sealed {
+fn seal_bytes(keys: &PlainKeys, numbers: &mut Numbers, plain: Vec<u8>) -> Sealed {
     let mut iv = [0; 12];
     iv[..8].copy_from_slice(&numbers.next().to_be_bytes());
-    let payload = keys.seal(&iv, &plain).unwrap();
-    let fulfillment = keys.fulfillment(&payload).unwrap();
+    let payload = keys.seal(&iv, &plain);
+    let fulfillment = keys.fulfillment(&payload);
     Sealed {
         plain,
         payload,
         fulfillment,
-        condition: condition(&fulfillment),
+        condition: sha256(&fulfillment),
     }
 }
 
@@ -197,7 +198,7 @@ fn around(numbers: &mut Numbers, amount: u64, sealed: &Sealed) -> Vec<u8> {
 }
 
 /// The bytes that come, and what was sealed for them, which joins what was sealed before.
-fn arrival(keys: &mut Keys, numbers: &mut Numbers, history: &mut Vec<Sealed>) -> Vec<u8> {
+fn arrival(keys: &PlainKeys, numbers: &mut Numbers, history: &mut Vec<Sealed>) -> Vec<u8> {
     if numbers.below(16) == 0 {
         return PREPARES.hostile(numbers);
     }
@@ -209,7 +210,7 @@ fn arrival(keys: &mut Keys, numbers: &mut Numbers, history: &mut Vec<Sealed>) ->
 }
 
 /// The Prepare of a payload that is sealed for it, and joins what was sealed before.
-fn sealed_arrival(keys: &mut Keys, numbers: &mut Numbers, history: &mut Vec<Sealed>) -> Vec<u8> {
+fn sealed_arrival(keys: &PlainKeys, numbers: &mut Numbers, history: &mut Vec<Sealed>) -> Vec<u8> {
     let amount = amount(numbers);
     let plain = inside(numbers, amount);
     let sealed = seal_bytes(keys, numbers, plain);
@@ -369,14 +370,14 @@ fn tells(reply: &[PlainFrame<'_>], request: &[PlainFrame<'_>], after: &PlainEnd)
 
 /// Whether a reply's payload repeats the sequence, has the amount that arrived, and tells the limits that stand.
 fn replies(
-    keys: &mut Keys,
+    keys: &PlainKeys,
     payload: &[u8],
     kind: u8,
     amount: u64,
     request: &PlainPacket<'_>,
     after: &PlainEnd,
 ) -> bool {
-    let Ok(plain) = keys.open(payload) else {
+    let Some(plain) = keys.open(payload) else {
         return false;
     };
     match packet(&plain, kind) {
@@ -424,7 +425,7 @@ fn is_turned(request: &[u8], reply: &[u8]) -> bool {
 }
 
 /// Whether an end answered as the rules say.
-fn is_expected(keys: &mut Keys, received: &Received, expected: &Expected<'_>) -> bool {
+fn is_expected(keys: &PlainKeys, received: &Received, expected: &Expected<'_>) -> bool {
     match expected {
         Expected::Unread {
             code,
@@ -510,7 +511,7 @@ impl Pair {
     /// Whether the end does with bytes what is expected of it, and is credited and gives to be read as the rules say.
     fn does(
         &mut self,
-        keys: &mut Keys,
+        keys: &PlainKeys,
         expected: &Expected<'_>,
         bytes: &[u8],
         now: i64,
@@ -527,7 +528,7 @@ impl Pair {
     /// The same, of what the rules say of the bytes.
     fn does_its_duty(
         &mut self,
-        keys: &mut Keys,
+        keys: &PlainKeys,
         history: &[Sealed],
         bytes: &[u8],
         now: i64,
@@ -574,14 +575,14 @@ const REASONS: [u64; 19] = [
 
 /// All steps of a seed, at one end.
 fn runs(seed: u64, met: &mut Met) {
-    let mut keys = Keys::new(&SECRET).unwrap();
+    let keys = PlainKeys::of(&SECRET);
     let mut numbers = Numbers::of(seed);
     let mut pair = Pair::new();
     let mut history = Vec::new();
     for step in 0..STEPS {
-        let bytes = arrival(&mut keys, &mut numbers, &mut history);
+        let bytes = arrival(&keys, &mut numbers, &mut history);
         let now = moment(&mut numbers);
-        let agrees = pair.does_its_duty(&mut keys, &history, &bytes, now, met);
+        let agrees = pair.does_its_duty(&keys, &history, &bytes, now, met);
         sure_at(agrees, seed, step, &bytes);
     }
     sure_at(pair.reads(), seed, STEPS, "what is read");
@@ -593,7 +594,7 @@ fn an_end_does_what_the_rules_say() {
 }
 
 /// Whether a new end does with bytes what the rules say, where this alone was sealed.
-fn a_new_end_does(keys: &mut Keys, sealed: &[Sealed], bytes: &[u8]) -> bool {
+fn a_new_end_does(keys: &PlainKeys, sealed: &[Sealed], bytes: &[u8]) -> bool {
     Pair::new().does_its_duty(keys, sealed, bytes, 0, &mut Met::new())
 }
 
@@ -611,19 +612,14 @@ fn offer(sealed: &Sealed) -> Vec<u8> {
 /// Every front of a Prepare that says "hi", and each with one byte replaced.
 #[test]
 fn every_prefix_and_change_of_a_prepare() {
-    let mut keys = Keys::new(&SECRET).unwrap();
-    let sealed = seal_bytes(&mut keys, &mut Numbers::of(1), HI.to_vec());
+    let keys = PlainKeys::of(&SECRET);
+    let sealed = seal_bytes(&keys, &mut Numbers::of(1), HI.to_vec());
     let prepare = offer(&sealed);
     let sealed = [sealed];
     for at in 0..=prepare.len() {
         for edge in EDGES {
             let bytes = changed_at(&prepare, at, edge);
-            sure_at(
-                a_new_end_does(&mut keys, &sealed, &bytes),
-                1,
-                at as u64,
-                edge,
-            );
+            sure_at(a_new_end_does(&keys, &sealed, &bytes), 1, at as u64, edge);
         }
     }
 }
@@ -631,17 +627,12 @@ fn every_prefix_and_change_of_a_prepare() {
 /// The same inside the seal.
 #[test]
 fn every_prefix_and_change_inside_the_seal() {
-    let mut keys = Keys::new(&SECRET).unwrap();
+    let keys = PlainKeys::of(&SECRET);
     for at in 0..=HI.len() {
         for edge in EDGES {
-            let sealed = seal_bytes(&mut keys, &mut Numbers::of(1), changed_at(HI, at, edge));
+            let sealed = seal_bytes(&keys, &mut Numbers::of(1), changed_at(HI, at, edge));
             let bytes = offer(&sealed);
-            sure_at(
-                a_new_end_does(&mut keys, &[sealed], &bytes),
-                1,
-                at as u64,
-                edge,
-            );
+            sure_at(a_new_end_does(&keys, &[sealed], &bytes), 1, at as u64, edge);
         }
     }
 }

@@ -16,6 +16,7 @@ mod ends;
 mod hops;
 mod http;
 mod ilp;
+mod keys;
 pub(crate) mod plain;
 mod plain_end;
 mod plain_hop;

@@ -12,6 +12,7 @@ pub mod oer;
 pub mod prepares;
 mod refusal;
 mod samples;
+pub mod seal;
 pub mod stream;
 
 pub use met::Met;
