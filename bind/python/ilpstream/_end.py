@@ -7,7 +7,7 @@ from ctypes import byref, c_size_t, c_uint8, c_uint32, c_uint64
 from dataclasses import dataclass
 
 from . import _declared
-from ._object import Buffer, Code, IlpError, Object, done, fixed, lib, moment, number
+from ._object import Buffer, Code, IlpError, Object, alone, done, fixed, lib, moment, number
 
 
 class Role(enum.IntEnum):
@@ -115,35 +115,42 @@ class End(Object):
             )
         )
 
+    @alone
     def open_stream(self) -> int:
         """Opens the next of this end's own streams, of which there are 32, and gives its number."""
         stream = c_uint32()
         done(lib.ilp_end_open_stream(self._at(), byref(stream)))
         return stream.value
 
+    @alone
     def write(self, stream: int, data: Buffer) -> None:
         """Takes bytes that are to be sent: all, or none where it raises. `Code.FULL`: more than 262,144 of the stream would
         wait for an acknowledgement."""
         data = bytes(data)
         done(lib.ilp_end_write(self._at(), number(stream, 32, "the stream"), data, len(data)))
 
+    @alone
     def close(self, stream: int) -> None:
         """Closes a stream once all that was written and offered is delivered."""
         done(lib.ilp_end_close(self._at(), number(stream, 32, "the stream")))
 
+    @alone
     def abort(self, stream: int, code: int) -> None:
         """Aborts a stream with a code of RFC 0029, section 5.4, other than 1."""
         done(lib.ilp_end_abort(self._at(), number(stream, 32, "the stream"), number(code, 32, "the code")))
 
+    @alone
     def offer(self, stream: int, amount: int) -> None:
         """Offers units on a stream, beside what was offered before."""
         done(lib.ilp_end_offer(self._at(), number(stream, 32, "the stream"), number(amount, 64, "the amount")))
 
+    @alone
     def set_receive_max(self, stream: int, amount: int) -> None:
         """Lets a stream receive up to an amount in all, which is 0 at the start and is never lowered."""
         stream, amount = number(stream, 32, "the stream"), number(amount, 64, "the amount")
         done(lib.ilp_end_set_receive_max(self._at(), stream, amount))
 
+    @alone
     def read(self, stream: int, most: int = 65536) -> bytes | None:
         """The next bytes of a stream, at most so many; b"" where there are none yet; None where all were read, and the peer
         closed the stream. Raises `Aborted` where the peer aborted it."""
@@ -160,6 +167,7 @@ class End(Object):
             raise Aborted(code.value)
         raise IlpError(answer)
 
+    @alone
     def send(self, iv: Buffer, now: int) -> Outgoing | None:
         """The next Prepare, or None where nothing is to be sent now. No two packets of a connection, of either end, may have the
         same IV of 12 bytes: take each from `os.urandom(12)`."""
@@ -171,6 +179,7 @@ class End(Object):
         done(answer)
         return Outgoing(flight.value, self._output(length.value))
 
+    @alone
     def answer(self, flight: int, data: Buffer) -> bool:
         """Whether the bytes that came back to a flight are a Fulfill that fits. Raises `Code.UNKNOWN` where it is not open."""
         fulfilled = c_uint32()
@@ -179,10 +188,12 @@ class End(Object):
         done(lib.ilp_end_answer(self._at(), flight, copy, len(data), byref(fulfilled)))
         return fulfilled.value == 1
 
+    @alone
     def fault(self, flight: int) -> None:
         """No answer came to a flight, and none is waited for: what it carries is sent again."""
         done(lib.ilp_end_fault(self._at(), number(flight, 64, "the flight")))
 
+    @alone
     def receive(self, data: Buffer, now: int) -> Received:
         """What answers a Prepare of the peer. Where it raises `Code.NO_MEMORY`, answer with `t00()`, and the peer sends again."""
         received = _declared.Received()
@@ -191,24 +202,29 @@ class End(Object):
         sequence = received.sequence if received.opened else None
         return Received(self._output(received.len), received.reason, received.amount, sequence)
 
+    @alone
     def t00(self) -> bytes:
         """A Reject T00 that is kept ready, for use where memory is refused."""
         return self._text("ilp_end_t00")
 
+    @alone
     def totals(self) -> Totals:
         """What this end did so far."""
         totals = _declared.Totals()
         done(lib.ilp_end_totals(self._at(), byref(totals)))
         return Totals(totals.accepted, totals.delivered, totals.credited, totals.paid)
 
+    @alone
     def has_stream(self, stream: int) -> bool:
         """Whether a stream is open at this end."""
         return self._answered("ilp_end_has_stream", number(stream, 32, "the stream"))
 
+    @alone
     def settled(self, stream: int) -> bool:
         """Whether this end's own close of a stream was fulfilled."""
         return self._answered("ilp_end_settled", number(stream, 32, "the stream"))
 
+    @alone
     def is_failed(self) -> bool:
         """Whether the connection failed: 200 Prepares in a row without a Fulfill, or a final Reject code."""
         return self._answered("ilp_end_is_failed")

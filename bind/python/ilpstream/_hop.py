@@ -7,7 +7,7 @@ from ctypes import byref, c_size_t
 from dataclasses import dataclass
 
 from . import _declared
-from ._object import Buffer, Code, IlpError, Object, done, lib, moment, number
+from ._object import Buffer, Code, IlpError, Object, alone, done, lib, moment, number
 
 
 @dataclass(frozen=True)
@@ -92,6 +92,7 @@ class Hop(Object):
             lib.ilp_hop_new(self._at(), name, len(name), terms, len(terms), text, len(text), table, len(table))
         )
 
+    @alone
     def arrive(self, account: int, data: Buffer, now: int) -> Answer | Forward:
         """What becomes of a Prepare that came from an account at the time `now`. Where it is sent on, its amount is held until
         the ticket is settled. Where it raises `Code.HOP_NO_MEMORY`, answer with `t00()`, and the sender sends again."""
@@ -104,6 +105,7 @@ class Hop(Object):
             return Forward(arrived.ticket, arrived.account, self._output(arrived.len))
         raise IlpError(answer)
 
+    @alone
     def settle(self, ticket: int, data: Buffer, now: int) -> bytes:
         """Settles a ticket by the bytes that came back, and gives those that are to be sent back. A Fulfill that fits and came
         in time is booked; all else becomes a Reject. Raises `Code.UNKNOWN` where the ticket is not open."""
@@ -112,20 +114,24 @@ class Hop(Object):
         done(lib.ilp_hop_settle(self._at(), ticket, data, len(data), moment(now), byref(length)))
         return self._output(length.value)
 
+    @alone
     def fault(self, ticket: int) -> bytes:
         """The same where no answer came, and none is waited for: a Reject T01."""
         length = c_size_t()
         done(lib.ilp_hop_fault(self._at(), number(ticket, 64, "the ticket"), byref(length)))
         return self._output(length.value)
 
+    @alone
     def abandon(self, ticket: int) -> None:
         """Gives up a ticket without an answer. The amount stays held."""
         done(lib.ilp_hop_abandon(self._at(), number(ticket, 64, "the ticket")))
 
+    @alone
     def t00(self) -> bytes:
         """A Reject T00 that is kept ready, for use where memory is refused."""
         return self._text("ilp_hop_t00")
 
+    @alone
     def balances(self, account: int) -> Balances:
         """What stands between the hop and an account."""
         balances = _declared.Balances()

@@ -7,7 +7,7 @@ from ctypes import byref, c_size_t
 from dataclasses import dataclass
 
 from . import _declared
-from ._object import Buffer, Code, Object, done, lib, number, written
+from ._object import Buffer, Code, Object, alone, done, lib, number, written
 
 
 @dataclass(frozen=True)
@@ -35,6 +35,7 @@ class Status:
 
 
 class _Message(Object):
+    @alone
     def feed(self, data: Buffer) -> Wants | Whole | Status:
         """Takes the next bytes. Some thousand at once cost less than single ones."""
         data, reading = bytes(data), _declared.Reading()

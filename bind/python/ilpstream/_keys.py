@@ -4,7 +4,7 @@ from __future__ import annotations
 
 from ctypes import byref, c_size_t, c_uint8
 
-from ._object import Buffer, Object, done, fixed, lib
+from ._object import Buffer, Object, alone, done, fixed, lib
 
 
 class Keys(Object):
@@ -25,6 +25,7 @@ class Keys(Object):
         super().__init__()
         done(lib.ilp_keys_new(self._at(), fixed(secret, 32, "the secret")))
 
+    @alone
     def seal(self, iv: Buffer, text: Buffer) -> bytes:
         """The payload of a plain text: the IV, the tag of 16 bytes, and the ciphertext. No two payloads of a connection may have
         the same IV of 12 bytes: take each from `os.urandom(12)`."""
@@ -32,12 +33,14 @@ class Keys(Object):
         done(lib.ilp_keys_seal(self._at(), fixed(iv, 12, "the IV"), text, len(text), byref(length)))
         return self._output(length.value)
 
+    @alone
     def open(self, payload: Buffer) -> bytes:
         """The plain text of a payload. Raises `Code.SHORT` or `Code.TAG` where it is none."""
         length, payload = c_size_t(), bytes(payload)
         done(lib.ilp_keys_open(self._at(), payload, len(payload), byref(length)))
         return self._output(length.value)
 
+    @alone
     def fulfillment(self, payload: Buffer) -> bytes:
         """The fulfillment of a Prepare whose data is this payload, as it is sent."""
         out, payload = (c_uint8 * 32)(), bytes(payload)

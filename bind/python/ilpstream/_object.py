@@ -4,12 +4,13 @@ from __future__ import annotations
 
 import ctypes
 import enum
+import functools
 import os
 import threading
 from collections.abc import Callable
 from ctypes import byref, c_size_t, c_uint8, c_uint32
 from types import TracebackType
-from typing import TypeVar
+from typing import ParamSpec, TypeVar
 
 from . import _declared
 
@@ -23,8 +24,7 @@ def _path() -> str:
     return beside if os.path.exists(beside) else os.path.join(here, "../../out/libilpstream.so")
 
 
-# (PyDLL keeps the interpreter's lock during a call. Calls are short.)
-lib = ctypes.PyDLL(os.environ.get("ILPSTREAM_SO") or _path())
+lib = ctypes.CDLL(os.environ.get("ILPSTREAM_SO") or _path())
 for _name, (_result, _parameters) in _declared.CALLS.items():
     _call = getattr(lib, _name)
     _call.restype, _call.argtypes = _result, _parameters
@@ -163,16 +163,30 @@ def written(call: Callable[..., int], *arguments: object) -> bytes:
 
 
 Self = TypeVar("Self", bound="Object")
+Parameters = ParamSpec("Parameters")
+Result = TypeVar("Result")
+
+
+def alone(method: Callable[Parameters, Result]) -> Callable[Parameters, Result]:
+    """A method of an object that waits while another thread is in one of them."""
+
+    @functools.wraps(method)
+    def waits(*arguments: Parameters.args, **named: Parameters.kwargs) -> Result:
+        with arguments[0]._lock:  # type: ignore[attr-defined]
+            return method(*arguments, **named)
+
+    return waits
 
 
 class Object:
-    """What a handle is of. As with `with`, `free` gives up its memory, after which each call raises `IlpError`. It is used by
-    the thread that made it: another gets a `RuntimeError`."""
+    """What a handle is of. `free`, or the end of `with`, gives up its memory; each call after that raises `IlpError`. Several
+    threads may use it: one call at a time is made."""
 
     def __init__(self) -> None:
         self._handle = _declared.Handle()
-        self._thread = threading.get_ident()
+        self._lock = threading.RLock()
 
+    @alone
     def free(self) -> None:
         """Gives up its memory. It may be called again."""
         lib.ilp_free(self._at())
@@ -190,8 +204,6 @@ class Object:
             lib.ilp_free(byref(self._handle))
 
     def _at(self) -> object:
-        if threading.get_ident() != self._thread:
-            raise RuntimeError("an object is used by the thread that made it")
         return byref(self._handle)
 
     def _output(self, length: int) -> bytes:

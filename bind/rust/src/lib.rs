@@ -6,7 +6,8 @@
 //! - [`Request`] and [`Response`] read ILP over HTTP (RFC 0035), and [`request_text`] and its like write it.
 //! - [`Ivs`] reads what a call needs of random bytes, and [`now`] the time.
 //!
-//! There is no I/O in an end or a hop, no clock and no thread: bytes, times and IVs are arguments. Each call that is refused
+//! There is no I/O in an end or a hop, no clock and no thread: bytes, times and IVs are arguments. Each is `Send`: it may be passed
+//! to another thread, and put behind a lock. Each call that is refused
 //! changes nothing, and says why by an [`Error`], whose number is that of the library's documents. The functions behind the
 //! calls were proved to meet their contracts for all arguments; this crate's own code is ordinary Rust, and was not.
 //!

@@ -25,6 +25,9 @@ impl Handle {
     }
 }
 
+// SAFETY: an object may be passed to another thread: that is proved of it. One call at a time is made, by `&mut`.
+unsafe impl Send for Handle {}
+
 impl Drop for Handle {
     fn drop(&mut self) {
         ilp_free(self);

@@ -1,9 +1,11 @@
 //! Worked connections and packets, from bytes to bytes.
 
 use super::{SECRET, config, new_end};
+use crate::hostile::plain::ilp::{self, PlainAnswer};
+use crate::hostile::plain::prepares::{Offer, prepare_bytes};
 use crate::hostile::plain::seal::{PlainKeys, sha256};
 use crate::hostile::plain::stream::{PlainFrame, packet_bytes};
-use ilpstream::{Answer, End, Error, Prepare, Read, Received, Role};
+use ilpstream::{End, Error, Read, Received, Role};
 
 fn end(role: Role) -> End {
     new_end(role, config(16, 100, 1_000)).unwrap()
@@ -54,6 +56,35 @@ fn a_stream_is_read_to_its_end() {
     assert_eq!(server.read(1, 10), Ok(Read::End));
 }
 
+/// An end is passed to another thread, which is the server, and back.
+#[test]
+fn an_end_may_be_passed_to_another_thread() {
+    let (mut client, mut server) = (client_of_hi(), end(Role::Server));
+    client.close(1).unwrap();
+    let (to_server, requests) = std::sync::mpsc::channel::<Vec<u8>>();
+    let (to_client, answers) = std::sync::mpsc::channel();
+    let thread = std::thread::spawn(move || {
+        for request in requests {
+            to_client
+                .send(server.receive(&request, 0).unwrap().bytes)
+                .unwrap();
+        }
+        server
+    });
+    for number in 0.. {
+        let Some(prepare) = client.send(&[number; 12], 0).unwrap() else {
+            break;
+        };
+        to_server.send(prepare.bytes).unwrap();
+        let mut answer = answers.recv().unwrap();
+        assert_eq!(client.answer(prepare.flight, &mut answer), Ok(true));
+    }
+    drop(to_server);
+    let mut server = thread.join().unwrap();
+    assert_eq!(server.read(1, 10), Ok(Read::Bytes(b"hi".to_vec())));
+    assert_eq!(server.read(1, 10), Ok(Read::End));
+}
+
 #[test]
 fn what_a_caller_may_get_wrong_is_refused() {
     let mut client = client_of_hi();
@@ -95,14 +126,13 @@ fn prepare(sequence: u64, frame: PlainFrame<'_>, is_probe: bool) -> Vec<u8> {
     let keys = PlainKeys::of(&SECRET);
     let payload = keys.seal(&IV, &packet_bytes(12, sequence, 0, &[frame]));
     let own = sha256(&keys.fulfillment(&payload));
-    let prepare = Prepare {
+    prepare_bytes(Offer {
         amount: 0,
-        expiry: 30_000,
-        condition: if is_probe { [0; 32] } else { own },
-        destination: "test.b",
+        expiry: b"19700101000030000",
+        condition: if is_probe { &[0; 32] } else { &own },
+        destination: b"test.b",
         payload: &payload,
-    };
-    prepare.write().unwrap()
+    })
 }
 
 fn receive(end: &mut End, bytes: &[u8]) -> Received {
@@ -111,8 +141,8 @@ fn receive(end: &mut End, bytes: &[u8]) -> Received {
 
 /// Whether an answer is of this kind, and its packet says what the one to "hi" does.
 fn is_reply_to_hi(received: &Received, kind: u8) -> bool {
-    let payload = match Answer::read(&received.bytes).unwrap() {
-        Answer::Fulfill { payload, .. } | Answer::Reject { payload, .. } => payload,
+    let payload = match ilp::answer(&received.bytes).unwrap() {
+        PlainAnswer::Fulfill { payload, .. } | PlainAnswer::Reject { payload, .. } => payload,
     };
     let mut want = HI_REPLY;
     want[1] = kind;
