@@ -5,11 +5,11 @@ The exports of crates/st_c/src are compared, type by type and field by field, wi
 bind/rust and with those of bind/python; the numbers of the header with crates/st_embed, docs/ERRORS.md, bind/rust and
 bind/python. Then one difference is planted in each of them, which the comparison has to find.
 
-Then bind/build builds the archive, over what `rt ci` proved, or takes the one that is named, and what is built with it is run:
-the commands of docs/EMBEDDING.md; the example in C under valgrind and with AddressSanitizer; the tests of bind/rust and the
-examples of its documentation; the examples in the documentation of bind/python.
+Then bind/archive builds the archive, over what `rt ci` left, or the one that is named is taken. What bind/build builds of it is
+run: the commands of docs/EMBEDDING.md; the example in C under valgrind and with AddressSanitizer; the tests of bind/rust, the
+examples of its documentation and its programs; the examples in the documentation of bind/python.
 
-tests/bindings.py                builds the archive by bind/build
+tests/bindings.py                builds the archive by bind/archive
 tests/bindings.py --look         compares alone, and runs nothing
 tests/bindings.py ARCHIVE        takes this archive
 
@@ -30,7 +30,7 @@ TOP = os.path.realpath(os.path.join(os.path.dirname(os.path.realpath(__file__)),
 HEADER, ERRORS, CODES = "bind/c/ilpstream.h", "docs/ERRORS.md", "crates/st_embed/src/code.rt"
 RUST, PYTHON = "bind/rust/src", "bind/python/ilpstream/_declared.py"
 SECONDS = 600
-# How long the archive may take, which is proved once more where nothing of it was kept.
+# How long the archive may take, of which one crate is proved.
 BUILD_SECONDS = 1_500
 
 
@@ -420,12 +420,12 @@ def main():
     count = Count()
     compare(count)
     if "--look" not in sys.argv[1:]:
-        build = [f"{TOP}/bind/build", *(["--archive", os.path.realpath(sys.argv[1])] if sys.argv[1:] else [])]
+        archive = os.path.realpath(sys.argv[1]) if sys.argv[1:] else f"{TOP}/crates/st_c/out/libst_c.a"
         room = tempfile.mkdtemp()
         try:
             out = f"{TOP}/bind/out"
-            built = count.run("bind/build", build, "libilpstream.so", seconds=BUILD_SECONDS)
-            if built is not None:
+            built = sys.argv[1:] or count.run("bind/archive", [f"{TOP}/bind/archive"], "proved", seconds=BUILD_SECONDS)
+            if built and count.run("bind/build", [f"{TOP}/bind/build", "--archive", archive], "libilpstream.so"):
                 run_c(count, out, room)
                 run_rust(count, out, room)
                 run_python(count, out)
