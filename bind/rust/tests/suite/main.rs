@@ -4,4 +4,5 @@
 mod ends;
 mod hops;
 mod hostile;
+mod http;
 mod seeds;
