@@ -72,7 +72,7 @@ pub fn for_each(seeds: u64, run: impl Fn(u64) + Sync + RefUnwindSafe) {
     };
     let threads = thread::available_parallelism().map_or(1, usize::from);
     let failed: Vec<u64> = thread::scope(|scope| {
-        let runs: Vec<_> = (0..threads).map(|_| scope.spawn(&work)).collect();
+        let runs: Vec<_> = (0..threads).map(|_| scope.spawn(work)).collect();
         let ends = runs
             .into_iter()
             .map(|run| run.join().expect("its panics are caught"));

@@ -247,12 +247,10 @@ fn unread(code: &[u8; 3], reason: u8, amount: u64) -> Expected<'static> {
 
 /// What was sealed as this payload.
 fn sealed_as<'h>(history: &'h [Sealed], payload: &[u8]) -> Option<&'h Sealed> {
-    for sealed in history {
-        if sealed.payload.as_slice() == payload {
-            return Some(sealed);
-        }
-    }
-    None
+    history
+        .iter()
+        .find(|&sealed| sealed.payload.as_slice() == payload)
+        .map(|v| v as _)
 }
 
 /// What the rules say of a payload that opens to a packet.

@@ -219,7 +219,7 @@ pub fn expiry(text: &[u8]) -> Option<i64> {
     let (minute, rest) = part(rest, 2)?;
     let (second, rest) = part(rest, 2)?;
     let (fraction, rest) = part(rest, 3)?;
-    let is_date = 1 <= month && month <= 12 && 1 <= day && day <= days_of_month(year, month);
+    let is_date = (1..=12).contains(&month) && 1 <= day && day <= days_of_month(year, month);
     let is_time = hour < 24 && minute < 60 && second < 60;
     if !is_date || !is_time || !rest.is_empty() {
         return None;

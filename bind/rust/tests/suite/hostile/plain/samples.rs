@@ -53,7 +53,6 @@ impl<'a> Samples<'a> {
         for _ in 0..count {
             out.push(numbers.byte(self.common));
         }
-        ()
     }
 
     /// These bytes with one to three changes.
@@ -130,5 +129,4 @@ fn put_shifted(out: &mut Vec<u8>, numbers: &mut Numbers, bytes: &[u8]) {
         out.push(first.wrapping_add(shift));
         out.extend_from_slice(behind);
     }
-    ()
 }

@@ -192,10 +192,7 @@ fn known_frames<'a>(skeleton: Skeleton<'a>) -> Result<Vec<PlainFrame<'a>>, u64> 
 
 /// The STREAM packet that bytes spell, which an ILP packet of this type carried. Fails with the first rule that they break.
 pub fn packet<'a>(bytes: &'a [u8], kind: u8) -> Result<PlainPacket<'a>, Refusal> {
-    let rest = match behind_kind(bytes, kind) {
-        Ok(rest) => rest,
-        Err(refusal) => return Err(refusal),
-    };
+    let rest = behind_kind(bytes, kind)?;
     let skeleton = match read_skeleton(rest) {
         Ok(skeleton) => skeleton,
         Err(fault) => return Err(Refusal::around(22, fault)),
