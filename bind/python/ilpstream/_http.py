@@ -37,7 +37,8 @@ class Status:
 class _Message(Object):
     @alone
     def feed(self, data: Buffer) -> Wants | Whole | Status:
-        """Takes the next bytes. Some thousand at once cost less than single ones."""
+        """Takes the next bytes. Some thousand at once cost less than single ones. Where the message is refused no byte was
+        taken."""
         data, reading = bytes(data), _declared.Reading()
         answer = lib.ilp_message_feed(self._at(), data, len(data), byref(reading))
         if answer == Code.IDLE:

@@ -66,7 +66,8 @@ impl Request {
         Ok(Request { handle })
     }
 
-    /// Takes the next bytes. Some thousand at once cost less than single ones. [`Error::HttpOutOfMemory`]: no byte was taken.
+    /// Takes the next bytes. Some thousand at once cost less than single ones. Where the request is refused, or
+    /// [`Error::HttpOutOfMemory`], no byte was taken.
     pub fn feed(&mut self, bytes: &[u8]) -> Result<Progress, Error> {
         fed(&mut self.handle, bytes)
     }
@@ -85,7 +86,8 @@ impl Response {
         Ok(Response { handle })
     }
 
-    /// Takes the next bytes. [`Error::BadHead`], [`Error::BodyTooLong`]; [`Error::HttpOutOfMemory`]: no byte was taken.
+    /// Takes the next bytes. [`Error::BadHead`], [`Error::BodyTooLong`], [`Error::HttpOutOfMemory`], and where the status is not
+    /// 200: no byte was taken.
     pub fn feed(&mut self, bytes: &[u8]) -> Result<Progress, Error> {
         fed(&mut self.handle, bytes)
     }

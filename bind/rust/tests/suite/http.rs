@@ -32,7 +32,8 @@ fn in_two(text: &[u8], cut: usize) -> Progress {
     match request.feed(&text[..cut]).unwrap() {
         Progress::Wants(_) => request.feed(&text[cut..]).unwrap(),
         progress => {
-            assert_eq!(request.feed(&text[cut..]), Ok(progress.clone()));
+            // (a refused part is not taken)
+            assert_eq!(request.feed(&text[..cut]), Ok(progress.clone()));
             progress
         }
     }
@@ -179,7 +180,7 @@ fn responses_are_judged() {
         let mut response = Response::new().unwrap();
         assert_eq!(response.feed(text.as_bytes()), want, "{text:?}");
         if want.is_err() {
-            assert_eq!(response.feed(b"x"), want, "{text:?}");
+            assert_eq!(response.feed(text.as_bytes()), want, "{text:?}");
         }
     }
 }
@@ -277,7 +278,7 @@ fn empty_lines_have_a_limit() {
 #[test]
 fn a_refused_feed_is_made_again() {
     let text = POST.as_bytes();
-    for cut in [10, 60, 73] {
+    for cut in [10, 60, 70] {
         for n in 1.. {
             let mut request = request();
             assert!(matches!(request.feed(&text[..cut]), Ok(Progress::Wants(_))));

@@ -78,5 +78,5 @@ pub fn for_each(seeds: u64, run: impl Fn(u64) + Sync + RefUnwindSafe) {
             .map(|run| run.join().expect("its panics are caught"));
         ends.flatten().collect()
     });
-    assert!(failed.is_empty(), "these seeds fail: {failed:?}");
+    assert!(failed.is_empty(), "these runs fail: {failed:?}");
 }

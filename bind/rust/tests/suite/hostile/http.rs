@@ -127,10 +127,10 @@ fn agrees(reading: &mut Reading, part: &[u8], want: Message<'_>) -> bool {
         (Ok(Progress::Status(status)), Message::Refused(refusal)) => {
             refusal.inner == Some(status.into())
                 && refusal.number == 83
-                && reading.feed(b"x") == Ok(Progress::Status(status))
+                && reading.feed(part) == Ok(Progress::Status(status))
         }
         (Err(error), Message::Refused(refusal)) => {
-            error.number() == u32::from(refusal.number) && reading.feed(b"x") == Err(error)
+            error.number() == u32::from(refusal.number) && reading.feed(part) == Err(error)
         }
         _ => false,
     }
