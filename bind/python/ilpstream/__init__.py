@@ -11,7 +11,6 @@ from ._http import Request, Response, Status, Wants, Whole, answer_text, refusal
 from ._ilp import Fulfill, Prepare, Reject, read_answer
 from ._keys import Keys, condition
 from ._object import Code, IlpError
-from ._packet import Frame, Kind, Packet
 
 __all__ = [
     "Aborted",
@@ -21,14 +20,11 @@ __all__ = [
     "Code",
     "End",
     "Forward",
-    "Frame",
     "Fulfill",
     "Hop",
     "IlpError",
     "Keys",
-    "Kind",
     "Outgoing",
-    "Packet",
     "Prepare",
     "Received",
     "Reject",

@@ -75,22 +75,6 @@ class Answer(Structure):
     ]
 
 
-class Header(Structure):
-    _fields_ = [("sequence", c_uint64), ("amount", c_uint64), ("frames", c_size_t), ("kind", c_uint32)]
-
-
-class Frame(Structure):
-    _fields_ = [
-        ("index", c_uint64),
-        ("stream", c_uint64),
-        ("first", c_uint64),
-        ("second", c_uint64),
-        ("data_len", c_size_t),
-        ("type", c_uint32),
-        ("code", c_uint32),
-    ]
-
-
 class Reading(Structure):
     _fields_ = [
         ("wants", c_size_t),
@@ -149,12 +133,6 @@ CALLS = {
     "ilp_prepare_write": (c_uint32, (c_uint64, c_int64, _array, *_bytes, *_bytes, *_room, _size)),
     "ilp_fulfill_write": (c_uint32, (_array, *_bytes, *_room, _size)),
     "ilp_reject_write": (c_uint32, (_array, *_bytes, *_bytes, *_bytes, *_room, _size)),
-    "ilp_packet_new": (c_uint32, (_handle, c_uint32, c_uint64, c_uint64)),
-    "ilp_packet_read": (c_uint32, (_handle, c_uint32, *_bytes)),
-    "ilp_packet_header": (c_uint32, (_handle, POINTER(Header))),
-    "ilp_packet_frame": (c_uint32, (_handle, c_size_t, POINTER(Frame))),
-    "ilp_packet_push": (c_uint32, (_handle, POINTER(Frame), *_bytes)),
-    "ilp_packet_write": (c_uint32, (_handle, _size)),
     "ilp_request_new": (c_uint32, (_handle, *_bytes, _size, c_size_t)),
     "ilp_response_new": (c_uint32, (_handle,)),
     "ilp_message_feed": (c_uint32, (_handle, *_bytes, POINTER(Reading))),

@@ -43,12 +43,6 @@ class Code(enum.IntEnum):
     CODE = 16
     TRAILING = 17
     PACKET_NO_MEMORY = 18
-    FRAMES_VERSION = 20
-    FRAMES_KIND = 21
-    FRAMES_OER = 22
-    FRAME_FORMAT = 23
-    FRAMES_TOO_LONG = 24
-    FRAMES_NO_MEMORY = 25
     SHORT = 30
     TAG = 31
     KEYS_NO_MEMORY = 33
@@ -85,12 +79,6 @@ _TEXTS = {
     Code.CODE: "the error code has another character",
     Code.TRAILING: "bytes follow the packet",
     Code.PACKET_NO_MEMORY: "out of memory for an ILP packet",
-    Code.FRAMES_VERSION: "the STREAM packet is of another version",
-    Code.FRAMES_KIND: "the STREAM packet is of another kind",
-    Code.FRAMES_OER: "a number of the STREAM packet is malformed",
-    Code.FRAME_FORMAT: "a frame is malformed",
-    Code.FRAMES_TOO_LONG: "the STREAM packet is too long",
-    Code.FRAMES_NO_MEMORY: "out of memory for a STREAM packet",
     Code.SHORT: "the payload is too short",
     Code.TAG: "the tag of the payload is wrong",
     Code.KEYS_NO_MEMORY: "out of memory for a payload",

@@ -64,18 +64,6 @@ refusals! {
     Trailing = 17, "bytes follow the packet";
     /// There is no memory for an ILP packet.
     PacketOutOfMemory = 18, "out of memory for an ILP packet";
-    /// The STREAM packet is of another version.
-    FramesVersion = 20, "the STREAM packet is of another version";
-    /// The STREAM packet is of another kind than the ILP packet that carried it.
-    FramesKind = 21, "the STREAM packet is of another kind";
-    /// A number, or the type or the length of a frame, is malformed (RFC 0030).
-    FramesOer = 22, "a number of the STREAM packet is malformed";
-    /// A known frame is malformed.
-    FrameFormat = 23, "a frame is malformed";
-    /// The STREAM packet has more than 32,739 bytes.
-    FramesTooLong = 24, "the STREAM packet is too long";
-    /// There is no memory for a STREAM packet.
-    FramesOutOfMemory = 25, "out of memory for a STREAM packet";
     /// The payload has fewer than 28 bytes: no IV and tag.
     Short = 30, "the payload is too short";
     /// The tag of the payload is wrong.

@@ -2,7 +2,7 @@
 //!
 //! - [`End`] is one side of a connection: it sends and receives bytes and money on streams.
 //! - [`Hop`] is a connector: it sends Prepares on, and keeps what each neighbour owes.
-//! - [`Keys`], [`Prepare`], [`Answer`], [`Packet`] and [`Frame`] are what their packets are made of.
+//! - [`Keys`], [`Prepare`] and [`Answer`] are what their packets are made of.
 //! - [`Request`] and [`Response`] read ILP over HTTP (RFC 0035), and [`request_text`] and its like write it.
 //! - [`Ivs`] reads what a call needs of random bytes, and [`now`] the time.
 //!
@@ -28,7 +28,6 @@ mod ilp;
 mod ivs;
 mod keys;
 mod output;
-mod packet;
 #[allow(unsafe_code)]
 mod raw;
 #[cfg(feature = "refusing")]
@@ -41,4 +40,3 @@ pub use http::{Progress, Request, Response, answer_text, refusal_text, request_t
 pub use ilp::{Answer, Prepare};
 pub use ivs::{Ivs, now};
 pub use keys::{Keys, condition};
-pub use packet::{Frame, Header, Kind, Packet};

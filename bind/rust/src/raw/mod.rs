@@ -92,29 +92,6 @@ pub(crate) struct Answer {
     pub payload_len: usize,
 }
 
-/// The numbers of a STREAM packet.
-#[repr(C)]
-#[derive(Clone, Copy, Default)]
-pub(crate) struct Header {
-    pub sequence: u64,
-    pub amount: u64,
-    pub frames: usize,
-    pub kind: u32,
-}
-
-/// A frame, whose data stand elsewhere.
-#[repr(C)]
-#[derive(Clone, Copy, Default)]
-pub(crate) struct Frame {
-    pub index: u64,
-    pub stream: u64,
-    pub first: u64,
-    pub second: u64,
-    pub data_len: usize,
-    pub r#type: u32,
-    pub code: u32,
-}
-
 /// What the bytes of a message are so far.
 #[repr(C)]
 #[derive(Clone, Copy, Default)]
@@ -273,23 +250,6 @@ unsafe extern "C" {
         room: usize,
         len: &mut usize,
     ) -> u32;
-
-    pub(crate) safe fn ilp_packet_new(
-        packet: &mut Handle,
-        kind: u32,
-        sequence: u64,
-        amount: u64,
-    ) -> u32;
-    fn ilp_packet_read(packet: &mut Handle, kind: u32, bytes: *const u8, len: usize) -> u32;
-    pub(crate) safe fn ilp_packet_header(packet: &mut Handle, header: &mut Header) -> u32;
-    pub(crate) safe fn ilp_packet_frame(
-        packet: &mut Handle,
-        place: usize,
-        frame: &mut Frame,
-    ) -> u32;
-    fn ilp_packet_push(packet: &mut Handle, frame: &Frame, data: *const u8, data_len: usize)
-    -> u32;
-    pub(crate) safe fn ilp_packet_write(packet: &mut Handle, len: &mut usize) -> u32;
 
     fn ilp_request_new(
         request: &mut Handle,
@@ -509,14 +469,6 @@ pub(crate) fn reject_write(
             len,
         )
     }
-}
-
-pub(crate) fn packet_read(packet: &mut Handle, kind: u32, bytes: &[u8]) -> u32 {
-    unsafe { ilp_packet_read(packet, kind, bytes.as_ptr(), bytes.len()) }
-}
-
-pub(crate) fn packet_push(packet: &mut Handle, frame: &Frame, data: &[u8]) -> u32 {
-    unsafe { ilp_packet_push(packet, frame, data.as_ptr(), data.len()) }
 }
 
 pub(crate) fn request_new(request: &mut Handle, tokens: &str, lengths: &[usize]) -> u32 {

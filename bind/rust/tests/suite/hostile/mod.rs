@@ -21,7 +21,6 @@ pub(crate) mod plain;
 mod plain_end;
 mod plain_hop;
 mod samples;
-mod stream;
 
 /// How many inputs one hop or end is given before a new one is made.
 const STEPS: u64 = 20;
