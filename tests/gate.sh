@@ -1,8 +1,8 @@
 #!/usr/bin/env bash
-# The whole gate: `rt ci`; then the program that it built, run as whoever uses it does; the documents' examples, numbers, links
-# and prose; and whether the wrong bodies that only tests see, and those that are tried by hand, can still be made. Each line
-# of `rt ci` on a crate bears the minute in which it was printed; the line before the last has the time of the whole, the last
-# counts all.
+# The whole gate: `rt ci`; then the program that it built, run as whoever uses it does; the bindings for C, Rust and Python; the
+# documents' examples, numbers, links and prose; and whether the wrong bodies that only tests see, and those that are tried by
+# hand, can still be made. Each line of `rt ci` on a crate bears the minute in which it was printed; the line before the last has
+# the time of the whole, the last counts all.
 set -u
 cd "$(dirname "$(readlink -f "${BASH_SOURCE[0]}")")/.." || exit 1
 log=$(mktemp)
@@ -55,6 +55,8 @@ else
     echo "0 passed, 1 failed" | tee -a "$log"
     status=1
 fi
+# (1,000,000 hostile inputs for each reader)
+ILPSTREAM_HOSTILE=1000000 step 45 tests/bindings.py
 step 15 tests/readme.py
 step 5 tests/documents.py
 step 5 tests/prose.py

@@ -2,10 +2,11 @@
 """Looks whether what the documents show is so.
 
 Each block ```rust of README, COMMANDS, OPERATING and LIBRARY stands, line for line, in a source of the crates, so that what a
-reader pastes is what the gate proved and ran.
+reader pastes is what the gate proved and ran. Each block ```c, ```rust and ```python of EMBEDDING stands so in a source of
+bind/; its commands are run by tests/bindings.py.
 
 Each block ```console of them is run, by one bash in a directory that has nothing but `ilpstream`, the built program (which is
-on the PATH too), and the repository's `examples` and `README.md`. A line that begins with `$ ` is a command; where it ends with
+on the PATH too), and the repository's `examples`, `bind` and `README.md`. A line that begins with `$ ` is a command; where it ends with
 a backslash the next line goes on with it. All other lines are the output, standard output and standard error together, which
 is compared with that of the whole block. A line `...` stands for any lines, and a word `...` in a line for any text. A block
 has 60 seconds; what it left in the background is ended with it. Blocks ```sh and ```text are not run.
@@ -26,6 +27,7 @@ import tempfile
 TOP = os.path.realpath(os.path.join(os.path.dirname(os.path.realpath(__file__)), ".."))
 PROGRAM = f"{TOP}/crates/ilpstream/out/ilpstream"
 SHOWING = ["README.md", "docs/COMMANDS.md", "docs/OPERATING.md", "docs/LIBRARY.md"]
+EMBEDDING = "docs/EMBEDDING.md"
 SECONDS = 60
 FENCE = re.compile(r"^(\s*)```(\w*)\s*$")
 
@@ -59,17 +61,30 @@ def plain(lines):
     return "\n".join(["", *(line.strip() for line in lines if line.strip()), ""])
 
 
+def sources(*patterns):
+    """The texts of the sources that these patterns name."""
+    found = []
+    for pattern in patterns:
+        for path in glob.glob(f"{TOP}/{pattern}", recursive=True):
+            with open(path, encoding="utf-8") as source:
+                found.append(plain(source.read().splitlines()))
+    return found
+
+
 def look_at_examples(paths):
-    """Whether each block of Rattle stands in a source."""
-    sources = []
-    for path in glob.glob(f"{TOP}/crates/*/src/**/*.rt", recursive=True):
-        with open(path, encoding="utf-8") as source:
-            sources.append(plain(source.read().splitlines()))
+    """Whether each block of a language stands in a source of it."""
+    rattle = sources("crates/*/src/**/*.rt")
+    hosts = {
+        "c": sources("bind/c/*.c"),
+        "rust": sources("bind/rust/examples/*.rs"),
+        "python": sources("bind/python/examples/*.py"),
+    }
     for path in paths:
-        for number, lines in blocks(path, "rust"):
-            text = plain(lines)
-            good = any(text in source for source in sources)
-            yield good, f"{path}:{number}: this block stands in no source:\n" + "\n".join(lines)
+        for language, found in hosts.items() if path == EMBEDDING else [("rust", rattle)]:
+            for number, lines in blocks(path, language):
+                text = plain(lines)
+                good = any(text in source for source in found)
+                yield good, f"{path}:{number}: this block stands in no source:\n" + "\n".join(lines)
 
 
 # ---- the shell
@@ -102,13 +117,14 @@ def is_output(wanted, came):
     return bool(came) and is_line(wanted[0], came[0]) and is_output(wanted[1:], came[1:])
 
 
-def run(script):
+def run(script, seconds=SECONDS):
     """What a script prints in a directory of its own, and why it was stopped, if it was."""
     room = tempfile.mkdtemp()
     try:
         os.symlink(PROGRAM, f"{room}/ilpstream")
         os.symlink(f"{TOP}/examples", f"{room}/examples")
         os.symlink(f"{TOP}/README.md", f"{room}/README.md")
+        os.symlink(f"{TOP}/bind", f"{room}/bind")
         environment = {**os.environ, "PATH": f"{room}:{os.environ['PATH']}", "LC_ALL": "C.UTF-8"}
         with tempfile.TemporaryFile() as output:
             # (a session of its own: what it starts is in its group, and in no other)
@@ -123,9 +139,9 @@ def run(script):
             )
             why = ""
             try:
-                ran.wait(SECONDS)
+                ran.wait(seconds)
             except subprocess.TimeoutExpired:
-                why = f"it did not end within {SECONDS} seconds"
+                why = f"it did not end within {seconds} seconds"
             try:
                 os.killpg(ran.pid, signal.SIGKILL)
             except ProcessLookupError:
@@ -137,15 +153,15 @@ def run(script):
         shutil.rmtree(room, ignore_errors=True)
 
 
-def look_at_commands(paths):
+def look_at_commands(paths, seconds=SECONDS):
     """Whether each block of commands prints what stands below them."""
     for path in paths:
         for number, lines in blocks(path, "console"):
-            if not os.access(PROGRAM, os.X_OK):
+            if path != EMBEDDING and not os.access(PROGRAM, os.X_OK):
                 yield False, f"{path}:{number}: the program was not built, so this block was not run"
                 continue
             script, wanted = commands_and_output(lines)
-            came, why = run(script)
+            came, why = run(script, seconds)
             good = bool(script.strip()) and not why and is_output(wanted, came)
             shown = "\n".join(came)
             yield good, f"{path}:{number}: this block has another output{': ' if why else ''}{why}:\n" + "\n".join(lines) + f"\n-- it printed:\n{shown}"
@@ -204,7 +220,9 @@ def main():
     showing = chosen or [path for path in SHOWING if os.path.exists(f"{TOP}/{path}")]
     linking = chosen or sorted(os.path.relpath(path, TOP) for path in glob.glob(f"{TOP}/*.md") + glob.glob(f"{TOP}/docs/*.md"))
     passed = failed = 0
-    for look in (look_at_examples(showing), look_at_commands(showing), look_at_links(linking)):
+    examples = chosen or [*showing, EMBEDDING]
+    commands = [path for path in showing if path != EMBEDDING]
+    for look in (look_at_examples(examples), look_at_commands(commands), look_at_links(linking)):
         for good, finding in look:
             passed, failed = passed + good, failed + (not good)
             if not good:

@@ -48,13 +48,6 @@ enum {
     ILP_CODE = 16,             /* an error code has a character outside ! to ~ */
     ILP_TRAILING = 17,         /* bytes follow the last field or the packet */
     ILP_PACKET_NO_MEMORY = 18, /* out of memory */
-    /* refusals of reading and writing STREAM packets */
-    ILP_FRAMES_VERSION = 20,   /* the packet is of another version of STREAM */
-    ILP_FRAMES_KIND = 21,      /* the packet is of another kind than the ILP packet that carried it */
-    ILP_FRAMES_OER = 22,       /* a number, or the type or the length of a frame, is malformed (RFC 0030) */
-    ILP_FRAME_FORMAT = 23,     /* a known frame is malformed */
-    ILP_FRAMES_TOO_LONG = 24,  /* the packet has more than 32,739 bytes */
-    ILP_FRAMES_NO_MEMORY = 25, /* out of memory */
     /* refusals of keys */
     ILP_SHORT = 30,            /* the payload has fewer than 28 bytes: no IV and tag */
     ILP_TAG = 31,              /* the tag of the payload is wrong */
@@ -346,65 +339,6 @@ ilp_code ilp_fulfill_write(const uint8_t fulfillment[32], const uint8_t *payload
  * the payload more than 32,767; ILP_PACKET_NO_MEMORY. */
 ilp_code ilp_reject_write(const uint8_t code[3], const uint8_t *by, size_t by_len, const uint8_t *message, size_t message_len,
                           const uint8_t *payload, size_t payload_len, uint8_t *out, size_t room, size_t *len);
-
-/* ---- plain STREAM packets, frame by frame (RFC 0029, section 5) */
-
-typedef struct ilp_packet { void *inner; } ilp_packet;
-
-/* `kind` is that of the ILP packet that carries it: 12 Prepare, 13 Fulfill, 14 Reject. `amount` is in a Prepare the least that
- * the receiver should accept, and in a reply what arrived. `frames` is how many known frames it has. */
-typedef struct ilp_header {
-    uint64_t sequence;
-    uint64_t amount;
-    size_t frames;
-    uint32_t kind;
-} ilp_header;
-
-/* A frame of one of the eleven types that are read. The type says which parts it has; the others are 0.
- *   0x01 ConnectionClose        code; data: a message in UTF-8
- *   0x02 ConnectionNewAddress   data: an ILP address, or nothing
- *   0x03 ConnectionMaxData      first: the most bytes that are accepted over all streams
- *   0x04 ConnectionDataBlocked  first: the sum of offsets that is wanted
- *   0x10 StreamClose            stream; code; data: a message in UTF-8
- *   0x11 StreamMoney            stream; first: shares
- *   0x12 StreamMaxMoney         stream; first: the most that is accepted; second: what was received
- *   0x13 StreamMoneyBlocked     stream; first: the most that is to be sent; second: what was sent
- *   0x14 StreamData             stream; first: the offset; data: the bytes
- *   0x15 StreamMaxData          stream; first: the offset below which bytes are accepted
- *   0x16 StreamDataBlocked      stream; first: the offset up to which bytes are to be sent
- * `index` is its place among all frames of a packet that was read, unknown ones counted, from 0. */
-typedef struct ilp_frame {
-    uint64_t index;
-    uint64_t stream;
-    uint64_t first;
-    uint64_t second;
-    size_t data_len;
-    uint32_t type;
-    uint32_t code;
-} ilp_frame;
-
-/* Makes a packet without frames in an empty handle. ILP_ARGUMENT where `kind` is not 12, 13 or 14; ILP_MISUSE where the handle
- * is not empty; ILP_FRAMES_NO_MEMORY. */
-ilp_code ilp_packet_new(ilp_packet *packet, uint32_t kind, uint64_t sequence, uint64_t amount);
-
-/* Makes a packet in an empty handle from all of the `len` bytes, which an ILP packet of this kind carried. Frames of unknown
- * types, and bytes after the last frame, are left out. ILP_ARGUMENT, ILP_MISUSE as above; ILP_FRAMES_TOO_LONG,
- * ILP_FRAMES_VERSION, ILP_FRAMES_KIND, ILP_FRAMES_OER, ILP_FRAME_FORMAT: the first fault; ILP_FRAMES_NO_MEMORY. */
-ilp_code ilp_packet_read(ilp_packet *packet, uint32_t kind, const uint8_t *bytes, size_t len);
-
-ilp_code ilp_packet_header(ilp_packet *packet, ilp_header *header);
-
-/* The known frame at a place, counted from 0; its data is put out. ILP_ARGUMENT where there is none; ILP_FRAMES_NO_MEMORY. */
-ilp_code ilp_packet_frame(ilp_packet *packet, size_t place, ilp_frame *frame);
-
-/* Adds a frame behind the others. Its `index`, and parts that its type does not have, are not looked at; `data` has
- * `data_len` bytes, and not those that the struct says. ILP_ARGUMENT where there is no such type, the code is above 255, or
- * data that has to be UTF-8 is not; ILP_FRAMES_NO_MEMORY. */
-ilp_code ilp_packet_push(ilp_packet *packet, const ilp_frame *frame, const uint8_t *data, size_t data_len);
-
-/* Puts out the bytes of a packet; `len` is how many. ILP_FRAME_FORMAT where the address of a ConnectionNewAddress is none;
- * ILP_FRAMES_TOO_LONG above 32,739 bytes; ILP_FRAMES_NO_MEMORY. */
-ilp_code ilp_packet_write(ilp_packet *packet, size_t *len);
 
 /* ---- ILP over HTTP (RFC 0035): messages that come in pieces, and the texts that are sent
  *

@@ -6,13 +6,11 @@
 //! show that it reads as the tested crate does.
 #![tactic(auto)]
 
-pub mod answers;
 pub mod http;
 pub mod ilp;
 mod met;
 mod numbers;
 pub mod oer;
-pub mod prepares;
 mod refusal;
 mod samples;
 pub mod stream;
@@ -27,6 +25,3 @@ pub const FIRST: u64 = 1;
 
 /// The number of inputs of each reader's test. A longer run by hand changes this number and `FIRST`.
 pub const INPUTS: u64 = 100_000;
-
-/// The number of inputs that one hop or end is given before a new one is made.
-pub const STEPS: u64 = 20;

@@ -1,5 +1,6 @@
-//! Tests of an end: worked packets, from bytes to bytes; each request of each call that may want memory refused in turn, also
-//! while both ends send; and two ends between which Prepares and answers are lost, repeated and reordered.
+//! Tests of an end whose memory is that of another allocator than `Global`, each request of each call that may want memory
+//! refused in turn; a connection of many Prepares; and the examples of the documents. All else of an end is tested over the
+//! library for other languages, in bind/rust/tests.
 #![tactic(auto)]
 
 #[cfg(test)]
@@ -28,22 +29,12 @@ fn sure_at(rt: &impl Abort, holds: bool, fact: &str, n: u64) {
 }
 
 #[cfg(test)]
-mod both_ways;
-#[cfg(test)]
 mod ends;
 #[cfg(test)]
 mod examples;
 #[cfg(test)]
-mod lanes;
-#[cfg(test)]
-mod lossy;
+mod many;
 #[cfg(test)]
 mod memory;
 #[cfg(test)]
-mod sides;
-#[cfg(test)]
-mod steady;
-#[cfg(test)]
 mod waiting;
-#[cfg(test)]
-mod worked;

@@ -81,7 +81,7 @@ pub(crate) fn ticket_of<A: Allocator + Copy>(rt: &impl Abort, hop: &mut HopState
 }
 
 /// Settles a ticket that is open.
-fn settled<A: Allocator + Copy>(
+pub(crate) fn settled<A: Allocator + Copy>(
     rt: &impl Abort,
     hop: &mut HopState<A>,
     ticket: Ticket,
@@ -111,29 +111,6 @@ fn outcome_of<A: Allocator + Copy>(rt: &impl Abort, alloc: A, came: Option<&[u8]
         Some(bytes) => with_answer(rt, alloc, bytes),
         None => Outcome::Fault,
     }
-}
-
-/// A hop to which the Prepare came so many times, where the last of them was fulfilled.
-pub(crate) fn used_hop<A: Allocator + Copy>(
-    rt: &impl Abort,
-    alloc: A,
-    arrivals: u64,
-) -> HopState<A> {
-    let mut hop = new_hop(alloc).expect(rt, "memory");
-    for _ in 1..arrivals {
-        ticket_of(rt, &mut hop).abandon();
-    }
-    if 0 < arrivals {
-        fulfil(rt, alloc, &mut hop);
-    }
-    hop
-}
-
-/// The Prepare comes and is fulfilled.
-fn fulfil<A: Allocator + Copy>(rt: &impl Abort, alloc: A, hop: &mut HopState<A>) {
-    let ticket = ticket_of(rt, hop);
-    let fulfill = with_answer(rt, alloc, FULFILL);
-    settled(rt, hop, ticket, fulfill, moment(rt, 0));
 }
 
 /// A hop that was made says its T00.

@@ -1,6 +1,6 @@
-//! Tests of the hop: worked Prepares and answers, a hop that threads serve through links in memory, links that fail, and a hop
-//! while memory is refused. Each request for memory is refused in turn, from the first until a run meets no refusal, or up to
-//! `LAST`; after a refusal the hop is as before, and the same call then succeeds.
+//! Tests of a hop whose memory is that of another allocator than `Global`, of its tickets, of a hop that threads serve through
+//! links in memory, of links that fail, and of a desk while each request for memory is refused in turn, up to `LAST` or until a run
+//! meets no refusal. All else of a hop is tested over the library for other languages, in bind/rust/tests.
 #![tactic(auto)]
 
 #[cfg(test)]
@@ -29,8 +29,6 @@ fn sure_at(rt: &impl Abort, holds: bool, fact: &str, n: u64) {
 }
 
 #[cfg(test)]
-mod arrivals;
-#[cfg(test)]
 mod desks;
 #[cfg(test)]
 mod examples;
@@ -43,9 +41,9 @@ mod memory;
 #[cfg(test)]
 mod threads;
 #[cfg(test)]
-mod waiting;
+mod tickets;
 #[cfg(test)]
-mod worked;
+mod waiting;
 
 /// The number of the last request that is refused in turn. No call that is tried up to it makes as many.
 #[cfg(test)]

@@ -1,9 +1,8 @@
-//! Hostile bytes at the readers of fields in OER, of ILPv4 packets, of STREAM packets and of HTTP messages, at a hop's `arrive`
-//! and `settle`, and at an end's `receive`, inside its seal as well as outside, and `answer`. Each test makes
+//! Hostile bytes at the readers of fields in OER, of ILPv4 packets, of STREAM packets and of HTTP messages. Each test makes
 //! `hostile::INPUTS` inputs, one a seed: half of them lawful ones with changes, half random bytes behind the front of a
 //! lawful one. A reader must answer what a second, plain reading answers: the same fields, or the same refusal with the same
-//! number inside. A hop and an end must do what a second, plain model of their rules does. A failed test prints the seed of
-//! the input, and the step, and `hostile::FIRST` can be set to that seed.
+//! number inside. A failed test prints the seed of the input, and `hostile::FIRST` can be set to that seed. What a hop and an end
+//! do with hostile bytes is tested over the library for other languages, in bind/rust/tests.
 #![tactic(auto)]
 
 #[cfg(test)]
@@ -43,22 +42,10 @@ fn changed_bytes(
 }
 
 #[cfg(test)]
-mod answers;
-#[cfg(test)]
-mod ends;
-#[cfg(test)]
-mod hops;
-#[cfg(test)]
 mod http;
 #[cfg(test)]
 mod ilp;
 #[cfg(test)]
 mod oer;
-#[cfg(test)]
-mod plain_end;
-#[cfg(test)]
-mod plain_hop;
-#[cfg(test)]
-mod samples;
 #[cfg(test)]
 mod stream;

@@ -1,0 +1,49 @@
+"""Two ends in memory: 1 MiB and 500 units are sent from a client to a server."""
+
+import os
+import time
+
+from ilpstream import Code, End, IlpError, Role
+
+SIZE, UNITS, PART = 1 << 20, 500, 65536
+
+
+def now():
+    return time.time_ns() // 1_000_000
+
+
+def passed(client, server):
+    """The client's next Prepare is given to the server, and the answer to the client. False where nothing is to be sent."""
+    prepare = client.send(os.urandom(12), now())  # never an IV twice
+    if prepare is None:
+        return False
+    client.answer(prepare.flight, server.receive(prepare.bytes, now()).bytes)
+    return True
+
+
+def main():
+    secret = os.urandom(32)
+    sent, got, written = bytes(i * 7 & 255 for i in range(SIZE)), b"", 0
+    with (
+        End(Role.CLIENT, secret, "example.alice", "example.bob") as client,
+        End(Role.SERVER, secret, "example.bob", "example.alice") as server,
+    ):
+        stream = client.open_stream()
+        server.set_receive_max(stream, UNITS)
+        client.offer(stream, UNITS)
+        while written < SIZE or passed(client, server):
+            try:
+                client.write(stream, sent[written : written + PART])
+                written = min(SIZE, written + PART)
+            except IlpError as error:
+                if error.number != Code.FULL:  # until some bytes are acknowledged
+                    raise
+            passed(client, server)
+            while part := server.read(stream):
+                got += part
+        paid, credited = client.totals().paid, server.totals().credited
+    assert got == sent and paid == credited == UNITS
+    print(f"{len(got)} bytes came whole; paid {paid}, credited {credited}")
+
+
+main()

@@ -1,0 +1,44 @@
+"""Interledger STREAM (RFC 0029) and the connector between its ends (RFC 0027), proved in Rattle, by ctypes over
+libilpstream.so.
+
+There is no I/O here, no clock, no thread and no random number: bytes, times and IVs are arguments. A call that is refused
+raises `IlpError`, whose `number` is that of docs/ERRORS.md, and changes nothing. An argument that no call could be given, as a
+secret of 31 bytes, raises `ValueError`."""
+
+from ._end import Aborted, End, Outgoing, Received, Role, Totals
+from ._hop import Account, Answer, Balances, Forward, Hop, Route
+from ._http import Request, Response, Status, Wants, Whole, answer_text, refusal_text, request_text
+from ._ilp import Fulfill, Prepare, Reject, read_answer
+from ._keys import Keys, condition
+from ._object import Code, IlpError
+
+__all__ = [
+    "Aborted",
+    "Account",
+    "Answer",
+    "Balances",
+    "Code",
+    "End",
+    "Forward",
+    "Fulfill",
+    "Hop",
+    "IlpError",
+    "Keys",
+    "Outgoing",
+    "Prepare",
+    "Received",
+    "Reject",
+    "Request",
+    "Response",
+    "Role",
+    "Route",
+    "Status",
+    "Totals",
+    "Wants",
+    "Whole",
+    "answer_text",
+    "condition",
+    "read_answer",
+    "refusal_text",
+    "request_text",
+]

@@ -1,0 +1,230 @@
+"""An end of a STREAM connection."""
+
+from __future__ import annotations
+
+import enum
+from ctypes import byref, c_size_t, c_uint8, c_uint32, c_uint64
+from dataclasses import dataclass
+
+from . import _declared
+from ._object import Buffer, Code, IlpError, Object, alone, done, fixed, lib, moment, number
+
+
+class Role(enum.IntEnum):
+    """Which side of a connection an end is: a client's streams are odd, a server's even."""
+
+    CLIENT = 0
+    SERVER = 1
+
+
+class Aborted(ConnectionAbortedError):
+    """The peer aborted the stream with a code of RFC 0029, section 5.4."""
+
+    def __init__(self, code: int) -> None:
+        super().__init__(f"the peer aborted the stream with the code {code}")
+        self.code = code
+
+
+@dataclass(frozen=True)
+class Outgoing:
+    """A Prepare that is to be sent to the peer. Its answer is reported once, by the number of the flight."""
+
+    flight: int
+    bytes: bytes
+
+
+@dataclass(frozen=True)
+class Received:
+    """What an end did with a Prepare: the answer; why it is a Reject (0 for a Fulfill; docs/ERRORS.md, "Of an end"); the amount
+    of the Prepare; and the number of its STREAM packet, where that could be read."""
+
+    bytes: bytes
+    reason: int
+    amount: int
+    sequence: int | None
+
+
+@dataclass(frozen=True)
+class Totals:
+    """What an end did so far: bytes that were written and that were read, units that it received and that it paid."""
+
+    accepted: int
+    delivered: int
+    credited: int
+    paid: int
+
+
+class End(Object):
+    """An end of a STREAM connection (RFC 0029): it makes the Prepares that carry its streams' bytes and money, and answers those
+    of its peer. It does no I/O and knows no clock: times are milliseconds after 1970-01-01 00:00 UTC.
+
+    >>> import os, time
+    >>> now = int(time.time() * 1000)
+    >>> secret = os.urandom(32)
+    >>> client = End(Role.CLIENT, secret, "example.alice", "example.bob")
+    >>> server = End(Role.SERVER, secret, "example.bob", "example.alice")
+    >>> stream = client.open_stream()
+    >>> client.write(stream, b"hi")
+    >>> client.offer(stream, 10)
+    >>> client.close(stream)
+    >>> server.set_receive_max(stream, 10)
+    >>> while prepare := client.send(os.urandom(12), now):
+    ...     answer = server.receive(prepare.bytes, now)
+    ...     fits = client.answer(prepare.flight, answer.bytes)
+    >>> server.read(stream), server.read(stream)
+    (b'hi', None)
+    >>> client.totals().paid, server.totals().credited
+    (10, 10)
+    """
+
+    def __init__(
+        self,
+        role: Role,
+        secret: Buffer,
+        own: str,
+        peer: str,
+        *,
+        in_flight: int = 16,
+        packets: int = (1 << 31) - 1,
+        packet_limit: int = (1 << 63) - 1,
+        least: tuple[int, int] = (1, 1),
+    ) -> None:
+        """An end whose ILP address is `own` and whose peer's is `peer`. Both share the secret of 32 bytes. `in_flight` Prepares
+        may wait for their answer at once, 1 to 64; `packets` are sent in all, 1 to 2^31 - 1, with at first at most
+        `packet_limit` units each, 1 to 2^63 - 1. Of a packet at least its amount times `least`, as a numerator and a
+        denominator, has to arrive."""
+        super().__init__()
+        config = _declared.Config(
+            number(in_flight, 64, "in_flight"),
+            number(packets, 64, "packets"),
+            number(packet_limit, 64, "packet_limit"),
+            number(least[0], 32, "the numerator"),
+            number(least[1], 32, "the denominator"),
+        )
+        names = [name.encode() for name in (own, peer)]
+        done(
+            lib.ilp_end_new(
+                self._at(),
+                role,
+                fixed(secret, 32, "the secret"),
+                names[0],
+                len(names[0]),
+                names[1],
+                len(names[1]),
+                byref(config),
+            )
+        )
+
+    @alone
+    def open_stream(self) -> int:
+        """Opens the next of this end's own streams, of which there are 32, and gives its number."""
+        stream = c_uint32()
+        done(lib.ilp_end_open_stream(self._at(), byref(stream)))
+        return stream.value
+
+    @alone
+    def write(self, stream: int, data: Buffer) -> None:
+        """Takes bytes that are to be sent: all, or none where it raises. `Code.FULL`: more than 262,144 of the stream would
+        wait for an acknowledgement."""
+        data = bytes(data)
+        done(lib.ilp_end_write(self._at(), number(stream, 32, "the stream"), data, len(data)))
+
+    @alone
+    def close(self, stream: int) -> None:
+        """Closes a stream once all that was written and offered is delivered."""
+        done(lib.ilp_end_close(self._at(), number(stream, 32, "the stream")))
+
+    @alone
+    def abort(self, stream: int, code: int) -> None:
+        """Aborts a stream with a code of RFC 0029, section 5.4, other than 1."""
+        done(lib.ilp_end_abort(self._at(), number(stream, 32, "the stream"), number(code, 32, "the code")))
+
+    @alone
+    def offer(self, stream: int, amount: int) -> None:
+        """Offers units on a stream, beside what was offered before."""
+        done(lib.ilp_end_offer(self._at(), number(stream, 32, "the stream"), number(amount, 64, "the amount")))
+
+    @alone
+    def set_receive_max(self, stream: int, amount: int) -> None:
+        """Lets a stream receive up to an amount in all, which is 0 at the start and is never lowered."""
+        stream, amount = number(stream, 32, "the stream"), number(amount, 64, "the amount")
+        done(lib.ilp_end_set_receive_max(self._at(), stream, amount))
+
+    @alone
+    def read(self, stream: int, most: int = 65536) -> bytes | None:
+        """The next bytes of a stream, at most so many; b"" where there are none yet; None where all were read, and the peer
+        closed the stream. Raises `Aborted` where the peer aborted it."""
+        length, code = c_size_t(), c_uint64()
+        most = number(most, 64, "the most")
+        answer = lib.ilp_end_read(self._at(), number(stream, 32, "the stream"), most, byref(length), byref(code))
+        if answer == Code.DONE:
+            return self._output(length.value)
+        if answer == Code.IDLE:
+            return b""
+        if answer == Code.ENDED:
+            return None
+        if answer == Code.ABORTED:
+            raise Aborted(code.value)
+        raise IlpError(answer)
+
+    @alone
+    def send(self, iv: Buffer, now: int) -> Outgoing | None:
+        """The next Prepare, or None where nothing is to be sent now. No two packets of a connection, of either end, may have the
+        same IV of 12 bytes: take each from `os.urandom(12)`."""
+        flight, length = c_uint64(), c_size_t()
+        iv = fixed(iv, 12, "the IV")
+        answer = lib.ilp_end_send(self._at(), iv, moment(now), byref(flight), byref(length))
+        if answer == Code.IDLE:
+            return None
+        done(answer)
+        return Outgoing(flight.value, self._output(length.value))
+
+    @alone
+    def answer(self, flight: int, data: Buffer) -> bool:
+        """Whether the bytes that came back to a flight are a Fulfill that fits. Raises `Code.UNKNOWN` where it is not open."""
+        fulfilled = c_uint32()
+        copy = (c_uint8 * len(data)).from_buffer_copy(data)
+        flight = number(flight, 64, "the flight")
+        done(lib.ilp_end_answer(self._at(), flight, copy, len(data), byref(fulfilled)))
+        return fulfilled.value == 1
+
+    @alone
+    def fault(self, flight: int) -> None:
+        """No answer came to a flight, and none is waited for: what it carries is sent again."""
+        done(lib.ilp_end_fault(self._at(), number(flight, 64, "the flight")))
+
+    @alone
+    def receive(self, data: Buffer, now: int) -> Received:
+        """What answers a Prepare of the peer. Where it raises `Code.NO_MEMORY`, answer with `t00()`, and the peer sends again."""
+        received = _declared.Received()
+        data = bytes(data)
+        done(lib.ilp_end_receive(self._at(), data, len(data), moment(now), byref(received)))
+        sequence = received.sequence if received.opened else None
+        return Received(self._output(received.len), received.reason, received.amount, sequence)
+
+    @alone
+    def t00(self) -> bytes:
+        """A Reject T00 that is kept ready, for use where memory is refused."""
+        return self._text("ilp_end_t00")
+
+    @alone
+    def totals(self) -> Totals:
+        """What this end did so far."""
+        totals = _declared.Totals()
+        done(lib.ilp_end_totals(self._at(), byref(totals)))
+        return Totals(totals.accepted, totals.delivered, totals.credited, totals.paid)
+
+    @alone
+    def has_stream(self, stream: int) -> bool:
+        """Whether a stream is open at this end."""
+        return self._answered("ilp_end_has_stream", number(stream, 32, "the stream"))
+
+    @alone
+    def settled(self, stream: int) -> bool:
+        """Whether this end's own close of a stream was fulfilled."""
+        return self._answered("ilp_end_settled", number(stream, 32, "the stream"))
+
+    @alone
+    def is_failed(self) -> bool:
+        """Whether the connection failed: 200 Prepares in a row without a Fulfill, or a final Reject code."""
+        return self._answered("ilp_end_is_failed")

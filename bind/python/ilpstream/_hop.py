@@ -1,0 +1,139 @@
+"""A hop: the connector between a sender and a receiver."""
+
+from __future__ import annotations
+
+from collections.abc import Sequence
+from ctypes import byref, c_size_t
+from dataclasses import dataclass
+
+from . import _declared
+from ._object import Buffer, Code, IlpError, Object, alone, done, lib, moment, number
+
+
+@dataclass(frozen=True)
+class Account:
+    """A neighbour's terms: how much it may owe the hop beyond what the hop owes it, at most 2^63 - 1 units, and the greatest
+    amount of one Prepare from it."""
+
+    limit: int
+    max_packet: int
+
+
+@dataclass(frozen=True)
+class Route:
+    """Where the Prepares go whose destination has a prefix; where several routes fit, that of the longest prefix counts. The
+    amount that is sent on is that which arrived times `num` / `den`, rounded down."""
+
+    prefix: str
+    account: int
+    num: int = 1
+    den: int = 1
+
+
+@dataclass(frozen=True)
+class Answer:
+    """This Reject is to be sent back."""
+
+    bytes: bytes
+
+
+@dataclass(frozen=True)
+class Forward:
+    """This Prepare is to be sent on to an account. Its answer is reported once, by the number of the ticket."""
+
+    ticket: int
+    account: int
+    bytes: bytes
+
+
+@dataclass(frozen=True)
+class Balances:
+    """What an account owes the hop, what the hop owes it, and what is held against it, in units of its link."""
+
+    claims: int
+    dues: int
+    held: int
+
+
+class Hop(Object):
+    """A hop (RFC 0027): it sends Prepares on by its routes, holds their amounts against the accounts that they came from, and
+    books those that are fulfilled in time. It does no I/O and knows no clock.
+
+    >>> terms = Account(limit=1000, max_packet=500)
+    >>> with Hop("example.hub", [terms, terms], [Route("example.bob", 1)]) as hop:
+    ...     reject = hop.arrive(0, b"no Prepare", 0)
+    ...     hop.balances(0)
+    Balances(claims=0, dues=0, held=0)
+    >>> reject.bytes[0]  # the type of a Reject
+    14
+    """
+
+    def __init__(self, own: str, accounts: Sequence[Account], routes: Sequence[Route]) -> None:
+        """A hop with its own ILP address, its accounts, numbered from 0, and its routes. Nothing is owed yet."""
+        super().__init__()
+        prefixes = [route.prefix.encode() for route in routes]
+        text = b"".join(prefixes)
+        terms = (_declared.Account * len(accounts))(
+            *((number(it.limit, 64, "a limit"), number(it.max_packet, 64, "a greatest amount")) for it in accounts)
+        )
+        table = (_declared.Route * len(routes))(
+            *(
+                (
+                    len(prefix),
+                    number(route.account, 64, "an account"),
+                    number(route.num, 32, "a rate"),
+                    number(route.den, 32, "a rate"),
+                )
+                for prefix, route in zip(prefixes, routes)
+            )
+        )
+        name = own.encode()
+        done(
+            lib.ilp_hop_new(self._at(), name, len(name), terms, len(terms), text, len(text), table, len(table))
+        )
+
+    @alone
+    def arrive(self, account: int, data: Buffer, now: int) -> Answer | Forward:
+        """What becomes of a Prepare that came from an account at the time `now`. Where it is sent on, its amount is held until
+        the ticket is settled. Where it raises `Code.HOP_NO_MEMORY`, answer with `t00()`, and the sender sends again."""
+        arrived = _declared.Arrived()
+        data, account = bytes(data), number(account, 64, "the account")
+        answer = lib.ilp_hop_arrive(self._at(), account, data, len(data), moment(now), byref(arrived))
+        if answer == Code.DONE:
+            return Answer(self._output(arrived.len))
+        if answer == Code.ONWARD:
+            return Forward(arrived.ticket, arrived.account, self._output(arrived.len))
+        raise IlpError(answer)
+
+    @alone
+    def settle(self, ticket: int, data: Buffer, now: int) -> bytes:
+        """Settles a ticket by the bytes that came back, and gives those that are to be sent back. A Fulfill that fits and came
+        in time is booked; all else becomes a Reject. Raises `Code.UNKNOWN` where the ticket is not open."""
+        length = c_size_t()
+        data, ticket = bytes(data), number(ticket, 64, "the ticket")
+        done(lib.ilp_hop_settle(self._at(), ticket, data, len(data), moment(now), byref(length)))
+        return self._output(length.value)
+
+    @alone
+    def fault(self, ticket: int) -> bytes:
+        """The same where no answer came, and none is waited for: a Reject T01."""
+        length = c_size_t()
+        done(lib.ilp_hop_fault(self._at(), number(ticket, 64, "the ticket"), byref(length)))
+        return self._output(length.value)
+
+    @alone
+    def abandon(self, ticket: int) -> None:
+        """Gives up a ticket without an answer. The amount stays held."""
+        done(lib.ilp_hop_abandon(self._at(), number(ticket, 64, "the ticket")))
+
+    @alone
+    def t00(self) -> bytes:
+        """A Reject T00 that is kept ready, for use where memory is refused."""
+        return self._text("ilp_hop_t00")
+
+    @alone
+    def balances(self, account: int) -> Balances:
+        """What stands between the hop and an account."""
+        balances = _declared.Balances()
+        done(lib.ilp_hop_balances(self._at(), number(account, 64, "the account"), byref(balances)))
+        return Balances(balances.claims, balances.dues, balances.held)

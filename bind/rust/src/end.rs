@@ -1,0 +1,294 @@
+//! An end of a STREAM connection.
+
+use crate::error::{ABORTED, DONE, ENDED, Error, IDLE, done};
+use crate::output::{answered, output, text};
+use crate::raw::{self, Handle};
+
+/// Which side of a connection an end is.
+#[derive(Clone, Copy, Debug, PartialEq, Eq)]
+pub enum Role {
+    /// Its own streams are odd: 1, 3, ..
+    Client,
+    /// Its own streams are even: 2, 4, ..
+    Server,
+}
+
+/// How an end sends.
+#[repr(C)]
+#[derive(Clone, Copy, Debug, PartialEq, Eq)]
+pub struct EndConfig {
+    /// How many Prepares may wait for their answer at once, 1 to 64.
+    pub in_flight: usize,
+    /// How many Prepares it sends in all, 1 to 2^31 - 1.
+    pub packets: u64,
+    /// The greatest amount of one Prepare at the start, 1 to 2^63 - 1.
+    pub packet_limit: u64,
+    /// The least that has to arrive of a packet is its amount times `least_num` / `least_den`, rounded down (RFC 0029,
+    /// section 5.2).
+    pub least_num: u32,
+    /// Not 0.
+    pub least_den: u32,
+}
+
+impl Default for EndConfig {
+    /// 16 Prepares at once, as many and as large as can be, of which all that was sent has to arrive.
+    fn default() -> EndConfig {
+        EndConfig {
+            in_flight: 16,
+            packets: (1 << 31) - 1,
+            packet_limit: (1 << 63) - 1,
+            least_num: 1,
+            least_den: 1,
+        }
+    }
+}
+
+/// What an end did so far. None of these falls.
+#[repr(C)]
+#[derive(Clone, Copy, Debug, Default, PartialEq, Eq)]
+pub struct Totals {
+    /// How many bytes were written at this end.
+    pub accepted: u64,
+    /// How many bytes it gave to its reader.
+    pub delivered: u64,
+    /// How many units it received.
+    pub credited: u64,
+    /// How many of its own units were fulfilled.
+    pub paid: u64,
+}
+
+/// The number of a Prepare that an end sent. Its answer is reported once.
+#[derive(Clone, Copy, Debug, PartialEq, Eq, Hash)]
+pub struct Flight(u64);
+
+impl Flight {
+    /// The sequence of its STREAM packet.
+    pub fn sequence(self) -> u64 {
+        self.0
+    }
+}
+
+/// A Prepare that is to be sent to the peer.
+#[derive(Clone, Debug, PartialEq, Eq)]
+pub struct Outgoing {
+    /// By which its answer is reported.
+    pub flight: Flight,
+    /// The ILP Prepare.
+    pub bytes: Vec<u8>,
+}
+
+/// What a read gives.
+#[derive(Clone, Debug, PartialEq, Eq)]
+pub enum Read {
+    /// The next bytes of the stream, at least one.
+    Bytes(Vec<u8>),
+    /// There are none yet.
+    Nothing,
+    /// All were read, and the peer closed the stream.
+    End,
+    /// The peer aborted the stream with this code.
+    Aborted(u64),
+}
+
+/// What an end did with a Prepare.
+#[derive(Clone, Debug, PartialEq, Eq)]
+pub struct Received {
+    /// The Fulfill or Reject that is to be sent back.
+    pub bytes: Vec<u8>,
+    /// 0 for a Fulfill, and else why it is a Reject (docs/ERRORS.md, "Of an end").
+    pub reason: u32,
+    /// The amount of the Prepare, 0 where it cannot be read.
+    pub amount: u64,
+    /// The number of its STREAM packet, where that could be decrypted and read.
+    pub sequence: Option<u64>,
+}
+
+/// An end of a STREAM connection (RFC 0029): it makes the Prepares that carry its streams' bytes and money, and answers those
+/// of its peer. It does no I/O and knows no clock.
+///
+/// ```
+/// use ilpstream::{End, EndConfig, Ivs, Read, Role, now};
+///
+/// # fn main() -> Result<(), Box<dyn std::error::Error>> {
+/// let secret = [7; 32]; // of random bytes, in earnest
+/// let config = EndConfig::default();
+/// let mut client = End::new(Role::Client, &secret, "example.alice", "example.bob", config)?;
+/// let mut server = End::new(Role::Server, &secret, "example.bob", "example.alice", config)?;
+/// let mut ivs = Ivs::new()?;
+///
+/// let stream = client.open_stream()?;
+/// client.write(stream, b"hi")?;
+/// client.offer(stream, 10)?;
+/// client.close(stream)?;
+/// server.set_receive_max(stream, 10)?;
+/// while let Some(prepare) = client.send(&ivs.next()?, now())? {
+///     let mut answer = server.receive(&prepare.bytes, now())?.bytes;
+///     client.answer(prepare.flight, &mut answer)?;
+/// }
+/// assert_eq!(server.read(stream, 100)?, Read::Bytes(b"hi".to_vec()));
+/// assert_eq!(server.read(stream, 100)?, Read::End);
+/// assert_eq!(client.totals()?.paid, 10);
+/// # Ok(())
+/// # }
+/// ```
+pub struct End {
+    handle: Handle,
+}
+
+impl End {
+    /// An end whose own ILP address is `own` and whose peer's is `peer`. Both ends share the secret. [`Error::Argument`] where
+    /// one is no ILP address (RFC 0015) or a number of `config` is out of its range; [`Error::OutOfMemory`].
+    pub fn new(
+        role: Role,
+        secret: &[u8; 32],
+        own: &str,
+        peer: &str,
+        config: EndConfig,
+    ) -> Result<End, Error> {
+        let mut handle = Handle::empty();
+        done(raw::end_new(
+            &mut handle,
+            role as u32,
+            secret,
+            own,
+            peer,
+            &config,
+        ))?;
+        Ok(End { handle })
+    }
+
+    /// Opens the next of this end's own streams. [`Error::NoStream`] where all 32 are used; [`Error::Closed`],
+    /// [`Error::ConnectionFailed`], [`Error::OutOfMemory`].
+    pub fn open_stream(&mut self) -> Result<u8, Error> {
+        let mut stream = 0;
+        done(raw::ilp_end_open_stream(&mut self.handle, &mut stream))?;
+        u8::try_from(stream).map_err(|_| Error::Argument)
+    }
+
+    /// Takes bytes that are to be sent on a stream: all of them, or none where it is refused. [`Error::NoStream`],
+    /// [`Error::Closed`], [`Error::Full`], [`Error::ConnectionFailed`], [`Error::OutOfMemory`].
+    pub fn write(&mut self, stream: u8, bytes: &[u8]) -> Result<(), Error> {
+        done(raw::end_write(&mut self.handle, stream.into(), bytes))
+    }
+
+    /// Closes a stream once all that was written and offered is delivered. [`Error::NoStream`], [`Error::Closed`],
+    /// [`Error::ConnectionFailed`].
+    pub fn close(&mut self, stream: u8) -> Result<(), Error> {
+        done(raw::ilp_end_close(&mut self.handle, stream.into()))
+    }
+
+    /// Aborts a stream with a code of RFC 0029, section 5.4. [`Error::Argument`] for 1, which is that of a clean close;
+    /// [`Error::NoStream`], [`Error::Closed`], [`Error::ConnectionFailed`].
+    pub fn abort(&mut self, stream: u8, code: u8) -> Result<(), Error> {
+        done(raw::ilp_end_abort(
+            &mut self.handle,
+            stream.into(),
+            code.into(),
+        ))
+    }
+
+    /// Offers units on a stream, beside what was offered before. [`Error::NoStream`], [`Error::Closed`],
+    /// [`Error::AmountTooLarge`], [`Error::ConnectionFailed`].
+    pub fn offer(&mut self, stream: u8, amount: u64) -> Result<(), Error> {
+        done(raw::ilp_end_offer(&mut self.handle, stream.into(), amount))
+    }
+
+    /// Lets a stream receive up to an amount in all, which is 0 at the start and is never lowered. [`Error::NoStream`],
+    /// [`Error::Closed`], [`Error::ConnectionFailed`].
+    pub fn set_receive_max(&mut self, stream: u8, amount: u64) -> Result<(), Error> {
+        done(raw::ilp_end_set_receive_max(
+            &mut self.handle,
+            stream.into(),
+            amount,
+        ))
+    }
+
+    /// The next bytes of a stream, at most `max`, which is not 0. [`Error::NoStream`], [`Error::OutOfMemory`].
+    pub fn read(&mut self, stream: u8, max: usize) -> Result<Read, Error> {
+        let (mut len, mut code) = (0, 0);
+        match raw::ilp_end_read(&mut self.handle, stream.into(), max, &mut len, &mut code) {
+            DONE => Ok(Read::Bytes(output(&mut self.handle, len)?)),
+            IDLE => Ok(Read::Nothing),
+            ENDED => Ok(Read::End),
+            ABORTED => Ok(Read::Aborted(code)),
+            number => Err(Error::of(number)),
+        }
+    }
+
+    /// The next Prepare, or None where nothing is to be sent now. No two packets of a connection, of either end, may have the
+    /// same IV: take each from [`Ivs`](crate::Ivs). `now` is in milliseconds after 1970-01-01 00:00 UTC; the Prepare expires
+    /// some seconds later. [`Error::OutOfMemory`].
+    pub fn send(&mut self, iv: &[u8; 12], now: i64) -> Result<Option<Outgoing>, Error> {
+        let (mut flight, mut len) = (0, 0);
+        match raw::ilp_end_send(&mut self.handle, iv, now, &mut flight, &mut len) {
+            DONE => Ok(Some(Outgoing {
+                flight: Flight(flight),
+                bytes: output(&mut self.handle, len)?,
+            })),
+            IDLE => Ok(None),
+            number => Err(Error::of(number)),
+        }
+    }
+
+    /// Whether the bytes that came back are a Fulfill that fits. They are decrypted where they lie. [`Error::Unknown`] where
+    /// the flight is not open.
+    pub fn answer(&mut self, flight: Flight, bytes: &mut [u8]) -> Result<bool, Error> {
+        let mut fulfilled = 0;
+        done(raw::end_answer(
+            &mut self.handle,
+            flight.0,
+            bytes,
+            &mut fulfilled,
+        ))?;
+        Ok(fulfilled == 1)
+    }
+
+    /// No answer came to a flight, and none is waited for: what it carries is sent again. [`Error::Unknown`].
+    pub fn fault(&mut self, flight: Flight) -> Result<(), Error> {
+        done(raw::ilp_end_fault(&mut self.handle, flight.0))
+    }
+
+    /// What answers a Prepare of the peer. [`Error::OutOfMemory`]: answer it with [`End::t00`], and the peer sends again.
+    pub fn receive(&mut self, bytes: &[u8], now: i64) -> Result<Received, Error> {
+        let mut received = raw::Received::default();
+        done(raw::end_receive(
+            &mut self.handle,
+            bytes,
+            now,
+            &mut received,
+        ))?;
+        Ok(Received {
+            bytes: output(&mut self.handle, received.len)?,
+            reason: received.reason,
+            amount: received.amount,
+            sequence: (received.opened == 1).then_some(received.sequence),
+        })
+    }
+
+    /// A Reject T00 that is kept ready, for use where memory is refused.
+    pub fn t00(&mut self) -> Result<Vec<u8>, Error> {
+        text(|out, len| raw::end_t00(&mut self.handle, out, len))
+    }
+
+    /// What this end did so far.
+    pub fn totals(&mut self) -> Result<Totals, Error> {
+        let mut totals = Totals::default();
+        done(raw::ilp_end_totals(&mut self.handle, &mut totals))?;
+        Ok(totals)
+    }
+
+    /// Whether a stream is open at this end.
+    pub fn has_stream(&mut self, stream: u8) -> Result<bool, Error> {
+        answered(|answer| raw::ilp_end_has_stream(&mut self.handle, stream.into(), answer))
+    }
+
+    /// Whether this end's own close of a stream was fulfilled.
+    pub fn settled(&mut self, stream: u8) -> Result<bool, Error> {
+        answered(|answer| raw::ilp_end_settled(&mut self.handle, stream.into(), answer))
+    }
+
+    /// Whether the connection failed: 200 Prepares in a row without a Fulfill, or a final Reject code.
+    pub fn is_failed(&mut self) -> Result<bool, Error> {
+        answered(|answer| raw::ilp_end_is_failed(&mut self.handle, answer))
+    }
+}

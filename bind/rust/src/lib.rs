@@ -1,0 +1,42 @@
+//! Interledger STREAM (RFC 0029) and the connector between its ends (RFC 0027), proved in Rattle, as safe types.
+//!
+//! - [`End`] is one side of a connection: it sends and receives bytes and money on streams.
+//! - [`Hop`] is a connector: it sends Prepares on, and keeps what each neighbour owes.
+//! - [`Keys`], [`Prepare`] and [`Answer`] are what their packets are made of.
+//! - [`Request`] and [`Response`] read ILP over HTTP (RFC 0035), and [`request_text`] and its like write it.
+//! - [`Ivs`] reads what a call needs of random bytes, and [`now`] the time.
+//!
+//! There is no I/O in an end or a hop, no clock and no thread: bytes, times and IVs are arguments. Each is `Send`: it may be passed
+//! to another thread, and put behind a lock. Each call that is refused
+//! changes nothing, and says why by an [`Error`], whose number is that of the library's documents. The functions behind the
+//! calls were proved to meet their contracts for all arguments; this crate's own code is ordinary Rust, and was not.
+//!
+//! Memory is taken by the C library's `malloc`. Where there is none, a call is refused: [`Error::OutOfMemory`] or
+//! [`Error::HopOutOfMemory`]. The bytes that a call gives are a `Vec`, for which the program aborts where there is no memory, as
+//! everywhere in Rust.
+//!
+//! The archive is linked from `bind/out` of the repository, which `bind/build` makes, or from the folder that the environment
+//! variable `ILPSTREAM_OUT` names.
+
+#![deny(unsafe_code, missing_docs)]
+
+mod end;
+mod error;
+mod hop;
+mod http;
+mod ilp;
+mod ivs;
+mod keys;
+mod output;
+#[allow(unsafe_code)]
+mod raw;
+#[cfg(feature = "refusing")]
+pub mod refusing;
+
+pub use end::{End, EndConfig, Flight, Outgoing, Read, Received, Role, Totals};
+pub use error::Error;
+pub use hop::{Account, Balances, Hop, Route, Ticket, Verdict};
+pub use http::{Progress, Request, Response, answer_text, refusal_text, request_text};
+pub use ilp::{Answer, Prepare};
+pub use ivs::{Ivs, now};
+pub use keys::{Keys, condition};

@@ -1,0 +1,511 @@
+//! The calls of the archive, each as a safe function: this module alone has unsafe code.
+//!
+//! Why it is safe: a [`Handle`] begins empty, cannot be copied, and is freed when it is dropped. A reference is never null,
+//! and two `&mut` do not overlap. A slice crosses as its own pointer and length. The archive refuses every number that is out
+//! of its range, and keeps no pointer that it was passed. The declarations below are compared with the archive's sources, and
+//! with the header for C, by tests/bindings.py.
+
+mod heap;
+
+use crate::end::{EndConfig, Totals};
+use crate::hop::{Account, Balances};
+use std::ffi::c_void;
+use std::ptr::null_mut;
+
+/// What the archive keeps of an object: nothing, or its address.
+#[repr(C)]
+pub(crate) struct Handle {
+    inner: *mut c_void,
+}
+
+impl Handle {
+    /// The handle of nothing.
+    pub(crate) fn empty() -> Handle {
+        Handle { inner: null_mut() }
+    }
+}
+
+// SAFETY: an object may be passed to another thread: that is proved of it. One call at a time is made, by `&mut`.
+unsafe impl Send for Handle {}
+
+impl Drop for Handle {
+    fn drop(&mut self) {
+        ilp_free(self);
+    }
+}
+
+/// What an end did with a Prepare.
+#[repr(C)]
+#[derive(Clone, Copy, Default)]
+pub(crate) struct Received {
+    pub len: usize,
+    pub amount: u64,
+    pub sequence: u64,
+    pub reason: u32,
+    pub opened: u32,
+}
+
+/// What a hop did with a Prepare.
+#[repr(C)]
+#[derive(Clone, Copy, Default)]
+pub(crate) struct Arrived {
+    pub len: usize,
+    pub account: usize,
+    pub ticket: u64,
+}
+
+/// A route, whose prefix is the next part of a text that all routes share.
+#[repr(C)]
+#[derive(Clone, Copy)]
+pub(crate) struct Route {
+    pub prefix_len: usize,
+    pub account: usize,
+    pub num: u32,
+    pub den: u32,
+}
+
+/// A Prepare that was read: where its parts begin, and how many bytes they have.
+#[repr(C)]
+#[derive(Clone, Copy, Default)]
+pub(crate) struct Prepare {
+    pub amount: u64,
+    pub expiry: i64,
+    pub condition: [u8; 32],
+    pub destination_at: usize,
+    pub destination_len: usize,
+    pub payload_at: usize,
+    pub payload_len: usize,
+}
+
+/// A Fulfill or a Reject that was read.
+#[repr(C)]
+#[derive(Clone, Copy, Default)]
+pub(crate) struct Answer {
+    pub kind: u32,
+    pub fulfillment: [u8; 32],
+    pub code: [u8; 3],
+    pub by_at: usize,
+    pub by_len: usize,
+    pub message_at: usize,
+    pub message_len: usize,
+    pub payload_at: usize,
+    pub payload_len: usize,
+}
+
+/// What the bytes of a message are so far.
+#[repr(C)]
+#[derive(Clone, Copy, Default)]
+pub(crate) struct Reading {
+    pub wants: usize,
+    pub taken: usize,
+    pub account: usize,
+    pub body_len: usize,
+    pub status: u32,
+}
+
+unsafe extern "C" {
+    safe fn ilp_free(handle: &mut Handle);
+    fn ilp_output(handle: &mut Handle, out: *mut u8, room: usize, len: &mut usize) -> u32;
+
+    fn ilp_end_new(
+        end: &mut Handle,
+        role: u32,
+        secret: &[u8; 32],
+        own: *const u8,
+        own_len: usize,
+        peer: *const u8,
+        peer_len: usize,
+        config: &EndConfig,
+    ) -> u32;
+    pub(crate) safe fn ilp_end_open_stream(end: &mut Handle, stream: &mut u32) -> u32;
+    fn ilp_end_write(end: &mut Handle, stream: u32, bytes: *const u8, len: usize) -> u32;
+    pub(crate) safe fn ilp_end_close(end: &mut Handle, stream: u32) -> u32;
+    pub(crate) safe fn ilp_end_abort(end: &mut Handle, stream: u32, code: u32) -> u32;
+    pub(crate) safe fn ilp_end_offer(end: &mut Handle, stream: u32, amount: u64) -> u32;
+    pub(crate) safe fn ilp_end_set_receive_max(end: &mut Handle, stream: u32, amount: u64) -> u32;
+    pub(crate) safe fn ilp_end_read(
+        end: &mut Handle,
+        stream: u32,
+        max: usize,
+        len: &mut usize,
+        code: &mut u64,
+    ) -> u32;
+    pub(crate) safe fn ilp_end_send(
+        end: &mut Handle,
+        iv: &[u8; 12],
+        now: i64,
+        flight: &mut u64,
+        len: &mut usize,
+    ) -> u32;
+    fn ilp_end_answer(
+        end: &mut Handle,
+        flight: u64,
+        bytes: *mut u8,
+        len: usize,
+        fulfilled: &mut u32,
+    ) -> u32;
+    pub(crate) safe fn ilp_end_fault(end: &mut Handle, flight: u64) -> u32;
+    fn ilp_end_receive(
+        end: &mut Handle,
+        bytes: *const u8,
+        len: usize,
+        now: i64,
+        received: &mut Received,
+    ) -> u32;
+    fn ilp_end_t00(end: &mut Handle, out: *mut u8, room: usize, len: &mut usize) -> u32;
+    pub(crate) safe fn ilp_end_totals(end: &mut Handle, totals: &mut Totals) -> u32;
+    pub(crate) safe fn ilp_end_has_stream(end: &mut Handle, stream: u32, answer: &mut u32) -> u32;
+    pub(crate) safe fn ilp_end_settled(end: &mut Handle, stream: u32, answer: &mut u32) -> u32;
+    pub(crate) safe fn ilp_end_is_failed(end: &mut Handle, answer: &mut u32) -> u32;
+
+    fn ilp_hop_new(
+        hop: &mut Handle,
+        own: *const u8,
+        own_len: usize,
+        accounts: *const Account,
+        accounts_len: usize,
+        prefixes: *const u8,
+        prefixes_len: usize,
+        routes: *const Route,
+        routes_len: usize,
+    ) -> u32;
+    fn ilp_hop_arrive(
+        hop: &mut Handle,
+        account: usize,
+        bytes: *const u8,
+        len: usize,
+        now: i64,
+        arrived: &mut Arrived,
+    ) -> u32;
+    fn ilp_hop_settle(
+        hop: &mut Handle,
+        ticket: u64,
+        bytes: *const u8,
+        len: usize,
+        now: i64,
+        answer_len: &mut usize,
+    ) -> u32;
+    pub(crate) safe fn ilp_hop_fault(hop: &mut Handle, ticket: u64, answer_len: &mut usize) -> u32;
+    pub(crate) safe fn ilp_hop_abandon(hop: &mut Handle, ticket: u64) -> u32;
+    fn ilp_hop_t00(hop: &mut Handle, out: *mut u8, room: usize, len: &mut usize) -> u32;
+    pub(crate) safe fn ilp_hop_balances(
+        hop: &mut Handle,
+        account: usize,
+        balances: &mut Balances,
+    ) -> u32;
+
+    pub(crate) safe fn ilp_keys_new(keys: &mut Handle, secret: &[u8; 32]) -> u32;
+    fn ilp_keys_seal(
+        keys: &mut Handle,
+        iv: &[u8; 12],
+        text: *const u8,
+        len: usize,
+        payload_len: &mut usize,
+    ) -> u32;
+    fn ilp_keys_open(
+        keys: &mut Handle,
+        payload: *const u8,
+        len: usize,
+        text_len: &mut usize,
+    ) -> u32;
+    fn ilp_keys_fulfillment(
+        keys: &mut Handle,
+        payload: *const u8,
+        len: usize,
+        fulfillment: &mut [u8; 32],
+    ) -> u32;
+    pub(crate) safe fn ilp_condition(fulfillment: &[u8; 32], condition: &mut [u8; 32]);
+
+    fn ilp_prepare_read(bytes: *const u8, len: usize, prepare: &mut Prepare) -> u32;
+    fn ilp_answer_read(bytes: *const u8, len: usize, answer: &mut Answer) -> u32;
+    fn ilp_prepare_write(
+        amount: u64,
+        expiry: i64,
+        condition: &[u8; 32],
+        destination: *const u8,
+        destination_len: usize,
+        payload: *const u8,
+        payload_len: usize,
+        out: *mut u8,
+        room: usize,
+        len: &mut usize,
+    ) -> u32;
+    fn ilp_fulfill_write(
+        fulfillment: &[u8; 32],
+        payload: *const u8,
+        payload_len: usize,
+        out: *mut u8,
+        room: usize,
+        len: &mut usize,
+    ) -> u32;
+    fn ilp_reject_write(
+        code: &[u8; 3],
+        by: *const u8,
+        by_len: usize,
+        message: *const u8,
+        message_len: usize,
+        payload: *const u8,
+        payload_len: usize,
+        out: *mut u8,
+        room: usize,
+        len: &mut usize,
+    ) -> u32;
+
+    fn ilp_request_new(
+        request: &mut Handle,
+        tokens: *const u8,
+        tokens_len: usize,
+        lengths: *const usize,
+        lengths_len: usize,
+    ) -> u32;
+    pub(crate) safe fn ilp_response_new(response: &mut Handle) -> u32;
+    fn ilp_message_feed(
+        message: &mut Handle,
+        bytes: *const u8,
+        len: usize,
+        reading: &mut Reading,
+    ) -> u32;
+    fn ilp_request_text(
+        host: *const u8,
+        host_len: usize,
+        token: *const u8,
+        token_len: usize,
+        body: *const u8,
+        body_len: usize,
+        out: *mut u8,
+        room: usize,
+        len: &mut usize,
+    ) -> u32;
+    fn ilp_answer_text(
+        body: *const u8,
+        body_len: usize,
+        out: *mut u8,
+        room: usize,
+        len: &mut usize,
+    ) -> u32;
+    fn ilp_refusal_text(status: u32, out: *mut u8, room: usize, len: &mut usize) -> u32;
+}
+
+// SAFETY of each call below: each pointer and the length behind it are those of one slice.
+
+pub(crate) fn output(handle: &mut Handle, out: &mut [u8], len: &mut usize) -> u32 {
+    unsafe { ilp_output(handle, out.as_mut_ptr(), out.len(), len) }
+}
+
+pub(crate) fn end_new(
+    end: &mut Handle,
+    role: u32,
+    secret: &[u8; 32],
+    own: &str,
+    peer: &str,
+    config: &EndConfig,
+) -> u32 {
+    let (own_at, peer_at) = (own.as_ptr(), peer.as_ptr());
+    unsafe {
+        ilp_end_new(
+            end,
+            role,
+            secret,
+            own_at,
+            own.len(),
+            peer_at,
+            peer.len(),
+            config,
+        )
+    }
+}
+
+pub(crate) fn end_write(end: &mut Handle, stream: u32, bytes: &[u8]) -> u32 {
+    unsafe { ilp_end_write(end, stream, bytes.as_ptr(), bytes.len()) }
+}
+
+pub(crate) fn end_answer(
+    end: &mut Handle,
+    flight: u64,
+    bytes: &mut [u8],
+    fulfilled: &mut u32,
+) -> u32 {
+    unsafe { ilp_end_answer(end, flight, bytes.as_mut_ptr(), bytes.len(), fulfilled) }
+}
+
+pub(crate) fn end_receive(
+    end: &mut Handle,
+    bytes: &[u8],
+    now: i64,
+    received: &mut Received,
+) -> u32 {
+    unsafe { ilp_end_receive(end, bytes.as_ptr(), bytes.len(), now, received) }
+}
+
+pub(crate) fn end_t00(end: &mut Handle, out: &mut [u8], len: &mut usize) -> u32 {
+    unsafe { ilp_end_t00(end, out.as_mut_ptr(), out.len(), len) }
+}
+
+pub(crate) fn hop_new(
+    hop: &mut Handle,
+    own: &str,
+    accounts: &[Account],
+    prefixes: &str,
+    routes: &[Route],
+) -> u32 {
+    unsafe {
+        ilp_hop_new(
+            hop,
+            own.as_ptr(),
+            own.len(),
+            accounts.as_ptr(),
+            accounts.len(),
+            prefixes.as_ptr(),
+            prefixes.len(),
+            routes.as_ptr(),
+            routes.len(),
+        )
+    }
+}
+
+pub(crate) fn hop_arrive(
+    hop: &mut Handle,
+    account: usize,
+    bytes: &[u8],
+    now: i64,
+    arrived: &mut Arrived,
+) -> u32 {
+    unsafe { ilp_hop_arrive(hop, account, bytes.as_ptr(), bytes.len(), now, arrived) }
+}
+
+pub(crate) fn hop_settle(
+    hop: &mut Handle,
+    ticket: u64,
+    bytes: &[u8],
+    now: i64,
+    answer_len: &mut usize,
+) -> u32 {
+    unsafe { ilp_hop_settle(hop, ticket, bytes.as_ptr(), bytes.len(), now, answer_len) }
+}
+
+pub(crate) fn hop_t00(hop: &mut Handle, out: &mut [u8], len: &mut usize) -> u32 {
+    unsafe { ilp_hop_t00(hop, out.as_mut_ptr(), out.len(), len) }
+}
+
+pub(crate) fn keys_seal(
+    keys: &mut Handle,
+    iv: &[u8; 12],
+    text: &[u8],
+    payload_len: &mut usize,
+) -> u32 {
+    unsafe { ilp_keys_seal(keys, iv, text.as_ptr(), text.len(), payload_len) }
+}
+
+pub(crate) fn keys_open(keys: &mut Handle, payload: &[u8], text_len: &mut usize) -> u32 {
+    unsafe { ilp_keys_open(keys, payload.as_ptr(), payload.len(), text_len) }
+}
+
+pub(crate) fn keys_fulfillment(
+    keys: &mut Handle,
+    payload: &[u8],
+    fulfillment: &mut [u8; 32],
+) -> u32 {
+    unsafe { ilp_keys_fulfillment(keys, payload.as_ptr(), payload.len(), fulfillment) }
+}
+
+pub(crate) fn prepare_read(bytes: &[u8], prepare: &mut Prepare) -> u32 {
+    unsafe { ilp_prepare_read(bytes.as_ptr(), bytes.len(), prepare) }
+}
+
+pub(crate) fn answer_read(bytes: &[u8], answer: &mut Answer) -> u32 {
+    unsafe { ilp_answer_read(bytes.as_ptr(), bytes.len(), answer) }
+}
+
+pub(crate) fn prepare_write(
+    prepare: &crate::ilp::Prepare<'_>,
+    out: &mut [u8],
+    len: &mut usize,
+) -> u32 {
+    unsafe {
+        ilp_prepare_write(
+            prepare.amount,
+            prepare.expiry,
+            &prepare.condition,
+            prepare.destination.as_ptr(),
+            prepare.destination.len(),
+            prepare.payload.as_ptr(),
+            prepare.payload.len(),
+            out.as_mut_ptr(),
+            out.len(),
+            len,
+        )
+    }
+}
+
+pub(crate) fn fulfill_write(
+    fulfillment: &[u8; 32],
+    payload: &[u8],
+    out: &mut [u8],
+    len: &mut usize,
+) -> u32 {
+    let (at, room) = (out.as_mut_ptr(), out.len());
+    unsafe { ilp_fulfill_write(fulfillment, payload.as_ptr(), payload.len(), at, room, len) }
+}
+
+pub(crate) fn reject_write(
+    code: &[u8; 3],
+    by: &str,
+    message: &str,
+    payload: &[u8],
+    out: &mut [u8],
+    len: &mut usize,
+) -> u32 {
+    unsafe {
+        ilp_reject_write(
+            code,
+            by.as_ptr(),
+            by.len(),
+            message.as_ptr(),
+            message.len(),
+            payload.as_ptr(),
+            payload.len(),
+            out.as_mut_ptr(),
+            out.len(),
+            len,
+        )
+    }
+}
+
+pub(crate) fn request_new(request: &mut Handle, tokens: &str, lengths: &[usize]) -> u32 {
+    let (at, len) = (lengths.as_ptr(), lengths.len());
+    unsafe { ilp_request_new(request, tokens.as_ptr(), tokens.len(), at, len) }
+}
+
+pub(crate) fn message_feed(message: &mut Handle, bytes: &[u8], reading: &mut Reading) -> u32 {
+    unsafe { ilp_message_feed(message, bytes.as_ptr(), bytes.len(), reading) }
+}
+
+pub(crate) fn request_text(
+    host: &str,
+    token: &str,
+    body: &[u8],
+    out: &mut [u8],
+    len: &mut usize,
+) -> u32 {
+    unsafe {
+        ilp_request_text(
+            host.as_ptr(),
+            host.len(),
+            token.as_ptr(),
+            token.len(),
+            body.as_ptr(),
+            body.len(),
+            out.as_mut_ptr(),
+            out.len(),
+            len,
+        )
+    }
+}
+
+pub(crate) fn answer_text(body: &[u8], out: &mut [u8], len: &mut usize) -> u32 {
+    unsafe { ilp_answer_text(body.as_ptr(), body.len(), out.as_mut_ptr(), out.len(), len) }
+}
+
+pub(crate) fn refusal_text(status: u32, out: &mut [u8], len: &mut usize) -> u32 {
+    unsafe { ilp_refusal_text(status, out.as_mut_ptr(), out.len(), len) }
+}

@@ -1,0 +1,47 @@
+//! For tests: the library's requests for memory, counted by thread, of which those that a test names are refused. The requests
+//! are those of this crate's archive alone; the program's own `Vec`s are no part of it.
+
+use std::cell::Cell;
+
+thread_local! {
+    static ASKED: Cell<u64> = const { Cell::new(0) };
+    static FIRST: Cell<u64> = const { Cell::new(u64::MAX) };
+    static LAST: Cell<u64> = const { Cell::new(0) };
+}
+
+pub(crate) fn admits() -> bool {
+    let number = ASKED.get() + 1;
+    ASKED.set(number);
+    number < FIRST.get() || LAST.get() < number
+}
+
+fn plan(first: u64, last: u64) {
+    ASKED.set(0);
+    FIRST.set(first);
+    LAST.set(last);
+}
+
+/// Counts anew, and refuses the request number `n` alone, where the next is number 1.
+pub fn refuse_only(n: u64) {
+    plan(n, n);
+}
+
+/// Counts anew, and refuses the request number `n` and each later one.
+pub fn refuse_from(n: u64) {
+    plan(n, u64::MAX);
+}
+
+/// Counts anew, and refuses nothing.
+pub fn refuse_none() {
+    plan(u64::MAX, 0);
+}
+
+/// How many requests there were since one of these was last called.
+pub fn asked() -> u64 {
+    ASKED.get()
+}
+
+/// Whether one of these requests was refused.
+pub fn has_refused() -> bool {
+    FIRST.get() <= ASKED.get().min(LAST.get())
+}

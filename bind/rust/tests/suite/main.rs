@@ -1,0 +1,8 @@
+//! Tests of the proved library in ordinary Rust: requests for memory refused in turn, connections that lose, repeat and reorder,
+//! worked packets, and hostile bytes. A test that has a seed says it where it fails.
+
+mod ends;
+mod hops;
+mod hostile;
+mod http;
+mod seeds;

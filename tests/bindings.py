@@ -1,0 +1,454 @@
+#!/usr/bin/env python3
+"""Looks at the bindings for C, Rust and Python: bind/.
+
+The exports of crates/st_c/src are compared, type by type and field by field, with bind/c/ilpstream.h, with the declarations of
+bind/rust and with those of bind/python; the numbers of the header with crates/st_embed, docs/ERRORS.md, bind/rust and
+bind/python. Then one difference is planted in each of them, which the comparison has to find.
+
+Then bind/archive builds the archive, over what `rt ci` left, or the one that is named is taken. What bind/build builds of it is
+run: the commands of docs/EMBEDDING.md; the example in C under valgrind and with AddressSanitizer; the tests of bind/rust, the
+examples of its documentation and its programs; the examples in the documentation of bind/python.
+
+tests/bindings.py                builds the archive by bind/archive
+tests/bindings.py --look         compares alone, and runs nothing
+tests/bindings.py ARCHIVE        takes this archive
+
+ILPSTREAM_HOSTILE says how many hostile inputs each reader is given. Each finding is a line; the last line counts what was good,
+and what was not."""
+import ctypes
+import glob
+import os
+import re
+import shutil
+import subprocess
+import sys
+import tempfile
+
+import readme
+
+TOP = os.path.realpath(os.path.join(os.path.dirname(os.path.realpath(__file__)), ".."))
+HEADER, ERRORS, CODES = "bind/c/ilpstream.h", "docs/ERRORS.md", "crates/st_embed/src/code.rt"
+RUST, PYTHON = "bind/rust/src", "bind/python/ilpstream/_declared.py"
+SECONDS = 600
+# How long the archive may take, of which one crate is proved.
+BUILD_SECONDS = 1_500
+
+
+def read(path):
+    with open(f"{TOP}/{path}", encoding="utf-8") as source:
+        return source.read()
+
+
+def sources(pattern):
+    paths = sorted(glob.glob(f"{TOP}/{pattern}", recursive=True))
+    return "\n".join(read(os.path.relpath(path, TOP)) for path in paths)
+
+
+# ---- declarations: of each call, its parameters and what it returns, as texts such as 'u32', '*u8', 'const *u8', 'const u8[32]',
+# 'handle' and '*{len: usize, ..}'
+
+
+def split(text):
+    """The parts between commas that stand outside brackets."""
+    parts, depth, part = [], 0, ""
+    for char in text:
+        depth += (char in "([{<") - (char in ")]}>")
+        if char == "," and depth == 0:
+            parts.append(part.strip())
+            part = ""
+        else:
+            part += char
+    return [it for it in [*parts, part.strip()] if it]
+
+
+def rust_structs(text):
+    """The structs that cross, each as its fields."""
+    pattern = r"#\[repr\(C\)\]\s*(?:#\[.*?\]\s*)*pub(?:\(\w+\))? struct (\w+) \{(.*?)\n\}"
+    return {
+        name: {
+            field: kind
+            for field, kind in re.findall(r"^ +(?:pub )?(?:r#)?(\w+): ([^,]+),$", re.sub(r"//.*", "", body), re.M)
+        }
+        for name, body in re.findall(pattern, text, re.S)
+    }
+
+
+def rust_type(kind, structs):
+    """What a type of Rattle or Rust is to C: one parameter, or two where it is a slice. A `Global` has no bytes."""
+    def inner(it):
+        if it == "Handle":
+            return "handle"
+        if it in structs:
+            fields = (f"{name}: {rust_type(of, structs)[0]}" for name, of in structs[it].items())
+            return "{" + ", ".join(fields) + "}"
+        array = re.fullmatch(r"\[(\w+); (\d+)\]", it)
+        return f"{array[1]}[{array[2]}]" if array else it
+
+    if kind == "Global":
+        return []
+    slice = re.fullmatch(r"&(mut )?\[(\w+)\]", kind)
+    if slice:
+        return [("" if slice[1] else "const ") + f"*{inner(slice[2])}", "usize"]
+    pointer = re.fullmatch(r"(?:&|\*const |\*)(mut )?(.+)", kind)
+    if pointer is None:
+        return [inner(kind)]
+    of = inner(pointer[2])
+    if of == "handle":
+        return [of]
+    of = of if of.endswith("]") else f"*{of}"
+    return [of if pointer[1] else f"const {of}"]
+
+
+def rust_calls(text, pattern):
+    structs = rust_structs(text)
+    calls = {}
+    for name, parameters, result in re.findall(pattern, text, re.S):
+        kinds = [it.split(":", 1)[1].strip() for it in split(parameters)]
+        calls[name] = [it for kind in kinds for it in rust_type(kind, structs)] + [result or "void"]
+    return calls
+
+
+def exports(text):
+    """The calls that crates/st_c exports."""
+    return rust_calls(text, r'#\[unsafe\(no_mangle\)\]\s*pub extern "C" fn (\w+)\((.*?)\)(?: -> (\w+))?\s*(?=ensures|\{|\n)')
+
+
+def declared_rust(text):
+    blocks = "\n".join(re.findall(r'^unsafe extern "C" \{\n(.*?)^\}', text, re.S | re.M))
+    structs = "\n".join(re.findall(r"#\[repr\(C\)\].*?\n\}", text, re.S))
+    calls = rust_calls(structs + blocks, r"\bfn (ilp_\w+)\((.*?)\)(?:\s+-> (\w+))?;")
+    return calls
+
+
+C_TYPES = {"uint8_t": "u8", "uint32_t": "u32", "uint64_t": "u64", "int64_t": "i64", "size_t": "usize", "void": "void"}
+C_TYPES["ilp_code"] = "u32"
+
+
+def declared_c(text):
+    text = re.sub(r"/\*.*?\*/", "", text, flags=re.S)
+    structs = {}
+
+    def of(kind, name):
+        """The type of a parameter or field, whose name may have brackets."""
+        constant = "const " if "const " in kind else ""
+        stars = kind.count("*")
+        base = kind.replace("const ", "").replace("*", "").strip()
+        array = re.search(r"\[(\d+)\]", name)
+        base = C_TYPES.get(base) or structs.get(base) or base
+        if base == "handle" or (base == "void" and stars):
+            return "handle"
+        return f"{constant}{'*' * stars}{base}" + (f"[{array[1]}]" if array else "")
+
+    for body, name in re.findall(r"typedef struct \w+ \{(.*?)\} (\w+);", text, re.S):
+        fields = []
+        for kind, names in re.findall(r"([\w ]+?[ *]+)((?:\w+(?:\[\d+\])?(?:, )?)+);", body):
+            fields += [f"{re.sub(r'.[0-9]+.$', '', it)}: {of(kind, it)}" for it in names.split(", ")]
+        structs[name] = "handle" if fields == ["inner: handle"] else "{" + ", ".join(fields) + "}"
+    calls = {}
+    for result, name, parameters in re.findall(r"^(\w+) (ilp_\w+)\((.*?)\);", text, re.S | re.M):
+        kinds = (re.fullmatch(r"(.*?[ *]+)(\w+(?:\[\d+\])?)", it, re.S) for it in split(parameters))
+        calls[name] = [of(re.sub(r"\s+", " ", it[1]), it[2]) for it in kinds] + [C_TYPES[result]]
+    return calls
+
+
+def declared_python(text):
+    """The declarations of ctypes, which say of an array of bytes only that it is read."""
+    module = {}
+    exec(compile(text, PYTHON, "exec"), module)
+    names = {
+        ctypes.c_uint8: "u8",
+        ctypes.c_uint32: "u32",
+        ctypes.c_uint64: "u64",
+        ctypes.c_size_t: "u64",
+        ctypes.c_int64: "i64",
+        ctypes.c_char_p: "const *u8",
+        None: "void",
+    }
+
+    def of(kind):
+        if kind in names:
+            return names[kind]
+        if kind is module["Handle"]:
+            return "handle"
+        if issubclass(kind, ctypes.Structure):
+            return "{" + ", ".join(f"{name}: {of(field)}" for name, field in kind._fields_) + "}"
+        if issubclass(kind, ctypes.Array):
+            return f"{of(kind._type_)}[{kind._length_}]"
+        to = of(kind._type_)
+        return to if to == "handle" else f"*{to}"
+
+    return {name: [of(it) for it in (*parameters, result)] for name, (result, parameters) in module["CALLS"].items()}
+
+
+def as_python(call):
+    """A call as ctypes declares it: arrays as pointers, sizes as numbers of 64 bits, and pointers to structs that are read
+    without `const`."""
+    kinds = [it.replace("usize", "u64") for it in call]
+    kinds = [re.sub(r"^(const )?u8\[\d+\]$", r"\1*u8", it) for it in kinds]
+    return [it if it == "const *u8" else it.removeprefix("const ") for it in kinds]
+
+
+def numbers(texts):
+    """Findings about the numbers of the header."""
+    header = re.sub(r"/\*.*?\*/", "", texts[HEADER], flags=re.S)
+    codes = {name: int(it) for name, it in re.findall(r"\bILP_(\w+) = (\d+)", header) if name not in ("CLIENT", "SERVER")}
+    boundary = {name: int(it) for name, it in re.findall(r"pub const (\w+): u32 = (\d+);", texts[CODES])}
+    documented = {int(it) for it in re.findall(r"^\| (\d+) \|", texts[ERRORS], re.M)}
+    for name, number in codes.items():
+        if number and number not in documented:
+            yield f"{ERRORS}: {number}, ILP_{name}, is missing"
+        if (number == 0 or number >= 100) and boundary.get(name) != number:
+            yield f"{CODES}: {name} is {boundary.get(name)}, and the header has {number}"
+    for name in set(boundary) - set(codes):
+        yield f"{HEADER}: ILP_{name} is missing"
+    enum = re.search(r"class Code\(enum.IntEnum\):.*?\n\n\n", texts["bind/python"], re.S)
+    python = {name: int(it) for name, it in re.findall(r"^ +(\w+) = (\d+)$", enum[0] if enum else "", re.M)}
+    for name in sorted(set(codes) | set(python)):
+        if codes.get(name) != python.get(name):
+            yield f"bind/python: Code.{name} is {python.get(name)}, and the header has {codes.get(name)}"
+    rust = {int(it) for it in re.findall(r"^ +\w+ = (\d+), \"", texts["bind/rust"], re.M)}
+    rust |= {int(it) for it in re.findall(r"const \w+: u32 = (\d+);", texts["bind/rust"])}
+    for number in set(codes.values()) ^ rust:
+        yield f"bind/rust: the number {number} is in one of the crate and the header alone"
+
+
+def differences(texts):
+    """What is not the same in the declarations, as lines."""
+    real = exports(texts["crates/st_c"])
+    if len(real) < 26:
+        yield f"crates/st_c: only {len(real)} exports were read"
+    for where, declared, seen in (
+        (HEADER, declared_c(texts[HEADER]), list),
+        (RUST, declared_rust(texts["bind/rust"]), list),
+        (PYTHON, declared_python(texts[PYTHON]), as_python),
+    ):
+        for name in sorted(set(real) | set(declared)):
+            if name not in declared:
+                yield f"{where}: {name} is missing"
+            elif name not in real:
+                yield f"{where}: {name} is no export"
+            elif declared[name] != seen(real[name]):
+                yield f"{where}: {name} has {declared[name]}, and the export {seen(real[name])}"
+    yield from numbers(texts)
+
+
+def all_texts():
+    return {
+        "crates/st_c": sources("crates/st_c/src/**/*.rt"),
+        "bind/rust": sources("bind/rust/src/**/*.rs"),
+        "bind/python": sources("bind/python/ilpstream/*.py"),
+        **{path: read(path) for path in (HEADER, PYTHON, CODES, ERRORS)},
+    }
+
+
+# One difference in each, as a text that stands there and what replaces it.
+PLANTED = [
+    (HEADER, "ilp_end_write(ilp_end *end, uint32_t stream", "ilp_end_write(ilp_end *end, uint64_t stream"),
+    (HEADER, "    uint32_t reason;\n    uint32_t opened;", "    uint32_t opened;\n    uint32_t reason;"),
+    (HEADER, "ILP_ROOM = 103", "ILP_ROOM = 104"),
+    ("bind/rust", "fn ilp_end_fault(end: &mut Handle, flight: u64)", "fn ilp_end_fault(end: &mut Handle, flight: u32)"),
+    ("bind/rust", "pub claims: u64,", "pub claims: u32,"),
+    ("bind/rust", 'Unknown = 104, "', 'Unknown = 105, "'),
+    (PYTHON, '"ilp_end_close": (c_uint32, (_handle, c_uint32))', '"ilp_end_close": (c_uint32, (_handle, c_uint64))'),
+    (PYTHON, '("limit", c_uint64), ("max_packet", c_uint64)', '("max_packet", c_uint64), ("limit", c_uint64)'),
+    ("bind/python", "    IDLE = 100\n", "    IDLE = 99\n"),
+    ("crates/st_c", "fn ilp_hop_abandon(", "fn ilp_hop_give_up("),
+    (CODES, "UNKNOWN: u32 = 104", "UNKNOWN: u32 = 108"),
+]
+
+
+def compare(count):
+    texts = all_texts()
+    found = list(differences(texts))
+    count.add(not found, "\n".join(found))
+    for where, old, new in PLANTED:
+        if old not in texts[where]:
+            count.add(False, f"tests/bindings.py: there is no '{old}' in {where} to plant a difference in")
+            continue
+        planted = {**texts, where: texts[where].replace(old, new, 1)}
+        count.add(set(differences(planted)) - set(found), f"tests/bindings.py: a difference in {where} is not found: {new}")
+
+
+# ---- runs
+
+
+class Count:
+    def __init__(self):
+        self.passed = self.failed = 0
+
+    def add(self, good, finding):
+        self.passed += bool(good)
+        self.failed += not good
+        if not good:
+            print(finding, flush=True)
+
+    def run(self, name, words, wanted="", folder=TOP, seconds=SECONDS, **environment):
+        """Runs a command, whose output has to have this text, and whose status 0."""
+        try:
+            ran = subprocess.run(
+                words,
+                cwd=folder,
+                env={**os.environ, **environment},
+                stdin=subprocess.DEVNULL,
+                stdout=subprocess.PIPE,
+                stderr=subprocess.STDOUT,
+                text=True,
+                errors="replace",
+                timeout=seconds,
+            )
+            output, status = ran.stdout, ran.returncode
+        except (OSError, subprocess.TimeoutExpired) as error:
+            output, status = str(error), "none"
+        good = status == 0 and wanted in output
+        self.add(good, f"{name}: status {status}:\n{output[-4000:]}")
+        return output if good else None
+
+
+WHOLE = "1048576 bytes came whole; paid 500, credited 500"
+
+
+def run_c(count, out, room):
+    program, compiler = f"{room}/two_ends", os.environ.get("CC", "cc")
+    words = [compiler, "-std=c11", "-D_GNU_SOURCE", "-O2", "-g", "-Wall", "-Wextra", "-Werror", f"-I{out}"]
+    source = f"{TOP}/bind/c/two_ends.c"
+    if count.run("the example in C", [*words, source, f"{out}/libilpstream.a", "-o", program]) is None:
+        return
+    if shutil.which("valgrind"):
+        flags = ["--quiet", "--error-exitcode=9", "--leak-check=full", "--show-leak-kinds=all"]
+        count.run("the example in C under valgrind", ["valgrind", *flags, program], WHOLE)
+    sanitized = f"{room}/sanitized"
+    # (a compiler may have no AddressSanitizer)
+    link = [*words, "-fsanitize=address,undefined", source, f"{TOP}/bind/c/heap.c", f"{out}/libilpstream_bare.a"]
+    if subprocess.run([*link, "-o", sanitized], stderr=subprocess.DEVNULL).returncode == 0:
+        count.run("the example in C with AddressSanitizer", [sanitized], WHOLE)
+
+
+class Listening:
+    """A program that listens, and says where on its first line of standard error."""
+
+    def __init__(self, words, given=None, output=subprocess.DEVNULL):
+        self.process = subprocess.Popen(
+            words, stdin=subprocess.PIPE, stdout=output, stderr=subprocess.PIPE, text=True
+        )
+        if given:
+            self.process.stdin.write(given)
+        self.process.stdin.close()
+        self.address = self.process.stderr.readline().removeprefix("listening on ").strip()
+
+    def end(self, seconds=60):
+        """What else it said on standard error."""
+        try:
+            self.process.wait(seconds)
+        except subprocess.TimeoutExpired:
+            pass
+        self.process.kill()
+        return self.process.stderr.read()
+
+    def stop(self):
+        self.process.terminate()
+        self.process.wait()
+
+
+def run_chain(count, room, sender):
+    """A sender, which is given its words, and a connector and a receiver of bind/rust, on one machine."""
+    examples, secret = f"{TOP}/bind/rust/target/release/examples", os.urandom(32).hex()
+    sent = os.urandom(1 << 20)
+    with open(f"{room}/sent", "wb") as file:
+        file.write(sent)
+    with open(f"{room}/got", "wb") as got:
+        words = [f"{examples}/receiver", "127.0.0.1:0", "hub-at-bob", secret, "example.bob", "example.alice", "500"]
+        receiver = Listening(words, output=got)
+        table = f"account 1000 500 alice-at-hub\naccount 0 0 bob-at-hub {receiver.address} hub-at-bob\nroute example.bob 1\n"
+        with open(f"{room}/balances", "w") as balances:
+            connector = Listening([f"{examples}/connector", "127.0.0.1:0", "example.hub"], table, balances)
+            with open(f"{room}/sent", "rb") as source:
+                words = sender(connector.address, secret)
+                ran = subprocess.run(words, stdin=source, stderr=subprocess.PIPE, text=True, timeout=SECONDS)
+            credited = receiver.end()
+            connector.stop()
+    with open(f"{room}/got", "rb") as file:
+        is_whole = file.read() == sent
+    with open(f"{room}/balances") as file:
+        last = file.read().splitlines()[-2:]
+    wanted = ["account 0 claims 500 dues 0 held 0", "account 1 claims 0 dues 500 held 0"]
+    good = is_whole and last == wanted and ran.returncode == 0 and credited.endswith("credited 500\n")
+    count.add(good, f"{words[0]} over bind/rust: {ran.returncode}, whole {is_whole}, {last}, {ran.stderr!r}, {credited!r}")
+
+
+def of_rust(address, secret):
+    """The sender of bind/rust."""
+    sender = f"{TOP}/bind/rust/target/release/examples/sender"
+    return [sender, address, "alice-at-hub", secret, "example.alice", "example.bob", "500"]
+
+
+def of_program(address, secret):
+    """The command `send`."""
+    words = f"send --to {address} --token alice-at-hub --secret {secret} --address example.alice --peer example.bob --money 500"
+    return [readme.PROGRAM, *words.split()]
+
+
+# The tests that valgrind sees: those of refused memory.
+VALGRIND = ["memory", "both_ways", "between_ends"]
+
+
+def run_rust(count, out, room):
+    folder, places = f"{TOP}/bind/rust", {"ILPSTREAM_OUT": out}
+    tests = count.run("the tests in Rust", ["cargo", "test", "--offline", "--release", "--quiet"], "passed", folder, **places)
+    if tests is None:
+        return
+    for passed in re.findall(r"^test result: ok\. (\d+) passed", tests, re.M):
+        count.passed += int(passed)
+    words = ["cargo", "build", "--offline", "--release", "--examples"]
+    if count.run("the examples in Rust", words, "Finished", folder, **places) is not None:
+        run_chain(count, room, of_rust)
+        if os.access(readme.PROGRAM, os.X_OK):
+            run_chain(count, room, of_program)
+    words = ["cargo", "test", "--offline", "--release", "--no-run", "--test", "suite"]
+    built = count.run("the tests in Rust", words, "Executable", folder, **places)
+    binary = re.search(r"Executable .*\((.*?)\)", built or "")
+    if binary and shutil.which("valgrind"):
+        flags = ["--quiet", "--error-exitcode=9", "--leak-check=full", "--errors-for-leak-kinds=definite"]
+        words = ["valgrind", *flags, f"{folder}/{binary[1]}", "--test-threads=1", *VALGRIND]
+        count.run("tests in Rust under valgrind", words, "passed", folder)
+
+
+def run_python(count, out):
+    folder, places = f"{TOP}/bind/python", {"ILPSTREAM_SO": f"{out}/libilpstream.so", "PYTHONDONTWRITEBYTECODE": "1"}
+    look = (
+        "import doctest, importlib, pkgutil, sys, ilpstream\n"
+        "names = [it.name for it in pkgutil.iter_modules(ilpstream.__path__)]\n"
+        "results = [doctest.testmod(importlib.import_module(f'ilpstream.{it}')) for it in names]\n"
+        "print(sum(it.attempted for it in results), 'examples')\n"
+        "sys.exit(any(it.failed for it in results) or not any(it.attempted for it in results))\n"
+    )
+    count.run("the examples of the Python module", [sys.executable, "-c", look], "examples", folder, **places)
+
+
+def run_document(count):
+    """The commands of docs/EMBEDDING.md."""
+    for good, finding in readme.look_at_commands([readme.EMBEDDING], SECONDS):
+        count.add(good, finding)
+
+
+def main():
+    count = Count()
+    compare(count)
+    if "--look" not in sys.argv[1:]:
+        archive = os.path.realpath(sys.argv[1]) if sys.argv[1:] else f"{TOP}/crates/st_c/out/libst_c.a"
+        room = tempfile.mkdtemp()
+        try:
+            out = f"{TOP}/bind/out"
+            built = sys.argv[1:] or count.run("bind/archive", [f"{TOP}/bind/archive"], "proved", seconds=BUILD_SECONDS)
+            if built and count.run("bind/build", [f"{TOP}/bind/build", "--archive", archive], "libilpstream.so"):
+                run_c(count, out, room)
+                run_rust(count, out, room)
+                run_python(count, out)
+                run_document(count)
+        finally:
+            shutil.rmtree(room, ignore_errors=True)
+    print(f"{count.passed} passed, {count.failed} failed")
+    return 1 if count.failed else 0
+
+
+if __name__ == "__main__":
+    sys.exit(main())
