@@ -6,11 +6,8 @@ ghost use Rattle.st_embed.specs.Codes.{argument};
 ghost use Rattle.st_c.specs.Http.{OnMessage, IsRequestMade, IsResponseMade, Takes, WritesText, IfText, tokens_of, are_tokens, is_field, is_refusal, status_of};
 
 use crate::handle::{copy_out, is_empty, put_new};
-use st_embed::{
-    ARGUMENT, DONE, Handle, HostMessage, HostSide, IDLE, MISUSE, Object, Progress, answer_text,
-    refusal_text, request_text,
-};
-use st_http::{HttpError, is_field_text};
+use st_embed::{ARGUMENT, DONE, Handle, HostMessage, HostSide, IDLE, MISUSE, Object, Progress};
+use st_http::{HttpError, answer_text, is_field_text, refusal_text, request_text};
 use st_oer::utf8;
 use std::alloc::Global;
 
