@@ -55,10 +55,21 @@ fn a_connection_that_sends_nothing_is_no_request(rt: HostRuntime) {
 
 /// A listener whose first accepts fail.
 #[derive(Drop)]
-struct Failing {
+pub(crate) struct Failing {
     listener: TcpListener,
     fails: u64,
     calls: AtomicU64,
+}
+
+impl Failing {
+    /// A listener of which each accept fails.
+    pub(crate) fn always(listener: TcpListener) -> Failing {
+        Failing {
+            listener,
+            fails: u64::MAX,
+            calls: AtomicU64::new(0),
+        }
+    }
 }
 
 impl OpenListener for Failing {
