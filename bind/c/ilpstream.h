@@ -266,7 +266,7 @@ typedef struct ilp_keys { void *inner; } ilp_keys;
 ilp_code ilp_keys_new(ilp_keys *keys, const uint8_t secret[32]);
 
 /* Puts out the payload of a plain text of `len` bytes: the IV, the tag of 16 bytes, and the ciphertext. `payload_len` is how
- * many bytes it has: 28 more than the text. The text is not looked at; that of a packet is what ilp_packet_write puts out.
+ * many bytes it has: 28 more than the text. The text is not looked at: mostly it is that of a plain STREAM packet (RFC 0029).
  * No two payloads of a connection may have the same IV. ILP_KEYS_NO_MEMORY. */
 ilp_code ilp_keys_seal(ilp_keys *keys, const uint8_t iv[12], const uint8_t *text, size_t len, size_t *payload_len);
 
