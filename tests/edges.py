@@ -6,7 +6,7 @@ import os, pty, re, resource, shutil, socket, subprocess, sys, tempfile, threadi
 from concurrent.futures import ThreadPoolExecutor
 from itertools import chain
 
-from peers import HOST, SECRET, Peer, answer, asked, ended, free_port, free_ports, fulfill, listens, message
+from peers import GIVING, HOST, SECRET, Peer, answer, asked, ended, free_port, free_ports, fulfill, listens, message
 from peers import prepare, request, totals, use_up
 
 TOP = os.path.join(os.path.dirname(os.path.realpath(__file__)), "..")
@@ -42,6 +42,32 @@ def some_bytes(count):
     return bytes(n % 251 for n in range(count % 251)) + bytes(range(251)) * (count // 251)
 
 
+def until_it_listens(process):
+    """Whether a command listens within 30 seconds."""
+    until = time.monotonic() + 30
+    while time.monotonic() < until and process.poll() is None:
+        if listens(process.port):
+            return True
+        time.sleep(0.02)
+    return False
+
+
+def listening(start):
+    """Has a command begin that listens: at the port that is given, or at a free one; at another where that was taken meanwhile."""
+
+    def begun(play, *words, port=None, **how):
+        for _ in range(1 if port else 3):
+            it = start(play, *words, port=port or free_port(), **how)
+            if until_it_listens(it):
+                return it
+            told = ended(it, 1)
+            if told != "80":
+                break
+        raise Wrong(f"a command does not listen: {told}")
+
+    return begun
+
+
 class Play:
     """What a test started, with a folder of its own. All of it ends with the test."""
 
@@ -68,7 +94,9 @@ class Play:
         self.count += 1
         totals = f"{self.room}/{self.count}.totals"
         words = [how.pop("program", PROGRAM), command, *words, f"--totals={totals}"]
-        process = subprocess.Popen(words, stdin=given, stdout=out, stderr=subprocess.PIPE, **how)
+        # (while a port is tried, no process begins: it would have that socket until it runs its program)
+        with GIVING:
+            process = subprocess.Popen(words, stdin=given, stdout=out, stderr=subprocess.PIPE, **how)
         process.totals = totals
         self.started.append(process)
         return process
@@ -81,23 +109,23 @@ class Play:
         self.open.append(file)
         return file
 
+    @listening
     def receive(self, *words, token="t", address="test.b", peer="test.a", most=1_000_000, port=None, **how):
         """A receiver that listens; `out` is the path of what it writes."""
-        port = port or free_port()
         path = f"{self.room}/{port}.out"
         with open(path, "wb") as out:
             ways = [f"--listen={HOST}:{port}", f"--token={token}", f"--address={address}", f"--peer={peer}"]
             it = self.start("receive", [*ways, f"--secret={self.secret}", f"--receive-max={most}", *words], out=out, **how)
         it.port, it.path = port, path
-        return until_it_listens(it)
+        return it
 
+    @listening
     def connector(self, table, *words, port=None, requests=STAY, **how):
         """A connector that listens, with this table."""
-        port = port or free_port()
         ways = [f"--listen={HOST}:{port}", "--own=test.hub", f"--requests={requests}"]
         it = self.start("connector", [*ways, *words], given=self.file(table.encode()), **how)
         it.port = port
-        return until_it_listens(it)
+        return it
 
     def before(self, receiver, *words, **how):
         """A connector of two accounts: the sender's, and the receiver's or a peer's. It takes any money."""
@@ -139,15 +167,6 @@ class Play:
 
 def table_to(port):
     return f"account 1000000000 1000000 t - -\naccount 0 0 u {HOST}:{port} t\nroute test.b 1\n"
-
-
-def until_it_listens(process):
-    until = time.monotonic() + 30
-    while time.monotonic() < until and process.poll() is None:
-        if listens(process.port):
-            return process
-        time.sleep(0.02)
-    raise Wrong(f"a command does not listen: {ended(process, 1)}")
 
 
 def whole(receiver, content, bound):
