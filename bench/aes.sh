@@ -1,17 +1,26 @@
 #!/usr/bin/env bash
-# Bytes that st_aes seals a second at 64, 1,024 and 16,384 bytes, beside OpenSSL's AES-256-GCM with and without the
-# processor's AES instructions, and what Key::new costs beside one block, in one run. By hand, on a quiet machine:
-# bench/aes.sh [SECONDS]
+# Bytes that st_aes seals a second at 64, 1,024, 1,500 and 16,384 bytes, built for x86-64-v2 (the kit's level, which the gate builds)
+# and for x86-64-v3 (AVX2), beside OpenSSL's AES-256-GCM with and without the processor's AES instructions, and what Key::new costs
+# beside one block, in one run. By hand, on a quiet machine: bench/aes.sh [SECONDS]
 set -euo pipefail
 cd "$(dirname "$0")/../crates/bench_aes"
 seconds=${1:-3}
+room=$(mktemp -d)
+trap 'rm -rf "$room"' EXIT
 
 echo "proving and building bench_aes where it is older than its sources" >&2
+levels=x86-64-v2
+if grep -qw avx2 /proc/cpuinfo; then
+    levels="x86-64-v2 x86-64-v3"
+    rt run --cpu=x86-64-v3 -- 0 0 >&2
+    cp out/bench_aes "$room/x86-64-v3"
+fi
 rt run -- 0 0 >&2
+cp out/bench_aes "$room/x86-64-v2"
 
 milliseconds() { # of the processor's time, as OpenSSL counts its own, that the program takes with these words
     local TIMEFORMAT=%U taken
-    taken=$({ time out/bench_aes "$@" >/dev/null; } 2>&1)
+    taken=$({ time "$room/$level" "$@" >/dev/null; } 2>&1)
     echo $((10#${taken/./}))
 }
 
@@ -29,21 +38,23 @@ openssl_rate() { # bytes a second at $1 bytes
     openssl speed -mr -seconds "$seconds" -bytes "$1" -evp aes-256-gcm 2>/dev/null | awk -F: '/^\+F:/ { printf "%.0f\n", $NF }'
 }
 
-printf '%6s  %-32s  %14s  %s\n' bytes "" "bytes a second" "of which st_aes does"
-for bytes in 64 1024 16384; do
-    picoseconds=$(each "$bytes" @)
+printf '%6s  %-32s  %14s  %s\n' bytes "" "bytes a second" "of openssl without AES instructions, with them"
+for bytes in 64 1024 1500 16384; do
     with=$(openssl_rate "$bytes")
     without=$(OPENSSL_ia32cap="~0x200000200000000:~0" openssl_rate "$bytes")
-    awk -v bytes="$bytes" -v each="$picoseconds" -v with="$with" -v without="$without" 'BEGIN {
-        ours = bytes * 1e12 / each
-        printf "%6d  %-32s  %14.0f\n", bytes, "st_aes", ours
-        printf "%6d  %-32s  %14.0f  %.2f\n", bytes, "openssl without AES instructions", without, ours / without
-        printf "%6d  %-32s  %14.0f  %.2f\n", bytes, "openssl", with, ours / with
-    }'
+    for level in $levels; do
+        awk -v bytes="$bytes" -v each="$(each "$bytes" @)" -v with="$with" -v without="$without" -v level="$level" 'BEGIN {
+            ours = bytes * 1e12 / each
+            printf "%6d  %-32s  %14.0f  %.2f  %.2f\n", bytes, "st_aes, " level, ours, ours / without, ours / with
+        }'
+    done
+    printf '%6d  %-32s  %14.0f\n' "$bytes" "openssl without AES instructions" "$without" "$bytes" openssl "$with"
 done
 
-block=$(each 0 0 0 @)
-key=$(($(each 0 0 @) - $(each 0 @)))
-awk -v key="$key" -v block="$block" 'BEGIN {
-    printf "Key::new takes %.2f microseconds, one block %.3f: as long as %.0f blocks\n", key / 1e6, block / 1e6, key / block
-}'
+for level in $levels; do
+    block=$(each 0 0 0 @)
+    key=$(($(each 0 0 @) - $(each 0 @)))
+    awk -v key="$key" -v block="$block" -v level="$level" 'BEGIN {
+        printf "%s: Key::new takes %.2f microseconds, one block %.3f: as long as %.0f blocks\n", level, key / 1e6, block / 1e6, key / block
+    }'
+done

@@ -1,0 +1,30 @@
+use Rattle.std.proofs.Common.{◌≡◌, ◌∙◌, arith}
+use Rattle.st_aes.specs.Planes.{bit, changed_low, changed_high}
+use Rattle.st_aes.proofs.Bits.{below_eight, bit_small, kept, none, moved_in, moved_up}
+use Rattle.st_aes.proofs.planes.change_1.Goals as goal
+
+pub returns-clause-first : goal.returns-clause-first
+returns-clause-first c l j lt few =
+    below_eight (λ j. bit c.xor.result l j ≡ changed_low c.args.a c.args.b 1 l j)
+    (kept (bit c.xor.result l 0) (bit c.args.a l 0) _ (c.xor.ensures l 0 lt) (c.left_1-back.ensures l 0 lt (omega arith)))
+    (moved_in (bit c.xor.result l 1) (bit c.args.a l 1) (bit c.args.b l 0) _ _ _ _ (c.xor.ensures l 1 lt) (c.left_1-back.ensures l 1 lt (omega arith)) (c.and_byte-t.ensures l 0 lt) (c.xor-sum.ensures l 0 lt) (c.right_1-moved.ensures l 0 lt) (bit_small c.args.a l 1) (bit_small c.args.b l 0))
+    (kept (bit c.xor.result l 2) (bit c.args.a l 2) _ (c.xor.ensures l 2 lt) (c.left_1-back.ensures l 2 lt (omega arith) ∙ none _ _ (c.and_byte-t.ensures l 1 lt)))
+    (moved_in (bit c.xor.result l 3) (bit c.args.a l 3) (bit c.args.b l 2) _ _ _ _ (c.xor.ensures l 3 lt) (c.left_1-back.ensures l 3 lt (omega arith)) (c.and_byte-t.ensures l 2 lt) (c.xor-sum.ensures l 2 lt) (c.right_1-moved.ensures l 2 lt) (bit_small c.args.a l 3) (bit_small c.args.b l 2))
+    (kept (bit c.xor.result l 4) (bit c.args.a l 4) _ (c.xor.ensures l 4 lt) (c.left_1-back.ensures l 4 lt (omega arith) ∙ none _ _ (c.and_byte-t.ensures l 3 lt)))
+    (moved_in (bit c.xor.result l 5) (bit c.args.a l 5) (bit c.args.b l 4) _ _ _ _ (c.xor.ensures l 5 lt) (c.left_1-back.ensures l 5 lt (omega arith)) (c.and_byte-t.ensures l 4 lt) (c.xor-sum.ensures l 4 lt) (c.right_1-moved.ensures l 4 lt) (bit_small c.args.a l 5) (bit_small c.args.b l 4))
+    (kept (bit c.xor.result l 6) (bit c.args.a l 6) _ (c.xor.ensures l 6 lt) (c.left_1-back.ensures l 6 lt (omega arith) ∙ none _ _ (c.and_byte-t.ensures l 5 lt)))
+    (moved_in (bit c.xor.result l 7) (bit c.args.a l 7) (bit c.args.b l 6) _ _ _ _ (c.xor.ensures l 7 lt) (c.left_1-back.ensures l 7 lt (omega arith)) (c.and_byte-t.ensures l 6 lt) (c.xor-sum.ensures l 6 lt) (c.right_1-moved.ensures l 6 lt) (bit_small c.args.a l 7) (bit_small c.args.b l 6))
+    j few
+
+pub returns-clause-second : goal.returns-clause-second
+returns-clause-second c l j lt few =
+    below_eight (λ j. bit c.xor-2.result l j ≡ changed_high c.args.a c.args.b 1 l j)
+    (moved_up (bit c.xor-2.result l 0) (bit c.args.a l 1) (bit c.args.b l 0) _ _ _ (c.xor-2.ensures l 0 lt) (c.and_byte-t.ensures l 0 lt) (c.xor-sum.ensures l 0 lt) (c.right_1-moved.ensures l 0 lt) (bit_small c.args.a l 1) (bit_small c.args.b l 0))
+    (kept (bit c.xor-2.result l 1) (bit c.args.b l 1) _ (c.xor-2.ensures l 1 lt) (none _ _ (c.and_byte-t.ensures l 1 lt)))
+    (moved_up (bit c.xor-2.result l 2) (bit c.args.a l 3) (bit c.args.b l 2) _ _ _ (c.xor-2.ensures l 2 lt) (c.and_byte-t.ensures l 2 lt) (c.xor-sum.ensures l 2 lt) (c.right_1-moved.ensures l 2 lt) (bit_small c.args.a l 3) (bit_small c.args.b l 2))
+    (kept (bit c.xor-2.result l 3) (bit c.args.b l 3) _ (c.xor-2.ensures l 3 lt) (none _ _ (c.and_byte-t.ensures l 3 lt)))
+    (moved_up (bit c.xor-2.result l 4) (bit c.args.a l 5) (bit c.args.b l 4) _ _ _ (c.xor-2.ensures l 4 lt) (c.and_byte-t.ensures l 4 lt) (c.xor-sum.ensures l 4 lt) (c.right_1-moved.ensures l 4 lt) (bit_small c.args.a l 5) (bit_small c.args.b l 4))
+    (kept (bit c.xor-2.result l 5) (bit c.args.b l 5) _ (c.xor-2.ensures l 5 lt) (none _ _ (c.and_byte-t.ensures l 5 lt)))
+    (moved_up (bit c.xor-2.result l 6) (bit c.args.a l 7) (bit c.args.b l 6) _ _ _ (c.xor-2.ensures l 6 lt) (c.and_byte-t.ensures l 6 lt) (c.xor-sum.ensures l 6 lt) (c.right_1-moved.ensures l 6 lt) (bit_small c.args.a l 7) (bit_small c.args.b l 6))
+    (kept (bit c.xor-2.result l 7) (bit c.args.b l 7) _ (c.xor-2.ensures l 7 lt) (none _ _ (c.and_byte-t.ensures l 7 lt)))
+    j few

@@ -1,0 +1,5 @@
+use Rattle.st_aes.proofs.Bits.{product_lanes}
+use Rattle.st_aes.proofs.wide_planes.and.Goals as goal
+
+pub returns : goal.returns
+returns c l j lt = product_lanes 32 c.args.a c.args.b l j c.fits-a.0 c.fits-b.0 lt

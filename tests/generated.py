@@ -1,0 +1,43 @@
+#!/usr/bin/env python3
+"""Runs the scripts of crates/*/gen, which write long code and proofs, and compares with what stands. Each finding is a line; the
+last line counts the files that are as their script writes them, and those that are not."""
+import glob
+import os
+import re
+import subprocess
+import sys
+
+TOP = os.path.realpath(os.path.join(os.path.dirname(os.path.realpath(__file__)), ".."))
+SCRIPTS = ["crates/st_aes/gen/planes.py"]
+COUNT = re.compile(r"^([0-9]+) files as written, ([0-9]+) not$")
+
+
+def main():
+    passed = failed = 0
+    for script in SCRIPTS:
+        run = subprocess.run(
+            [sys.executable, "-B", f"{TOP}/{script}", "--look"], stdin=subprocess.DEVNULL, stdout=subprocess.PIPE, text=True
+        )
+        *findings, last = run.stdout.splitlines() or [""]
+        counted = COUNT.match(last)
+        for line in findings:
+            print(f"{script}: {line}")
+        if counted is None:
+            print(f"{script}: status {run.returncode}, and no count")
+            failed += 1
+        else:
+            passed += int(counted[1])
+            failed += int(counted[2])
+    # A file that says that a script wrote it is one that the script writes.
+    known = {os.path.dirname(os.path.dirname(script)) for script in SCRIPTS}
+    for folder in sorted(glob.glob(f"{TOP}/crates/*/gen")):
+        crate = os.path.relpath(os.path.dirname(folder), TOP)
+        if crate not in known:
+            print(f"{crate}/gen: no script of it is run here")
+            failed += 1
+    print(f"{passed} passed, {failed} failed")
+    sys.exit(1 if failed else 0)
+
+
+if __name__ == "__main__":
+    main()
