@@ -3,11 +3,12 @@
 
 The exports of crates/st_c/src are compared, type by type and field by field, with bind/c/ilpstream.h, with the declarations of
 bind/rust and with those of bind/python; the numbers of the header with crates/st_embed, docs/ERRORS.md, bind/rust and
-bind/python. Then one difference is planted in each of them, which the comparison has to find.
+bind/python; bind/c/calls.c with what bind/calls writes for the header. Then one difference is planted in each of them, which the
+comparison has to find.
 
 Then bind/archive builds the archive, over what `rt ci` left, or the one that is named is taken. What bind/build builds of it is
-run: the commands of docs/EMBEDDING.md; the example in C under valgrind and with AddressSanitizer; the tests of bind/rust, the
-examples of its documentation and its programs; the examples in the documentation of bind/python.
+run: the commands of docs/EMBEDDING.md; the programs in C under valgrind and with sanitizers; the tests of bind/rust, the examples
+of its documentation and its programs; the examples in the documentation of bind/python, tests/nulls.py and tests/plain.py over it.
 
 tests/bindings.py                builds the archive by bind/archive
 tests/bindings.py --look         compares alone, and runs nothing
@@ -17,6 +18,8 @@ ILPSTREAM_HOSTILE says how many hostile inputs each reader is given. Each findin
 and what was not."""
 import ctypes
 import glob
+import importlib.machinery
+import importlib.util
 import os
 import re
 import shutil
@@ -27,8 +30,11 @@ import tempfile
 import readme
 
 TOP = os.path.realpath(os.path.join(os.path.dirname(os.path.realpath(__file__)), ".."))
-HEADER, ERRORS, CODES = "bind/c/ilpstream.h", "docs/ERRORS.md", "crates/st_embed/src/code.rt"
+HEADER, GUARDED = "bind/c/ilpstream.h", "bind/c/calls.c"
+ERRORS, CODES = "docs/ERRORS.md", "crates/st_embed/src/code.rt"
 RUST, PYTHON = "bind/rust/src", "bind/python/ilpstream/_declared.py"
+# The numbers that only bind/c/calls.c returns, in front of the proved calls: those of handles and of null pointers.
+GUARDS = {"BUSY": 108, "NULL": 109}
 SECONDS = 600
 # How long the archive may take, of which one crate is proved.
 BUILD_SECONDS = 1_500
@@ -143,7 +149,7 @@ def declared_c(text):
         fields = []
         for kind, names in re.findall(r"([\w ]+?[ *]+)((?:\w+(?:\[\d+\])?(?:, )?)+);", body):
             fields += [f"{re.sub(r'.[0-9]+.$', '', it)}: {of(kind, it)}" for it in names.split(", ")]
-        structs[name] = "handle" if fields == ["inner: handle"] else "{" + ", ".join(fields) + "}"
+        structs[name] = "handle" if fields == ["inner: u64"] else "{" + ", ".join(fields) + "}"
     calls = {}
     for result, name, parameters in re.findall(r"^(\w+) (ilp_\w+)\((.*?)\);", text, re.S | re.M):
         kinds = (re.fullmatch(r"(.*?[ *]+)(\w+(?:\[\d+\])?)", it, re.S) for it in split(parameters))
@@ -188,11 +194,17 @@ def as_python(call):
     return [it if it == "const *u8" else it.removeprefix("const ") for it in kinds]
 
 
+def guarded(call):
+    """A call as bind/c/calls.c has it: it always returns a code."""
+    return [*call[:-1], "u32" if call[-1] == "void" else call[-1]]
+
+
 def numbers(texts):
     """Findings about the numbers of the header."""
     header = re.sub(r"/\*.*?\*/", "", texts[HEADER], flags=re.S)
-    codes = {name: int(it) for name, it in re.findall(r"\bILP_(\w+) = (\d+)", header) if name not in ("CLIENT", "SERVER")}
-    boundary = {name: int(it) for name, it in re.findall(r"pub const (\w+): u32 = (\d+);", texts[CODES])}
+    # (the first enum has the numbers of calls, the others those of roles and of frame types)
+    codes = {name: int(it) for name, it in re.findall(r"\bILP_(\w+) = (\d+)", re.search(r"enum \{.*?\};", header, re.S)[0])}
+    boundary = {name: int(it) for name, it in re.findall(r"pub const (\w+): u32 = (\d+);", texts[CODES])} | GUARDS
     documented = {int(it) for it in re.findall(r"^\| (\d+) \|", texts[ERRORS], re.M)}
     for name, number in codes.items():
         if number and number not in documented:
@@ -208,7 +220,7 @@ def numbers(texts):
             yield f"bind/python: Code.{name} is {python.get(name)}, and the header has {codes.get(name)}"
     rust = {int(it) for it in re.findall(r"^ +\w+ = (\d+), \"", texts["bind/rust"], re.M)}
     rust |= {int(it) for it in re.findall(r"const \w+: u32 = (\d+);", texts["bind/rust"])}
-    for number in set(codes.values()) ^ rust:
+    for number in set(codes.values()) - set(GUARDS.values()) ^ rust:
         yield f"bind/rust: the number {number} is in one of the crate and the header alone"
 
 
@@ -218,9 +230,9 @@ def differences(texts):
     if len(real) < 26:
         yield f"crates/st_c: only {len(real)} exports were read"
     for where, declared, seen in (
-        (HEADER, declared_c(texts[HEADER]), list),
+        (HEADER, declared_c(texts[HEADER]), guarded),
         (RUST, declared_rust(texts["bind/rust"]), list),
-        (PYTHON, declared_python(texts[PYTHON]), as_python),
+        (PYTHON, declared_python(texts[PYTHON]), lambda call: as_python(guarded(call))),
     ):
         for name in sorted(set(real) | set(declared)):
             if name not in declared:
@@ -230,6 +242,17 @@ def differences(texts):
             elif declared[name] != seen(real[name]):
                 yield f"{where}: {name} has {declared[name]}, and the export {seen(real[name])}"
     yield from numbers(texts)
+    wanted = written_calls(texts[HEADER])
+    if texts[GUARDED] != wanted:
+        yield f"{GUARDED}: it is not what bind/calls writes for {HEADER}"
+
+
+def written_calls(header):
+    """What bind/calls writes for a header."""
+    loader = importlib.machinery.SourceFileLoader("calls", f"{TOP}/bind/calls")
+    module = importlib.util.module_from_spec(importlib.util.spec_from_loader("calls", loader))
+    loader.exec_module(module)
+    return module.written(header)
 
 
 def all_texts():
@@ -237,7 +260,7 @@ def all_texts():
         "crates/st_c": sources("crates/st_c/src/**/*.rt"),
         "bind/rust": sources("bind/rust/src/**/*.rs"),
         "bind/python": sources("bind/python/ilpstream/*.py"),
-        **{path: read(path) for path in (HEADER, PYTHON, CODES, ERRORS)},
+        **{path: read(path) for path in (HEADER, GUARDED, PYTHON, CODES, ERRORS)},
     }
 
 
@@ -253,7 +276,8 @@ PLANTED = [
     (PYTHON, '("limit", c_uint64), ("max_packet", c_uint64)', '("max_packet", c_uint64), ("limit", c_uint64)'),
     ("bind/python", "    IDLE = 100\n", "    IDLE = 99\n"),
     ("crates/st_c", "fn ilp_hop_abandon(", "fn ilp_hop_give_up("),
-    (CODES, "UNKNOWN: u32 = 104", "UNKNOWN: u32 = 108"),
+    (CODES, "UNKNOWN: u32 = 104", "UNKNOWN: u32 = 110"),
+    (GUARDED, "    if (is_missing(bytes, len)) return ILP_NULL;\n", ""),
 ]
 
 
@@ -307,20 +331,34 @@ class Count:
 WHOLE = "1048576 bytes came whole; paid 500, credited 500"
 
 
+ANSWERED = "calls were answered as they should be"
+
+
 def run_c(count, out, room):
-    program, compiler = f"{room}/two_ends", os.environ.get("CC", "cc")
-    words = [compiler, "-std=c11", "-D_GNU_SOURCE", "-O2", "-g", "-Wall", "-Wextra", "-Werror", f"-I{out}"]
-    source = f"{TOP}/bind/c/two_ends.c"
-    if count.run("the example in C", [*words, source, f"{out}/libilpstream.a", "-o", program]) is None:
+    """The programs of bind/c: as they are, under valgrind, and with the sanitizers that the compiler has."""
+    run_program(count, out, room, "two_ends", [], WHOLE, ["address,undefined"])
+    run_program(count, out, room, "misuse", ["300"], ANSWERED, ["address,undefined", "thread"])
+
+
+def run_program(count, out, room, name, given, wanted, sanitizers):
+    program, compiler = f"{room}/{name}", os.environ.get("CC", "cc")
+    words = [compiler, "-std=c11", "-D_GNU_SOURCE", "-O2", "-g", "-Wall", "-Wextra", "-Werror", f"-I{out}", "-pthread"]
+    source, archive = f"{TOP}/bind/c/{name}.c", f"{out}/libilpstream.a"
+    if count.run(f"the build of {name}.c", [*words, source, archive, "-o", program]) is None:
         return
+    count.run(f"{name}.c", [program], wanted)
     if shutil.which("valgrind"):
-        flags = ["--quiet", "--error-exitcode=9", "--leak-check=full", "--show-leak-kinds=all"]
-        count.run("the example in C under valgrind", ["valgrind", *flags, program], WHOLE)
-    sanitized = f"{room}/sanitized"
-    # (a compiler may have no AddressSanitizer)
-    link = [*words, "-fsanitize=address,undefined", source, f"{TOP}/bind/c/heap.c", f"{out}/libilpstream_bare.a"]
-    if subprocess.run([*link, "-o", sanitized], stderr=subprocess.DEVNULL).returncode == 0:
-        count.run("the example in C with AddressSanitizer", [sanitized], WHOLE)
+        # (without turns by time valgrind may let one thread run for minutes)
+        flags = ["--quiet", "--fair-sched=try", "--error-exitcode=9"]
+        flags += ["--leak-check=full", "--errors-for-leak-kinds=definite,possible"]
+        count.run(f"{name}.c under valgrind", ["valgrind", *flags, program, *given], wanted)
+    for sanitizer in sanitizers:
+        sanitized = f"{room}/{name}-{sanitizer}"
+        front = [f"{TOP}/bind/c/calls.c", f"{TOP}/bind/c/heap.c"]
+        link = [*words, f"-fsanitize={sanitizer}", source, *front, archive, "-o", sanitized]
+        # (a compiler may not have it)
+        if subprocess.run(link, stderr=subprocess.DEVNULL).returncode == 0:
+            count.run(f"{name}.c with -fsanitize={sanitizer}", [sanitized, *given], wanted)
 
 
 class Listening:
@@ -388,7 +426,7 @@ def of_program(address, secret):
 
 
 # The tests that valgrind sees: those of refused memory.
-VALGRIND = ["memory", "both_ways", "between_ends"]
+VALGRIND = ["memory", "both_ways", "between_ends", "or_not"]
 
 
 def run_rust(count, out, room):
@@ -422,6 +460,8 @@ def run_python(count, out):
         "sys.exit(any(it.failed for it in results) or not any(it.attempted for it in results))\n"
     )
     count.run("the examples of the Python module", [sys.executable, "-c", look], "examples", folder, **places)
+    count.run("tests/nulls.py", [sys.executable, f"{TOP}/tests/nulls.py"], " 0 failed", folder, **places)
+    count.run("tests/plain.py", [sys.executable, f"{TOP}/tests/plain.py"], " 0 differences", folder, **places)
 
 
 def run_document(count):

@@ -1,11 +1,11 @@
 /* Interledger STREAM (RFC 0029) and the connector between its ends (RFC 0027): ends of a connection and hops, proved in
  * Rattle, for hosts in C. There is no I/O here, no clock, no thread and no random number: bytes, times and IVs are arguments.
  *
- * Handles. A handle is a struct of one pointer. It begins as {0}, which is the handle of nothing, and *_new fills it. It may
- * be moved, and must not be copied: of two copies one would be freed under the other. ilp_free frees what it is of and leaves
- * it empty, so that a second ilp_free of the same variable does nothing, and any other call on it is ILP_MISUSE. A call on a
- * handle of another kind is ILP_MISUSE too. One call at a time has a handle. It may be passed to another thread, by a lock, by
- * that thread's start or end, or by a sequentially consistent atomic: that it may is proved.
+ * Handles. A handle is a struct of one number. It begins as {0}, which is the handle of nothing, and *_new fills it. It may be
+ * moved and copied: copies are handles of one object. ilp_free frees the object and makes its own copy {0}; for the others, and
+ * for any number that no call gave, each call is ILP_MISUSE from then on, also when new objects were made since. So are a call
+ * on {0}, on a handle of another kind, and on a null pointer. An object may be used by any thread, and has one call at a time: a
+ * second one meanwhile is ILP_BUSY, and can be repeated.
  *
  * Codes. Each call returns ILP_DONE or another number. ILP_IDLE, ILP_ENDED, ILP_ABORTED and ILP_ONWARD are answers. All others
  * are refusals: what the handle is of is then as before the call. A number out of its range, as a stream above 255 or a
@@ -19,10 +19,11 @@
  * once: by ilp_end_answer or ilp_end_fault, and by ilp_hop_settle, ilp_hop_fault or ilp_hop_abandon. Afterwards, and for any
  * other number, the answer is ILP_UNKNOWN.
  *
- * What no number refuses, and the caller has to take care of: a pointer that is null or dangles, also one to no bytes;
- * parameters that overlap; a handle that does not begin as {0}, that is copied, or that two threads use at once; memory that
- * malloc, realloc and free do not give and take as the C standard says. Two packets of a connection with the same IV give
- * away their contents and the key of their authentication: see ilp_end_send.
+ * Pointers. A null pointer is ILP_NULL where something has to lie; bytes of which there are none may be null.
+ *
+ * What no number refuses, and the caller has to take care of: a pointer that dangles, or where fewer bytes lie than is said;
+ * parameters that overlap; memory that malloc, realloc and free do not give and take as the C standard says. Two packets of a
+ * connection with the same IV give away their contents and the key of their authentication: see ilp_end_send.
  *
  * Units. Amounts are in the smallest unit of the asset of their link. Times are milliseconds since 1970-01-01 00:00 UTC, from
  * 0 to 253,402,300,000,000. */
@@ -48,6 +49,13 @@ enum {
     ILP_CODE = 16,             /* an error code has a character outside ! to ~ */
     ILP_TRAILING = 17,         /* bytes follow the last field or the packet */
     ILP_PACKET_NO_MEMORY = 18, /* out of memory */
+    /* refusals of STREAM packets */
+    ILP_STREAM_VERSION = 20,   /* the packet is of another version of STREAM than 1 */
+    ILP_STREAM_KIND = 21,      /* the packet is of another kind than the ILP packet that carried it */
+    ILP_STREAM_OER = 22,       /* a number, a frame's type or a frame's length is malformed (RFC 0030) */
+    ILP_FRAME = 23,            /* a frame's contents are malformed, or its address is none */
+    ILP_STREAM_TOO_LONG = 24,  /* the packet has more than 32,739 bytes */
+    ILP_STREAM_NO_MEMORY = 25, /* out of memory */
     /* refusals of keys */
     ILP_SHORT = 30,            /* the payload has fewer than 28 bytes: no IV and tag */
     ILP_TAG = 31,              /* the tag of the payload is wrong */
@@ -70,19 +78,23 @@ enum {
     ILP_HTTP_NO_MEMORY = 87,   /* out of memory */
     /* answers and refusals of this boundary */
     ILP_IDLE = 100,          /* nothing is to be sent, or can be read yet */
-    ILP_MISUSE = 101,        /* the handle is empty, or of another kind; for *_new, it is not empty */
+    ILP_MISUSE = 101,        /* the handle is empty, freed, or of another kind; for *_new, it is not empty */
     ILP_ARGUMENT = 102,      /* an argument is out of its range */
     ILP_ROOM = 103,          /* the buffer is too small; nothing was copied */
     ILP_UNKNOWN = 104,       /* there is no such open flight or ticket */
     ILP_ENDED = 105,         /* all bytes were read, and the peer closed the stream */
     ILP_ABORTED = 106,       /* the peer aborted the stream */
-    ILP_ONWARD = 107         /* the bytes go on to another account */
+    ILP_ONWARD = 107,        /* the bytes go on to another account */
+    ILP_BUSY = 108,          /* another call has the object */
+    ILP_NULL = 109           /* a pointer is null, or a length above 2^63 - 1 */
 };
 
 /* ---- handles of any kind */
 
-/* Frees what a handle is of, and leaves it empty. The parameter is the address of a handle: ilp_free(&end). */
-void ilp_free(void *handle);
+/* Frees what a handle is of, and leaves it empty. The parameter is the address of a handle: ilp_free(&end). ILP_DONE also for a
+ * null pointer and for an empty handle, so that a second ilp_free of one variable does nothing. ILP_MISUSE for a copy of a handle
+ * that was freed; ILP_BUSY, after which it is not freed. */
+ilp_code ilp_free(void *handle);
 
 /* Copies the bytes that the last call put out to the front of a buffer of `room` bytes; `len` is how many they are. ILP_ROOM
  * where the buffer has fewer: then nothing is copied, and `len` is how many are needed. Before the first call that puts out
@@ -91,7 +103,7 @@ ilp_code ilp_output(void *handle, uint8_t *out, size_t room, size_t *len);
 
 /* ---- an end of a STREAM connection (RFC 0029) */
 
-typedef struct ilp_end { void *inner; } ilp_end;
+typedef struct ilp_end { uint64_t inner; } ilp_end;
 
 enum { ILP_CLIENT = 0, ILP_SERVER = 1 };
 
@@ -193,7 +205,7 @@ ilp_code ilp_end_is_failed(ilp_end *end, uint32_t *answer);
 
 /* ---- a hop: the connector between a sender and a receiver (RFC 0027) */
 
-typedef struct ilp_hop { void *inner; } ilp_hop;
+typedef struct ilp_hop { uint64_t inner; } ilp_hop;
 
 /* A neighbour's terms. `limit` is how much it may owe the hop beyond what the hop owes it, at most 2^63 - 1; `max_packet` the
  * greatest amount of one Prepare from it. Both in units of its link. */
@@ -259,14 +271,14 @@ ilp_code ilp_hop_balances(ilp_hop *hop, size_t account, ilp_balances *balances);
 
 /* ---- keys of a connection: sealed packets, fulfillments and conditions (RFC 0029, RFC 0027) */
 
-typedef struct ilp_keys { void *inner; } ilp_keys;
+typedef struct ilp_keys { uint64_t inner; } ilp_keys;
 
 /* Makes the keys of a connection in an empty handle, from the shared secret. The secret is not stored. ILP_MISUSE where the
  * handle is not empty; ILP_KEYS_NO_MEMORY. */
 ilp_code ilp_keys_new(ilp_keys *keys, const uint8_t secret[32]);
 
 /* Puts out the payload of a plain text of `len` bytes: the IV, the tag of 16 bytes, and the ciphertext. `payload_len` is how
- * many bytes it has: 28 more than the text. The text is not looked at: mostly it is that of a plain STREAM packet (RFC 0029).
+ * many bytes it has: 28 more than the text. The text is not looked at: mostly it is what ilp_packet_write puts out.
  * No two payloads of a connection may have the same IV. ILP_KEYS_NO_MEMORY. */
 ilp_code ilp_keys_seal(ilp_keys *keys, const uint8_t iv[12], const uint8_t *text, size_t len, size_t *payload_len);
 
@@ -277,8 +289,76 @@ ilp_code ilp_keys_open(ilp_keys *keys, const uint8_t *payload, size_t len, size_
 /* The fulfillment of a Prepare whose data is this payload of `len` bytes, as it is sent. */
 ilp_code ilp_keys_fulfillment(ilp_keys *keys, const uint8_t *payload, size_t len, uint8_t fulfillment[32]);
 
-/* The condition of a fulfillment: its SHA-256 digest. It needs no handle, and is never refused. */
-void ilp_condition(const uint8_t fulfillment[32], uint8_t condition[32]);
+/* The condition of a fulfillment: its SHA-256 digest. It needs no handle. */
+ilp_code ilp_condition(const uint8_t fulfillment[32], uint8_t condition[32]);
+
+/* ---- plain STREAM packets, frame by frame (RFC 0029, sections 5.2 and 5.3)
+ *
+ * A plain packet is what ilp_keys_seal encrypts and ilp_keys_open decrypts: the payload of an ILP packet. */
+
+typedef struct ilp_packet { uint64_t inner; } ilp_packet;
+
+/* The frame types. Frames of other types are skipped by a reader, and cannot be added. */
+enum {
+    ILP_CONNECTION_CLOSE = 0x01,        /* code; the data is a message */
+    ILP_CONNECTION_NEW_ADDRESS = 0x02,  /* the data is an ILP address, or empty */
+    ILP_CONNECTION_MAX_DATA = 0x03,     /* first: max offset */
+    ILP_CONNECTION_DATA_BLOCKED = 0x04, /* first: max offset */
+    ILP_STREAM_CLOSE = 0x10,            /* stream, code; the data is a message */
+    ILP_STREAM_MONEY = 0x11,            /* stream; first: shares */
+    ILP_STREAM_MAX_MONEY = 0x12,        /* stream; first: receive max, second: total received */
+    ILP_STREAM_MONEY_BLOCKED = 0x13,    /* stream; first: send max, second: total sent */
+    ILP_STREAM_DATA = 0x14,             /* stream; first: offset; the data is bytes of the stream */
+    ILP_STREAM_MAX_DATA = 0x15,         /* stream; first: max offset */
+    ILP_STREAM_DATA_BLOCKED = 0x16      /* stream; first: max offset */
+};
+
+/* A frame: its type `kind`, and what that has of a stream number, of two numbers and of a code of 0 to 255. What it does not
+ * have is 0. A max offset, receive max, total received, send max or total sent is 2^64 - 1 where the packet that was read has
+ * a greater number. The frame's text, address or data lies outside. */
+typedef struct ilp_frame {
+    uint64_t stream;
+    uint64_t first;
+    uint64_t second;
+    uint32_t kind;
+    uint32_t code;
+} ilp_frame;
+
+/* The numbers of a packet. `kind` is that of the ILP packet that carries it: 12 Prepare, 13 Fulfill, 14 Reject. A reply has the
+ * `sequence` of its request. `amount` is in a Prepare the least that the receiver should accept, in a reply what arrived, in
+ * units of the receiver's asset. `frames` is how many frames of known types it has. */
+typedef struct ilp_header {
+    uint64_t sequence;
+    uint64_t amount;
+    size_t frames;
+    uint32_t kind;
+} ilp_header;
+
+/* Makes a packet without frames in an empty handle. ILP_ARGUMENT where the kind is not 12, 13 or 14; ILP_MISUSE where the handle
+ * is not empty; ILP_STREAM_NO_MEMORY. */
+ilp_code ilp_packet_new(ilp_packet *packet, uint32_t kind, uint64_t sequence, uint64_t amount);
+
+/* Reads all of the `len` bytes as a plain packet that an ILP packet of this kind carried, and makes it in an empty handle. Bytes
+ * behind the last frame are ignored. ILP_STREAM_TOO_LONG, ILP_STREAM_VERSION, ILP_STREAM_KIND, ILP_STREAM_OER, ILP_FRAME: the
+ * first fault, in this order. ILP_ARGUMENT where the kind is not 12, 13 or 14; ILP_MISUSE where the handle is not empty;
+ * ILP_STREAM_NO_MEMORY. */
+ilp_code ilp_packet_read(ilp_packet *packet, uint32_t kind, const uint8_t *bytes, size_t len);
+
+ilp_code ilp_packet_header(ilp_packet *packet, ilp_header *header);
+
+/* Adds a frame, whose text, address or data has `len` bytes, behind the others. ILP_ARGUMENT where the type is not known, a value
+ * is given that the type does not have, the code is above 255, or a message or an address is not UTF-8. ILP_FRAME where an
+ * address is neither empty nor an ILP address. ILP_STREAM_NO_MEMORY. */
+ilp_code ilp_packet_push(ilp_packet *packet, const ilp_frame *frame, const uint8_t *data, size_t len);
+
+/* Reports the known frame at a place, counted from 0, and puts out its text, address or data: `len` is how many bytes that are.
+ * `index` is counted over all frames, also those that were skipped, of the packet that was read; that of a frame that was added
+ * is how many known frames there were. ILP_ARGUMENT where there are not so many known frames; ILP_STREAM_NO_MEMORY. */
+ilp_code ilp_packet_frame(ilp_packet *packet, size_t place, ilp_frame *frame, uint64_t *index, size_t *len);
+
+/* Puts out the bytes of the packet, in the shortest encoding: `len` is how many they are. ILP_STREAM_TOO_LONG where they would
+ * be more than 32,739; ILP_STREAM_NO_MEMORY. */
+ilp_code ilp_packet_write(ilp_packet *packet, size_t *len);
 
 /* ---- ILP packets (RFC 0027, RFC 0030)
  *
@@ -344,7 +424,7 @@ ilp_code ilp_reject_write(const uint8_t code[3], const uint8_t *by, size_t by_le
  *
  * A head has at most 8,192 bytes and 64 fields, a body at most 65,535 bytes. A stream carries one exchange. */
 
-typedef struct ilp_message { void *inner; } ilp_message;
+typedef struct ilp_message { uint64_t inner; } ilp_message;
 
 /* Begins to read a request in an empty handle. `lengths[i]` is how many bytes the bearer token of account i has; the tokens
  * stand one after another in `tokens`, and are copied. ILP_ARGUMENT where the lengths are not together `tokens_len`, or a

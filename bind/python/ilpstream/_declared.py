@@ -1,12 +1,12 @@
 """The calls of libilpstream.so, as its header declares them. tests/bindings.py compares them with the archive's sources."""
 
-from ctypes import POINTER, Structure, c_char_p, c_int64, c_size_t, c_uint8, c_uint32, c_uint64, c_void_p
+from ctypes import POINTER, Structure, c_char_p, c_int64, c_size_t, c_uint8, c_uint32, c_uint64
 
 
 class Handle(Structure):
-    """Nothing, or the address of an object."""
+    """Nothing, or the number of an object."""
 
-    _fields_ = [("inner", c_void_p)]
+    _fields_ = [("inner", c_uint64)]
 
 
 class Config(Structure):
@@ -75,6 +75,20 @@ class Answer(Structure):
     ]
 
 
+class Frame(Structure):
+    _fields_ = [
+        ("stream", c_uint64),
+        ("first", c_uint64),
+        ("second", c_uint64),
+        ("kind", c_uint32),
+        ("code", c_uint32),
+    ]
+
+
+class Header(Structure):
+    _fields_ = [("sequence", c_uint64), ("amount", c_uint64), ("frames", c_size_t), ("kind", c_uint32)]
+
+
 class Reading(Structure):
     _fields_ = [
         ("wants", c_size_t),
@@ -94,7 +108,7 @@ _u32, _u64, _size = POINTER(c_uint32), POINTER(c_uint64), POINTER(c_size_t)
 
 # What each call returns, and its parameters.
 CALLS = {
-    "ilp_free": (None, (_handle,)),
+    "ilp_free": (c_uint32, (_handle,)),
     "ilp_output": (c_uint32, (_handle, *_room, _size)),
     "ilp_end_new": (c_uint32, (_handle, c_uint32, _array, *_bytes, *_bytes, POINTER(Config))),
     "ilp_end_open_stream": (c_uint32, (_handle, _u32)),
@@ -127,7 +141,13 @@ CALLS = {
     "ilp_keys_seal": (c_uint32, (_handle, _array, *_bytes, _size)),
     "ilp_keys_open": (c_uint32, (_handle, *_bytes, _size)),
     "ilp_keys_fulfillment": (c_uint32, (_handle, *_bytes, _out)),
-    "ilp_condition": (None, (_array, _out)),
+    "ilp_packet_new": (c_uint32, (_handle, c_uint32, c_uint64, c_uint64)),
+    "ilp_packet_read": (c_uint32, (_handle, c_uint32, *_bytes)),
+    "ilp_packet_header": (c_uint32, (_handle, POINTER(Header))),
+    "ilp_packet_push": (c_uint32, (_handle, POINTER(Frame), *_bytes)),
+    "ilp_packet_frame": (c_uint32, (_handle, c_size_t, POINTER(Frame), _u64, _size)),
+    "ilp_packet_write": (c_uint32, (_handle, _size)),
+    "ilp_condition": (c_uint32, (_array, _out)),
     "ilp_prepare_read": (c_uint32, (*_bytes, POINTER(Prepare))),
     "ilp_answer_read": (c_uint32, (*_bytes, POINTER(Answer))),
     "ilp_prepare_write": (c_uint32, (c_uint64, c_int64, _array, *_bytes, *_bytes, *_room, _size)),

@@ -51,5 +51,5 @@ class Keys(Object):
 def condition(fulfillment: Buffer) -> bytes:
     """The condition of a fulfillment: its SHA-256 digest."""
     out = (c_uint8 * 32)()
-    lib.ilp_condition(fixed(fulfillment, 32, "the fulfillment"), out)
+    done(lib.ilp_condition(fixed(fulfillment, 32, "the fulfillment"), out))
     return bytes(out)

@@ -43,6 +43,12 @@ class Code(enum.IntEnum):
     CODE = 16
     TRAILING = 17
     PACKET_NO_MEMORY = 18
+    STREAM_VERSION = 20
+    STREAM_KIND = 21
+    STREAM_OER = 22
+    FRAME = 23
+    STREAM_TOO_LONG = 24
+    STREAM_NO_MEMORY = 25
     SHORT = 30
     TAG = 31
     KEYS_NO_MEMORY = 33
@@ -67,6 +73,8 @@ class Code(enum.IntEnum):
     ENDED = 105
     ABORTED = 106
     ONWARD = 107
+    BUSY = 108
+    NULL = 109
 
 
 _TEXTS = {
@@ -79,6 +87,12 @@ _TEXTS = {
     Code.CODE: "the error code has another character",
     Code.TRAILING: "bytes follow the packet",
     Code.PACKET_NO_MEMORY: "out of memory for an ILP packet",
+    Code.STREAM_VERSION: "the packet is of another version of STREAM",
+    Code.STREAM_KIND: "the STREAM packet is of another kind",
+    Code.STREAM_OER: "a number of the STREAM packet is malformed",
+    Code.FRAME: "a frame is malformed",
+    Code.STREAM_TOO_LONG: "the STREAM packet is too long",
+    Code.STREAM_NO_MEMORY: "out of memory for a STREAM packet",
     Code.SHORT: "the payload is too short",
     Code.TAG: "the tag of the payload is wrong",
     Code.KEYS_NO_MEMORY: "out of memory for a payload",
@@ -99,6 +113,8 @@ _TEXTS = {
     Code.ARGUMENT: "an argument is out of its range",
     Code.ROOM: "the buffer is too small",
     Code.UNKNOWN: "there is no such open flight or ticket",
+    Code.BUSY: "another call has the object",
+    Code.NULL: "a pointer is null",
 }
 
 
@@ -177,7 +193,7 @@ class Object:
     @alone
     def free(self) -> None:
         """Gives up its memory. It may be called again."""
-        lib.ilp_free(self._at())
+        done(lib.ilp_free(self._at()))
 
     def __enter__(self: Self) -> Self:
         return self

@@ -64,6 +64,18 @@ refusals! {
     Trailing = 17, "bytes follow the packet";
     /// There is no memory for an ILP packet.
     PacketOutOfMemory = 18, "out of memory for an ILP packet";
+    /// The STREAM packet is of another version than 1.
+    StreamVersion = 20, "the packet is of another version of STREAM";
+    /// The STREAM packet is of another kind than the ILP packet that carried it.
+    StreamKind = 21, "the STREAM packet is of another kind";
+    /// A number of a STREAM packet, a frame's type or a frame's length is malformed (RFC 0030).
+    StreamOer = 22, "a number of the STREAM packet is malformed";
+    /// The contents of a frame are malformed, or its address is neither empty nor an ILP address.
+    FrameFormat = 23, "a frame is malformed";
+    /// The STREAM packet has more than 32,739 bytes.
+    StreamTooLong = 24, "the STREAM packet is too long";
+    /// Out of memory for a STREAM packet.
+    StreamOutOfMemory = 25, "out of memory for a STREAM packet";
     /// The payload has fewer than 28 bytes: no IV and tag.
     Short = 30, "the payload is too short";
     /// The tag of the payload is wrong.

@@ -2,7 +2,7 @@
 //!
 //! - [`End`] is one side of a connection: it sends and receives bytes and money on streams.
 //! - [`Hop`] is a connector: it sends Prepares on, and keeps what each neighbour owes.
-//! - [`Keys`], [`Prepare`] and [`Answer`] are what their packets are made of.
+//! - [`Prepare`] and [`Answer`] are ILP packets, [`Packet`] with its [`Frame`]s is a STREAM packet, and [`Keys`] seal and open it.
 //! - [`Request`] and [`Response`] read ILP over HTTP (RFC 0035), and [`request_text`] and its like write it.
 //! - [`Ivs`] reads what a call needs of random bytes, and [`now`] the time.
 //!
@@ -28,6 +28,7 @@ mod ilp;
 mod ivs;
 mod keys;
 mod output;
+mod packet;
 #[allow(unsafe_code)]
 mod raw;
 #[cfg(feature = "refusing")]
@@ -40,3 +41,4 @@ pub use http::{Progress, Request, Response, answer_text, refusal_text, request_t
 pub use ilp::{Answer, Prepare};
 pub use ivs::{Ivs, now};
 pub use keys::{Keys, condition};
+pub use packet::{Frame, Frames, Header, Packet, PacketKind};

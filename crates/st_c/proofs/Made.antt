@@ -6,12 +6,15 @@ use Rattle.st_http.specs.Verdict.{request, response}
 use Rattle.st_embed.specs.Codes.{done}
 use Rattle.st_embed.specs.KeyRings.{IsNewKeys}
 use Rattle.st_embed.specs.Messages.{IsNewMessage}
+use Rattle.st_embed.specs.Packets.{is_kind, IsNewPacket, IsReadPacket}
 use Rattle.st_embed.specs.declared.object.Object.{Object}
-use Rattle.st_embed.specs.declared.object.Object.TheVariants.{Keys, Message}
+use Rattle.st_embed.specs.declared.object.Object.TheVariants.{Keys, Message, Packet}
 use Rattle.st_embed.specs.declared.keys.HostKeys.{HostKeys}
 use Rattle.st_embed.specs.declared.message.HostMessage.{HostMessage}
+use Rattle.st_embed.specs.declared.packet.HostPacket.{HostPacket}
 use Rattle.st_c.specs.Keys.{AreKeysMade}
 use Rattle.st_c.specs.Http.{IsRequestMade, IsResponseMade, are_tokens, tokens_of}
+use Rattle.st_c.specs.Packets.{IsPacketMade, IsPacketRead}
 
 -- it is put in, or memory for it is refused
 abbrev pub Put : (object : Object) (no_memory code : ℕ) (new : Option Object) → Type 0
@@ -31,3 +34,13 @@ pub request_made : (text lengths : List ℕ) (old new : Option Object) (code : �
 request_made text lengths None new code m e fits is (inl h) = inl (h.0, (fits, (m, (h.1, is))))
 request_made text lengths None new code m e fits is (inr h) = inr (inl h)
 request_made text lengths (Some o) new code m e fits is h = absurd cc
+
+pub packet_made : (kind sequence amount : ℕ) (old new : Option Object) (code : ℕ) (p : HostPacket) → old ≡ None → is_kind kind ≡ true → IsNewPacket kind sequence amount p → Put (Packet p) 25 code new → IsPacketMade kind sequence amount old new code
+packet_made kind sequence amount None new code p e fits is (inl h) = inl (h.0, (fits, (p, (h.1, is))))
+packet_made kind sequence amount None new code p e fits is (inr h) = inr (inl h)
+packet_made kind sequence amount (Some o) new code p e fits is h = absurd cc
+
+pub packet_read : (kind : ℕ) (bytes : List ℕ) (old new : Option Object) (code : ℕ) (p : HostPacket) → old ≡ None → is_kind kind ≡ true → IsReadPacket kind bytes p → Put (Packet p) 25 code new → IsPacketRead kind bytes old new code
+packet_read kind bytes None new code p e fits is (inl h) = inl (h.0, (fits, (p, (h.1, is))))
+packet_read kind bytes None new code p e fits is (inr h) = inr (inr (inl (h.0, fits)), h.1)
+packet_read kind bytes (Some o) new code p e fits is h = absurd cc

@@ -4,8 +4,9 @@ use Rattle.st_embed.specs.declared.end.HostEnd.{HostEnd}
 use Rattle.st_embed.specs.declared.hop.HostHop.{HostHop}
 use Rattle.st_embed.specs.declared.keys.HostKeys.{HostKeys}
 use Rattle.st_embed.specs.declared.message.HostMessage.{HostMessage}
+use Rattle.st_embed.specs.declared.packet.HostPacket.{HostPacket}
 use Rattle.st_embed.specs.declared.object.Object.{Object}
-use Rattle.st_embed.specs.declared.object.Object.TheVariants.{End, Hop, Keys, Message}
+use Rattle.st_embed.specs.declared.object.Object.TheVariants.{End, Hop, Keys, Message, Packet}
 
 -- the bytes that the last call put out
 abbrev pub output_of : Object → List ℕ
@@ -13,6 +14,7 @@ output_of (End e) = e.output.items
 output_of (Hop h) = h.output.items
 output_of (Keys k) = k.output.items
 output_of (Message m) = m.output.items
+output_of (Packet p) = p.output.items
 
 -- the end that a handle is of
 abbrev pub end_in : Option Object → Option HostEnd
@@ -33,3 +35,8 @@ keys_in other = None
 abbrev pub message_in : Option Object → Option HostMessage
 message_in (Some (Message m)) = Some m
 message_in other = None
+
+-- the packet that a handle is of
+abbrev pub packet_in : Option Object → Option HostPacket
+packet_in (Some (Packet p)) = Some p
+packet_in other = None

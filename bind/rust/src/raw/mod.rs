@@ -92,6 +92,27 @@ pub(crate) struct Answer {
     pub payload_len: usize,
 }
 
+/// A frame: what its type does not have is 0.
+#[repr(C)]
+#[derive(Clone, Copy, Default)]
+pub(crate) struct Frame {
+    pub stream: u64,
+    pub first: u64,
+    pub second: u64,
+    pub kind: u32,
+    pub code: u32,
+}
+
+/// The numbers of a STREAM packet.
+#[repr(C)]
+#[derive(Clone, Copy, Default)]
+pub(crate) struct Header {
+    pub sequence: u64,
+    pub amount: u64,
+    pub frames: usize,
+    pub kind: u32,
+}
+
 /// What the bytes of a message are so far.
 #[repr(C)]
 #[derive(Clone, Copy, Default)]
@@ -214,6 +235,24 @@ unsafe extern "C" {
         len: usize,
         fulfillment: &mut [u8; 32],
     ) -> u32;
+    pub(crate) safe fn ilp_packet_new(
+        packet: &mut Handle,
+        kind: u32,
+        sequence: u64,
+        amount: u64,
+    ) -> u32;
+    fn ilp_packet_read(packet: &mut Handle, kind: u32, bytes: *const u8, len: usize) -> u32;
+    pub(crate) safe fn ilp_packet_header(packet: &mut Handle, header: &mut Header) -> u32;
+    fn ilp_packet_push(packet: &mut Handle, frame: &Frame, data: *const u8, len: usize) -> u32;
+    pub(crate) safe fn ilp_packet_frame(
+        packet: &mut Handle,
+        place: usize,
+        frame: &mut Frame,
+        index: &mut u64,
+        len: &mut usize,
+    ) -> u32;
+    pub(crate) safe fn ilp_packet_write(packet: &mut Handle, len: &mut usize) -> u32;
+
     pub(crate) safe fn ilp_condition(fulfillment: &[u8; 32], condition: &mut [u8; 32]);
 
     fn ilp_prepare_read(bytes: *const u8, len: usize, prepare: &mut Prepare) -> u32;
@@ -406,6 +445,14 @@ pub(crate) fn keys_fulfillment(
     fulfillment: &mut [u8; 32],
 ) -> u32 {
     unsafe { ilp_keys_fulfillment(keys, payload.as_ptr(), payload.len(), fulfillment) }
+}
+
+pub(crate) fn packet_read(packet: &mut Handle, kind: u32, bytes: &[u8]) -> u32 {
+    unsafe { ilp_packet_read(packet, kind, bytes.as_ptr(), bytes.len()) }
+}
+
+pub(crate) fn packet_push(packet: &mut Handle, frame: &Frame, data: &[u8]) -> u32 {
+    unsafe { ilp_packet_push(packet, frame, data.as_ptr(), data.len()) }
 }
 
 pub(crate) fn prepare_read(bytes: &[u8], prepare: &mut Prepare) -> u32 {

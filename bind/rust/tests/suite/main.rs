@@ -5,4 +5,7 @@ mod ends;
 mod hops;
 mod hostile;
 mod http;
+mod ilp;
+mod keys;
+mod packets;
 mod seeds;

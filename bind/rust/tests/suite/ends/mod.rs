@@ -1,11 +1,13 @@
-//! An end: each request for memory of each call refused in turn, also while both ends send; and two ends between which
-//! Prepares and answers are lost, repeated and reordered.
+//! An end: what it sends and receives, packet by packet; each request for memory of each call refused in turn, also while both
+//! ends send; and two ends between which Prepares and answers are lost, repeated and reordered, also over hops.
 
 use ilpstream::{End, EndConfig, Error, Role};
 
 mod both_ways;
+mod chains;
 mod lossy;
 mod memory;
+mod packets;
 mod sides;
 mod worked;
 

@@ -19,8 +19,10 @@ pub struct Lane {
     /// How many bytes were read.
     read: u64,
     closed: bool,
-    /// Whether the end was told.
+    /// Whether the end was told, or that the peer aborted the stream.
     ended: bool,
+    /// Whether either end may abort the stream.
+    may_abort: bool,
 }
 
 /// The byte at an offset.
@@ -47,7 +49,35 @@ impl Lane {
             read: 0,
             closed: false,
             ended: false,
+            may_abort: false,
         }
+    }
+
+    /// The same of a stream that each end may abort.
+    pub fn that_may_abort(self) -> Lane {
+        Lane {
+            may_abort: true,
+            ..self
+        }
+    }
+
+    /// Aborts the stream, where that may be and it is open.
+    pub fn abort(&mut self, end: &mut End) {
+        if self.may_abort && !self.closed && end.has_stream(self.stream).unwrap() {
+            end.abort(self.stream, 9).unwrap();
+            self.closed = true;
+        }
+    }
+
+    /// Whether all that was written at the peer was read, and all of this end's is settled; less where it may be aborted.
+    pub fn is_done(&self, end: &mut End, peer: &Lane) -> bool {
+        let is_whole = self.read == peer.total || self.may_abort && self.read <= peer.total;
+        self.closed && self.ended && is_whole && end.settled(self.stream).unwrap()
+    }
+
+    /// How much is offered in all.
+    pub fn money(&self) -> u64 {
+        self.money
     }
 
     /// Writes and offers so much of what is left, where the stream is open, and closes the stream once nothing is.
@@ -84,7 +114,10 @@ impl Lane {
             }
             Ok(Read::End) => self.ended = true,
             Ok(Read::Nothing) => {}
-            Ok(Read::Aborted(code)) => panic!("nothing was aborted, and not by {code}"),
+            Ok(Read::Aborted(code)) => {
+                assert!(self.may_abort && code == 9, "aborted by {code}");
+                self.ended = true;
+            }
             Err(error) => assert_eq!(error, Error::NoStream),
         }
     }
@@ -219,10 +252,9 @@ impl Side {
     /// That all bytes and all money came to the peer, and all ended here.
     pub fn check_done(&mut self, peer: &mut Side) {
         for (lane, other) in self.lanes.iter().zip(&peer.lanes) {
-            assert!(lane.closed && lane.ended && self.end.settled(lane.stream).unwrap());
-            assert_eq!(lane.read, other.total);
+            assert!(lane.is_done(&mut self.end, other));
         }
-        let offers: u64 = self.lanes.iter().map(|lane| lane.money).sum();
+        let offers: u64 = self.lanes.iter().map(Lane::money).sum();
         assert_eq!(self.end.totals().unwrap().paid, offers);
         assert_eq!(peer.end.totals().unwrap().credited, peer.fulfilled);
         assert!(!self.end.is_failed().unwrap() && self.is_covered(peer));

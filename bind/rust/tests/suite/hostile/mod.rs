@@ -17,6 +17,7 @@ mod hops;
 mod http;
 mod ilp;
 mod keys;
+mod packets;
 pub(crate) mod plain;
 mod plain_end;
 mod plain_hop;
