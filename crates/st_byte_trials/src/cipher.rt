@@ -1,8 +1,7 @@
 mod vectors;
 
 use st_aes::{Key, block, seal, unseal};
-use std::test::*;
-use vectors::{CIPHERTEXT, LONG_FIRST, LONG_LAST, LONG_TAG, TAG_OF_TAGS, TAGS, case_15};
+use vectors::case_15;
 
 /// Byte i is `first + step * i` modulo 256.
 fn rising<const N: usize>(first: u8, step: u8) -> [u8; N] {
@@ -72,63 +71,4 @@ fn case_of_the_submission(rt: HostRuntime) {
     let tag = seal(&key, case_15::IV, &mut text);
     sure!(&rt; text == case_15::CIPHERTEXT);
     sure!(&rt; tag == case_15::TAG);
-}
-
-/// Seals the front of a text of this length, where the text is long enough, and opens it again: the tag, and whether the rest
-/// stayed, the front became these bytes, and then was as before.
-fn there_and_back<const N: usize>(
-    key: &Key,
-    text: &[u8; N],
-    length: usize,
-    want: &[u8],
-) -> Option<[u8; 16]> {
-    let iv = rising(0xa0, 1);
-    let mut sealed = *text;
-    let (front, rest) = sealed.split_at_mut_checked(length)?;
-    let tag = seal(key, iv, front);
-    let is_sealed = *front == *want.get(..length)? && Some(&*rest) == text.get(length..);
-    if is_sealed && unseal(key, iv, tag, front) && sealed == *text {
-        Some(tag)
-    } else {
-        None
-    }
-}
-
-#[test]
-fn lengths(rt: HostRuntime) {
-    let key = Key::new(rising(0, 1));
-    let text: [u8; 33] = rising(3, 7);
-    for (length, tag) in TAGS {
-        sure!(&rt; there_and_back(&key, &text, length, &CIPHERTEXT) == Some(tag), length as u64);
-    }
-}
-
-/// Whole blocks with and without a short one behind them, from none to eight: fewer than one pass takes, as many, one more,
-/// and the same about two passes.
-#[test]
-fn each_length(rt: HostRuntime) {
-    let key = Key::new(rising(0, 1));
-    let text: [u8; 130] = rising(3, 7);
-    let mut tags = [0u8; 2096];
-    for length in 0..131usize {
-        let Some(tag) = there_and_back(&key, &text, length, &CIPHERTEXT) else {
-            panic!(rt; "at {length} bytes");
-        };
-        tags[16 * length..16 * length + 16].copy_from_slice(&tag);
-    }
-    sure!(&rt; seal(&key, [0; 12], &mut tags) == TAG_OF_TAGS);
-}
-
-#[test]
-fn long_text(rt: HostRuntime) {
-    let key = Key::new(rising(0, 1));
-    let iv = rising(0xa0, 1);
-    let text: [u8; 16384] = rising(3, 7);
-    let mut sealed = text;
-    let tag = seal(&key, iv, &mut sealed);
-    sure!(&rt; tag == LONG_TAG);
-    sure!(&rt; sealed.starts_with(&LONG_FIRST));
-    sure!(&rt; sealed.ends_with(&LONG_LAST));
-    sure!(&rt; unseal(&key, iv, tag, &mut sealed));
-    sure!(&rt; sealed == text);
 }

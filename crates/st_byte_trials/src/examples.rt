@@ -1,5 +1,9 @@
 //! Examples of the README, word for word: what they read or do, and what they answer. Each can be pasted as it is.
 
+mod fields;
+mod packets;
 mod pieces;
+mod prepares;
+mod responses;
 mod sealing;
 mod texts;

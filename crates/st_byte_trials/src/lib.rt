@@ -1,7 +1,7 @@
-//! Tests of what holds, moves and seals bytes: a stream's bytes on either side, the rings and the gauge, `send_all` and
-//! `store_all` over devices that move few bytes a call, fail or interrupt, the cipher, keys and sealed packets by the
-//! standards' vectors; and each request for memory refused in turn. No contract can say that turns or memory suffice, or how
-//! many bytes there are before a fault: these tests do.
+//! Tests of what holds, moves and seals bytes: fields, a stream's bytes on either side, the rings and the gauge, `send_all`,
+//! `store_all` and HTTP over devices that move few bytes a call, fail or interrupt, the cipher, keys and sealed packets by the
+//! standards' vectors; and requests for memory refused in turn. No contract can say that turns or memory suffice, or how many
+//! bytes there are before a fault: these tests do. Packets, keys and readings of HTTP are tested in bind/rust/tests too.
 #![tactic(auto)]
 
 #[cfg(test)]
@@ -36,7 +36,11 @@ mod devices;
 #[cfg(test)]
 mod examples;
 #[cfg(test)]
+mod fields;
+#[cfg(test)]
 mod held;
+#[cfg(test)]
+mod http;
 #[cfg(test)]
 mod inbox;
 #[cfg(test)]
@@ -46,10 +50,10 @@ mod memory;
 #[cfg(test)]
 mod moves;
 #[cfg(test)]
+mod packets;
+#[cfg(test)]
 mod rings;
 #[cfg(test)]
 mod sealing;
-#[cfg(test)]
-mod sent;
 #[cfg(test)]
 mod unacked;

@@ -1,8 +1,8 @@
-//! Sealed packets: what memory sealing asks for, the greatest packet, and what opening leaves of a payload.
+//! Sealed packets: what memory sealing asks for, and what opening leaves of a payload.
 
 use refusing::Refusing;
 use st_frames::{Frame, FrameError};
-use st_keys::{KeyError, Keys, OVERHEAD};
+use st_keys::{KeyError, Keys};
 use std::alloc::Global;
 use std::test::Fail;
 
@@ -36,16 +36,6 @@ const EMPTY: [u8; 28] = [
     0x62, 0x6c, 0xe3, 0xe6, 0x76, 0xdd, 0xcf, 0xb0, 0xf2, 0xa8, 0xe0, 0xdf,
 ];
 
-/// How many bytes of data fill a packet of sequence 1, amount 0 and one frame of stream 1 at offset 0: 32,739 less 19.
-const FULL: usize = 32_720;
-
-/// The fulfillment of such a packet whose data are bytes of 7, sealed so: the HMAC-SHA256 of all 32,767 bytes of its
-/// payload, by `AESGCM`, `hmac` and `hashlib` of Python.
-const FULL_FULFILLMENT: [u8; 32] = [
-    0xf3, 0x9b, 0x34, 0x7d, 0x26, 0x38, 0x4f, 0x89, 0x04, 0xd4, 0xa2, 0x49, 0x48, 0x39, 0x4a, 0x4e,
-    0x15, 0xdc, 0x79, 0xf8, 0x88, 0xf3, 0x54, 0x67, 0x54, 0xc9, 0x52, 0x69, 0xfc, 0xe6, 0x22, 0x3e,
-];
-
 /// How sealing these frames is refused, if it is.
 fn refusal(heap: &Refusing<Global>, keys: &Keys, frames: &[Frame<'_>]) -> Option<KeyError> {
     keys.seal_packet(heap, IV, 12, 1, 0, frames).err()
@@ -64,53 +54,6 @@ fn a_packet_is_sealed_or_not(rt: HostRuntime) {
     let payload = sealed.expect(&rt, "it is sealed");
     sure!(&rt; (heap.asked(), payload.capacity()) == (1, 45));
     sure!(&rt; payload.as_slice() == SEALED.as_slice());
-}
-
-/// Bytes of stream 1 from offset 0 on.
-fn data(bytes: &[u8]) -> Frame<'_> {
-    Frame::StreamData {
-        stream: 1,
-        offset: 0,
-        bytes,
-    }
-}
-
-/// Whether a payload's packet is these bytes of stream 1, and its IV stays in front.
-fn opens(keys: &Keys, payload: &mut [u8], bytes: &[u8]) -> bool {
-    let first = match keys.open_packet(payload, 12) {
-        Ok(packet) => packet.frames.again().next() == Some((0, data(bytes))),
-        Err(_) => false,
-    };
-    first && payload.starts_with(&IV)
-}
-
-/// The greatest plain packet, of 32,739 bytes, makes a payload of 32,767 and one request.
-#[test]
-fn the_greatest_packet(rt: HostRuntime) {
-    let heap: Refusing<Global> = Refusing::new(rt.alloc());
-    let keys = Keys::of([0; 32]);
-    let full = [7u8; FULL];
-    heap.refuse_from(2);
-    let sealed = keys.seal_packet(&heap, IV, 12, 1, 0, &[data(&full)]);
-    let mut payload = sealed.expect(&rt, "it is sealed");
-    sure!(&rt; heap.asked() == 1);
-    sure!(&rt; (payload.len(), payload.capacity()) == (32_767, 32_767));
-    sure!(&rt; keys.fulfillment(&payload) == FULL_FULFILLMENT);
-    sure!(&rt; opens(&keys, &mut payload, &full));
-}
-
-/// One byte more is refused, and so is an address that is none, and neither asks for memory.
-#[test]
-fn what_is_not_sealed_asks_for_no_memory(rt: HostRuntime) {
-    let heap: Refusing<Global> = Refusing::new(rt.alloc());
-    let keys = Keys::of([0; 32]);
-    heap.refuse_from(1);
-    let large = refusal(&heap, &keys, &[data(&[7; FULL + 1])]);
-    sure!(&rt; large == Some(KeyError::Packet(FrameError::TooLong)));
-    let stranger = Frame::ConnectionNewAddress { address: "a..b" };
-    let unwritable = refusal(&heap, &keys, &[HI, stranger]);
-    sure!(&rt; unwritable == Some(KeyError::Packet(FrameError::FrameFormat(1))));
-    sure!(&rt; heap.asked() == 0);
 }
 
 /// Opening leaves IV and tag as they were, and the text behind them.
@@ -135,18 +78,6 @@ fn what_a_refused_packet_leaves(rt: HostRuntime) {
     let refused = keys.open_packet(&mut empty, 12).err();
     sure!(&rt; refused.map(|e| (e.number(), e.inner())) == Some((32, Some(22))));
     sure!(&rt; empty == EMPTY);
-}
-
-/// A payload that is too short keeps every byte.
-#[test]
-fn what_a_short_payload_leaves(rt: HostRuntime) {
-    let keys = Keys::of([0; 32]);
-    for length in 0..OVERHEAD {
-        let mut short = SEALED;
-        let refused = keys.open_packet(&mut short[..length], 12).err();
-        assert!(rt; refused == Some(KeyError::Short), "at {length}");
-        assert!(rt; short == SEALED, "at {length}");
-    }
 }
 
 /// So does one with a wrong byte in its IV, its tag or its ciphertext.

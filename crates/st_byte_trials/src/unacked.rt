@@ -31,67 +31,6 @@ fn partly_sent<'a>(rt: &impl Abort, heap: &'a Heap) -> Unacked<&'a Heap> {
     bytes
 }
 
-/// Accepts while this request is refused. Whether it was met: nothing is accepted then, and the same call succeeds.
-fn accept_refused(rt: &impl Abort, heap: &Heap, n: u64) -> bool {
-    let mut bytes = Unacked::new(heap);
-    heap.refuse_only(n);
-    let is_accepted = accept(&mut bytes, b"abc").is_ok();
-    let met = heap.has_refused();
-    heap.refuse_none();
-    assert!(rt; is_accepted != met, "at {n}");
-    if met {
-        assert!(rt;
-            (bytes.accepted(), bytes.lowest_due()) == (0, None),
-            "at {n}"
-        );
-        assert!(rt; accept(&mut bytes, b"abc").is_ok(), "at {n}");
-    }
-    assert!(rt; bytes.lowest_due() == Some((0, 3)), "at {n}");
-    met
-}
-
-/// Each request of an accept is refused in turn.
-#[test]
-fn accept_is_whole_or_not_at_all(rt: HostRuntime) {
-    let heap: Heap = Refusing::new(rt.alloc());
-    for n in 1..1000u64 {
-        if !accept_refused(&rt, &heap, n) {
-            assert!(rt; 1 < n);
-            return;
-        }
-    }
-    panic!(rt; "no run met no refusal");
-}
-
-/// The same for a claim.
-fn claim_refused(rt: &impl Abort, heap: &Heap, n: u64) -> bool {
-    let mut bytes = partly_sent(rt, heap);
-    heap.refuse_only(n);
-    let is_claimed = claim(&mut bytes, 2).is_ok();
-    let met = heap.has_refused();
-    heap.refuse_none();
-    assert!(rt; is_claimed != met, "at {n}");
-    if met {
-        assert!(rt; bytes.lowest_due() == Some((2, 6)), "at {n}");
-        assert!(rt; claim(&mut bytes, 2).is_ok(), "at {n}");
-    }
-    assert!(rt; bytes.lowest_due() == Some((4, 6)), "at {n}");
-    assert!(rt; bytes.acknowledged(2) == 4, "at {n}");
-    met
-}
-
-#[test]
-fn claim_is_whole_or_not_at_all(rt: HostRuntime) {
-    let heap: Heap = Refusing::new(rt.alloc());
-    for n in 1..1000u64 {
-        if !claim_refused(&rt, &heap, n) {
-            assert!(rt; 1 < n);
-            return;
-        }
-    }
-    panic!(rt; "no run met no refusal");
-}
-
 /// What an answer does asks for no memory.
 #[test]
 fn answers_ask_for_no_memory(rt: HostRuntime) {

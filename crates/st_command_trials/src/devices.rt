@@ -2,7 +2,7 @@
 //! and what it had flushed when a call failed.
 
 use st_commands::{Fault, Lines, answer_frames, run_frames};
-use st_oer::{CountRead, CountWrite, Counted, FailAt, utf8};
+use st_oer::{CountRead, CountWrite, utf8};
 use std::alloc::{Allocator, Global};
 use std::io;
 use std::io::{ErrorKind, Read, Write};
@@ -335,55 +335,6 @@ fn a_run_makes_many_calls(rt: HostRuntime) {
     sure!(&rt; is_of_many(told.text()));
     sure!(&rt; told.fault() == "");
     sure!(&rt; told.status == 1);
-}
-
-/// A run whose reader's call number `k` fails.
-fn read_fails(rt: &impl Abort, alloc: Global, k: u64, text: &str, fault: &str) {
-    let mut reader = CountRead::new(FailAt::new(MIXED.as_bytes(), k));
-    let mut writer = CountWrite::new(Sink::new(alloc));
-    let mut errors = CountWrite::new(Sink::new(alloc));
-    let answer = run_frames(alloc, &mut reader, &mut writer, &mut errors);
-    sure!(rt; answer == 1, k);
-    sure!(rt; reader.faults() == u64::from(k < 3), k);
-    sure!(rt; writer.into_inner().text() == text, k);
-    sure!(rt; errors.into_inner().text() == fault, k);
-}
-
-/// A run whose writer's call number `k` fails.
-fn write_fails(rt: &impl Abort, alloc: Global, k: u64, text: &str, fault: &str) {
-    let mut reader = CountRead::new(MIXED.as_bytes());
-    let mut writer = CountWrite::new(FailAt::new(Sink::new(alloc), k));
-    let mut errors = CountWrite::new(Sink::new(alloc));
-    let answer = run_frames(alloc, &mut reader, &mut writer, &mut errors);
-    sure!(rt; answer == 1, k);
-    sure!(rt; writer.faults() == u64::from(k < 7), k);
-    sure!(rt; writer.tally().calls == k.min(6), k);
-    sure!(rt; writer.into_inner().into_inner().text() == text, k);
-    sure!(rt; errors.into_inner().text() == fault, k);
-}
-
-/// One call of the reader fails, and then one of the writer, in turn, until a run meets no failure: the fault is told by its
-/// number, and what was flushed before stands.
-#[test]
-fn each_call_fails_in_turn(rt: HostRuntime) {
-    for (k, text, fault) in [
-        (1, "", "fault 90\n"),
-        (2, TWO_LINES, "fault 90\n"),
-        (3, MIXED_TEXT, ""),
-    ] {
-        read_fails(&rt, rt.alloc(), k, text, fault);
-    }
-    for (k, text, fault) in [
-        (1, "", "fault 91\n"),
-        (2, "", "fault 91\n"),
-        (3, TWO_LINES, "fault 91\n"),
-        (4, TWO_LINES, "fault 91\n"),
-        (5, THREE_LINES, "fault 91\n"),
-        (6, THREE_LINES, "fault 91\n"),
-        (7, MIXED_TEXT, ""),
-    ] {
-        write_fails(&rt, rt.alloc(), k, text, fault);
-    }
 }
 
 /// A fault that cannot be told is a fault, whichever call of the writer of errors fails.

@@ -1,6 +1,6 @@
-//! Tests of the words of the commands, of a connector's table and of the command `frames`: each command's words with values
-//! from outside, each bad text, what `frames` answers, also over devices that fail, and each request for memory refused in
-//! turn. No contract can say that memory is to be had, or what a device gives: these tests do.
+//! Tests of the command `frames` over devices that move few bytes a call, fail or interrupt, and of `frames` and a connector's table
+//! while each request for memory is refused in turn. No contract can say that memory is to be had, or what a device gives: these
+//! tests do. What the commands answer to their inputs and their arguments is tested by runs of the program.
 #![tactic(auto)]
 
 #[cfg(test)]
@@ -11,9 +11,6 @@ use std::process::Abort;
 macro_rules! sure {
     ($rt:expr; $fact:expr) => {
         crate::sure($rt, $fact, stringify!($fact))
-    };
-    ($rt:expr; $fact:expr, of $text:expr) => {
-        crate::sure_of($rt, $fact, stringify!($fact), $text)
     };
     ($rt:expr; $fact:expr, $at:expr) => {
         crate::sure_at($rt, $fact, stringify!($fact), $at)
@@ -31,12 +28,6 @@ fn sure_at(rt: &impl Abort, holds: bool, fact: &str, n: u64) {
     assert!(rt; holds, "not so at {n}: {fact}");
 }
 
-/// The same of a text in a table.
-#[cfg(test)]
-fn sure_of(rt: &impl Abort, holds: bool, fact: &str, text: &str) {
-    assert!(rt; holds, "not so of {text}: {fact}");
-}
-
 #[cfg(test)]
 mod devices;
 #[cfg(test)]
@@ -47,5 +38,3 @@ mod frames;
 mod memory;
 #[cfg(test)]
 mod tables;
-#[cfg(test)]
-mod words;

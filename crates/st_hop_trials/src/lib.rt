@@ -1,6 +1,6 @@
-//! Tests of a hop whose memory is that of another allocator than `Global`, of its tickets, of a hop that threads serve through
-//! links in memory, of links that fail, and of a desk while each request for memory is refused in turn, up to `LAST` or until a run
-//! meets no refusal. All else of a hop is tested over the library for other languages, in bind/rust/tests.
+//! Tests of a hop that threads serve through links in memory, of links that fail, and of a desk while each request for memory is
+//! refused in turn, until a run meets no refusal. All else of a hop is tested over the library for other languages, in
+//! bind/rust/tests.
 #![tactic(auto)]
 
 #[cfg(test)]
@@ -40,11 +40,3 @@ mod hop;
 mod memory;
 #[cfg(test)]
 mod threads;
-#[cfg(test)]
-mod tickets;
-#[cfg(test)]
-mod waiting;
-
-/// The number of the last request that is refused in turn. No call that is tried up to it makes as many.
-#[cfg(test)]
-const LAST: u64 = 19;

@@ -1,5 +1,5 @@
-//! Tests of hubs: what is written is read at another hub, eight writers of a stream, shares of the credit, workers in
-//! threads, and memory that is refused.
+//! Tests of hubs: what is written is read at another hub, two writers of a stream, shares of the credit, workers in threads, and
+//! memory that is refused.
 #![tactic(auto)]
 
 #[cfg(test)]
@@ -45,8 +45,6 @@ mod memory;
 mod moved;
 #[cfg(test)]
 mod readings;
-#[cfg(test)]
-mod rings;
 #[cfg(test)]
 mod stops;
 #[cfg(test)]

@@ -1,101 +1,22 @@
-//! A server's hub while memory is refused: what it moved stands, a worker tells it, and the other calls ask for none.
+//! A server's hub while memory is refused: a worker tells it, and the other calls ask for none.
 
 use crate::ends::{Counting, moment, stopped_clock};
-use crate::hubs::{pump, rest, share_of};
+use crate::hubs::{rest, share_of};
 use crate::memory::{Refused, begin, came, prepare, run};
 use refusing::Refusing;
 use st_desk::{Link, LinkFault};
 use st_hop::Outcome;
-use st_hub::{Bench, HubError, HubLink, HubState, WorkEnd, Worker, work};
+use st_hub::{Bench, CreditShare, HubError, HubLink, HubState, WorkEnd, Worker, work};
 use st_ilp::Moment;
 use st_queues::{Gauge, GaugeSeat, Got, HubName, StreamReader, StreamWriter};
 use std::alloc::{Allocator, Global};
 use std::process::Abort;
 use std::sync::Wait;
 
-/// Two chunks are pumped, where the request number n is refused: those moved stand, and the next is where it was.
-#[derive(Drop)]
-struct Pumped {
-    n: u64,
-}
-
-/// Pumps, while this request is refused: whether one was.
-fn pump_refused<N: HubName<A>, A: Allocator + Copy>(
-    heap: &Refusing<Global>,
-    hub: &mut HubState<N, A>,
-    n: u64,
-) -> bool {
-    heap.refuse_only(n);
-    let _told = hub.pump();
-    let was = heap.has_refused();
-    heap.refuse_none();
-    was
-}
-
-/// How many bytes of the two chunks are not in the writer's ring any more.
-fn moved<N: HubName<A>, A: Allocator + Copy>(
-    hub: &mut HubState<N, A>,
-    writer: &mut StreamWriter<N, A>,
-) -> u64 {
-    match hub.meet_writer(writer) {
-        0 => 4,
-        1 => 2,
-        _ => 0,
-    }
-}
-
-impl Pumped {
-    fn pump_at<N: HubName<A>, A: Allocator + Copy>(
-        &self,
-        rt: &impl Abort,
-        heap: &Refusing<Global>,
-        hub: &mut HubState<N, A>,
-        writer: &mut StreamWriter<N, A>,
-        gauge: &Gauge<N, A>,
-        seat: &mut GaugeSeat<N, A>,
-    ) -> bool {
-        let was = pump_refused(heap, hub, self.n);
-        sure!(rt; gauge.seen(seat).accepted == moved(hub, writer));
-        pump(rt, hub);
-        sure!(rt; gauge.seen(seat).accepted == 4);
-        sure!(rt; hub.meet_writer(writer) == 0);
-        was
-    }
-}
-
-impl<R: Wait + Abort> Refused<R> for Pumped {
-    fn run<N: HubName<A>, A: Allocator + Copy>(
-        &self,
-        rt: &R,
-        heap: &Refusing<Global>,
-        alloc: A,
-        hub: &Bench<N, A>,
-        gauge: &Gauge<N, A>,
-        seat: &mut GaugeSeat<N, A>,
-    ) -> bool {
-        let hub = &mut *hub.lock(rt);
-        let (mut writer, _reader) = begin(rt, alloc, hub);
-        self.pump_at(rt, heap, hub, &mut writer, gauge, seat)
-    }
-}
-
-#[test]
-fn what_was_moved_stands(rt: HostRuntime) {
-    let heap: Refusing<Global> = Refusing::new(rt.alloc());
-    for n in 1..1_000u64 {
-        if !run(&rt, &heap, &Pumped { n }) {
-            sure!(&rt; 1 < n);
-            return;
-        }
-    }
-    panic!(rt; "no run met no refusal");
-}
-
-/// Calls on money, shares and streams that never want memory.
+/// Calls on money and streams that never want memory.
 fn call_streams<N: HubName<A>, A: Allocator + Copy>(rt: &impl Abort, hub: &mut HubState<N, A>) {
     sure!(rt; hub.offer(1, 5) == Ok(()));
     sure!(rt; hub.set_receive_max(1, 200) == Ok(()));
-    sure!(rt; hub.share().is_ok());
     sure!(rt; hub.add_writer(1).is_ok());
     sure!(rt; hub.take_stream().is_some());
     sure!(rt; hub.take_stream().is_none());
@@ -146,6 +67,22 @@ fn ask_none<N: HubName<A>, A: Allocator + Copy>(
     sure!(rt; finished(heap, hub, moment(rt)) == Ok(0));
 }
 
+/// A hub's one share, which was credited 10 units, comes back.
+fn gather_all<N: HubName<A>, A: Allocator + Copy>(
+    rt: &impl Abort,
+    heap: &Refusing<Global>,
+    alloc: A,
+    hub: &mut HubState<N, A>,
+    share: CreditShare<N>,
+) {
+    heap.refuse_none();
+    let mut shares = Vec::new(alloc);
+    sure!(rt; shares.push(share).is_ok());
+    heap.refuse_from(1);
+    sure!(rt; matches!(hub.gather(shares), Ok(10)));
+    sure!(rt; heap.asked() == 0);
+}
+
 /// A hub whose peer opened stream 1.
 #[derive(Drop)]
 struct AskNone<'a> {
@@ -160,10 +97,14 @@ impl AskNone<'_> {
         alloc: A,
         hub: &mut HubState<N, A>,
     ) {
+        heap.refuse_from(1);
         let mut share = share_of(rt, hub);
+        sure!(rt; heap.asked() == 0);
+        heap.refuse_none();
         let (mut writer, mut reader) = begin(rt, alloc, hub);
         sure!(rt; came(hub, &mut share, self.prepare, moment(rt)) == Ok(10));
         ask_none(rt, heap, hub, &mut writer, &mut reader);
+        gather_all(rt, heap, alloc, hub, share);
     }
 }
 
@@ -188,45 +129,6 @@ fn the_other_calls_ask_for_no_memory(rt: HostRuntime) {
     let prepare = prepare(&rt, rt.alloc());
     let prepare = prepare.as_slice();
     sure!(&rt; !run(&rt, &heap, &AskNone { prepare }));
-}
-
-/// A hub's shares come back.
-fn gather_all<N: HubName<A>, A: Allocator + Copy>(
-    rt: &impl Abort,
-    heap: &Refusing<Global>,
-    alloc: A,
-    hub: &mut HubState<N, A>,
-) {
-    let mut shares = Vec::new(alloc);
-    sure!(rt; shares.push(share_of(rt, hub)).is_ok());
-    heap.refuse_from(1);
-    sure!(rt; matches!(hub.gather(shares), Ok(0)));
-    sure!(rt; heap.asked() == 0);
-}
-
-/// A hub is made and its shares come back.
-#[derive(Drop)]
-struct Gathers;
-
-impl<R: Wait + Abort> Refused<R> for Gathers {
-    fn run<N: HubName<A>, A: Allocator + Copy>(
-        &self,
-        rt: &R,
-        heap: &Refusing<Global>,
-        alloc: A,
-        hub: &Bench<N, A>,
-        _gauge: &Gauge<N, A>,
-        _seat: &mut GaugeSeat<N, A>,
-    ) -> bool {
-        gather_all(rt, heap, alloc, &mut *hub.lock(rt));
-        false
-    }
-}
-
-#[test]
-fn shares_are_gathered_without_memory(rt: HostRuntime) {
-    let heap: Refusing<Global> = Refusing::new(rt.alloc());
-    sure!(&rt; !run(&rt, &heap, &Gathers));
 }
 
 /// A worker and a link whose hub finds no memory.

@@ -1,4 +1,4 @@
-//! Hubs whose workers have threads of their own.
+//! A hub whose workers have threads of their own.
 ghost use Rattle.std.specs.Prelude.{◌≡◌, ℕ};
 ghost use Rattle.st_queues.specs.Lanes.{ring_at};
 ghost use Rattle.st_hub.specs.Hub.{IsNew};
@@ -6,7 +6,6 @@ ghost use Rattle.st_hub.specs.Hub.{IsNew};
 use crate::ends::{client, server};
 use crate::gates::two_workers;
 use crate::hubs::{new_hubs, new_rings};
-use crate::stops::two_stop;
 use st_end::EndState;
 use st_queues::{HubName, Rings};
 use std::alloc::Global;
@@ -15,13 +14,6 @@ use std::process::Abort;
 use std::sync::Wait;
 use std::sync::ledger::Blank;
 use std::thread::Threads;
-
-/// What is tried with two workers.
-#[derive(Clone, Copy)]
-enum Workers {
-    PassTheGate,
-    Stop,
-}
 
 fn run_named<
     N: HubName<Global> + Send + Sync,
@@ -36,7 +28,6 @@ fn run_named<
     far: EndState<Global>,
     far_rings: Rings<Global>,
     far_blank: Blank,
-    workers: Workers,
 )
     requires near { IsNew near }
     requires near_gauge { near_rings.gauge ≡ N.gauge }
@@ -52,18 +43,11 @@ fn run_named<
     let (hubs, mut seat) = new_hubs::<N, M>(
         near, near_rings, near_blank, far, far_rings, far_blank,
     );
-    match workers {
-        Workers::PassTheGate => two_workers(rt, alloc, &hubs, &mut seat),
-        Workers::Stop => two_stop(rt, &hubs, &mut seat),
-    }
+    two_workers(rt, alloc, &hubs, &mut seat);
 }
 
 /// Tries this with new hubs, the first of which sends at most 10 units in a Prepare.
-fn run<R: Threads + Wait + Abort + std::time::Clock + Sync>(
-    rt: &R,
-    alloc: Global,
-    workers: Workers,
-) {
+fn run<R: Threads + Wait + Abort + std::time::Clock + Sync>(rt: &R, alloc: Global) {
     run_named::<Brand, Brand, R>(
         rt,
         alloc,
@@ -73,16 +57,10 @@ fn run<R: Threads + Wait + Abort + std::time::Clock + Sync>(
         server(rt, alloc),
         new_rings(rt, alloc),
         Blank::new(64),
-        workers,
     );
 }
 
 #[test]
 fn two_workers_pass_the_gate(rt: HostRuntime) {
-    run(&rt, rt.alloc(), Workers::PassTheGate);
-}
-
-#[test]
-fn no_worker_of_a_stopped_hub_lives_on(rt: HostRuntime) {
-    run(&rt, rt.alloc(), Workers::Stop);
+    run(&rt, rt.alloc());
 }

@@ -113,33 +113,3 @@ impl<R: Wait + Abort + std::time::Clock> Trial<R> for TwoWriters {
 fn two_writers_are_merged(rt: HostRuntime) {
     run(&rt, rt.alloc(), 1_000, &TwoWriters);
 }
-
-/// Seven further writers are given, and the eighth is refused.
-fn add_nine<N: HubName<Global>>(rt: &impl Abort, hub: &mut HubState<N, Global>) {
-    let (stream, _writer) = open(rt, hub);
-    for _ in 0..7u8 {
-        sure!(rt; refusal(hub, stream) == 0);
-    }
-    sure!(rt; refusal(hub, stream) == 76);
-    sure!(rt; hub.take_stream().is_none());
-}
-
-#[derive(Drop)]
-struct NineWriters;
-
-impl<R: Wait + Abort> Trial<R> for NineWriters {
-    fn run<N: HubName<Global>, M: HubName<Global>>(
-        &self,
-        rt: &R,
-        _alloc: Global,
-        hubs: &Locked<N, M>,
-        _seat: &mut GaugeSeat<N, Global>,
-    ) {
-        add_nine(rt, &mut *hubs.near.lock(rt));
-    }
-}
-
-#[test]
-fn a_ninth_writer_is_refused(rt: HostRuntime) {
-    run(&rt, rt.alloc(), 1_000, &NineWriters);
-}

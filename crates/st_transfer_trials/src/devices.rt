@@ -1,15 +1,14 @@
 //! Inputs, outputs and listeners that fail.
 
 use crate::sides::{Terms, connect, receive, with_money};
-use crate::silence::Failing;
 use crate::transfers::{Kept, Place, listen, pattern, transfer, transfer_into};
 use st_file::FileError;
 use st_oer::{Counting, FailAt, Rate};
-use st_transfer::TransferError;
+use st_transfer::{AwaitListener, TransferError};
 use std::alloc::Global;
 use std::io;
 use std::io::{ErrorKind, Write};
-use std::net::{Net, TcpListener, TcpStream};
+use std::net::{Net, OpenListener, SocketAddr, TcpListener, TcpStream};
 use std::process::Abort;
 use std::sync::Wait;
 use std::thread::Threads;
@@ -141,20 +140,29 @@ fn an_output_that_is_always_interrupted_uses_up_the_turns(rt: HostRuntime) {
     assert!(rt; sent == Err(TransferError::Failed));
 }
 
+/// A listener of which each accept fails.
+#[derive(Drop)]
+struct Failing;
+
+impl OpenListener for Failing {
+    type Stream = TcpStream;
+
+    fn accept(&self) -> io::Result<(TcpStream, SocketAddr)> {
+        Err(io::Error::from(ErrorKind::Other))
+    }
+}
+
+impl AwaitListener for Failing {}
+
 /// A listener gives no connection, since each accept fails, or since it does not wait: a receiver ends, and so do the
 /// workers of a connector.
 #[test]
 fn a_listener_that_gives_no_connection_is_a_fault(rt: HostRuntime) {
     let alloc = rt.alloc();
     let Place { listener, host } = listen(&rt, alloc);
+    drop(listener);
     let mut writer = Counting::new(Vec::new(alloc));
-    let told = receive(
-        &rt,
-        alloc,
-        Failing::always(listener),
-        &mut writer,
-        with_money(0, 1),
-    );
+    let told = receive(&rt, alloc, Failing, &mut writer, with_money(0, 1));
     assert!(rt; told == Err(TransferError::Accept));
     assert!(rt; told.err().map(|e| e.number()) == Some(80));
     assert!(rt; writer.into_inner().len() == 0);

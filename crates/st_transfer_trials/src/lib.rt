@@ -1,24 +1,14 @@
-//! Transfers over loopback: a receiver, connectors and a sender in one process, each in a thread. No contract says what
-//! goes over a socket: these tests do.
+//! Transfers over loopback: a receiver, a connector and a sender in one process, each in a thread, over inputs, outputs and listeners
+//! that fail, with an abort, and with the totals that each side reports. No contract says what goes over a socket: these tests do,
+//! and the runs of the program.
 #![tactic(auto)]
 
 #[cfg(test)]
 mod aborts;
 #[cfg(test)]
-mod brittle;
-#[cfg(test)]
-mod chains;
-#[cfg(test)]
-#[cfg(test)]
 mod devices;
 #[cfg(test)]
-mod faults;
-#[cfg(test)]
-mod pairs;
-#[cfg(test)]
 mod sides;
-#[cfg(test)]
-mod silence;
 #[cfg(test)]
 mod totals;
 #[cfg(test)]

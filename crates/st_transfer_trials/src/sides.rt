@@ -31,18 +31,16 @@ const SENDER: &str = "test.a";
 
 const RECEIVER: &str = "test.b";
 
-/// What a sender offers, how much of it has to arrive, whether its token is known, and by how many workers it sends in how
-/// many turns; and how much a receiver takes, in how many connections, and how many seconds it waits for one.
+/// What a sender offers, how much of it has to arrive, and by how many workers it sends in how many turns; and how much a receiver
+/// takes, in how many connections.
 #[derive(Clone, Copy)]
 pub(crate) struct Terms {
     pub(crate) money: u64,
     pub(crate) least: Rate,
-    pub(crate) is_known: bool,
     pub(crate) workers: u8,
     pub(crate) turns: u64,
     pub(crate) receive_max: u64,
     pub(crate) connections: u64,
-    pub(crate) patience: Option<u64>,
 }
 
 /// So much money, all of which has to arrive, by so many workers, and as many turns and connections as it takes.
@@ -50,12 +48,10 @@ pub(crate) fn with_money(money: u64, workers: u8) -> Terms {
     Terms {
         money,
         least: Rate::new(1, 1).unwrap(),
-        is_known: true,
         workers,
         turns: TURNS,
         receive_max: money,
         connections: TURNS,
-        patience: None,
     }
 }
 
@@ -134,7 +130,7 @@ where
             let terms = ReceiveTerms {
                 token: TOKEN,
                 receive_max: terms.receive_max,
-                patience: terms.patience,
+                patience: None,
                 turns: terms.connections,
             };
             let clock = RuntimeClock::new(rt);
@@ -246,13 +242,11 @@ pub(crate) fn send_telling<
     let Terms {
         money,
         least,
-        is_known,
         workers,
         turns,
         ..
     } = terms;
-    let token = if is_known { TOKEN } else { "t9" };
-    let Some(neighbour) = Neighbour::new(next, token) else {
+    let Some(neighbour) = Neighbour::new(next, TOKEN) else {
         return Err(TransferError::NoMemory);
     };
     let end = sender(alloc, least)?;

@@ -126,15 +126,3 @@ pub(crate) fn transfer<
         sent,
     }
 }
-
-impl Kept {
-    /// Whether both sides came to this, and these bytes were written.
-    pub(crate) fn is(
-        &self,
-        told: Result<u64, TransferError>,
-        sent: Result<u64, TransferError>,
-        bytes: &[u8],
-    ) -> bool {
-        self.told == told && self.sent == sent && self.bytes.as_slice() == bytes
-    }
-}
