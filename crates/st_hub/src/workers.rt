@@ -148,15 +148,16 @@ fn pass_gate<'b, N: HubName<A>, A: Allocator + Copy, R: Wait + std::time::Clock>
     unreachable!()
 }
 
-/// Begins a turn. Where there is nothing to send it sleeps for at most `rest`.
-fn begin<N: HubName<A>, A: Allocator + Copy, R: Wait + std::time::Clock>(
+/// Begins a turn, at the moment at which the gate lets it through. Where there is nothing to send it sleeps for at most
+/// `rest`.
+fn begin<N: HubName<A>, A: Allocator + Copy, K: Clock, R: Wait + std::time::Clock>(
     rt: &R,
     bench: &Bench<N, A>,
     gauge: &Gauge<N, A>,
     seat: &mut GaugeSeat<N, A>,
     hand: &mut Option<[u8; 12]>,
     stream: u8,
-    now: Moment,
+    clock: &mut K,
     rest: Duration,
 ) -> Begun<A>
     requires { is_some hand.old ≡ true }
@@ -164,6 +165,7 @@ fn begin<N: HubName<A>, A: Allocator + Copy, R: Wait + std::time::Clock>(
     let Some(mut state) = pass_gate(rt, bench, gauge, seat) else {
         return Begun::Ends(WorkEnd::Stopped);
     };
+    let now = clock.now();
     match look(bench, &mut *state, hand, stream, now) {
         Begun::Sends(turn) => {
             bench.gate.lock(rt).begins(rt);
@@ -225,7 +227,7 @@ fn make_turns<
         if hand.is_none() {
             return WorkEnd::IvFault;
         }
-        match begin(rt, bench, gauge, seat, &mut hand, stream, clock.now(), rest) {
+        match begin(rt, bench, gauge, seat, &mut hand, stream, clock, rest) {
             Begun::Sends(turn) => {
                 let outcome = exchange(link, &turn);
                 finish(rt, bench, turn, outcome);

@@ -8,4 +8,4 @@ mod timed;
 
 pub use buffered::Buffered;
 pub use http_link::{ANSWER_SECONDS, HttpLink};
-pub use timed::Timed;
+pub use timed::{Timed, deadline_in, left_until};

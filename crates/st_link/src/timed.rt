@@ -23,12 +23,12 @@ pub struct Timed<'r, S, R: Clock> {
 }
 
 /// The moment that is `time` from now, where the clock can be read.
-pub(crate) fn deadline_in(clock: &impl Clock, time: Duration) -> Option<Instant> {
+pub fn deadline_in(clock: &impl Clock, time: Duration) -> Option<Instant> {
     Instant::now(clock).ok()?.checked_add(time)
 }
 
 /// What is left until a deadline: nothing where it has passed or the clock cannot be read.
-pub(crate) fn left_until(clock: &impl Clock, deadline: Option<Instant>) -> Option<Duration> {
+pub fn left_until(clock: &impl Clock, deadline: Option<Instant>) -> Option<Duration> {
     let now = Instant::now(clock).ok()?;
     let left = deadline?.checked_duration_since(now)?;
     if left.is_zero() { None } else { Some(left) }

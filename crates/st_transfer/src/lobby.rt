@@ -8,11 +8,11 @@ ghost use Rattle.st_transfer.specs.declared.error.TransferError.TheVariants.{Acc
 
 use crate::error::TransferError;
 use crate::serving::{PAUSE, WRITE_SECONDS, accept_next};
-use crate::waiting::{AwaitListener, Patience, deadline_in, left_until, millis_of};
+use crate::waiting::{AwaitListener, Patience, millis_of};
 use libc::net::{POLLIN, poll};
 use libc::types::pollfd;
 use st_http::{Answerer, HttpError, Reading, refuse, respond};
-use st_link::{ANSWER_SECONDS, Timed};
+use st_link::{ANSWER_SECONDS, Timed, deadline_in, left_until};
 use st_oer::{Counting, ReadTurn, read_turn};
 use std::alloc::Global;
 use std::io::{Read, Write};

@@ -4,6 +4,7 @@ ghost use Rattle.std.specs.Prelude.{◌≡◌, IsSome, IfErr};
 ghost use Rattle.st_transfer.specs.declared.error.TransferError.TheVariants.{Silent};
 
 use crate::error::TransferError;
+use st_link::{deadline_in, left_until};
 use std::net::{OpenListener, TcpListener, TcpStream};
 use std::os::fd::AsRawFd;
 use std::time::{Clock, Duration, Instant};
@@ -35,18 +36,6 @@ impl AwaitListener for TcpListener {
 /// A time in whole milliseconds, rounded up, as `poll` takes it.
 pub(crate) fn millis_of(time: Duration) -> i32 {
     i32::try_from(time.as_millis().saturating_add(1)).unwrap_or(i32::MAX)
-}
-
-/// The moment that is `time` from now, where the clock can be read.
-pub(crate) fn deadline_in(rt: &impl Clock, time: Duration) -> Option<Instant> {
-    Instant::now(rt).ok()?.checked_add(time)
-}
-
-/// What is left until a deadline. `None` where it has passed, or where the clock cannot be read.
-pub(crate) fn left_until(rt: &impl Clock, deadline: Option<Instant>) -> Option<Duration> {
-    let now = Instant::now(rt).ok()?;
-    let left = deadline?.checked_duration_since(now)?;
-    if left.is_zero() { None } else { Some(left) }
 }
 
 /// How long a receiver waits for a request, and until when.

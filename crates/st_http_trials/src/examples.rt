@@ -1,3 +1,0 @@
-//! An example of the README, word for word: what it does and what it answers. It can be pasted as it is.
-
-mod responses;
