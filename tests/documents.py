@@ -17,7 +17,7 @@ TOP = os.path.realpath(os.path.join(os.path.dirname(os.path.realpath(__file__)),
 CODE = re.compile(r"`([^`]+)`")
 
 # The crates of the tests and of the measurements: what they count is no limit of the program.
-TESTS = re.compile(r"^(bench_\w+|hostile|seeds|refusing|\w+_trials)$")
+TESTS = re.compile(r"^(bench_\w+|refusing|\w+_trials)$")
 
 # Constants that are no limits, by crate and name.
 OTHERS = {
@@ -224,6 +224,10 @@ def check_calls(count):
     where, path = "docs/ERRORS.md", "crates/st_embed/specs/Codes.antt"
     defined = {int(number): name.upper() for name, number in re.findall(r"^(\w+) = (\d+)$", read(path), re.M)}
     count.check(len(defined) > 8, f"{path}: only {len(defined)} numbers were read")
+    # (those of handles and null pointers, which bind/c/calls.c returns in front of the proved calls)
+    header = re.findall(r"^ *ILP_(BUSY|NULL) = (\d+)", read("bind/c/ilpstream.h"), re.M)
+    count.check(len(header) == 2, "bind/c/ilpstream.h: the numbers of calls.c were not read")
+    defined.update({int(number): name for name, number in header})
     rows = rows_of(where, "Number of a call", count)
     count.same(where, {int(cells[0]): cells[1].strip("`") for _, cells in rows}, defined, path)
     others = {number for number, _, _ in refusals()[0]}

@@ -53,6 +53,15 @@ for words in '' 'frames' '--' 'frames --'; do
     same "words '$words'" "$frames"$'\n--\n\n--\n0' "$(told)"
 done
 
+# The same without a proof, by another script.
+program=$top/try
+run frames <"$top/examples/frames.txt"
+same 'what ./try prints' "$frames, 0" "$out, $status"
+has 'what ./try says' "$err" 'Nothing is proved: ./ilpstream proves it.'
+run send
+same './try send' $'\n--\ntry: no files, sockets or threads here, so only frames and local: ./ilpstream runs all commands, proved\n--\n2' "$(told)"
+program=$top/ilpstream
+
 run frames <"$top/examples/every_frame.txt"
 same 'every frame' $'line 3 refused 23(0)\nstream 1 5 6869212121\n--\n\n--\n1' "$(told)"
 
@@ -80,6 +89,74 @@ run < <(printf '%s\r\n' $packet '')
 same 'CR LF' $'stream 1 2 6162\n--\n\n--\n0' "$(told)"
 run </dev/null
 same 'no line' $'\n--\n\n--\n0' "$(told)"
+
+# A line and its answer: what is wrong of a number, a length, a frame or a stream, in the order in which it is looked at; limits of
+# nine bytes, frames of other types, bytes behind the last frame, and what is kept of bytes that come twice.
+front=010c010101000101
+answers() { # an input, in the form of printf, and what is written
+    run < <(printf '%b' "$1")
+    same "the input ${1:0:70}" "$2"$'\n--\n\n--\n'"$([[ $2 == *refused* ]] && echo 1 || echo 0)" "$(told)"
+}
+while read -r number line; do
+    answers "$line" "line 1 refused $number"
+done <<ROWS
+95 zz\n
+95 0
+95 01\r0c\n
+95 010c\r\r\n
+95 010c\r
+20 020d\n
+21 010d\n
+22(1) 01\n
+22(1) 010c0201\n
+22(2) 010c8101\n
+22(2) 010c8105\n
+22(3) 010c00\n
+22(3) 010c020001\n
+22(4) 010c09010000000000000000\n
+22(1) 010c01010100010114070101\n
+22(1) 010c0101010008ffffffffffffffff\n
+22(2) 010c0101010001020301019980\n
+22(2) ${front}1480\n
+22(1) ${front}1488ffffffffffffffff\n
+22(4) ${front}1489010000000000000000\n
+23(0) ${front}030101\n
+23(0) ${front}140102\n
+23(0) ${front}01030101ff\n
+23(1) 010c010101000102990161030101\n
+23(1) 010c0101010001029900020302672e\n
+63 ${front}140701000100026162\n
+63 ${front}140701410100026162\n
+63 ${front}1406014101000161\n
+63 ${front}14080201000100026162\n
+63 ${front}140d010008ffffffffffffffff0161\n
+40 ${front}14080101030100000161\n
+40 ${front}140d010108fffffffffffffffe0161\n
+41 ${front}140d010108ffffffffffffffff0161\n
+24 $(printf '0%.0s' {1..65480})\n
+95 $(printf '0%.0s' {1..65481})\n
+20 $(printf '0%.0s' {1..65478})\r\n
+ROWS
+others=(010401026e6f 0208076578616d706c65 03020105 030a09010000000000000000 04020105 1006010101026e6f 110401010105
+    1206010101050100 1306010101050100 150401010105 160401010105 990161)
+for frame in "${others[@]}"; do
+    answers "$front$frame\\n" ''
+done
+answers "010c01010100010d$(printf %s "${others[@]}")14070103010002686f\\n" 'stream 3 2 686f'
+answers "${front}140701010100026869ffff\\n" 'stream 1 2 6869'
+answers "010c010101000102990100140701010100026869\\n" 'stream 1 2 6869'
+answers "${front}140701020100026162" 'stream 2 2 6162'
+answers "${front}14050102010000" 'stream 2 0 -'
+answers "${front}1407010102ffff0161" 'stream 1 0 -'
+answers "${front}1409010101000461626364\\n${front}1408010101020358595a\\n" 'stream 1 5 616263645a'
+answers "${front}140701010101026364\\n${front}140701010100026162\\n${front}140701010100026162\\n" 'stream 1 3 616364'
+answers '\r\n010C010101000101140701010102026364\r\n\n'"${front}140701010100026A6b" 'stream 1 4 6a6b6364'
+answers "${front}140701010100026162\\n010c010101000102140701010102026364140701410100026364\\n" \
+    $'line 2 refused 63\nstream 1 2 6162'
+answers "$(for stream in {64..1}; do printf '%s140601%02x01000161\\n' $front $stream; done)" \
+    "$(for stream in {1..64}; do echo "stream $stream 1 61"; done)"
+long=$(printf '61%.0s' {1..32720})
+answers "${front}14827fd701010100827fd0$long\\n" "stream 1 32720 $long"
 
 for word in --version -V; do
     run $word </dev/null
@@ -163,14 +240,36 @@ bad_option() {
 }
 while read -r place word; do
     with "$place" "$word" "${send[@]}" && bad_option
-done <<'ROWS'
+done <<ROWS
 1 --to=127.0.0.1
 1 --to=127.0.0.1:65536
+1 --to=:7770
+1 --to=127.0.0.1:
+1 --to=a b:1
+1 --to=h:+1
+1 --to=h:-1
+1 --to=h:1:x
 2 --token=
+2 --token=a b
+2 --token=é
+3 --secret=
 3 --secret=00
+3 ${secret%?}
+3 --secret=0x0102030405060708090a0b0c0d0e0f101112131415161718191a1b1c1d1e1f
+4 --address=
 4 --address=test.
+4 --address=.a
+4 --address=a/b
 5 --peer=test..b
+5 --peer=a b
+6 --least=3
+6 --least=3:0
 6 --least=0:1
+6 --least=1:4294967296
+6 --least=+1:1
+6 --least=1:1:1
+6 --least=
+6 --money=+5
 ROWS
 with 1 --listen=:7771 "${receive[@]}" && bad_option
 with 2 '--token=a b' "${receive[@]}" && bad_option
@@ -193,7 +292,8 @@ refused_words() {
     has "${words[*]}" "$err" "error: "
     same "${words[*]}" $'\n2\n'"$table" "$out"$'\n'"$status"$'\n'"$left"
 }
-for word in --money=9223372036854775808 --workers=0 --workers=17 --tokens=t; do
+for word in --money=9223372036854775808 --money=-1 --money=1.5 --money= --money=five --workers=0 --workers=17 --to=h:1 \
+    --tokens=t; do
     with 6 "$word" "${send[@]}" && refused_words
 done
 with 1 --money=1 "${send[@]}" && refused_words
@@ -205,14 +305,38 @@ with 3 --requests=0 "${connector[@]}" && refused_words
 with 3 --workers=4 "${connector[@]}" && refused_words
 
 # A table is read before anything is listened to: the fault 96 tells a bad one, and 80 that a good one has no listener.
-for bad in 'acount 100 10 alice - -' 'account 100 10 alice - ' 'account 100 10 alice - t' 'account -1 10 alice - -' \
-    'account 9223372036854775808 10 alice - -' $'account 100 10 alice - -\nroute test.b 1' \
-    $'account 100 10 alice - -\nroute test.b 0\nroute test.b 0 1 1' $'account 100 10 alice - -\nroute test.b 0 1 0' \
-    $'account 100 10 alice - -\n\xff'; do
-    run "${connector[@]}" <<<"$bad"
+while IFS= read -r bad; do
+    run "${connector[@]}" < <(printf '%b' "$bad\n")
     same "the table $bad" $'\n--\nfault 96\n--\n1' "$(told)"
-done
-for good in "$table" '' $' account  1 2 t - - \r'; do
+done <<'ROWS'
+acount 100 10 alice - -
+account 100 10 alice -
+account 100 10 alice - 
+account 100 10 alice - - -
+account 100 10 alice - t
+account 100 10 alice h t
+account 100 10 alice h:65536 t
+account 100 10 é - -
+account +1 10 alice - -
+account -1 10 alice - -
+account 9223372036854775808 10 alice - -
+account 10 9223372036854775808 alice - -
+account 100 10 alice - -\nroute test.b 1
+account 100 10 alice - -\nroute test.b -1
+account 100 10 alice - -\nroute test.b
+account 100 10 alice - -\nroute test.b 0 1
+account 100 10 alice - -\nroute test.b 0 0 1
+account 100 10 alice - -\nroute test.b 0 1 0
+account 100 10 alice - -\nroute test.b 0 1 4294967296
+account 100 10 alice - -\nroute test.b 0 1 1 1
+account 100 10 alice - -\nroute test.b 0\nroute test.b 0 1 1
+account 100 10 alice - -\nRoute test.b 0
+account 100 10 alice - -\n\troute test.b 0
+account 100 10 alice - -\n\xff
+ROWS
+several=$'account 1000 100 alice 127.0.0.1:7771 hub\n\naccount  9223372036854775807 0 bob - -\r\nroute example 0\n \nroute example.bob 1 3 2
+account 5 5 carol [::1]:1 x\nroute example.carol 2 1 1'
+for good in "$table" "$several" '' $' account  1 2 t - - \r'; do
     run "${connector[@]}" <<<"$good"
     same "the table $good" $'\n--\nfault 80\n--\n1' "$(told)"
 done
@@ -239,6 +363,12 @@ same 'totals: no listener' $'fault 80\n'"$nothing" "$(totals_of "${receive[@]}")
 same 'totals: no listener for a connector' $'fault 80\naccount 0 claims 0 dues 0 held 0\naccount 1 claims 0 dues 0 held 0' \
     "$(totals_of "${connector[@]}")"
 same 'totals: no table' 'fault 96' "$(table=account && totals_of "${connector[@]}")"
+# (a sender that reaches nobody read its input and paid nothing; and one whose source of IVs ends after the first)
+reaching=(send --to=127.0.0.1:1 --token=t "$secret" --address=test.a --peer=test.b --money=500)
+same 'totals: nobody is reached' $'fault 58\naccepted 3\ndelivered 0\ncredited 0\npaid 0' "$(table=ab && totals_of "${reaching[@]}")"
+printf 'twelve bytes' >"$room/iv"
+run "${reaching[@]}" --random="$room/iv" < <(printf abc)
+same 'one IV alone' $'\n--\nfault 90\n--\n1' "$(told)"
 left_by "${send[@]}" --totals=/dev/full <<<abc
 same 'a full file for totals, and a fault' $'\n--\nfault 90\n--\n1\nabc' "$(told)"$'\n'"$left"
 
@@ -334,6 +464,24 @@ run local --streams 3 < <(printf abcd)
 same 'local: streams' $'abcd\n--\n\n--\n0' "$(told)"
 run local --lose 1 < <(printf a)
 same 'local: all is lost' $'\n--\nfault 58\n--\n1' "$(told)"
+run local --lose 1 </dev/null
+same 'local: all is lost of nothing' $'\n--\nfault 58\n--\n1' "$(told)"
+for hops in {0..8}; do
+    run local --hops "$hops" --lose 2 --streams 3 < <(seq 100)
+    same "local: $hops hops" "$(seq 100)"$'\n--\n\n--\n0' "$(told)"
+done
+for count in {0..9}; do
+    run local --lose 3 --streams 7 < <(printf "%.${count}s" abcdefghi)
+    same "local: $count bytes on 7 streams" "$(printf "%.${count}s" abcdefghi)"$'\n--\n\n--\n0' "$(told)"
+done
+run local --streams 32 < <(seq 300)
+same 'local: 32 streams' "$(seq 300)"$'\n--\n\n--\n0' "$(told)"
+head -c 1048577 /dev/urandom >"$room/sent"
+run local <"$room/sent"
+same 'local: a byte too many' $'\n--\nfault 84\n--\n1' "$(told)"
+truncate -s 1048576 "$room/sent"
+"$program" local --streams 2 <"$room/sent" >"$room/out" 2>"$room/err"
+same 'local: a megabyte' $'0\n\nequal' "$?"$'\n'"$(cat "$room/err")"$'\n'"$(cmp "$room/sent" "$room/out" && echo equal)"
 for words in 'local --hops 9' 'local --streams 0' 'local --lose x'; do
     # shellcheck disable=SC2086
     run $words </dev/null

@@ -1,13 +1,18 @@
 #!/usr/bin/env python3
-"""Tries the wrong bodies of tests/seen-by-tests, which no contract refuses, on a copy of the crates: each has to fail a test of
-the crate that its first line names. `seen_by_tests.py [WORD]` tries those whose name has WORD in it. Nothing is proved: `rt try`
-runs the tests as they stand. It is run by hand; the gate calls `seen_by_tests.py --look`, which says whether each can be made."""
+"""Tries the wrong bodies of tests/seen-by-tests, which no contract refuses, on a copy of the crates. Each has to fail a test of the
+crate that its first line names, or, where that line is `tests: local`, a run of the program: bytes over a chain in memory.
+`seen_by_tests.py [WORD]` tries those whose name has WORD in it. Nothing is proved: `rt try` runs the tests, or the program, as they
+stand. It is run by hand; the gate calls `seen_by_tests.py --look`, which says whether each can be made."""
 import os, re, shutil, subprocess, sys, tempfile
 
 TOP = os.path.join(os.path.dirname(os.path.realpath(__file__)), "..")
 EDITS = os.path.join(TOP, "tests", "seen-by-tests")
-# More seconds than the tests of a crate may take.
+# More seconds than the tests of a crate, or a run of the program, may take.
 BOUND = 900
+# The run of the program that a wrong body has to fail: more Prepares than 50, and on each of three streams more bytes than a sender
+# keeps at once. It reads the digits of the numbers from 0 on.
+LOCAL, RUN = "local", ["local", "--hops", "8", "--streams", "3"]
+INPUT = "".join(str(number) for number in range(172_000))[:900_000]
 
 
 def read_edit(name):
@@ -16,8 +21,24 @@ def read_edit(name):
         return [line.split(": ", 1)[1] for line in file.read().rstrip("\n").split("\n")]
 
 
+def run_local(room):
+    """What a run of the program said: how it ended, or that it wrote what it read."""
+    words = ["rt", "try", "--seconds", str(BOUND), "--", *RUN]
+    try:
+        ran = subprocess.run(words, cwd=f"{room}/crates/ilpstream", input=INPUT, capture_output=True, text=True, timeout=2 * BOUND)
+    except subprocess.TimeoutExpired:
+        return f"seen: {' '.join(RUN)} did not end"
+    if not re.search(r"^run=", ran.stderr + ran.stdout, re.M):
+        return f"BAD EDIT: {(ran.stdout[-200:] + ran.stderr).strip()[-300:]}"
+    if ran.stdout.startswith(INPUT):
+        return "NOT SEEN"
+    return f"seen by {' '.join(RUN)}"
+
+
 def tried(trials, room):
     """What the tests of a crate said: the names of those that failed, or why none ran."""
+    if trials == LOCAL:
+        return run_local(room)
     try:
         ran = subprocess.run(["rt", "try", "--test"], cwd=f"{room}/crates/{trials}", capture_output=True, text=True, timeout=BOUND)
     except subprocess.TimeoutExpired:
@@ -43,6 +64,11 @@ def look(names):
     lost = [it for it in names if not made(it, TOP)]
     for it in lost:
         print(f"tests/seen-by-tests/{it}: its old line does not stand once in its file")
+    for it in names:
+        trials = read_edit(it)[0]
+        if trials != LOCAL and not os.path.isdir(f"{TOP}/crates/{trials}/src"):
+            print(f"tests/seen-by-tests/{it}: there is no crate {trials}")
+            lost.append(it)
     print(f"{len(names) - len(lost)} passed, {len(lost)} failed")
     return 1 if lost or not names else 0
 

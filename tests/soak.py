@@ -134,7 +134,7 @@ class Relay(Peer):
 
     def __init__(self, rng, share, silences, target, port):
         self.rng, self.share, self.silences, self.target = rng, share, silences, target
-        self.lock, self.hears = threading.Lock(), threading.Event()
+        self.lock, self.hears, self.paused = threading.Lock(), threading.Event(), collections.Counter()
         # Lost answers, the units of those that were Fulfills, and the requests that a neighbour may have taken without an answer.
         self.lost, self.units, self.unknown = 0, 0, 0
         self.hears.set()
@@ -195,12 +195,17 @@ class Relay(Peer):
             finish(stream, then)
 
     def pause(self, kind):
+        self.paused[kind] += 1
         if kind == "deaf":
             self.hears.clear()
         else:
             self.close()
 
     def resume(self, kind):
+        """Ends a pause; of those of one kind at once the last to end counts."""
+        self.paused[kind] -= 1
+        if self.paused[kind]:
+            return
         if kind == "deaf":
             self.hears.set()
             return

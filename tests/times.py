@@ -1,9 +1,9 @@
 #!/usr/bin/env python3
 """How much of the processor a gate takes: times.py PROCESS. It looks at the processes below this one once a second until that
 ends or this gets SIGTERM, and then prints, for each crate, the processor's seconds of its proof, of its tests, which are proved
-too, and of its must-fail edits; then those of compilers and of what they built; and the sums. What a process takes in its last
-second is missed."""
-import os, signal, sys, time
+too, and of its wrong bodies; then those of compilers and of what they built; and the sums. What a process takes in its last
+second is missed. `times.py --table LOG` prints these lines of a gate's output as the table of docs/GATE.md."""
+import os, re, signal, sys, time
 from collections import defaultdict
 
 TICK = os.sysconf("SC_CLK_TCK")
@@ -39,7 +39,7 @@ def below(top):
 def subject(process):
     """The crate that a process of the prover works on, and what for; the name of another program."""
     words = read(process, "cmdline").split(b"\0")
-    if b"--crate-name" not in words:
+    if b"--crate-name" not in words or os.path.basename(words[0]) != b"rattle":
         return "", "other"
     crate = words[words.index(b"--crate-name") + 1].decode()
     if "rt-edit" in os.readlink(f"/proc/{process}/cwd"):
@@ -70,7 +70,23 @@ def table(subjects, seconds):
     print("minutes of the processor: " + ", ".join(f"{kind} {whole[kind]:.0f}" for kind in KINDS) + f"; {sum(whole.values()):.0f} in all")
 
 
+def tell_log(path):
+    """The lines of a gate's output on crates, as a table in Markdown."""
+    found = []
+    with open(path, encoding="utf-8", errors="replace") as log:
+        for line in log:
+            row = re.fullmatch(r"(\w+): proof (\d+), tests (\d+), edits (\d+)\n", line)
+            found += [(row[1], *map(int, row.groups()[1:]))] if row else []
+    print("| Crate | Proof | Tests | Wrong bodies |", "|---|---|---|---|", sep="\n")
+    for crate, *seconds in found:
+        print(f"| {crate} | " + " | ".join(str(it or "") for it in seconds) + " |")
+    sums = [sum(it[at] for it in found) for at in (1, 2, 3)]
+    print("| all, in minutes | " + " | ".join(f"{it / 60:.0f}" for it in sums) + " |")
+
+
 def main():
+    if sys.argv[1] == "--table":
+        return tell_log(sys.argv[2])
     top, subjects, seconds = int(sys.argv[1]), {}, {}
     signal.signal(signal.SIGTERM, lambda *_: sys.exit())
     try:

@@ -1,0 +1,287 @@
+#!/usr/bin/env python3
+"""Tries the wrong bodies of tests/refused/CRATE on copies of the crates: the prover has to refuse each.
+
+`refused.py CRATE ..` tries those of these crates, `refused.py --all` all. The gate calls `refused.py --gate`: it tries those that
+break a promise (a line `promise:` says which), and then, for ten minutes of the processor, those of one crate, which follows from
+the number of the commit. `refused.py --look` says whether each can be made. It stands on the libraries in crates/*/out/rlib that
+`rt ci` left there.
+
+Edits of different functions are made in one copy, since each function is proved by itself. An edit is refused where the prover
+reports, in the function that it changes, what is not proved. Where it reports nothing there, the edit is tried alone, and is
+refused where the crate is not proved, for a cause other than a name that the edit took away."""
+import concurrent.futures
+import os
+import re
+import shutil
+import subprocess
+import sys
+import tempfile
+from dataclasses import dataclass, field
+
+sys.path.insert(0, os.path.join(os.path.dirname(os.path.realpath(__file__)), "..", "tools"))
+import crates as repository  # noqa: E402
+
+TOP = repository.TOP
+EDITS = f"{TOP}/tests/refused"
+# What the edits of one crate in rotation may take, in seconds of the processor.
+ROTATION = 600
+FUNCTION = re.compile(r"( *)(?:pub(?:\([a-z]+\))? )?(?:const )?(?:unsafe )?(?:extern \"C\" )?fn (\w+)")
+IMPL = re.compile(r"( *)(?:unsafe )?impl\b(.*)")
+# A proof file names what the edit took away: that says little of the contract.
+NAMES = re.compile(r"has no field|is not in scope|has no `|was not admitted")
+# A limit of the prover, which it meets wherever it checks the same.
+LIMITS = re.compile(r"antt ran out of (stack|the (steps|memory) that)|(outgrew the memory limit|stopped at the step limit) \(")
+
+
+@dataclass
+class Edit:
+    """A wrong body: the changes of a crate's files, each a text that stands there once and the one that is to stand there."""
+
+    crate: str
+    name: str
+    promise: str = ""
+    changes: list = field(default_factory=list)
+    # of each change, its file and the first and last line of the function around it
+    spans: list = field(default_factory=list)
+    # the functions, a method by its type and its name, another by its path below the crate; none where a change stands in no function
+    functions: list = field(default_factory=list)
+
+    def __str__(self):
+        return f"{self.crate}/{self.name}"
+
+
+def read(path):
+    with open(path, encoding="utf-8") as file:
+        return file.read()
+
+
+def read_edit(crate, name):
+    """An edit by its file, or why it cannot be made."""
+    found, file, old = Edit(crate, name), "", ""
+    for line in read(f"{EDITS}/{crate}/{name}.edit").split("\n"):
+        word, _, text = line.partition(":")
+        if word == "file":
+            file = text.strip()
+        elif word == "old":
+            old = text.removeprefix(" ")
+        elif word == "new":
+            found.changes.append((file, old, text.removeprefix(" ")))
+        elif word == "promise":
+            found.promise = text.strip()
+    try:
+        texts = {}
+        for file, old, new in found.changes:
+            was = texts.get(file) or read(f"{TOP}/crates/{crate}/{file}")
+            if not old or was.count(old) != 1:
+                return None
+            look_around(found, file, was, was[: was.index(old)].count("\n"))
+            texts[file] = was.replace(old, new)
+    except OSError:
+        return None
+    return found if found.changes else None
+
+
+def look_around(edit, file, text, at):
+    """Notes the function around a line of a file, which stands in the layout of `rt fmt`."""
+    lines = text.split("\n")
+    first = next((it for it in range(at, -1, -1) if FUNCTION.match(lines[it])), None)
+    if first is None:
+        return
+    indent, name = FUNCTION.match(lines[first]).groups()
+    past = (it for it in range(first, len(lines)) if lines[it] == indent + "}" or it == first and lines[it].endswith("}"))
+    last = next(past, first)
+    if last < at:
+        return
+    edit.spans.append((file, first + 1, last + 1))
+    path = [it for it in file.removeprefix("src/").removesuffix(".rt").split("/") if it not in ("lib", "mod")]
+    above = next((it for it in range(first, -1, -1) if IMPL.match(lines[it])), None) if indent else None
+    edit.functions.append("::".join([*path, name] if above is None else [type_of(lines[above]), name]))
+
+
+def type_of(line):
+    """How a check names the type of an `impl`, with the trait behind it."""
+    words = IMPL.match(line).group(2)
+    for _ in range(5):
+        words = re.sub(r"<[^<>]*>", "", words.replace("->", ""))
+    trait, is_of, name = words.replace("{", "").partition(" for ")
+    names = [name, trait] if is_of else [trait]
+    return "".join(it.split("where")[0].strip().split("::")[-1].strip() for it in names)
+
+
+def names_of(crate):
+    return sorted(it.removesuffix(".edit") for it in os.listdir(f"{EDITS}/{crate}") if it.endswith(".edit"))
+
+
+def read_edits(crates):
+    """The edits of these crates, and the names of those that cannot be made."""
+    found = {f"{crate}/{name}": read_edit(crate, name) for crate in crates for name in names_of(crate)}
+    return [it for it in found.values() if it], [name for name, it in found.items() if not it]
+
+
+def batches(edits):
+    """The edits in groups, none of which changes a function twice. One in no function stands alone."""
+    groups = []
+    for edit in edits:
+        group = next((it for it in groups if fits(edit, it)), None)
+        if group is None:
+            groups.append([edit])
+        else:
+            group.append(edit)
+    return groups
+
+
+def fits(edit, group):
+    whole = [it for it in [edit, *group] if not it.functions]
+    return not whole and not {*edit.spans} & {span for it in group for span in it.spans}
+
+
+class Prover:
+    """Checks copies of one crate, in a folder of its own that keeps what was proved for the next check."""
+
+    def __init__(self, crate, is_brief):
+        self.crate, self.is_brief = crate, is_brief
+        every, at = repository.read_crates(), repository.kit()
+        self.lacking = repository.lacking(crate, every)
+        self.words = [f"{at}/bin/rattle", "check", *repository.words(crate, every, at), "--jobs", "1"]
+        # the processor's seconds of all checks
+        self.spent = 0.0
+
+    def check(self, edits, kept, only=()):
+        """What the prover says of the crate with these edits, and its status."""
+        with tempfile.TemporaryDirectory(prefix="rt-edit-") as room:
+            for part in ("src", "specs", "proofs"):
+                if os.path.isdir(f"{TOP}/crates/{self.crate}/{part}"):
+                    shutil.copytree(f"{TOP}/crates/{self.crate}/{part}", f"{room}/{part}")
+            for edit in edits:
+                for file, old, new in edit.changes:
+                    text = read(f"{room}/{file}")
+                    with open(f"{room}/{file}", "w", encoding="utf-8") as changed:
+                        changed.write(text.replace(old, new))
+            words = [*self.words, "--incremental", kept, *[word for name in only for word in ("--only", name)]]
+            return self.run(words, room)
+
+    def run(self, words, room):
+        with tempfile.TemporaryFile("w+", errors="replace") as output:
+            ran = subprocess.Popen(words, cwd=room, stdin=subprocess.DEVNULL, stdout=output, stderr=subprocess.STDOUT)
+            _, status, used = os.wait4(ran.pid, 0)
+            ran.returncode = os.waitstatus_to_exitcode(status)
+            self.spent += used.ru_utime + used.ru_stime
+            output.seek(0)
+            return output.read().split("\n"), ran.returncode
+
+    def attempt(self, group, kept):
+        """Which edits of a group are refused."""
+        only = [name for it in group for name in it.functions] if self.is_brief and all(it.functions for it in group) else []
+        said, status = self.check(group, kept, only)
+        if status == 2 and only:
+            said, status = self.check(group, kept)
+        refused = [it for it in group if status == 1 and is_reported(it, said)]
+        for edit in [it for it in group if it not in refused]:
+            if is_refused_alone(*self.check([edit], kept)):
+                refused.append(edit)
+        return refused
+
+
+def is_reported(edit, said):
+    """Whether the prover reports, in a function that the edit changes, something that it could not prove."""
+    for line in said:
+        at = re.match(r"(?:note: )?(?:\./)?(src/\S+?):(\d+):\d+: (?:error: )?it is not proved", line)
+        if at and any(at[1] == file and first <= int(at[2]) <= last for file, first, last in edit.spans):
+            return True
+        proof = re.match(r"(?:note: )?(?:\./)?proofs/(\S+)/\w+\.antt:\d+:\d+: error", line)
+        if proof and not NAMES.search(line) and any(f"/{proof[1]}".endswith("/" + it.replace("::", "/")) for it in edit.functions):
+            return True
+    return False
+
+
+def is_refused_alone(said, status):
+    if status == 3:
+        return any(LIMITS.search(it) for it in said)
+    told = [it for it in said if re.match(r"(note: )?\S+:\d+:\d+:", it)]
+    is_judged = status == 1 and any(it.startswith("logic=not-proved") for it in said)
+    is_read = not any(re.search(r"\berror\[[\w-]+\]", it) for it in said)
+    return is_judged and is_read and any(not NAMES.search(it) for it in told)
+
+
+@dataclass
+class Tried:
+    """What came of edits."""
+
+    crate: str
+    lines: list = field(default_factory=list)
+    refused: int = 0
+    tried: int = 0
+    seconds: float = 0.0
+
+
+def try_crate(crate, edits, is_brief=False, budget=None):
+    """Tries edits of one crate. A budget, in seconds of the processor, ends it before the next group."""
+    prover, found = Prover(crate, is_brief), Tried(crate)
+    if prover.lacking:
+        return Tried(crate, [f"{crate}: {prover.lacking[0]} was not built here: run rt ci"], 0, len(edits))
+    with tempfile.TemporaryDirectory(prefix="rt-edit-") as kept:
+        for group in batches(edits):
+            if budget and prover.spent > budget:
+                break
+            refused = prover.attempt(group, kept)
+            found.lines += [f"{it}: {'refused' if it in refused else 'NOT REFUSED'}" for it in group]
+            found.refused, found.tried, found.seconds = found.refused + len(refused), found.tried + len(group), prover.spent
+    return found
+
+
+def lanes():
+    with open("/proc/meminfo", encoding="ascii") as lines:
+        free = next(1024 * int(line.split()[1]) for line in lines if line.startswith("MemAvailable:"))
+    return max(min(len(os.sched_getaffinity(0)), free // 4_500_000_000), 1)
+
+
+def try_all(edits, is_brief, others=()):
+    """Tries edits, crates side by side, those of the highest first, and prints what came of each. Before them it begins with others,
+    a crate and its edits, for the time of a rotation."""
+    order = repository.read_crates()
+    by_crate = {crate: [it for it in edits if it.crate == crate] for crate in reversed(order)}
+    with concurrent.futures.ThreadPoolExecutor(lanes()) as pool:
+        works = [pool.submit(try_crate, *others, budget=ROTATION)] if others else []
+        works += [pool.submit(try_crate, crate, found, is_brief) for crate, found in by_crate.items() if found]
+        for work in concurrent.futures.as_completed(works):
+            found = work.result()
+            print(*found.lines, f"{found.crate}: {found.seconds:.0f} seconds of the processor", sep="\n", flush=True)
+        tried = [it.result() for it in works]
+    return sum(it.refused for it in tried), sum(it.tried for it in tried)
+
+
+def by_rotation():
+    """The crate that the number of the commit gives, and its edits, begun at another one each time that it comes up."""
+    ran = subprocess.run(["git", "rev-list", "--count", "HEAD"], cwd=TOP, capture_output=True, text=True)
+    number, crates = int(ran.stdout.strip() or 0), sorted(os.listdir(EDITS))
+    crate, rounds = crates[number % len(crates)], number // len(crates)
+    edits = [it for it in read_edits([crate])[0] if not it.promise]
+    begin = rounds * 5 % max(len(edits), 1)
+    return crate, edits[begin:] + edits[:begin]
+
+
+def gate():
+    promises = [it for it in read_edits(sorted(os.listdir(EDITS)))[0] if it.promise]
+    crate, edits = by_rotation()
+    print(f"those that break a promise, and for {ROTATION} seconds those of {crate}, by rotation")
+    return try_all(promises, True, (crate, edits))
+
+
+def main(arguments):
+    every = sorted(os.listdir(EDITS))
+    if arguments == ["--gate"]:
+        passed, tried = gate()
+    elif arguments == ["--look"] or arguments == ["--all"] or arguments and not {*arguments} - {*every}:
+        edits, lost = read_edits(every if arguments[0].startswith("--") else arguments)
+        print(*[f"tests/refused/{it}.edit: one of its old texts does not stand once in its file" for it in lost], sep="\n", end="\n" * bool(lost))
+        passed, tried = (len(edits), len(edits)) if arguments == ["--look"] else try_all(edits, False)
+        tried += len(lost)
+    else:
+        print(__doc__, f"Crates: {' '.join(every)}", sep="\n\n", file=sys.stderr)
+        return 2
+    print(f"{passed} passed, {tried - passed} failed")
+    return 0 if tried and passed == tried else 1
+
+
+if __name__ == "__main__":
+    sys.exit(main(sys.argv[1:]))
