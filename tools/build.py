@@ -1,0 +1,262 @@
+#!/usr/bin/env python3
+"""Proves and builds the program where it is missing, or older than the files of the crates that it stands on.
+
+The prover is called by itself, since `rt` works on one crate at a time where two have a crate below them in common. It writes
+a library, into crates/NAME/out/built, and the program of crates that are proved alone. Each crate is proved once those below it are. Of those that can begin, the one with the longest chain of crates above it
+begins first. While processors are idle and memory lasts, a crate gets several jobs. JOBS=N uses N processors. A crate that
+is not proved ends the build with its log. `tools/build.py --plan N` prints what the weights below give for N processors."""
+import os
+import shutil
+import signal
+import subprocess
+import sys
+import tempfile
+import time
+
+from crates import TOP, kit, read_crates, with_below, words
+
+PROGRAM = "ilpstream"
+BUILT = f"{TOP}/crates/{PROGRAM}/out/{PROGRAM}"
+# The processor's seconds that each crate takes from nothing, by the table in docs/GATE.md; those that are not here take OTHER.
+WEIGHTS = {
+    "st_sender": 387, "st_chain": 382, "st_transfer": 360, "st_hub": 302, "st_receiver": 301, "st_words": 262, "st_hop": 244,
+    "st_nodes": 226, "st_http": 213, "st_local": 212, "st_end": 208, "st_program": 187, "st_commands": 173, "ilpstream": 119,
+    "st_settings": 109, "st_file": 103, "st_aes": 204, "st_desk": 86, "st_link": 57, "st_world": 22,
+}
+OTHER = 60
+# Memory in bytes: what a check takes at most, and what each further job of it takes.
+CHECK, JOB = 3_500_000_000, 1_000_000_000
+MOST_JOBS = 3
+# What a processor of level x86-64-v3 has beside those of level 2: with vectors of 32 bytes the cipher is twice as fast.
+LEVEL_3 = {"avx", "avx2", "bmi1", "bmi2", "f16c", "fma", "abm", "movbe"}
+
+
+def weight(crate):
+    return WEIGHTS.get(crate, OTHER)
+
+
+def chains(crates):
+    """For each crate the weight of the longest chain that begins with it and ends at the top."""
+    longest = {}
+    for name in reversed(crates):
+        above = [longest[it] for it in crates if name in crates[it]]
+        longest[name] = weight(name) + max(above, default=0)
+    return longest
+
+
+def library(name):
+    return f"{TOP}/crates/{name}/out/built/{name}.rlib"
+
+
+def made(name):
+    """When a library was built, or 0."""
+    try:
+        return os.stat(f"{library(name)}/format").st_mtime
+    except OSError:
+        return 0
+
+
+def changed(name):
+    """When a file of a crate was changed last."""
+    paths = [path for part in ("src", "specs", "proofs") for path in paths_below(f"{TOP}/crates/{name}/{part}")]
+    return max((os.stat(it).st_mtime for it in paths), default=0)
+
+
+def paths_below(folder):
+    return [path for at, _, files in os.walk(folder) for path in [at, *[f"{at}/{it}" for it in files]]]
+
+
+def is_fresh(crates):
+    """Whether no file of these crates is newer than the program."""
+    return os.access(BUILT, os.X_OK) and os.stat(BUILT).st_mtime >= max(map(changed, crates))
+
+
+def fresh_libraries(crates):
+    """The libraries that were built of what stands, over libraries that were."""
+    found = set()
+    for name, below in crates.items():
+        if name != PROGRAM and found.issuperset(below) and made(name) > max([changed(name), *map(made, below)]):
+            found.add(name)
+    return found
+
+
+def memory():
+    """The free memory in bytes."""
+    with open("/proc/meminfo", encoding="ascii") as lines:
+        return next(1024 * int(line.split()[1]) for line in lines if line.startswith("MemAvailable:"))
+
+
+def processors():
+    asked = os.environ.get("JOBS", "")
+    if asked and not (asked.isdigit() and int(asked)):
+        sys.exit("ilpstream: JOBS is a number of processors from 1 on")
+    return int(asked or len(os.sched_getaffinity(0)))
+
+
+class Schedule:
+    """Which crate begins next and with how many jobs."""
+
+    def __init__(self, crates, processors, memory):
+        self.crates, self.processors, self.memory = crates, processors, memory
+        self.longest = chains(crates)
+        self.proved, self.running = set(), {}
+
+    def ready(self):
+        begun = self.proved | self.running.keys()
+        found = [it for it, below in self.crates.items() if it not in begun and self.proved.issuperset(below)]
+        return sorted(found, key=lambda it: -self.longest[it])
+
+    def next(self):
+        """The next crate that can begin, with its jobs, or None. One crate can always run."""
+        ready = self.ready()
+        # (some jobs more than there are processors: none of them waits while the jobs of a crate wait for each other)
+        idle = self.processors + self.processors // 4 * 2 - sum(self.running.values())
+        left = self.memory - sum(CHECK + (jobs - 1) * JOB for jobs in self.running.values())
+        if not ready or self.running and (idle < 1 or left < CHECK or len(self.running) == self.processors):
+            return None
+        jobs = min(max(idle // len(ready), 1), MOST_JOBS, 1 + max(left - CHECK, 0) // JOB)
+        self.running[ready[0]] = jobs
+        return ready[0], jobs
+
+    def ended(self, crate):
+        del self.running[crate]
+        self.proved.add(crate)
+
+    def done(self):
+        """The part of the whole weight that is proved."""
+        return sum(map(weight, self.proved)) / sum(map(weight, self.crates))
+
+
+def plan(crates, processors):
+    """The minutes that the weights give, where each further job of a crate counts as 0.7 of the first."""
+    schedule, now, left = Schedule(crates, processors, processors * (CHECK + JOB)), 0.0, {}
+    while len(schedule.proved) < len(crates):
+        while begun := schedule.next():
+            left[begun[0]] = weight(begun[0])
+        share = min(1, processors / sum(schedule.running.values()))
+        speeds = {it: share * (0.3 + 0.7 * jobs) for it, jobs in schedule.running.items()}
+        crate = min(left, key=lambda it: left[it] / speeds[it])
+        took = left[crate] / speeds[crate]
+        left = {it: seconds - took * speeds[it] for it, seconds in left.items() if it != crate}
+        schedule.ended(crate)
+        now += took
+    return now / 60
+
+
+class Progress:
+    """One line on standard error, rewritten on a terminal; elsewhere a line for each crate."""
+
+    def __init__(self, schedule):
+        self.schedule, self.begun, self.is_terminal = schedule, time.monotonic(), sys.stderr.isatty()
+        self.before = schedule.done()
+
+    def line(self):
+        schedule, minutes = self.schedule, (time.monotonic() - self.begun) / 60
+        done, here = schedule.done(), schedule.done() - self.before
+        left = f", about {minutes / here * (1 - done):.0f} min left" if here > 0.05 and minutes > 1 else ""
+        count = f"{len(schedule.proved)} of {len(schedule.crates)} crates proved"
+        return f"ilpstream: {count}, {100 * done:.0f} %, {minutes:.0f} min{left}"
+
+    def tell(self, crate=""):
+        if self.is_terminal:
+            print(f"\r{self.line()}: {' '.join(self.schedule.running)}"[:79], end="\x1b[K", file=sys.stderr, flush=True)
+        elif crate:
+            print(f"{self.line()}: {crate}", file=sys.stderr, flush=True)
+
+    def end(self):
+        if self.is_terminal:
+            print("\r", end="\x1b[K", file=sys.stderr, flush=True)
+
+
+def level():
+    """The flag for the level of this processor, where it is above that for which the kit builds."""
+    with open("/proc/cpuinfo", encoding="ascii", errors="replace") as lines:
+        flags = next((line.split(":")[1].split() for line in lines if line.startswith("flags")), [])
+    return ["--cpu=x86-64-v3"] if LEVEL_3.issubset(flags) else []
+
+
+def begin(crate, jobs, logs, every, at):
+    """Begins the proof of a crate, which builds its library too. Its text has to stand in the layout of `rt fmt` in the gate alone."""
+    folder = f"{TOP}/crates/{crate}"
+    os.makedirs(f"{folder}/out", exist_ok=True)
+    command = [f"{at}/bin/rattle", "build", *words(crate, every, at, library), "--jobs", str(jobs)]
+    if crate == PROGRAM:
+        command += [*level(), "--toolchain", f"{at}/toolchain", "--backend", "llvm", "-o", f"out/{PROGRAM}.o"]
+    else:
+        shutil.rmtree(f"{folder}/out/built", ignore_errors=True)
+        os.mkdir(f"{folder}/out/built")
+        command += ["--statements", "-o", library(crate)]
+    how = {"cwd": folder, "stdin": subprocess.DEVNULL, "stderr": subprocess.STDOUT}
+    with open(f"{logs}/{crate}", "wb") as log:
+        return subprocess.Popen(command, stdout=log, **how)
+
+
+def link(logs, at):
+    """Links the program, and returns its status."""
+    command = [f"{at}/bin/rattle-link", "--target", "x86_64-unknown-linux-gnu", "--toolchain", f"{at}/toolchain"]
+    command += ["-o", BUILT, f"{BUILT}.o", f"{at}/c/libos_c.a", f"{at}/c/liblibc_c.a"]
+    with open(f"{logs}/{PROGRAM}", "ab") as log:
+        return subprocess.run(command, stdin=subprocess.DEVNULL, stdout=log, stderr=subprocess.STDOUT).returncode
+
+
+def stop(processes):
+    for it in processes.values():
+        it.terminate()
+    for it in processes.values():
+        it.wait()
+
+
+def fail(crate, logs):
+    with open(f"{logs}/{crate}", encoding="utf-8", errors="replace") as log:
+        sys.stderr.write(log.read())
+    print(f"ilpstream: {crate} is not proved, so the program could not be built", file=sys.stderr)
+    return 1
+
+
+def build(crates, logs):
+    schedule, processes = Schedule(crates, processors(), memory()), {}
+    schedule.proved |= fresh_libraries(crates)
+    progress, every, at = Progress(schedule), read_crates(), kit()
+    try:
+        while len(schedule.proved) < len(crates):
+            # (more where another program ended meanwhile)
+            schedule.memory = max(schedule.memory, memory())
+            while begun := schedule.next():
+                processes[begun[0]] = begin(*begun, logs, every, at)
+            progress.tell()
+            time.sleep(0.5)
+            for crate in [it for it, process in processes.items() if process.poll() is not None]:
+                if processes.pop(crate).returncode or crate == PROGRAM and link(logs, at):
+                    progress.end()
+                    return fail(crate, logs)
+                schedule.ended(crate)
+                progress.tell(crate)
+    finally:
+        stop(processes)
+    progress.end()
+    return 0
+
+
+def main(arguments):
+    crates = with_below(PROGRAM, read_crates())
+    if arguments[:1] == ["--plan"]:
+        print(f"{plan(crates, int(arguments[1])):.0f} minutes")
+        return 0
+    if is_fresh(crates):
+        return 0
+    print("ilpstream: proving and building the program first; ./try frames shows it at once, unproved", file=sys.stderr)
+    # (what changes from here on is newer than the program)
+    begun = time.time()
+    with tempfile.TemporaryDirectory() as logs:
+        status = build(crates, logs)
+    if not status:
+        os.utime(BUILT, (begun, begun))
+    return status
+
+
+if __name__ == "__main__":
+    signal.signal(signal.SIGTERM, lambda *_: sys.exit(143))
+    try:
+        sys.exit(main(sys.argv[1:]))
+    except KeyboardInterrupt:
+        sys.exit(130)
