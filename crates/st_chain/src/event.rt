@@ -30,6 +30,9 @@ pub enum Event<'a> {
     AnswerArrives(usize, Way, usize, Moment),
     /// Link, direction, `k`, moment: the sender of the Prepare learns that no answer will arrive.
     Fault(usize, Way, usize, Moment),
+    /// The hop at this index crashes, and starts again with its books. It has no open ticket any more, and the sender of
+    /// a Prepare that was pending there learns nothing of it.
+    Crash(usize),
     /// A call that was refused before it reached an end or a hop. Nothing happens.
     Refused,
 }

@@ -211,6 +211,19 @@ impl<A: Allocator + Copy> Trace<A> {
         }
     }
 
+    /// A hop crashes, and is started again with its books.
+    pub(crate) fn crash(&mut self, hop: usize) -> Told<A>
+        ensures met { (ls : Links) → Meets (in_world self.old ls) (events.Crash hop) (told_seen result) (in_world self.new ls) }
+        ensures nodes { length self.new.nodes ≡ length self.old.nodes }
+    {
+        if hop >= self.hops() {
+            return Told::Nothing;
+        }
+        let node = &mut self.nodes[hop];
+        node.crash();
+        Told::Nothing
+    }
+
     /// A Prepare for the server comes to it.
     pub(crate) fn arrive_server(
         &mut self,

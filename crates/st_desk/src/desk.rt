@@ -108,6 +108,28 @@ impl<C: Ledger, D: Ledger, A: Allocator + Copy> HopDesk<C, D, A> {
         }
     }
 
+    /// A desk over a hop that was restored from its books. What is owed there was booked before, by no share that is out.
+    /// The blanks are as for `new`. Does not allocate.
+    pub fn over(alloc: A, hop: HopState<A>, claims: Blank, dues: Blank) -> HopDesk<C, D, A>
+        requires claims { (claims.name ≡ C.name) × (claims.parts ≡ C.parts) × (claims.parts ≡ 64) }
+        requires dues { (dues.name ≡ D.name) × (dues.parts ≡ D.parts) × (dues.parts ≡ 64) }
+        ensures { result ≡ record { hop = hop; out = 0; kept_claims = sum hop.claims; kept_dues = sum hop.dues } }
+    {
+        let (mut claims, mut spare_claims) = claims.open::<C>();
+        let (mut dues, mut spare_dues) = dues.open::<D>();
+        claims.add(&mut spare_claims, hop.all_claims());
+        dues.add(&mut spare_dues, hop.all_dues());
+        HopDesk {
+            hop,
+            claims,
+            dues,
+            spare_claims,
+            spare_dues,
+            out: 0,
+            alloc,
+        }
+    }
+
     /// The hop, to read an account's claims, dues and reserved amount from.
     pub fn hop(&self) -> &HopState<A>
         ensures { result.now ≡ self.now.hop }

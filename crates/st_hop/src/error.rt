@@ -20,10 +20,13 @@ pub enum HopError {
     /// There is no account with this index.
     #[error("no such account")]
     NoAccount,
+    /// Not each account has a claim and a due, one owes more than its limit above its due, or a sum is above 2^63 - 1.
+    #[error("the books are malformed")]
+    BadBooks,
 }
 
 impl HopError {
-    /// The error number that programs print: 34, 35 or 36.
+    /// The error number that programs print: 34 to 37.
     pub fn number(&self) -> u8
         ensures { result ≡ errors.number self.now }
     {
@@ -31,6 +34,7 @@ impl HopError {
             HopError::BadTable => 34,
             HopError::NoMemory => 35,
             HopError::NoAccount => 36,
+            HopError::BadBooks => 37,
         }
     }
 

@@ -1,12 +1,13 @@
 //! The state of a hop: accounts, routes and pending Prepares.
 
-ghost use Rattle.std.specs.Prelude.{◌≡◌, ◌<◌, ◌≤◌, ◌≤ℤ◌, pos, ◌+◌, ◌^◌, [], ℕ, false, length, map, sum, IfOk, OnErr, IsErrOf, IsTrue, IsOkUnless, ◌↔◌, nat_lt, slice_index, if◌then◌else◌, None, MatchBool};
+ghost use Rattle.std.specs.Prelude.{◌≡◌, ◌<◌, ◌≤◌, ◌≤ℤ◌, pos, ◌+◌, ◌^◌, [], ℕ, false, length, map, sum, IfOk, IfErr, OnErr, IsErrOf, IsTrue, IsOkUnless, ◌↔◌, nat_lt, slice_index, if◌then◌else◌, None, MatchBool};
 ghost use Rattle.st_oer.specs.Ratios.{exchanged};
 ghost use Rattle.st_ilp.specs.Writing.{prepare_refusal};
 ghost use Rattle.st_ilp.specs.Seen.{prepare_seen};
 ghost use Rattle.st_hop.specs.Refusals.{reject_text, payload_of, t00_text};
 ghost use Rattle.st_hop.specs.Inside.{Serves};
-ghost use Rattle.st_hop.specs.Hop.{held_of, is_over_limit, last_next, holding, released, booked};
+ghost use Rattle.st_hop.specs.Books.{WhyNotRestored, restored};
+ghost use Rattle.st_hop.specs.Hop.{held_of, is_over_limit, last_next, holding, released, booked, restarted};
 ghost use Rattle.st_hop.specs.Tickets.{IsAmong};
 ghost use Rattle.st_hop.specs.Arriving.{Answers, judged, arrived, sent_on, ticket_for, onward};
 ghost use Rattle.st_ilp.specs.Reading.{is_fulfill_text};
@@ -16,6 +17,7 @@ ghost use Rattle.st_hop.specs.Lawful.{IsLawful};
 ghost use Rattle.st_hop.specs.Seen.{way_seen, verdict_seen, outcome_seen, IsReady, GoesAcross};
 
 use crate::account::{Account, lower, raise, zeros};
+use crate::books::totals_of;
 use crate::error::HopError;
 use crate::refusal::Refusal;
 use crate::room::{Room, reject};
@@ -122,6 +124,53 @@ impl<A: Allocator + Copy> HopState<A> {
             claimed: 0,
             due: 0,
             t00: reject(alloc, own, Refusal::InternalError)?,
+            alloc,
+        })
+    }
+
+    /// A hop with this address, these accounts and routes, which goes on with the books of an earlier one: the claims and
+    /// dues of each account, in the units of its link. No ticket is open. Its tickets are numbered from `next`, which has
+    /// to be above each number that an earlier hop with these books gave out.
+    ///
+    /// Fails with `BadTable` as `new` does. Otherwise fails with `BadBooks` if not each account has a claim and a due, an
+    /// account owes more than its limit plus its due, or a sum is above 2^63 - 1. Otherwise fails with `NoMemory` if a
+    /// request for memory was refused.
+    pub fn restored(
+        alloc: A,
+        own: &str,
+        accounts: &[Account],
+        routes: &[Route<'_>],
+        claims: &[u64],
+        dues: &[u64],
+        next: u64,
+    ) -> Result<HopState<A>, HopError>
+        ensures made { IfOk result (λ h. h ≡ restored (new_hop own.now accounts.now (map way_seen routes.now)) claims.now dues.now next) }
+        ensures refused { IfErr result (WhyNotRestored own.now accounts.now (map way_seen routes.now) claims.now dues.now) }
+    {
+        let totals = totals_of(accounts, claims, dues);
+        let routes = match routes_of(alloc, own, accounts, routes) {
+            Ok(routes) => routes,
+            Err(HopError::NoMemory) if totals.is_none() => return Err(HopError::BadBooks),
+            Err(error) => return Err(error),
+        };
+        let Some(totals) = totals else {
+            return Err(HopError::BadBooks);
+        };
+        let t00 = reject(alloc, own, Refusal::InternalError)?;
+        Ok(HopState {
+            own: String::from_str(alloc, own)?,
+            accounts: Vec::from_slice(alloc, accounts)?,
+            routes,
+            claims: Vec::from_slice(alloc, claims)?,
+            dues: Vec::from_slice(alloc, dues)?,
+            waiting: BTreeMap::new(alloc),
+            next,
+            held: zeros(alloc, accounts.len())?,
+            all_claims: totals.claims,
+            all_dues: totals.dues,
+            claimed: totals.claims,
+            due: totals.dues,
+            t00,
             alloc,
         })
     }
@@ -410,6 +459,19 @@ impl<A: Allocator + Copy> HopState<A> {
                 Err(refusal) => self.release_with(ticket, refusal),
             },
         }
+    }
+
+    /// Ends all open tickets, as a restart with the same books does. Claims and dues stay, nothing is reserved any more,
+    /// and the numbers of tickets go on. Does not allocate.
+    ///
+    /// No later ticket has the number of one that was open, so an answer to an earlier Prepare settles nothing.
+    pub fn restart(&mut self)
+        ensures { self.new ≡ restarted self.old self.old.next }
+    {
+        self.waiting.clear();
+        self.held.fill(0);
+        self.claimed = self.all_claims;
+        self.due = self.all_dues;
     }
 
     /// A law of every hop, for callers that keep no list of the calls. It does nothing. The accounts are within their

@@ -1,10 +1,11 @@
 //! Laws of the definitions.
 
-ghost use Rattle.std.specs.Prelude.{◌≡◌, ◌≢◌, ℕ, ◌+◌, ◌<◌, ℤ, List, Option, true, length, slice_index, sum};
+ghost use Rattle.std.specs.Prelude.{◌≡◌, ◌≢◌, ℕ, ◌+◌, ◌<◌, ◌≤◌, ℤ, List, Option, true, length, slice_index, sum};
 ghost use Rattle.std.specs.List.{sum_by};
 ghost use Rattle.st_hop.specs.declared.account.Account as accounts;
 ghost use Rattle.st_hop.specs.declared.ticket.Open as tickets;
-ghost use Rattle.st_hop.specs.Hop.{Hop, Way, held_for, due_for};
+ghost use Rattle.st_hop.specs.Hop.{Hop, Way, held_for, due_for, last_next, restarted};
+ghost use Rattle.st_hop.specs.Books.{AreBooks, GoesOn, restored};
 ghost use Rattle.st_hop.specs.Tickets.{IsAmong};
 ghost use Rattle.st_hop.specs.Arriving.{Forwards, arrived};
 ghost use Rattle.st_hop.specs.Exchanging.{GoesAsRouted};
@@ -16,16 +17,26 @@ ghost use Rattle.st_hop.specs.Lawful.{IsLawful};
 ghost use Rattle.st_hop.specs.Runs.{Act, run, fulfilled};
 ghost use Rattle.st_hop.specs.Routing.{route_to, IsRouteTo};
 
-/// After any list of arrivals and settlements from a new hop on, each account's claims are the sum of the amounts of
-/// the fulfilled Prepares that arrived from it. Its dues are the sum of the amounts of those that were forwarded to it.
+/// After any list of arrivals, settlements and restarts from a new hop on, each account's claims are the sum of the
+/// amounts of the fulfilled Prepares that arrived from it. Its dues are the sum of the amounts of those that were forwarded
+/// to it.
 pub fn every_run_balances()
     ensures claims { (own : List ℕ) (accounts : List accounts.Account) (routes : List Way) (acts : List Act) → is_table own accounts routes ≡ true → (a : ℕ) → slice_index (run (new_hop own accounts routes) acts).claims a ≡ sum_by (held_for a) (fulfilled (new_hop own accounts routes) acts) }
     ensures dues { (own : List ℕ) (accounts : List accounts.Account) (routes : List Way) (acts : List Act) → is_table own accounts routes ≡ true → (a : ℕ) → slice_index (run (new_hop own accounts routes) acts).dues a ≡ sum_by (due_for a) (fulfilled (new_hop own accounts routes) acts) }
 {}
 
-/// After any list of arrivals and settlements each account is within its limit, and the sums are below 2^63.
+/// After any list of arrivals, settlements and restarts each account is within its limit, and the sums are below 2^63.
 pub fn every_run_is_lawful()
     ensures { (own : List ℕ) (accounts : List accounts.Account) (routes : List Way) (acts : List Act) → is_table own accounts routes ≡ true → IsLawful (run (new_hop own accounts routes) acts) }
+{}
+
+/// The books of any lawful hop are books with which a hop of its table can go on. That hop is the one that was restarted.
+/// A hop of another table of as many accounts that can have these books goes on with them too.
+pub fn books_go_on()
+    ensures books { (h : Hop) → IsLawful h → AreBooks h.accounts h.claims h.dues }
+    ensures same { (h : Hop) (next : ℕ) → restored (new_hop h.own h.accounts h.routes) h.claims h.dues next ≡ restarted h next }
+    ensures restarted { (h : Hop) → GoesOn h (restarted h h.next) }
+    ensures restored { (h : Hop) (accounts : List accounts.Account) (routes : List Way) (next : ℕ) → is_table h.own accounts routes ≡ true → AreBooks accounts h.claims h.dues → length accounts ≡ length h.accounts → h.next ≤ next → next ≤ last_next → GoesOn h (restored (new_hop h.own accounts routes) h.claims h.dues next) }
 {}
 
 /// The route to an address is the one with the longest prefix of it. There is none only where no prefix fits.

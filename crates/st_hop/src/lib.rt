@@ -8,6 +8,7 @@
 #![tactic(auto)]
 
 mod account;
+mod books;
 mod error;
 mod hop;
 mod laws;
@@ -24,7 +25,7 @@ pub use account::Account;
 pub use error::HopError;
 pub use hop::HopState;
 pub use laws::{
-    arrivals_go_across, every_run_balances, every_run_is_lawful, longest_route_law,
+    arrivals_go_across, books_go_on, every_run_balances, every_run_is_lawful, longest_route_law,
     prepares_go_on_as_routed, settlements_book, tickets_settle_once,
 };
 pub use refusal::Refusal;

@@ -7,7 +7,7 @@ ghost use Rattle.st_hop.specs.Seen.{way_seen as hop_way_seen};
 ghost use Rattle.st_hop.specs.Table.{is_table, new_hop};
 ghost use Rattle.st_nodes.specs.Seen.{way_seen, told_seen};
 ghost use Rattle.st_nodes.specs.Kept.{IsTicketPlace};
-ghost use Rattle.st_nodes.specs.Parts.{HopMet, HopBack};
+ghost use Rattle.st_nodes.specs.Parts.{HopMet, HopBack, HopCrashed};
 
 use crate::entry::{HopEntry, amount_in};
 use crate::lane::{Given, Lane, Put, mark_taken};
@@ -148,6 +148,15 @@ impl<A: Allocator + Copy> Node<A> {
         ensures { result.now ≡ self.now.bag }
     {
         self.bag.as_slice()
+    }
+
+    /// The hop crashes, and is started again with its books: what is owed stays owed, and each ticket that it gave out and that
+    /// is not spent is gone. No memory.
+    pub fn crash(&mut self)
+        ensures { HopCrashed self.old self.new }
+    {
+        self.kept.clear();
+        self.state.restart();
     }
 }
 

@@ -1,19 +1,22 @@
 //! Laws of every run, over the definitions alone. These functions do nothing: the contract is the law.
 
-ghost use Rattle.std.specs.Prelude.{◌≡◌, ℕ, ℤ, true, false, List, [], ◌∷◌, Some, length, slice_get};
+ghost use Rattle.std.specs.Prelude.{◌≡◌, ℕ, ◌+◌, ◌<◌, ◌≤◌, ℤ, true, false, List, [], ◌∷◌, Some, length, slice_get};
 ghost use Rattle.st_hop.specs.declared.ticket.Open as tickets;
 ghost use Rattle.st_hop.specs.Hop.{Hop};
 ghost use Rattle.st_hop.specs.Lawful.{IsLawful};
 ghost use Rattle.st_hop.specs.Arriving.{Forwards, arrived};
 ghost use Rattle.st_world.specs.Sides.{Side, Client};
-ghost use Rattle.st_world.specs.State.{World, Node, ledger_at, account_from, account_to};
-ghost use Rattle.st_world.specs.Events.{Event, OpenStream, Close, Told, IsEvent};
+ghost use Rattle.st_world.specs.State.{World, Node, AtHop, lane_at, near, ledger_at, account_from, account_to};
+ghost use Rattle.st_world.specs.Events.{Event, OpenStream, Close, Crash, Told, Silent, IsEvent};
 ghost use Rattle.st_world.specs.Steps.{Step, noted};
 ghost use Rattle.st_world.specs.Runs.{Chain, is_chain, Run, opening};
 ghost use Rattle.st_world.specs.Holds.{Holds, StaysRead};
+ghost use Rattle.st_world.specs.Crashes.{LosesTickets, WasPut, HasNoTicket, HasTicket, IsLost, FulfillsOnce, pending_to, fulfilled_due};
+ghost use Rattle.std.specs.List.{sum_by};
+ghost use Rattle.st_end.specs.Receiving.{prepare_in};
 
-/// What holds after any list of calls, arrivals, answers and faults over any chain of hops, where Prepares and answers
-/// may be lost, repeated and reordered:
+/// What holds after any list of calls, arrivals, answers, faults and crashes of hops over any chain of hops, where
+/// Prepares and answers may be lost, repeated and reordered:
 ///
 /// - What was read of each stream is a prefix of what was written, and all of it where a read gave the end.
 /// - Each end's credit is the sum of the Prepares that it fulfilled, each sequence once.
@@ -24,6 +27,33 @@ ghost use Rattle.st_world.specs.Holds.{Holds, StaysRead};
 pub fn every_run_holds()
     ensures holds { (c : Chain) (events : List Event) (w : World) → Run (opening c) events w → Holds w }
     ensures stays { (c : Chain) (events more : List Event) (w v : World) → Run (opening c) events w → Run w more v → (side : Side) (k : ℕ) → StaysRead (ledger_at w side k) (ledger_at v side k) }
+{}
+
+/// A crash of a hop costs its open tickets, and no more. It is possible at any moment (`any_moment`).
+///
+/// - All claims, dues and credits stay, and all that was sent on any link. No ticket is open at the hop (`books`).
+/// - From then on, whatever comes back for a Prepare that the hop sent before the crash changes nothing (`late`). So no
+///   late answer settles a ticket that was given out since.
+/// - A Prepare whose ticket was not open before the crash was lost without it (`spent`).
+/// - The amount of an open ticket is that of its Prepare (`amount`).
+pub fn crashes_cost_open_tickets()
+    ensures books { (w v : World) (i : ℕ) (told : Told) → Step w (Crash i) told v → LosesTickets w v i }
+    ensures any_moment { (w : World) (i : ℕ) → (v : World) × Step w (Crash i) Silent v }
+    ensures late { (c : Chain) (before after : List Event) (w v u : World) (i : ℕ) (told : Told) → Run (opening c) before w → Step w (Crash i) told v → Run v after u → (link : ℕ) (way : Side) (which : ℕ) → WasPut w i link way which → IsLost u link way which }
+    ensures spent { (c : Chain) (events more : List Event) (w u : World) → Run (opening c) events w → Run w more u → (i link : ℕ) (way : Side) (which : ℕ) → (was : WasPut w i link way which) → HasNoTicket w i was.put → IsLost u link way which }
+    ensures amount { (c : Chain) (events : List Event) (w : World) → Run (opening c) events w → (i link : ℕ) (way : Side) (which : ℕ) → (was : WasPut w i link way which) → (t : tickets.Open) → HasTicket w i was.put t → (t.outgoing ≡ account_to way) × (t.amount_out ≡ (prepare_in was.put.bytes).amount) }
+{}
+
+/// All Fulfills that are ever sent for the Prepares that are pending at a hop towards one neighbour are together at most
+/// the amount that is pending there. After a crash none of them is taken, so a crash costs at most that amount.
+pub fn what_is_pending_bounds_the_cost()
+    ensures { (c : Chain) (events more : List Event) (w u : World) → Run (opening c) events w → Run w more u → (link i : ℕ) (way : Side) (n : Node) → link < length w.nodes + 1 → near w link way ≡ AtHop i → slice_get w.nodes i ≡ Some n → sum_by (fulfilled_due n.state.tickets (lane_at w link way).puts) (lane_at u link way).given ≤ pending_to n.state (account_to way) }
+{}
+
+/// On no link is a Prepare fulfilled twice, whatever is repeated. So two neighbours differ by at most its amount for one
+/// Prepare.
+pub fn prepares_are_fulfilled_once()
+    ensures { (c : Chain) (events : List Event) (w : World) → Run (opening c) events w → FulfillsOnce w }
 {}
 
 /// A world notes that a call of an end or a hop found no memory. An event whose call found memory leaves the note as it
