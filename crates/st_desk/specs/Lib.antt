@@ -1,4 +1,5 @@
 pub mod Errors
 pub mod Desk
+pub mod Stored
 pub mod Answers
 pub mod Links

@@ -1,6 +1,6 @@
 //! The state of a connector hop (a desk) that several threads share under one lock.
 
-ghost use Rattle.std.specs.Prelude.{◌≡◌, ◌+◌, ◌<◌, length, nat_lt, sum, vec_len, OnOk, OnErr, IfOk, IfErr, IsErrOf, IsOkUnless, MatchBool};
+ghost use Rattle.std.specs.Prelude.{◌≡◌, ◌+◌, ◌<◌, true, Some, length, nat_lt, sum, vec_len, OnOk, OnErr, IfOk, IfErr, IsErrOf, IsOkUnless, MatchBool};
 ghost use Rattle.std.specs.List.{sum_by};
 ghost use Rattle.st_ilp.specs.Reading.{is_fulfill_text};
 ghost use Rattle.st_hop.specs.Tickets.{IsAmong};
@@ -9,10 +9,13 @@ ghost use Rattle.st_hop.specs.Refusals.{t00_text};
 ghost use Rattle.st_hop.specs.Settling.{settled, claim_of, due_of, is_booked};
 ghost use Rattle.st_hop.specs.Seen.{verdict_seen, outcome_seen, IsReady, GoesAcross};
 ghost use Rattle.st_hop.specs.declared.error.HopError.TheVariants as refusals;
-ghost use Rattle.st_desk.specs.Desk.{IsNew, claims_in, dues_in};
+ghost use Rattle.st_desk.specs.Desk.{claims_in, dues_in};
+ghost use Rattle.st_desk.specs.Stored.{booking_of, counted};
 ghost use Rattle.st_desk.specs.declared.error.DeskError.TheVariants.{NoShareLeft, Stranger, MissingShare, NoMemory};
 
 use crate::error::DeskError;
+use crate::stored::counted;
+use st_booking::Booked;
 use st_hop::{HopError, HopState, Outcome, Ticket, Verdict};
 use st_ilp::Moment;
 use std::alloc::Allocator;
@@ -87,30 +90,10 @@ pub struct Owed {
 }
 
 impl<C: Ledger, D: Ledger, A: Allocator + Copy> HopDesk<C, D, A> {
-    /// Makes a desk over a hop that has booked nothing and has no open ticket. `claims` and `dues` are blanks of 64
-    /// parts, picked for the ledgers `C` and `D`. Does not allocate.
+    /// Makes a desk over a hop. What is owed there already was booked before, by no share that is out: nothing at a new hop,
+    /// its books at one that was restored. `claims` and `dues` are blanks of 64 parts, picked for the ledgers `C` and `D`. Does
+    /// not allocate.
     pub fn new(alloc: A, hop: HopState<A>, claims: Blank, dues: Blank) -> HopDesk<C, D, A>
-        requires fresh { IsNew hop }
-        requires claims { (claims.name ≡ C.name) × (claims.parts ≡ C.parts) × (claims.parts ≡ 64) }
-        requires dues { (dues.name ≡ D.name) × (dues.parts ≡ D.parts) × (dues.parts ≡ 64) }
-        ensures { result ≡ record { hop = hop; out = 0; kept_claims = 0; kept_dues = 0 } }
-    {
-        let (claims, spare_claims) = claims.open::<C>();
-        let (dues, spare_dues) = dues.open::<D>();
-        HopDesk {
-            hop,
-            claims,
-            dues,
-            spare_claims,
-            spare_dues,
-            out: 0,
-            alloc,
-        }
-    }
-
-    /// A desk over a hop that was restored from its books. What is owed there was booked before, by no share that is out.
-    /// The blanks are as for `new`. Does not allocate.
-    pub fn over(alloc: A, hop: HopState<A>, claims: Blank, dues: Blank) -> HopDesk<C, D, A>
         requires claims { (claims.name ≡ C.name) × (claims.parts ≡ C.parts) × (claims.parts ≡ 64) }
         requires dues { (dues.name ≡ D.name) × (dues.parts ≡ D.parts) × (dues.parts ≡ 64) }
         ensures { result ≡ record { hop = hop; out = 0; kept_claims = sum hop.claims; kept_dues = sum hop.dues } }
@@ -189,6 +172,9 @@ impl<C: Ledger, D: Ledger, A: Allocator + Copy> HopDesk<C, D, A> {
     /// answer the Prepare (RFC 0027). The claim and the due that the hop books are also booked in `shares`. Does not
     /// allocate.
     ///
+    /// A Fulfill is passed back and booked only with the token of what this ticket books (`booking_of`), which says that this
+    /// was stored before. Without it the Fulfill counts as no answer: nothing is booked, and the Prepare is answered with T01.
+    ///
     /// Fails with `Stranger` where the ticket is not open at this desk. Then nothing has changed, and the ticket is
     /// spent.
     pub fn settle(
@@ -197,11 +183,13 @@ impl<C: Ledger, D: Ledger, A: Allocator + Copy> HopDesk<C, D, A> {
         ticket: Ticket,
         outcome: Outcome<A>,
         now: Moment,
+        token: Option<Booked>,
     ) -> Result<Vec<u8, A>, DeskError>
-        ensures settled { IfOk result (λ v. IsAmong self.old.hop.tickets ticket × (settled self.old.hop ticket (outcome_seen outcome) now ≡ (v.items, self.new.hop))) }
-        ensures claims { OnOk result (shares.new.claims ≡ shares.old.claims + claim_of ticket (outcome_seen outcome) now) }
-        ensures dues { OnOk result (shares.new.dues ≡ shares.old.dues + due_of ticket (outcome_seen outcome) now) }
-        ensures fulfills { IfOk result (λ v. is_fulfill_text v.items ≡ is_booked ticket (outcome_seen outcome) now) }
+        ensures settled { IfOk result (λ v. IsAmong self.old.hop.tickets ticket × (settled self.old.hop ticket (counted ticket (outcome_seen outcome) now token) now ≡ (v.items, self.new.hop))) }
+        ensures claims { OnOk result (shares.new.claims ≡ shares.old.claims + claim_of ticket (counted ticket (outcome_seen outcome) now token) now) }
+        ensures dues { OnOk result (shares.new.dues ≡ shares.old.dues + due_of ticket (counted ticket (outcome_seen outcome) now token) now) }
+        ensures fulfills { IfOk result (λ v. is_fulfill_text v.items ≡ is_booked ticket (counted ticket (outcome_seen outcome) now token) now) }
+        ensures stored { IfOk result (λ v. is_fulfill_text v.items ≡ true → token ≡ Some (booking_of ticket)) }
         ensures rest { self.new ≡ record self.old { hop = self.new.hop } }
         ensures stranger { IfErr result (λ e. (e ≡ Stranger) × (¬ (IsAmong self.old.hop.tickets ticket)) × (self.new ≡ self.old) × (shares.new ≡ shares.old)) }
     {
@@ -219,6 +207,7 @@ impl<C: Ledger, D: Ledger, A: Allocator + Copy> HopDesk<C, D, A> {
             claims: my_claims,
             dues: my_dues,
         } = shares;
+        let outcome = counted(&ticket, outcome, now, &token);
         let claimed = hop.all_claims();
         let due = hop.all_dues();
         let answer = hop.settle(ticket, outcome, now);

@@ -2,7 +2,7 @@
 //!
 //! `HopDesk` is the lock's value. Each thread books its settlements in `AccountShares` of its own. `gather` shows that
 //! the sum of all shares is what all accounts owe the hop and what the hop owes them. `serve` takes a Prepare under the
-//! lock, exchanges it over a `Link` with the lock open, and settles it under the lock again.
+//! lock, exchanges it over a `Link` with the lock open, stores in `Books` what it books, and settles it under the lock again.
 #![tactic(auto)]
 
 mod desk;
@@ -10,9 +10,11 @@ mod error;
 mod fail_link;
 mod link;
 mod serving;
+mod stored;
 
 pub use desk::{AccountShares, Arrived, HopDesk, Owed, SHARES};
 pub use error::DeskError;
 pub use fail_link::FailLink;
 pub use link::{Clock, Link, LinkFault, Links};
 pub use serving::{Served, serve};
+pub use stored::{Books, NoBooks, booking_of};

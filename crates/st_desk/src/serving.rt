@@ -5,6 +5,8 @@ ghost use Rattle.std.specs.Prelude.{◌≡◌, IfOk};
 use crate::desk::{AccountShares, Arrived, HopDesk};
 use crate::error::DeskError;
 use crate::link::{Clock, Links};
+use crate::stored::{Books, booking_of};
+use st_booking::Booked;
 use st_hop::{HopError, Outcome, Ticket, Verdict};
 use st_ilp::Moment;
 use std::alloc::Allocator;
@@ -32,9 +34,11 @@ fn settle<C: Ledger, D: Ledger, A: Allocator + Copy>(
     ticket: Ticket,
     outcome: Outcome<A>,
     now: Moment,
+    token: Option<Booked>,
 ) -> Result<Vec<u8, A>, DeskError> {
     let mut shares = shares.lock(rt);
-    desk.lock(rt).settle(&mut shares, ticket, outcome, now)
+    desk.lock(rt)
+        .settle(&mut shares, ticket, outcome, now, token)
 }
 
 fn t00<C: Ledger, D: Ledger, A: Allocator + Copy>(
@@ -59,13 +63,27 @@ pub struct Served<A: Allocator + Copy> {
     pub answer: Vec<u8, A>,
 }
 
+/// The token of what this outcome books, once it is stored. `None` where it books nothing, or where that could not be stored.
+fn stored<A: Allocator + Copy>(
+    books: &mut impl Books,
+    ticket: &Ticket,
+    outcome: &Outcome<A>,
+    now: Moment,
+) -> Option<Booked> {
+    if !outcome.books(ticket, now) {
+        return None;
+    }
+    books.store(booking_of(ticket))
+}
+
 /// What answers a Prepare that arrived: the hop's own Reject, or what comes back over the links.
-fn answer_to<C: Ledger, D: Ledger, A: Allocator + Copy, T: Links<A>, K: Clock>(
+fn answer_to<C: Ledger, D: Ledger, A: Allocator + Copy, T: Links<A>, B: Books, K: Clock>(
     rt: &impl Wait,
     desk: &Mutex<HopDesk<C, D, A>>,
     shares: &Mutex<AccountShares<C, D>>,
     verdict: Verdict<A>,
     links: &mut T,
+    books: &mut B,
     clock: &mut K,
     now: Moment,
 ) -> Result<Vec<u8, A>, DeskError> {
@@ -78,7 +96,9 @@ fn answer_to<C: Ledger, D: Ledger, A: Allocator + Copy, T: Links<A>, K: Clock>(
         } => {
             let by = deadline_of(&ticket, now);
             let outcome = links.exchange(account, &bytes, by);
-            match settle(rt, desk, shares, ticket, outcome, clock.now()) {
+            let now = clock.now();
+            let token = stored(books, &ticket, &outcome, now);
+            match settle(rt, desk, shares, ticket, outcome, now, token) {
                 Ok(answer) => Ok(answer),
                 Err(_) => t00(rt, desk),
             }
@@ -90,17 +110,19 @@ fn answer_to<C: Ledger, D: Ledger, A: Allocator + Copy, T: Links<A>, K: Clock>(
 /// account to which it is sent (`links`, by account), and what is booked is added to the shares. The result names the
 /// account from which the desk let the Prepare arrive.
 ///
-/// The desk's lock is taken to let the Prepare arrive and to settle it, and is open during the exchange; the shares are
-/// locked while it is settled. The answer is T00 (RFC 0027) where memory was refused on arrival, where there is no such
+/// The desk's lock is taken to let the Prepare arrive and to settle it; the shares are locked while it is settled. No lock is
+/// held during the exchange, nor while `books` store what the Fulfill books. A Fulfill is passed back only once that is stored,
+/// and otherwise answered with T01. The answer is T00 (RFC 0027) where memory was refused on arrival, where there is no such
 /// account, or where the ticket is not open any more. Fails with `NoMemory` where there is no memory for T00 either. It
 /// waits for the locks.
-pub fn serve<C: Ledger, D: Ledger, A: Allocator + Copy, T: Links<A>, K: Clock>(
+pub fn serve<C: Ledger, D: Ledger, A: Allocator + Copy, T: Links<A>, B: Books, K: Clock>(
     rt: &impl Wait,
     desk: &Mutex<HopDesk<C, D, A>>,
     shares: &Mutex<AccountShares<C, D>>,
     account: usize,
     bytes: &[u8],
     links: &mut T,
+    books: &mut B,
     clock: &mut K,
 ) -> Result<Served<A>, DeskError>
     ensures { IfOk result (λ s. s.account ≡ account) }
@@ -111,7 +133,7 @@ pub fn serve<C: Ledger, D: Ledger, A: Allocator + Copy, T: Links<A>, K: Clock>(
             let Arrived { account, verdict } = arrived;
             (
                 account,
-                answer_to(rt, desk, shares, verdict, links, clock, now)?,
+                answer_to(rt, desk, shares, verdict, links, books, clock, now)?,
             )
         }
         Err(_) => (account, t00(rt, desk)?),

@@ -1,8 +1,10 @@
 //! A desk with one share out, and what it answers.
-ghost use Rattle.std.specs.Prelude.{◌≡◌, IfOk};
-ghost use Rattle.st_desk.specs.Desk.{IsNew};
+ghost use Rattle.std.specs.Prelude.{◌≡◌};
 
-use st_desk::{AccountShares, Clock, HopDesk, Link, LinkFault, Owed, Served, serve};
+use st_booking::{Booked, Booking};
+use st_desk::{
+    AccountShares, Books, Clock, HopDesk, Link, LinkFault, NoBooks, Owed, Served, serve,
+};
 use st_hop::{Account, HopError, HopState, Route};
 use st_ilp::Moment;
 use st_oer::Counted;
@@ -39,9 +41,7 @@ pub(crate) const T00: &[u8; 17] = b"\x0e\x0fT00\x09example.c\0\0";
 pub(crate) const T01: &[u8; 17] = b"\x0e\x0fT01\x09example.c\0\0";
 
 /// The hop `example.c` with nothing owed, account 0, and account 1 behind `example.b`. Each may owe 100.
-pub(crate) fn new_hop<A: Allocator + Copy>(alloc: A) -> Result<HopState<A>, HopError>
-    ensures { IfOk result IsNew }
-{
+pub(crate) fn new_hop<A: Allocator + Copy>(alloc: A) -> Result<HopState<A>, HopError> {
     let account = Account {
         limit: 100,
         max_packet: 1000,
@@ -127,9 +127,10 @@ fn ask<C: Ledger, D: Ledger, R: Wait + Abort>(
     desk: &Mutex<HopDesk<C, D, Global>>,
     shares: &Mutex<AccountShares<C, D>>,
     links: &mut Vec<Neighbour<'_, Global>>,
+    books: &mut Noted,
 ) -> Vec<u8> {
     let mut clock = stopped_clock(rt);
-    match serve(rt, desk, shares, 0, PREPARE, links, &mut clock) {
+    match serve(rt, desk, shares, 0, PREPARE, links, books, &mut clock) {
         Ok(Served { account, answer }) => {
             assert!(rt; account == 0);
             answer
@@ -155,15 +156,15 @@ fn one_serves<C: Ledger, D: Ledger, R: Wait + Abort>(
     claims: Blank,
     dues: Blank,
     links: &mut Vec<Neighbour<'_, Global>>,
+    books: &mut Noted,
 ) -> (Vec<u8>, Owed)
-    requires fresh { IsNew hop }
     requires claims { (claims.name ≡ C.name) × (claims.parts ≡ C.parts) × (claims.parts ≡ 64) }
     requires dues { (dues.name ≡ D.name) × (dues.parts ≡ D.parts) × (dues.parts ≡ 64) }
 {
     let mut desk = HopDesk::<C, D, Global>::new(alloc, hop, claims, dues);
     let shares = Mutex::new(shares_of(rt, &mut desk));
     let desk = Mutex::new(desk);
-    let told = ask(rt, &desk, &shares, links);
+    let told = ask(rt, &desk, &shares, links, books);
     let mut desk = desk.into_inner();
     let owed = gathered(rt, alloc, &mut desk, shares.into_inner());
     assert!(rt; is_booked(&desk, owed.claims));
@@ -185,21 +186,52 @@ pub(crate) fn gathered<C: Ledger, D: Ledger, A: Allocator + Copy>(
     }
 }
 
-/// A Fulfill is booked; a Reject, a neighbour without an answer and a missing link are not.
+/// Books that note what they are to store, and refuse it where they are full.
+#[derive(Drop)]
+struct Noted {
+    is_full: bool,
+    noted: Option<Booking>,
+}
+
+impl Books for Noted {
+    fn store(&mut self, booking: Booking) -> Option<Booked> {
+        self.noted = Some(booking);
+        if self.is_full {
+            return None;
+        }
+        NoBooks.store(booking)
+    }
+}
+
+/// What is booked of the Prepare where it is fulfilled.
+const BOOKING: Booking = Booking {
+    payer: 0,
+    claim: 5,
+    payee: 1,
+    due: 5,
+};
+
+/// A Fulfill is stored and booked. A Fulfill that could not be stored, a Reject, a neighbour without an answer and a missing
+/// link are not booked.
 #[test]
 fn a_thread_serves(rt: HostRuntime) -> Result<(), Fail> {
-    let rows: [(Option<&[u8]>, bool, &[u8], u64); 4] = [
-        (Some(FULFILL), true, FULFILL, 5),
-        (Some(REJECT), true, REJECT, 0),
-        (None, true, T01, 0),
-        (Some(FULFILL), false, T01, 0),
+    let rows: [(Option<&[u8]>, bool, bool, &[u8], u64, Option<Booking>); 5] = [
+        (Some(FULFILL), true, false, FULFILL, 5, Some(BOOKING)),
+        (Some(FULFILL), true, true, T01, 0, Some(BOOKING)),
+        (Some(REJECT), true, false, REJECT, 0, None),
+        (None, true, false, T01, 0, None),
+        (Some(FULFILL), false, false, T01, 0, None),
     ];
     let alloc = rt.alloc();
-    for (answer, has_links, want, amount) in rows {
+    for (answer, has_links, is_full, want, amount, noted) in rows {
         let mut links = if has_links {
             neighbours(&rt, alloc, answer)
         } else {
             Vec::new(alloc)
+        };
+        let mut books = Noted {
+            is_full,
+            noted: None,
         };
         let (told, owed) = one_serves::<Brand, Brand, _>(
             &rt,
@@ -208,9 +240,42 @@ fn a_thread_serves(rt: HostRuntime) -> Result<(), Fail> {
             Blank::new(64),
             Blank::new(64),
             &mut links,
+            &mut books,
         );
         assert!(rt; told.as_slice() == want);
         assert!(rt; (owed.claims, owed.dues) == (amount, amount));
+        assert!(rt; books.noted == noted);
     }
+    Ok(())
+}
+
+/// What is owed at a desk over a hop that was restored from books, before anything is settled there.
+fn owed_before<C: Ledger, D: Ledger, R: Wait + Abort>(
+    rt: &R,
+    alloc: Global,
+    hop: HopState<Global>,
+    claims: Blank,
+    dues: Blank,
+) -> Owed
+    requires claims { (claims.name ≡ C.name) × (claims.parts ≡ C.parts) × (claims.parts ≡ 64) }
+    requires dues { (dues.name ≡ D.name) × (dues.parts ≡ D.parts) × (dues.parts ≡ 64) }
+{
+    let mut desk = HopDesk::<C, D, Global>::new(alloc, hop, claims, dues);
+    let shares = shares_of(rt, &mut desk);
+    gathered(rt, alloc, &mut desk, shares)
+}
+
+/// A desk has what its hop's books have, and the shares have nothing of it.
+#[test]
+fn a_desk_has_what_was_booked_before(rt: HostRuntime) -> Result<(), Fail> {
+    let alloc = rt.alloc();
+    let account = Account {
+        limit: 100,
+        max_packet: 1000,
+    };
+    let both = [account, account];
+    let hop = HopState::restored(alloc, "example.c", &both, &[], &[7, 2], &[1, 9], 1 << 44)?;
+    let owed = owed_before::<Brand, Brand, _>(&rt, alloc, hop, Blank::new(64), Blank::new(64));
+    assert!(rt; (owed.claims, owed.dues) == (9, 10));
     Ok(())
 }

@@ -1,9 +1,8 @@
 //! A link of which one exchange fails.
 ghost use Rattle.std.specs.Prelude.{◌≡◌};
-ghost use Rattle.st_desk.specs.Desk.{IsNew};
 
 use crate::desks::{FULFILL, Neighbour, PREPARE, T01, gathered, new_hop, shares_of, stopped_clock};
-use st_desk::{AccountShares, FailLink, HopDesk, Owed, serve};
+use st_desk::{AccountShares, FailLink, HopDesk, NoBooks, Owed, serve};
 use st_hop::HopState;
 use st_oer::Counted;
 use std::alloc::Global;
@@ -33,7 +32,16 @@ fn serve_three<C: Ledger, D: Ledger, R: Wait + Abort>(
     let mut clock = stopped_clock(rt);
     let wanted: [(&[u8], u64); 3] = [(FULFILL, 0), (T01, 1), (FULFILL, 1)];
     for (want, faults) in wanted {
-        match serve(rt, desk, shares, 0, PREPARE, links, &mut clock) {
+        match serve(
+            rt,
+            desk,
+            shares,
+            0,
+            PREPARE,
+            links,
+            &mut NoBooks,
+            &mut clock,
+        ) {
             Ok(told) => assert!(rt; told.answer.as_slice() == want),
             Err(refused) => panic!(rt; "refused {}", refused.number()),
         }
@@ -65,7 +73,6 @@ fn second_fails<C: Ledger, D: Ledger, R: Wait + Abort>(
     claims: Blank,
     dues: Blank,
 ) -> Owed
-    requires fresh { IsNew hop }
     requires claims { (claims.name ≡ C.name) × (claims.parts ≡ C.parts) × (claims.parts ≡ 64) }
     requires dues { (dues.name ≡ D.name) × (dues.parts ≡ D.parts) × (dues.parts ≡ 64) }
 {

@@ -1,10 +1,9 @@
 //! A hop that is served while memory is refused.
 ghost use Rattle.std.specs.Prelude.{◌≡◌};
-ghost use Rattle.st_desk.specs.Desk.{IsNew};
 
 use crate::desks::{FULFILL, Neighbour, PREPARE, T00, T01, new_hop, shares_of, stopped_clock};
 use refusing::Refusing;
-use st_desk::{AccountShares, DeskError, HopDesk, Served, serve};
+use st_desk::{AccountShares, DeskError, HopDesk, NoBooks, Served, serve};
 use st_hop::{HopError, HopState};
 use std::alloc::{Allocator, Global};
 use std::marker::Brand;
@@ -65,7 +64,19 @@ fn ask<C: Ledger, D: Ledger, A: Allocator + Copy, R: Wait + Abort>(
     links: &mut Vec<Neighbour<'_, A>, A>,
 ) -> Told {
     let mut clock = stopped_clock(rt);
-    told_by(rt, serve(rt, desk, shares, 0, PREPARE, links, &mut clock))
+    told_by(
+        rt,
+        serve(
+            rt,
+            desk,
+            shares,
+            0,
+            PREPARE,
+            links,
+            &mut NoBooks,
+            &mut clock,
+        ),
+    )
 }
 
 /// How a thread was answered. Nothing is held afterwards, and what is owed was fulfilled.
@@ -77,7 +88,6 @@ fn served<C: Ledger, D: Ledger, A: Allocator + Copy, R: Wait + Abort>(
     dues: Blank,
     links: &mut Vec<Neighbour<'_, A>, A>,
 ) -> Told
-    requires fresh { IsNew hop }
     requires claims { (claims.name ≡ C.name) × (claims.parts ≡ C.parts) × (claims.parts ≡ 64) }
     requires dues { (dues.name ≡ D.name) × (dues.parts ≡ D.parts) × (dues.parts ≡ 64) }
 {

@@ -1,9 +1,8 @@
 //! Two threads that serve one hop at once.
 ghost use Rattle.std.specs.Prelude.{◌≡◌};
-ghost use Rattle.st_desk.specs.Desk.{IsNew};
 
 use crate::desks::{FULFILL, PREPARE, gathered, new_hop, shares_of, stopped_clock};
-use st_desk::{AccountShares, HopDesk, Link, LinkFault, Owed, serve};
+use st_desk::{AccountShares, HopDesk, Link, LinkFault, NoBooks, Owed, serve};
 use st_hop::HopState;
 use st_ilp::Moment;
 use st_oer::Counted;
@@ -77,7 +76,16 @@ fn is_fulfilled<C: Ledger, D: Ledger, R: Wait + Abort + std::time::Clock>(
     };
     let mut links = Vec::from_array(alloc, [gate(), gate()]).expect(rt, "memory");
     let mut clock = stopped_clock(rt);
-    match serve(rt, desk, shares, 0, PREPARE, &mut links, &mut clock) {
+    match serve(
+        rt,
+        desk,
+        shares,
+        0,
+        PREPARE,
+        &mut links,
+        &mut NoBooks,
+        &mut clock,
+    ) {
         Ok(served) => served.answer.as_slice() == FULFILL.as_slice(),
         Err(_) => false,
     }
@@ -109,7 +117,6 @@ fn two_serve<
     D: Ledger + Send + Sync,
     R: Threads + Wait + Abort + std::time::Clock + Sync,
 >(rt: &R, alloc: Global, hop: HopState<Global>, claims: Blank, dues: Blank) -> ((bool, bool), Owed)
-    requires fresh { IsNew hop }
     requires claims { (claims.name ≡ C.name) × (claims.parts ≡ C.parts) × (claims.parts ≡ 64) }
     requires dues { (dues.name ≡ D.name) × (dues.parts ≡ D.parts) × (dues.parts ≡ 64) }
 {

@@ -3,7 +3,6 @@
 ghost use Rattle.std.specs.Prelude.{◌≡◌, ◌⊎◌, true, Err, IfErr, IfOk};
 ghost use Rattle.st_oer.specs.Tallies.{device_of, tally_of};
 ghost use Rattle.st_program.specs.Table.{EndsBy, SaysTable, Serves, WhyNoTable, is_hop};
-ghost use Rattle.st_desk.specs.Desk.{IsNew};
 ghost use Rattle.st_program.specs.declared.error.RunError.TheVariants.{BadOption};
 
 use crate::error::RunError;
@@ -48,7 +47,6 @@ fn serve_by<
     hop: HopState<Global>,
     totals: &mut ConnectorTotals,
 ) -> Result<(), RunError>
-    requires new { IsNew hop }
     requires made { is_hop settings.now.own.now table.now.accounts.items table.now.routes.items ≡ true }
     ensures { Serves settings.now.own.now table.now.accounts.items table.now.routes.items result }
 {

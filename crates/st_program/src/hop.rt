@@ -1,7 +1,6 @@
 //! The hop of a connector and its neighbours, made by a table.
 
 ghost use Rattle.std.specs.Prelude.{◌≡◌, true, IfErr, IfOk};
-ghost use Rattle.st_desk.specs.Desk.{IsNew};
 ghost use Rattle.st_program.specs.Table.{WhyNoHop, is_hop};
 
 use crate::error::RunError;
@@ -17,7 +16,7 @@ pub(crate) fn hop_of(
     own: &str,
     table: &Table<'_, Global>,
 ) -> Result<HopState<Global>, RunError>
-    ensures made { IfOk result (λ hop. IsNew hop × (is_hop own.now table.now.accounts.items table.now.routes.items ≡ true)) }
+    ensures made { IfOk result (λ hop. is_hop own.now table.now.accounts.items table.now.routes.items ≡ true) }
     ensures refused { IfErr result (WhyNoHop own.now table.now.accounts.items table.now.routes.items) }
 {
     let Ok(terms) = table.terms(alloc) else {

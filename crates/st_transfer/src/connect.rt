@@ -1,7 +1,6 @@
 //! The command `connector`.
 
 ghost use Rattle.std.specs.Prelude.{◌≡◌, ◌⊎◌, Err, IsSome, Some, length, vec_len};
-ghost use Rattle.st_desk.specs.Desk.{IsNew};
 ghost use Rattle.st_transfer.specs.Accounts.{AreTotalsOf};
 ghost use Rattle.st_transfer.specs.declared.error.TransferError.TheVariants.{NoMemory};
 
@@ -12,7 +11,7 @@ use crate::error::TransferError;
 use crate::neighbour::Neighbourhood;
 use crate::serving::{accept_next, serve_on};
 use crate::terms::ConnectTerms;
-use st_desk::{AccountShares, HopDesk, Links, Owed, Served, serve};
+use st_desk::{AccountShares, HopDesk, Links, NoBooks, Owed, Served, serve};
 use st_hop::{HopState, Outcome};
 use st_http::Answerer;
 use st_ilp::Moment;
@@ -140,6 +139,7 @@ impl<C: Ledger, D: Ledger, R: Net + Wait + Clock> Answerer for Server<'_, C, D, 
             account,
             body,
             &mut ways,
+            &mut NoBooks,
             clock,
         ) {
             Ok(Served { account, answer }) => {
@@ -275,7 +275,6 @@ fn run<
     terms: ConnectTerms<'_>,
     accounts: Vec<AccountTotals>,
 ) -> ConnectorEnded
-    requires fresh { IsNew hop }
     requires claims { (claims.name ≡ C.name) × (claims.parts ≡ C.parts) × (claims.parts ≡ 64) }
     requires dues { (dues.name ≡ D.name) × (dues.parts ≡ D.parts) × (dues.parts ≡ 64) }
     ensures { vec_len result.accounts ≡ vec_len accounts }
@@ -313,7 +312,7 @@ fn run<
 }
 
 /// Runs a connector: answers requests that arrive at `listener`, over ILP over HTTP (RFC 0035, the synchronous mode), by
-/// the rules of `hop` (RFC 0027). The hop has booked nothing and has no open ticket. `terms` says how many requests are
+/// the rules of `hop` (RFC 0027), which may have books of an earlier one. `terms` says how many requests are
 /// answered, by how many threads, and where the accounts are reached.
 ///
 /// Each thread accepts a connection, serves one request on it, and waits for the answer of the neighbour where the
@@ -334,7 +333,6 @@ pub fn connector_on<
     hop: HopState<Global>,
     terms: ConnectTerms<'_>,
 ) -> ConnectorEnded
-    requires fresh { IsNew hop }
     ensures { (vec_len result.accounts ≡ length terms.entry.tokens.now) ⊎ (result.result ≡ Err NoMemory) }
 {
     match places(alloc, terms.tokens.len()) {

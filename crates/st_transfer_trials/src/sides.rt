@@ -1,6 +1,5 @@
 //! The sides of a transfer, with the addresses, the tokens and the secret of the tests.
 ghost use Rattle.std.specs.Prelude.{◌≡◌, IfOk};
-ghost use Rattle.st_desk.specs.Desk as desk;
 ghost use Rattle.st_hub.specs.Hub as hub;
 
 use st_desk::Owed;
@@ -141,9 +140,7 @@ where
 }
 
 /// A hop with the sender's side behind account 0, and the receiver's behind account 1 at this rate.
-fn new_hop(alloc: Global, rate: Rate) -> Result<HopState<Global>, HopError>
-    ensures { IfOk result desk.IsNew }
-{
+fn new_hop(alloc: Global, rate: Rate) -> Result<HopState<Global>, HopError> {
     let account = Account {
         limit: 1_000_000,
         max_packet: 1_000_000,

@@ -1,0 +1,88 @@
+//! What a settlement books, and the books in which that is stored before it.
+
+ghost use Rattle.std.specs.Prelude.{◌≡◌, true, ⊤, ⊥, IfSome};
+ghost use Rattle.st_hop.specs.Seen.{outcome_seen};
+ghost use Rattle.st_desk.specs.Stored as stored;
+
+use st_booking::{Booked, Booking, Keeper, commit_one};
+use st_hop::{Outcome, Ticket};
+use st_ilp::Moment;
+use std::alloc::Allocator;
+
+/// Where the desk of a hop stores what a Fulfill books, before it settles the ticket and passes the Fulfill on.
+pub trait Books {
+    /// Stores a booking, so that a crash does not lose it. Gives the token of this booking, or `None` where it could not be
+    /// stored.
+    fn store(&mut self, booking: Booking) -> Option<Booked>
+        ensures { IfSome result (λ token. token ≡ booking) };
+}
+
+/// Books in memory alone: what was booked is lost when the process ends.
+#[derive(Clone, Copy, Debug, PartialEq, Eq)]
+pub struct NoBooks;
+
+impl Keeper for NoBooks {
+    ghost commits = { λ _ _ _. ⊤ };
+
+    ghost keeps = { λ _ _ _ _. ⊥ };
+
+    fn commit(&mut self, _: &[Booking]) -> Result<(), u8> {
+        Ok(())
+    }
+}
+
+impl Books for NoBooks {
+    fn store(&mut self, booking: Booking) -> Option<Booked> {
+        match commit_one(self, booking) {
+            Ok(token) => Some(token),
+            Err(_) => None,
+        }
+    }
+}
+
+/// What is booked where this ticket ends fulfilled. The account from which the Prepare arrived owes the incoming amount more,
+/// and the account to which it was forwarded is owed the outgoing amount more, each in the units of its link.
+pub fn booking_of(ticket: &Ticket) -> Booking
+    ensures { result ≡ stored.booking_of ticket.now }
+{
+    let open = ticket.read();
+    Booking {
+        payer: open.incoming,
+        claim: open.amount_in,
+        payee: open.outgoing,
+        due: open.amount_out,
+    }
+}
+
+/// Whether two bookings are the same.
+fn is_same(one: Booking, other: Booking) -> bool
+    ensures { result ≡ stored.is_same one other }
+{
+    (one.payer == other.payer && one.claim == other.claim)
+        && (one.payee == other.payee && one.due == other.due)
+}
+
+/// Whether this is the token of what the ticket books.
+fn is_stored(ticket: &Ticket, token: &Option<Booked>) -> bool
+    ensures { result ≡ stored.is_stored ticket.now token.now }
+{
+    match token {
+        Some(token) => is_same(token.booking(), booking_of(ticket)),
+        None => false,
+    }
+}
+
+/// The outcome that counts for a ticket: a Fulfill whose booking was not stored counts as no answer.
+pub(crate) fn counted<A: Allocator + Copy>(
+    ticket: &Ticket,
+    outcome: Outcome<A>,
+    now: Moment,
+    token: &Option<Booked>,
+) -> Outcome<A>
+    ensures { outcome_seen result ≡ stored.counted ticket.now (outcome_seen outcome) now token.now }
+{
+    if outcome.books(ticket, now) && !is_stored(ticket, token) {
+        return Outcome::Fault;
+    }
+    outcome
+}
