@@ -5,12 +5,14 @@
 //! lock, exchanges it over a `Link` with the lock open, stores in `Books` what it books, and settles it under the lock again.
 #![tactic(auto)]
 
+mod board;
 mod desk;
 mod error;
 mod fail_link;
 mod link;
 mod serving;
 mod stored;
+mod till;
 
 pub use desk::{AccountShares, Arrived, HopDesk, Owed, SHARES};
 pub use error::DeskError;
@@ -18,3 +20,4 @@ pub use fail_link::FailLink;
 pub use link::{Clock, Link, LinkFault, Links};
 pub use serving::{Served, serve};
 pub use stored::{Books, NoBooks, booking_of};
+pub use till::{AtTill, Till, deposit, refused_at};

@@ -55,7 +55,7 @@ pub fn booking_of(ticket: &Ticket) -> Booking
 }
 
 /// Whether two bookings are the same.
-fn is_same(one: Booking, other: Booking) -> bool
+pub(crate) fn is_same(one: Booking, other: Booking) -> bool
     ensures { result ≡ stored.is_same one other }
 {
     (one.payer == other.payer && one.claim == other.claim)

@@ -1,0 +1,163 @@
+//! Books that threads share: one commit serves all bookings that wait.
+
+ghost use Rattle.std.specs.Prelude.{◌≡◌, IfSome, length};
+
+use crate::board::{Batch, Board, Turn};
+use crate::stored::{Books, is_same};
+use st_booking::{Booked, Booking, Keeper, commit_all};
+use std::alloc::{AllocError, Allocator};
+use std::sync::{Condvar, Mutex, Wait};
+
+/// What the till's threads share beside the board: the books, and the first number with which they refused.
+#[derive(Drop)]
+struct Drawer<K: Keeper> {
+    books: K,
+    refused: Option<u8>,
+}
+
+/// Books under a lock of their own, with a board of bookings that wait. The first thread that finds no commit under way
+/// commits all that wait, by one commit, while the others wait for it. After a refusal nothing is committed any more: what the
+/// books have is read by the next process.
+#[derive(Drop)]
+pub struct Till<K: Keeper, A: Allocator> {
+    board: Mutex<Board<A>>,
+    turned: Condvar,
+    drawer: Mutex<Drawer<K>>,
+    alloc: A,
+}
+
+impl<K: Keeper, A: Allocator + Copy> Till<K, A> {
+    /// A till over these books, for so many threads at once. Fails where memory is refused.
+    pub fn new(alloc: A, books: K, threads: usize) -> Result<Till<K, A>, AllocError>
+    where
+        K: Drop,
+    {
+        let board = Board::new(alloc, threads)?;
+        Ok(Till {
+            board: Mutex::new(board),
+            turned: Condvar::new(),
+            drawer: Mutex::new(Drawer {
+                books,
+                refused: None,
+            }),
+            alloc,
+        })
+    }
+
+    /// The books, and the first number with which they refused a booking, once no thread shares them.
+    pub fn into_books(self) -> (K, Option<u8>) {
+        let Till {
+            board: _,
+            turned: _,
+            drawer,
+            alloc: _,
+        } = self;
+        let Drawer { books, refused } = drawer.into_inner();
+        (books, refused)
+    }
+}
+
+// Each function here that takes a lock lets it go before it returns.
+
+fn put<K: Keeper, A: Allocator + Copy>(
+    rt: &impl Wait,
+    till: &Till<K, A>,
+    booking: Booking,
+) -> Option<usize> {
+    till.board.lock(rt).put(booking)
+}
+
+/// Waits for the end of a commit that is under way, unless the thread was told.
+fn turn<K: Keeper, A: Allocator + Copy, R: Wait>(
+    rt: &R,
+    till: &Till<K, A>,
+    place: usize,
+) -> Turn<A> {
+    let mut board = till
+        .turned
+        .wait_while(rt, till.board.lock(rt), |board| board.is_waiting(place));
+    board.turn(till.alloc, place)
+}
+
+/// Commits the bookings of a batch, unless the books refused before.
+fn commit_batch<K: Keeper, A: Allocator + Copy>(drawer: &mut Drawer<K>, batch: &mut Batch<A>) {
+    if drawer.refused.is_some() || batch.tokens.len() != batch.bookings.len() {
+        return;
+    }
+    let Batch {
+        bookings,
+        tokens,
+        ..
+    } = batch;
+    match commit_all(
+        &mut drawer.books,
+        bookings.as_slice(),
+        tokens.as_mut_slice(),
+    ) {
+        Ok(()) => {}
+        Err(number) => drawer.refused = Some(number),
+    }
+}
+
+/// Commits a batch under the lock of the books alone, so that bookings can be put meanwhile.
+fn commit<K: Keeper, A: Allocator + Copy>(rt: &impl Wait, till: &Till<K, A>, batch: &mut Batch<A>) {
+    commit_batch(&mut *till.drawer.lock(rt), batch);
+}
+
+fn finish<K: Keeper, A: Allocator + Copy>(rt: &impl Wait, till: &Till<K, A>, batch: Batch<A>) {
+    till.board.lock(rt).finish(batch);
+    till.turned.notify_all();
+}
+
+/// The token, where it is that of this booking.
+fn own_token(token: Option<Booked>, booking: Booking) -> Option<Booked>
+    ensures { IfSome result (λ token. token ≡ booking) }
+{
+    match token {
+        Some(token) if is_same(token.booking(), booking) => Some(token),
+        _ => None,
+    }
+}
+
+/// Has the books of a till commit a booking, together with those of other threads that wait, and gives its token. `None` where
+/// the books refuse it, or refused one before, where memory is refused, or where more threads wait than the till is for. It
+/// waits for the commit.
+pub fn deposit<K: Keeper, A: Allocator + Copy, R: Wait>(
+    rt: &R,
+    till: &Till<K, A>,
+    booking: Booking,
+) -> Option<Booked>
+    ensures { IfSome result (λ token. token ≡ booking) }
+{
+    let place = put(rt, till, booking)?;
+    for _ in rt.forever() {
+        match turn(rt, till, place) {
+            Turn::Told(token) => return own_token(token, booking),
+            Turn::Leads(mut batch) => {
+                commit(rt, till, &mut batch);
+                finish(rt, till, batch);
+            }
+        }
+    }
+    None
+}
+
+/// The first number with which the books of a till refused a booking. After it the process has to end.
+pub fn refused_at<K: Keeper, A: Allocator + Copy>(rt: &impl Wait, till: &Till<K, A>) -> Option<u8> {
+    till.drawer.lock(rt).refused
+}
+
+/// A thread's way to the books of a till.
+#[derive(Drop)]
+pub struct AtTill<'a, K: Keeper, A: Allocator, R: Wait> {
+    /// What lets the thread wait.
+    pub rt: &'a R,
+    /// The till.
+    pub till: &'a Till<K, A>,
+}
+
+impl<K: Keeper, A: Allocator + Copy, R: Wait> Books for AtTill<'_, K, A, R> {
+    fn store(&mut self, booking: Booking) -> Option<Booked> {
+        deposit(self.rt, self.till, booking)
+    }
+}
