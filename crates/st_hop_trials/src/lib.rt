@@ -40,3 +40,4 @@ mod hop;
 mod memory;
 #[cfg(test)]
 mod threads;
+mod till;

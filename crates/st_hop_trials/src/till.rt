@@ -1,0 +1,108 @@
+//! A till that two threads share.
+
+ghost use Rattle.std.specs.Prelude.{⊤};
+
+use st_booking::{Booking, Keeper};
+use st_desk::{Till, deposit, refused_at};
+use std::alloc::Global;
+use std::process::Abort;
+use std::sync::Wait;
+use std::test::Fail;
+use std::thread;
+use std::thread::Threads;
+
+/// Books that sum up claims and dues, and refuse with 93 what would bring the claims above `most`.
+#[derive(Drop)]
+struct Sums {
+    claims: u64,
+    dues: u64,
+    most: u64,
+}
+
+impl Keeper for Sums {
+    ghost commits = { λ _ _ _. ⊤ };
+
+    ghost keeps = { λ _ _ _ _. ⊤ };
+
+    fn commit(&mut self, bookings: &[Booking]) -> Result<(), u8> {
+        let (mut claims, mut dues) = (self.claims, self.dues);
+        for booking in bookings {
+            claims = claims.saturating_add(booking.claim);
+            dues = dues.saturating_add(booking.due);
+        }
+        if claims > self.most {
+            return Err(93);
+        }
+        (self.claims, self.dues) = (claims, dues);
+        Ok(())
+    }
+}
+
+/// What one Fulfill books.
+const BOOKING: Booking = Booking {
+    payer: 0,
+    claim: 3,
+    payee: 1,
+    due: 2,
+};
+
+/// How many of ten deposits gave their token.
+fn ten<R: Wait>(rt: &R, till: &Till<Sums, Global>) -> u64 {
+    let mut stored = 0;
+    for _ in 0..10 {
+        if deposit(rt, till, BOOKING).is_some() {
+            stored += 1;
+        }
+    }
+    stored
+}
+
+/// How many of the deposits of two threads gave their token, what the books then have, and with which number they refused.
+fn two<R: Threads + Wait + Abort + Sync>(
+    rt: &R,
+    alloc: Global,
+    most: u64,
+) -> (u64, u64, u64, Option<u8>) {
+    let books = Sums {
+        claims: 0,
+        dues: 0,
+        most,
+    };
+    let till = Till::new(alloc, books, 2).expect(rt, "memory");
+    let (one, other) = thread::join(rt, || ten(rt, &till), || ten(rt, &till));
+    let seen = refused_at(rt, &till);
+    let (books, refused) = till.into_books();
+    assert!(rt; seen == refused);
+    (one + other, books.claims, books.dues, refused)
+}
+
+/// What two threads deposit is committed, each booking once.
+#[test]
+fn two_threads_deposit(rt: HostRuntime) -> Result<(), Fail> {
+    assert!(rt; two(&rt, rt.alloc(), 60) == (20, 60, 40, None));
+    Ok(())
+}
+
+/// After a refusal nothing is committed, and each token is that of a booking that the books have.
+#[test]
+fn a_refusal_ends_a_till(rt: HostRuntime) -> Result<(), Fail> {
+    let (stored, claims, dues, refused) = two(&rt, rt.alloc(), 31);
+    assert!(rt; refused == Some(93));
+    assert!(rt; claims == 3 * stored && dues == 2 * stored);
+    assert!(rt; stored <= 10);
+    Ok(())
+}
+
+/// A till for no thread takes nothing.
+#[test]
+fn a_till_for_nobody_is_full(rt: HostRuntime) -> Result<(), Fail> {
+    let books = Sums {
+        claims: 0,
+        dues: 0,
+        most: 9,
+    };
+    let till = Till::new(rt.alloc(), books, 0)?;
+    assert!(rt; deposit(&rt, &till, BOOKING).is_none());
+    assert!(rt; till.into_books().0.claims == 0);
+    Ok(())
+}
