@@ -40,4 +40,5 @@ mod hop;
 mod memory;
 #[cfg(test)]
 mod threads;
+#[cfg(test)]
 mod till;
