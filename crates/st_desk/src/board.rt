@@ -123,7 +123,9 @@ impl<A: Allocator + Copy> Board<A> {
         }
         let batch = self.collect(alloc);
         if batch.bookings.is_empty() {
-            self.slots[place] = Slot::Empty;
+            if let Some(slot) = self.slots.get_mut(place) {
+                *slot = Slot::Empty;
+            }
             return Turn::Told(None);
         }
         self.is_busy = true;

@@ -1,6 +1,6 @@
 //! What a settlement books, and the books in which that is stored before it.
 
-ghost use Rattle.std.specs.Prelude.{◌≡◌, true, ⊤, ⊥, IfSome};
+ghost use Rattle.std.specs.Prelude.{◌≡◌, true, ⊤, IfSome};
 ghost use Rattle.st_hop.specs.Seen.{outcome_seen};
 ghost use Rattle.st_desk.specs.Stored as stored;
 
