@@ -2,9 +2,11 @@
 """Proves and builds the program where it is missing, or older than the files of the crates that it stands on.
 
 The prover is called by itself, since `rt` works on one crate at a time where two have a crate below them in common. It writes
-a library, into crates/NAME/out/built, and the program of crates that are proved alone. Each crate is proved once those below it are. Of those that can begin, the one with the longest chain of crates above it
-begins first. While processors are idle and memory lasts, a crate gets several jobs. JOBS=N uses N processors. A crate that
-is not proved ends the build with its log. `tools/build.py --plan N` prints what the weights below give for N processors."""
+a library, into crates/NAME/out/built, and the program of crates that are proved alone. Each crate is proved once those below it
+are. Of those that can begin, the one with the longest chain of crates above it begins first. A crate on the longest chain of all
+gets several jobs and the processors first; the others take what is left, with several jobs while processors are idle. JOBS=N
+uses N processors. A crate that is not proved ends the build with its log. `tools/build.py --plan N` prints what the weights below
+give for N processors."""
 import os
 import shutil
 import signal
@@ -21,12 +23,16 @@ BUILT = f"{TOP}/crates/{PROGRAM}/out/{PROGRAM}"
 WEIGHTS = {
     "st_sender": 387, "st_chain": 382, "st_transfer": 360, "st_hub": 302, "st_receiver": 301, "st_words": 262, "st_hop": 244,
     "st_nodes": 226, "st_http": 213, "st_local": 212, "st_end": 208, "st_program": 187, "st_commands": 173, "ilpstream": 119,
-    "st_settings": 109, "st_file": 103, "st_aes": 204, "st_desk": 86, "st_link": 57, "st_world": 22,
+    "st_settings": 109, "st_file": 103, "st_aes": 204, "st_desk": 86, "st_link": 57, "st_world": 22, "st_oer": 170,
+    "st_unacked": 170, "st_queues": 170, "st_frames": 150, "st_ilp": 150, "st_reassembly": 90, "st_tables": 15,
 }
 OTHER = 60
 # Memory in bytes: what a check takes at most, and what each further job of it takes.
 CHECK, JOB = 3_500_000_000, 1_000_000_000
 MOST_JOBS = 3
+# A crate is urgent where the longest chain through it is this part of the longest of all. The others are nice to it.
+URGENT = 0.9
+NICE = 10
 # What a processor of level x86-64-v3 has beside those of level 2: with vectors of 32 bytes the cipher is twice as fast.
 LEVEL_3 = {"avx", "avx2", "bmi1", "bmi2", "f16c", "fma", "abm", "movbe"}
 
@@ -38,10 +44,18 @@ def weight(crate):
 def chains(crates):
     """For each crate the weight of the longest chain that begins with it and ends at the top."""
     longest = {}
-    for name in reversed(crates):
+    for name in reversed(list(crates)):
         above = [longest[it] for it in crates if name in crates[it]]
         longest[name] = weight(name) + max(above, default=0)
     return longest
+
+
+def chain_parts(crates):
+    """For each crate the longest chain through it, as a part of the longest of all."""
+    above, before = chains(crates), {}
+    for name, below in crates.items():
+        before[name] = max((before[it] + weight(it) for it in below), default=0)
+    return {it: (before[it] + above[it]) / max(above.values()) for it in crates}
 
 
 def library(name):
@@ -98,8 +112,11 @@ class Schedule:
 
     def __init__(self, crates, processors, memory):
         self.crates, self.processors, self.memory = crates, processors, memory
-        self.longest = chains(crates)
+        self.longest, self.parts = chains(crates), chain_parts(crates)
         self.proved, self.running = set(), {}
+
+    def is_urgent(self, crate):
+        return self.parts[crate] >= URGENT
 
     def ready(self):
         begun = self.proved | self.running.keys()
@@ -109,14 +126,13 @@ class Schedule:
     def next(self):
         """The next crate that can begin, with its jobs, or None. One crate can always run."""
         ready = self.ready()
-        # (some jobs more than there are processors: none of them waits while the jobs of a crate wait for each other)
-        idle = self.processors + self.processors // 4 * 2 - sum(self.running.values())
         left = self.memory - sum(CHECK + (jobs - 1) * JOB for jobs in self.running.values())
-        if not ready or self.running and (idle < 1 or left < CHECK or len(self.running) == self.processors):
+        if not ready or self.running and (left < CHECK or len(self.running) == self.processors):
             return None
-        jobs = min(max(idle // len(ready), 1), MOST_JOBS, 1 + max(left - CHECK, 0) // JOB)
-        self.running[ready[0]] = jobs
-        return ready[0], jobs
+        idle = self.processors - sum(self.running.values())
+        jobs = self.processors - 1 if self.is_urgent(ready[0]) else idle // len(ready)
+        self.running[ready[0]] = max(min(jobs, MOST_JOBS, 1 + max(left - CHECK, 0) // JOB), 1)
+        return ready[0], self.running[ready[0]]
 
     def ended(self, crate):
         del self.running[crate]
@@ -133,8 +149,12 @@ def plan(crates, processors):
     while len(schedule.proved) < len(crates):
         while begun := schedule.next():
             left[begun[0]] = weight(begun[0])
-        share = min(1, processors / sum(schedule.running.values()))
-        speeds = {it: share * (0.3 + 0.7 * jobs) for it, jobs in schedule.running.items()}
+        speeds, free = {}, processors
+        for urgent in (True, False):
+            of = {it: jobs for it, jobs in schedule.running.items() if schedule.is_urgent(it) == urgent}
+            share = min(1, free / max(sum(of.values()), 1))
+            speeds |= {it: max(share, 0.02) * (0.3 + 0.7 * jobs) for it, jobs in of.items()}
+            free = max(free - sum(of.values()), 0)
         crate = min(left, key=lambda it: left[it] / speeds[it])
         took = left[crate] / speeds[crate]
         left = {it: seconds - took * speeds[it] for it, seconds in left.items() if it != crate}
@@ -175,8 +195,8 @@ def level():
     return ["--cpu=x86-64-v3"] if LEVEL_3.issubset(flags) else []
 
 
-def begin(crate, jobs, logs, every, at):
-    """Begins the proof of a crate, which builds its library too. Its text has to stand in the layout of `rt fmt` in the gate alone."""
+def begin(crate, jobs, is_urgent, logs, every, at):
+    """Begins the proof of a crate, which builds its library too. (Its text has the layout of `rt fmt` in the gate alone.)"""
     folder = f"{TOP}/crates/{crate}"
     os.makedirs(f"{folder}/out", exist_ok=True)
     command = [f"{at}/bin/rattle", "build", *words(crate, every, at, library), "--jobs", str(jobs)]
@@ -187,6 +207,7 @@ def begin(crate, jobs, logs, every, at):
         os.mkdir(f"{folder}/out/built")
         command += ["--statements", "-o", library(crate)]
     how = {"cwd": folder, "stdin": subprocess.DEVNULL, "stderr": subprocess.STDOUT}
+    command = command if is_urgent else ["nice", "-n", str(NICE), *command]
     with open(f"{logs}/{crate}", "wb") as log:
         return subprocess.Popen(command, stdout=log, **how)
 
@@ -222,7 +243,7 @@ def build(crates, logs):
             # (more where another program ended meanwhile)
             schedule.memory = max(schedule.memory, memory())
             while begun := schedule.next():
-                processes[begun[0]] = begin(*begun, logs, every, at)
+                processes[begun[0]] = begin(*begun, schedule.is_urgent(begun[0]), logs, every, at)
             progress.tell()
             time.sleep(0.5)
             for crate in [it for it, process in processes.items() if process.poll() is not None]:
