@@ -243,16 +243,14 @@ fn paired(s: Square) -> Rows
     ]
 }
 
-/// The tables of a factor.
-pub(crate) fn tables(y: u128) -> Tables
-    ensures { HasTables result y }
+/// Writes the tables of a factor.
+pub(crate) fn put_tables(out: &mut Tables, y: u128)
+    ensures { HasTables out.new y }
 {
-    let mut out = [0u8; 8192];
     let mut rows = first_multiples(y);
     for i in 0..32usize {
-        store_all(&mut out, 256 * i, &paired(rows));
+        store_all(out, 256 * i, &paired(rows));
         let next = next_multiples(rows);
         rows = next;
     }
-    out
 }

@@ -9,4 +9,4 @@ returns c = λ h.
     let first = h.upper 0 (omega arith) in
     let top = c.fits-high 0 in
     let small : y < 2 ^ 128 = omega (arith, first, top) in
-    c.fourth.ensures c.powers.ensures ∙ ap (λ (g : ℕ). repeated g 3 g) (c.fourth-root.ensures h) ∙ fourth_of_fourth y small
+    c.fourth.ensures c.put_powers.ensures ∙ ap (λ (g : ℕ). repeated g 3 g) (c.fourth-root.ensures h) ∙ fourth_of_fourth y small

@@ -2,7 +2,7 @@ use Rattle.std.proofs.Common.{◌≡◌, ℕ, ◌+◌, ◌*◌, ◌/◌, ◌%◌
 use Rattle.std.specs.Int.{w128, to_be_bytes}
 use Rattle.st_aes.specs.BlockField.{block_times_power, four_bits}
 use Rattle.st_aes.specs.Rows.{IsMultiples}
-use Rattle.st_aes.proofs.factor_tables.tables.Given as goal
+use Rattle.st_aes.proofs.factor_tables.put_tables.Given as goal
 
 abbrev pub invariant-loop-i : goal.invariant-loop-i
 invariant-loop-i l = record {

@@ -3,7 +3,7 @@ use Rattle.std.specs.Int.{w128, to_be_bytes}
 use Rattle.std.proofs.lemmas.Bool.{cases_lt}
 use Rattle.st_aes.specs.BlockField.{block_times_power, four_bits}
 use Rattle.st_aes.specs.Planes.{plane}
-use Rattle.st_aes.proofs.factor_tables.tables.Goals as goal
+use Rattle.st_aes.proofs.factor_tables.put_tables.Goals as goal
 
 pub loop-i-preserved : goal.loop-i-preserved
 loop-i-preserved c =
