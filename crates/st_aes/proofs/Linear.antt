@@ -247,6 +247,31 @@ pub product_by_power : (h n x : ℕ) → h < 2 ^ 128 → product x (repeated h n
 unfolding repeated
 product_by_power h n x lh = by_repeated h n x h lh lh ∙ repeated_inside h n x
 
+repeated_none : (h x : ℕ) → repeated h 0 x ≡ x
+unfolding repeated
+repeated_none h x = refl
+
+repeated_next : (h n x : ℕ) → repeated h (suc n) x ≡ product (repeated h n x) h
+unfolding repeated
+repeated_next h n x = refl
+
+repeated_joined : (h m n x : ℕ) → repeated h m (repeated h n x) ≡ repeated h (m + n) x
+unfolding repeated
+repeated_joined h zero n x = let e : n ≡ 0 + n = omega arith in ap (λ (k : ℕ). repeated h k x) e
+repeated_joined h (suc m) n x =
+    let e : suc (m + n) ≡ suc m + n = omega arith in
+    ap (λ (v : ℕ). product v h) (repeated_joined h m n x) ∙ ap (λ (k : ℕ). repeated h k x) e
+
+-- k times the fourth power are 4 * k times h
+by_fourths : (h k x : ℕ) → h < 2 ^ 128 → repeated (repeated h 3 h) k x ≡ repeated h (4 * k) x
+by_fourths h zero x lh = repeated_none (repeated h 3 h) x ∙ sym (repeated_none h x) ∙ (let e : 0 ≡ 4 * 0 = omega arith in ap (λ (n : ℕ). repeated h n x) e)
+by_fourths h (suc k) x lh =
+    let e : 4 + 4 * k ≡ 4 * suc k = omega arith in
+    repeated_next (repeated h 3 h) k x ∙ product_by_power h 3 (repeated (repeated h 3 h) k x) lh ∙ ap (repeated h 4) (by_fourths h k x lh) ∙ repeated_joined h 4 (4 * k) x ∙ ap (λ (n : ℕ). repeated h n x) e
+
+pub fourth_of_fourth : (h : ℕ) → h < 2 ^ 128 → repeated (repeated h 3 h) 3 (repeated h 3 h) ≡ repeated h 15 h
+fourth_of_fourth h lh = by_fourths h 3 (repeated h 3 h) lh ∙ repeated_joined h 12 3 h
+
 -- ---- hashes
 
 from_start : (h y : ℕ) (s : ℕ → ℕ) (n : ℕ) → hash_from h y s n ≡ bit_xor (repeated h n y) (hash_from h 0 s n)

@@ -111,7 +111,7 @@ four_lanes f (suc n) =
 low_bit : (x i : ℕ) → i < 64 → bit_at (x % 2 ^ 64) i ≡ bit_at x i
 low_bit x i lt = ap (λ (n : ℕ). bit_at n i) (sym (and_mask x 64)) ∙ bit_at_and x (2 ^ 64 - 1) i ∙ (omega (arith, bit_at_ones 64 i lt))
 
-of_chosen : (f : ℕ → ℕ) → IsLinear f → (b : Bool) (v : ℕ) → f (cond b v 0) ≡ cond b (f v) 0
+pub of_chosen : (f : ℕ → ℕ) → IsLinear f → (b : Bool) (v : ℕ) → f (cond b v 0) ≡ cond b (f v) 0
 of_chosen f h true v = refl
 of_chosen f h false v = of_zero f h
 

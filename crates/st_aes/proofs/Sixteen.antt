@@ -69,7 +69,7 @@ chosen_small : (b : Bool) (v : ℕ) → v < 2 ^ 128 → cond b v 0 < 2 ^ 128
 chosen_small true v lt = lt
 chosen_small false v lt = omega arith
 
-four_small : (y i n : ℕ) → y < 2 ^ 128 → four_bits (block_times_power y) i n < 2 ^ 128
+pub four_small : (y i n : ℕ) → y < 2 ^ 128 → four_bits (block_times_power y) i n < 2 ^ 128
 four_small y i n lt =
     sum_small 128 (λ j. cond (eqb (bit_at n (3 - j)) 1) (block_times_power y (4 * i + j)) 0) 4 (λ j few. chosen_small (eqb (bit_at n (3 - j)) 1) (block_times_power y (4 * i + j)) (power_small y (4 * i + j) lt))
 

@@ -62,7 +62,7 @@ fn hash_front(key: &Key, text: &[u8], groups: usize) -> u128
 {
     let mut rows = [u8x32::splat(0); 8];
     'groups: for p in 0..groups {
-        let next = with_products(&key.tables, &rows, blocks_at(text, 256 * p));
+        let next = with_products(&key.parts.tables, &rows, blocks_at(text, 256 * p));
         rows = next;
     }
     let mut bytes = [0u8; 256];
@@ -70,7 +70,7 @@ fn hash_front(key: &Key, text: &[u8], groups: usize) -> u128
     let mut y = 0u128;
     'sums: for j in 0..16usize {
         let block = u128::from_be_bytes(block_from(&bytes, j));
-        y = product(&key.hash_high, &key.hash_low, y ^ block);
+        y = product(&key.parts.hash_high, &key.parts.hash_low, y ^ block);
     }
     y
 }
@@ -101,11 +101,11 @@ pub(crate) fn ghash(key: &Key, text: &[u8]) -> u128
     let mut y = hash_start(key, text, groups);
     for b in 16 * groups..(text.len() + 15) / 16 {
         let block = u128::from_be_bytes(padded_block(text, b));
-        y = product(&key.hash_high, &key.hash_low, y ^ block);
+        y = product(&key.parts.hash_high, &key.parts.hash_low, y ^ block);
     }
     product(
-        &key.hash_high,
-        &key.hash_low,
+        &key.parts.hash_high,
+        &key.parts.hash_low,
         y ^ text.len().wrapping_mul(8) as u128,
     )
 }

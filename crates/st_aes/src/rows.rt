@@ -131,7 +131,7 @@ pub(crate) fn with_products(t: &Tables, rows: &Rows, start: Rows) -> Rows
 // ---- the blocks of a text, byte by byte
 
 /// Sixteen vectors of sixteen bytes.
-type Square = [u8x16; 16];
+pub(crate) type Square = [u8x16; 16];
 
 /// The first halves of two vectors, byte by byte in turn.
 #[inline(always)]
@@ -196,7 +196,7 @@ fn woven(a: Square) -> Square
 
 /// Byte c of vector r is byte r of vector c afterwards.
 #[inline(always)]
-fn turned(a: Square) -> Square
+pub(crate) fn turned(a: Square) -> Square
     ensures { (r c : ℕ) → r < 16 → c < 16 → cell result r c ≡ cell a c r }
 {
     woven(woven(woven(woven(a))))
@@ -204,7 +204,7 @@ fn turned(a: Square) -> Square
 
 /// Two vectors, one behind the other.
 #[inline(always)]
-fn pair(a: u8x16, b: u8x16) -> u8x32
+pub(crate) fn pair(a: u8x16, b: u8x16) -> u8x32
     ensures pair { (l : ℕ) → l < 32 → slice_index result l ≡ (if l / 16 == 0 then slice_index a (l % 16) else slice_index b (l % 16)) }
     ensures bytes { (l : ℕ) → slice_index result l < 256 }
 {

@@ -1,18 +1,12 @@
-use Rattle.std.proofs.Common.{◌≡◌, ℕ, suc, ◌+◌, refl, ap, ◌∙◌, arith}
-use Rattle.st_aes.specs.BlockField.{product, repeated}
+use Rattle.std.proofs.Common.{◌^◌, ◌<◌, ℕ, ap, ◌∙◌, arith}
+use Rattle.st_aes.specs.BlockField.{repeated}
+use Rattle.st_aes.proofs.Linear.{fourth_of_fourth}
 use Rattle.st_aes.proofs.block_field.sixteenth.Goals as goal
 
-pub loop-n-init : goal.loop-n-init
-unfolding repeated
-loop-n-init c = λ h. refl
-
-pub loop-n-preserved : goal.loop-n-preserved
-unfolding repeated
-loop-n-preserved c = λ h.
-    let l = c.loop-n in
-    let y = c.args.y in
-    let next : suc l.n ≡ l.n + 1 = omega arith in
-    c.product-next.ensures y h ∙ ap (λ (v : ℕ). product v y) (l.invariant h) ∙ ap (λ (n : ℕ). repeated y n y) next
-
 pub returns : goal.returns
-returns c = λ h. let done : c.loop-n.n ≡ 15 = omega arith in c.loop-n.invariant h ∙ ap (λ (n : ℕ). repeated c.args.y n c.args.y) done
+returns c = λ h.
+    let y = c.args.y in
+    let first = h.upper 0 (omega arith) in
+    let top = c.fits-high 0 in
+    let small : y < 2 ^ 128 = omega (arith, first, top) in
+    c.fourth.ensures c.put_powers.ensures ∙ ap (λ (g : ℕ). repeated g 3 g) (c.fourth-root.ensures h) ∙ fourth_of_fourth y small

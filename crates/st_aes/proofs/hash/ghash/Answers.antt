@@ -11,7 +11,7 @@ pub loop-b-preserved : goal.loop-b-preserved
 loop-b-preserved c =
     let l = c.loop-b in
     let h = hash_key c.args.key.now in
-    let powers = subst (λ (b : List ℕ). HasPowers c.key.inside.hash_high c.key.inside.hash_low (hash_key b)) c.key.view_is c.key.invariant.1 in
+    let powers = subst (λ (b : List ℕ). HasPowers c.key.inside.parts.hash_high c.key.inside.parts.hash_low (hash_key b)) c.key.view_is c.key.invariant.1 in
     let x = λ (b : ℕ). block_number (padded (block_of c.args.text.now b)) in
     let block : c.from_be_bytes-block.result ≡ x l.b = c.from_be_bytes-block.ensures ∙ ap block_number c.padded_block.ensures in
     c.product-y.ensures h powers ∙ hash_next h 0 x l.b l.y c.from_be_bytes-block.result l.invariant block
@@ -21,7 +21,7 @@ unfolding ghash
 returns c =
     let text = c.args.text.now in
     let h = hash_key c.args.key.now in
-    let powers = subst (λ (b : List ℕ). HasPowers c.key.inside.hash_high c.key.inside.hash_low (hash_key b)) c.key.view_is c.key.invariant.1 in
+    let powers = subst (λ (b : List ℕ). HasPowers c.key.inside.parts.hash_high c.key.inside.parts.hash_low (hash_key b)) c.key.view_is c.key.invariant.1 in
     let y = c.loop-b.y in
     let f = λ (b : ℕ). padded (block_of text b) in
     let x = λ (b : ℕ). block_number (f b) in

@@ -20,8 +20,8 @@ groups-preserved c =
     let l = c.groups in
     let text = c.args.text.now in
     let h = hash_key c.args.key.now in
-    let powers = subst (λ (b : List ℕ). HasPowers c.key.inside.hash_high c.key.inside.hash_low (hash_key b)) c.key.view_is c.key.invariant.1 in
-    let tables = subst (λ (b : List ℕ). HasTables c.key.inside.tables (repeated (hash_key b) 15 (hash_key b))) c.key.view_is c.key.invariant.3 in
+    let powers = subst (λ (b : List ℕ). HasPowers c.key.inside.parts.hash_high c.key.inside.parts.hash_low (hash_key b)) c.key.view_is c.key.invariant.1 in
+    let tables = subst (λ (b : List ℕ). HasTables c.key.inside.parts.tables (repeated (hash_key b) 15 (hash_key b))) c.key.view_is c.key.invariant.3 in
     let small = subst (λ (b : List ℕ). hash_key b < 2 ^ 128) c.key.view_is c.key.invariant.4 in
     let next : 16 * l.p + 16 ≡ 16 * (l.p + 1) = omega arith in
     let x = λ (b : ℕ). block_number (padded (block_of text b)) in
@@ -41,7 +41,7 @@ sums-preserved c =
     let l = c.sums in
     let h = hash_key c.args.key.now in
     let bytes = c.store_all.new.out in
-    let powers = subst (λ (b : List ℕ). HasPowers c.key.inside.hash_high c.key.inside.hash_low (hash_key b)) c.key.view_is c.key.invariant.1 in
+    let powers = subst (λ (b : List ℕ). HasPowers c.key.inside.parts.hash_high c.key.inside.parts.hash_low (hash_key b)) c.key.view_is c.key.invariant.1 in
     c.product-y.ensures h powers
     ∙ hash_next h 0 (λ j. block_number (block_behind bytes j)) l.j l.y c.from_be_bytes-block.result l.invariant (c.from_be_bytes-block.ensures ∙ ap block_number c.block_from.ensures)
 

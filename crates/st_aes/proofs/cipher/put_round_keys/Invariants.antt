@@ -2,7 +2,7 @@ use Rattle.std.proofs.Common.{◌≡◌, ◌*◌, ◌<◌, ℕ, length}
 use Rattle.st_aes.specs.Cipher.{round_key}
 use Rattle.st_aes.specs.Columns.{words_of}
 use Rattle.st_aes.specs.Planes.{state_at, vectors_at}
-use Rattle.st_aes.proofs.cipher.round_keys.Given as goal
+use Rattle.st_aes.proofs.cipher.put_round_keys.Given as goal
 
 abbrev pub invariant-loop-n : goal.invariant-loop-n
 invariant-loop-n l = record {

@@ -4,7 +4,7 @@ use Rattle.st_aes.specs.Cipher.{round_key}
 use Rattle.st_aes.specs.Columns.{words_of}
 use Rattle.st_aes.specs.Planes.{plane, vectors_at}
 use Rattle.st_aes.proofs.Steps.{vector_lane, same_state}
-use Rattle.st_aes.proofs.cipher.round_keys.Goals as goal
+use Rattle.st_aes.proofs.cipher.put_round_keys.Goals as goal
 
 pub loop-n-preserved : goal.loop-n-preserved
 loop-n-preserved c =

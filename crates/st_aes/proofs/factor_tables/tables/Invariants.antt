@@ -1,8 +1,0 @@
-use Rattle.std.proofs.Common.{◌≡◌, ℕ, ◌+◌, ◌*◌, ◌/◌, ◌%◌, ◌<◌, length, slice_index}
-use Rattle.st_aes.proofs.factor_tables.tables.Given as goal
-
-abbrev pub invariant-loop-i : goal.invariant-loop-i
-invariant-loop-i l = record {
-  long : length l.out ≡ 8192;
-  done : (i b n : ℕ) → i < l.i → b < 16 → n < 16 → slice_index l.out (256 * i + 32 * (b % 8) + 16 * (b / 8) + n) ≡ slice_index l.bytes (256 * i + 16 * n + b);
-}
