@@ -349,8 +349,9 @@ def run_program(count, out, room, name, given, wanted, sanitizers):
         return
     count.run(f"{name}.c", [program], wanted)
     if shutil.which("valgrind"):
-        # (without turns by time valgrind may let one thread run for minutes)
-        flags = ["--quiet", "--fair-sched=try", "--error-exitcode=9"]
+        # (without turns by time valgrind may let one thread run for minutes; and misuse.c goes on after a signal in the middle of
+        # a read, for which all registers have to be right there)
+        flags = ["--quiet", "--fair-sched=try", "--px-default=allregs-at-mem-access", "--error-exitcode=9"]
         flags += ["--leak-check=full", "--errors-for-leak-kinds=definite,possible"]
         count.run(f"{name}.c under valgrind", ["valgrind", *flags, program, *given], wanted)
     for sanitizer in sanitizers:
