@@ -7,8 +7,9 @@ bind/python; bind/c/calls.c with what bind/calls writes for the header. Then one
 comparison has to find.
 
 Then bind/archive builds the archive, over what `rt ci` left, or the one that is named is taken. What bind/build builds of it is
-run: the commands of docs/EMBEDDING.md; the programs in C under valgrind and with sanitizers; the tests of bind/rust, the examples
-of its documentation and its programs; the examples in the documentation of bind/python, tests/nulls.py and tests/plain.py over it.
+run: the commands of docs/EMBEDDING.md; the programs in C under valgrind and with sanitizers; the tests of bind/rust, also with
+AddressSanitizer where the compiler has it, the examples of its documentation and its programs; the examples in the documentation
+of bind/python, tests/nulls.py and tests/plain.py over it.
 
 tests/bindings.py                builds the archive by bind/archive
 tests/bindings.py --look         compares alone, and runs nothing
@@ -348,8 +349,9 @@ def run_program(count, out, room, name, given, wanted, sanitizers):
         return
     count.run(f"{name}.c", [program], wanted)
     if shutil.which("valgrind"):
-        # (without turns by time valgrind may let one thread run for minutes)
-        flags = ["--quiet", "--fair-sched=try", "--error-exitcode=9"]
+        # (without turns by time valgrind may let one thread run for minutes; and misuse.c goes on after a signal in the middle of
+        # a read, for which all registers have to be right there)
+        flags = ["--quiet", "--fair-sched=try", "--px-default=allregs-at-mem-access", "--error-exitcode=9"]
         flags += ["--leak-check=full", "--errors-for-leak-kinds=definite,possible"]
         count.run(f"{name}.c under valgrind", ["valgrind", *flags, program, *given], wanted)
     for sanitizer in sanitizers:
@@ -427,6 +429,43 @@ def of_program(address, secret):
 
 # The tests that valgrind sees: those of refused memory.
 VALGRIND = ["memory", "both_ways", "between_ends", "or_not"]
+# How many hostile inputs each reader is given under AddressSanitizer, which sees each of them through the same code.
+SANITIZED_INPUTS = "20000"
+# Two faults that AddressSanitizer has to find: memory that is read after it was freed, and memory that nobody has any more.
+FREED = "fn main() { let at = Box::into_raw(Box::new(7)); drop(unsafe { Box::from_raw(at) }); assert_eq!(unsafe { *at }, 7) }"
+LOST = "fn main() { for it in 0..100_u64 { std::mem::forget(std::hint::black_box(Box::new([it; 9]))) } }"
+FAULTS = ((FREED, "heap-use-after-free"), (LOST, "detected memory leaks"))
+
+
+def sanitized_target():
+    """The target for which the compiler of Rust has the runtime of AddressSanitizer, if it has."""
+    asked = (["rustc", "--print", "sysroot"], ["rustc", "-vV"])
+    try:
+        root, version = (subprocess.run(it, check=True, capture_output=True, text=True).stdout for it in asked)
+    except (OSError, subprocess.CalledProcessError):
+        return None
+    target = re.search(r"(?m)^host: (.+)$", version)[1]
+    return target if glob.glob(f"{root.strip()}/lib/rustlib/{target}/lib/librustc*_rt.asan.a") else None
+
+
+def run_sanitized(count, folder, room, places):
+    """All tests in Rust under AddressSanitizer, which also looks for memory that is lost; and that it finds what it is for."""
+    target = sanitized_target()
+    if target is None:
+        return
+    # (the flag is one of the nightly compiler, and this variable allows it to every other)
+    places = {**places, "RUSTC_BOOTSTRAP": "1"}
+    for source, wanted in FAULTS:
+        with open(f"{room}/planted.rs", "w", encoding="utf-8") as file:
+            file.write(source)
+        words = ["rustc", "-Zsanitizer=address", "--target", target, f"{room}/planted.rs", "-o", f"{room}/planted"]
+        if count.run("a build with AddressSanitizer", words, folder=room, **places) is not None:
+            ran = subprocess.run([f"{room}/planted"], capture_output=True, text=True, errors="replace", timeout=SECONDS)
+            found = ran.returncode != 0 and wanted in ran.stderr
+            count.add(found, f"AddressSanitizer does not find this: {source}\n{ran.stderr[-2000:]}")
+    places |= {"RUSTFLAGS": "-Zsanitizer=address", "ILPSTREAM_HOSTILE": SANITIZED_INPUTS}
+    words = ["cargo", "test", "--offline", "--release", "--quiet", "--target", target, "--tests"]
+    count.run("the tests in Rust with AddressSanitizer", words, "passed", folder, **places)
 
 
 def run_rust(count, out, room):
@@ -448,6 +487,7 @@ def run_rust(count, out, room):
         flags = ["--quiet", "--error-exitcode=9", "--leak-check=full", "--errors-for-leak-kinds=definite"]
         words = ["valgrind", *flags, f"{folder}/{binary[1]}", "--test-threads=1", *VALGRIND]
         count.run("tests in Rust under valgrind", words, "passed", folder)
+    run_sanitized(count, folder, room, places)
 
 
 def run_python(count, out):
