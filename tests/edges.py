@@ -555,7 +555,9 @@ def a_sender_whose_threads_are_at_most(play, count):
     receiver = play.receive()
     sender = play.send(receiver.port, content, "--workers=16", preexec_fn=with_threads(count), program=for_all(play))
     told = ended(sender, 30)
-    want(told in ("0", "99"), f"send {told} in 30 s")
+    # (where the user is not one of its own, threads of other processes count too)
+    wanted = ("0", "99") if os.getuid() else ("99",) if count == 1 else ("0",)
+    want(told in wanted, f"send {told} in 30 s")
     if told == "0":
         whole(receiver, content, 10)
     return f"ends with {told}"
@@ -576,10 +578,10 @@ def a_connector_whose_threads_are_at_most(play, count):
             time.sleep(0.05)
     if hub.poll() is not None:
         told = ended(hub, 1)
-        want(told == "99", f"connector {told}")
+        want(told == "99" and (count == 1 or os.getuid()), f"connector {told}")
         return "ends with 99"
     told = ended(sender, 1)
-    want(told == "0", f"send {told} in 30 s")
+    want(told == "0" and (count > 1 or os.getuid()), f"send {told} in 30 s")
     whole(receiver, content, 10)
     return "the transfer went through it"
 
@@ -720,7 +722,7 @@ def connections_that_send_nothing_use_up_no_request(play):
     return "none"
 
 
-# Clocks that go on.
+# Clocks that advance.
 
 
 def codes(port, count, seconds):
@@ -730,7 +732,7 @@ def codes(port, count, seconds):
 
 
 @test(waits=True)
-def a_receiver_whose_clock_goes_on(play):
+def a_receiver_whose_clock_advances(play):
     receiver = play.receive()
     # The Prepares have no payload that can be opened (F06). Three seconds later one has expired that had not before.
     found = codes(receiver.port, 2, 30)
@@ -741,7 +743,7 @@ def a_receiver_whose_clock_goes_on(play):
 
 
 @test(waits=True)
-def a_connector_whose_clock_goes_on(play):
+def a_connector_whose_clock_advances(play):
     def handle(_, stream):
         message(stream)
         stream.sendall(answer(fulfill()))

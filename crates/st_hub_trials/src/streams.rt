@@ -11,6 +11,7 @@ use std::sync::Wait;
 
 /// How many streams an end opens, and how many writers a stream has.
 const OWN: u8 = 32;
+
 const WRITERS: u8 = 8;
 
 /// One byte is written.
