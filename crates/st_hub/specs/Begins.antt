@@ -22,8 +22,8 @@ pub record GoesOn (e : EndState) (stream : ℕ) : Type 0 where
 -- what a worker finds once all was pumped that can be. It ends as failed where the connection failed, else as settled where the
 -- stream's close is fulfilled; else it does what a step does. A look ends it for no other reason but memory
 abbrev pub Finds : {A : Type 0} → (hand : Option (List ℕ)) → (stream : ℕ) → (now : ℤ) → Begun A → EndState → (after : Option (List ℕ)) → Type 0
-Finds hand stream now (Sends t) b after = (a : EndState) × GoesOn a stream × Does a hand stream now (step.Sends t) b after
-Finds {A} hand stream now Idle b after = GoesOn b stream × Does {A} b hand stream now step.Idle b after
+Finds {A} hand stream now (Sends t) b after = (a : EndState) × GoesOn a stream × Does {A = A} a hand stream now (step.Sends t) b after
+Finds {A} hand stream now Idle b after = GoesOn b stream × Does {A = A} b hand stream now step.Idle b after
 Finds hand stream now (Ends ends.Failed) b after = b.sending.failed ≡ true
 Finds hand stream now (Ends ends.Settled) b after = (b.sending.failed ≡ false) × (settled b stream ≡ true)
 Finds hand stream now (Ends ends.Stalled) b after = GoesOn b stream × IsStalled b stream
