@@ -131,7 +131,6 @@ struct Opened<N: HubName<Global>> {
 }
 
 /// Opens stream 1 and offers the money on it.
-#[tactic(auto, using(crate::proofs::Outcomes::opens_with))]
 fn open_on<N: HubName<Global>>(
     hub: &mut HubState<N, Global>,
     money: u64,
