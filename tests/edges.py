@@ -279,12 +279,13 @@ def a_receiver_with_patience_beside_a_silent_connection(play):
     return transfer(play.send(receiver.port, content), receiver, content, 15)
 
 
-@test(("connector",), ("receive",), waits=True)
-def a_slow_request_is_cut_off_by(play, command):
+@test(*[(command, each) for command in ("connector", "receive") for each in ("nothing", "a byte each second")], waits=True)
+def a_slow_request_is_cut_off_by(play, command, each):
     receiver = play.receive()
     port = play.before(receiver).port if command == "connector" else receiver.port
     stream, begun = play.connect(port), time.monotonic()
-    threading.Thread(target=drip, args=(stream,), daemon=True).start()
+    if each == "a byte each second":
+        threading.Thread(target=drip, args=(stream,), daemon=True).start()
     stream.settimeout(45)
     try:
         while stream.recv(4_096):
@@ -293,7 +294,19 @@ def a_slow_request_is_cut_off_by(play, command):
         raise Wrong("not in 45 seconds") from None
     except OSError:
         pass
-    return f"{time.monotonic() - begun:.1f} s"
+    taken = time.monotonic() - begun
+    want(taken > 25, f"after {taken:.1f} of 30 seconds")
+    return f"{taken:.1f} s"
+
+
+@test(waits=True)
+def a_patience_that_begins_again_with_each_request(play):
+    content = some_bytes(50_000)
+    receiver = play.receive("--patience=2")
+    given, writer = play.pipe()
+    sender = play.send(receiver.port, given)
+    threading.Thread(target=feed, args=(writer, content, 6), daemon=True).start()
+    return transfer(sender, receiver, content, 20)
 
 
 # A connector that goes away.
@@ -327,13 +340,16 @@ def cut_off(play, content):
     return sender, receiver, hub.port
 
 
-@test((1,), (5,), waits=True)
+@test((0.2,), (1,), (5,), waits=True)
 def a_connector_gone_for_seconds(play, seconds):
     content = some_bytes(4_000_000)
     sender, receiver, port = cut_off(play, content)
     time.sleep(seconds)
     play.connector(table_to(receiver.port), port=port)
-    return f"{transfer(sender, receiver, content, 30)} from when it was back"
+    told = transfer(sender, receiver, content, 30)
+    paid, credited = totals(sender.totals).get("paid"), totals(receiver.totals).get("credited", 0)
+    want(paid == 500 <= credited, f"{paid} paid and {credited} credited of 500")
+    return f"{told} from when it was back"
 
 
 @test(waits=True)
@@ -445,7 +461,7 @@ def a_connector_before_a_neighbour_that_takes_no_connection(play):
     full = Full(lambda _, stream: hold(stream))
     play.peers.append(full)
     taken, body = rejected(play, full, 5)
-    want(body[:1] == b"\x0e" and taken < 7, f"answer {body[:20]!r} after {taken:.1f} s")
+    want(body[:1] == b"\x0e" and 3 < taken < 7, f"answer {body[:20]!r} after {taken:.1f} s")
     return f"{body[2:5].decode()} after {taken:.1f} s of a Prepare of 5 s"
 
 
@@ -486,7 +502,7 @@ def a_connector_whose_neighbour_stops_an_answer(play, part):
         cut_answer(stream, part, head + end, body)
 
     taken, body = rejected(play, play.peer(handle), 5)
-    want(body[:1] == b"\x0e" and taken < 7, f"answer {body[:20]!r} after {taken:.1f} s")
+    want(body[:1] == b"\x0e" and 3 < taken < 7, f"answer {body[:20]!r} after {taken:.1f} s")
     return f"{body[2:5].decode()} after {taken:.1f} s of a Prepare of 5 s"
 
 
@@ -504,8 +520,7 @@ def a_request_stops_at(play, command):
     port = play.before(receiver).port if command == "connector" else receiver.port
     for part in [part] if part else ["in the head", "behind the head", "in the body"] * 2:
         play.connect(port, cut_request(part))
-    # A receiver serves one connection at a time, for at most 30 seconds.
-    return transfer(play.send(port, content), receiver, content, 15 if command == "connector" else 45)
+    return transfer(play.send(port, content), receiver, content, 15)
 
 
 # Too few threads.
@@ -540,7 +555,9 @@ def a_sender_whose_threads_are_at_most(play, count):
     receiver = play.receive()
     sender = play.send(receiver.port, content, "--workers=16", preexec_fn=with_threads(count), program=for_all(play))
     told = ended(sender, 30)
-    want(told in ("0", "99"), f"send {told} in 30 s")
+    # (where the user is not one of its own, threads of other processes count too)
+    wanted = ("0", "99") if os.getuid() else ("99",) if count == 1 else ("0",)
+    want(told in wanted, f"send {told} in 30 s")
     if told == "0":
         whole(receiver, content, 10)
     return f"ends with {told}"
@@ -561,10 +578,10 @@ def a_connector_whose_threads_are_at_most(play, count):
             time.sleep(0.05)
     if hub.poll() is not None:
         told = ended(hub, 1)
-        want(told == "99", f"connector {told}")
+        want(told == "99" and (count == 1 or os.getuid()), f"connector {told}")
         return "ends with 99"
     told = ended(sender, 1)
-    want(told == "0", f"send {told} in 30 s")
+    want(told == "0" and (count > 1 or os.getuid()), f"send {told} in 30 s")
     whole(receiver, content, 10)
     return "the transfer went through it"
 
@@ -650,6 +667,22 @@ def an_accept_that_fails_at(play, command):
     return transfer(play.send(it.port, content), receiver, content, 20)
 
 
+@test(("connector",), ("receive",), waits=True)
+def accepts_that_fail_for_good_at(play, command):
+    receiver = play.receive()
+    it = play.before(receiver) if command == "connector" else receiver
+    resource.prlimit(it.pid, resource.RLIMIT_NOFILE, (3, resource.prlimit(it.pid, resource.RLIMIT_NOFILE)[1]))
+    begun = time.monotonic()
+    while it.poll() is None and time.monotonic() < begun + 20:
+        play.knock(it.port)
+        time.sleep(0.02)
+    told, taken = ended(it, 1), time.monotonic() - begun
+    # (100 failures, of which each is followed by ten milliseconds)
+    want(told == "80" and taken > 0.9, f"{command} {told} after {taken:.1f} s")
+    want(totals(it.totals), "it reports no totals")
+    return f"80 after {taken:.1f} s"
+
+
 @test(waits=True)
 def a_connector_with_more_connections_than_files(play):
     content = some_bytes(50_000)
@@ -689,6 +722,40 @@ def connections_that_send_nothing_use_up_no_request(play):
     return "none"
 
 
+# Clocks that advance.
+
+
+def codes(port, count, seconds):
+    """How so many Prepares that expire after so many seconds are answered: the codes of Rejects, and an empty one for a Fulfill."""
+    bodies = [asked((HOST, port), request("t", prepare(0, seconds, "test.b")), 20)[1] for _ in range(count)]
+    return [body[2:5] if body[:1] == b"\x0e" else b"" for body in bodies]
+
+
+@test(waits=True)
+def a_receiver_whose_clock_advances(play):
+    receiver = play.receive()
+    # The Prepares have no payload that can be opened (F06). Three seconds later one has expired that had not before.
+    found = codes(receiver.port, 2, 30)
+    time.sleep(3)
+    found += codes(receiver.port, 2, -1)
+    want(found == [b"F06"] * 2 + [b"R00"] * 2, f"answers {found}")
+    return "R00"
+
+
+@test(waits=True)
+def a_connector_whose_clock_advances(play):
+    def handle(_, stream):
+        message(stream)
+        stream.sendall(answer(fulfill()))
+
+    hub = play.before(play.peer(handle), "--workers=1")
+    found = codes(hub.port, 8, 30)
+    time.sleep(3)
+    late = codes(hub.port, 8, -1)
+    want(found == [b""] * 8 and all(code[:1] == b"R" for code in late), f"answers {found}, and later {late}")
+    return late[0].decode()
+
+
 # What an idle sender takes, and the workers that there are.
 
 
@@ -720,6 +787,35 @@ def an_idle_sender_by_workers(play, workers):
     whole(receiver, b"first and last", 10)
     want(share < 1, f"{share:.2f} % of a processor")
     return f"{share:.2f} % of a processor"
+
+
+@test((1,), (4,), waits=True)
+def an_idle_sender_is_woken_by_its_input_with_workers(play, workers):
+    receiver = play.receive()
+    given, writer = play.pipe()
+    sender, taken = play.send(receiver.port, given, f"--workers={workers}"), []
+    for count in range(1, 10):
+        # (a worker that nobody wakes sleeps for a second)
+        time.sleep(0.3)
+        writer.write(b"line\n")
+        begun = time.monotonic()
+        while os.path.getsize(receiver.path) < 5 * count and time.monotonic() < begun + 5:
+            time.sleep(0.005)
+        taken.append(time.monotonic() - begun)
+    writer.close()
+    ends_well(sender, 10)
+    whole(receiver, b"line\n" * 9, 10)
+    middle = sorted(taken)[4]
+    want(middle < 0.4, f"after {middle:.2f} s")
+    return f"after {middle:.3f} s"
+
+
+@test(waits=True)
+def a_sender_whose_ring_is_full_is_woken(play):
+    content = some_bytes(4_000_000)
+    receiver = play.receive()
+    # (one that nobody wakes where there is room would wait a second for each of some thirty windows)
+    return transfer(play.send(receiver.port, content), receiver, content, 10)
 
 
 def threads(process):
@@ -782,8 +878,10 @@ def transfers_at_once(play):
     for sender in sends:
         ends_well(sender, max(1, 60 - (time.monotonic() - begun)))
     taken = time.monotonic() - begun
-    for receiver, content in zip(ends, contents):
+    for sender, receiver, content in zip(sends, ends, contents):
         whole(receiver, content, 10)
+        money = totals(sender.totals).get("paid"), totals(receiver.totals).get("credited")
+        want(money == (10, 10), f"paid and credited {money} of 10")
     return f"{MANY} in {taken:.1f} s"
 
 

@@ -810,6 +810,13 @@ class Soak:
             self.wrong += 1
             print(f"WRONG the connector that stays grows: {told}; {stays.seen[:: max(1, len(stays.seen) // 20)]}", flush=True)
 
+    def expect_some(self):
+        """Many rounds, of which none compares what it is to, show nothing."""
+        lacking = [name for name in ("send 0, receive 0", "links compared exactly", "answers lost", "hostile") if not self.tally[name]]
+        if self.rounds >= 50 and lacking:
+            self.wrong += 1
+            print(f"WRONG in {self.rounds} rounds there is not one of: {'; '.join(lacking)}", flush=True)
+
     def run(self):
         with Play() as play:
             stays = Stays(play, 4)
@@ -827,6 +834,7 @@ class Soak:
             for it in workers:
                 it.join()
             self.summary(stays)
+            self.expect_some()
             if stays.process.poll() is not None:
                 raise Wrong(f"the connector that stays {ended(stays.process, 1)}")
 

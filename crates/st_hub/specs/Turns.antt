@@ -1,11 +1,14 @@
 -- A turn: a Prepare that goes, and what comes back to it.
-use Rattle.std.specs.Prelude.{◌≡◌, ℕ, ℤ, List, nat_eq, if◌then◌else◌}
+use Rattle.std.specs.Prelude.{◌≡◌, ℕ, ◌+◌, ℤ, List, nat_eq, if◌then◌else◌, Result, Ok, Err}
 use Rattle.st_ilp.specs.Moments.{IsMoment}
 use Rattle.st_ilp.specs.Packets.{PreparePacket}
 use Rattle.st_ilp.specs.Spelling.{prepare_text}
 use Rattle.st_ilp.specs.Laws.{IsPrepare}
 use Rattle.st_end.specs.declared.flight.Open.{Open}
-use Rattle.st_end.specs.Receiving.{Received}
+use Rattle.st_end.specs.State.{EndState}
+use Rattle.st_end.specs.Receiving.{Received, received}
+use Rattle.st_desk.specs.declared.link.LinkFault.{LinkFault}
+use Rattle.st_desk.specs.declared.link.LinkFault.TheVariants.{NoMemory}
 
 pub record Sent : Type 0 where
   pub flight : Open
@@ -25,3 +28,10 @@ IsExpiryOf bytes moment = (millis : ℤ) × ExpiresAt bytes millis × (IsMoment 
 -- what a Prepare credited: its amount where it was fulfilled, else nothing
 abbrev pub credited_by : Received → ℕ
 credited_by r = if nat_eq r.reason 0 then r.amount else 0
+
+-- what an exchange over a link to a hub comes to: an end answered the bytes at some moment, and what it credited was booked
+-- with a share; or there was no memory for that, and nothing was booked
+abbrev pub AnswersOver : (booked : ℕ) → (bytes : List ℕ) → Result (List ℕ) LinkFault → (after : ℕ) → Type 0
+AnswersOver booked bytes (Ok answer) after =
+    (a b : EndState) × (now : ℤ) × (r : Received) × (received a bytes now ≡ (r, b)) × (answer ≡ r.bytes) × (after ≡ booked + credited_by r)
+AnswersOver booked bytes (Err fault) after = (fault ≡ NoMemory) × (after ≡ booked)

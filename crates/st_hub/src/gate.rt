@@ -1,6 +1,7 @@
 //! What the workers of a hub wait on, and the gate that spaces out their tries after a failure.
 
-ghost use Rattle.std.specs.Prelude.{◌≡◌};
+ghost use Rattle.std.specs.Prelude.{◌≡◌, ◌≤◌, ◌<◌, ◌&&◌, true, false, not, IfSome};
+ghost use Rattle.std.specs.Duration.{as_nanos};
 ghost use Rattle.st_hop.specs.Seen.{outcome_seen};
 ghost use Rattle.st_hub.specs.Gates.{is_temporary};
 
@@ -37,15 +38,19 @@ pub(crate) struct Gate {
 
 impl Gate {
     /// An open gate.
-    pub(crate) fn new() -> Gate {
+    pub(crate) fn new() -> Gate
+        ensures { result.is_shut ≡ false }
+    {
         Gate {
             is_shut: false,
             last: None,
         }
     }
 
-    /// How long the next try is still to wait. `None` where it may begin.
-    pub(crate) fn left(&self, rt: &impl Clock) -> Option<Duration> {
+    /// How long the next try is still to wait: 50 ms at most. `None` where it may begin.
+    pub(crate) fn left(&self, rt: &impl Clock) -> Option<Duration>
+        ensures { IfSome result (λ left. (self.now.is_shut ≡ true) × (0 < as_nanos left) × (as_nanos left ≤ 50_000_000)) }
+    {
         if !self.is_shut {
             return None;
         }
@@ -55,14 +60,19 @@ impl Gate {
     }
 
     /// Notes that a try begins.
-    pub(crate) fn begins(&mut self, rt: &impl Clock) {
+    pub(crate) fn begins(&mut self, rt: &impl Clock)
+        ensures { self.new.is_shut ≡ self.old.is_shut }
+    {
         if self.is_shut {
             self.last = Instant::now(rt).ok();
         }
     }
 
     /// Notes how an exchange ended. Returns whether that opened the gate.
-    pub(crate) fn ends(&mut self, rt: &impl Clock, is_temporary: bool) -> bool {
+    pub(crate) fn ends(&mut self, rt: &impl Clock, is_temporary: bool) -> bool
+        ensures shut { self.new.is_shut ≡ is_temporary }
+        ensures opened { result ≡ (self.old.is_shut && not is_temporary) }
+    {
         let was_shut = self.is_shut;
         self.is_shut = is_temporary;
         if is_temporary && !was_shut {

@@ -1,5 +1,7 @@
 //! A link to another hub in the same process.
 
+ghost use Rattle.st_hub.specs.Turns.{AnswersOver};
+
 use crate::bench::Bench;
 use crate::turns::CreditShare;
 use st_desk::{Clock, Link, LinkFault};
@@ -53,9 +55,11 @@ impl<N: HubName<A>, A: Allocator + Copy, K: Clock, R: Wait> Counted for HubLink<
 }
 
 impl<N: HubName<A>, A: Allocator + Copy, K: Clock, R: Wait> Link<A> for HubLink<'_, N, A, K, R> {
+    // An end answered these bytes at some moment, and what it credited by that was added to the link's share.
+    ghost exchanges = { λ old bytes answer new. AnswersOver old.share bytes answer new.share };
+
     /// Gives the bytes of a packet to the hub and returns its answer. It waits for the hub's lock, and wakes a worker of
-    /// that hub. Fails with
-    /// `LinkFault::NoMemory` where memory is refused.
+    /// that hub. Fails with `LinkFault::NoMemory` where memory is refused.
     fn exchange(&mut self, bytes: &[u8], _by: Moment) -> Result<Vec<u8, A>, LinkFault> {
         let now = self.clock.now();
         let taken = self.hub.lock(self.rt).incoming(&mut self.share, bytes, now);

@@ -1,7 +1,8 @@
 //! The threads that send for an end.
 
-ghost use Rattle.std.specs.Prelude.{◌≡◌, true, is_some};
-ghost use Rattle.st_hub.specs.Begins.{IsIdle};
+ghost use Rattle.std.specs.Prelude.{◌≡◌, ℕ, List, true, is_some, IfSome, ⊤};
+ghost use Rattle.st_hop.specs.Seen.{outcome_seen};
+ghost use Rattle.st_hub.specs.Begins.{IsIdle, Finds, Exchanged};
 
 use crate::bench::Bench;
 use crate::gate::is_temporary;
@@ -19,8 +20,12 @@ use std::time::Duration;
 
 /// A source of the IVs under which packets are sealed (AES-GCM, SP 800-38D). It is to give each IV once.
 pub trait Ivs: Counted {
+    // Which IV the source may give, and the source after it.
+    ghost gives: { Self → List ℕ → Self → Type 0 } = { λ _ _ _. ⊤ };
+
     /// The next IV, of 12 bytes. Returns `None` where the device below failed; the device counted the failure.
-    fn next_iv(&mut self) -> Option<[u8; 12]>;
+    fn next_iv(&mut self) -> Option<[u8; 12]>
+        ensures { IfSome result (λ iv. gives self.old iv self.new) };
 }
 
 /// Why `work` returned.
@@ -82,7 +87,8 @@ fn look<N: HubName<A>, A: Allocator + Copy>(
     now: Moment,
 ) -> Begun<A>
     requires { is_some hand.old ≡ true }
-    ensures { IsIdle result → hand.new ≡ hand.old }
+    ensures idle { IsIdle result → hand.new ≡ hand.old }
+    ensures found { Finds hand.old stream now result state.new.flow.core hand.new }
 {
     let before = state.totals().accepted;
     let pumped = state.pump();
@@ -193,7 +199,9 @@ fn finish<N: HubName<A>, A: Allocator + Copy, R: Wait + std::time::Clock>(
 }
 
 /// What comes back over a link: a fault where it gives no answer.
-fn exchange<A: Allocator + Copy, L: Link<A>>(link: &mut L, turn: &Turn<A>) -> Outcome<A> {
+fn exchange<A: Allocator + Copy, L: Link<A>>(link: &mut L, turn: &Turn<A>) -> Outcome<A>
+    ensures { Exchanged L.exchanges link.old turn.now.bytes (outcome_seen result) link.new }
+{
     match link.exchange(turn.bytes(), turn.expires()) {
         Ok(answer) => Outcome::Answered(answer),
         Err(_) => Outcome::Fault,

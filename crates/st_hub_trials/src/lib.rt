@@ -48,6 +48,8 @@ mod readings;
 #[cfg(test)]
 mod stops;
 #[cfg(test)]
+mod streams;
+#[cfg(test)]
 mod threads;
 #[cfg(test)]
 mod writers;

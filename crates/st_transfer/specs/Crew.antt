@@ -1,8 +1,14 @@
 -- The threads of a connector and the requests that they claim.
-use Rattle.std.specs.Prelude.{◌≡◌, ℕ, ◌+◌, Bool, true, false}
+use Rattle.std.specs.Prelude.{◌≡◌, ◌⊎◌, ℕ, ◌+◌, ◌<◌, ◌≤◌, Bool, true, false, Option, Some}
+use Rattle.std.specs.Option.{option_or}
+use Rattle.st_oer.specs.Faults.{count_after}
+use Rattle.st_transfer.specs.declared.crew.Leave.{Leave}
+use Rattle.st_transfer.specs.declared.crew.Leave.TheVariants.{Send, Wait, Refuse}
+use Rattle.st_transfer.specs.declared.error.TransferError.{TransferError}
 
 -- how many threads are to accept; the requests that no thread has claimed; the threads that are being made, that accept and
--- that have a connection, each with a claim; and the requests that are not left to any thread
+-- that have a connection, each with a claim; the requests that are not left to any thread; how often a thread began to accept;
+-- and why no request is left, where a fault is why
 pub record Roster : Type 0 where
   pub workers : ℕ
   pub left : ℕ
@@ -10,6 +16,8 @@ pub record Roster : Type 0 where
   pub accepting : ℕ
   pub busy : ℕ
   pub spent : ℕ
+  pub begun : ℕ
+  pub fault : Option TransferError
 
 -- all threads
 abbrev pub threads_of : Roster → ℕ
@@ -19,13 +27,21 @@ threads_of r = r.coming + r.accepting + r.busy
 abbrev pub Hires : Roster → Roster → Type 0
 Hires a b = (a.left ≡ b.left + 1) × (b ≡ record a { left = b.left; coming = a.coming + 1 })
 
+-- a request is left, fewer threads than workers accept or are to, and there is room for one more
+abbrev pub Wants : Roster → Type 0
+Wants r = (0 < r.left) × (r.coming + r.accepting < r.workers) × (threads_of r < 1024 + r.workers)
+
 -- that thread is made, and accepts
 abbrev pub Begins : Roster → Roster → Type 0
-Begins a b = (a.coming ≡ b.coming + 1) × (b ≡ record a { coming = b.coming; accepting = a.accepting + 1 })
+Begins a b = (a.coming ≡ b.coming + 1) × (b ≡ record a { coming = b.coming; accepting = a.accepting + 1; begun = count_after 1 a.begun })
 
 -- it has a connection
 abbrev pub Takes : Roster → Roster → Type 0
 Takes a b = (a.accepting ≡ b.accepting + 1) × (b ≡ record a { accepting = b.accepting; busy = a.busy + 1 })
+
+-- how often threads are to have begun to accept before it may send: once more where no other thread accepts
+abbrev pub IsNeeded : Roster → ℕ → Type 0
+IsNeeded r n = ((0 < r.accepting) × (n ≡ r.begun)) ⊎ ((r.accepting ≡ 0) × (n ≡ count_after 1 r.begun))
 
 -- it is done: its request is served, or did not come and is left again
 abbrev pub IsDone : Roster → (came : Bool) → Roster → Type 0
@@ -34,8 +50,19 @@ IsDone a false b = (a.busy ≡ b.busy + 1) × (b ≡ record a { busy = b.busy; l
 
 -- it accepts again, for one request more
 abbrev pub GoesOn : Roster → Roster → Type 0
-GoesOn a b = (a.left ≡ b.left + 1) × (b ≡ record a { left = b.left; accepting = a.accepting + 1 })
+GoesOn a b = (a.left ≡ b.left + 1) × (b ≡ record a { left = b.left; accepting = a.accepting + 1; begun = count_after 1 a.begun })
 
--- no request is left to any thread
-abbrev pub LeavesNone : Roster → Roster → Type 0
-LeavesNone a b = b ≡ record a { left = 0; spent = a.spent + a.left }
+-- a request is left, not many more threads than workers accept or are to, and there is room for one more
+abbrev pub Stays : Roster → Type 0
+Stays r = (0 < r.left) × (r.coming + r.accepting < r.workers + 16) × (threads_of r < 1024 + r.workers)
+
+-- no request is left to any thread, and the first fault is why
+abbrev pub LeavesNone : Roster → TransferError → Roster → Type 0
+LeavesNone a e b = b ≡ record a { left = 0; spent = a.spent + a.left; fault = option_or a.fault (Some e) }
+
+-- a thread sends where not too many have a connection, and threads began to accept as often as it needs or no other can be asked
+-- for; it waits where one is being made or may be; and it is refused where too many have a connection, or no other is being made
+abbrev pub IsLeave : Roster → (needed : ℕ) → Leave → Type 0
+IsLeave r needed Send = (r.busy ≤ 1024) × ((needed ≤ r.begun) ⊎ ((r.left ≡ 0) × (r.coming ≡ 0)))
+IsLeave r needed Wait = (r.begun < needed) × ((0 < r.coming) ⊎ ((0 < r.left) × (threads_of r < 1024 + r.workers)))
+IsLeave r needed Refuse = (1024 < r.busy) ⊎ ((r.begun < needed) × (0 < r.left) × (r.coming ≡ 0))

@@ -1,5 +1,5 @@
 -- Moments of a clock that tells how long ago 1970 began.
-use Rattle.std.specs.Prelude.{◌≡◌, ◌⊎◌, ℕ, ◌≤◌, ◌/◌, ℤ, pos, int_le, if◌then◌else◌, Result, Ok, Err}
+use Rattle.std.specs.Prelude.{◌≡◌, ◌⊎◌, ℕ, ◌+◌, ◌≤◌, ◌<◌, ◌/◌, ℤ, pos, ◌≤ℤ◌, int_le, if◌then◌else◌, Option, Some, Result, Ok, Err, IfSome}
 use Rattle.std.specs.Duration.{as_nanos}
 use Rattle.std.specs.declared.time.Duration.{Duration}
 use Rattle.st_transfer.specs.declared.clock.RuntimeClock.{RuntimeClock}
@@ -22,3 +22,19 @@ later a b = if int_le a b then b else a
 abbrev pub Tells : {E : Type 0} → (before : ℤ) → Result Duration E → (now : ℤ) → Type 0
 Tells before (Ok since) now = ((ms : ℕ) × IsMomentOf since ms × (now ≡ later before (pos ms))) ⊎ (((ms : ℕ) → ¬ (IsMomentOf since ms)) × (now ≡ before))
 Tells before (Err e) now = now ≡ before
+
+-- the earlier one of two moments, of which the first may be missing
+pub record IsEarlier (first : Option ℤ) (second earlier : ℤ) : Type 0 where
+  pub by_first : IfSome first (λ moment. earlier ≤ℤ moment)
+  pub by_second : earlier ≤ℤ second
+  pub one : (earlier ≡ second) ⊎ (first ≡ Some earlier)
+
+-- the greatest number of milliseconds that `poll` waits
+abbrev pub longest_wait : ℕ
+longest_wait = 2_147_483_647
+
+-- a time in milliseconds, as `poll` takes it: a whole one more than there are in it, as far as it goes
+abbrev pub IsWait : Duration → (millis : ℤ) → Type 0
+IsWait time millis =
+    ((as_nanos time / 1000000 < longest_wait) × (millis ≡ pos (as_nanos time / 1000000 + 1)))
+    ⊎ ((longest_wait ≤ as_nanos time / 1000000) × (millis ≡ pos longest_wait))

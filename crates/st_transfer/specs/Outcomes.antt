@@ -1,8 +1,12 @@
 -- What the command `send` comes to.
-use Rattle.std.specs.Prelude.{ℕ, Bool, true, false, List, [], ◌∷◌, Option, Some, None, Result, Ok, Err}
+use Rattle.std.specs.Prelude.{◌≡◌, ◌⊎◌, ℕ, Bool, true, false, List, [], ◌∷◌, Option, Some, None, Result, Ok, Err}
+use Rattle.st_end.specs.State.{EndState}
+use Rattle.st_end.specs.Calls as calls
+use Rattle.st_end.specs.Totals.{Totals, totals, settled}
 use Rattle.st_hub.specs.declared.workers.WorkEnd.{WorkEnd}
 use Rattle.st_hub.specs.declared.workers.WorkEnd.TheVariants as ends
 use Rattle.st_file.specs.declared.error.FileError.{FileError}
+use Rattle.st_transfer.specs.Keeping.{file_stream}
 use Rattle.st_transfer.specs.declared.error.TransferError.{TransferError}
 use Rattle.st_transfer.specs.declared.error.TransferError.TheVariants.{Failed, Stalled, Turns, IvFault, NoMemory, File}
 
@@ -37,3 +41,21 @@ outcome true failed es (Ok sent) = Ok sent
 outcome false failed es (Ok sent) = Err (fault_told failed es Turns)
 outcome true failed es (Err e) = Err (fault_told failed es (File e))
 outcome false failed es (Err e) = Err (fault_told failed es (File e))
+
+-- the next stream is opened, and the money is offered on it
+abbrev pub OpensWith : EndState → (money : ℕ) → EndState → Type 0
+OpensWith a money b = (k : ℕ) × (mid : EndState) × (calls.open_stream a ≡ (Ok k, mid)) × (calls.offer mid k money ≡ (Ok tt, b))
+
+-- an end tells these totals, and the result says whether its stream's close was fulfilled and its connection failed
+abbrev pub IsTold : Result ℕ TransferError → Totals → Type 0
+IsTold result told =
+    (e : EndState) × (es : List WorkEnd) × (fed : Result ℕ FileError)
+    × (result ≡ outcome (settled e file_stream) e.sending.failed es fed) × (told ≡ totals e)
+
+-- those of an end that did nothing
+abbrev pub no_totals : Totals
+no_totals = record { accepted = 0; delivered = 0; credited = 0; paid = 0 }
+
+-- the same, or the transfer did not begin
+abbrev pub ComesTo : Result ℕ TransferError → Totals → Type 0
+ComesTo result told = IsTold result told ⊎ ((why : TransferError) × (result ≡ Err why) × (told ≡ no_totals))

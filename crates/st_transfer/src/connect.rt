@@ -1,7 +1,14 @@
 //! The command `connector`.
 
+<<<<<<< HEAD
 ghost use Rattle.std.specs.Prelude.{◌≡◌, ◌⊎◌, Err, IsSome, Some, length, vec_len};
+=======
+ghost use Rattle.std.specs.Prelude.{◌≡◌, ◌⊎◌, Err, IfErr, IfOk, IsSome, MatchOption, Some, length, sum, vec_len, pos, ◌+ℤ◌};
+ghost use Rattle.st_ilp.specs.Moments.{IsMoment};
+ghost use Rattle.st_desk.specs.Desk.{IsNew};
+>>>>>>> 972e6c6280ec42f1debb97d3f7ca8cfce625b462
 ghost use Rattle.st_transfer.specs.Accounts.{AreTotalsOf};
+ghost use Rattle.st_transfer.specs.Moments.{IsEarlier};
 ghost use Rattle.st_transfer.specs.declared.error.TransferError.TheVariants.{NoMemory};
 
 use crate::accounts::{AccountTotals, note, places};
@@ -66,12 +73,16 @@ struct Ways<'a, C: Ledger, D: Ledger, R: Net + Wait + Clock> {
 const EXCHANGE_MILLIS: i64 = 29_000;
 
 /// The moment that is so many milliseconds after this one.
-fn latest_after(now: Moment) -> Option<Moment> {
-    Moment::new(now.ms().saturating_add(EXCHANGE_MILLIS))
+fn latest_after(now: Moment) -> Option<Moment>
+    ensures { MatchOption result (¬ (IsMoment (now +ℤ pos 29000))) (λ latest. latest ≡ now +ℤ pos 29000) }
+{
+    Moment::new(now.ms() + EXCHANGE_MILLIS)
 }
 
 /// The earlier of two moments, of which the first may be missing.
-fn earlier(latest: Option<Moment>, by: Moment) -> Moment {
+fn earlier(latest: Option<Moment>, by: Moment) -> Moment
+    ensures { IsEarlier latest by result }
+{
     match latest {
         Some(latest) if latest.ms() < by.ms() => latest,
         _ => by,
@@ -227,6 +238,8 @@ fn gathered<C: Ledger, D: Ledger>(
     accounts: &mut [AccountTotals],
 ) -> Result<Owed, TransferError>
     ensures noted { AreTotalsOf desk.old.hop accounts.new }
+    ensures fault { IfErr served (λ e. result ≡ Err e) }
+    ensures owed { IfOk result (λ owed. (owed.claims ≡ sum desk.old.hop.claims) × (owed.dues ≡ sum desk.old.hop.dues)) }
 {
     note(desk.hop(), accounts);
     served?;

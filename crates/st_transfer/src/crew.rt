@@ -1,8 +1,7 @@
 //! The threads of a connector: how many of them accept, and how many requests they may still take.
 
-ghost use Rattle.std.specs.Prelude.{◌≡◌, ◌+◌, ◌<◌, ◌≤◌, ◌↔◌, IsTrue, MatchBool};
-ghost use Rattle.st_transfer.specs.Crew.{threads_of, Hires, Begins, Takes, IsDone, GoesOn, LeavesNone};
-ghost use Rattle.st_transfer.specs.declared.crew.Leave.TheVariants.{Send};
+ghost use Rattle.std.specs.Prelude.{◌≡◌, ◌+◌, ◌<◌, ◌↔◌, IsSome, IsTrue, MatchBool, None};
+ghost use Rattle.st_transfer.specs.Crew.{threads_of, Hires, Wants, Begins, Takes, IsNeeded, IsDone, GoesOn, Stays, LeavesNone, IsLeave};
 
 use crate::error::TransferError;
 use std::marker::Model;
@@ -61,7 +60,7 @@ impl Model for Roster {
 
     ghost Value = { crew.Roster };
 
-    ghost view = { λ r. record { workers = r.workers; left = r.left; coming = r.coming; accepting = r.accepting; busy = r.busy; spent = r.spent } };
+    ghost view = { λ r. record { workers = r.workers; left = r.left; coming = r.coming; accepting = r.accepting; busy = r.busy; spent = r.spent; begun = r.begun; fault = r.fault } };
 
     ghost invariant = { λ r. (r.left + r.coming + r.accepting + r.busy + r.spent ≡ r.requests) × (r.coming + r.accepting + r.busy ≤ 1024 + r.workers) };
 }
@@ -69,7 +68,7 @@ impl Model for Roster {
 impl Roster {
     /// No threads, and a given number of requests.
     fn new(requests: u64, workers: u8) -> Roster
-        ensures { result ≡ record { workers = workers; left = requests; coming = 0; accepting = 0; busy = 0; spent = 0 } }
+        ensures { result ≡ record { workers = workers; left = requests; coming = 0; accepting = 0; busy = 0; spent = 0; begun = 0; fault = None } }
     {
         Roster {
             workers,
@@ -110,7 +109,8 @@ impl Roster {
     /// Claims a request for one more thread. False where no request is left, enough threads accept, or there is no room
     /// for a thread.
     fn hire(&mut self) -> bool
-        ensures { MatchBool result (Hires self.old self.new) (self.new ≡ self.old) }
+        ensures hired { MatchBool result (Hires self.old self.new) (self.new ≡ self.old) }
+        ensures wanted { IsTrue result ↔ Wants self.old }
     {
         if self.left == 0 || !self.lacks_one() || !self.has_room() {
             return false;
@@ -123,7 +123,8 @@ impl Roster {
 
     /// Gives the request of a thread back that could not be made. Where there is no other thread, no request is served.
     fn give_up(&mut self)
-        ensures { 0 < self.old.coming → 0 < threads_of self.new → Hires self.new self.old }
+        ensures back { 0 < self.old.coming → 0 < threads_of self.new → Hires self.new self.old }
+        ensures last { 0 < self.old.coming → threads_of self.new ≡ 0 → (self.new.left ≡ 0) × IsSome self.new.fault }
     {
         if self.coming == 0 {
             return;
@@ -138,7 +139,7 @@ impl Roster {
 
     /// Leaves no request to any thread, and notes why.
     fn end(&mut self, fault: TransferError)
-        ensures { LeavesNone self.old self.new }
+        ensures { LeavesNone self.old fault self.new }
     {
         self.spent += self.left;
         self.left = 0;
@@ -162,7 +163,8 @@ impl Roster {
     /// A thread has a connection. Answers how often threads are to have begun to accept before it may send to a
     /// neighbour: once more where no other thread accepts.
     fn take(&mut self) -> u64
-        ensures { 0 < self.old.accepting → Takes self.old self.new }
+        ensures taken { 0 < self.old.accepting → Takes self.old self.new }
+        ensures needed { 0 < self.old.accepting → IsNeeded self.new result }
     {
         if self.accepting == 0 {
             return self.begun;
@@ -179,7 +181,7 @@ impl Roster {
     /// A thread meets a fault as it accepts. False where it is to try again: other threads have connections, which take
     /// file descriptors and memory until they end. Else it ends, and no request is left.
     fn fail(&mut self, fault: TransferError) -> bool
-        ensures { MatchBool result (self.new.left ≡ 0) ((0 < self.old.busy) × (self.new ≡ self.old)) }
+        ensures { MatchBool result ((self.new.left ≡ 0) × IsSome self.new.fault) ((0 < self.old.busy) × (self.new ≡ self.old)) }
     {
         if self.busy > 0 {
             return false;
@@ -210,7 +212,8 @@ impl Roster {
     /// Claims a request for a thread that is done with its last one. False where it is to end: no request is left, or
     /// more than enough threads accept.
     fn go_on(&mut self) -> bool
-        ensures { MatchBool result (GoesOn self.old self.new) (self.new ≡ self.old) }
+        ensures claimed { MatchBool result (GoesOn self.old self.new) (self.new ≡ self.old) }
+        ensures kept { IsTrue result ↔ Stays self.old }
     {
         let most = u64::from(self.workers) + SPARE;
         if self.left == 0 || self.coming + self.accepting >= most || !self.has_room() {
@@ -224,7 +227,7 @@ impl Roster {
 
     /// Whether a thread may send to a neighbour that waited until threads began to accept this often.
     fn leave(&self, needed: u64) -> Leave
-        ensures { result ≡ Send → self.now.busy ≤ 1024 }
+        ensures { IsLeave self.now needed result }
     {
         if self.busy > MOST_BUSY {
             return Leave::Refuse;

@@ -34,6 +34,9 @@ impl<G: Read> Counted for ReaderIvs<G> {
 }
 
 impl<G: Read> Ivs for ReaderIvs<G> {
+    // The next twelve bytes of the reader.
+    ghost gives = { λ old iv new. Consumes (G.remaining old.reader) (G.remaining new.reader) iv };
+
     fn next_iv(&mut self) -> Option<[u8; 12]>
         ensures given { IfSome result (λ iv. Consumes (G.remaining self.old.reader) (G.remaining self.new.reader) iv) }
         ensures counted { MatchOption result (self.new.refused ≡ count_after 1 self.old.refused) (λ _. self.new.refused ≡ self.old.refused) }
@@ -77,7 +80,11 @@ impl<I: Ivs, R: Wait> Counted for SharedIvs<'_, I, R> {
 }
 
 impl<I: Ivs, R: Wait> Ivs for SharedIvs<'_, I, R> {
+    // One that the shared source gave.
+    ghost gives = { λ _ iv _. (before : I) × (after : I) × I.gives before iv after };
+
     fn next_iv(&mut self) -> Option<[u8; 12]>
+        ensures given { IfSome result (λ iv. (before : I) × (after : I) × I.gives before iv after) }
         ensures counted { MatchOption result (self.new.refused ≡ count_after 1 self.old.refused) (λ _. self.new.refused ≡ self.old.refused) }
     {
         let iv = self.source.lock(self.rt).next_iv();

@@ -1,12 +1,14 @@
 //! The command `send`.
 
 ghost use Rattle.std.specs.Prelude.{◌≡◌, ℕ, length, Err, IfOk, IfSome};
+ghost use Rattle.st_end.specs.Seen.{totals_seen};
 ghost use Rattle.st_queues.specs.Lanes.{ring_at};
 ghost use Rattle.st_end.specs.Totals as totals;
 ghost use Rattle.st_file.specs.Errors.{counted};
 ghost use Rattle.st_hub.specs.Hub.{IsNew};
 ghost use Rattle.st_transfer.specs.Keeping.{file_stream};
 ghost use Rattle.st_transfer.specs.Outcomes as outcomes;
+ghost use Rattle.st_transfer.specs.Outcomes.{ComesTo, IsTold, OpensWith, no_totals};
 
 use crate::delivery::STREAM;
 use crate::ended::Ended;
@@ -132,7 +134,9 @@ struct Opened<N: HubName<Global>> {
 fn open_on<N: HubName<Global>>(
     hub: &mut HubState<N, Global>,
     money: u64,
-) -> Result<StreamWriter<N, Global>, TransferError> {
+) -> Result<StreamWriter<N, Global>, TransferError>
+    ensures { IfOk result (λ _. OpensWith hub.old.flow.core money hub.new.flow.core) }
+{
     let (stream, writer, _reader) = match hub.open_stream() {
         Ok(opened) => opened,
         Err(error) => return Err(TransferError::End(error)),
@@ -155,6 +159,7 @@ fn open<N: HubName<Global>>(
     requires writes { (k : ℕ) → N.write_ring k ≡ ring_at rings.writes k }
     requires reads { (k : ℕ) → N.read_ring k ≡ ring_at rings.reads k }
     requires name { (blank.name ≡ N.name) × (blank.parts ≡ N.parts) × (blank.parts ≡ 64) }
+    ensures { IfOk result (λ opened. OpensWith end money opened.hub.flow.core) }
 {
     let (mut hub, gauge, seat) = HubState::<N, Global>::new(end, rings, blank);
     match open_on(&mut hub, money) {
@@ -253,14 +258,15 @@ fn feed_beside<
 }
 
 /// Sends over an open hub.
-#[tactic(auto, using(crate::proofs::Outcomes::sent_whole))]
+#[tactic(auto, using(crate::proofs::Outcomes::sent_whole, crate::proofs::Outcomes::told_so))]
 fn transfer<
     N: HubName<Global> + Send + Sync,
     I: Read + Drop,
     G: Read + Drop + Send,
     R: Net<Listener = TcpListener, Stream = TcpStream> + Threads + Wait + std::time::Clock + Sync,
 >(rt: &R, alloc: Global, opened: Opened<N>, input: I, random: G, terms: SendTerms<'_>) -> Ended
-    ensures { IfOk result.result (λ n. IfSome (I.remaining input) (λ bytes. n ≡ counted (length bytes))) }
+    ensures whole { IfOk result.result (λ n. IfSome (I.remaining input) (λ bytes. n ≡ counted (length bytes))) }
+    ensures told { IsTold result.result (totals_seen result.totals) }
 {
     let Opened {
         hub,
@@ -290,7 +296,8 @@ fn transfer<
 
 /// A transfer that did not begin.
 fn refused(error: TransferError) -> Ended
-    ensures { result.result ≡ Err error }
+    ensures refused { result.result ≡ Err error }
+    ensures told { totals_seen result.totals ≡ no_totals }
 {
     Ended {
         result: Err(error),
@@ -324,7 +331,8 @@ fn run<
     requires writes { (k : ℕ) → N.write_ring k ≡ ring_at rings.writes k }
     requires reads { (k : ℕ) → N.read_ring k ≡ ring_at rings.reads k }
     requires name { (blank.name ≡ N.name) × (blank.parts ≡ N.parts) × (blank.parts ≡ 64) }
-    ensures { IfOk result.result (λ n. IfSome (I.remaining input) (λ bytes. n ≡ counted (length bytes))) }
+    ensures whole { IfOk result.result (λ n. IfSome (I.remaining input) (λ bytes. n ≡ counted (length bytes))) }
+    ensures told { ComesTo result.result (totals_seen result.totals) }
 {
     match open::<N>(end, rings, blank, terms.money) {
         Ok(opened) => transfer(rt, alloc, opened, input, random, terms),
@@ -355,6 +363,7 @@ pub fn send_on<
 >(rt: &R, alloc: Global, end: EndState<Global>, input: I, random: G, terms: SendTerms<'_>) -> Ended
     requires fresh { IsNew end }
     ensures whole { IfOk result.result (λ n. IfSome (I.remaining input) (λ bytes. n ≡ counted (length bytes))) }
+    ensures told { ComesTo result.result (totals_seen result.totals) }
 {
     let Ok(rings) = Rings::new(alloc) else {
         return refused(TransferError::Rings);

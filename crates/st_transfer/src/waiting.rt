@@ -1,6 +1,7 @@
 //! How long a receiver waits for its next request.
 
 ghost use Rattle.std.specs.Prelude.{◌≡◌, IsSome, IfErr};
+ghost use Rattle.st_transfer.specs.Moments.{IsWait};
 ghost use Rattle.st_transfer.specs.declared.error.TransferError.TheVariants.{Silent};
 
 use crate::error::TransferError;
@@ -34,7 +35,9 @@ impl AwaitListener for TcpListener {
 }
 
 /// A time in whole milliseconds, rounded up, as `poll` takes it.
-pub(crate) fn millis_of(time: Duration) -> i32 {
+pub(crate) fn millis_of(time: Duration) -> i32
+    ensures { IsWait time result }
+{
     i32::try_from(time.as_millis().saturating_add(1)).unwrap_or(i32::MAX)
 }
 
