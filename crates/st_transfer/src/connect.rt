@@ -1,12 +1,7 @@
 //! The command `connector`.
 
-<<<<<<< HEAD
-ghost use Rattle.std.specs.Prelude.{◌≡◌, ◌⊎◌, Err, IsSome, Some, length, vec_len};
-=======
 ghost use Rattle.std.specs.Prelude.{◌≡◌, ◌⊎◌, Err, IfErr, IfOk, IsSome, MatchOption, Some, length, sum, vec_len, pos, ◌+ℤ◌};
 ghost use Rattle.st_ilp.specs.Moments.{IsMoment};
-ghost use Rattle.st_desk.specs.Desk.{IsNew};
->>>>>>> 972e6c6280ec42f1debb97d3f7ca8cfce625b462
 ghost use Rattle.st_transfer.specs.Accounts.{AreTotalsOf};
 ghost use Rattle.st_transfer.specs.Moments.{IsEarlier};
 ghost use Rattle.st_transfer.specs.declared.error.TransferError.TheVariants.{NoMemory};
