@@ -1,4 +1,4 @@
-use Rattle.std.proofs.Common.{ℕ, ◌*◌, ◌%◌, get_or, bit_xor, ap, ◌∙◌}
+use Rattle.std.proofs.Common.{ℕ, get_or, bit_xor, ap, ◌∙◌}
 use Rattle.st_aes.proofs.factor_tables.lower.Goals as goal
 
 pub returns : goal.returns

@@ -1,4 +1,4 @@
-use Rattle.std.proofs.Common.{◌≡◌, ℕ, [], ◌∷◌, ◌+◌, ◌*◌, ◌/◌, ◌%◌}
+use Rattle.std.proofs.Common.{◌≡◌, [], ◌∷◌, ◌+◌, ◌*◌, ◌/◌, ◌%◌}
 use Rattle.st_aes.specs.Planes.{plane}
 use Rattle.st_aes.specs.Rows.{cell}
 use Rattle.st_aes.proofs.Lookups.{below_sixteen, pair_front, pair_back}
