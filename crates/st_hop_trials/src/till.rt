@@ -48,10 +48,10 @@ const BOOKING: Booking = Booking {
 
 /// How many of ten deposits gave their token.
 fn ten<R: Wait>(rt: &R, till: &Till<Sums, Global>) -> u64 {
-    let mut stored = 0;
+    let mut stored: u64 = 0;
     for _ in 0..10 {
         if deposit(rt, till, BOOKING).is_some() {
-            stored += 1;
+            stored = stored.saturating_add(1);
         }
     }
     stored
@@ -73,7 +73,7 @@ fn two<R: Threads + Wait + Abort + Sync>(
     let seen = refused_at(rt, &till);
     let (books, refused) = till.into_books();
     assert!(rt; seen == refused);
-    (one + other, books.claims, books.dues, refused)
+    (one.saturating_add(other), books.claims, books.dues, refused)
 }
 
 /// What two threads deposit is committed, each booking once.
@@ -88,7 +88,7 @@ fn two_threads_deposit(rt: HostRuntime) -> Result<(), Fail> {
 fn a_refusal_ends_a_till(rt: HostRuntime) -> Result<(), Fail> {
     let (stored, claims, dues, refused) = two(&rt, rt.alloc(), 31);
     assert!(rt; refused == Some(93));
-    assert!(rt; claims == 3 * stored && dues == 2 * stored);
+    assert!(rt; claims == stored.saturating_mul(3) && dues == stored.saturating_mul(2));
     assert!(rt; stored <= 10);
     Ok(())
 }
