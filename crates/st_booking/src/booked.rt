@@ -21,6 +21,13 @@ impl Model for Booked {
     ghost view = { λ b. b.booking };
 }
 
+/// Types that may be copied. These two impls stay disjoint only as long as a token is not `Clone`.
+trait IsSpentOnce {}
+
+impl<T: Clone> IsSpentOnce for T {}
+
+impl IsSpentOnce for Booked {}
+
 impl Booked {
     /// The booking that was committed.
     pub fn booking(&self) -> Booking

@@ -29,12 +29,15 @@ only_sums db a b is named rows starts =
 
 pub next_finds : {D : Type 0} {g : Ghosts D} {E : Type 0} {h : Ghosts E} → NextFinds g h
 next_finds it before after numbered only left may again found =
-    let databases : AreDatabases (recovers it) = λ db r. (books_schema, elim (only db r) [
-      | inl b ↦ sound db before.starts before.names before.amounts b
-      | inr a ↦ sound db after.starts after.names after.amounts a
-    ]) in
+    let databases : AreDatabases (recovers it) = λ db r. (
+      books_schema,
+      elim (only db r) [
+        | inl b ↦ sound db before.starts before.names before.amounts b
+        | inr a ↦ sound db after.starts after.names after.amounts a
+      ],
+    ) in
     let db = (file_state found.opened).committed.trees in
     ∥∥₁_map (next_run it numbered databases left may (file_state found.opened) found.found) (λ r. elim (only db r) [
-      | inl b ↦ inl (only_sums db before (sums_of again) b found.named found.rows found.starts)
-      | inr a ↦ inr (only_sums db after (sums_of again) a found.named found.rows found.starts)
+      | inl b ↦ inl (only_sums db before (sums_of again) b found.takes.named found.takes.rows found.takes.starts)
+      | inr a ↦ inr (only_sums db after (sums_of again) a found.takes.named found.takes.rows found.takes.starts)
     ])

@@ -127,9 +127,17 @@ pub ok_both : {T E : Type 0} (r : Result T E) (P Q R : T → Type 0) → ((x : T
 ok_both (Ok x) P Q R both p q = both x p q
 ok_both (Err e) P Q R both p q = tt
 
+pub ok_three : {T E : Type 0} (r : Result T E) (P Q R Z : T → Type 0) → ((x : T) → P x → Q x → R x → Z x) → IfOk r P → IfOk r Q → IfOk r R → IfOk r Z
+ok_three (Ok x) P Q R Z all p q s = all x p q s
+ok_three (Err e) P Q R Z all p q s = tt
+
 pub on_err : {T E P : Type 0} (r : Result T E) → P → OnErr r P
 on_err (Ok x) h = tt
 on_err (Err e) h = h
+
+pub on_ok_both : {T E P Q R : Type 0} (r : Result T E) → (P → Q → R) → OnOk r P → OnOk r Q → OnOk r R
+on_ok_both (Ok x) both p q = both p q
+on_ok_both (Err e) both p q = tt
 
 pub at_ok : {T E P : Type 0} (r : Result T E) → IsOk r → OnOk r P → P
 at_ok (Ok x) is h = h
@@ -233,9 +241,9 @@ pub line_added : (old new : View) (starts : ℕ) (names : List (List ℕ)) (all 
     → AreBooks new.trees starts (names ++ name ∷ []) (all ++ nothing ∷ [])
 line_added old new starts names all name sets h =
     subst (λ db. AreBooks db starts (names ++ name ∷ []) (all ++ nothing ∷ [])) (sym (ap (λ (v : View). v.trees) sets.is))
-        (lines_written old.trees (put_row (line (length names + 1) name nothing) (old.trees 0)) starts names (names ++ name ∷ []) all (all ++ nothing ∷ []) h
-            (ap (put_row (line (length names + 1) name nothing)) h.rows ∙ put_end names all name nothing h.named)
-            (omega (arith, h.named, length-append names (name ∷ []), length-append all (nothing ∷ []))))
+    (lines_written old.trees (put_row (line (length names + 1) name nothing) (old.trees 0)) starts names (names ++ name ∷ []) all (all ++ nothing ∷ []) h
+    (ap (put_row (line (length names + 1) name nothing)) h.rows ∙ put_end names all name nothing h.named)
+    (omega (arith, h.named, length-append names (name ∷ []), length-append all (nothing ∷ []))))
 
 pub starts_counted : (old new : View) (starts later : ℕ) (names : List (List ℕ)) (all : List Amounts) → SetsTree old new version_tree (λ _. version_rows later) → AreBooks old.trees starts names all → AreBooks new.trees later names all
 starts_counted old new starts later names all sets h = subst (λ db. AreBooks db later names all) (sym (ap (λ (v : View). v.trees) sets.is)) (starts_written old.trees starts later names all h)

@@ -1,27 +1,21 @@
 -- What an open of books finds.
-use Rattle.std.specs.Prelude.{◌≡◌, ◌⊎◌, length, IsTrue}
+use Rattle.std.specs.Prelude.{◌≡◌, ◌⊎◌, IsTrue}
 use Rattle.sqlite_disk.specs.Disk.{Ghosts}
 use Rattle.sqlite_wal.specs.Recovery.{Image}
 use Rattle.sqlite_trees.specs.Tree.{Trees}
-use Rattle.sqlite_trees.specs.Objects.{version_tree, version_rows}
 use Rattle.sqlite_store.specs.declared.store.FileStore.{FileStore}
 use Rattle.sqlite_store.specs.FileStore.{state as store_state, view}
 use Rattle.sqlite.specs.Held.{Held}
 use Rattle.sqlite.specs.Files.{file_state, over_files}
 use Rattle.sqlite.specs.Start.{FindsIn}
-use Rattle.st_books.specs.Table.{lines}
-use Rattle.st_books.specs.Standing.{Kept, Remains}
+use Rattle.st_books.specs.Standing.{Kept, Takes}
 use Rattle.st_books.specs.Commits.{Sums, sums_of, AreSums}
 
--- the files held a database with the lines and the starts of these books
+-- the files held a database of these books, and from now on each crash leaves them
 pub record FindsBooks {D : Type 0} {g : Ghosts D} (image : Image) (books : Kept (FileStore D g)) : Type 0 where
   pub opened : Held (FileStore D g)
   pub found : FindsIn image (file_state opened)
-  pub rows : (file_state opened).committed.trees 0 ≡ lines books.names books.amounts
-  pub named : length books.names ≡ length books.amounts
-  pub starts : (file_state opened).committed.trees version_tree ≡ version_rows books.starts
-  -- and from now on each crash leaves them
-  pub remains : Remains over_files books
+  pub takes : Takes over_files (file_state opened).committed.trees books
 
 -- Where a crash leaves only one database of books, or one of two, the next open of what it left finds it, if it finds any.
 abbrev pub NextFinds : {D : Type 0} → Ghosts D → {E : Type 0} → Ghosts E → Type 0

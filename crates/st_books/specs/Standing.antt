@@ -1,13 +1,13 @@
 -- What a store has of books, and what steps of a transaction do to it.
-use Rattle.std.specs.Prelude.{◌≡◌, ℕ, true, false, List, IsTrue}
+use Rattle.std.specs.Prelude.{◌≡◌, ℕ, true, false, List, length, IsTrue}
 use Rattle.sqlite_trees.specs.Tree.{Trees}
-use Rattle.sqlite_trees.specs.Objects.{catalog_tree}
+use Rattle.sqlite_trees.specs.Objects.{catalog_tree, version_tree, version_rows}
 use Rattle.sqlite_trees.specs.Sound.{is_sound_list}
 use Rattle.sqlite_trees.specs.View.{View, IsClean, KeepsSchema, OnlyWrites}
 use Rattle.sqlite_trees.specs.declared.store.Store.{Ghosts}
 use Rattle.sqlite_trees.specs.declared.store.Shape.TheVariants.{Table}
 use Rattle.st_books.specs.declared.balance.Amounts.{Amounts}
-use Rattle.st_books.specs.Table.{AreBooks}
+use Rattle.st_books.specs.Table.{AreBooks, lines}
 
 -- the last commit is these books, and nothing else is written
 pub record Stands (v : View) (starts : ℕ) (names : List (List ℕ)) (all : List Amounts) : Type 0 where
@@ -62,3 +62,10 @@ pub record Remains {S : Type 0} (g : Ghosts S) (books : Kept S) : Type 0 where
   pub is_open : IsTrue (g.view books.store).is_open
   pub numbered : IsTrue (g.view books.store).is_numbered
   pub leaves : LeavesOnly g books.store books.starts books.names books.amounts
+
+-- a database was these books, and the store remains so
+pub record Takes {S : Type 0} (g : Ghosts S) (db : Trees) (books : Kept S) : Type 0 where
+  pub rows : db 0 ≡ lines books.names books.amounts
+  pub named : length books.names ≡ length books.amounts
+  pub starts : db version_tree ≡ version_rows books.starts
+  pub remains : Remains g books

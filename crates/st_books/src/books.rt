@@ -151,7 +151,14 @@ impl<S: Alter> Books<S> {
             row,
             ..
         } = self;
-        commit_bookings(store, row, *starts, names.as_slice(), draft.as_mut_slice(), bookings)?;
+        commit_bookings(
+            store,
+            row,
+            *starts,
+            names.as_slice(),
+            draft.as_mut_slice(),
+            bookings,
+        )?;
         *amounts = draft;
         Ok(())
     }
@@ -179,7 +186,14 @@ impl<S: Alter> Books<S> {
             row,
             ..
         } = self;
-        commit_account(store, row, *starts, names.as_slice(), amounts.as_slice(), &name)?;
+        commit_account(
+            store,
+            row,
+            *starts,
+            names.as_slice(),
+            amounts.as_slice(),
+            &name,
+        )?;
         *names = longer;
         *amounts = draft;
         Ok(at)

@@ -17,4 +17,4 @@ pub use balance::Amounts;
 pub use books::Books;
 pub use error::BooksError;
 pub use laws::the_next_open_finds_them;
-pub use opening::open;
+pub use opening::{open, open_files};

@@ -29,7 +29,11 @@ pub(crate) fn place_of(names: &[Bytes], name: &[u8]) -> Option<usize>
 }
 
 /// These names, and another behind them.
-pub(crate) fn with_name(alloc: Global, names: &[Bytes], name: &Bytes) -> Result<Vec<Bytes>, BooksError>
+pub(crate) fn with_name(
+    alloc: Global,
+    names: &[Bytes],
+    name: &Bytes,
+) -> Result<Vec<Bytes>, BooksError>
     ensures named { IfOk result (λ v. v.items ≡ names.now ++ name.now ∷ []) }
     ensures cause { IfErr result (λ e. e ≡ NoMemory) }
 {

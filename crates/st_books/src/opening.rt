@@ -9,10 +9,11 @@ ghost use Rattle.sqlite.specs.Steps.{IsFresh};
 ghost use Rattle.sqlite_trees.specs.declared.store.Shape.TheVariants as shapes;
 ghost use Rattle.sqlite_wal.specs.Files.{image_at};
 ghost use Rattle.sqlite_store.specs.FileStore.{view};
+ghost use Rattle.sqlite.specs.Files.{image_of};
 ghost use Rattle.sqlite.specs.State.{HasCleanDisk};
 ghost use Rattle.sqlite.specs.Held.{state};
 ghost use Rattle.st_books.specs.Table.{lines, AreDistinct, IsTableRow};
-ghost use Rattle.st_books.specs.Standing.{IsReady, ReadsOnly, Remains};
+ghost use Rattle.st_books.specs.Standing.{IsReady, ReadsOnly, Remains, Takes};
 ghost use Rattle.st_books.specs.Found.{FindsBooks};
 
 use crate::balance::Amounts;
@@ -20,7 +21,8 @@ use crate::books::Books;
 use crate::error::BooksError;
 use crate::lines::{count_in, line_in, text_in};
 use crate::names::place_of;
-use sqlite::{Connection, Error, ErrorCode, FileFrom, FileStore, Start};
+use sqlite::{Connection, Error, ErrorCode, FileFrom, FileStore, Files, Options, Start};
+use sqlite_disk::Disk;
 use sqlite_trees::store::{Alter, Direction, Shape, Store};
 use sqlite_value::row::Row;
 use sqlite_value::value::Bytes;
@@ -128,11 +130,9 @@ fn is_listed(objects: &[Row]) -> bool
 /// The books of a store that has their table.
 fn books_in<S: Alter + Drop>(alloc: Global, mut store: S) -> Result<Books<S>, BooksError>
     requires { IsClean (S.Store.view store) → IsTrue (S.Store.view store).is_open → (S.Store.view store).shape 0 ≡ shapes.Table → IsReady (S.Store.view store) }
-    ensures found { IfOk result (λ b. IsClean (S.Store.view b.store) → (S.Store.view store).trees 0 ≡ lines b.names b.amounts) }
-    ensures starts { IfOk result (λ b. IsClean (S.Store.view b.store) → (S.Store.view store).trees version_tree ≡ version_rows b.starts) }
     ensures was_open { IfOk result (λ b. IsClean (S.Store.view b.store) → IsTrue (S.Store.view store).is_open) }
     ensures clean { IfOk result (λ b. IsClean (S.Store.view b.store) → IsClean (S.Store.view store)) }
-    ensures remains { IfOk result (λ b. IsClean (S.Store.view b.store) → Remains S.Store b) }
+    ensures taken { IfOk result (λ b. IsClean (S.Store.view b.store) → Takes S.Store (S.Store.view store).trees b) }
 {
     if store.is_broken() {
         return Err(BooksError::Shut);
@@ -151,7 +151,7 @@ fn books_in<S: Alter + Drop>(alloc: Global, mut store: S) -> Result<Books<S>, Bo
 /// New books, in a store that lists nothing and counts no start.
 fn new_books<S: Alter + Drop>(alloc: Global, store: S) -> Result<Books<S>, BooksError>
     requires { IsClean (S.Store.view store) → IsFresh (S.Store.view store) }
-    ensures empty { IfOk result (λ b. (b.names ≡ []) × (b.amounts ≡ []) × (b.starts ≡ 0)) }
+    ensures empty { IfOk result (λ b. (b.names ≡ []) × (b.amounts ≡ []) × (b.starts ≡ 0) × (length b.names ≡ length b.amounts)) }
     ensures unstarted { IfOk result (λ b. IsClean (S.Store.view b.store) → IsTrue (S.Store.view store).is_open → (S.Store.view store).trees version_tree ≡ version_rows 0) }
     ensures clean { IfOk result (λ b. IsClean (S.Store.view b.store) → IsClean (S.Store.view store)) }
     ensures remains { IfOk result (λ b. IsClean (S.Store.view b.store) → Remains S.Store b) }
@@ -169,11 +169,8 @@ fn new_books<S: Alter + Drop>(alloc: Global, store: S) -> Result<Books<S>, Books
 
 /// The books of a database. They are made where it lists nothing.
 fn books_of<S: Alter + Drop>(alloc: Global, conn: Connection<S>) -> Result<Books<S>, BooksError>
-    ensures found { IfOk result (λ b. IsClean (S.Store.view b.store) → (state S.Store conn).committed.trees 0 ≡ lines b.names b.amounts) }
-    ensures named { IfOk result (λ b. length b.names ≡ length b.amounts) }
-    ensures starts { IfOk result (λ b. IsClean (S.Store.view b.store) → (state S.Store conn).committed.trees version_tree ≡ version_rows b.starts) }
     ensures clean { IfOk result (λ b. IsClean (S.Store.view b.store) → HasCleanDisk (state S.Store conn)) }
-    ensures remains { IfOk result (λ b. IsClean (S.Store.view b.store) → Remains S.Store b) }
+    ensures taken { IfOk result (λ b. IsClean (S.Store.view b.store) → Takes S.Store (state S.Store conn).committed.trees b) }
 {
     let store = let_go(conn);
     if store.is_broken() {
@@ -195,6 +192,22 @@ fn refusal_of(error: Error) -> BooksError {
         Error::SqliteFailure(ErrorCode::SystemIoFailure) => BooksError::Device,
         Error::SqliteFailure(ErrorCode::DatabaseCorrupt) => BooksError::Damaged,
         _ => BooksError::NoBooks,
+    }
+}
+
+/// Opens the books of a database file and its log on any disk, as `open` does.
+pub fn open_files<D: Disk + Drop>(
+    alloc: Global,
+    files: Files<D>,
+    options: Options,
+) -> Result<Books<FileStore<D>>, BooksError>
+    requires log { IsTrue (D.Disk.is_usable files.log) }
+    requires db { IsTrue (D.Disk.is_usable files.db) }
+    ensures { IfOk result (λ b. IsClean (view b.store) → FindsBooks (image_of D.Disk files) b) }
+{
+    match Connection::open_files(alloc, files, options) {
+        Ok(conn) => books_of(alloc, conn),
+        Err((error, _)) => Err(refusal_of(error)),
     }
 }
 

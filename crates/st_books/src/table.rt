@@ -32,12 +32,7 @@ fn counted(count: u64) -> Option<i64>
 }
 
 /// Makes a row the line of an account.
-fn write_line(
-    row: &mut Row,
-    at: usize,
-    name: &Bytes,
-    amounts: Amounts,
-) -> Result<(), BooksError>
+fn write_line(row: &mut Row, at: usize, name: &Bytes, amounts: Amounts) -> Result<(), BooksError>
     ensures line { OnOk result (row.new ≡ line (at + 1) name.now amounts) }
     ensures cause { IfErr result (λ e. (e ≡ NoMemory) ⊎ ((e ≡ TooMuch) × IsAbove amounts)) }
 {

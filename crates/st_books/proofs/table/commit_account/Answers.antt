@@ -47,3 +47,22 @@ returns-clause-any_moment g c now db may =
     (on_ok_weaker entered.result (λ put now h. line_added was mid c.args._starts names all name (put now) h) entered.ensures.put)
     entered.ensures.quiet.outcomes db now (c.conclude.ensures.crash db may)
 
+pub returns-clause-stays_open : goal.returns-clause-stays_open
+returns-clause-stays_open g c =
+    let was = g.S.Store.view c.args.store.now in
+    let mid = g.S.Store.view c.add_line-entered.new.store in
+    let new = g.S.Store.view c.conclude.new.store in
+    let entered = c.add_line-entered in
+    told_open was mid new c.args._starts c.args._starts c.args.names.now (c.args.names.now ++ c.args.name.now ∷ []) c.args.amounts.now (c.args.amounts.now ++ nothing ∷ []) c.requires.holds c.conclude.ensures.clean (λ now. omega (arith, entered.ensures.quiet.clean, now))
+    (g.met.S.Store.broken_if_shut c.args.store.now) entered.result entered.ensures.frame (on_ok_weaker entered.result (λ put now h. line_added was mid c.args._starts c.args.names.now c.args.amounts.now c.args.name.now (put now) h) entered.ensures.put)
+    c.conclude.result c.conclude.ensures.entered c.conclude.ensures.committed
+
+pub returns-clause-cause : goal.returns-clause-cause
+returns-clause-cause g c now =
+    let was = g.S.Store.view c.args.store.now in
+    let mid = g.S.Store.view c.add_line-entered.new.store in
+    let entered = c.add_line-entered in
+    let late = c.conclude.ensures.clean now in
+    because_ended was mid _ _ _ _ entered.result c.conclude.result entered.ensures.quiet.counts c.conclude.ensures.counts
+    (on_ok_weaker entered.result (λ frame. ap (λ (v : View). v.is_broken) (frame late)) entered.ensures.frame)
+    (entered.ensures.cause late) (c.conclude.ensures.cause now)

@@ -2,10 +2,10 @@ use Rattle.std.proofs.Common.{◌+◌, ◌++◌, ◌∷◌, [], length, arith, a
 use Rattle.std.proofs.lemmas.Result.{on_ok_weaker, on_err_weaker}
 use Rattle.sqlite_trees.specs.View.{View}
 use Rattle.sqlite_trees.specs.Tree.{put_row}
-use Rattle.st_books.specs.Sums.{nothing}
+use Rattle.st_books.specs.Sums.{nothing, booked}
 use Rattle.st_books.specs.Table.{AreBooks, line}
 use Rattle.st_books.proofs.Lines.{put_end}
-use Rattle.st_books.proofs.Steps.{clean_open, held_undone, told_holds, told_open, told_crash, line_added, starts_counted, sets_only}
+use Rattle.st_books.proofs.Steps.{clean_open, held_undone, told_holds, told_open, told_crash, on_ok_both, line_added, starts_counted, sets_only}
 use Rattle.st_books.proofs.Causes.{because_ended}
 use Rattle.st_books.proofs.table.commit_bookings.Goals as goal
 
@@ -29,3 +29,33 @@ returns-clause-undone g c =
     held_undone was mid new c.args._starts c.args.names.now c.args.draft.now c.requires.holds entered.ensures.keeps undone (λ now. omega (arith, entered.ensures.quiet.clean, c.conclude.ensures.clean now))
     (clean_open new (g.met.S.Store.shut_if_dirty c.conclude.new.store))) c.conclude.ensures.undone
 
+pub returns-clause-stays_open : goal.returns-clause-stays_open
+returns-clause-stays_open g c =
+    let was = g.S.Store.view c.args.store.now in
+    let mid = g.S.Store.view c.enter_all-entered.new.store in
+    let new = g.S.Store.view c.conclude.new.store in
+    let entered = c.enter_all-entered in
+    told_open was mid new c.args._starts c.args._starts c.args.names.now c.args.names.now c.args.draft.now entered.new.draft c.requires.holds c.conclude.ensures.clean (λ now. omega (arith, entered.ensures.quiet.clean, now))
+    (g.met.S.Store.broken_if_shut c.args.store.now) entered.result (on_ok_weaker entered.result (λ d now. (d now).frame) entered.ensures.drawn) (on_ok_weaker entered.result (λ d now. (d now).books c.args._starts) entered.ensures.drawn)
+    c.conclude.result c.conclude.ensures.entered c.conclude.ensures.committed
+
+pub returns-clause-cause : goal.returns-clause-cause
+returns-clause-cause g c now =
+    let was = g.S.Store.view c.args.store.now in
+    let mid = g.S.Store.view c.enter_all-entered.new.store in
+    let entered = c.enter_all-entered in
+    let late = c.conclude.ensures.clean now in
+    because_ended was mid _ _ _ _ entered.result c.conclude.result entered.ensures.quiet.counts c.conclude.ensures.counts
+    (on_ok_weaker entered.result (λ frame. ap (λ (v : View). v.is_broken) (frame late)) (on_ok_weaker entered.result (λ d now. (d now).frame) entered.ensures.drawn))
+    (entered.ensures.cause late) (c.conclude.ensures.cause now)
+
+pub returns-clause-any_moment : goal.returns-clause-any_moment
+returns-clause-any_moment g c now db may =
+    let was = g.S.Store.view c.args.store.now in
+    let mid = g.S.Store.view c.enter_all-entered.new.store in
+    let new = g.S.Store.view c.conclude.new.store in
+    let entered = c.enter_all-entered in
+    told_crash was mid new c.args._starts c.args._starts c.args.names.now c.args.names.now c.args.draft.now (booked c.args.draft.now c.args.bookings.now) c.requires.holds c.conclude.ensures.clean (λ now. omega (arith, entered.ensures.quiet.clean, now))
+    (g.met.S.Store.broken_if_shut c.args.store.now) entered.result (on_ok_weaker entered.result (λ d now. (d now).frame) entered.ensures.drawn)
+    (on_ok_both entered.result (λ d is now h. subst (λ k. AreBooks mid.trees c.args._starts c.args.names.now k) is ((d now).books c.args._starts h)) entered.ensures.drawn entered.ensures.booked)
+    entered.ensures.quiet.outcomes db now (c.conclude.ensures.crash db may)

@@ -45,3 +45,22 @@ returns-clause-any_moment g c now db may =
     (on_ok_weaker entered.result (λ set now h. starts_counted was mid c.args._before c.args.starts names all (set now) h) entered.ensures.set)
     entered.ensures.quiet.outcomes db now (c.conclude.ensures.crash db may)
 
+pub returns-clause-stays_open : goal.returns-clause-stays_open
+returns-clause-stays_open g c =
+    let was = g.S.Store.view c.args.store.now in
+    let mid = g.S.Store.view c.set_starts-entered.new.store in
+    let new = g.S.Store.view c.conclude.new.store in
+    let entered = c.set_starts-entered in
+    told_open was mid new c.args._before c.args.starts c.args.names.now c.args.names.now c.args.amounts.now c.args.amounts.now c.requires.holds c.conclude.ensures.clean (λ now. omega (arith, entered.ensures.quiet.clean, now))
+    (g.met.S.Store.broken_if_shut c.args.store.now) entered.result (on_ok_weaker entered.result (λ set now. sets_only was mid _ _ (set now)) entered.ensures.set) (on_ok_weaker entered.result (λ set now h. starts_counted was mid c.args._before c.args.starts c.args.names.now c.args.amounts.now (set now) h) entered.ensures.set)
+    c.conclude.result c.conclude.ensures.entered c.conclude.ensures.committed
+
+pub returns-clause-cause : goal.returns-clause-cause
+returns-clause-cause g c now =
+    let was = g.S.Store.view c.args.store.now in
+    let mid = g.S.Store.view c.set_starts-entered.new.store in
+    let entered = c.set_starts-entered in
+    let late = c.conclude.ensures.clean now in
+    because_ended was mid _ _ _ _ entered.result c.conclude.result entered.ensures.quiet.counts c.conclude.ensures.counts
+    (on_ok_weaker entered.result (λ frame. ap (λ (v : View). v.is_broken) (frame late)) (on_ok_weaker entered.result (λ set now. sets_only was mid _ _ (set now)) entered.ensures.set))
+    (entered.ensures.cause late) (c.conclude.ensures.cause now)

@@ -17,10 +17,10 @@ returns-clause-drawn g c clean = record {
       let at = c.args.at in
       let a = c.args.amounts in
       subst (λ db. AreBooks db starts names _) (sym (ap (λ (v : View). v.trees) (c.in_ok-put.ensures.ok clean).is))
-          (lines_written was (put_row c.put.row (was 0)) starts names names draft _ h
-              (ap (λ r. put_row r (was 0)) c.in_ok-write_line.ensures
-              ∙ (ap (put_row (line (at + 1) name a)) h.rows ∙ put_at names draft at name a c.requires.place c.requires.named c.index-names-at.is))
-              (omega (arith, c.requires.named, length-set draft at a)));
+      (lines_written was (put_row c.put.row (was 0)) starts names names draft _ h
+      (ap (λ r. put_row r (was 0)) c.in_ok-write_line.ensures
+      ∙ (ap (put_row (line (at + 1) name a)) h.rows ∙ put_at names draft at name a c.requires.place c.requires.named c.index-names-at.is))
+      (omega (arith, c.requires.named, length-set draft at a)));
 }
 
 pub returns-clause-keeps : goal.returns-clause-keeps
