@@ -1,5 +1,5 @@
-mod Lines
-mod Names
+mod LineLemmas
+mod Distinct
 mod Steps
 mod Causes
 mod Calls

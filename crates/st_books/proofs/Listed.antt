@@ -7,7 +7,7 @@ use Rattle.sqlite_trees.specs.declared.store.Shape.TheVariants.{Table}
 use Rattle.sqlite_trees.specs.Objects.{number_in, shape_code, row_for, IsListed}
 use Rattle.sqlite_trees.specs.Sound.{is_sound_list}
 use Rattle.st_books.specs.Table.{IsTableRow, ListsTable}
-use Rattle.st_books.proofs.Lines.{same_id}
+use Rattle.st_books.proofs.LineLemmas.{same_id}
 
 only_one : (catalog : List Row) (row : Row) → map (take 5) catalog ≡ row ∷ [] → (r : Row) × (catalog ≡ r ∷ []) × (take 5 r ≡ row)
 only_one [] row e = absurd (let k = e in cc)

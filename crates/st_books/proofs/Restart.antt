@@ -14,7 +14,7 @@ use Rattle.st_books.specs.Table.{AreBooks, lines}
 use Rattle.st_books.specs.Standing.{Kept}
 use Rattle.st_books.specs.Commits.{Sums, sums_of, AreSums}
 use Rattle.st_books.specs.Found.{FindsBooks, NextFinds}
-use Rattle.st_books.proofs.Lines.{lines_apart}
+use Rattle.st_books.proofs.LineLemmas.{lines_apart}
 use Rattle.st_books.proofs.Sound.{books_schema, sound}
 
 same_starts : (m n : ℕ) → version_rows m ≡ version_rows n → m ≡ n

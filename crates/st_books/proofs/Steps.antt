@@ -7,13 +7,13 @@ use Rattle.sqlite_trees.specs.Sound.{is_sound_list}
 use Rattle.sqlite_value.specs.Order.{Row}
 use Rattle.sqlite_trees.specs.declared.store.Shape.{Shape}
 use Rattle.sqlite_trees.specs.declared.store.Shape.TheVariants.{Table, Absent}
-use Rattle.sqlite_trees.specs.View.{View, KeepsSchema, OnlyWrites, IsClean, IsRolledBack, IsShaped, SetsTree, Commits}
+use Rattle.sqlite_trees.specs.View.{View, KeepsSchema, KeepsCommitted, OnlyWrites, IsClean, IsRolledBack, IsShaped, SetsTree, Commits}
 use Rattle.sqlite.specs.Steps.{IsFresh}
 use Rattle.sqlite_trees.proofs.Doubt.{no_doubt}
 use Rattle.st_books.specs.declared.balance.Amounts.{Amounts}
 use Rattle.st_books.specs.Sums.{nothing}
 use Rattle.st_books.specs.Table.{AreBooks, ListsTable, line, lines}
-use Rattle.st_books.proofs.Lines.{put_end}
+use Rattle.st_books.proofs.LineLemmas.{put_end}
 use Rattle.st_books.specs.Standing.{Draws, Keeps, Holds, IsReady, ReadsOnly}
 
 pub only_writes_then : (a b c : View) → OnlyWrites a b → OnlyWrites b c → OnlyWrites a c
@@ -59,6 +59,26 @@ keeps_written old new schema frame clean = record {
   committed = λ h. ap (λ (v : View). v.committed) (frame (clean h));
 }
 
+pub keeps_framed : (old new : View) → OnlyWrites old new → Keeps old new
+keeps_framed old new frame = record {
+  schema = record {
+    shape = ap (λ (v : View). v.shape) frame;
+    reals = ap (λ (v : View). v.reals) frame;
+    committed_shape = ap (λ (v : View). v.committed_shape) frame;
+    committed_reals = ap (λ (v : View). v.committed_reals) frame;
+    numbered = ap (λ (v : View). v.is_numbered) frame;
+  };
+  was_open = λ h. sym (ap (λ (v : View). v.is_open) frame) ∙ h;
+  committed = λ _. ap (λ (v : View). v.committed) frame;
+}
+
+pub keeps_failed : (old new : View) → KeepsCommitted old new → Keeps old new
+keeps_failed old new kept = record {
+  schema = record { shape = kept.shape; reals = kept.reals; committed_shape = kept.committed_shape; committed_reals = kept.committed_reals; numbered = kept.numbered };
+  was_open = kept.was_open;
+  committed = kept.committed;
+}
+
 -- ---- how a transaction ends
 
 -- clean where it is open
@@ -76,11 +96,12 @@ open_sound v broken sound = elim (cases_Bool v.is_open) [
 ]
 
 -- what stood before a transaction stands after its rollback
-pub held_undone : (was mid new : View) (starts : ℕ) (names : List (List ℕ)) (all : List Amounts) → Holds was starts names all → Keeps was mid → IsRolledBack mid new → (IsClean new → IsClean was)
+pub held_undone : (was mid new : View) (starts : ℕ) (names : List (List ℕ)) (all : List Amounts) → Holds was starts names all → (IsClean mid → Keeps was mid) → IsRolledBack mid new → (IsClean new → IsClean mid) → (IsClean mid → IsClean was)
     → (IsTrue new.is_open → IsClean new) → Holds new starts names all
-held_undone was mid new starts names all held keeps undone before clean = (
+held_undone was mid new starts names all held kept undone late early clean = (
   λ now.
-      let laid = held.0 (before now) in
+      let keeps = kept (late now) in
+      let laid = held.0 (early (late now)) in
       let level : mid.shape ≡ mid.committed_shape = keeps.schema.shape ∙ (laid.kept ∙ sym keeps.schema.committed_shape) in
       let shape : new.shape ≡ was.shape = undone.shape level ∙ keeps.schema.shape in
       record {
@@ -89,6 +110,7 @@ held_undone was mid new starts names all held keeps undone before clean = (
         numbered = undone.numbered ∙ (keeps.schema.numbered ∙ laid.numbered);
       },
   λ is_open.
+      let keeps = kept (late (clean is_open)) in
       let back = undone.kept (clean is_open) in
       let mid_open = back.was_open is_open in
       let stood = held.1 (keeps.was_open mid_open) in
@@ -224,7 +246,7 @@ pub lines_written : (db : Trees) (rows : List Row) (starts : ℕ) (names longer 
 lines_written db rows starts names longer before after h is named = record {
   rows = same_tree db 0 rows ∙ is;
   named = named;
-  starts = other_tree db 0 rows version_tree (omega arith) ∙ h.starts;
+  counted = other_tree db 0 rows version_tree (omega arith) ∙ h.counted;
   objects = subst ListsTable (sym (other_tree db 0 rows catalog_tree (omega arith))) h.objects;
 }
 
@@ -233,7 +255,7 @@ pub starts_written : (db : Trees) (starts later : ℕ) (names : List (List ℕ))
 starts_written db starts later names all h = record {
   rows = other_tree db version_tree (version_rows later) 0 (omega arith) ∙ h.rows;
   named = h.named;
-  starts = same_tree db version_tree (version_rows later);
+  counted = same_tree db version_tree (version_rows later);
   objects = subst ListsTable (sym (other_tree db version_tree (version_rows later) catalog_tree (omega arith))) h.objects;
 }
 

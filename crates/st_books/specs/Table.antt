@@ -50,5 +50,5 @@ pub record ListsTable (objects : List Row) : Type 0 where
 pub record AreBooks (db : Trees) (starts : ℕ) (names : List (List ℕ)) (all : List Amounts) : Type 0 where
   pub rows : db 0 ≡ lines names all
   pub named : length names ≡ length all
-  pub starts : db version_tree ≡ version_rows starts
+  pub counted : db version_tree ≡ version_rows starts
   pub objects : ListsTable (db catalog_tree)

@@ -237,7 +237,7 @@ pub(crate) fn commit_account<S: Alter>(
 /// Sets the count of starts.
 fn set_starts<S: Alter>(store: &mut S, starts: u32) -> Result<(), BooksError>
     ensures set { OnOk result (IsClean (S.Store.view store.new) → SetsTree (S.Store.view store.old) (S.Store.view store.new) version_tree (λ _. version_rows starts)) }
-    ensures keeps { Keeps (S.Store.view store.old) (S.Store.view store.new) }
+    ensures keeps { IsClean (S.Store.view store.new) → Keeps (S.Store.view store.old) (S.Store.view store.new) }
     ensures quiet { IsQuiet S.Store.view S.Store.faults S.Store.recovers S.Store.is_shielded store.old store.new }
     ensures cause { IsClean (S.Store.view store.new) → IfErr result (Because (S.Store.view store.old) (MoreFaults (S.Store.faults store.old) (S.Store.faults store.new)) no_excuse) }
 {

@@ -1,12 +1,12 @@
 use Rattle.std.proofs.Common.{◌+◌, ◌++◌, ◌∷◌, [], length, arith, ap, subst, sym, ◌∙◌, length-append}
 use Rattle.std.proofs.lemmas.Result.{on_ok_weaker, on_err_weaker}
-use Rattle.sqlite_trees.specs.View.{View}
+use Rattle.sqlite_trees.specs.View.{View, IsClean, OnlyWrites}
 use Rattle.sqlite_trees.specs.Tree.{put_row}
 use Rattle.st_books.specs.Sums.{nothing}
 use Rattle.st_books.specs.Table.{AreBooks, line}
-use Rattle.st_books.proofs.Lines.{put_end}
+use Rattle.st_books.proofs.LineLemmas.{put_end}
 use Rattle.st_books.proofs.Steps.{clean_open, held_undone, told_holds, told_open, told_crash, line_added, starts_counted, sets_only}
-use Rattle.st_books.proofs.Causes.{because_ended}
+use Rattle.st_books.proofs.Causes.{because_ended, same_excuses}
 use Rattle.st_books.proofs.table.commit_starts.Goals as goal
 
 pub returns-clause-holds : goal.returns-clause-holds
@@ -29,7 +29,7 @@ returns-clause-undone g c =
     let new = g.S.Store.view c.conclude.new.store in
     let entered = c.set_starts-entered in
     on_err_weaker c.conclude.result (λ undone.
-    held_undone was mid new c.args._before c.args.names.now c.args.amounts.now c.requires.holds entered.ensures.keeps undone (λ now. omega (arith, entered.ensures.quiet.clean, c.conclude.ensures.clean now))
+    held_undone was mid new c.args._before c.args.names.now c.args.amounts.now c.requires.holds entered.ensures.keeps undone c.conclude.ensures.clean (λ now. omega (arith, entered.ensures.quiet.clean, now))
     (clean_open new (g.met.S.Store.shut_if_dirty c.conclude.new.store))) c.conclude.ensures.undone
 
 pub returns-clause-any_moment : goal.returns-clause-any_moment
@@ -61,6 +61,6 @@ returns-clause-cause g c now =
     let mid = g.S.Store.view c.set_starts-entered.new.store in
     let entered = c.set_starts-entered in
     let late = c.conclude.ensures.clean now in
-    because_ended was mid _ _ _ _ entered.result c.conclude.result entered.ensures.quiet.counts c.conclude.ensures.counts
-    (on_ok_weaker entered.result (λ frame. ap (λ (v : View). v.is_broken) (frame late)) (on_ok_weaker entered.result (λ set now. sets_only was mid _ _ (set now)) entered.ensures.set))
+    because_ended was mid _ _ _ _ _ entered.result c.conclude.result entered.ensures.quiet.counts c.conclude.ensures.counts (same_excuses _)
+    (on_ok_weaker entered.result (λ (frame : IsClean mid → OnlyWrites was mid). ap (λ (v : View). v.is_broken) (frame late)) (on_ok_weaker entered.result (λ set now. sets_only was mid _ _ (set now)) entered.ensures.set))
     (entered.ensures.cause late) (c.conclude.ensures.cause now)
