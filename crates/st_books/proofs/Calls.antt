@@ -13,9 +13,9 @@ module _ {S : Type 0} (g : Ghosts S) (settled : (s : S) (db : Trees) → IsTrue 
 
   pub makes : (old new : Kept S) (after : Sums) → sums_of new ≡ after → Holds (g.view new.store) new.starts new.names new.amounts → (IsClean (g.view new.store) → IsTrue (g.view new.store).is_open)
       → BeforeOrAfter g old after new → Makes g old after new
-  makes old new after made held open moment = record {
+  makes old new after made held opened moment = record {
     made = made;
-    durable = λ clean. open_leaves new.store (sums_of new) held (open clean);
+    durable = λ clean. open_leaves new.store (sums_of new) held (opened clean);
     any_moment = moment;
   }
 

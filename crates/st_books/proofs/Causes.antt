@@ -80,12 +80,12 @@ pub because_entered : (was mid : View) (a b c : ℕ) (names : List (List ℕ)) (
     → Because mid (MoreFaults b c) (excuses (IsOfNoAccount draft booking) (Overflows draft booking) ⊥ (HasBadName mid names)) e → Because was (MoreFaults a c) (booking_excuses was names all bookings) e
 because_entered was mid a b c names all draft bookings i booking e early sound reals is here h =
     because_later was mid (MoreFaults b c) (MoreFaults a c) (excuses (IsOfNoAccount draft booking) (Overflows draft booking) ⊥ (HasBadName mid names)) (booking_excuses was names all bookings) e
-        (λ broken. sym sound ∙ broken) (fault_since a b c early) (record {
-          no_account = λ x. (i, booking, here, subst (λ d. IsOfNoAccount d booking) is x);
-          too_much = λ x. (i, booking, here, subst (λ d. Overflows d booking) is x);
-          taken = λ x. x;
-          bad_name = bad_name_since was mid names reals;
-        }) h
+    (λ broken. sym sound ∙ broken) (fault_since a b c early) (record {
+      no_account = λ x. (i, booking, here, subst (λ d. IsOfNoAccount d booking) is x);
+      too_much = λ x. (i, booking, here, subst (λ d. Overflows d booking) is x);
+      taken = λ x. x;
+      bad_name = bad_name_since was mid names reals;
+    }) h
 
 pub none_excused : (x : Excuses) → Widens no_excuse x
 none_excused x = record { no_account = λ h. absurd h; too_much = λ h. absurd h; taken = λ h. absurd h; bad_name = λ h. absurd h }

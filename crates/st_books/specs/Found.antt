@@ -1,6 +1,6 @@
 -- What an open of books finds.
 use Rattle.std.specs.Prelude.{◌≡◌, ◌⊎◌, IsTrue}
-use Rattle.sqlite_disk.specs.Disk.{Ghosts}
+use Rattle.sqlite_disk.specs.declared.Disk.{Ghosts}
 use Rattle.sqlite_wal.specs.Recovery.{Image}
 use Rattle.sqlite_trees.specs.Tree.{Trees}
 use Rattle.sqlite_store.specs.declared.store.FileStore.{FileStore}

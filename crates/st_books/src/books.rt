@@ -1,6 +1,6 @@
 //! Books that are open.
 
-ghost use Rattle.std.specs.Prelude.{◌≡◌, ◌≢◌, ◌+◌, None, length, slice_get, IfOk, IfErr, IfSome, OnOk, OnErr};
+ghost use Rattle.std.specs.Prelude.{◌≡◌, ◌≢◌, ◌+◌, ◌≤◌, None, length, slice_get, IfOk, IfErr, IfSome, OnOk, OnErr};
 ghost use Rattle.std.specs.List.{AllByRecursion};
 ghost use Rattle.st_books.specs.Errors.{number};
 ghost use Rattle.st_books.specs.Table.{AreDistinct};
@@ -171,8 +171,9 @@ impl<S: Alter> Books<S> {
         ensures cause { IfErr result (IsBecause S.Store self.old self.new (name_excuses (S.Store.view self.old.store) self.old.names name.now)) }
     {
         let at = self.names.len();
-        if place_of(self.names.as_slice(), name.as_bytes()).is_some() {
-            return Err(BooksError::NameTaken);
+        match place_of(self.names.as_slice(), name.as_bytes()) {
+            Some(_) => return Err(BooksError::NameTaken),
+            None => {}
         }
         let name = Bytes::from_slice(self.alloc, name.as_bytes())?;
         let longer = with_name(self.alloc, self.names.as_slice(), &name)?;

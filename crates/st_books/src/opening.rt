@@ -61,8 +61,9 @@ fn read_lines<S: Alter>(alloc: Global, store: &mut S, row: &mut Row) -> Result<L
         let Some((name, found)) = line_in(row, names.len()) else {
             return Err(BooksError::NoBooks);
         };
-        if place_of(names.as_slice(), name).is_some() {
-            return Err(BooksError::NoBooks);
+        match place_of(names.as_slice(), name) {
+            Some(_) => return Err(BooksError::NoBooks),
+            None => {}
         }
         names.push(Bytes::from_slice(alloc, name)?)?;
         amounts.push(found)?;
@@ -138,8 +139,11 @@ fn books_in<S: Alter + Drop>(alloc: Global, mut store: S) -> Result<Books<S>, Bo
         return Err(BooksError::Shut);
     }
     let objects = store.objects(alloc)?;
+    if store.reals(0) != 0 || !is_listed(&objects) {
+        return Err(BooksError::NoBooks);
+    }
     match store.shape(0) {
-        Shape::Table if store.reals(0) == 0 && is_listed(&objects) => {}
+        Shape::Table => {}
         _ => return Err(BooksError::NoBooks),
     }
     let starts = store.version();

@@ -15,6 +15,6 @@ over-requires-clause-holds g c =
     ready_holds new _ _ _ ready (clean_open new (g.met.S.Store.shut_if_dirty c.read_lines.new.store)) (λ now. record {
       rows = ap (λ (v : View). v.trees 0) (told.same now) ∙ told.found now;
       named = told.named;
-      starts = ap (λ (v : View). v.trees _) (told.same now) ∙ c.version.ensures (early now) _;
-      objects = _;
+      counted = ?;
+      objects = ?;
     })

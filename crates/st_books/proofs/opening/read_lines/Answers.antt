@@ -1,5 +1,6 @@
 use Rattle.std.proofs.lemmas.Option.{same_Some}
-use Rattle.std.proofs.Common.{◌≡◌, ◌+◌, ◌∷◌, [], length, length-append, rules, arith, refl, sym, ap, ◌∙◌}
+use Rattle.std.specs.List.{AllByRecursion}
+use Rattle.std.proofs.Common.{◌≡◌, ◌≢◌, subst, ◌+◌, ◌∷◌, [], length, length-append, rules, arith, refl, sym, ap, ◌∙◌}
 use Rattle.sqlite_trees.specs.View.{View}
 use Rattle.st_books.specs.Table.{line, AreDistinct}
 use Rattle.st_books.proofs.LineLemmas.{from_no_key, read_more}
@@ -36,5 +37,5 @@ rows-preserved g c = (
   search rules,
   rw (c.in_ok-push.ensures.items, c.in_ok-push-2.ensures.items)
       (omega (arith, length-append c.rows.names.items (c.in_ok-from_slice.field-0 ∷ []), length-append c.rows.amounts.items (c.in-Some.found ∷ []), c.rows.invariant.4)),
-  rw (c.in_ok-push.ensures.items) (distinct_push c.rows.names.items c.in_ok-from_slice.field-0 c.rows.invariant.5 (search rules)),
+  rw (c.in_ok-push.ensures.items) (distinct_push c.rows.names.items c.in_ok-from_slice.field-0 c.rows.invariant.5 (subst (λ n. AllByRecursion (λ other. other ≢ n) c.rows.names.items) (sym c.in_ok-from_slice.ensures) (rw (c.as_slice.ensures.value) at (c.place_of.ensures.missing c.in-None.is)))),
 )

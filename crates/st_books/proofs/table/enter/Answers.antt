@@ -8,4 +8,4 @@ returns-clause-drawn g c clean =
     let mid = g.S.Store.view c.set_line.new.store in
     let early : IsClean mid = omega (arith, c.set_line-2.ensures.quiet.clean, clean) in
     draws_then (g.S.Store.view c.args.store.now) mid (g.S.Store.view c.set_line-2.new.store) c.args.names.now c.args.draft.now c.set_line.new.draft c.set_line-2.new.draft
-        (c.in_ok-set_line.ensures.drawn early) (c.in_ok-set_line-2.ensures.drawn clean)
+    (c.in_ok-set_line.ensures.drawn early) (c.in_ok-set_line-2.ensures.drawn clean)

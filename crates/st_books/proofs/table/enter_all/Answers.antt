@@ -18,9 +18,9 @@ returns-in_err-enter-clause-cause g c clean =
     let booking = get_or bookings i none in
     let early : IsClean mid = omega (arith, c.enter.ensures.quiet.clean, clean) in
     err_told _ c.from_residual.result e c.from_residual.ensures.1
-        (because_entered was mid (g.S.Store.faults c.args.store.now) (g.S.Store.faults c.loop-booking.store) (g.S.Store.faults c.enter.new.store) c.args.names.now c.args.draft.now c.loop-booking.draft bookings i booking e
-            c.loop-booking.invariant.3.counts (ap (λ (v : View). v.is_broken) (c.loop-booking.invariant.1 early).frame) c.loop-booking.invariant.2.schema.reals c.loop-booking.invariant.0
-            (get_at bookings i none c.loop-booking-test.true) (c.in_err-enter.ensures.cause clean))
+    (because_entered was mid (g.S.Store.faults c.args.store.now) (g.S.Store.faults c.loop-booking.store) (g.S.Store.faults c.enter.new.store) c.args.names.now c.args.draft.now c.loop-booking.draft bookings i booking e
+    c.loop-booking.invariant.3.counts (ap (λ (v : View). v.is_broken) (c.loop-booking.invariant.1 early).frame) c.loop-booking.invariant.2.schema.reals c.loop-booking.invariant.0
+    (get_at bookings i none c.loop-booking-test.true) (c.in_err-enter.ensures.cause clean))
 
 pub loop-booking-preserved : goal.loop-booking-preserved
 loop-booking-preserved g c =

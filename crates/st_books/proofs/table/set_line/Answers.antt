@@ -34,6 +34,6 @@ returns-in_err-put-clause-cause g c clean =
     let e = c.in_err-put.field-0.0 in
     let row = c.write_line.new.row in
     err_told _ c.from_residual-in_err-put.result (told e) c.from_residual-in_err-put.ensures.1
-        (because_stored was _ (¬ IsStorableRow (was.reals 0) row) _ e
-            (bad_line was c.args.names.now c.args.at c.index-names-at.result c.args.amounts row (omega (arith, c.requires.place, c.requires.named)) c.index-names-at.is c.in_ok-write_line.ensures.line)
-            (c.in_err-put.ensures.cause clean))
+    (because_stored was _ (¬ IsStorableRow (was.reals 0) row) _ e
+    (bad_line was c.args.names.now c.args.at c.index-names-at.result c.args.amounts row (omega (arith, c.requires.place, c.requires.named)) c.index-names-at.is c.in_ok-write_line.ensures.line)
+    (c.in_err-put.ensures.cause clean))
