@@ -24,7 +24,7 @@ same_starts m n e = cc
 only_sums : (db : Trees) (a b : Sums) → AreSums db a → length b.names ≡ length b.amounts → db 0 ≡ lines b.names b.amounts → db version_tree ≡ version_rows b.starts → b ≡ a
 only_sums db a b is named rows starts =
     let both = lines_apart 1 b.names a.names b.amounts a.amounts named is.named (sym rows ∙ is.rows) in
-    let first = same_starts b.starts a.starts (sym starts ∙ is.starts) in
+    let first = same_starts b.starts a.starts (sym starts ∙ is.counted) in
     λ i. record { starts = first i; names = both.0 i; amounts = both.1 i }
 
 pub next_finds : {D : Type 0} {g : Ghosts D} {E : Type 0} {h : Ghosts E} → NextFinds g h

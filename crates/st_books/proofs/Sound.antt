@@ -101,7 +101,7 @@ lists objects all =
       sql_is = all.is.text;
       defined = (account, defined, refl);
       formed = refl;
-      utf8 = (codes "account", refl, refl);
+      utf8 = (codes "account", (refl, refl));
     } in
     record {
       listed = record {

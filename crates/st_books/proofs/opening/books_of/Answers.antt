@@ -26,6 +26,3 @@ returns-in-Absent-clause-taken g c =
       starts = u now is_open ∙ ap version_rows (sym e.2);
       remains = r now;
     })) c.new_books.ensures.empty c.new_books.ensures.unstarted c.new_books.ensures.remains) c.new_books.ensures.clean
-
-pub returns-otherwise-clause-taken : goal.returns-otherwise-clause-taken
-returns-otherwise-clause-taken g c = _

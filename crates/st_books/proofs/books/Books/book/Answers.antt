@@ -1,4 +1,6 @@
 use Rattle.std.proofs.Common.{◌≡◌, ◌⊎◌, ◌+◌, ◌++◌, ◌∷◌, [], length, length-append, refl, arith, ap, sym, subst, ◌∙◌}
+use Rattle.std.specs.Vec.{with_items}
+use Rattle.std.proofs.lemmas.List.{with_items_is}
 use Rattle.sqlite_disk.specs.Disk.{MoreFaults}
 use Rattle.sqlite_trees.specs.View.{IsClean}
 use Rattle.st_books.specs.Sums.{nothing, booked}
@@ -32,11 +34,14 @@ returns-in_err-commit_bookings-clause-cause g c =
 pub returns-clause-committed : goal.returns-clause-committed
 returns-clause-committed g c =
     let old : Kept g.row.S.Denot = record { store = c.self.inside.store; starts = c.self.inside.starts; names = c.self.inside.names.items; amounts = c.self.inside.amounts.items } in
-    let new : Kept g.row.S.Denot = record { store = c.commit_bookings.new.store; starts = c.self.inside.starts; names = c.self.inside.names.items; amounts = c.commit_bookings.new.draft } in
+    let draft = c.in_ok-draft.draft in
+    let drafted = c.commit_bookings.new.draft in
+    let same : (with_items draft drafted).items ≡ drafted = with_items_is draft drafted (omega (arith, c.commit_bookings.auto.draft, c.as_mut_slice.ensures.len)) in
+    let new : Kept g.row.S.Denot = record { store = c.commit_bookings.new.store; starts = c.self.inside.starts; names = c.self.inside.names.items; amounts = (with_items draft drafted).items } in
     let told = c.in_ok-commit_bookings.ensures in
     let bookings = c.args.bookings.now in
-    let all : new.amounts ≡ booked old.amounts bookings = rw (c.as_slice-2.ensures.value, c.as_mut_slice.ensures.value, c.in_ok-draft.ensures.items, c.as_slice.ensures.value) at told.booked in
-    let held : Holds (g.S.Store.view new.store) new.starts new.names new.amounts = rw (c.as_slice-2.ensures.value) at told.holds in
+    let all : new.amounts ≡ booked old.amounts bookings = same ∙ (rw (c.as_mut_slice.ensures.value, c.in_ok-draft.ensures.items, c.as_slice.ensures.value) at told.booked) in
+    let held : Holds (g.S.Store.view new.store) new.starts new.names new.amounts = subst (λ a. Holds (g.S.Store.view new.store) new.starts new.names a) (sym same) (rw (c.as_slice-2.ensures.value) at told.holds) in
     let moment : BeforeOrAfter g.S.Store old (after_bookings old bookings) new = λ clean db may. rw (c.as_slice-2.ensures.value, c.as_mut_slice.ensures.value, c.in_ok-draft.ensures.items, c.as_slice.ensures.value) at (told.any_moment clean db may) in
     subst (λ (k : Kept g.row.S.Denot). Makes g.S.Store k (after_bookings k bookings) new) c.self.view_is
     (makes g.S.Store g.met.S.Store.settled old new (after_bookings old bookings) (λ i. record { starts = old.starts; names = old.names; amounts = all i }) held told.stays_open moment)
