@@ -1,6 +1,7 @@
 -- Books are a database that obeys its schema, so that the next open takes them.
-use Rattle.std.proofs.Common.{◌≡◌, ◌⊎◌, inl, inr, ℕ, suc, ◌+◌, ◌^◌, ◌<◌, pos, Bool, true, false, not, ◌&&◌, ◌||◌, List, [], ◌∷◌, filter, codes, Ok, Some, IsUtf8, refl, sym, ap, subst, ◌∙◌, arith}
+use Rattle.std.proofs.Common.{◌≡◌, ◌⊎◌, inl, inr, ℕ, zero, suc, slice_index, ◌+◌, ◌^◌, ◌<◌, pos, Bool, true, false, not, ◌&&◌, ◌||◌, List, [], ◌∷◌, filter, codes, Ok, Some, IsUtf8, refl, sym, ap, subst, ◌∙◌, arith}
 use Rattle.std.specs.List.{AllByRecursion, AllZip}
+use Rattle.std.proofs.lemmas.Str.{IsUtf8-from_ascii}
 use Rattle.sqlite_value.specs.declared.value.Value.TheVariants.{Null, Int, Text as Words}
 use Rattle.sqlite_value.specs.declared.keys.Collation.TheVariants.{Binary}
 use Rattle.sqlite_value.specs.Order.{Row, column, value_cmp}
@@ -82,6 +83,11 @@ module _ (row : Row) (kind : column row 1 ≡ Words (codes "table")) (code : num
   no_index : is_index_row row ≡ false
   no_index = rw (a_table) refl
 
+ascii : (bs : List ℕ) → AllByRecursion (λ b. b < 128) bs → (i : ℕ) → slice_index bs i < 128
+ascii [] all i = omega arith
+ascii (b ∷ bs) all zero = all.0
+ascii (b ∷ bs) all (suc i) = ascii bs all.1 i
+
 pub lists : (objects : List Row) → ListsTable objects → Lists objects books_schema
 lists objects all =
     let row = all.row in
@@ -101,7 +107,7 @@ lists objects all =
       sql_is = all.is.text;
       defined = (account, defined, refl);
       formed = refl;
-      utf8 = (codes "account", (refl, refl));
+      utf8 = IsUtf8-from_ascii (codes "account") (ascii (codes "account") (omega arith, (omega arith, (omega arith, (omega arith, (omega arith, (omega arith, (omega arith, tt))))))));
     } in
     record {
       listed = record {
