@@ -1,0 +1,100 @@
+-- Why a call of several steps refuses.
+use Rattle.std.proofs.Common.{Result, Ok, Err, IfErr, IsErrAnd, IsOk, OnOk, ◌≡◌, ◌⊎◌, inl, inr, ℕ, zero, suc, ◌+◌, ◌-◌, ◌^◌, ◌<◌, ◌≤◌, min, List, [], ◌∷◌, length, take, get_or, slice_get, Some, IsTrue, refl, sym, ap, subst, ◌∙◌, arith}
+use Rattle.sqlite_disk.specs.Disk.{MoreFaults}
+use Rattle.sqlite_value.specs.Order.{Row}
+use Rattle.sqlite_trees.specs.View.{View, IsClean, HasCause, IsStorableRow}
+use Rattle.sqlite_trees.specs.declared.error.StoreError.{StoreError}
+use Rattle.sqlite_trees.specs.declared.error.StoreError.TheVariants as stored
+use Rattle.st_books.specs.declared.error.BooksError.{BooksError}
+use Rattle.st_books.specs.declared.error.BooksError.TheVariants.{NoBooks, Taken, Device, Full, Damaged, Shut, NoAccount, TooMuch, NameTaken, BadName, NoMemory}
+use Rattle.st_books.specs.Errors.{told}
+use Rattle.st_booking.specs.declared.booking.Booking.{Booking}
+use Rattle.st_books.specs.declared.balance.Amounts.{Amounts}
+use Rattle.st_books.specs.Sums.{booked, IsOfNoAccount, Overflows}
+use Rattle.st_books.specs.Table.{line}
+use Rattle.st_books.specs.Reasons.{Excuses, excuses, Because, HasBadName, no_excuse}
+use Rattle.st_books.specs.Commits.{booking_excuses}
+use Rattle.st_books.proofs.Steps.{at_ok}
+
+pub fault_since : (a b c : ℕ) → a ≤ b → MoreFaults b c → MoreFaults a c
+fault_since a b c early fault = omega arith
+
+pub fault_until : (a b c : ℕ) → b ≤ c → MoreFaults a b → MoreFaults a c
+fault_until a b c late fault = omega arith
+
+-- a refusal of the store
+pub because_stored : (old : View) (fault odd : Type 0) (x : Excuses) (e : StoreError) → (odd → x.bad_name) → HasCause old fault odd e → Because old fault x (told e)
+because_stored old fault odd x stored.OutOfMemory bad h = tt
+because_stored old fault odd x stored.Io bad h = h
+because_stored old fault odd x stored.Corrupt bad h = h
+because_stored old fault odd x stored.Full bad h = h
+because_stored old fault odd x stored.Broken bad h = h
+because_stored old fault odd x stored.Unstorable bad h = bad h
+
+pub record Widens (x y : Excuses) : Type 0 where
+  pub no_account : x.no_account → y.no_account
+  pub too_much : x.too_much → y.too_much
+  pub taken : x.taken → y.taken
+  pub bad_name : x.bad_name → y.bad_name
+
+-- a refusal of a later step
+pub because_later : (old mid : View) (fault since : Type 0) (x y : Excuses) (e : BooksError) → (IsTrue mid.is_broken → IsTrue old.is_broken) → (fault → since) → Widens x y → Because mid fault x e → Because old since y e
+because_later old mid fault since x y NoMemory broken wide w h = tt
+because_later old mid fault since x y Device broken wide w h = wide h
+because_later old mid fault since x y Full broken wide w h = wide h
+because_later old mid fault since x y Damaged broken wide w h = wide h
+because_later old mid fault since x y Shut broken wide w h = broken h
+because_later old mid fault since x y NoAccount broken wide w h = w.no_account h
+because_later old mid fault since x y TooMuch broken wide w h = w.too_much h
+because_later old mid fault since x y NameTaken broken wide w h = w.taken h
+because_later old mid fault since x y BadName broken wide w h = w.bad_name h
+because_later old mid fault since x y NoBooks broken wide w h = h
+because_later old mid fault since x y Taken broken wide w h = h
+
+pub same_excuses : (x : Excuses) → Widens x x
+same_excuses x = record { no_account = λ h. h; too_much = λ h. h; taken = λ h. h; bad_name = λ h. h }
+
+-- a refusal that was passed on
+pub err_told : {T E : Type 0} (P : E → Type 0) (r : Result T E) (e : E) → IsErrAnd r (λ d. d ≡ e) → P e → IfErr r P
+err_told P (Ok x) e is h = tt
+err_told P (Err d) e is h = subst P (sym is) h
+
+pub get_at : {X : Type 0} (xs : List X) (i : ℕ) (d : X) → i < length xs → slice_get xs i ≡ Some (get_or xs i d)
+get_at [] i d low = absurd (omega arith)
+get_at (x ∷ xs) zero d low = refl
+get_at (x ∷ xs) (suc i) d low = get_at xs i d (omega arith)
+
+-- the columns of the table are the same
+pub bad_name_since : (old new : View) (names : List (List ℕ)) → new.reals ≡ old.reals → HasBadName new names → HasBadName old names
+bad_name_since old new names same bad = (bad.0, bad.1, bad.2, bad.3, subst (λ reals. ¬ IsStorableRow (reals 0) (line (bad.0 + 1) bad.1 bad.2)) same bad.4)
+
+-- SQLite refused the line of a name
+pub bad_line : (old : View) (names : List (List ℕ)) (at : ℕ) (name : List ℕ) (a : Amounts) (row : Row) → at < length names → name ≡ get_or names at name → row ≡ line (at + 1) name a
+    → ¬ IsStorableRow (old.reals 0) row → HasBadName old names
+bad_line old names at name a row low is written bad =
+    (at, name, a, get_at names at name low ∙ ap Some (sym is), subst (λ r. ¬ IsStorableRow (old.reals 0) r) written bad)
+
+-- a booking was refused after those before it
+pub because_entered : (was mid : View) (a b c : ℕ) (names : List (List ℕ)) (all draft : List Amounts) (bookings : List Booking) (i : ℕ) (booking : Booking) (e : BooksError) → a ≤ b → mid.is_broken ≡ was.is_broken
+    → mid.reals ≡ was.reals → draft ≡ booked all (take i bookings) → slice_get bookings i ≡ Some booking
+    → Because mid (MoreFaults b c) (excuses (IsOfNoAccount draft booking) (Overflows draft booking) ⊥ (HasBadName mid names)) e → Because was (MoreFaults a c) (booking_excuses was names all bookings) e
+because_entered was mid a b c names all draft bookings i booking e early sound reals is here h =
+    because_later was mid (MoreFaults b c) (MoreFaults a c) (excuses (IsOfNoAccount draft booking) (Overflows draft booking) ⊥ (HasBadName mid names)) (booking_excuses was names all bookings) e
+    (λ broken. sym sound ∙ broken) (fault_since a b c early) (record {
+      no_account = λ x. (i, booking, here, subst (λ d. IsOfNoAccount d booking) is x);
+      too_much = λ x. (i, booking, here, subst (λ d. Overflows d booking) is x);
+      taken = λ x. x;
+      bad_name = bad_name_since was mid names reals;
+    }) h
+
+pub none_excused : (x : Excuses) → Widens no_excuse x
+none_excused x = record { no_account = λ h. absurd h; too_much = λ h. absurd h; taken = λ h. absurd h; bad_name = λ h. absurd h }
+
+-- the end of a transaction passes on why the entering was refused, or why the commit was
+pub because_ended : {T : Type 0} (was mid : View) (a b c : ℕ) (x y : Excuses) (entered : Result T BooksError) (r : Result T BooksError) → a ≤ b → b ≤ c → Widens x y → OnOk entered (mid.is_broken ≡ was.is_broken)
+    → IfErr entered (Because was (MoreFaults a b) x) → IfErr r (λ e. (entered ≡ Err e) ⊎ (IsOk entered × Because mid (MoreFaults b c) no_excuse e)) → IfErr r (Because was (MoreFaults a c) y)
+because_ended was mid a b c x y entered (Ok t) ab bc w same first h = tt
+because_ended was mid a b c x y entered (Err e) ab bc w same first (inl is) =
+    because_later was was (MoreFaults a b) (MoreFaults a c) x y e (λ h. h) (fault_until a b c bc) w (subst (λ r. IfErr r (Because was (MoreFaults a b) x)) is first)
+because_ended was mid a b c x y entered (Err e) ab bc w same first (inr (ok, h)) =
+    because_later was mid (MoreFaults b c) (MoreFaults a c) no_excuse y e (λ broken. sym (at_ok entered ok same) ∙ broken) (fault_since a b c ab) (none_excused y) h

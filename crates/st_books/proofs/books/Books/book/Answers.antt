@@ -1,0 +1,47 @@
+use Rattle.std.proofs.Common.{◌≡◌, ◌⊎◌, ◌+◌, ◌++◌, ◌∷◌, [], length, length-append, refl, arith, ap, sym, subst, ◌∙◌}
+use Rattle.std.specs.Vec.{with_items}
+use Rattle.std.proofs.lemmas.List.{with_items_is}
+use Rattle.sqlite_disk.specs.Disk.{MoreFaults}
+use Rattle.sqlite_trees.specs.View.{IsClean}
+use Rattle.st_books.specs.Sums.{nothing, booked}
+use Rattle.st_books.specs.Table.{AreBooks}
+use Rattle.st_books.specs.Standing.{Kept, Holds}
+use Rattle.st_books.specs.Reasons.{Because}
+use Rattle.st_books.specs.Commits.{Sums, Makes, Refuses, BeforeOrAfter, after_bookings, after_name, after_start, booking_excuses, name_excuses}
+use Rattle.st_books.proofs.Steps.{on_err}
+use Rattle.st_books.proofs.Causes.{err_told}
+use Rattle.st_books.proofs.Calls.{makes, refuses}
+use Rattle.st_books.proofs.Distinct.{distinct_push}
+use Rattle.st_books.proofs.books.Books.book.Goals as goal
+
+pub returns-in_err-commit_bookings-clause-refused : goal.returns-in_err-commit_bookings-clause-refused
+returns-in_err-commit_bookings-clause-refused g c =
+    let old : Kept g.row.S.Denot = record { store = c.self.inside.store; starts = c.self.inside.starts; names = c.self.inside.names.items; amounts = c.self.inside.amounts.items } in
+    let new : Kept g.row.S.Denot = record { store = c.commit_bookings.new.store; starts = c.self.inside.starts; names = c.self.inside.names.items; amounts = c.self.inside.amounts.items } in
+    let told = c.in_err-commit_bookings.ensures in
+    let held : Holds (g.S.Store.view new.store) old.starts old.names old.amounts = rw (c.as_slice-2.ensures.value, c.as_mut_slice.ensures.value, c.in_ok-draft.ensures.items, c.as_slice.ensures.value) at told.undone in
+    let moment : BeforeOrAfter g.S.Store old (after_bookings old c.args.bookings.now) new = λ clean db may. rw (c.as_slice-2.ensures.value, c.as_mut_slice.ensures.value, c.in_ok-draft.ensures.items, c.as_slice.ensures.value) at (told.any_moment clean db may) in
+    on_err c.from_residual-in_err-commit_bookings.result (subst (λ (k : Kept g.row.S.Denot). Refuses g.S.Store k (after_bookings k c.args.bookings.now) new) c.self.view_is
+    (refuses g.S.Store g.met.S.Store.settled old new (after_bookings old c.args.bookings.now) refl held moment))
+
+pub returns-in_err-commit_bookings-clause-cause : goal.returns-in_err-commit_bookings-clause-cause
+returns-in_err-commit_bookings-clause-cause g c =
+    let e = c.in_err-commit_bookings.field-0.0 in
+    err_told _ c.from_residual-in_err-commit_bookings.result e c.from_residual-in_err-commit_bookings.ensures.1 (λ clean.
+    subst (λ (k : Kept g.row.S.Denot). Because (g.S.Store.view k.store) (MoreFaults (g.S.Store.faults k.store) (g.S.Store.faults c.commit_bookings.new.store)) (booking_excuses (g.S.Store.view k.store) k.names k.amounts c.args.bookings.now) e) c.self.view_is
+    (rw (c.as_slice-2.ensures.value, c.as_mut_slice.ensures.value, c.in_ok-draft.ensures.items, c.as_slice.ensures.value) at (c.in_err-commit_bookings.ensures.cause clean)))
+
+pub returns-clause-committed : goal.returns-clause-committed
+returns-clause-committed g c =
+    let old : Kept g.row.S.Denot = record { store = c.self.inside.store; starts = c.self.inside.starts; names = c.self.inside.names.items; amounts = c.self.inside.amounts.items } in
+    let draft = c.in_ok-draft.draft in
+    let drafted = c.commit_bookings.new.draft in
+    let same : (with_items draft drafted).items ≡ drafted = with_items_is draft drafted (omega (arith, c.commit_bookings.auto.draft, c.as_mut_slice.ensures.len)) in
+    let new : Kept g.row.S.Denot = record { store = c.commit_bookings.new.store; starts = c.self.inside.starts; names = c.self.inside.names.items; amounts = (with_items draft drafted).items } in
+    let told = c.in_ok-commit_bookings.ensures in
+    let bookings = c.args.bookings.now in
+    let all : new.amounts ≡ booked old.amounts bookings = same ∙ (rw (c.as_mut_slice.ensures.value, c.in_ok-draft.ensures.items, c.as_slice.ensures.value) at told.booked) in
+    let held : Holds (g.S.Store.view new.store) new.starts new.names new.amounts = subst (λ a. Holds (g.S.Store.view new.store) new.starts new.names a) (sym same) (rw (c.as_slice-2.ensures.value) at told.holds) in
+    let moment : BeforeOrAfter g.S.Store old (after_bookings old bookings) new = λ clean db may. rw (c.as_slice-2.ensures.value, c.as_mut_slice.ensures.value, c.in_ok-draft.ensures.items, c.as_slice.ensures.value) at (told.any_moment clean db may) in
+    subst (λ (k : Kept g.row.S.Denot). Makes g.S.Store k (after_bookings k bookings) new) c.self.view_is
+    (makes g.S.Store g.met.S.Store.settled old new (after_bookings old bookings) (λ i. record { starts = old.starts; names = old.names; amounts = all i }) held told.stays_open moment)

@@ -1,0 +1,26 @@
+-- What an open of books finds.
+use Rattle.std.specs.Prelude.{◌≡◌, ◌⊎◌, IsTrue}
+use Rattle.sqlite_disk.specs.declared.Disk.{Ghosts}
+use Rattle.sqlite_wal.specs.Recovery.{Image}
+use Rattle.sqlite_trees.specs.Tree.{Trees}
+use Rattle.sqlite_store.specs.declared.store.FileStore.{FileStore}
+use Rattle.sqlite_store.specs.FileStore.{state as store_state, view}
+use Rattle.sqlite.specs.Held.{Held}
+use Rattle.sqlite.specs.Files.{file_state, over_files}
+use Rattle.sqlite.specs.Start.{FindsIn}
+use Rattle.st_books.specs.Standing.{Kept, Takes}
+use Rattle.st_books.specs.Commits.{Sums, sums_of, AreSums}
+
+-- the files held a database of these books, and from now on each crash leaves them
+pub record FindsBooks {D : Type 0} {g : Ghosts D} (image : Image) (books : Kept (FileStore D g)) : Type 0 where
+  pub opened : Held (FileStore D g)
+  pub found : FindsIn image (file_state opened)
+  pub takes : Takes over_files (file_state opened).committed.trees books
+
+-- Where a crash leaves only one database of books, or one of two, the next open of what it left finds it, if it finds any.
+abbrev pub NextFinds : {D : Type 0} → Ghosts D → {E : Type 0} → Ghosts E → Type 0
+NextFinds {D} g {E} h =
+    (it : FileStore D g) (before after : Sums) → IsTrue (view it).is_numbered
+    → ((db : Trees) → over_files.recovers it db → AreSums db before ⊎ AreSums db after)
+    → (left : Image) → (store_state it).may_leave left → (again : Kept (FileStore E h)) → FindsBooks left again
+    → ∥ (sums_of again ≡ before) ⊎ (sums_of again ≡ after) ∥₁

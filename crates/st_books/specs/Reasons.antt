@@ -1,0 +1,39 @@
+-- Why books refuse a call.
+use Rattle.std.specs.Prelude.{◌≡◌, ℕ, ◌+◌, List, slice_get, Some, IsTrue, ⊤}
+use Rattle.sqlite_trees.specs.View.{View, IsStorableRow}
+use Rattle.st_books.specs.declared.balance.Amounts.{Amounts}
+use Rattle.st_books.specs.declared.error.BooksError.{BooksError}
+use Rattle.st_books.specs.declared.error.BooksError.TheVariants.{NoBooks, Taken, Device, Full, Damaged, Shut, NoAccount, TooMuch, NameTaken, BadName, NoMemory}
+use Rattle.st_books.specs.Table.{line}
+
+-- what the bookings or the name of a call have to be for a refusal of them
+pub record Excuses : Type 1 where
+  pub no_account : Type 0
+  pub too_much : Type 0
+  pub taken : Type 0
+  pub bad_name : Type 0
+
+-- Memory needs no reason. A fault is one of the disk, or a limit of SQLite's format that was met. The books are shut by an
+-- earlier failure. Nothing else refuses but what the call itself gives.
+abbrev pub Because : View → (fault : Type 0) → Excuses → BooksError → Type 0
+Because old fault x NoMemory = ⊤
+Because old fault x Device = fault
+Because old fault x Full = fault
+Because old fault x Damaged = fault
+Because old fault x Shut = IsTrue old.is_broken
+Because old fault x NoAccount = x.no_account
+Because old fault x TooMuch = x.too_much
+Because old fault x NameTaken = x.taken
+Because old fault x BadName = x.bad_name
+Because old fault x NoBooks = ⊥
+Because old fault x Taken = ⊥
+
+abbrev pub excuses : (no_account too_much taken bad_name : Type 0) → Excuses
+excuses a b c d = record { no_account = a; too_much = b; taken = c; bad_name = d }
+
+abbrev pub no_excuse : Excuses
+no_excuse = excuses ⊥ ⊥ ⊥ ⊥
+
+-- SQLite cannot store the line of one of these names
+abbrev pub HasBadName : View → List (List ℕ) → Type 0
+HasBadName v names = (at : ℕ) × (name : List ℕ) × (a : Amounts) × (slice_get names at ≡ Some name) × (¬ IsStorableRow (v.reals 0) (line (at + 1) name a))

@@ -1,0 +1,54 @@
+-- The books as rows of a table that sqlite3 shows.
+use Rattle.std.specs.Prelude.{◌≡◌, ◌≢◌, ℕ, suc, pos, true, List, [], ◌∷◌, length, codes, ⊤}
+use Rattle.std.specs.List.{AllByRecursion}
+use Rattle.sqlite_value.specs.declared.value.Value.TheVariants.{Null, Int, Text}
+use Rattle.sqlite_value.specs.Order.{Row, column}
+use Rattle.sqlite_trees.specs.Tree.{Trees}
+use Rattle.sqlite_trees.specs.Objects.{catalog_tree, version_tree, version_rows, number_in}
+use Rattle.sqlite_trees.specs.Sound.{is_sound_list}
+use Rattle.st_books.specs.declared.balance.Amounts.{Amounts}
+
+abbrev pub table_text : List ℕ
+table_text = codes "CREATE TABLE account (id INTEGER PRIMARY KEY, name TEXT NOT NULL, claims INTEGER NOT NULL, dues INTEGER NOT NULL) STRICT"
+
+-- a row of the table, whose first value is the id, and NULL stands in the column of the key
+abbrev pub line : (id : ℕ) → List ℕ → Amounts → Row
+line id name a = Int (pos id) ∷ Null ∷ Text name ∷ Int (pos a.claims) ∷ Int (pos a.dues) ∷ []
+
+abbrev pub lines_from : ℕ → List (List ℕ) → List Amounts → List Row
+lines_from id [] all = []
+lines_from id (name ∷ names) [] = []
+lines_from id (name ∷ names) (a ∷ all) = line id name a ∷ lines_from (suc id) names all
+
+-- the accounts are numbered from 1
+abbrev pub lines : List (List ℕ) → List Amounts → List Row
+lines = lines_from 1
+
+-- no name stands twice
+abbrev pub AreDistinct : List (List ℕ) → Type 0
+AreDistinct [] = ⊤
+AreDistinct (name ∷ names) = AllByRecursion (λ other. other ≢ name) names × AreDistinct names
+
+-- a row of the list of objects that is the table's
+pub record IsTableRow (row : Row) : Type 0 where
+  pub id : column row 0 ≡ Int (pos 1)
+  pub kind : column row 1 ≡ Text (codes "table")
+  pub name : column row 2 ≡ Text (codes "account")
+  pub owner : column row 3 ≡ Text (codes "account")
+  pub text : column row 4 ≡ Text table_text
+
+-- the file has this table and no other object
+pub record ListsTable (objects : List Row) : Type 0 where
+  pub row : Row
+  pub only : objects ≡ row ∷ []
+  pub is : IsTableRow row
+  pub code : number_in (column row 5) ≡ 1
+  pub reals : number_in (column row 6) ≡ 0
+  pub loads : is_sound_list objects ≡ true
+
+-- The database is these books. SQLite's user version counts the starts.
+pub record AreBooks (db : Trees) (starts : ℕ) (names : List (List ℕ)) (all : List Amounts) : Type 0 where
+  pub rows : db 0 ≡ lines names all
+  pub named : length names ≡ length all
+  pub counted : db version_tree ≡ version_rows starts
+  pub objects : ListsTable (db catalog_tree)

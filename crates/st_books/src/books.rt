@@ -1,0 +1,215 @@
+//! Books that are open.
+
+ghost use Rattle.std.specs.Prelude.{◌≡◌, ◌≢◌, ◌+◌, ◌≤◌, None, length, slice_get, IfOk, IfErr, IfSome, OnOk, OnErr};
+ghost use Rattle.std.specs.List.{AllByRecursion};
+ghost use Rattle.st_books.specs.Errors.{number};
+ghost use Rattle.st_books.specs.Table.{AreDistinct};
+ghost use Rattle.st_books.specs.Standing.{Holds};
+ghost use Rattle.st_books.specs.Commits.{Commits, Makes, Refuses, IsBecause, KeepsFor, after_bookings, after_name, after_start, booking_excuses, name_excuses, start_excuses};
+
+use crate::balance::Amounts;
+use crate::error::BooksError;
+use crate::names::{place_of, with_name};
+use crate::table::{commit_account, commit_bookings, commit_starts};
+use sqlite_trees::store::Alter;
+use sqlite_value::row::Row;
+use sqlite_value::value::Bytes;
+use st_booking::{Booking, Keeper};
+use std::alloc::Global;
+use std::marker::Model;
+
+/// The books: accounts by name, with what each owes and is owed, and the count of starts, all of it in a store.
+pub struct Books<S: Alter> {
+    store: S,
+    starts: u32,
+    names: Vec<Bytes>,
+    amounts: Vec<Amounts>,
+    row: Row,
+    alloc: Global,
+}
+
+impl<S: Alter> Model for Books<S> {
+    ghost use Rattle.std.specs.Prelude.{◌≡◌, length};
+    ghost use Rattle.st_books.specs.Table.{AreDistinct};
+    ghost use Rattle.st_books.specs.Standing.{Kept, Holds};
+
+    ghost Value = { Kept S };
+
+    ghost view = { λ b. record { store = b.store; starts = b.starts; names = b.names.items; amounts = b.amounts.items } };
+
+    ghost invariant = { λ b. Holds (S.Store.view b.store) b.starts b.names.items b.amounts.items × (length b.names.items ≡ length b.amounts.items) × AreDistinct b.names.items };
+}
+
+// It is written out, so that a caller does not prove again how each part is dropped.
+impl<S: Alter + Drop> Drop for Books<S> {
+    fn drop(self) {
+        let Books {
+            store: _,
+            starts: _,
+            names: _,
+            amounts: _,
+            row: _,
+            alloc: _,
+        } = self;
+    }
+}
+
+impl<S: Alter> Books<S> {
+    /// Books over a store that has their lines.
+    pub(crate) fn over(
+        alloc: Global,
+        store: S,
+        row: Row,
+        starts: u32,
+        names: Vec<Bytes>,
+        amounts: Vec<Amounts>,
+    ) -> Books<S>
+        requires holds { Holds (S.Store.view store) starts names.items amounts.items }
+        requires named { length names.items ≡ length amounts.items }
+        requires distinct { AreDistinct names.items }
+        ensures { result ≡ record { store = store; starts = starts; names = names.items; amounts = amounts.items } }
+    {
+        Books {
+            store,
+            starts,
+            names,
+            amounts,
+            row,
+            alloc,
+        }
+    }
+
+    /// How often a connector was started with these books.
+    pub fn starts(&self) -> u64
+        ensures { result ≡ self.now.starts }
+    {
+        self.starts as u64
+    }
+
+    /// What is owed, by account.
+    pub fn amounts(&self) -> &[Amounts]
+        ensures { result.now ≡ self.now.amounts }
+    {
+        self.amounts.as_slice()
+    }
+
+    /// The name of an account.
+    pub fn name(&self, at: usize) -> Option<&[u8]>
+        ensures named { IfSome result (λ name. slice_get self.now.names at ≡ Some name.now) }
+        ensures missing { result ≡ None → length self.now.names ≤ at }
+    {
+        match self.names.get(at) {
+            Some(name) => Some(name.as_slice()),
+            None => None,
+        }
+    }
+
+    /// The place of the account of a name. No two accounts have one name.
+    pub fn place_of(&self, name: &str) -> Option<usize>
+        ensures found { IfSome result (λ at. slice_get self.now.names at ≡ Some name.now) }
+        ensures missing { result ≡ None → AllByRecursion (λ other. other ≢ name.now) self.now.names }
+        ensures distinct { AreDistinct self.now.names }
+    {
+        place_of(self.names.as_slice(), name.as_bytes())
+    }
+
+    /// Counts one start more, and commits the count. To be called once, before the first Prepare is taken. Gives the count.
+    pub fn begin_life(&mut self) -> Result<u64, BooksError>
+        ensures count { IfOk result (λ n. n ≡ self.old.starts + 1) }
+        ensures begun { OnOk result (Makes S.Store self.old (after_start self.old) self.new) }
+        ensures refused { OnErr result (Refuses S.Store self.old (after_start self.old) self.new) }
+        ensures cause { IfErr result (IsBecause S.Store self.old self.new (start_excuses self.old.starts)) }
+    {
+        let Some(next) = self.starts.checked_add(1) else {
+            return Err(BooksError::TooMuch);
+        };
+        let Books {
+            store,
+            starts,
+            names,
+            amounts,
+            ..
+        } = self;
+        commit_starts(store, *starts, next, names.as_slice(), amounts.as_slice())?;
+        *starts = next;
+        Ok(next as u64)
+    }
+
+    /// Commits bookings, all of them or none, in one sync of the disk. At `Ok` each crash leaves books that have them; at
+    /// an error the books stand as before.
+    pub fn book(&mut self, bookings: &[Booking]) -> Result<(), BooksError>
+        ensures committed { OnOk result (Commits S.Store self.old bookings.now self.new) }
+        ensures refused { OnErr result (Refuses S.Store self.old (after_bookings self.old bookings.now) self.new) }
+        ensures cause { IfErr result (IsBecause S.Store self.old self.new (booking_excuses (S.Store.view self.old.store) self.old.names self.old.amounts bookings.now)) }
+    {
+        let mut draft = Vec::from_slice(self.alloc, self.amounts.as_slice())?;
+        let Books {
+            store,
+            starts,
+            names,
+            amounts,
+            row,
+            ..
+        } = self;
+        commit_bookings(
+            store,
+            row,
+            *starts,
+            names.as_slice(),
+            draft.as_mut_slice(),
+            bookings,
+        )?;
+        *amounts = draft;
+        Ok(())
+    }
+
+    /// Adds an account of a new name, by which and to which nothing is owed, and commits it. Gives its place.
+    pub fn add(&mut self, name: &str) -> Result<usize, BooksError>
+        ensures place { IfOk result (λ at. at ≡ length self.old.names) }
+        ensures added { OnOk result (Makes S.Store self.old (after_name self.old name.now) self.new) }
+        ensures refused { OnErr result (Refuses S.Store self.old (after_name self.old name.now) self.new) }
+        ensures cause { IfErr result (IsBecause S.Store self.old self.new (name_excuses (S.Store.view self.old.store) self.old.names name.now)) }
+    {
+        let at = self.names.len();
+        match place_of(self.names.as_slice(), name.as_bytes()) {
+            Some(_) => return Err(BooksError::NameTaken),
+            None => {}
+        }
+        let name = Bytes::from_slice(self.alloc, name.as_bytes())?;
+        let longer = with_name(self.alloc, self.names.as_slice(), &name)?;
+        let mut draft = Vec::from_slice(self.alloc, self.amounts.as_slice())?;
+        draft.push(Amounts { claims: 0, dues: 0 })?;
+        let Books {
+            store,
+            starts,
+            names,
+            amounts,
+            row,
+            ..
+        } = self;
+        commit_account(
+            store,
+            row,
+            *starts,
+            names.as_slice(),
+            amounts.as_slice(),
+            &name,
+        )?;
+        *names = longer;
+        *amounts = draft;
+        Ok(at)
+    }
+}
+
+impl<S: Alter> Keeper for Books<S> {
+    ghost commits = { Commits S.Store };
+
+    ghost keeps = { KeepsFor S.Store };
+
+    fn commit(&mut self, bookings: &[Booking]) -> Result<(), u8> {
+        match self.book(bookings) {
+            Ok(()) => Ok(()),
+            Err(error) => Err(error.number()),
+        }
+    }
+}
