@@ -21,10 +21,11 @@ PROGRAM = "ilpstream"
 BUILT = f"{TOP}/crates/{PROGRAM}/out/{PROGRAM}"
 # The processor's seconds that each crate takes from nothing, by the table in docs/GATE.md; those that are not here take OTHER.
 WEIGHTS = {
-    "st_sender": 387, "st_chain": 382, "st_transfer": 360, "st_hub": 302, "st_receiver": 301, "st_words": 262, "st_hop": 244,
-    "st_nodes": 226, "st_http": 213, "st_local": 212, "st_end": 208, "st_program": 187, "st_commands": 173, "ilpstream": 119,
-    "st_settings": 109, "st_file": 103, "st_aes": 204, "st_desk": 86, "st_link": 57, "st_world": 22, "st_oer": 170,
-    "st_unacked": 170, "st_queues": 170, "st_frames": 150, "st_ilp": 150, "st_reassembly": 90, "st_tables": 15,
+    "st_transfer": 441, "st_sender": 400, "st_chain": 381, "st_hub": 313, "st_hop": 293, "st_receiver": 283, "st_commands": 260,
+    "st_nodes": 253, "st_words": 252, "st_local": 227, "st_end": 227, "ilpstream": 215, "st_http": 209, "st_aes": 190,
+    "st_program": 175, "st_desk": 160, "st_queues": 129, "st_oer": 129, "st_frames": 129, "st_ilp": 127, "st_settings": 125,
+    "st_unacked": 94, "st_reassembly": 86, "st_file": 84, "st_link": 68, "st_keys": 49, "st_world": 33, "st_booking": 20,
+    "st_tables": 12,
 }
 OTHER = 60
 # Memory in bytes: what a check takes at most, and what each further job of it takes.
