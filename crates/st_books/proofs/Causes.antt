@@ -1,19 +1,22 @@
 -- Why a call of several steps refuses.
 use Rattle.std.proofs.Common.{Result, Ok, Err, IfErr, IsErrAnd, IsOk, OnOk, ◌≡◌, ◌⊎◌, inl, inr, ℕ, zero, suc, ◌+◌, ◌-◌, ◌^◌, ◌<◌, ◌≤◌, min, List, [], ◌∷◌, length, take, get_or, slice_get, Some, IsTrue, refl, sym, ap, subst, ◌∙◌, arith}
+use Rattle.std.proofs.lemmas.Option.{same_Some}
 use Rattle.sqlite_disk.specs.Disk.{MoreFaults}
 use Rattle.sqlite_value.specs.Order.{Row}
 use Rattle.sqlite_trees.specs.View.{View, IsClean, HasCause, IsStorableRow}
 use Rattle.sqlite_trees.specs.declared.error.StoreError.{StoreError}
 use Rattle.sqlite_trees.specs.declared.error.StoreError.TheVariants as stored
 use Rattle.st_books.specs.declared.error.BooksError.{BooksError}
-use Rattle.st_books.specs.declared.error.BooksError.TheVariants.{NoBooks, Taken, Device, Full, Damaged, Shut, NoAccount, TooMuch, NameTaken, BadName, NoMemory}
+use Rattle.st_books.specs.declared.error.BooksError.TheVariants.{NoBooks, Taken, Device, Full, Damaged, Shut, NoAccount, TooMuch, NameTaken, BadName, NoMemory, TooLittle}
 use Rattle.st_books.specs.Errors.{told}
 use Rattle.st_booking.specs.declared.booking.Booking.{Booking}
 use Rattle.st_books.specs.declared.balance.Amounts.{Amounts}
 use Rattle.st_books.specs.Sums.{booked, IsOfNoAccount, Overflows}
-use Rattle.st_books.specs.Table.{line}
+use Rattle.st_books.specs.declared.balance.Payment.{Payment}
+use Rattle.st_books.specs.Payments.{payment_line, name_at, IsUncountable}
+use Rattle.st_books.specs.Table.{line, payment_tree}
 use Rattle.st_books.specs.Reasons.{Excuses, excuses, Because, HasBadName, no_excuse}
-use Rattle.st_books.specs.Commits.{booking_excuses}
+use Rattle.st_books.specs.Commits.{booking_excuses, payment_excuses}
 use Rattle.st_books.proofs.Steps.{at_ok}
 
 pub fault_since : (a b c : ℕ) → a ≤ b → MoreFaults b c → MoreFaults a c
@@ -34,6 +37,7 @@ because_stored old fault odd x stored.Unstorable bad h = bad h
 pub record Widens (x y : Excuses) : Type 0 where
   pub no_account : x.no_account → y.no_account
   pub too_much : x.too_much → y.too_much
+  pub too_little : x.too_little → y.too_little
   pub taken : x.taken → y.taken
   pub bad_name : x.bad_name → y.bad_name
 
@@ -46,23 +50,49 @@ because_later old mid fault since x y Damaged broken wide w h = wide h
 because_later old mid fault since x y Shut broken wide w h = broken h
 because_later old mid fault since x y NoAccount broken wide w h = w.no_account h
 because_later old mid fault since x y TooMuch broken wide w h = w.too_much h
+because_later old mid fault since x y TooLittle broken wide w h = w.too_little h
 because_later old mid fault since x y NameTaken broken wide w h = w.taken h
 because_later old mid fault since x y BadName broken wide w h = w.bad_name h
 because_later old mid fault since x y NoBooks broken wide w h = h
 because_later old mid fault since x y Taken broken wide w h = h
 
 pub same_excuses : (x : Excuses) → Widens x x
-same_excuses x = record { no_account = λ h. h; too_much = λ h. h; taken = λ h. h; bad_name = λ h. h }
+same_excuses x = record { no_account = λ h. h; too_much = λ h. h; too_little = λ h. h; taken = λ h. h; bad_name = λ h. h }
 
 -- a refusal that was passed on
 pub err_told : {T E : Type 0} (P : E → Type 0) (r : Result T E) (e : E) → IsErrAnd r (λ d. d ≡ e) → P e → IfErr r P
 err_told P (Ok x) e is h = tt
 err_told P (Err d) e is h = subst P (sym is) h
 
+pub err_then : {T E : Type 0} (r : Result T E) (P Q : E → Type 0) → ((e : E) → P e → Q e) → IfErr r P → IfErr r Q
+err_then (Ok x) P Q more h = tt
+err_then (Err e) P Q more h = more e h
+
 pub get_at : {X : Type 0} (xs : List X) (i : ℕ) (d : X) → i < length xs → slice_get xs i ≡ Some (get_or xs i d)
 get_at [] i d low = absurd (omega arith)
 get_at (x ∷ xs) zero d low = refl
 get_at (x ∷ xs) (suc i) d low = get_at xs i d (omega arith)
+
+-- the name of an account that is there
+pub name_here : (names : List (List ℕ)) (at : ℕ) (name : List ℕ) → at < length names → name ≡ get_or names at name → name_at names at ≡ name
+name_here names at name low is = same_Some _ _ (sym (get_at names at [] low) ∙ get_at names at name low) ∙ sym is
+
+-- the line of a payment was refused
+pub because_unpaid : (was mid : View) (a b c : ℕ) (names : List (List ℕ)) (all : List Amounts) (p : Payment) (id : ℕ) (name : List ℕ) (e : BooksError) → a ≤ b → mid.is_broken ≡ was.is_broken → mid.reals ≡ was.reals → name_at names p.account ≡ name
+    → Because mid (MoreFaults b c) (excuses ⊥ (IsUncountable p) ⊥ (¬ IsStorableRow (mid.reals payment_tree) (payment_line id name p.side p.amount p.moment))) e → Because was (MoreFaults a c) (payment_excuses was names all p) e
+because_unpaid was mid a b c names all p id name e early sound reals is h =
+    because_later was mid (MoreFaults b c) (MoreFaults a c) (excuses ⊥ (IsUncountable p) ⊥ (¬ IsStorableRow (mid.reals payment_tree) (payment_line id name p.side p.amount p.moment))) (payment_excuses was names all p) e
+    (λ broken. sym sound ∙ broken) (fault_since a b c early) (record {
+      no_account = λ x. absurd x;
+      too_much = λ x. inr x;
+      too_little = λ x. absurd x;
+      taken = λ x. absurd x;
+      bad_name = λ bad. inr (
+        id,
+        subst (λ n. ¬ IsStorableRow (was.reals payment_tree) (payment_line id n p.side p.amount p.moment)) (sym is)
+            (subst (λ r. ¬ IsStorableRow (r payment_tree) (payment_line id name p.side p.amount p.moment)) reals bad),
+      );
+    }) h
 
 -- the columns of the table are the same
 pub bad_name_since : (old new : View) (names : List (List ℕ)) → new.reals ≡ old.reals → HasBadName new names → HasBadName old names
@@ -83,12 +113,13 @@ because_entered was mid a b c names all draft bookings i booking e early sound r
     (λ broken. sym sound ∙ broken) (fault_since a b c early) (record {
       no_account = λ x. (i, booking, here, subst (λ d. IsOfNoAccount d booking) is x);
       too_much = λ x. (i, booking, here, subst (λ d. Overflows d booking) is x);
+      too_little = λ x. x;
       taken = λ x. x;
       bad_name = bad_name_since was mid names reals;
     }) h
 
 pub none_excused : (x : Excuses) → Widens no_excuse x
-none_excused x = record { no_account = λ h. absurd h; too_much = λ h. absurd h; taken = λ h. absurd h; bad_name = λ h. absurd h }
+none_excused x = record { no_account = λ h. absurd h; too_much = λ h. absurd h; too_little = λ h. absurd h; taken = λ h. absurd h; bad_name = λ h. absurd h }
 
 -- the end of a transaction passes on why the entering was refused, or why the commit was
 pub because_ended : {T : Type 0} (was mid : View) (a b c : ℕ) (x y : Excuses) (entered : Result T BooksError) (r : Result T BooksError) → a ≤ b → b ≤ c → Widens x y → OnOk entered (mid.is_broken ≡ was.is_broken)

@@ -1,8 +1,10 @@
 mod LineLemmas
+mod PaymentLemmas
 mod Distinct
 mod Steps
 mod Causes
 mod Calls
 mod Listed
+mod MadeLemmas
 mod Sound
 mod Restart

@@ -15,7 +15,7 @@ use Rattle.st_books.specs.Table.{line, lines_from, lines}
 pub same_id : (n : ℕ) → value_cmp (Int (pos n)) (Int (pos n)) ≡ Equal
 same_id n = value_cmp-Int (pos n) (pos n) ∙ grind (arith, nat_tests)
 
-lower_id : (m n : ℕ) → m < n → value_cmp (Int (pos m)) (Int (pos n)) ≡ Less
+pub lower_id : (m n : ℕ) → m < n → value_cmp (Int (pos m)) (Int (pos n)) ≡ Less
 lower_id m n h = value_cmp-Int (pos m) (pos n) ∙ grind (arith, nat_tests)
 
 -- ---- writing a line

@@ -10,9 +10,8 @@ use Rattle.sqlite_store.specs.FileStore.{state as store_state, view, recovers}
 use Rattle.sqlite.specs.Held.{AreDatabases}
 use Rattle.sqlite.specs.Files.{file_state, over_files}
 use Rattle.sqlite.proofs.Theorems.{next_run}
-use Rattle.st_books.specs.Table.{AreBooks, lines}
-use Rattle.st_books.specs.Standing.{Kept}
-use Rattle.st_books.specs.Commits.{Sums, sums_of, AreSums}
+use Rattle.st_books.specs.Table.{lines, payment_tree}
+use Rattle.st_books.specs.Standing.{Kept, Sums, sums_of, AreSums}
 use Rattle.st_books.specs.Found.{FindsBooks, NextFinds}
 use Rattle.st_books.proofs.LineLemmas.{lines_apart}
 use Rattle.st_books.proofs.Sound.{books_schema, sound}
@@ -21,23 +20,24 @@ same_starts : (m n : ℕ) → version_rows m ≡ version_rows n → m ≡ n
 same_starts m n e = cc
 
 -- a database is of one books
-only_sums : (db : Trees) (a b : Sums) → AreSums db a → length b.names ≡ length b.amounts → db 0 ≡ lines b.names b.amounts → db version_tree ≡ version_rows b.starts → b ≡ a
-only_sums db a b is named rows starts =
+only_sums : (db : Trees) (a b : Sums) → AreSums db a → length b.names ≡ length b.amounts → db 0 ≡ lines b.names b.amounts → db payment_tree ≡ b.paid → db version_tree ≡ version_rows b.starts → b ≡ a
+only_sums db a b is named rows audit starts =
     let both = lines_apart 1 b.names a.names b.amounts a.amounts named is.named (sym rows ∙ is.rows) in
     let first = same_starts b.starts a.starts (sym starts ∙ is.counted) in
-    λ i. record { starts = first i; names = both.0 i; amounts = both.1 i }
+    let paid : b.paid ≡ a.paid = sym audit ∙ is.audit in
+    λ i. record { starts = first i; names = both.0 i; amounts = both.1 i; paid = paid i }
 
 pub next_finds : {D : Type 0} {g : Ghosts D} {E : Type 0} {h : Ghosts E} → NextFinds g h
 next_finds it before after numbered only left may again found =
     let databases : AreDatabases (recovers it) = λ db r. (
       books_schema,
       elim (only db r) [
-        | inl b ↦ sound db before.starts before.names before.amounts b
-        | inr a ↦ sound db after.starts after.names after.amounts a
+        | inl b ↦ sound db before b
+        | inr a ↦ sound db after a
       ],
     ) in
     let db = (file_state found.opened).committed.trees in
     ∥∥₁_map (next_run it numbered databases left may (file_state found.opened) found.found) (λ r. elim (only db r) [
-      | inl b ↦ inl (only_sums db before (sums_of again) b found.takes.named found.takes.rows found.takes.starts)
-      | inr a ↦ inr (only_sums db after (sums_of again) a found.takes.named found.takes.rows found.takes.starts)
+      | inl b ↦ inl (only_sums db before (sums_of over_files again) b found.takes.named found.takes.rows found.takes.audit found.takes.starts)
+      | inr a ↦ inr (only_sums db after (sums_of over_files again) a found.takes.named found.takes.rows found.takes.audit found.takes.starts)
     ])

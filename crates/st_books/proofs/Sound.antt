@@ -10,25 +10,31 @@ use Rattle.sqlite_trees.specs.Tree.{Trees, rowid}
 use Rattle.sqlite_trees.specs.Objects.{catalog_tree, number_in}
 use Rattle.sqlite_schema.specs.declared.schema.Constraint.{Constraint}
 use Rattle.sqlite_schema.specs.declared.schema.Constraint.TheVariants.{Datatype, NotNull, Check, PrimaryKey, Unique, ForeignKey}
+use Rattle.sqlite_schema.specs.declared.schema.Kind.{Kind}
 use Rattle.sqlite_schema.specs.declared.schema.Kind.TheVariants.{Integer, Text}
+use Rattle.sqlite_schema.specs.declared.schema.Column.{Column}
 use Rattle.sqlite_schema.specs.declared.schema.Table.{Table}
 use Rattle.sqlite_schema.specs.declared.schema.Schema.{Schema}
+use Rattle.sqlite_schema.specs.Names.{same_name}
 use Rattle.sqlite_schema.specs.Rules.{passes, Obeys, table_reals}
-use Rattle.sqlite_catalog.specs.Listing.{IsSound, Lists, IsTableRow, IsIndexRow, IsViewRow, is_table_row, is_index_row, is_view_row, is_foreign_row}
+use Rattle.sqlite_catalog.specs.Listing.{IsSound, Lists, DefinesTable, is_formed, IsTableRow, IsIndexRow, IsViewRow, is_table_row, is_index_row, is_view_row, is_foreign_row}
 use Rattle.sqlite_resolve.specs.Compile.{table_defined_by}
 use Rattle.sqlite_tied.specs.Compute.{everything}
 use Rattle.st_books.specs.declared.balance.Amounts.{Amounts}
-use Rattle.st_books.specs.Table.{table_text, line, lines_from, lines, ListsTable, AreBooks}
+use Rattle.st_books.specs.declared.balance.Side.{Side}
+use Rattle.st_books.specs.Payments.{payment_text, payment_line, ArePaymentsFrom}
+use Rattle.st_books.specs.Table.{table_text, line, lines_from, payment_tree, IsListed, ListsTables}
+use Rattle.st_books.specs.Standing.{Sums, AreSums}
 
--- the table, as SQLite's schema has it
-abbrev account : Table
-account = record {
-  name = codes "account";
-  tree = 0;
-  columns = (record { name = codes "id"; kind = Integer; is_strict = true; not_null = false; default = Null; collation = Binary })
-      ∷ (record { name = codes "name"; kind = Text; is_strict = true; not_null = true; default = Null; collation = Binary })
-      ∷ (record { name = codes "claims"; kind = Integer; is_strict = true; not_null = true; default = Null; collation = Binary })
-      ∷ (record { name = codes "dues"; kind = Integer; is_strict = true; not_null = true; default = Null; collation = Binary }) ∷ [];
+-- the tables, as SQLite's schema has them
+abbrev column_of : (name : List ℕ) (kind : Kind) (not_null : Bool) → Column
+column_of name kind not_null = record { name = name; kind = kind; is_strict = true; not_null = not_null; default = Null; collation = Binary }
+
+abbrev table_of : (name : List ℕ) (tree : ℕ) (columns : List Column) → Table
+table_of name tree columns = record {
+  name = name;
+  tree = tree;
+  columns = columns;
   key = Some 0;
   primary = 0 ∷ [];
   uniques = [];
@@ -40,8 +46,17 @@ account = record {
   is_counted = false;
 }
 
+abbrev account : Table
+account = table_of (codes "account") 0
+    (column_of (codes "id") Integer false ∷ column_of (codes "name") Text true ∷ column_of (codes "claims") Integer true ∷ column_of (codes "dues") Integer true ∷ [])
+
+-- in this tree
+abbrev payments : ℕ → Table
+payments tree = table_of (codes "payment") tree
+    (column_of (codes "id") Integer false ∷ column_of (codes "name") Text true ∷ column_of (codes "side") Text true ∷ column_of (codes "amount") Integer true ∷ column_of (codes "moment") Integer true ∷ [])
+
 abbrev pub books_schema : Schema
-books_schema = record { tables = account ∷ []; indexes = []; views = [] }
+books_schema = record { tables = account ∷ payments payment_tree ∷ []; indexes = []; views = [] }
 
 -- ---- each line obeys it
 
@@ -58,9 +73,26 @@ lines_pass rule db id [] all = tt
 lines_pass rule db id (n ∷ names) [] = tt
 lines_pass rule db id (n ∷ names) (a ∷ all) = (line_passes rule db id n a, lines_pass rule db (suc id) names all)
 
-lines_obey : (db : Trees) (names : List (List ℕ)) (all : List Amounts) → db 0 ≡ lines names all → Obeys books_schema db
-lines_obey db names all e = record {
-  rules = λ rule. (subst (λ rows. AllByRecursion (λ row. passes rule books_schema db account row ≡ true) rows) (sym e) (lines_pass rule db 1 names all), tt);
+payment_passes : (rule : Constraint) (db : Trees) (id : ℕ) (name : List ℕ) (side : Side) (amount moment : ℕ) → passes rule books_schema db (payments payment_tree) (payment_line id name side amount moment) ≡ true
+payment_passes Datatype db id name side amount moment = refl
+payment_passes NotNull db id name side amount moment = refl
+payment_passes Check db id name side amount moment = refl
+payment_passes PrimaryKey db id name side amount moment = refl
+payment_passes Unique db id name side amount moment = refl
+payment_passes ForeignKey db id name side amount moment = refl
+
+payments_pass : (rule : Constraint) (db : Trees) (id : ℕ) (paid : List Row) → ArePaymentsFrom id paid → AllByRecursion (λ row. passes rule books_schema db (payments payment_tree) row ≡ true) paid
+payments_pass rule db id [] all = tt
+payments_pass rule db id (row ∷ paid) all =
+    let it = all.0 in
+    (subst (λ r. passes rule books_schema db (payments payment_tree) r ≡ true) (sym it.is) (payment_passes rule db id it.name it.side it.amount it.moment), payments_pass rule db (suc id) paid all.1)
+
+books_obey : (db : Trees) (s : Sums) → AreSums db s → Obeys books_schema db
+books_obey db s books = record {
+  rules = λ rule. (
+    subst (λ rows. AllByRecursion (λ row. passes rule books_schema db account row ≡ true) rows) (sym books.rows) (lines_pass rule db 1 s.names s.amounts),
+    (subst (λ rows. AllByRecursion (λ row. passes rule books_schema db (payments payment_tree) row ≡ true) rows) (sym books.audit) (payments_pass rule db 1 s.paid books.payments), tt),
+  );
   indexed = tt;
 }
 
@@ -69,6 +101,15 @@ lines_obey db names all e = record {
 defined : table_defined_by table_text ≡ Ok account
 unfolding table_defined_by everything
 defined = refl
+
+-- a text does not say the tree
+defined_next : table_defined_by payment_text ≡ Ok (payments 0)
+unfolding table_defined_by everything
+defined_next = refl
+
+apart : same_name (codes "account") (codes "payment") ≡ false
+unfolding same_name
+apart = refl
 
 module _ (row : Row) (kind : column row 1 ≡ Words (codes "table")) (code : number_in (column row 5) ≡ 1) where
   native : is_foreign_row row ≡ false
@@ -88,38 +129,49 @@ ascii [] all i = omega arith
 ascii (b ∷ bs) all zero = all.0
 ascii (b ∷ bs) all (suc i) = ascii bs all.1 i
 
-pub lists : (objects : List Row) → ListsTable objects → Lists objects books_schema
+-- a row of the list is that of its table
+module _ (number tree : ℕ) (name text : List ℕ) (columns : List Column) (row : Row) where
+  table_row_is : tree + 1 ≡ number → tree < 65536 → table_reals (table_of name tree columns) ≡ 0 → DefinesTable text (table_of name tree columns) → is_formed (table_of name tree columns) ≡ true → IsUtf8 name
+      → IsListed number name text row → IsTableRow row (table_of name tree columns)
+  table_row_is place low reals defined formed utf8 it = record {
+    described = record {
+      low = low;
+      id = it.is.id ∙ ap (λ n. Int (pos n)) (sym place);
+      kind_is = it.is.kind;
+      name_is = it.is.name;
+      owner_is = it.is.owner;
+      shape_is = it.code;
+      reals_are = it.reals ∙ sym reals;
+      fits = subst (λ n. n < 2 ^ 64) (sym reals) (omega arith);
+    };
+    sql = text;
+    sql_is = it.is.text_is;
+    defined = defined;
+    formed = formed;
+    utf8 = utf8;
+  }
+
+pub lists : (objects : List Row) → ListsTables objects → Lists objects books_schema
 lists objects all =
-    let row = all.row in
-    let kind = all.is.kind in
-    let table : IsTableRow row account = record {
-      described = record {
-        low = omega arith;
-        id = all.is.id;
-        kind_is = kind;
-        name_is = all.is.name;
-        owner_is = all.is.owner;
-        shape_is = all.code;
-        reals_are = all.reals;
-        fits = omega arith;
-      };
-      sql = table_text;
-      sql_is = all.is.text;
-      defined = (account, defined, refl);
-      formed = refl;
-      utf8 = IsUtf8-from_ascii (codes "account") (ascii (codes "account") (omega arith, (omega arith, (omega arith, (omega arith, (omega arith, (omega arith, (omega arith, tt))))))));
-    } in
+    let r = all.account in
+    let s = all.payment in
+    let a = all.accounts in
+    let p = all.payments in
+    let first = table_row_is 1 0 (codes "account") table_text account.columns r refl (omega arith) refl (account, defined, refl) refl
+    (IsUtf8-from_ascii (codes "account") (ascii (codes "account") (omega arith, (omega arith, (omega arith, (omega arith, (omega arith, (omega arith, (omega arith, tt))))))))) a in
+    let second = table_row_is 2 payment_tree (codes "payment") payment_text (payments 0).columns s refl (omega arith) refl (payments 0, defined_next, refl) refl
+    (IsUtf8-from_ascii (codes "payment") (ascii (codes "payment") (omega arith, (omega arith, (omega arith, (omega arith, (omega arith, (omega arith, (omega arith, tt))))))))) p in
     record {
       listed = record {
-        tables = rw (all.only, a_table row kind all.code) (table, tt);
-        indexes = rw (all.only, no_index row kind all.code) tt;
-        views = rw (all.only, no_view row kind all.code) tt;
+        tables = rw (all.only, a_table r a.is.kind a.code, a_table s p.is.kind p.code) (first, (second, tt));
+        indexes = rw (all.only, no_index r a.is.kind a.code, no_index s p.is.kind p.code) tt;
+        views = rw (all.only, no_view r a.is.kind a.code, no_view s p.is.kind p.code) tt;
         owned = tt;
-        named = (tt, tt);
+        named = ((apart, tt), (tt, tt));
         loads = all.loads;
       };
-      guarded = ((λ at key e. absurd (let k = e in cc)), tt);
+      guarded = ((λ at key e. absurd (let k = e in cc)), ((λ at key e. absurd (let k = e in cc)), tt));
     }
 
-pub sound : (db : Trees) (starts : ℕ) (names : List (List ℕ)) (all : List Amounts) → AreBooks db starts names all → IsSound books_schema db
-sound db starts names all books = record { lists = lists (db catalog_tree) books.objects; obeys = lines_obey db names all books.rows }
+pub sound : (db : Trees) (s : Sums) → AreSums db s → IsSound books_schema db
+sound db s books = record { lists = lists (db catalog_tree) books.objects; obeys = books_obey db s books }

@@ -12,9 +12,12 @@ use Rattle.sqlite.specs.Steps.{IsFresh}
 use Rattle.sqlite_trees.proofs.Doubt.{no_doubt}
 use Rattle.st_books.specs.declared.balance.Amounts.{Amounts}
 use Rattle.st_books.specs.Sums.{nothing}
-use Rattle.st_books.specs.Table.{AreBooks, ListsTable, line, lines}
+use Rattle.st_books.specs.Payments.{payment_line, name_at, with_payment, ArePayments, payment_row}
+use Rattle.st_books.specs.declared.balance.Payment.{Payment}
+use Rattle.st_books.specs.Table.{AreBooks, ListsTables, line, lines, payment_tree}
 use Rattle.st_books.proofs.LineLemmas.{put_end}
-use Rattle.st_books.specs.Standing.{Draws, Keeps, Holds, IsReady, ReadsOnly}
+use Rattle.st_books.proofs.PaymentLemmas.{put_payment, payments_push}
+use Rattle.st_books.specs.Standing.{Draws, Keeps, Holds, IsReady, ReadsOnly, payments_in}
 
 pub only_writes_then : (a b c : View) → OnlyWrites a b → OnlyWrites b c → OnlyWrites a c
 only_writes_then a b c p q = q ∙ ap (λ (v : View). record v { trees = c.trees; cursors = c.cursors }) p
@@ -23,10 +26,10 @@ pub only_writes_none : (a : View) → OnlyWrites a a
 only_writes_none a = refl
 
 pub draws_then : (a b c : View) (names : List (List ℕ)) (x y z : List Amounts) → Draws a b names x y → Draws b c names y z → Draws a c names x z
-draws_then a b c names x y z p q = record { frame = only_writes_then a b c p.frame q.frame; books = λ starts h. q.books starts (p.books starts h) }
+draws_then a b c names x y z p q = record { frame = only_writes_then a b c p.frame q.frame; books = λ starts paid h. q.books starts paid (p.books starts paid h) }
 
 pub draws_none : (a : View) (names : List (List ℕ)) (x : List Amounts) → Draws a a names x x
-draws_none a names x = record { frame = refl; books = λ starts h. h }
+draws_none a names x = record { frame = refl; books = λ starts paid h. h }
 
 schema_then : (a b c : View) → KeepsSchema a b → KeepsSchema b c → KeepsSchema a c
 schema_then a b c p q = record {
@@ -96,9 +99,9 @@ open_sound v broken sound = elim (cases_Bool v.is_open) [
 ]
 
 -- what stood before a transaction stands after its rollback
-pub held_undone : (was mid new : View) (starts : ℕ) (names : List (List ℕ)) (all : List Amounts) → Holds was starts names all → (IsClean mid → Keeps was mid) → IsRolledBack mid new → (IsClean new → IsClean mid) → (IsClean mid → IsClean was)
-    → (IsTrue new.is_open → IsClean new) → Holds new starts names all
-held_undone was mid new starts names all held kept undone late early clean = (
+pub held_undone : (was mid new : View) (starts : ℕ) (names : List (List ℕ)) (all : List Amounts) (paid : List Row) (count : ℕ) → Holds was starts names all paid count → (IsClean mid → Keeps was mid) → IsRolledBack mid new → (IsClean new → IsClean mid) → (IsClean mid → IsClean was)
+    → (IsTrue new.is_open → IsClean new) → Holds new starts names all paid count
+held_undone was mid new starts names all paid count held kept undone late early clean = (
   λ now.
       let keeps = kept (late now) in
       let laid = held.0 (early (late now)) in
@@ -106,6 +109,7 @@ held_undone was mid new starts names all held kept undone late early clean = (
       let shape : new.shape ≡ was.shape = undone.shape level ∙ keeps.schema.shape in
       record {
         table = ap (λ s. s 0) shape ∙ laid.table;
+        audit = ap (λ s. s payment_tree) shape ∙ laid.audit;
         kept = undone.shape level ∙ (level ∙ sym undone.committed_shape);
         numbered = undone.numbered ∙ (keeps.schema.numbered ∙ laid.numbered);
       },
@@ -114,36 +118,47 @@ held_undone was mid new starts names all held kept undone late early clean = (
       let back = undone.kept (clean is_open) in
       let mid_open = back.was_open is_open in
       let stood = held.1 (keeps.was_open mid_open) in
-      let commit : new.committed ≡ was.committed = back.committed is_open ∙ keeps.committed mid_open in
-      record {
-        sound = (undone.undone is_open).1;
-        settled = (undone.undone is_open).0 ∙ sym (back.committed is_open);
-        books = subst (λ db. AreBooks db starts names all) (sym commit) stood.books;
-      },
+      let commit : new.committed ≡ was.committed = back.committed is_open ∙ keeps.committed mid_open in (
+        record {
+          sound = (undone.undone is_open).1;
+          settled = (undone.undone is_open).0 ∙ sym (back.committed is_open);
+          books = subst (λ db. AreBooks db starts names all paid) (sym commit) stood.0.books;
+        },
+        stood.1,
+      ),
 )
 
 -- what was drawn stands after the commit
-pub held_committed : (was mid new : View) (starts later : ℕ) (names longer : List (List ℕ)) (before after : List Amounts) → Holds was starts names before → IsClean was → OnlyWrites was mid
-    → (AreBooks was.trees starts names before → AreBooks mid.trees later longer after) → Commits mid new → IsTrue was.is_open → Holds new later longer after
-held_committed was mid new starts later names longer before after held clean frame drawn commits is_open =
+pub held_committed : (was mid new : View) (starts later : ℕ) (names longer : List (List ℕ)) (before after : List Amounts) (paid more : List Row) (count grown : ℕ) → Holds was starts names before paid count → IsClean was → OnlyWrites was mid
+    → (length paid ≡ count → AreBooks was.trees starts names before paid → AreBooks mid.trees later longer after more) → (length paid ≡ count → length more ≡ grown) → Commits mid new → IsTrue was.is_open
+    → Holds new later longer after more grown
+held_committed was mid new starts later names longer before after paid more count grown held clean frame drawn counted commits is_open =
     let laid = held.0 clean in
     let stood = held.1 is_open in
-    let books : AreBooks mid.trees later longer after = drawn (subst (λ db. AreBooks db starts names before) (sym stood.settled) stood.books) in
+    let books : AreBooks mid.trees later longer after more = drawn stood.1 (subst (λ db. AreBooks db starts names before paid) (sym stood.0.settled) stood.0.books) in
     let shape : mid.shape ≡ was.shape = ap (λ (v : View). v.shape) frame in
     let now = commits.is in (
       λ _. record {
         table = ap (λ (v : View). v.shape 0) now ∙ (ap (λ s. s 0) shape ∙ laid.table);
+        audit = ap (λ (v : View). v.shape payment_tree) now ∙ (ap (λ s. s payment_tree) shape ∙ laid.audit);
         kept = ap (λ (v : View). v.shape) now ∙ sym (ap (λ (v : View). v.committed_shape) now);
         numbered = ap (λ (v : View). v.is_numbered) now ∙ (ap (λ (v : View). v.is_numbered) frame ∙ laid.numbered);
       },
-      λ _. record {
-        sound = ap (λ (v : View). v.is_broken) now ∙ commits.sound;
-        settled = ap (λ (v : View). v.trees) now ∙ sym (ap (λ (v : View). v.committed) now);
-        books = subst (λ db. AreBooks db later longer after) (sym (ap (λ (v : View). v.committed) now)) books;
-      },
+      λ _. (
+        record {
+          sound = ap (λ (v : View). v.is_broken) now ∙ commits.sound;
+          settled = ap (λ (v : View). v.trees) now ∙ sym (ap (λ (v : View). v.committed) now);
+          books = subst (λ db. AreBooks db later longer after more) (sym (ap (λ (v : View). v.committed) now)) books;
+        },
+        counted stood.1,
+      ),
     )
 
 -- ---- by what the calls told
+
+pub ok_then : {T E : Type 0} (r : Result T E) (P Q : T → Type 0) → ((x : T) → P x → Q x) → IfOk r P → IfOk r Q
+ok_then (Ok x) P Q more p = more x p
+ok_then (Err e) P Q more p = tt
 
 pub ok_both : {T E : Type 0} (r : Result T E) (P Q R : T → Type 0) → ((x : T) → P x → Q x → R x) → IfOk r P → IfOk r Q → IfOk r R
 ok_both (Ok x) P Q R both p q = both x p q
@@ -165,17 +180,17 @@ pub at_ok : {T E P : Type 0} (r : Result T E) → IsOk r → OnOk r P → P
 at_ok (Ok x) is h = h
 at_ok (Err e) is h = absurd (let k = is in cc)
 
-module _ {E : Type 0} (was mid new : View) (starts later : ℕ) (names longer : List (List ℕ)) (before after : List Amounts) (held : Holds was starts names before) (late : IsClean new → IsClean mid) (early : IsClean mid → IsClean was)
+module _ {E : Type 0} (was mid new : View) (starts later : ℕ) (names longer : List (List ℕ)) (before after : List Amounts) (paid more : List Row) (count grown : ℕ) (held : Holds was starts names before paid count) (late : IsClean new → IsClean mid) (early : IsClean mid → IsClean was)
     (wide : was.is_open ≡ false → IsTrue was.is_broken) (entered : Result (Unit {0}) E) (frame : OnOk entered (IsClean mid → OnlyWrites was mid))
-    (drawn : OnOk entered (IsClean mid → AreBooks was.trees starts names before → AreBooks mid.trees later longer after)) where
+    (drawn : OnOk entered (IsClean mid → length paid ≡ count → AreBooks was.trees starts names before paid → AreBooks mid.trees later longer after more)) (counted : length paid ≡ count → length more ≡ grown) where
   -- the store was open, where what was entered may be committed
   was_open : IsClean mid → IsOk entered → mid.is_broken ≡ false → IsTrue was.is_open
   was_open clean is sound = open_sound was wide (sym (ap (λ (v : View). v.is_broken) (at_ok entered is frame clean)) ∙ sound)
 
-  pub told_holds : (clean : IsTrue new.is_open → IsClean new) (told : Result (Unit {0}) E) → OnOk told (IsOk entered) → OnOk told (IsClean new → Commits mid new) → OnOk told (Holds new later longer after)
+  pub told_holds : (clean : IsTrue new.is_open → IsClean new) (told : Result (Unit {0}) E) → OnOk told (IsOk entered) → OnOk told (IsClean new → Commits mid new) → OnOk told (Holds new later longer after more grown)
   told_holds clean (Err e) is commits = tt
   told_holds clean (Ok x) is commits =
-      let all = λ (now : IsClean new). held_committed was mid new starts later names longer before after held (early (late now)) (at_ok entered is frame (late now)) (at_ok entered is drawn (late now)) (commits now)
+      let all = λ (now : IsClean new). held_committed was mid new starts later names longer before after paid more count grown held (early (late now)) (at_ok entered is frame (late now)) (at_ok entered is drawn (late now)) counted (commits now)
       (was_open (late now) is (commits now).sound) in
       (λ now. (all now).0 now, λ is_open. (all (clean is_open)).1 is_open)
 
@@ -186,35 +201,53 @@ module _ {E : Type 0} (was mid new : View) (starts later : ℕ) (names longer : 
       ∙ (ap (λ (v : View). v.is_open) (at_ok entered is frame (late now)) ∙ was_open (late now) is (commits now).sound)
 
   -- what a crash may leave
-  pub told_crash : {Was Mid : Trees → Type 0} → ((db : Trees) → Mid db → Was db) → (db : Trees) → IsClean new → (IsOk entered × (mid.is_broken ≡ false) × (db ≡ mid.trees)) ⊎ Mid db → Was db ⊎ AreBooks db later longer after
+  pub told_crash : {Was Mid : Trees → Type 0} → ((db : Trees) → Mid db → Was db) → (db : Trees) → IsClean new → (IsOk entered × (mid.is_broken ≡ false) × (db ≡ mid.trees)) ⊎ Mid db → Was db ⊎ AreBooks db later longer after more
   told_crash outcomes db now (inr stays) = inl (outcomes db stays)
   told_crash outcomes db now (inl (is, sound, same)) =
       let stood = held.1 (was_open (late now) is sound) in
-      inr (subst (λ t. AreBooks t later longer after) (sym same) (at_ok entered is drawn (late now) (subst (λ t. AreBooks t starts names before) (sym stood.settled) stood.books)))
+      inr (subst (λ t. AreBooks t later longer after more) (sym same) (at_ok entered is drawn (late now) stood.1 (subst (λ t. AreBooks t starts names before paid) (sym stood.0.settled) stood.0.books)))
 
 -- ---- a connection's store
 
 -- what a rollback leaves of an open store
-pub undone_ready : (old new : View) → IsRolledBack old new → IsClean new → IsTrue new.is_open → IsTrue new.is_numbered → is_sound_list (new.committed catalog_tree) ≡ true → new.shape 0 ≡ Table → IsReady new
-undone_ready old new undone clean is_open numbered loads table =
+pub undone_ready : (old new : View) → IsRolledBack old new → IsClean new → IsTrue new.is_open → IsTrue new.is_numbered → is_sound_list (new.committed catalog_tree) ≡ true → new.shape 0 ≡ Table → new.shape payment_tree ≡ Table → IsReady new
+undone_ready old new undone clean is_open numbered loads table audit =
     let back = undone.kept clean in
     let at : (if new.is_open then old.committed_shape else old.shape) ≡ old.committed_shape = rw is_open refl in
     record {
       sound = (undone.undone is_open).1;
-      laid = record { table = table; kept = back.shape ∙ (at ∙ sym undone.committed_shape); numbered = numbered };
+      laid = record { table = table; audit = audit; kept = back.shape ∙ (at ∙ sym undone.committed_shape); numbered = numbered };
       settled = (undone.undone is_open).0 ∙ sym (back.committed is_open);
       loads = loads;
     }
 
-pub ready_holds : (v : View) (starts : ℕ) (names : List (List ℕ)) (all : List Amounts) → (IsClean v → IsReady v) → (IsTrue v.is_open → IsClean v) → (IsClean v → AreBooks v.trees starts names all) → Holds v starts names all
-ready_holds v starts names all ready clean books = (
+pub ready_holds : (v : View) (starts : ℕ) (names : List (List ℕ)) (all : List Amounts) (count : ℕ) → (IsClean v → IsReady v) → (IsTrue v.is_open → IsClean v) → (IsClean v → AreBooks v.trees starts names all (v.trees payment_tree))
+    → (IsClean v → length (v.trees payment_tree) ≡ count) → Holds v starts names all (payments_in v) count
+ready_holds v starts names all count ready clean books counted = (
   λ now. (ready now).laid,
-  λ is_open. let r = ready (clean is_open) in record { sound = r.sound; settled = r.settled; books = subst (λ db. AreBooks db starts names all) r.settled (books (clean is_open)) },
+  λ is_open.
+      let now = clean is_open in
+      let r = ready now in (
+        record { sound = r.sound; settled = r.settled; books = subst (λ (db : Trees). AreBooks db starts names all (db payment_tree)) r.settled (books now) },
+        sym (ap (λ (db : Trees). length (db payment_tree)) r.settled) ∙ counted now,
+      ),
+)
+
+-- the payments are those of the store
+pub holds_own : (v : View) (starts : ℕ) (names : List (List ℕ)) (all : List Amounts) (paid : List Row) (count : ℕ) → Holds v starts names all paid count → Holds v starts names all (payments_in v) count
+holds_own v starts names all paid count held = (
+  held.0,
+  λ is_open.
+      let stood = held.1 is_open in
+      let same : paid ≡ payments_in v = sym stood.0.books.audit in (
+        record { sound = stood.0.sound; settled = stood.0.settled; books = subst (λ p. AreBooks v.committed starts names all p) same stood.0.books },
+        sym (ap length same) ∙ stood.1,
+      ),
 )
 
 -- only reads came between
 pub read_ready : (old new : View) → ReadsOnly old new → IsReady old → IsReady new
-read_ready old new reads r = rw reads (record { sound = r.sound; laid = record { table = r.laid.table; kept = r.laid.kept; numbered = r.laid.numbered }; settled = r.settled; loads = r.loads })
+read_ready old new reads r = rw reads (record { sound = r.sound; laid = record { table = r.laid.table; audit = r.laid.audit; kept = r.laid.kept; numbered = r.laid.numbered }; settled = r.settled; loads = r.loads })
 
 -- and it is fresh
 pub undone_fresh : (old new : View) → IsRolledBack old new → IsClean new → IsTrue new.is_numbered → IsTrue new.is_open → IsFresh new
@@ -234,42 +267,88 @@ absent_empty s rows none h = let P : Shape → Type 0 = λ t. IsShaped t rows in
 -- ---- one tree is written
 
 -- another tree stays
-other_tree : (db : Trees) (tree : ℕ) (rows : List Row) (t : ℕ) → t ≢ tree → with_tree db tree rows t ≡ db t
+pub other_tree : (db : Trees) (tree : ℕ) (rows : List Row) (t : ℕ) → t ≢ tree → with_tree db tree rows t ≡ db t
 other_tree db tree rows t other = rw (ne_eqb t tree other)
 
-same_tree : (db : Trees) (tree : ℕ) (rows : List Row) → with_tree db tree rows tree ≡ rows
+pub same_tree : (db : Trees) (tree : ℕ) (rows : List Row) → with_tree db tree rows tree ≡ rows
 same_tree db tree rows = rw (eq-eqb tree tree refl)
 
 -- the lines are these now
-pub lines_written : (db : Trees) (rows : List Row) (starts : ℕ) (names longer : List (List ℕ)) (before after : List Amounts) → AreBooks db starts names before → rows ≡ lines longer after → length longer ≡ length after
-    → AreBooks (with_tree db 0 rows) starts longer after
-lines_written db rows starts names longer before after h is named = record {
+pub lines_written : (db : Trees) (rows : List Row) (starts : ℕ) (names longer : List (List ℕ)) (before after : List Amounts) (paid : List Row) → AreBooks db starts names before paid → rows ≡ lines longer after → length longer ≡ length after
+    → AreBooks (with_tree db 0 rows) starts longer after paid
+lines_written db rows starts names longer before after paid h is named = record {
   rows = same_tree db 0 rows ∙ is;
   named = named;
+  audit = other_tree db 0 rows payment_tree (omega arith) ∙ h.audit;
+  payments = h.payments;
   counted = other_tree db 0 rows version_tree (omega arith) ∙ h.counted;
-  objects = subst ListsTable (sym (other_tree db 0 rows catalog_tree (omega arith))) h.objects;
+  objects = subst ListsTables (sym (other_tree db 0 rows catalog_tree (omega arith))) h.objects;
 }
 
 -- the starts are counted now
-pub starts_written : (db : Trees) (starts later : ℕ) (names : List (List ℕ)) (all : List Amounts) → AreBooks db starts names all → AreBooks (with_tree db version_tree (version_rows later)) later names all
-starts_written db starts later names all h = record {
+pub starts_written : (db : Trees) (starts later : ℕ) (names : List (List ℕ)) (all : List Amounts) (paid : List Row) → AreBooks db starts names all paid → AreBooks (with_tree db version_tree (version_rows later)) later names all paid
+starts_written db starts later names all paid h = record {
   rows = other_tree db version_tree (version_rows later) 0 (omega arith) ∙ h.rows;
   named = h.named;
+  audit = other_tree db version_tree (version_rows later) payment_tree (omega arith) ∙ h.audit;
+  payments = h.payments;
   counted = same_tree db version_tree (version_rows later);
-  objects = subst ListsTable (sym (other_tree db version_tree (version_rows later) catalog_tree (omega arith))) h.objects;
+  objects = subst ListsTables (sym (other_tree db version_tree (version_rows later) catalog_tree (omega arith))) h.objects;
 }
 
-pub line_added : (old new : View) (starts : ℕ) (names : List (List ℕ)) (all : List Amounts) (name : List ℕ) → SetsTree old new 0 (put_row (line (length names + 1) name nothing)) → AreBooks old.trees starts names all
-    → AreBooks new.trees starts (names ++ name ∷ []) (all ++ nothing ∷ [])
-line_added old new starts names all name sets h =
-    subst (λ db. AreBooks db starts (names ++ name ∷ []) (all ++ nothing ∷ [])) (sym (ap (λ (v : View). v.trees) sets.is))
-    (lines_written old.trees (put_row (line (length names + 1) name nothing) (old.trees 0)) starts names (names ++ name ∷ []) all (all ++ nothing ∷ []) h
+-- a payment is written at the end of the second table
+pub payment_written : (db : Trees) (rows : List Row) (starts : ℕ) (names : List (List ℕ)) (all : List Amounts) (paid more : List Row) → AreBooks db starts names all paid → rows ≡ more → ArePayments more
+    → AreBooks (with_tree db payment_tree rows) starts names all more
+payment_written db rows starts names all paid more h is lawful = record {
+  rows = other_tree db payment_tree rows 0 (omega arith) ∙ h.rows;
+  named = h.named;
+  audit = same_tree db payment_tree rows ∙ is;
+  payments = lawful;
+  counted = other_tree db payment_tree rows version_tree (omega arith) ∙ h.counted;
+  objects = subst ListsTables (sym (other_tree db payment_tree rows catalog_tree (omega arith))) h.objects;
+}
+
+pub payment_added : (old new : View) (starts : ℕ) (names : List (List ℕ)) (all : List Amounts) (paid : List Row) (p : Payment) → SetsTree old new payment_tree (put_row (payment_row paid names p)) → AreBooks old.trees starts names all paid
+    → AreBooks new.trees starts names all (with_payment paid names p)
+payment_added old new starts names all paid p sets h =
+    subst (λ db. AreBooks db starts names all (with_payment paid names p)) (sym (ap (λ (v : View). v.trees) sets.is))
+    (payment_written old.trees (put_row (payment_row paid names p) (old.trees payment_tree)) starts names all paid (with_payment paid names p) h
+    (ap (put_row (payment_row paid names p)) h.audit ∙ put_payment paid names p h.payments) (payments_push paid names p h.payments))
+
+-- its line was written with a name and a number that are these
+pub payment_drawn : (old new : View) (starts : ℕ) (names : List (List ℕ)) (all : List Amounts) (paid : List Row) (p : Payment) (before : ℕ) (name : List ℕ) → length paid ≡ before → name_at names p.account ≡ name
+    → SetsTree old new payment_tree (put_row (payment_line (before + 1) name p.side p.amount p.moment)) → AreBooks old.trees starts names all paid → AreBooks new.trees starts names all (with_payment paid names p)
+payment_drawn old new starts names all paid p before name count is sets h =
+    let named : SetsTree old new payment_tree (put_row (payment_line (before + 1) (name_at names p.account) p.side p.amount p.moment)) =
+    subst (λ n. SetsTree old new payment_tree (put_row (payment_line (before + 1) n p.side p.amount p.moment))) (sym is) sets in
+    payment_added old new starts names all paid p (subst (λ n. SetsTree old new payment_tree (put_row (payment_line (n + 1) (name_at names p.account) p.side p.amount p.moment))) (sym count) named) h
+
+pub line_added : (old new : View) (starts : ℕ) (names : List (List ℕ)) (all : List Amounts) (paid : List Row) (name : List ℕ) → SetsTree old new 0 (put_row (line (length names + 1) name nothing)) → AreBooks old.trees starts names all paid
+    → AreBooks new.trees starts (names ++ name ∷ []) (all ++ nothing ∷ []) paid
+line_added old new starts names all paid name sets h =
+    subst (λ db. AreBooks db starts (names ++ name ∷ []) (all ++ nothing ∷ []) paid) (sym (ap (λ (v : View). v.trees) sets.is))
+    (lines_written old.trees (put_row (line (length names + 1) name nothing) (old.trees 0)) starts names (names ++ name ∷ []) all (all ++ nothing ∷ []) paid h
     (ap (put_row (line (length names + 1) name nothing)) h.rows ∙ put_end names all name nothing h.named)
     (omega (arith, h.named, length-append names (name ∷ []), length-append all (nothing ∷ []))))
 
-pub starts_counted : (old new : View) (starts later : ℕ) (names : List (List ℕ)) (all : List Amounts) → SetsTree old new version_tree (λ _. version_rows later) → AreBooks old.trees starts names all → AreBooks new.trees later names all
-starts_counted old new starts later names all sets h = subst (λ db. AreBooks db later names all) (sym (ap (λ (v : View). v.trees) sets.is)) (starts_written old.trees starts later names all h)
+pub starts_counted : (old new : View) (starts later : ℕ) (names : List (List ℕ)) (all : List Amounts) (paid : List Row) → SetsTree old new version_tree (λ _. version_rows later) → AreBooks old.trees starts names all paid
+    → AreBooks new.trees later names all paid
+starts_counted old new starts later names all paid sets h = subst (λ db. AreBooks db later names all paid) (sym (ap (λ (v : View). v.trees) sets.is)) (starts_written old.trees starts later names all paid h)
+
+-- one more
+pub one_more : (paid : List Row) (row : Row) (count : ℕ) → length paid ≡ count → length (paid ++ row ∷ []) ≡ count + 1
+one_more paid row count is = omega (arith, is, length-append paid (row ∷ []))
 
 -- a write of one tree changes nothing else
 pub sets_only : (old new : View) (tree : ℕ) (edit : List Row → List Row) → SetsTree old new tree edit → OnlyWrites old new
 sets_only old new tree edit sets = sets.is ∙ ap (λ (v : View). record old { trees = v.trees; cursors = new.cursors }) (sym sets.is)
+
+pub reads_then : (a b c : View) → ReadsOnly a b → ReadsOnly b c → ReadsOnly a c
+reads_then a b c p q = q ∙ ap (λ (v : View). record v { cursors = c.cursors }) p
+
+-- the books that two reads found
+pub found_ready : (was new : View) (starts : ℕ) (names : List (List ℕ)) (all : List Amounts) → ReadsOnly was new → ListsTables (was.trees catalog_tree) → was.trees 0 ≡ lines names all → length names ≡ length all
+    → was.trees version_tree ≡ version_rows starts → ArePayments (was.trees payment_tree) → AreBooks new.trees starts names all (new.trees payment_tree)
+found_ready was new starts names all reads lists rows named counted lawful =
+    let same : was.trees ≡ new.trees = sym (ap (λ (v : View). v.trees) reads) in
+    subst (λ (db : Trees). AreBooks db starts names all (db payment_tree)) same (record { rows = rows; named = named; audit = refl; payments = lawful; counted = counted; objects = lists })

@@ -3,7 +3,7 @@ use Rattle.std.specs.Prelude.{ℕ, Option, None}
 use Rattle.sqlite_trees.specs.declared.error.StoreError.{StoreError}
 use Rattle.sqlite_trees.specs.declared.error.StoreError.TheVariants as stored
 use Rattle.st_books.specs.declared.error.BooksError.{BooksError}
-use Rattle.st_books.specs.declared.error.BooksError.TheVariants.{NoBooks, Taken, Device, Full, Damaged, Shut, NoAccount, TooMuch, NameTaken, BadName, NoMemory}
+use Rattle.st_books.specs.declared.error.BooksError.TheVariants.{NoBooks, Taken, Device, Full, Damaged, Shut, NoAccount, TooMuch, NameTaken, BadName, NoMemory, TooLittle}
 
 -- each refusal has its own number
 abbrev pub number : BooksError → ℕ
@@ -18,6 +18,7 @@ number TooMuch = 117
 number NameTaken = 118
 number BadName = 119
 number NoMemory = 120
+number TooLittle = 121
 
 -- no refusal carries a further number
 abbrev pub inner : BooksError → Option ℕ

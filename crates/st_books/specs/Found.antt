@@ -6,10 +6,11 @@ use Rattle.sqlite_trees.specs.Tree.{Trees}
 use Rattle.sqlite_store.specs.declared.store.FileStore.{FileStore}
 use Rattle.sqlite_store.specs.FileStore.{state as store_state, view}
 use Rattle.sqlite.specs.Held.{Held}
-use Rattle.sqlite.specs.Files.{file_state, over_files}
+use Rattle.sqlite.specs.Files.{file_state, over_files, IsNothing}
 use Rattle.sqlite.specs.Start.{FindsIn}
-use Rattle.st_books.specs.Standing.{Kept, Takes}
-use Rattle.st_books.specs.Commits.{Sums, sums_of, AreSums}
+use Rattle.sqlite_trees.specs.Objects.{catalog_tree}
+use Rattle.st_books.specs.Table.{ListsTables}
+use Rattle.st_books.specs.Standing.{Kept, Sums, AreSums, sums_of, Takes}
 
 -- the files held a database of these books, and from now on each crash leaves them
 pub record FindsBooks {D : Type 0} {g : Ghosts D} (image : Image) (books : Kept (FileStore D g)) : Type 0 where
@@ -17,10 +18,16 @@ pub record FindsBooks {D : Type 0} {g : Ghosts D} (image : Image) (books : Kept 
   pub found : FindsIn image (file_state opened)
   pub takes : Takes over_files (file_state opened).committed.trees books
 
+-- and they were made before: there was a database, and it listed the two tables
+pub record FindsOld {D : Type 0} {g : Ghosts D} (image : Image) (books : Kept (FileStore D g)) : Type 0 where
+  pub finds : FindsBooks image books
+  pub something : ¬ IsNothing image
+  pub listed : ListsTables ((file_state finds.opened).committed.trees catalog_tree)
+
 -- Where a crash leaves only one database of books, or one of two, the next open of what it left finds it, if it finds any.
 abbrev pub NextFinds : {D : Type 0} → Ghosts D → {E : Type 0} → Ghosts E → Type 0
 NextFinds {D} g {E} h =
     (it : FileStore D g) (before after : Sums) → IsTrue (view it).is_numbered
     → ((db : Trees) → over_files.recovers it db → AreSums db before ⊎ AreSums db after)
     → (left : Image) → (store_state it).may_leave left → (again : Kept (FileStore E h)) → FindsBooks left again
-    → ∥ (sums_of again ≡ before) ⊎ (sums_of again ≡ after) ∥₁
+    → ∥ (sums_of over_files again ≡ before) ⊎ (sums_of over_files again ≡ after) ∥₁

@@ -1,6 +1,8 @@
 pub mod Sums
+pub mod Payments
 pub mod Table
 pub mod Standing
+pub mod Made
 pub mod Errors
 pub mod Reasons
 pub mod Commits

@@ -3,13 +3,16 @@ use Rattle.std.specs.Prelude.{◌≡◌, ℕ, ◌+◌, List, slice_get, Some, Is
 use Rattle.sqlite_trees.specs.View.{View, IsStorableRow}
 use Rattle.st_books.specs.declared.balance.Amounts.{Amounts}
 use Rattle.st_books.specs.declared.error.BooksError.{BooksError}
-use Rattle.st_books.specs.declared.error.BooksError.TheVariants.{NoBooks, Taken, Device, Full, Damaged, Shut, NoAccount, TooMuch, NameTaken, BadName, NoMemory}
-use Rattle.st_books.specs.Table.{line}
+use Rattle.st_books.specs.declared.error.BooksError.TheVariants.{NoBooks, Taken, Device, Full, Damaged, Shut, NoAccount, TooMuch, NameTaken, BadName, NoMemory, TooLittle}
+use Rattle.st_books.specs.declared.balance.Payment.{Payment}
+use Rattle.st_books.specs.Payments.{payment_line, name_at}
+use Rattle.st_books.specs.Table.{line, payment_tree}
 
--- what the bookings or the name of a call have to be for a refusal of them
+-- what the bookings, the name or the payment of a call have to be for a refusal of them
 pub record Excuses : Type 1 where
   pub no_account : Type 0
   pub too_much : Type 0
+  pub too_little : Type 0
   pub taken : Type 0
   pub bad_name : Type 0
 
@@ -23,13 +26,14 @@ Because old fault x Damaged = fault
 Because old fault x Shut = IsTrue old.is_broken
 Because old fault x NoAccount = x.no_account
 Because old fault x TooMuch = x.too_much
+Because old fault x TooLittle = x.too_little
 Because old fault x NameTaken = x.taken
 Because old fault x BadName = x.bad_name
 Because old fault x NoBooks = ⊥
 Because old fault x Taken = ⊥
 
 abbrev pub excuses : (no_account too_much taken bad_name : Type 0) → Excuses
-excuses a b c d = record { no_account = a; too_much = b; taken = c; bad_name = d }
+excuses a b c d = record { no_account = a; too_much = b; too_little = ⊥; taken = c; bad_name = d }
 
 abbrev pub no_excuse : Excuses
 no_excuse = excuses ⊥ ⊥ ⊥ ⊥
@@ -37,3 +41,7 @@ no_excuse = excuses ⊥ ⊥ ⊥ ⊥
 -- SQLite cannot store the line of one of these names
 abbrev pub HasBadName : View → List (List ℕ) → Type 0
 HasBadName v names = (at : ℕ) × (name : List ℕ) × (a : Amounts) × (slice_get names at ≡ Some name) × (¬ IsStorableRow (v.reals 0) (line (at + 1) name a))
+
+-- SQLite cannot store the line of this payment, whatever its number
+abbrev pub HasBadPayment : View → List (List ℕ) → Payment → Type 0
+HasBadPayment v names p = (id : ℕ) × (¬ IsStorableRow (v.reals payment_tree) (payment_line id (name_at names p.account) p.side p.amount p.moment))

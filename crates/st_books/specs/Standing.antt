@@ -1,5 +1,6 @@
 -- What a store has of books, and what steps of a transaction do to it.
 use Rattle.std.specs.Prelude.{◌≡◌, ℕ, true, false, List, length, IsTrue}
+use Rattle.sqlite_value.specs.Order.{Row}
 use Rattle.sqlite_trees.specs.Tree.{Trees}
 use Rattle.sqlite_trees.specs.Objects.{catalog_tree, version_tree, version_rows}
 use Rattle.sqlite_trees.specs.Sound.{is_sound_list}
@@ -7,24 +8,30 @@ use Rattle.sqlite_trees.specs.View.{View, IsClean, KeepsSchema, OnlyWrites}
 use Rattle.sqlite_trees.specs.declared.store.Store.{Ghosts}
 use Rattle.sqlite_trees.specs.declared.store.Shape.TheVariants.{Table}
 use Rattle.st_books.specs.declared.balance.Amounts.{Amounts}
-use Rattle.st_books.specs.Table.{AreBooks, lines}
+use Rattle.st_books.specs.Table.{AreBooks, lines, payment_tree}
+
+-- the payments of the last commit
+abbrev pub payments_in : View → List Row
+payments_in v = v.committed payment_tree
 
 -- the last commit is these books, and nothing else is written
-pub record Stands (v : View) (starts : ℕ) (names : List (List ℕ)) (all : List Amounts) : Type 0 where
+pub record Stands (v : View) (starts : ℕ) (names : List (List ℕ)) (all : List Amounts) (paid : List Row) : Type 0 where
   pub sound : v.is_broken ≡ false
   pub settled : v.trees ≡ v.committed
-  pub books : AreBooks v.committed starts names all
+  pub books : AreBooks v.committed starts names all paid
 
--- the table is there
+-- the tables are there
 pub record IsLaid (v : View) : Type 0 where
   pub table : v.shape 0 ≡ Table
+  pub audit : v.shape payment_tree ≡ Table
   pub kept : v.shape ≡ v.committed_shape
   pub numbered : IsTrue v.is_numbered
 
-abbrev pub Holds : View → (starts : ℕ) → List (List ℕ) → List Amounts → Type 0
-Holds v starts names all = (IsClean v → IsLaid v) × (IsTrue v.is_open → Stands v starts names all)
+-- and while the store is open, there are so many payments
+abbrev pub Holds : View → (starts : ℕ) → List (List ℕ) → List Amounts → (paid : List Row) → (payments : ℕ) → Type 0
+Holds v starts names all paid payments = (IsClean v → IsLaid v) × (IsTrue v.is_open → Stands v starts names all paid × (length paid ≡ payments))
 
--- a store between transactions, with the table, and with a list of objects that SQLite loads
+-- a store between transactions, with the tables, and with a list of objects that SQLite loads
 pub record IsReady (v : View) : Type 0 where
   pub sound : v.is_broken ≡ false
   pub laid : IsLaid v
@@ -35,10 +42,10 @@ pub record IsReady (v : View) : Type 0 where
 abbrev pub ReadsOnly : View → View → Type 0
 ReadsOnly old new = new ≡ record old { cursors = new.cursors }
 
--- the open table changes from these lines to those
+-- the table of accounts changes from these lines to those
 pub record Draws (old new : View) (names : List (List ℕ)) (before after : List Amounts) : Type 0 where
   pub frame : OnlyWrites old new
-  pub books : (starts : ℕ) → AreBooks old.trees starts names before → AreBooks new.trees starts names after
+  pub books : (starts : ℕ) (paid : List Row) → AreBooks old.trees starts names before paid → AreBooks new.trees starts names after paid
 
 -- the last commit stays
 pub record Keeps (old new : View) : Type 0 where
@@ -46,9 +53,19 @@ pub record Keeps (old new : View) : Type 0 where
   pub was_open : IsTrue new.is_open → IsTrue old.is_open
   pub committed : IsTrue new.is_open → new.committed ≡ old.committed
 
+-- what the books of a database are
+pub record Sums : Type 0 where
+  pub starts : ℕ
+  pub names : List (List ℕ)
+  pub amounts : List Amounts
+  pub paid : List Row
+
+abbrev pub AreSums : Trees → Sums → Type 0
+AreSums db s = AreBooks db s.starts s.names s.amounts s.paid
+
 -- each database that a crash may leave is these books
-abbrev pub LeavesOnly : {S : Type 0} → Ghosts S → S → (starts : ℕ) → List (List ℕ) → List Amounts → Type 0
-LeavesOnly g s starts names all = (db : Trees) → g.recovers s db → AreBooks db starts names all
+abbrev pub LeavesOnly : {S : Type 0} → Ghosts S → S → Sums → Type 0
+LeavesOnly g s sums = (db : Trees) → g.recovers s db → AreSums db sums
 
 -- The books, to a contract.
 pub record Kept (S : Type 0) : Type 0 where
@@ -57,15 +74,24 @@ pub record Kept (S : Type 0) : Type 0 where
   pub names : List (List ℕ)
   pub amounts : List Amounts
 
+-- with the payments, which no memory keeps: they are those of the last commit
+abbrev pub sums_of : {S : Type 0} → Ghosts S → Kept S → Sums
+sums_of g k = record { starts = k.starts; names = k.names; amounts = k.amounts; paid = payments_in (g.view k.store) }
+
+-- the books in memory tell these sums
+abbrev pub Tells : {S : Type 0} → Kept S → Sums → Type 0
+Tells k s = (k.starts ≡ s.starts) × (k.names ≡ s.names) × (k.amounts ≡ s.amounts)
+
 -- the store is open, and each crash leaves these books
 pub record Remains {S : Type 0} (g : Ghosts S) (books : Kept S) : Type 0 where
   pub is_open : IsTrue (g.view books.store).is_open
   pub numbered : IsTrue (g.view books.store).is_numbered
-  pub leaves : LeavesOnly g books.store books.starts books.names books.amounts
+  pub leaves : LeavesOnly g books.store (sums_of g books)
 
 -- a database was these books, and the store remains so
 pub record Takes {S : Type 0} (g : Ghosts S) (db : Trees) (books : Kept S) : Type 0 where
   pub rows : db 0 ≡ lines books.names books.amounts
   pub named : length books.names ≡ length books.amounts
+  pub audit : db payment_tree ≡ payments_in (g.view books.store)
   pub starts : db version_tree ≡ version_rows books.starts
   pub remains : Remains g books

@@ -1,4 +1,4 @@
--- The books as rows of a table that sqlite3 shows.
+-- The books as rows of two tables that sqlite3 shows.
 use Rattle.std.specs.Prelude.{◌≡◌, ◌≢◌, ℕ, suc, pos, true, List, [], ◌∷◌, length, codes, ⊤}
 use Rattle.std.specs.List.{AllByRecursion}
 use Rattle.sqlite_value.specs.declared.value.Value.TheVariants.{Null, Int, Text}
@@ -7,6 +7,11 @@ use Rattle.sqlite_trees.specs.Tree.{Trees}
 use Rattle.sqlite_trees.specs.Objects.{catalog_tree, version_tree, version_rows, number_in}
 use Rattle.sqlite_trees.specs.Sound.{is_sound_list}
 use Rattle.st_books.specs.declared.balance.Amounts.{Amounts}
+use Rattle.st_books.specs.Payments.{payment_text, ArePayments}
+
+-- the accounts are tree 0 of the database, and the payments outside Interledger the next
+abbrev pub payment_tree : ℕ
+payment_tree = 1
 
 abbrev pub table_text : List ℕ
 table_text = codes "CREATE TABLE account (id INTEGER PRIMARY KEY, name TEXT NOT NULL, claims INTEGER NOT NULL, dues INTEGER NOT NULL) STRICT"
@@ -29,26 +34,40 @@ abbrev pub AreDistinct : List (List ℕ) → Type 0
 AreDistinct [] = ⊤
 AreDistinct (name ∷ names) = AllByRecursion (λ other. other ≢ name) names × AreDistinct names
 
--- a row of the list of objects that is the table's
-pub record IsTableRow (row : Row) : Type 0 where
-  pub id : column row 0 ≡ Int (pos 1)
+-- a row of the list of objects that is this table's
+pub record IsTableRow (number : ℕ) (table text : List ℕ) (row : Row) : Type 0 where
+  pub id : column row 0 ≡ Int (pos number)
   pub kind : column row 1 ≡ Text (codes "table")
-  pub name : column row 2 ≡ Text (codes "account")
-  pub owner : column row 3 ≡ Text (codes "account")
-  pub text : column row 4 ≡ Text table_text
+  pub name : column row 2 ≡ Text table
+  pub owner : column row 3 ≡ Text table
+  pub text_is : column row 4 ≡ Text text
 
--- the file has this table and no other object
-pub record ListsTable (objects : List Row) : Type 0 where
-  pub row : Row
-  pub only : objects ≡ row ∷ []
-  pub is : IsTableRow row
+-- and says that it is a table with no REAL column
+pub record IsListed (number : ℕ) (table text : List ℕ) (row : Row) : Type 0 where
+  pub is : IsTableRow number table text row
   pub code : number_in (column row 5) ≡ 1
   pub reals : number_in (column row 6) ≡ 0
+
+abbrev pub IsAccountRow : Row → Type 0
+IsAccountRow = IsTableRow 1 (codes "account") table_text
+
+abbrev pub IsPaymentRow : Row → Type 0
+IsPaymentRow = IsTableRow 2 (codes "payment") payment_text
+
+-- the file has these two tables and no other object
+pub record ListsTables (objects : List Row) : Type 0 where
+  pub account : Row
+  pub payment : Row
+  pub only : objects ≡ account ∷ payment ∷ []
+  pub accounts : IsListed 1 (codes "account") table_text account
+  pub payments : IsListed 2 (codes "payment") payment_text payment
   pub loads : is_sound_list objects ≡ true
 
 -- The database is these books. SQLite's user version counts the starts.
-pub record AreBooks (db : Trees) (starts : ℕ) (names : List (List ℕ)) (all : List Amounts) : Type 0 where
+pub record AreBooks (db : Trees) (starts : ℕ) (names : List (List ℕ)) (all : List Amounts) (paid : List Row) : Type 0 where
   pub rows : db 0 ≡ lines names all
   pub named : length names ≡ length all
+  pub audit : db payment_tree ≡ paid
+  pub payments : ArePayments paid
   pub counted : db version_tree ≡ version_rows starts
-  pub objects : ListsTable (db catalog_tree)
+  pub objects : ListsTables (db catalog_tree)

@@ -4,12 +4,14 @@ ghost use Rattle.std.specs.Prelude.{◌≡◌, ◌≢◌, ◌+◌, ◌≤◌, No
 ghost use Rattle.std.specs.List.{AllByRecursion};
 ghost use Rattle.st_books.specs.Errors.{number};
 ghost use Rattle.st_books.specs.Table.{AreDistinct};
-ghost use Rattle.st_books.specs.Standing.{Holds};
-ghost use Rattle.st_books.specs.Commits.{Commits, Makes, Refuses, IsBecause, KeepsFor, after_bookings, after_name, after_start, booking_excuses, name_excuses, start_excuses};
+ghost use Rattle.st_books.specs.Payments.{paying, IsCovered};
+ghost use Rattle.st_books.specs.Standing.{Holds, payments_in};
+ghost use Rattle.st_books.specs.Commits.{Commits, Makes, Refuses, IsBecause, KeepsFor, after_bookings, after_name, after_start, after_payment, booking_excuses, name_excuses, start_excuses, payment_excuses};
 
-use crate::balance::Amounts;
+use crate::balance::{Amounts, Payment, Side};
 use crate::error::BooksError;
 use crate::names::{place_of, with_name};
+use crate::paying::commit_payment;
 use crate::table::{commit_account, commit_bookings, commit_starts};
 use sqlite_trees::store::Alter;
 use sqlite_value::row::Row;
@@ -24,6 +26,8 @@ pub struct Books<S: Alter> {
     starts: u32,
     names: Vec<Bytes>,
     amounts: Vec<Amounts>,
+    // How many lines the second table has.
+    paid: u64,
     row: Row,
     alloc: Global,
 }
@@ -31,13 +35,13 @@ pub struct Books<S: Alter> {
 impl<S: Alter> Model for Books<S> {
     ghost use Rattle.std.specs.Prelude.{◌≡◌, length};
     ghost use Rattle.st_books.specs.Table.{AreDistinct};
-    ghost use Rattle.st_books.specs.Standing.{Kept, Holds};
+    ghost use Rattle.st_books.specs.Standing.{Kept, Holds, payments_in};
 
     ghost Value = { Kept S };
 
     ghost view = { λ b. record { store = b.store; starts = b.starts; names = b.names.items; amounts = b.amounts.items } };
 
-    ghost invariant = { λ b. Holds (S.Store.view b.store) b.starts b.names.items b.amounts.items × (length b.names.items ≡ length b.amounts.items) × AreDistinct b.names.items };
+    ghost invariant = { λ b. Holds (S.Store.view b.store) b.starts b.names.items b.amounts.items (payments_in (S.Store.view b.store)) b.paid × (length b.names.items ≡ length b.amounts.items) × AreDistinct b.names.items };
 }
 
 // It is written out, so that a caller does not prove again how each part is dropped.
@@ -48,6 +52,7 @@ impl<S: Alter + Drop> Drop for Books<S> {
             starts: _,
             names: _,
             amounts: _,
+            paid: _,
             row: _,
             alloc: _,
         } = self;
@@ -63,8 +68,9 @@ impl<S: Alter> Books<S> {
         starts: u32,
         names: Vec<Bytes>,
         amounts: Vec<Amounts>,
+        paid: u64,
     ) -> Books<S>
-        requires holds { Holds (S.Store.view store) starts names.items amounts.items }
+        requires holds { Holds (S.Store.view store) starts names.items amounts.items (payments_in (S.Store.view store)) paid }
         requires named { length names.items ≡ length amounts.items }
         requires distinct { AreDistinct names.items }
         ensures { result ≡ record { store = store; starts = starts; names = names.items; amounts = amounts.items } }
@@ -74,6 +80,7 @@ impl<S: Alter> Books<S> {
             starts,
             names,
             amounts,
+            paid,
             row,
             alloc,
         }
@@ -88,7 +95,8 @@ impl<S: Alter> Books<S> {
 
     /// What is owed, by account.
     pub fn amounts(&self) -> &[Amounts]
-        ensures { result.now ≡ self.now.amounts }
+        ensures value { result.now ≡ self.now.amounts }
+        ensures named { length self.now.names ≡ length self.now.amounts }
     {
         self.amounts.as_slice()
     }
@@ -116,8 +124,8 @@ impl<S: Alter> Books<S> {
     /// Counts one start more, and commits the count. To be called once, before the first Prepare is taken. Gives the count.
     pub fn begin_life(&mut self) -> Result<u64, BooksError>
         ensures count { IfOk result (λ n. n ≡ self.old.starts + 1) }
-        ensures begun { OnOk result (Makes S.Store self.old (after_start self.old) self.new) }
-        ensures refused { OnErr result (Refuses S.Store self.old (after_start self.old) self.new) }
+        ensures begun { OnOk result (Makes S.Store self.old (after_start S.Store self.old) self.new) }
+        ensures refused { OnErr result (Refuses S.Store self.old (after_start S.Store self.old) self.new) }
         ensures cause { IfErr result (IsBecause S.Store self.old self.new (start_excuses self.old.starts)) }
     {
         let Some(next) = self.starts.checked_add(1) else {
@@ -128,9 +136,17 @@ impl<S: Alter> Books<S> {
             starts,
             names,
             amounts,
+            paid,
             ..
         } = self;
-        commit_starts(store, *starts, next, names.as_slice(), amounts.as_slice())?;
+        commit_starts(
+            store,
+            *starts,
+            next,
+            *paid,
+            names.as_slice(),
+            amounts.as_slice(),
+        )?;
         *starts = next;
         Ok(next as u64)
     }
@@ -139,7 +155,7 @@ impl<S: Alter> Books<S> {
     /// an error the books stand as before.
     pub fn book(&mut self, bookings: &[Booking]) -> Result<(), BooksError>
         ensures committed { OnOk result (Commits S.Store self.old bookings.now self.new) }
-        ensures refused { OnErr result (Refuses S.Store self.old (after_bookings self.old bookings.now) self.new) }
+        ensures refused { OnErr result (Refuses S.Store self.old (after_bookings S.Store self.old bookings.now) self.new) }
         ensures cause { IfErr result (IsBecause S.Store self.old self.new (booking_excuses (S.Store.view self.old.store) self.old.names self.old.amounts bookings.now)) }
     {
         let mut draft = Vec::from_slice(self.alloc, self.amounts.as_slice())?;
@@ -148,6 +164,7 @@ impl<S: Alter> Books<S> {
             starts,
             names,
             amounts,
+            paid,
             row,
             ..
         } = self;
@@ -155,6 +172,7 @@ impl<S: Alter> Books<S> {
             store,
             row,
             *starts,
+            *paid,
             names.as_slice(),
             draft.as_mut_slice(),
             bookings,
@@ -163,11 +181,59 @@ impl<S: Alter> Books<S> {
         Ok(())
     }
 
+    /// Takes a payment outside Interledger off what the account at a place owes, or is owed, and keeps a line of it with its
+    /// moment, in milliseconds since 1970. Both are one commit. Refuses with `TooLittle` a payment above what stands.
+    pub fn pay(
+        &mut self,
+        account: usize,
+        side: Side,
+        amount: u64,
+        moment: u64,
+    ) -> Result<(), BooksError>
+        ensures covered { OnOk result (IsCovered self.old.amounts (paying account side amount moment)) }
+        ensures paid { OnOk result (Makes S.Store self.old (after_payment S.Store self.old (paying account side amount moment)) self.new) }
+        ensures refused { OnErr result (Refuses S.Store self.old (after_payment S.Store self.old (paying account side amount moment)) self.new) }
+        ensures cause { IfErr result (IsBecause S.Store self.old self.new (payment_excuses (S.Store.view self.old.store) self.old.names self.old.amounts (paying account side amount moment))) }
+    {
+        let payment = Payment {
+            account,
+            side,
+            amount,
+            moment,
+        };
+        // No disk holds so many payments.
+        let Some(next) = self.paid.checked_add(1) else {
+            return Err(BooksError::NoMemory);
+        };
+        let mut draft = Vec::from_slice(self.alloc, self.amounts.as_slice())?;
+        let Books {
+            store,
+            starts,
+            names,
+            amounts,
+            paid,
+            row,
+            ..
+        } = self;
+        commit_payment(
+            store,
+            row,
+            *starts,
+            names.as_slice(),
+            draft.as_mut_slice(),
+            *paid,
+            payment,
+        )?;
+        *amounts = draft;
+        *paid = next;
+        Ok(())
+    }
+
     /// Adds an account of a new name, by which and to which nothing is owed, and commits it. Gives its place.
     pub fn add(&mut self, name: &str) -> Result<usize, BooksError>
         ensures place { IfOk result (λ at. at ≡ length self.old.names) }
-        ensures added { OnOk result (Makes S.Store self.old (after_name self.old name.now) self.new) }
-        ensures refused { OnErr result (Refuses S.Store self.old (after_name self.old name.now) self.new) }
+        ensures added { OnOk result (Makes S.Store self.old (after_name S.Store self.old name.now) self.new) }
+        ensures refused { OnErr result (Refuses S.Store self.old (after_name S.Store self.old name.now) self.new) }
         ensures cause { IfErr result (IsBecause S.Store self.old self.new (name_excuses (S.Store.view self.old.store) self.old.names name.now)) }
     {
         let at = self.names.len();
@@ -184,6 +250,7 @@ impl<S: Alter> Books<S> {
             starts,
             names,
             amounts,
+            paid,
             row,
             ..
         } = self;
@@ -191,6 +258,7 @@ impl<S: Alter> Books<S> {
             store,
             row,
             *starts,
+            *paid,
             names.as_slice(),
             amounts.as_slice(),
             &name,

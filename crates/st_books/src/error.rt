@@ -29,10 +29,10 @@ pub enum BooksError {
     /// The disk failed before, so the books have to be opened again.
     #[error("the books are shut")]
     Shut,
-    /// A booking names no account.
+    /// A booking or a payment names no account.
     #[error("there is no such account")]
     NoAccount,
-    /// A sum would be above 2^63 - 1, or the starts above 2^32 - 1.
+    /// A sum would be above 2^63 - 1, the starts above 2^32 - 1, or a payment or its moment is above 2^63 - 1.
     #[error("a sum would be too large")]
     TooMuch,
     /// An account has this name already.
@@ -44,10 +44,13 @@ pub enum BooksError {
     /// Memory was refused.
     #[error("out of memory")]
     NoMemory,
+    /// A payment is above what is owed on its side.
+    #[error("less is owed than was paid")]
+    TooLittle,
 }
 
 impl BooksError {
-    /// The error's number in the program's table of faults: 110 to 120.
+    /// The error's number in the program's table of faults: 110 to 121.
     pub fn number(&self) -> u8
         ensures { result ≡ errors.number self.now }
     {
@@ -63,6 +66,7 @@ impl BooksError {
             BooksError::NameTaken => 118,
             BooksError::BadName => 119,
             BooksError::NoMemory => 120,
+            BooksError::TooLittle => 121,
         }
     }
 

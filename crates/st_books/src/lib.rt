@@ -1,20 +1,25 @@
 //! What neighbours owe and are owed, in an SQLite database: the books.
 //!
 //! `Books::book` commits bookings: at `Ok` each crash leaves books that have them, and during the call a crash leaves the
-//! books from before or with all of them. `begin_life` counts the starts. `open` finds the books that a crash left.
+//! books from before or with all of them. `pay` takes a payment outside Interledger off a sum, and keeps a line of it.
+//! `begin_life` counts the starts. `open` finds the books that a crash left.
 #![tactic(auto)]
 
 mod balance;
 mod books;
 mod error;
+mod existing;
 mod laws;
+mod laying;
 mod lines;
 mod names;
 mod opening;
+mod paying;
 mod table;
 
-pub use balance::Amounts;
+pub use balance::{Amounts, Payment, Side};
 pub use books::Books;
 pub use error::BooksError;
+pub use existing::{open_existing, open_existing_files};
 pub use laws::the_next_open_finds_them;
 pub use opening::{open, open_files};

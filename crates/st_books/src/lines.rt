@@ -1,11 +1,12 @@
-//! Rows that are read as lines of the table.
+//! Rows that are read as lines of the two tables.
 
 ghost use Rattle.std.specs.Prelude.{◌≡◌, ◌+◌, pos, IsTrue, IfSome};
 ghost use Rattle.sqlite_value.specs.declared.value.Value.TheVariants.{Null, Int, Text};
 ghost use Rattle.sqlite_value.specs.Order.{column};
+ghost use Rattle.st_books.specs.Payments.{side_text, payment_line};
 ghost use Rattle.st_books.specs.Table.{line};
 
-use crate::balance::Amounts;
+use crate::balance::{Amounts, Side};
 use sqlite_value::row::Row;
 use sqlite_value::value::ValueRef;
 
@@ -52,4 +53,35 @@ pub(crate) fn line_in(row: &Row, at: usize) -> Option<(&[u8], Amounts)>
     let claims = count_in(row, 3)?;
     let dues = count_in(row, 4)?;
     Some((name, Amounts { claims, dues }))
+}
+
+fn side_in(row: &Row, at: usize) -> Option<Side>
+    ensures { IfSome result (λ side. column row.now at ≡ Text (side_text side)) }
+{
+    let text = text_in(row, at)?;
+    if text == b"claims".as_slice() {
+        return Some(Side::Claims);
+    }
+    if text == b"dues".as_slice() {
+        return Some(Side::Dues);
+    }
+    None
+}
+
+/// The name, the side, the amount and the moment of a payment's line, where the row is the line behind so many.
+pub(crate) fn payment_in(row: &Row, before: u64) -> Option<(&[u8], Side, u64, u64)>
+    ensures { IfSome result (λ p. row.now ≡ payment_line (before + 1) p.0.now p.1 p.2 p.3) }
+{
+    if row.len() != 6 || !is_null(row, 1) {
+        return None;
+    }
+    let id = count_in(row, 0)?;
+    if before.checked_add(1) != Some(id) {
+        return None;
+    }
+    let name = text_in(row, 2)?;
+    let side = side_in(row, 3)?;
+    let amount = count_in(row, 4)?;
+    let moment = count_in(row, 5)?;
+    Some((name, side, amount, moment))
 }

@@ -1,9 +1,7 @@
 //! Books in a file.
 
-ghost use Rattle.std.specs.Prelude.{◌≡◌, ◌∷◌, [], length, pos, IsTrue, IfOk, OnOk};
-ghost use Rattle.sqlite_value.specs.declared.value.Value.TheVariants.{Text};
-ghost use Rattle.sqlite_value.specs.Order.{column};
-ghost use Rattle.sqlite_trees.specs.Objects.{version_tree, version_rows};
+ghost use Rattle.std.specs.Prelude.{◌≡◌, false, length, IsTrue, IfOk, OnOk};
+ghost use Rattle.sqlite_trees.specs.Objects.{catalog_tree};
 ghost use Rattle.sqlite_trees.specs.View.{IsClean, IsQuiet};
 ghost use Rattle.sqlite.specs.Steps.{IsFresh};
 ghost use Rattle.sqlite_trees.specs.declared.store.Shape.TheVariants as shapes;
@@ -12,26 +10,24 @@ ghost use Rattle.sqlite_store.specs.FileStore.{view};
 ghost use Rattle.sqlite.specs.Files.{image_of};
 ghost use Rattle.sqlite.specs.State.{HasCleanDisk};
 ghost use Rattle.sqlite.specs.Held.{state};
-ghost use Rattle.st_books.specs.Table.{lines, AreDistinct, IsTableRow};
-ghost use Rattle.st_books.specs.Standing.{IsReady, ReadsOnly, Remains, Takes};
-ghost use Rattle.st_books.specs.Found.{FindsBooks};
+ghost use Rattle.st_books.specs.Payments.{ArePayments};
+ghost use Rattle.st_books.specs.Table.{payment_tree, lines, AreDistinct, ListsTables};
+ghost use Rattle.st_books.specs.Standing.{IsReady, ReadsOnly, Takes};
+ghost use Rattle.st_books.specs.Found.{FindsBooks, FindsOld};
 
 use crate::balance::Amounts;
 use crate::books::Books;
 use crate::error::BooksError;
-use crate::lines::{count_in, line_in, text_in};
+use crate::laying::{is_absent, is_unlaid, lists_books, make};
+use crate::lines::{line_in, payment_in};
 use crate::names::place_of;
 use sqlite::{Connection, Error, ErrorCode, FileFrom, FileStore, Files, Options, Start};
 use sqlite_disk::Disk;
-use sqlite_trees::store::{Alter, Direction, Shape, Store};
+use sqlite_trees::store::{Alter, Direction, Store};
 use sqlite_value::row::Row;
 use sqlite_value::value::Bytes;
 use std::alloc::Global;
 use std::rt::HostRuntime;
-
-/// The books' table, as an operator sees it.
-const TABLE: &str =
-    "CREATE TABLE account (id INTEGER PRIMARY KEY, name TEXT NOT NULL, claims INTEGER NOT NULL, dues INTEGER NOT NULL) STRICT";
 
 /// The names and amounts of the lines of a table.
 struct Lines {
@@ -73,7 +69,7 @@ fn read_lines<S: Alter>(alloc: Global, store: &mut S, row: &mut Row) -> Result<L
 
 /// The store of a connection, with nothing that was not committed.
 fn let_go<S: Alter + Drop>(conn: Connection<S>) -> S
-    ensures ready { IsClean (S.Store.view result) → IsTrue (S.Store.view result).is_open → (S.Store.view result).shape 0 ≡ shapes.Table → IsReady (S.Store.view result) }
+    ensures ready { IsClean (S.Store.view result) → IsTrue (S.Store.view result).is_open → (S.Store.view result).shape 0 ≡ shapes.Table → (S.Store.view result).shape payment_tree ≡ shapes.Table → IsReady (S.Store.view result) }
     ensures fresh { IsClean (S.Store.view result) → IsTrue (S.Store.view result).is_open → IsFresh (S.Store.view result) }
     ensures same { IsTrue (S.Store.view result).is_open → (S.Store.view result).trees ≡ (state S.Store conn).committed.trees }
     ensures clean { IsClean (S.Store.view result) → HasCleanDisk (state S.Store conn) }
@@ -81,113 +77,85 @@ fn let_go<S: Alter + Drop>(conn: Connection<S>) -> S
     conn.into_store()
 }
 
-/// Makes the table in a store that lists nothing.
-fn make<S: Alter + Drop>(alloc: Global, store: S) -> Result<S, BooksError>
-    requires { IsClean (S.Store.view store) → IsFresh (S.Store.view store) }
-    ensures ready { IfOk result (λ s. IsClean (S.Store.view s) → IsTrue (S.Store.view s).is_open → (S.Store.view s).shape 0 ≡ shapes.Table → IsReady (S.Store.view s)) }
-    ensures clean { IfOk result (λ s. IsClean (S.Store.view s) → IsClean (S.Store.view store)) }
+/// Counts the lines of the second table. Refuses with `NoBooks` where a row is no line of a payment or stands at another place
+/// than its id.
+fn count_payments<S: Alter>(store: &mut S, row: &mut Row) -> Result<u64, BooksError>
+    requires { IsClean (S.Store.view store.old) → (S.Store.view store.old).shape payment_tree ≡ shapes.Table }
+    ensures lawful { OnOk result (IsClean (S.Store.view store.new) → ArePayments ((S.Store.view store.old).trees payment_tree)) }
+    ensures counted { IfOk result (λ n. IsClean (S.Store.view store.new) → length ((S.Store.view store.old).trees payment_tree) ≡ n) }
+    ensures same { OnOk result (IsClean (S.Store.view store.new) → ReadsOnly (S.Store.view store.old) (S.Store.view store.new)) }
+    ensures quiet { IsQuiet S.Store.view S.Store.faults S.Store.recovers S.Store.is_shielded store.old store.new }
 {
-    let mut conn = match Connection::over(alloc, store) {
-        Ok(conn) => conn,
-        Err((error, _)) => return Err(refusal_of(error)),
-    };
-    match conn.execute(TABLE, &[]) {
-        Ok(_) => Ok(let_go(conn)),
-        Err(error) => Err(refusal_of(error)),
+    row.clear();
+    store.seek(0, 1, row, Direction::Forward)?;
+    'rows: for n in 0..u64::MAX {
+        if !store.next(0, row)? {
+            return Ok(n);
+        }
+        match payment_in(row, n) {
+            Some(_) => {}
+            None => return Err(BooksError::NoBooks),
+        }
     }
+    Err(BooksError::NoMemory)
 }
 
-/// Whether a column has this text.
-fn has_text(row: &Row, at: usize, text: &str) -> bool
-    ensures { IsTrue result → column row.now at ≡ Text text.now }
-{
-    match text_in(row, at) {
-        Some(found) => found == text.as_bytes(),
-        None => false,
-    }
-}
-
-/// Whether a row of the list of objects is that of the books' table.
-fn is_table_row(row: &Row) -> bool
-    ensures { IsTrue result → IsTableRow row.now }
-{
-    count_in(row, 0) == Some(1)
-        && has_text(row, 1, "table")
-        && has_text(row, 2, "account")
-        && has_text(row, 3, "account")
-        && has_text(row, 4, TABLE)
-}
-
-/// Whether the list of objects is that of books: the one table.
-fn is_listed(objects: &[Row]) -> bool
-    ensures { IsTrue result → (row : _) × (objects.now ≡ row ∷ []) × IsTableRow row }
-{
-    match objects {
-        [row] => is_table_row(row),
-        _ => false,
-    }
-}
-
-/// The books of a store that has their table.
+/// The books of a store that has their tables.
 fn books_in<S: Alter + Drop>(alloc: Global, mut store: S) -> Result<Books<S>, BooksError>
-    requires { IsClean (S.Store.view store) → IsTrue (S.Store.view store).is_open → (S.Store.view store).shape 0 ≡ shapes.Table → IsReady (S.Store.view store) }
-    ensures was_open { IfOk result (λ b. IsClean (S.Store.view b.store) → IsTrue (S.Store.view store).is_open) }
+    requires { IsClean (S.Store.view store) → IsTrue (S.Store.view store).is_open → (S.Store.view store).shape 0 ≡ shapes.Table → (S.Store.view store).shape payment_tree ≡ shapes.Table → IsReady (S.Store.view store) }
     ensures clean { IfOk result (λ b. IsClean (S.Store.view b.store) → IsClean (S.Store.view store)) }
     ensures taken { IfOk result (λ b. IsClean (S.Store.view b.store) → Takes S.Store (S.Store.view store).trees b) }
+    ensures listed { IfOk result (λ b. IsClean (S.Store.view b.store) → ListsTables ((S.Store.view store).trees catalog_tree)) }
 {
     if store.is_broken() {
         return Err(BooksError::Shut);
     }
-    let objects = store.objects(alloc)?;
-    if store.reals(0) != 0 || !is_listed(&objects) {
+    if !lists_books(alloc, &store)? {
         return Err(BooksError::NoBooks);
-    }
-    match store.shape(0) {
-        Shape::Table => {}
-        _ => return Err(BooksError::NoBooks),
     }
     let starts = store.version();
     let mut row = Row::new(alloc);
     let Lines { names, amounts } = read_lines(alloc, &mut store, &mut row)?;
-    Ok(Books::over(alloc, store, row, starts, names, amounts))
+    let paid = count_payments(&mut store, &mut row)?;
+    Ok(Books::over(alloc, store, row, starts, names, amounts, paid))
 }
 
 /// New books, in a store that lists nothing and counts no start.
-fn new_books<S: Alter + Drop>(alloc: Global, store: S) -> Result<Books<S>, BooksError>
+fn new_books<S: Alter + Drop>(alloc: Global, mut store: S) -> Result<Books<S>, BooksError>
     requires { IsClean (S.Store.view store) → IsFresh (S.Store.view store) }
-    ensures empty { IfOk result (λ b. (b.names ≡ []) × (b.amounts ≡ []) × (b.starts ≡ 0) × (length b.names ≡ length b.amounts)) }
-    ensures unstarted { IfOk result (λ b. IsClean (S.Store.view b.store) → IsTrue (S.Store.view store).is_open → (S.Store.view store).trees version_tree ≡ version_rows 0) }
     ensures clean { IfOk result (λ b. IsClean (S.Store.view b.store) → IsClean (S.Store.view store)) }
-    ensures remains { IfOk result (λ b. IsClean (S.Store.view b.store) → Remains S.Store b) }
+    ensures taken { IfOk result (λ b. IsClean (S.Store.view b.store) → IsTrue (S.Store.view store).is_open → Takes S.Store (S.Store.view store).trees b) }
 {
-    if !store.objects(alloc)?.is_empty() || store.version() != 0 {
+    if !is_unlaid(alloc, &store)? {
         return Err(BooksError::NoBooks);
     }
-    let books = books_in(alloc, make(alloc, store)?)?;
-    if books.amounts().is_empty() && books.starts() == 0 {
-        Ok(books)
-    } else {
-        Err(BooksError::NoBooks)
-    }
+    make(&mut store)?;
+    books_in(alloc, store)
 }
 
-/// The books of a database. They are made where it lists nothing.
-fn books_of<S: Alter + Drop>(alloc: Global, conn: Connection<S>) -> Result<Books<S>, BooksError>
+/// The books of a database. Where it lists nothing they are made, if they may be.
+pub(crate) fn books_of<S: Alter + Drop>(
+    alloc: Global,
+    conn: Connection<S>,
+    may_make: bool,
+) -> Result<Books<S>, BooksError>
     ensures clean { IfOk result (λ b. IsClean (S.Store.view b.store) → HasCleanDisk (state S.Store conn)) }
     ensures taken { IfOk result (λ b. IsClean (S.Store.view b.store) → Takes S.Store (state S.Store conn).committed.trees b) }
+    ensures listed { IfOk result (λ b. may_make ≡ false → IsClean (S.Store.view b.store) → ListsTables ((state S.Store conn).committed.trees catalog_tree)) }
 {
     let store = let_go(conn);
     if store.is_broken() {
         return Err(BooksError::Shut);
     }
-    match store.shape(0) {
-        Shape::Absent => new_books(alloc, store),
-        _ => books_in(alloc, store),
+    if may_make && is_absent(store.shape(0)) {
+        new_books(alloc, store)
+    } else {
+        books_in(alloc, store)
     }
 }
 
 /// Why SQLite's file was not opened.
-fn refusal_of(error: Error) -> BooksError {
+pub(crate) fn refusal_of(error: Error) -> BooksError {
     match error {
         Error::SqliteFailure(ErrorCode::CannotOpen) => BooksError::Taken,
         Error::SqliteFailure(ErrorCode::DatabaseBusy) => BooksError::Taken,
@@ -209,13 +177,16 @@ pub fn open_files<D: Disk + Drop>(
     requires db { IsTrue (D.Disk.is_usable files.db) }
     ensures { IfOk result (λ b. IsClean (view b.store) → FindsBooks (image_of D.Disk files) b) }
 {
-    match Connection::open_files(alloc, files, options) {
-        Ok(conn) => books_of(alloc, conn),
+    match Connection::open_files_with(alloc, files, options, true) {
+        Ok(conn) => books_of(alloc, conn, true),
         Err((error, _)) => Err(refusal_of(error)),
     }
 }
 
 /// Opens the books of a file, or makes them where there is no file or it holds nothing.
+///
+/// Each page of a new file ends in a sum of its bytes, so that a changed byte is found: `Damaged`. An sqlite3 without the
+/// extension cksumvfs may read such a file, and must not write it.
 ///
 /// After a crash it finds the books that the crash left. Refuses with `NoBooks` where the file holds something else, and
 /// leaves it; with `Taken` where another process has it.
@@ -226,8 +197,8 @@ pub fn open<S: Start>(
 ) -> Result<Books<FileStore<FileFrom<S>>>, BooksError>
     ensures { IfOk result (λ b. IsClean (view b.store) → FindsBooks (image_at S.Start) b) }
 {
-    match Connection::open_from(rt, path, false, start) {
-        Ok(conn) => books_of(rt.alloc(), conn),
+    match Connection::open_from(rt, path, true, start) {
+        Ok(conn) => books_of(rt.alloc(), conn, true),
         Err((error, _)) => Err(refusal_of(error)),
     }
 }

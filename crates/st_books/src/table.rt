@@ -1,4 +1,4 @@
-//! The table of the books in a store.
+//! The table of accounts in a store.
 
 ghost use Rattle.std.specs.Prelude.{◌≡◌, ◌⊎◌, ◌+◌, ◌^◌, ◌<◌, ◌≤◌, ◌++◌, ◌∷◌, [], None, false, length, pos, slice_set, IsTrue, IsOk, IfOk, IfErr, IfSome, OnOk, OnErr};
 ghost use Rattle.sqlite_disk.specs.Disk.{MoreFaults};
@@ -9,7 +9,7 @@ ghost use Rattle.sqlite_trees.specs.declared.store.Shape.TheVariants as shapes;
 ghost use Rattle.st_books.specs.declared.error.BooksError.TheVariants.{NoMemory, TooMuch};
 ghost use Rattle.st_books.specs.Sums.{nothing, booked, booked_one, IsAbove, IsOfNoAccount, Overflows};
 ghost use Rattle.st_books.specs.Table.{line, AreBooks};
-ghost use Rattle.st_books.specs.Standing.{Holds, Draws, Keeps};
+ghost use Rattle.st_books.specs.Standing.{Holds, Draws, Keeps, payments_in};
 ghost use Rattle.st_books.specs.Reasons.{Because, HasBadName, no_excuse, excuses};
 ghost use Rattle.st_books.specs.Commits.{booking_excuses, name_excuses, start_excuses};
 
@@ -21,7 +21,7 @@ use sqlite_value::value::{Bytes, ValueRef};
 use st_booking::Booking;
 
 /// A count as SQLite keeps it, or `None` above 2^63 - 1.
-fn counted(count: u64) -> Option<i64>
+pub(crate) fn counted(count: u64) -> Option<i64>
     ensures fits { IfSome result (λ n. n ≡ pos count) }
     ensures above { result ≡ None → 2 ^ 63 ≤ count }
 {
@@ -59,7 +59,7 @@ fn write_line(row: &mut Row, at: usize, name: &Bytes, amounts: Amounts) -> Resul
 }
 
 /// Writes an account's line, in the table and in the draft of it.
-fn set_line<S: Alter>(
+pub(crate) fn set_line<S: Alter>(
     store: &mut S,
     row: &mut Row,
     names: &[Bytes],
@@ -151,7 +151,10 @@ fn enter_all<S: Alter>(
 }
 
 /// Commits what was entered, or rolls back where something was refused.
-fn conclude<S: Alter>(store: &mut S, entered: Result<(), BooksError>) -> Result<(), BooksError>
+pub(crate) fn conclude<S: Alter>(
+    store: &mut S,
+    entered: Result<(), BooksError>,
+) -> Result<(), BooksError>
     ensures entered { OnOk result (IsOk entered) }
     ensures committed { OnOk result (IsClean (S.Store.view store.new) → Commits (S.Store.view store.old) (S.Store.view store.new)) }
     ensures undone { OnErr result (IsRolledBack (S.Store.view store.old) (S.Store.view store.new)) }
@@ -172,22 +175,24 @@ fn conclude<S: Alter>(store: &mut S, entered: Result<(), BooksError>) -> Result<
     }
 }
 
-/// Commits what bookings make of the table, or rolls back. The count of starts serves the clauses alone.
+/// Commits what bookings make of the table, or rolls back. The counts of starts and of payments serve the clauses
+/// alone.
 pub(crate) fn commit_bookings<S: Alter>(
     store: &mut S,
     row: &mut Row,
     _starts: u32,
+    _paid: u64,
     names: &[Bytes],
     draft: &mut [Amounts],
     bookings: &[Booking],
 ) -> Result<(), BooksError>
-    requires holds { Holds (S.Store.view store.old) _starts names.now draft.old }
+    requires holds { Holds (S.Store.view store.old) _starts names.now draft.old (payments_in (S.Store.view store.old)) _paid }
     requires named { length names.now ≡ length draft.old }
     ensures booked { OnOk result (draft.new ≡ booked draft.old bookings.now) }
-    ensures holds { OnOk result (Holds (S.Store.view store.new) _starts names.now draft.new) }
+    ensures holds { OnOk result (Holds (S.Store.view store.new) _starts names.now draft.new (payments_in (S.Store.view store.old)) _paid) }
     ensures stays_open { OnOk result (IsClean (S.Store.view store.new) → IsTrue (S.Store.view store.new).is_open) }
-    ensures undone { OnErr result (Holds (S.Store.view store.new) _starts names.now draft.old) }
-    ensures any_moment { IsClean (S.Store.view store.new) → (db : Trees) → S.Store.recovers store.new db → S.Store.recovers store.old db ⊎ AreBooks db _starts names.now (booked draft.old bookings.now) }
+    ensures undone { OnErr result (Holds (S.Store.view store.new) _starts names.now draft.old (payments_in (S.Store.view store.old)) _paid) }
+    ensures any_moment { IsClean (S.Store.view store.new) → (db : Trees) → S.Store.recovers store.new db → S.Store.recovers store.old db ⊎ AreBooks db _starts names.now (booked draft.old bookings.now) (payments_in (S.Store.view store.old)) }
     ensures cause { IsClean (S.Store.view store.new) → IfErr result (Because (S.Store.view store.old) (MoreFaults (S.Store.faults store.old) (S.Store.faults store.new)) (booking_excuses (S.Store.view store.old) names.now draft.old bookings.now)) }
 {
     let entered = enter_all(store, row, names, draft, bookings);
@@ -218,16 +223,17 @@ pub(crate) fn commit_account<S: Alter>(
     store: &mut S,
     row: &mut Row,
     _starts: u32,
+    _paid: u64,
     names: &[Bytes],
     amounts: &[Amounts],
     name: &Bytes,
 ) -> Result<(), BooksError>
-    requires holds { Holds (S.Store.view store.old) _starts names.now amounts.now }
+    requires holds { Holds (S.Store.view store.old) _starts names.now amounts.now (payments_in (S.Store.view store.old)) _paid }
     requires named { length names.now ≡ length amounts.now }
-    ensures holds { OnOk result (Holds (S.Store.view store.new) _starts (names.now ++ name.now ∷ []) (amounts.now ++ nothing ∷ [])) }
+    ensures holds { OnOk result (Holds (S.Store.view store.new) _starts (names.now ++ name.now ∷ []) (amounts.now ++ nothing ∷ []) (payments_in (S.Store.view store.old)) _paid) }
     ensures stays_open { OnOk result (IsClean (S.Store.view store.new) → IsTrue (S.Store.view store.new).is_open) }
-    ensures undone { OnErr result (Holds (S.Store.view store.new) _starts names.now amounts.now) }
-    ensures any_moment { IsClean (S.Store.view store.new) → (db : Trees) → S.Store.recovers store.new db → S.Store.recovers store.old db ⊎ AreBooks db _starts (names.now ++ name.now ∷ []) (amounts.now ++ nothing ∷ []) }
+    ensures undone { OnErr result (Holds (S.Store.view store.new) _starts names.now amounts.now (payments_in (S.Store.view store.old)) _paid) }
+    ensures any_moment { IsClean (S.Store.view store.new) → (db : Trees) → S.Store.recovers store.new db → S.Store.recovers store.old db ⊎ AreBooks db _starts (names.now ++ name.now ∷ []) (amounts.now ++ nothing ∷ []) (payments_in (S.Store.view store.old)) }
     ensures cause { IsClean (S.Store.view store.new) → IfErr result (Because (S.Store.view store.old) (MoreFaults (S.Store.faults store.old) (S.Store.faults store.new)) (name_excuses (S.Store.view store.old) names.now name.now)) }
 {
     let entered = add_line(store, row, names.len(), name);
@@ -250,14 +256,15 @@ pub(crate) fn commit_starts<S: Alter>(
     store: &mut S,
     _before: u32,
     starts: u32,
+    _paid: u64,
     names: &[Bytes],
     amounts: &[Amounts],
 ) -> Result<(), BooksError>
-    requires holds { Holds (S.Store.view store.old) _before names.now amounts.now }
-    ensures holds { OnOk result (Holds (S.Store.view store.new) starts names.now amounts.now) }
+    requires holds { Holds (S.Store.view store.old) _before names.now amounts.now (payments_in (S.Store.view store.old)) _paid }
+    ensures holds { OnOk result (Holds (S.Store.view store.new) starts names.now amounts.now (payments_in (S.Store.view store.old)) _paid) }
     ensures stays_open { OnOk result (IsClean (S.Store.view store.new) → IsTrue (S.Store.view store.new).is_open) }
-    ensures undone { OnErr result (Holds (S.Store.view store.new) _before names.now amounts.now) }
-    ensures any_moment { IsClean (S.Store.view store.new) → (db : Trees) → S.Store.recovers store.new db → S.Store.recovers store.old db ⊎ AreBooks db starts names.now amounts.now }
+    ensures undone { OnErr result (Holds (S.Store.view store.new) _before names.now amounts.now (payments_in (S.Store.view store.old)) _paid) }
+    ensures any_moment { IsClean (S.Store.view store.new) → (db : Trees) → S.Store.recovers store.new db → S.Store.recovers store.old db ⊎ AreBooks db starts names.now amounts.now (payments_in (S.Store.view store.old)) }
     ensures cause { IsClean (S.Store.view store.new) → IfErr result (Because (S.Store.view store.old) (MoreFaults (S.Store.faults store.old) (S.Store.faults store.new)) no_excuse) }
 {
     let entered = set_starts(store, starts);

@@ -1,49 +1,82 @@
-use Rattle.std.proofs.Common.{◌≡◌, false, arith, sym, ap, subst, ◌∙◌}
+use Rattle.std.proofs.Common.{◌≡◌, false, true, length, arith, sym, ap, subst, ◌∙◌}
 use Rattle.sqlite_trees.specs.Tree.{Trees}
 use Rattle.sqlite_trees.specs.View.{View, IsClean}
-use Rattle.st_books.specs.Table.{AreBooks}
+use Rattle.sqlite_trees.specs.Objects.{catalog_tree}
+use Rattle.sqlite_trees.specs.Sound.{is_sound_list}
+use Rattle.st_books.specs.Payments.{ArePayments}
+use Rattle.st_books.specs.Table.{payment_tree, ListsTables}
 use Rattle.st_books.specs.Standing.{Kept, Takes}
-use Rattle.st_books.proofs.Steps.{clean_open, open_sound, ready_holds, read_ready}
-use Rattle.st_books.proofs.Listed.{found_books}
+use Rattle.st_books.proofs.Steps.{clean_open, open_sound, ready_holds, read_ready, reads_then, found_ready}
 use Rattle.st_books.proofs.Calls.{remains}
 use Rattle.st_books.proofs.opening.books_in.Goals as goal
 
 pub over-requires-clause-holds : goal.over-requires-clause-holds
 over-requires-clause-holds g c =
     let was = g.S.Store.view c.args.store in
-    let new = g.S.Store.view c.read_lines.new.store in
+    let mid = g.S.Store.view c.read_lines.new.store in
+    let new = g.S.Store.view c.count_payments.new.store in
     let told = c.in_ok-names.ensures in
-    let early = λ (now : IsClean new). let e : IsClean was = omega (arith, told.quiet.clean, now) in e in
+    let paid = c.in_ok-paid.ensures in
+    let laid = c.in_ok-lists_books.ensures in
+    let middle = λ (now : IsClean new). let e : IsClean mid = omega (arith, c.count_payments.ensures.quiet.clean, now) in e in
+    let early = λ (now : IsClean new). let e : IsClean was = omega (arith, told.quiet.clean, middle now) in e in
     let sound = λ (now : IsClean new). let e : was.is_broken ≡ false = sym (c.is_broken.ensures (early now)) ∙ c.if-is_broken.false in e in
     let was_open = λ (now : IsClean new). open_sound was (g.met.S.Store.broken_if_shut c.args.store) (sound now) in
-    let before = λ (now : IsClean new). c.requires (early now) (was_open now) (sym c.shape.ensures ∙ c.in-Table.is) in
-    let ready = λ (now : IsClean new). read_ready was new (told.same now) (before now) in
-    let books = λ (now : IsClean new). found_books was c.deref.result.now c.version-starts.result c.in_ok-names.field-0.names.items c.in_ok-names.field-0.amounts.items (before now)
-    (c.deref.ensures.value ∙ c.in_ok-objects.ensures (early now)) (c.is_listed.ensures c.if-not-is_listed.false) (g.met.S.Alter.listed c.args.store (sound now)) (omega (arith, c.reals.ensures, c.if-reals-ne0.false))
-    (told.found now) told.named (c.version-starts.ensures (early now) (was_open now)) in
-    let held = ready_holds new c.version-starts.result c.in_ok-names.field-0.names.items c.in_ok-names.field-0.amounts.items ready (clean_open new (g.met.S.Store.shut_if_dirty c.read_lines.new.store))
-    (λ now. subst (λ (db : Trees). AreBooks db c.version-starts.result c.in_ok-names.field-0.names.items c.in_ok-names.field-0.amounts.items) (sym (ap (λ (v : View). v.trees) (told.same now))) (books now)) in
-    held
+    let before = λ (now : IsClean new). c.requires (early now) (was_open now) (laid.table c.if-not-branch.false) (laid.audit c.if-not-branch.false) in
+    let reads = λ (now : IsClean new). reads_then was mid new (told.same (middle now)) (paid.same now) in
+    let same = λ (now : IsClean new). ap (λ (v : View). v.trees payment_tree) (told.same (middle now)) in
+    let more = λ (now : IsClean new). ap (λ (v : View). v.trees payment_tree) (paid.same now) in
+    ready_holds new c.version-starts.result c.in_ok-names.field-0.names.items c.in_ok-names.field-0.amounts.items c.in_ok-paid.paid (λ now. read_ready was new (reads now) (before now))
+    (clean_open new (g.met.S.Store.shut_if_dirty c.count_payments.new.store))
+    (λ now. found_ready was new c.version-starts.result c.in_ok-names.field-0.names.items c.in_ok-names.field-0.amounts.items (reads now)
+    (laid.listed c.if-not-branch.false (early now) (sound now) (subst (λ (db : Trees). is_sound_list (db catalog_tree) ≡ true) (sym (before now).settled) (before now).loads)) (told.found (middle now)) told.named (c.version-starts.ensures (early now) (was_open now)) (subst ArePayments (same now) (paid.lawful now)))
+    (λ now. ap length (more now) ∙ paid.counted now)
 
 pub returns-clause-taken : goal.returns-clause-taken
 returns-clause-taken g c =
     let was = g.S.Store.view c.args.store in
-    let new = g.S.Store.view c.read_lines.new.store in
+    let mid = g.S.Store.view c.read_lines.new.store in
+    let new = g.S.Store.view c.count_payments.new.store in
     let told = c.in_ok-names.ensures in
-    let early = λ (now : IsClean new). let e : IsClean was = omega (arith, told.quiet.clean, now) in e in
+    let paid = c.in_ok-paid.ensures in
+    let laid = c.in_ok-lists_books.ensures in
+    let middle = λ (now : IsClean new). let e : IsClean mid = omega (arith, c.count_payments.ensures.quiet.clean, now) in e in
+    let early = λ (now : IsClean new). let e : IsClean was = omega (arith, told.quiet.clean, middle now) in e in
     let sound = λ (now : IsClean new). let e : was.is_broken ≡ false = sym (c.is_broken.ensures (early now)) ∙ c.if-is_broken.false in e in
     let was_open = λ (now : IsClean new). open_sound was (g.met.S.Store.broken_if_shut c.args.store) (sound now) in
-    let before = λ (now : IsClean new). c.requires (early now) (was_open now) (sym c.shape.ensures ∙ c.in-Table.is) in
-    let ready = λ (now : IsClean new). read_ready was new (told.same now) (before now) in
-    let books = λ (now : IsClean new). found_books was c.deref.result.now c.version-starts.result c.in_ok-names.field-0.names.items c.in_ok-names.field-0.amounts.items (before now)
-    (c.deref.ensures.value ∙ c.in_ok-objects.ensures (early now)) (c.is_listed.ensures c.if-not-is_listed.false) (g.met.S.Alter.listed c.args.store (sound now)) (omega (arith, c.reals.ensures, c.if-reals-ne0.false))
-    (told.found now) told.named (c.version-starts.ensures (early now) (was_open now)) in
-    let held = ready_holds new c.version-starts.result c.in_ok-names.field-0.names.items c.in_ok-names.field-0.amounts.items ready (clean_open new (g.met.S.Store.shut_if_dirty c.read_lines.new.store))
-    (λ now. subst (λ (db : Trees). AreBooks db c.version-starts.result c.in_ok-names.field-0.names.items c.in_ok-names.field-0.amounts.items) (sym (ap (λ (v : View). v.trees) (told.same now))) (books now)) in
-    let k : Kept g.row.S.Denot = record { store = c.read_lines.new.store; starts = c.version-starts.result; names = c.in_ok-names.field-0.names.items; amounts = c.in_ok-names.field-0.amounts.items } in
-    subst (λ (b : Kept g.row.S.Denot). IsClean (g.S.Store.view b.store) → Takes g.S.Store was.trees b) (sym c.over.ensures) (λ now. record {
-      rows = told.found now;
+    let before = λ (now : IsClean new). c.requires (early now) (was_open now) (laid.table c.if-not-branch.false) (laid.audit c.if-not-branch.false) in
+    let reads = λ (now : IsClean new). reads_then was mid new (told.same (middle now)) (paid.same now) in
+    let same = λ (now : IsClean new). ap (λ (v : View). v.trees payment_tree) (told.same (middle now)) in
+    let more = λ (now : IsClean new). ap (λ (v : View). v.trees payment_tree) (paid.same now) in
+    let held =
+    ready_holds new c.version-starts.result c.in_ok-names.field-0.names.items c.in_ok-names.field-0.amounts.items c.in_ok-paid.paid (λ now. read_ready was new (reads now) (before now))
+    (clean_open new (g.met.S.Store.shut_if_dirty c.count_payments.new.store))
+    (λ now. found_ready was new c.version-starts.result c.in_ok-names.field-0.names.items c.in_ok-names.field-0.amounts.items (reads now)
+    (laid.listed c.if-not-branch.false (early now) (sound now) (subst (λ (db : Trees). is_sound_list (db catalog_tree) ≡ true) (sym (before now).settled) (before now).loads)) (told.found (middle now)) told.named (c.version-starts.ensures (early now) (was_open now)) (subst ArePayments (same now) (paid.lawful now)))
+    (λ now. ap length (more now) ∙ paid.counted now) in
+    let k : Kept g.row.S.Denot = record { store = c.count_payments.new.store; starts = c.version-starts.result; names = c.in_ok-names.field-0.names.items; amounts = c.in_ok-names.field-0.amounts.items } in
+    subst (λ (b : Kept g.row.S.Denot). IsClean (g.S.Store.view b.store) → Takes g.S.Store was.trees b) (sym c.over.ensures) (λ now.
+    let ready = read_ready was new (reads now) (before now) in
+    record {
+      rows = told.found (middle now);
       named = told.named;
+      audit = sym (ap (λ (v : View). v.trees payment_tree) (reads now)) ∙ ap (λ (db : Trees). db payment_tree) ready.settled;
       starts = c.version-starts.ensures (early now) (was_open now);
-      remains = remains g.S.Store g.met.S.Store.settled k (ready now) held (open_sound new (g.met.S.Store.broken_if_shut c.read_lines.new.store) (ready now).sound);
+      remains = remains g.S.Store g.met.S.Store.settled k c.in_ok-paid.paid ready held (open_sound new (g.met.S.Store.broken_if_shut c.count_payments.new.store) ready.sound);
     })
+
+pub returns-clause-listed : goal.returns-clause-listed
+returns-clause-listed g c =
+    let was = g.S.Store.view c.args.store in
+    let mid = g.S.Store.view c.read_lines.new.store in
+    let new = g.S.Store.view c.count_payments.new.store in
+    let told = c.in_ok-names.ensures in
+    let paid = c.in_ok-paid.ensures in
+    let laid = c.in_ok-lists_books.ensures in
+    let middle = λ (now : IsClean new). let e : IsClean mid = omega (arith, c.count_payments.ensures.quiet.clean, now) in e in
+    let early = λ (now : IsClean new). let e : IsClean was = omega (arith, told.quiet.clean, middle now) in e in
+    let sound = λ (now : IsClean new). let e : was.is_broken ≡ false = sym (c.is_broken.ensures (early now)) ∙ c.if-is_broken.false in e in
+    let was_open = λ (now : IsClean new). open_sound was (g.met.S.Store.broken_if_shut c.args.store) (sound now) in
+    let before = λ (now : IsClean new). c.requires (early now) (was_open now) (laid.table c.if-not-branch.false) (laid.audit c.if-not-branch.false) in
+    subst (λ (b : Kept g.row.S.Denot). IsClean (g.S.Store.view b.store) → ListsTables (was.trees catalog_tree)) (sym c.over.ensures) (λ now.
+    laid.listed c.if-not-branch.false (early now) (sound now) (subst (λ (db : Trees). is_sound_list (db catalog_tree) ≡ true) (sym (before now).settled) (before now).loads))

@@ -5,6 +5,7 @@ use Rattle.sqlite_trees.specs.Tree.{put_row}
 use Rattle.st_books.specs.Sums.{nothing, booked}
 use Rattle.st_books.specs.Table.{AreBooks, line}
 use Rattle.st_books.proofs.LineLemmas.{put_end}
+use Rattle.st_books.specs.Standing.{payments_in}
 use Rattle.st_books.proofs.Steps.{clean_open, held_undone, told_holds, told_open, told_crash, on_ok_both, line_added, starts_counted, sets_only}
 use Rattle.st_books.proofs.Causes.{because_ended, same_excuses}
 use Rattle.st_books.proofs.table.commit_bookings.Goals as goal
@@ -12,31 +13,34 @@ use Rattle.st_books.proofs.table.commit_bookings.Goals as goal
 pub returns-clause-holds : goal.returns-clause-holds
 returns-clause-holds g c =
     let was = g.S.Store.view c.args.store.now in
+    let paid = payments_in was in
     let mid = g.S.Store.view c.enter_all-entered.new.store in
     let new = g.S.Store.view c.conclude.new.store in
     let entered = c.enter_all-entered in
-    told_holds was mid new c.args._starts c.args._starts c.args.names.now c.args.names.now c.args.draft.now entered.new.draft c.requires.holds c.conclude.ensures.clean (λ now. omega (arith, entered.ensures.quiet.clean, now))
-    (g.met.S.Store.broken_if_shut c.args.store.now) entered.result (on_ok_weaker entered.result (λ d now. (d now).frame) entered.ensures.drawn) (on_ok_weaker entered.result (λ d now. (d now).books c.args._starts) entered.ensures.drawn)
+    told_holds was mid new c.args._starts c.args._starts c.args.names.now c.args.names.now c.args.draft.now entered.new.draft paid paid c.args._paid c.args._paid c.requires.holds c.conclude.ensures.clean (λ now. omega (arith, entered.ensures.quiet.clean, now))
+    (g.met.S.Store.broken_if_shut c.args.store.now) entered.result (on_ok_weaker entered.result (λ d now. (d now).frame) entered.ensures.drawn) (on_ok_weaker entered.result (λ d now _. (d now).books c.args._starts paid) entered.ensures.drawn) (λ counted. counted)
     (clean_open new (g.met.S.Store.shut_if_dirty c.conclude.new.store)) c.conclude.result c.conclude.ensures.entered c.conclude.ensures.committed
 
 pub returns-clause-undone : goal.returns-clause-undone
 returns-clause-undone g c =
     let was = g.S.Store.view c.args.store.now in
+    let paid = payments_in was in
     let mid = g.S.Store.view c.enter_all-entered.new.store in
     let new = g.S.Store.view c.conclude.new.store in
     let entered = c.enter_all-entered in
     on_err_weaker c.conclude.result (λ undone.
-    held_undone was mid new c.args._starts c.args.names.now c.args.draft.now c.requires.holds (λ _. entered.ensures.keeps) undone c.conclude.ensures.clean (λ now. omega (arith, entered.ensures.quiet.clean, now))
+    held_undone was mid new c.args._starts c.args.names.now c.args.draft.now paid c.args._paid c.requires.holds (λ _. entered.ensures.keeps) undone c.conclude.ensures.clean (λ now. omega (arith, entered.ensures.quiet.clean, now))
     (clean_open new (g.met.S.Store.shut_if_dirty c.conclude.new.store))) c.conclude.ensures.undone
 
 pub returns-clause-stays_open : goal.returns-clause-stays_open
 returns-clause-stays_open g c =
     let was = g.S.Store.view c.args.store.now in
+    let paid = payments_in was in
     let mid = g.S.Store.view c.enter_all-entered.new.store in
     let new = g.S.Store.view c.conclude.new.store in
     let entered = c.enter_all-entered in
-    told_open was mid new c.args._starts c.args._starts c.args.names.now c.args.names.now c.args.draft.now entered.new.draft c.requires.holds c.conclude.ensures.clean (λ now. omega (arith, entered.ensures.quiet.clean, now))
-    (g.met.S.Store.broken_if_shut c.args.store.now) entered.result (on_ok_weaker entered.result (λ d now. (d now).frame) entered.ensures.drawn) (on_ok_weaker entered.result (λ d now. (d now).books c.args._starts) entered.ensures.drawn)
+    told_open was mid new c.args._starts c.args._starts c.args.names.now c.args.names.now c.args.draft.now entered.new.draft paid paid c.args._paid c.args._paid c.requires.holds c.conclude.ensures.clean (λ now. omega (arith, entered.ensures.quiet.clean, now))
+    (g.met.S.Store.broken_if_shut c.args.store.now) entered.result (on_ok_weaker entered.result (λ d now. (d now).frame) entered.ensures.drawn) (on_ok_weaker entered.result (λ d now _. (d now).books c.args._starts paid) entered.ensures.drawn) (λ counted. counted)
     c.conclude.result c.conclude.ensures.entered c.conclude.ensures.committed
 
 pub returns-clause-cause : goal.returns-clause-cause
@@ -52,10 +56,11 @@ returns-clause-cause g c now =
 pub returns-clause-any_moment : goal.returns-clause-any_moment
 returns-clause-any_moment g c now db may =
     let was = g.S.Store.view c.args.store.now in
+    let paid = payments_in was in
     let mid = g.S.Store.view c.enter_all-entered.new.store in
     let new = g.S.Store.view c.conclude.new.store in
     let entered = c.enter_all-entered in
-    told_crash was mid new c.args._starts c.args._starts c.args.names.now c.args.names.now c.args.draft.now (booked c.args.draft.now c.args.bookings.now) c.requires.holds c.conclude.ensures.clean (λ now. omega (arith, entered.ensures.quiet.clean, now))
+    told_crash was mid new c.args._starts c.args._starts c.args.names.now c.args.names.now c.args.draft.now (booked c.args.draft.now c.args.bookings.now) paid paid c.args._paid c.args._paid c.requires.holds c.conclude.ensures.clean (λ now. omega (arith, entered.ensures.quiet.clean, now))
     (g.met.S.Store.broken_if_shut c.args.store.now) entered.result (on_ok_weaker entered.result (λ d now. (d now).frame) entered.ensures.drawn)
-    (on_ok_both entered.result (λ d is now h. subst (λ k. AreBooks mid.trees c.args._starts c.args.names.now k) is ((d now).books c.args._starts h)) entered.ensures.drawn entered.ensures.booked)
+    (on_ok_both entered.result (λ d is now _ h. subst (λ k. AreBooks mid.trees c.args._starts c.args.names.now k paid) is ((d now).books c.args._starts paid h)) entered.ensures.drawn entered.ensures.booked) (λ counted. counted)
     entered.ensures.quiet.outcomes db now (c.conclude.ensures.crash db may)

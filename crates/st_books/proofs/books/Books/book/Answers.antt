@@ -1,14 +1,14 @@
-use Rattle.std.proofs.Common.{◌≡◌, ◌⊎◌, ◌+◌, ◌++◌, ◌∷◌, [], length, length-append, refl, arith, ap, sym, subst, ◌∙◌}
+use Rattle.std.proofs.Common.{◌≡◌, ◌⊎◌, ◌+◌, ◌++◌, ◌∷◌, [], length, length-append, refl, rules, arith, ap, sym, subst, ◌∙◌}
 use Rattle.std.specs.Vec.{with_items}
 use Rattle.std.proofs.lemmas.List.{with_items_is}
 use Rattle.sqlite_disk.specs.Disk.{MoreFaults}
 use Rattle.sqlite_trees.specs.View.{IsClean}
 use Rattle.st_books.specs.Sums.{nothing, booked}
 use Rattle.st_books.specs.Table.{AreBooks}
-use Rattle.st_books.specs.Standing.{Kept, Holds}
+use Rattle.st_books.specs.Standing.{Kept, Holds, payments_in}
 use Rattle.st_books.specs.Reasons.{Because}
-use Rattle.st_books.specs.Commits.{Sums, Makes, Refuses, BeforeOrAfter, after_bookings, after_name, after_start, booking_excuses, name_excuses}
-use Rattle.st_books.proofs.Steps.{on_err}
+use Rattle.st_books.specs.Commits.{Makes, Refuses, BeforeOrAfter, after_bookings, after_name, after_start, booking_excuses, name_excuses}
+use Rattle.st_books.proofs.Steps.{on_err, holds_own}
 use Rattle.st_books.proofs.Causes.{err_told}
 use Rattle.st_books.proofs.Calls.{makes, refuses}
 use Rattle.st_books.proofs.Distinct.{distinct_push}
@@ -19,10 +19,10 @@ returns-in_err-commit_bookings-clause-refused g c =
     let old : Kept g.row.S.Denot = record { store = c.self.inside.store; starts = c.self.inside.starts; names = c.self.inside.names.items; amounts = c.self.inside.amounts.items } in
     let new : Kept g.row.S.Denot = record { store = c.commit_bookings.new.store; starts = c.self.inside.starts; names = c.self.inside.names.items; amounts = c.self.inside.amounts.items } in
     let told = c.in_err-commit_bookings.ensures in
-    let held : Holds (g.S.Store.view new.store) old.starts old.names old.amounts = rw (c.as_slice-2.ensures.value, c.as_mut_slice.ensures.value, c.in_ok-draft.ensures.items, c.as_slice.ensures.value) at told.undone in
-    let moment : BeforeOrAfter g.S.Store old (after_bookings old c.args.bookings.now) new = λ clean db may. rw (c.as_slice-2.ensures.value, c.as_mut_slice.ensures.value, c.in_ok-draft.ensures.items, c.as_slice.ensures.value) at (told.any_moment clean db may) in
-    on_err c.from_residual-in_err-commit_bookings.result (subst (λ (k : Kept g.row.S.Denot). Refuses g.S.Store k (after_bookings k c.args.bookings.now) new) c.self.view_is
-    (refuses g.S.Store g.met.S.Store.settled old new (after_bookings old c.args.bookings.now) refl held moment))
+    let held : Holds (g.S.Store.view new.store) old.starts old.names old.amounts (payments_in (g.S.Store.view old.store)) c.self.inside.paid = rw (c.as_slice-2.ensures.value, c.as_mut_slice.ensures.value, c.in_ok-draft.ensures.items, c.as_slice.ensures.value) at told.undone in
+    let moment : BeforeOrAfter g.S.Store old (after_bookings g.S.Store old c.args.bookings.now) new = λ clean db may. rw (c.as_slice-2.ensures.value, c.as_mut_slice.ensures.value, c.in_ok-draft.ensures.items, c.as_slice.ensures.value) at (told.any_moment clean db may) in
+    on_err c.from_residual-in_err-commit_bookings.result (subst (λ (k : Kept g.row.S.Denot). Refuses g.S.Store k (after_bookings g.S.Store k c.args.bookings.now) new) c.self.view_is
+    (refuses g.S.Store g.met.S.Store.settled old new (after_bookings g.S.Store old c.args.bookings.now) c.self.inside.paid (refl, refl, refl) held moment))
 
 pub returns-in_err-commit_bookings-clause-cause : goal.returns-in_err-commit_bookings-clause-cause
 returns-in_err-commit_bookings-clause-cause g c =
@@ -41,7 +41,25 @@ returns-clause-committed g c =
     let told = c.in_ok-commit_bookings.ensures in
     let bookings = c.args.bookings.now in
     let all : new.amounts ≡ booked old.amounts bookings = same ∙ (rw (c.as_mut_slice.ensures.value, c.in_ok-draft.ensures.items, c.as_slice.ensures.value) at told.booked) in
-    let held : Holds (g.S.Store.view new.store) new.starts new.names new.amounts = subst (λ a. Holds (g.S.Store.view new.store) new.starts new.names a) (sym same) (rw (c.as_slice-2.ensures.value) at told.holds) in
-    let moment : BeforeOrAfter g.S.Store old (after_bookings old bookings) new = λ clean db may. rw (c.as_slice-2.ensures.value, c.as_mut_slice.ensures.value, c.in_ok-draft.ensures.items, c.as_slice.ensures.value) at (told.any_moment clean db may) in
-    subst (λ (k : Kept g.row.S.Denot). Makes g.S.Store k (after_bookings k bookings) new) c.self.view_is
-    (makes g.S.Store g.met.S.Store.settled old new (after_bookings old bookings) (λ i. record { starts = old.starts; names = old.names; amounts = all i }) held told.stays_open moment)
+    let held : Holds (g.S.Store.view new.store) old.starts old.names (booked old.amounts bookings) (payments_in (g.S.Store.view old.store)) c.self.inside.paid =
+    subst (λ a. Holds (g.S.Store.view new.store) old.starts old.names a (payments_in (g.S.Store.view old.store)) c.self.inside.paid) (sym same ∙ all) (rw (c.as_slice-2.ensures.value) at told.holds) in
+    let moment : BeforeOrAfter g.S.Store old (after_bookings g.S.Store old bookings) new = λ clean db may. rw (c.as_slice-2.ensures.value, c.as_mut_slice.ensures.value, c.in_ok-draft.ensures.items, c.as_slice.ensures.value) at (told.any_moment clean db may) in
+    subst (λ (k : Kept g.row.S.Denot). Makes g.S.Store k (after_bookings g.S.Store k bookings) new) c.self.view_is
+    (makes g.S.Store g.met.S.Store.settled old new (after_bookings g.S.Store old bookings) c.self.inside.paid (refl, refl, all) held told.stays_open moment)
+
+pub invariant_of-self : goal.invariant_of-self
+invariant_of-self g c = (
+  holds_own _ _ _ _ (payments_in (g.S.Store.view c.self.inside.store)) _ (rw (c.as_slice-2.ensures.value, c.as_mut_slice.ensures.value, c.in_ok-draft.ensures.items, c.as_slice.ensures.value) at c.in_err-commit_bookings.ensures.undone),
+  c.self.invariant.1,
+  c.self.invariant.2,
+)
+
+pub invariant_of-self-2 : goal.invariant_of-self-2
+invariant_of-self-2 g c =
+    let draft = c.in_ok-draft.draft in
+    let drafted = c.commit_bookings.new.draft in
+    let same : (with_items draft drafted).items ≡ drafted = with_items_is draft drafted (omega (arith, c.commit_bookings.auto.draft, c.as_mut_slice.ensures.len)) in (
+      holds_own _ _ _ _ (payments_in (g.S.Store.view c.self.inside.store)) _ (subst (λ a. Holds (g.S.Store.view c.commit_bookings.new.store) c.self.inside.starts c.self.inside.names.items a (payments_in (g.S.Store.view c.self.inside.store)) c.self.inside.paid) (sym same) (rw (c.as_slice-2.ensures.value) at c.in_ok-commit_bookings.ensures.holds)),
+      search rules,
+      c.self.invariant.2,
+    )

@@ -1,0 +1,69 @@
+use Rattle.std.proofs.Common.{◌≡◌, ◌⊎◌, ◌+◌, ◌++◌, ◌∷◌, [], length, length-append, refl, rules, arith, ap, sym, subst, ◌∙◌}
+use Rattle.std.specs.Vec.{with_items}
+use Rattle.std.proofs.lemmas.List.{with_items_is}
+use Rattle.sqlite_disk.specs.Disk.{MoreFaults}
+use Rattle.sqlite_trees.specs.View.{IsClean}
+use Rattle.st_books.specs.declared.balance.Payment.{Payment}
+use Rattle.st_books.specs.Payments.{paying, paid_off, with_payment}
+use Rattle.st_books.specs.Table.{AreBooks}
+use Rattle.st_books.specs.Standing.{Kept, Holds, payments_in}
+use Rattle.st_books.specs.Reasons.{Because}
+use Rattle.st_books.specs.Commits.{Makes, Refuses, BeforeOrAfter, after_payment, after_name, after_start, payment_excuses, name_excuses}
+use Rattle.st_books.proofs.Steps.{on_err, holds_own}
+use Rattle.st_books.proofs.Causes.{err_told}
+use Rattle.st_books.proofs.Calls.{makes, refuses}
+use Rattle.st_books.proofs.Distinct.{distinct_push}
+use Rattle.st_books.proofs.books.Books.pay.Goals as goal
+
+pub returns-in_err-commit_payment-clause-refused : goal.returns-in_err-commit_payment-clause-refused
+returns-in_err-commit_payment-clause-refused g c =
+    let payment : Payment = paying c.args.account c.args.side c.args.amount c.args.moment in
+    let old : Kept g.row.S.Denot = record { store = c.self.inside.store; starts = c.self.inside.starts; names = c.self.inside.names.items; amounts = c.self.inside.amounts.items } in
+    let new : Kept g.row.S.Denot = record { store = c.commit_payment.new.store; starts = c.self.inside.starts; names = c.self.inside.names.items; amounts = c.self.inside.amounts.items } in
+    let told = c.in_err-commit_payment.ensures in
+    let held : Holds (g.S.Store.view new.store) old.starts old.names old.amounts (payments_in (g.S.Store.view old.store)) c.self.inside.paid = rw (c.as_slice-2.ensures.value, c.as_mut_slice.ensures.value, c.in_ok-draft.ensures.items, c.as_slice.ensures.value) at told.undone in
+    let moment : BeforeOrAfter g.S.Store old (after_payment g.S.Store old payment) new = λ clean db may. rw (c.as_slice-2.ensures.value, c.as_mut_slice.ensures.value, c.in_ok-draft.ensures.items, c.as_slice.ensures.value) at (told.any_moment clean db may) in
+    on_err c.from_residual-in_err-commit_payment.result (subst (λ (k : Kept g.row.S.Denot). Refuses g.S.Store k (after_payment g.S.Store k payment) new) c.self.view_is
+    (refuses g.S.Store g.met.S.Store.settled old new (after_payment g.S.Store old payment) c.self.inside.paid (refl, refl, refl) held moment))
+
+pub returns-in_err-commit_payment-clause-cause : goal.returns-in_err-commit_payment-clause-cause
+returns-in_err-commit_payment-clause-cause g c =
+    let payment : Payment = paying c.args.account c.args.side c.args.amount c.args.moment in
+    let e = c.in_err-commit_payment.field-0.0 in
+    err_told _ c.from_residual-in_err-commit_payment.result e c.from_residual-in_err-commit_payment.ensures.1 (λ clean.
+    subst (λ (k : Kept g.row.S.Denot). Because (g.S.Store.view k.store) (MoreFaults (g.S.Store.faults k.store) (g.S.Store.faults c.commit_payment.new.store)) (payment_excuses (g.S.Store.view k.store) k.names k.amounts payment) e) c.self.view_is
+    (rw (c.as_slice-2.ensures.value, c.as_mut_slice.ensures.value, c.in_ok-draft.ensures.items, c.as_slice.ensures.value) at (c.in_err-commit_payment.ensures.cause clean)))
+
+pub returns-clause-paid : goal.returns-clause-paid
+returns-clause-paid g c =
+    let payment : Payment = paying c.args.account c.args.side c.args.amount c.args.moment in
+    let old : Kept g.row.S.Denot = record { store = c.self.inside.store; starts = c.self.inside.starts; names = c.self.inside.names.items; amounts = c.self.inside.amounts.items } in
+    let draft = c.in_ok-draft.draft in
+    let drafted = c.commit_payment.new.draft in
+    let same : (with_items draft drafted).items ≡ drafted = with_items_is draft drafted (omega (arith, c.commit_payment.auto.draft, c.as_mut_slice.ensures.len)) in
+    let new : Kept g.row.S.Denot = record { store = c.commit_payment.new.store; starts = c.self.inside.starts; names = c.self.inside.names.items; amounts = (with_items draft drafted).items } in
+    let told = c.in_ok-commit_payment.ensures in
+    let all : new.amounts ≡ paid_off old.amounts payment = same ∙ (rw (c.as_mut_slice.ensures.value, c.in_ok-draft.ensures.items, c.as_slice.ensures.value) at told.paid) in
+    let held : Holds (g.S.Store.view new.store) old.starts old.names (paid_off old.amounts payment) (with_payment (payments_in (g.S.Store.view old.store)) old.names payment) (c.self.inside.paid + 1) =
+    subst (λ a. Holds (g.S.Store.view new.store) old.starts old.names a (with_payment (payments_in (g.S.Store.view old.store)) old.names payment) (c.self.inside.paid + 1)) (sym same ∙ all) (rw (c.as_slice-2.ensures.value) at told.holds) in
+    let moment : BeforeOrAfter g.S.Store old (after_payment g.S.Store old payment) new = λ clean db may. rw (c.as_slice-2.ensures.value, c.as_mut_slice.ensures.value, c.in_ok-draft.ensures.items, c.as_slice.ensures.value) at (told.any_moment clean db may) in
+    subst (λ (k : Kept g.row.S.Denot). Makes g.S.Store k (after_payment g.S.Store k payment) new) c.self.view_is
+    (makes g.S.Store g.met.S.Store.settled old new (after_payment g.S.Store old payment) (c.self.inside.paid + 1) (refl, refl, all) held told.stays_open moment)
+
+pub invariant_of-self : goal.invariant_of-self
+invariant_of-self g c = (
+  holds_own _ _ _ _ (payments_in (g.S.Store.view c.self.inside.store)) _ (rw (c.as_slice-2.ensures.value, c.as_mut_slice.ensures.value, c.in_ok-draft.ensures.items, c.as_slice.ensures.value) at c.in_err-commit_payment.ensures.undone),
+  c.self.invariant.1,
+  c.self.invariant.2,
+)
+
+pub invariant_of-self-2 : goal.invariant_of-self-2
+invariant_of-self-2 g c =
+    let draft = c.in_ok-draft.draft in
+    let drafted = c.commit_payment.new.draft in
+    let same : (with_items draft drafted).items ≡ drafted = with_items_is draft drafted (omega (arith, c.commit_payment.auto.draft, c.as_mut_slice.ensures.len)) in
+    let next : c.self.inside.paid + 1 ≡ c.in-Some.next = omega (arith, c.in-Some.ensures) in (
+      subst (λ n. Holds (g.S.Store.view c.commit_payment.new.store) c.self.inside.starts c.self.inside.names.items (with_items draft drafted).items (payments_in (g.S.Store.view c.commit_payment.new.store)) n) next (holds_own _ _ _ _ (with_payment (payments_in (g.S.Store.view c.self.inside.store)) c.self.inside.names.items (paying c.args.account c.args.side c.args.amount c.args.moment)) _ (subst (λ a. Holds (g.S.Store.view c.commit_payment.new.store) c.self.inside.starts c.self.inside.names.items a (with_payment (payments_in (g.S.Store.view c.self.inside.store)) c.self.inside.names.items (paying c.args.account c.args.side c.args.amount c.args.moment)) (c.self.inside.paid + 1)) (sym same) (rw (c.as_slice-2.ensures.value) at c.in_ok-commit_payment.ensures.holds))),
+      search rules,
+      c.self.invariant.2,
+    )

@@ -1,0 +1,29 @@
+-- How the two tables are made.
+use Rattle.std.specs.Prelude.{◌≡◌, ℕ, ◌+◌, pos, false, true, List, [], ◌∷◌, codes, IsTrue}
+use Rattle.sqlite_value.specs.declared.value.Value.TheVariants.{Int, Text}
+use Rattle.sqlite_value.specs.Order.{Row}
+use Rattle.sqlite_trees.specs.Tree.{Trees}
+use Rattle.sqlite_trees.specs.Objects.{catalog_tree, version_tree, version_rows}
+use Rattle.sqlite_trees.specs.View.{View}
+use Rattle.sqlite_trees.specs.declared.store.Shape.TheVariants.{Absent, Table}
+use Rattle.st_books.specs.Payments.{payment_text}
+use Rattle.st_books.specs.Table.{table_text, payment_tree, AreBooks}
+
+-- the row of a table in the list of objects: its number there, type, name, table, text, that it is a table, and no REAL column
+abbrev pub table_row : (tree : ℕ) (name text : List ℕ) → Row
+table_row tree name text = Int (pos (tree + 1)) ∷ Text (codes "table") ∷ Text name ∷ Text name ∷ Text text ∷ Int (pos 1) ∷ Int (pos 0) ∷ []
+
+-- a store that lists nothing and counts no start
+pub record IsUnlaid (v : View) : Type 0 where
+  pub numbered : IsTrue v.is_numbered
+  pub accounts : v.shape 0 ≡ Absent
+  pub payments : v.shape payment_tree ≡ Absent
+  pub lists : v.trees catalog_tree ≡ []
+  pub unstarted : v.trees version_tree ≡ version_rows 0
+
+-- the store has the tables of new books, which are not committed
+pub record Lays (old new : View) : Type 0 where
+  pub books : AreBooks new.trees 0 [] [] []
+  pub table : new.shape 0 ≡ Table
+  pub audit : new.shape payment_tree ≡ Table
+  pub numbered : IsTrue new.is_numbered

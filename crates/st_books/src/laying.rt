@@ -1,0 +1,168 @@
+//! The two tables of books: whether a store lists them, and how they are made.
+
+ghost use Rattle.std.specs.Prelude.{◌≡◌, ◌≢◌, ◌⊎◌, ◌<◌, ◌∷◌, [], false, true, pos, IsTrue, IfOk, OnOk, OnErr};
+ghost use Rattle.std.specs.List.{AllByRecursion};
+ghost use Rattle.sqlite_value.specs.declared.value.Value.TheVariants.{Text};
+ghost use Rattle.sqlite_value.specs.Order.{Row as Values, column};
+ghost use Rattle.sqlite_trees.specs.Tree.{Trees, put_row};
+ghost use Rattle.sqlite_trees.specs.Objects.{catalog_tree, SetsObject};
+ghost use Rattle.sqlite_trees.specs.Sound.{is_sound_list};
+ghost use Rattle.sqlite_trees.specs.View.{IsClean, IsQuiet, KeepsCommitted};
+ghost use Rattle.sqlite_trees.specs.declared.store.Shape.TheVariants as shapes;
+ghost use Rattle.st_books.specs.Table.{payment_tree, AreBooks, IsTableRow, IsAccountRow, IsPaymentRow, ListsTables};
+ghost use Rattle.st_books.specs.Standing.{IsReady};
+ghost use Rattle.st_books.specs.Made.{table_row, IsUnlaid, Lays};
+
+use crate::error::BooksError;
+use crate::lines::{count_in, text_in};
+use crate::table::conclude;
+use sqlite_trees::schema::Object;
+use sqlite_trees::store::{Alter, Shape, Store};
+use sqlite_value::row::Row;
+use std::alloc::Global;
+
+/// The table of accounts, as an operator sees it.
+const ACCOUNT: &str =
+    "CREATE TABLE account (id INTEGER PRIMARY KEY, name TEXT NOT NULL, claims INTEGER NOT NULL, dues INTEGER NOT NULL) STRICT";
+
+/// The table of payments outside Interledger.
+const PAYMENT: &str =
+    "CREATE TABLE payment (id INTEGER PRIMARY KEY, name TEXT NOT NULL, side TEXT NOT NULL, amount INTEGER NOT NULL, moment INTEGER NOT NULL) STRICT";
+
+/// Whether a column has this text.
+fn has_text(row: &Row, at: usize, text: &str) -> bool
+    ensures { IsTrue result → column row.now at ≡ Text text.now }
+{
+    match text_in(row, at) {
+        Some(found) => found == text.as_bytes(),
+        None => false,
+    }
+}
+
+/// Whether a row of the list of objects is that of this table.
+fn is_table_row(row: &Row, number: u64, name: &str, text: &str) -> bool
+    ensures { IsTrue result → IsTableRow number name.now text.now row.now }
+{
+    count_in(row, 0) == Some(number)
+        && has_text(row, 1, "table")
+        && has_text(row, 2, name)
+        && has_text(row, 3, name)
+        && has_text(row, 4, text)
+}
+
+/// Whether the list of objects is that of books: the two tables.
+fn is_listed(objects: &[Row]) -> bool
+    ensures { IsTrue result → (account : Values) × (payment : Values) × (objects.now ≡ account ∷ payment ∷ []) × IsAccountRow account × IsPaymentRow payment }
+{
+    match objects {
+        [account, payment] => {
+            is_table_row(account, 1, "account", ACCOUNT)
+                && is_table_row(payment, 2, "payment", PAYMENT)
+        }
+        _ => false,
+    }
+}
+
+fn is_table(shape: Shape) -> bool
+    ensures { IsTrue result → shape ≡ shapes.Table }
+{
+    match shape {
+        Shape::Table => true,
+        _ => false,
+    }
+}
+
+/// Whether nothing has this number.
+pub(crate) fn is_absent(shape: Shape) -> bool
+    ensures { IsTrue result → shape ≡ shapes.Absent }
+{
+    match shape {
+        Shape::Absent => true,
+        _ => false,
+    }
+}
+
+/// Whether a store lists the two tables of books and nothing else.
+pub(crate) fn lists_books<S: Alter>(alloc: Global, store: &S) -> Result<bool, BooksError>
+    ensures table { IfOk result (λ b. IsTrue b → (S.Store.view store.now).shape 0 ≡ shapes.Table) }
+    ensures audit { IfOk result (λ b. IsTrue b → (S.Store.view store.now).shape payment_tree ≡ shapes.Table) }
+    ensures listed { IfOk result (λ b. IsTrue b → IsClean (S.Store.view store.now) → (S.Store.view store.now).is_broken ≡ false
+        → is_sound_list ((S.Store.view store.now).trees catalog_tree) ≡ true → ListsTables ((S.Store.view store.now).trees catalog_tree)) }
+{
+    let objects = store.objects(alloc)?;
+    if !is_listed(&objects) {
+        return Ok(false);
+    }
+    let account_reals = store.reals(0);
+    if account_reals != 0 {
+        return Ok(false);
+    }
+    let payment_reals = store.reals(1);
+    if payment_reals != 0 {
+        return Ok(false);
+    }
+    if !is_table(store.shape(0)) {
+        return Ok(false);
+    }
+    Ok(is_table(store.shape(1)))
+}
+
+/// Whether a store lists nothing and counts no start.
+pub(crate) fn is_unlaid<S: Alter>(alloc: Global, store: &S) -> Result<bool, BooksError>
+    ensures { IfOk result (λ b. IsTrue b → IsClean (S.Store.view store.now) → IsTrue (S.Store.view store.now).is_open → IsTrue (S.Store.view store.now).is_numbered → IsUnlaid (S.Store.view store.now)) }
+{
+    let objects = store.objects(alloc)?;
+    let starts = store.version();
+    let accounts = is_absent(store.shape(0));
+    let payments = is_absent(store.shape(1));
+    Ok(objects.is_empty() && starts == 0 && accounts && payments)
+}
+
+/// Makes an empty table, and lists it with its text.
+fn create_table<S: Alter>(
+    store: &mut S,
+    tree: u32,
+    name: &str,
+    text: &str,
+) -> Result<(), BooksError>
+    requires low { tree < 65536 }
+    requires numbered { IsClean (S.Store.view store.old) → IsTrue (S.Store.view store.old).is_numbered }
+    requires unused { IsClean (S.Store.view store.old) → (S.Store.view store.old).shape tree ≡ shapes.Absent }
+    requires unnamed { IsClean (S.Store.view store.old) → AllByRecursion (λ row. column row 2 ≢ Text name.now) ((S.Store.view store.old).trees catalog_tree) }
+    ensures made { OnOk result (IsClean (S.Store.view store.new) → SetsObject (S.Store.view store.old) (S.Store.view store.new) tree shapes.Table 0 (put_row (table_row tree name.now text.now))) }
+    ensures quiet { IsQuiet S.Store.view S.Store.faults S.Store.recovers S.Store.is_shielded store.old store.new }
+{
+    let object = Object {
+        shape: Shape::Table,
+        kind: "table",
+        name,
+        table: name,
+        reals: 0,
+        sql: Some(text),
+    };
+    store.create(tree, &object)?;
+    Ok(())
+}
+
+/// Makes the two tables.
+fn create_tables<S: Alter>(store: &mut S) -> Result<(), BooksError>
+    requires { IsClean (S.Store.view store.old) → IsUnlaid (S.Store.view store.old) }
+    ensures laid { OnOk result (IsClean (S.Store.view store.new) → Lays (S.Store.view store.old) (S.Store.view store.new)) }
+    ensures quiet { IsQuiet S.Store.view S.Store.faults S.Store.recovers S.Store.is_shielded store.old store.new }
+{
+    create_table(store, 0, "account", ACCOUNT)?;
+    create_table(store, 1, "payment", PAYMENT)
+}
+
+/// Makes the two tables in a store that lists nothing, in one commit. A crash at any moment of it leaves what could be left
+/// before, or books without accounts.
+pub(crate) fn make<S: Alter>(store: &mut S) -> Result<(), BooksError>
+    requires { IsClean (S.Store.view store.old) → IsUnlaid (S.Store.view store.old) }
+    ensures ready { OnOk result (IsClean (S.Store.view store.new) → IsReady (S.Store.view store.new)) }
+    ensures made { OnOk result (IsClean (S.Store.view store.new) → AreBooks (S.Store.view store.new).trees 0 [] [] []) }
+    ensures clean { IsClean (S.Store.view store.new) → IsClean (S.Store.view store.old) }
+    ensures any_moment { IsClean (S.Store.view store.new) → (db : Trees) → S.Store.recovers store.new db → S.Store.recovers store.old db ⊎ AreBooks db 0 [] [] [] }
+{
+    let entered = create_tables(store);
+    conclude(store, entered)
+}

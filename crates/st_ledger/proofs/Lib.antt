@@ -1,0 +1,4 @@
+mod Pieces
+mod ByName
+mod Growing
+mod Lines

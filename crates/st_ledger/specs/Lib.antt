@@ -1,0 +1,6 @@
+pub mod Errors
+pub mod Names
+pub mod Placed
+pub mod Placing
+pub mod Settling
+pub mod Texts

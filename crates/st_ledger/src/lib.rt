@@ -1,0 +1,22 @@
+//! The books of a connector beside its table: which account of the books a line of the table is, what a connector that is
+//! started with books goes on with, and how books are printed.
+//!
+//! `place` compares the books with the table, by names, before anything is written, adds the names that the books lack, and
+//! counts the start. `Placed` is the `Keeper` of a till: it books the accounts of the table at their places in the books.
+//! `OpensBooks` opens the books of a file, so that a program over it needs no runtime of a process.
+#![tactic(auto)]
+
+mod error;
+mod opening;
+mod owed;
+mod placed;
+mod placing;
+mod settling;
+mod text;
+
+pub use error::LedgerError;
+pub use opening::OpensBooks;
+pub use placed::Placed;
+pub use placing::{Life, place};
+pub use settling::settle;
+pub use text::{account_text, ledger_text};

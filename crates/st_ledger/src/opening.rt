@@ -1,0 +1,45 @@
+//! What opens the books of a file.
+
+ghost use Rattle.std.specs.Prelude.{ℕ, List, IfOk, ⊤};
+ghost use Rattle.st_books.specs.Standing.{Kept};
+
+use sqlite::{FileFrom, FileStore, Unknown};
+use sqlite_trees::store::Alter;
+use st_books::{Books, BooksError, open, open_existing};
+
+/// What opens the books of a file. A program is generic over it, as it is over the runtime that gives files and sockets.
+pub trait OpensBooks {
+    /// What the books are kept in.
+    type Store: Alter + Send + Drop;
+
+    /// What is known of the books that it opens at a path.
+    ghost finds: { Self → List ℕ → Kept Self.Store → Type 0 };
+
+    /// What is known of those that it opens where they have to be there.
+    ghost finds_existing: { Self → List ℕ → Kept Self.Store → Type 0 };
+
+    /// Opens the books of a file, or makes them where there is no file, or it holds nothing.
+    fn open(&self, path: &str) -> Result<Books<Self::Store>, BooksError>
+        ensures { IfOk result (finds self.now path.now) };
+
+    /// Opens the books of a file. Refuses with `NoBooks` where there is no file, or it holds nothing, and makes none.
+    fn open_existing(&self, path: &str) -> Result<Books<Self::Store>, BooksError>
+        ensures { IfOk result (finds_existing self.now path.now) };
+}
+
+/// The runtime of a process opens the files of the system. Which books they hold, no clause can say.
+impl OpensBooks for HostRuntime {
+    type Store = FileStore<FileFrom<Unknown>>;
+
+    ghost finds = { λ _ _ _. ⊤ };
+
+    ghost finds_existing = { λ _ _ _. ⊤ };
+
+    fn open(&self, path: &str) -> Result<Books<Self::Store>, BooksError> {
+        open(self, path, Unknown)
+    }
+
+    fn open_existing(&self, path: &str) -> Result<Books<Self::Store>, BooksError> {
+        open_existing(self, path, Unknown)
+    }
+}
