@@ -1,5 +1,6 @@
 //! A link to another hub in the same process.
 
+ghost use Rattle.std.specs.Prelude.{◌≡◌};
 ghost use Rattle.st_hub.specs.Turns.{AnswersOver};
 
 use crate::bench::Bench;
@@ -29,7 +30,9 @@ impl<'a, N: HubName<A>, A: Allocator + Copy, K: Clock, R: Wait> HubLink<'a, N, A
         hub: &'a Bench<N, A>,
         share: CreditShare<N>,
         clock: K,
-    ) -> HubLink<'a, N, A, K, R> {
+    ) -> HubLink<'a, N, A, K, R>
+        ensures { result.share ≡ share }
+    {
         HubLink {
             rt,
             hub,
@@ -41,7 +44,9 @@ impl<'a, N: HubName<A>, A: Allocator + Copy, K: Clock, R: Wait> HubLink<'a, N, A
 
 impl<N: HubName<A>, A: Allocator + Copy, K: Clock + Drop, R: Wait> HubLink<'_, N, A, K, R> {
     /// Returns the share, with the units that were credited over this link.
-    pub fn into_share(self) -> CreditShare<N> {
+    pub fn into_share(self) -> CreditShare<N>
+        ensures { result ≡ self.entry.share }
+    {
         self.share
     }
 }

@@ -2,7 +2,8 @@
 
 ghost use Rattle.std.specs.Prelude.{◌≡◌, ℕ, List, true, is_some, IfSome, ⊤};
 ghost use Rattle.st_hop.specs.Seen.{outcome_seen};
-ghost use Rattle.st_hub.specs.Begins.{IsIdle, Finds, Exchanged};
+ghost use Rattle.st_hub.specs.Begins.{FindsAt, Finds, Uses, Exchanged};
+ghost use Rattle.st_hub.specs.Hub.{with_core};
 
 use crate::bench::Bench;
 use crate::gate::is_temporary;
@@ -78,26 +79,18 @@ enum Begun<A: Allocator + Copy> {
 
 // Each function here that takes the lock lets it go before it returns, so that no exchange is made under it.
 
-/// Looks for something to do, under the lock.
-fn look<N: HubName<A>, A: Allocator + Copy>(
-    bench: &Bench<N, A>,
+/// What a worker does with a hub of which all was pumped.
+fn find<N: HubName<A>, A: Allocator + Copy>(
     state: &mut HubState<N, A>,
     hand: &mut Option<[u8; 12]>,
     stream: u8,
     now: Moment,
 ) -> Begun<A>
     requires { is_some hand.old ≡ true }
-    ensures idle { IsIdle result → hand.new ≡ hand.old }
-    ensures found { Finds hand.old stream now result state.new.flow.core hand.new }
+    ensures finds { FindsAt state.old.flow.core hand.old stream now result state.new.flow.core hand.new }
+    ensures uses { Uses hand.old result hand.new }
+    ensures rest { state.new ≡ with_core state.old state.new.flow.core }
 {
-    let before = state.totals().accepted;
-    let pumped = state.pump();
-    if state.totals().accepted != before {
-        bench.room.notify_all();
-    }
-    if pumped.is_err() {
-        return Begun::Ends(WorkEnd::NoMemory);
-    }
     if state.is_failed() {
         return Begun::Ends(WorkEnd::Failed);
     }
@@ -112,6 +105,29 @@ fn look<N: HubName<A>, A: Allocator + Copy>(
     }
 }
 
+/// Looks for something to do, under the lock.
+fn look<N: HubName<A>, A: Allocator + Copy>(
+    bench: &Bench<N, A>,
+    state: &mut HubState<N, A>,
+    hand: &mut Option<[u8; 12]>,
+    stream: u8,
+    now: Moment,
+) -> Begun<A>
+    requires { is_some hand.old ≡ true }
+    ensures finds { Finds state.old hand.old stream now result state.new hand.new }
+    ensures uses { Uses hand.old result hand.new }
+{
+    let before = state.totals().accepted;
+    let pumped = state.pump();
+    if state.totals().accepted != before {
+        bench.room.notify_all();
+    }
+    if pumped.is_err() {
+        return Begun::Ends(WorkEnd::NoMemory);
+    }
+    find(state, hand, stream, now)
+}
+
 /// Looks once more, so that no wake-up is lost, and sleeps where there is still nothing to do.
 fn look_again<N: HubName<A>, A: Allocator + Copy, R: Wait + std::time::Clock>(
     rt: &R,
@@ -123,6 +139,7 @@ fn look_again<N: HubName<A>, A: Allocator + Copy, R: Wait + std::time::Clock>(
     rest: Duration,
 ) -> Begun<A>
     requires { is_some hand.old ≡ true }
+    ensures uses { Uses hand.old result hand.new }
 {
     let mut state = state;
     bench.idle.fetch_add(1, Ordering::SeqCst);
@@ -167,6 +184,7 @@ fn begin<N: HubName<A>, A: Allocator + Copy, K: Clock, R: Wait + std::time::Cloc
     rest: Duration,
 ) -> Begun<A>
     requires { is_some hand.old ≡ true }
+    ensures uses { Uses hand.old result hand.new }
 {
     let Some(mut state) = pass_gate(rt, bench, gauge, seat) else {
         return Begun::Ends(WorkEnd::Stopped);

@@ -70,6 +70,11 @@ pub(crate) fn stopped_clock(rt: &impl Abort) -> Still {
     Still(moment(rt))
 }
 
+/// A clock that always says this moment.
+pub(crate) fn clock_at(rt: &impl Abort, ms: i64) -> Still {
+    Still(Moment::new(ms).expect(rt, "a moment"))
+}
+
 impl Clock for Still {
     fn now(&mut self) -> Moment {
         self.0

@@ -42,6 +42,8 @@ mod links;
 #[cfg(test)]
 mod memory;
 #[cfg(test)]
+mod moments;
+#[cfg(test)]
 mod moved;
 #[cfg(test)]
 mod readings;
