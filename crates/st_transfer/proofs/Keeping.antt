@@ -14,7 +14,7 @@ use Rattle.st_file.specs.declared.error.FileError.{FileError}
 use Rattle.st_file.specs.declared.error.FileError.TheVariants.{ReadFault, WriteFault, Aborted, Turns, NoMemory, Closed}
 use Rattle.st_file.proofs.Storing.{stored_more, stored_why}
 use Rattle.st_transfer.specs.Answering.{Answers}
-use Rattle.st_transfer.specs.Keeping.{Explains, Gives, Happens, IsAsked, IsOfDelivery, comes, is_read, Kept, KeptTo, Reads, Runs, end_in, file_stream, piece_limit, given_of}
+use Rattle.st_transfer.specs.Keeping.{Explains, Gives, Happens, IsAsked, IsOfDelivery, comes, is_read, IsUpToDate, Kept, KeptAll, KeptTo, Reads, Runs, end_in, file_stream, piece_limit, given_of}
 use Rattle.st_transfer.specs.declared.receiver.Receiver.{Receiver}
 use Rattle.st_transfer.specs.declared.error.TransferError.{TransferError}
 use Rattle.st_transfer.specs.declared.error.TransferError.TheVariants as transfer
@@ -40,6 +40,15 @@ refused_by false a b c got e h = let f : ◌≡◌ {A = Result reading.Got EndEr
 pub read_refused : (a b : EndState) (e : EndError) → OrWants a (read a file_stream piece_limit) (Err e, b) → (e ≡ refusals.NoStream) ⊎ (e ≡ refusals.NoMemory)
 read_refused a b e (inl p) = inl (refused_by (is_open a.receiving file_stream) a b _ _ e p)
 read_refused a b e (inr p) = inr (let f : ◌≡◌ {A = Result reading.Got EndError} (Err e) (Err refusals.NoMemory) = ap (λ q. q.0) p.1 in cc)
+
+closed_by : (t : Bool) (a b c : EndState) (got : reading.Got) → ◌≡◌ {A = Result reading.Got EndError × EndState} (Err refusals.NoStream, b) (if t then (Ok got, c) else (Err refusals.NoStream, a)) → t ≡ false
+closed_by true a b c got h = absurd (let f : ◌≡◌ {A = Result reading.Got EndError} (Err refusals.NoStream) (Ok got) = ap (λ q. q.0) h in cc)
+closed_by false a b c got h = refl
+
+-- where it is refused for no stream, there is none
+pub read_closed : (a b : EndState) → OrWants a (read a file_stream piece_limit) (Err refusals.NoStream, b) → is_open a.receiving file_stream ≡ false
+read_closed a b (inl p) = closed_by (is_open a.receiving file_stream) a b _ _ p
+read_closed a b (inr p) = absurd (let f : ◌≡◌ {A = Result reading.Got EndError} (Err refusals.NoStream) (Err refusals.NoMemory) = ap (λ q. q.0) p.1 in cc)
 
 -- ---- runs
 
@@ -91,7 +100,16 @@ flush_why start now before mid after n (Closed m) k f w = absurd w
 -- nothing came on the stream
 pub kept_idle : (start now next : EndState) (before after : Option (List ℕ)) (n : ℕ) → Kept start before now after n → Gives now reading.Nothing next → Kept start before next after n
 kept_idle start now next before after n k (inl r) = kept_on start now next before after n k (is_read reading.Nothing r refl)
-kept_idle start now next before after n k (inr same) = rw same k
+kept_idle start now next before after n k (inr same) = rw same.1 k
+
+-- and all that was written is flushed
+pub kept_quiet : (start now next : EndState) (before mid after : Option (List ℕ)) (n : ℕ) → Kept start before now mid n → Gives now reading.Nothing next → Keeps mid after → KeptAll start before next after n
+kept_quiet start now next before mid after n k r f = (now, kept_flushed start now before mid after n k f, r)
+
+-- what is written of an end that is up to date
+pub kept_so_far : (start now : EndState) (before after : Option (List ℕ)) (n : ℕ) → IsUpToDate start before now after n → Kept start before now after n
+kept_so_far start now before after n (inl h) = rw (h.0, h.1) (kept_flushed start start before before after 0 (kept_none start before) h.2)
+kept_so_far start now before after n (inr h) = kept_idle start h.0 now before after n h.1 h.2
 
 -- the same where it told an end
 pub kept_past : (start now next : EndState) (before after : Option (List ℕ)) (n : ℕ) → Kept start before now after n → Reads now reading.End next → Kept start before next after n

@@ -7,6 +7,10 @@ use Rattle.st_transfer.specs.declared.accounts.AccountTotals.{AccountTotals}
 abbrev pub totals_at : Hop → (account : ℕ) → AccountTotals
 totals_at h a = record { claims = slice_index h.claims a; dues = slice_index h.dues a; held = held_of h a }
 
+-- of an account of which a hop has nothing
+abbrev pub no_totals : AccountTotals
+no_totals = record { claims = 0; dues = 0; held = 0 }
+
 -- these are, by their places, what the hop has of its accounts
 abbrev pub AreTotalsOf : Hop → List AccountTotals → Type 0
 AreTotalsOf h told = (a : ℕ) → a < length h.accounts → a < length told → slice_get told a ≡ Some (totals_at h a)

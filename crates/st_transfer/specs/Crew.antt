@@ -1,14 +1,15 @@
 -- The threads of a connector and the requests that they claim.
-use Rattle.std.specs.Prelude.{◌≡◌, ◌⊎◌, ℕ, ◌+◌, ◌<◌, ◌≤◌, Bool, true, false, Option, Some}
+use Rattle.std.specs.Prelude.{◌≡◌, ◌⊎◌, ℕ, ◌+◌, ◌<◌, ◌≤◌, Bool, true, false, Option, Some, IsNone, IsSome}
 use Rattle.std.specs.Option.{option_or}
 use Rattle.st_oer.specs.Faults.{count_after}
 use Rattle.st_transfer.specs.declared.crew.Leave.{Leave}
 use Rattle.st_transfer.specs.declared.crew.Leave.TheVariants.{Send, Wait, Refuse}
 use Rattle.st_transfer.specs.declared.error.TransferError.{TransferError}
+use Rattle.st_transfer.specs.declared.error.TransferError.TheVariants.{NoMemory}
 
 -- how many threads are to accept; the requests that no thread has claimed; the threads that are being made, that accept and
 -- that have a connection, each with a claim; the requests that are not left to any thread; how often a thread began to accept;
--- and why no request is left, where a fault is why
+-- whether the last thread could not be made; and the fault that ended all, so that no request is left
 pub record Roster : Type 0 where
   pub workers : ℕ
   pub left : ℕ
@@ -17,6 +18,7 @@ pub record Roster : Type 0 where
   pub busy : ℕ
   pub spent : ℕ
   pub begun : ℕ
+  pub refused : Bool
   pub fault : Option TransferError
 
 -- all threads
@@ -25,11 +27,19 @@ threads_of r = r.coming + r.accepting + r.busy
 
 -- one request more is claimed, for a thread that is being made
 abbrev pub Hires : Roster → Roster → Type 0
-Hires a b = (a.left ≡ b.left + 1) × (b ≡ record a { left = b.left; coming = a.coming + 1 })
+Hires a b = (a.left ≡ b.left + 1) × (b ≡ record a { left = b.left; coming = a.coming + 1; refused = false })
 
 -- a request is left, fewer threads than workers accept or are to, and there is room for one more
 abbrev pub Wants : Roster → Type 0
 Wants r = (0 < r.left) × (r.coming + r.accepting < r.workers) × (threads_of r < 1024 + r.workers)
+
+-- that thread could not be made, and its request is left again
+abbrev pub LeavesAgain : Roster → Roster → Type 0
+LeavesAgain a b = (a.coming ≡ b.coming + 1) × (b ≡ record a { left = a.left + 1; coming = b.coming; refused = true })
+
+-- where a fault ended all, a thread that could not be made leaves its request to no other
+abbrev pub Forgoes : Roster → Roster → Type 0
+Forgoes a b = (a.coming ≡ b.coming + 1) × (b ≡ record a { coming = b.coming; spent = a.spent + 1; refused = true })
 
 -- that thread is made, and accepts
 abbrev pub Begins : Roster → Roster → Type 0
@@ -38,6 +48,10 @@ Begins a b = (a.coming ≡ b.coming + 1) × (b ≡ record a { coming = b.coming;
 -- it has a connection
 abbrev pub Takes : Roster → Roster → Type 0
 Takes a b = (a.accepting ≡ b.accepting + 1) × (b ≡ record a { accepting = b.accepting; busy = a.busy + 1 })
+
+-- where a fault ended all, a thread that accepts takes no connection, and ends
+abbrev pub Leaves : Roster → Roster → Type 0
+Leaves a b = (a.accepting ≡ b.accepting + 1) × (b ≡ record a { accepting = b.accepting; spent = a.spent + 1 })
 
 -- how often threads are to have begun to accept before it may send: once more where no other thread accepts
 abbrev pub IsNeeded : Roster → ℕ → Type 0
@@ -60,9 +74,19 @@ Stays r = (0 < r.left) × (r.coming + r.accepting < r.workers + 16) × (threads_
 abbrev pub LeavesNone : Roster → TransferError → Roster → Type 0
 LeavesNone a e b = b ≡ record a { left = 0; spent = a.spent + a.left; fault = option_or a.fault (Some e) }
 
--- a thread sends where not too many have a connection, and threads began to accept as often as it needs or no other can be asked
--- for; it waits where one is being made or may be; and it is refused where too many have a connection, or no other is being made
+-- a thread that accepts ends by a fault, and no request is left to any other
+abbrev pub EndsBy : Roster → TransferError → Roster → Type 0
+EndsBy a e b = (a.accepting ≡ b.accepting + 1) × LeavesNone (record a { accepting = b.accepting; spent = a.spent + 1 }) e b
+
+-- the only thread could not be made, so that memory or threads are wanting: no request is left
+abbrev pub GivesUp : Roster → Roster → Type 0
+GivesUp a b = (a.coming ≡ b.coming + 1) × LeavesNone (record a { left = a.left + 1; coming = b.coming; refused = true }) NoMemory b
+
+-- a thread sends where no fault ended all, not too many have a connection, and threads began to accept as often as it needs or no
+-- other can be asked for; it waits where one is being made or may be; and it is refused after a fault, where too many have a
+-- connection, or where no other is being made, since the last one could not be or there is no room for it
 abbrev pub IsLeave : Roster → (needed : ℕ) → Leave → Type 0
-IsLeave r needed Send = (r.busy ≤ 1024) × ((needed ≤ r.begun) ⊎ ((r.left ≡ 0) × (r.coming ≡ 0)))
-IsLeave r needed Wait = (r.begun < needed) × ((0 < r.coming) ⊎ ((0 < r.left) × (threads_of r < 1024 + r.workers)))
-IsLeave r needed Refuse = (1024 < r.busy) ⊎ ((r.begun < needed) × (0 < r.left) × (r.coming ≡ 0))
+IsLeave r needed Send = IsNone r.fault × (r.busy ≤ 1024) × ((needed ≤ r.begun) ⊎ ((r.left ≡ 0) × (r.coming ≡ 0)))
+IsLeave r needed Wait = IsNone r.fault × (r.begun < needed) × ((0 < r.coming) ⊎ ((0 < r.left) × (r.refused ≡ false) × (threads_of r < 1024 + r.workers)))
+IsLeave r needed Refuse = IsSome r.fault
+    ⊎ ((1024 < r.busy) ⊎ ((r.begun < needed) × (0 < r.left) × (r.coming ≡ 0) × ((r.refused ≡ true) ⊎ (1024 + r.workers ≤ threads_of r))))

@@ -4,9 +4,9 @@ use Rattle.st_desk.specs.Errors as desk
 use Rattle.st_end.specs.Errors as end
 use Rattle.st_file.specs.Errors as file
 use Rattle.st_transfer.specs.declared.error.TransferError.{TransferError}
-use Rattle.st_transfer.specs.declared.error.TransferError.TheVariants.{Failed, Stalled, Rings, Accept, Turns, Silent, IvFault, NoMemory, End, Desk, File}
+use Rattle.st_transfer.specs.declared.error.TransferError.TheVariants.{Failed, Stalled, Rings, Accept, Turns, Silent, IvFault, NoMemory, End, Desk, File, Books}
 
--- each fault has its own number, and what an end, a hop or a file refuses keeps its
+-- each fault has its own number, and what an end, a hop, a file or the books refuse keeps its
 abbrev pub number : TransferError → ℕ
 number Failed = 58
 number Stalled = 59
@@ -19,6 +19,7 @@ number NoMemory = 99
 number (End e) = end.number e
 number (Desk e) = desk.number e
 number (File e) = file.number e
+number (Books n) = n
 
 -- the number inside what refused
 abbrev pub inner : TransferError → Option ℕ
@@ -33,3 +34,4 @@ inner NoMemory = None
 inner (End e) = end.inner e
 inner (Desk e) = desk.inner e
 inner (File e) = file.inner e
+inner (Books n) = None

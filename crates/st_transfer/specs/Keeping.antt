@@ -1,8 +1,9 @@
 -- What an end that only receives goes through, and what of stream 1 is written.
-use Rattle.std.specs.Prelude.{◌≡◌, ◌⊎◌, ℕ, zero, suc, List, [], ◌++◌, Option, None, Result, Ok, Err, ⊤}
+use Rattle.std.specs.Prelude.{◌≡◌, ◌⊎◌, ℕ, false, zero, suc, List, [], ◌++◌, Option, None, Result, Ok, Err, ⊤}
 use Rattle.std.specs.Io.KnownBytes.{Keeps}
 use Rattle.st_queues.specs.declared.items.Over.TheVariants as over
 use Rattle.st_receiver.specs.Reading as reading
+use Rattle.st_receiver.specs.Streams.{is_open}
 use Rattle.st_end.specs.State.{EndState}
 use Rattle.st_end.specs.Calls.{Answer}
 use Rattle.st_end.specs.Reading.{read}
@@ -18,7 +19,7 @@ use Rattle.st_transfer.specs.declared.delivery.Delivered.{Delivered}
 use Rattle.st_transfer.specs.declared.delivery.Delivered.TheVariants.{More, Whole}
 use Rattle.st_transfer.specs.declared.receiver.Receiver.{Receiver}
 use Rattle.st_transfer.specs.declared.error.TransferError.{TransferError}
-use Rattle.st_transfer.specs.declared.error.TransferError.TheVariants.{Failed, Stalled, Rings, Accept, Turns, Silent, IvFault, NoMemory, End, Desk, File}
+use Rattle.st_transfer.specs.declared.error.TransferError.TheVariants.{Failed, Stalled, Rings, Accept, Turns, Silent, IvFault, NoMemory, End, Desk, File, Books}
 
 -- the stream on which files and money go
 abbrev pub file_stream : ℕ
@@ -32,10 +33,10 @@ piece_limit = 4096
 abbrev pub Reads : EndState → reading.Got → EndState → Type 0
 Reads a got b = read a file_stream piece_limit ≡ (Ok got, b)
 
--- what the stream gives next: nothing yet, too, where it is not open
+-- what the stream gives next: nothing yet, too, and there alone without a read, where it is not open
 abbrev pub Gives : EndState → reading.Got → EndState → Type 0
 Gives a (reading.Bytes out) b = Reads a (reading.Bytes out) b
-Gives a reading.Nothing b = Reads a reading.Nothing b ⊎ (b ≡ a)
+Gives a reading.Nothing b = Reads a reading.Nothing b ⊎ ((is_open a.receiving file_stream ≡ false) × (b ≡ a))
 Gives a reading.End b = Reads a reading.End b
 Gives a (reading.Aborted code) b = Reads a (reading.Aborted code) b
 
@@ -76,18 +77,28 @@ Kept start before now after n = KeptBut start before now after n []
 abbrev pub KeptTo : EndState → (before : Option (List ℕ)) → (now : EndState) → (after : Option (List ℕ)) → (written : ℕ) → reading.Got → Type 0
 KeptTo start before now after n got = (was : EndState) × Kept start before was after n × Reads was got now
 
--- why no more is written: all that the stream gave is, but where the output failed or its turns are used up
+-- all are, and then the stream gave nothing more
+abbrev pub KeptAll : EndState → (before : Option (List ℕ)) → (now : EndState) → (after : Option (List ℕ)) → (written : ℕ) → Type 0
+KeptAll start before now after n = (was : EndState) × Kept start before was after n × Gives was reading.Nothing now
+
+-- the same, or the end was not asked and not read yet
+abbrev pub IsUpToDate : EndState → (before : Option (List ℕ)) → (now : EndState) → (after : Option (List ℕ)) → (written : ℕ) → Type 0
+IsUpToDate start before now after n = ((now ≡ start) × (n ≡ 0) × Keeps before after) ⊎ KeptAll start before now after n
+
+-- why no more is written: all that could be read is, where no further request came; and all that the stream gave is, but where
+-- the output failed or its turns are used up
 abbrev pub Explains : EndState → (before : Option (List ℕ)) → (now : EndState) → (after : Option (List ℕ)) → TransferError → Type 0
 Explains start before now after Failed = ⊥
 Explains start before now after Stalled = ⊥
 Explains start before now after Rings = ⊥
-Explains start before now after Accept = (n : ℕ) × Kept start before now after n
-Explains start before now after Turns = (n : ℕ) × Kept start before now after n
-Explains start before now after Silent = (n : ℕ) × Kept start before now after n
+Explains start before now after Accept = (n : ℕ) × IsUpToDate start before now after n
+Explains start before now after Turns = (n : ℕ) × IsUpToDate start before now after n
+Explains start before now after Silent = (n : ℕ) × IsUpToDate start before now after n
 Explains start before now after IvFault = ⊥
 Explains start before now after NoMemory = ⊥
 Explains start before now after (End e) = (e ≡ refusals.NoMemory) × (n : ℕ) × Kept start before now after n
 Explains start before now after (Desk e) = ⊥
+Explains start before now after (Books n) = ⊥
 Explains start before now after (File (file_error.ReadFault n)) = ⊥
 Explains start before now after (File (file_error.WriteFault n)) = (others : List ℕ) × KeptBut start before now after n others
 Explains start before now after (File (file_error.Aborted code n)) = KeptTo start before now after n (reading.Aborted code)
@@ -108,10 +119,11 @@ IsOfDelivery NoMemory = ⊥
 IsOfDelivery (End e) = ⊤
 IsOfDelivery (Desk e) = ⊥
 IsOfDelivery (File e) = ⊤
+IsOfDelivery (Books n) = ⊥
 
 -- what is kept once all was read that could be
 abbrev pub Delivers : EndState → (before : Option (List ℕ)) → (now : EndState) → (after : Option (List ℕ)) → (written : ℕ) → Result Delivered TransferError → Type 0
-Delivers start before now after n (Ok More) = Kept start before now after n
+Delivers start before now after n (Ok More) = KeptAll start before now after n
 Delivers start before now after n (Ok Whole) = KeptTo start before now after n reading.End
 Delivers start before now after n (Err e) = Explains start before now after e
 
@@ -151,3 +163,4 @@ faults_told (Err IvFault) count = count
 faults_told (Err NoMemory) count = count
 faults_told (Err (End e)) count = count
 faults_told (Err (Desk e)) count = count
+faults_told (Err (Books n)) count = count

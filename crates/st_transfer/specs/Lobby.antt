@@ -1,7 +1,7 @@
 -- Why a receiver has no further request.
 use Rattle.std.specs.Prelude.{⊤}
 use Rattle.st_transfer.specs.declared.error.TransferError.{TransferError}
-use Rattle.st_transfer.specs.declared.error.TransferError.TheVariants.{Failed, Stalled, Rings, Accept, Turns, Silent, IvFault, NoMemory, End, Desk, File}
+use Rattle.st_transfer.specs.declared.error.TransferError.TheVariants.{Failed, Stalled, Rings, Accept, Turns, Silent, IvFault, NoMemory, End, Desk, File, Books}
 
 -- the listener gave no connection, the connections are used up, or nothing came
 abbrev pub IsOfLobby : TransferError → Type 0
@@ -16,3 +16,4 @@ IsOfLobby NoMemory = ⊥
 IsOfLobby (End e) = ⊥
 IsOfLobby (Desk e) = ⊥
 IsOfLobby (File e) = ⊥
+IsOfLobby (Books n) = ⊥

@@ -1,5 +1,5 @@
 -- Moments of a clock that tells how long ago 1970 began.
-use Rattle.std.specs.Prelude.{◌≡◌, ◌⊎◌, ℕ, ◌+◌, ◌≤◌, ◌<◌, ◌/◌, ℤ, pos, ◌≤ℤ◌, int_le, if◌then◌else◌, Option, Some, Result, Ok, Err, IfSome}
+use Rattle.std.specs.Prelude.{◌≡◌, ◌⊎◌, ℕ, ◌+◌, ◌*◌, ◌≤◌, ◌<◌, ◌/◌, ℤ, pos, ◌≤ℤ◌, int_le, if◌then◌else◌, Option, Some, None, Result, Ok, Err, IfSome}
 use Rattle.std.specs.Duration.{as_nanos}
 use Rattle.std.specs.declared.time.Duration.{Duration}
 use Rattle.st_transfer.specs.declared.clock.RuntimeClock.{RuntimeClock}
@@ -38,3 +38,9 @@ abbrev pub IsWait : Duration → (millis : ℤ) → Type 0
 IsWait time millis =
     ((as_nanos time / 1000000 < longest_wait) × (millis ≡ pos (as_nanos time / 1000000 + 1)))
     ⊎ ((longest_wait ≤ as_nanos time / 1000000) × (millis ≡ pos longest_wait))
+
+-- a time of so many seconds; none where no number is given
+abbrev pub IsSeconds : Option ℕ → Option Duration → Type 0
+IsSeconds None time = time ≡ None
+IsSeconds (Some seconds) None = ⊥
+IsSeconds (Some seconds) (Some time) = as_nanos time ≡ seconds * 1_000_000_000

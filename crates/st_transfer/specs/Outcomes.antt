@@ -3,12 +3,14 @@ use Rattle.std.specs.Prelude.{◌≡◌, ◌⊎◌, ℕ, Bool, true, false, List
 use Rattle.st_end.specs.State.{EndState}
 use Rattle.st_end.specs.Calls as calls
 use Rattle.st_end.specs.Totals.{Totals, totals, settled}
+use Rattle.st_end.specs.declared.error.EndError.{EndError}
+use Rattle.st_end.specs.declared.error.EndError.TheVariants as refusals
 use Rattle.st_hub.specs.declared.workers.WorkEnd.{WorkEnd}
 use Rattle.st_hub.specs.declared.workers.WorkEnd.TheVariants as ends
 use Rattle.st_file.specs.declared.error.FileError.{FileError}
 use Rattle.st_transfer.specs.Keeping.{file_stream}
 use Rattle.st_transfer.specs.declared.error.TransferError.{TransferError}
-use Rattle.st_transfer.specs.declared.error.TransferError.TheVariants.{Failed, Stalled, Turns, IvFault, NoMemory, File}
+use Rattle.st_transfer.specs.declared.error.TransferError.TheVariants.{Failed, Stalled, Rings, Turns, IvFault, NoMemory, End, File}
 
 -- which fault a worker's end is
 abbrev pub fault_of : WorkEnd → Option TransferError
@@ -46,6 +48,17 @@ outcome false failed es (Err e) = Err (fault_told failed es (File e))
 abbrev pub OpensWith : EndState → (money : ℕ) → EndState → Type 0
 OpensWith a money b = (k : ℕ) × (mid : EndState) × (calls.open_stream a ≡ (Ok k, mid)) × (calls.offer mid k money ≡ (Ok tt, b))
 
+-- why an end does not open its next stream with this money on it: it refuses one of the two, or memory ran out
+abbrev pub RefusesToOpen : EndState → (money : ℕ) → EndError → Type 0
+RefusesToOpen a money e =
+    (e ≡ refusals.NoMemory)
+    ⊎ ((b : EndState) × (calls.open_stream a ≡ (Err e, b)))
+    ⊎ ((k : ℕ) × (mid : EndState) × (b : EndState) × (calls.open_stream a ≡ (Ok k, mid)) × (calls.offer mid k money ≡ (Err e, b)))
+
+-- why a transfer does not begin: memory for the rings of the streams ran out, or the end does not open its stream
+abbrev pub WhyNotBegun : EndState → (money : ℕ) → TransferError → Type 0
+WhyNotBegun a money why = (why ≡ Rings) ⊎ ((e : EndError) × (why ≡ End e) × RefusesToOpen a money e)
+
 -- an end tells these totals, and the result says whether its stream's close was fulfilled and its connection failed
 abbrev pub IsTold : Result ℕ TransferError → Totals → Type 0
 IsTold result told =
@@ -56,6 +69,6 @@ IsTold result told =
 abbrev pub no_totals : Totals
 no_totals = record { accepted = 0; delivered = 0; credited = 0; paid = 0 }
 
--- the same, or the transfer did not begin
-abbrev pub ComesTo : Result ℕ TransferError → Totals → Type 0
-ComesTo result told = IsTold result told ⊎ ((why : TransferError) × (result ≡ Err why) × (told ≡ no_totals))
+-- the same, or a transfer of this end and this money did not begin
+abbrev pub ComesTo : EndState → (money : ℕ) → Result ℕ TransferError → Totals → Type 0
+ComesTo a money result told = IsTold result told ⊎ ((why : TransferError) × (result ≡ Err why) × WhyNotBegun a money why × (told ≡ no_totals))

@@ -1,7 +1,7 @@
 //! The totals of a hop's accounts.
 
-ghost use Rattle.std.specs.Prelude.{◌≡◌, ◌<◌, length, IfOk, vec_len};
-ghost use Rattle.st_transfer.specs.Accounts.{AreTotalsOf, totals_at};
+ghost use Rattle.std.specs.Prelude.{◌≡◌, ◌<◌, length, replicate, IfOk, vec_len};
+ghost use Rattle.st_transfer.specs.Accounts.{AreTotalsOf, no_totals, totals_at};
 
 use st_hop::HopState;
 use std::alloc::{AllocError, Global};
@@ -19,17 +19,15 @@ pub struct AccountTotals {
 
 /// Places for the totals of `count` accounts, all 0.
 pub(crate) fn places(alloc: Global, count: usize) -> Result<Vec<AccountTotals>, AllocError>
-    ensures { IfOk result (λ places. vec_len places ≡ count) }
+    ensures many { IfOk result (λ places. vec_len places ≡ count) }
+    ensures zero { IfOk result (λ places. places.items ≡ replicate count no_totals) }
 {
-    let mut places = Vec::new(alloc);
-    for _ in 0..count {
-        places.push(AccountTotals {
-            claims: 0,
-            dues: 0,
-            held: 0,
-        })?;
-    }
-    Ok(places)
+    let nothing = AccountTotals {
+        claims: 0,
+        dues: 0,
+        held: 0,
+    };
+    Vec::from_elem(alloc, nothing, count)
 }
 
 /// The totals of an account; zeros for an account that the hop does not have.

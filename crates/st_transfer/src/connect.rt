@@ -11,9 +11,11 @@ use crate::clock::RuntimeClock;
 use crate::crew::Crew;
 use crate::error::TransferError;
 use crate::neighbour::Neighbourhood;
-use crate::serving::{accept_next, serve_on};
+use crate::serving::{accept_next, serve_on, shut};
+use crate::storing::Storing;
 use crate::terms::ConnectTerms;
-use st_desk::{AccountShares, HopDesk, Links, NoBooks, Owed, Served, serve};
+use st_booking::Keeper;
+use st_desk::{AccountShares, HopDesk, Links, Owed, Served, Till, serve};
 use st_hop::{HopState, Outcome};
 use st_http::Answerer;
 use st_ilp::Moment;
@@ -23,7 +25,7 @@ use std::net::{Net, TcpListener, TcpStream};
 use std::sync::ledger::{Blank, Ledger};
 use std::sync::{Mutex, Wait};
 use std::thread;
-use std::thread::Threads;
+use std::thread::{Scope, Threads};
 use std::time::Clock;
 
 /// How a connector ended.
@@ -106,19 +108,20 @@ impl<C: Ledger, D: Ledger, R: Net + Wait + Clock> Links<Global> for Ways<'_, C, 
 
 /// What answers the requests that one thread of a connector accepts.
 #[derive(Drop)]
-struct Server<'a, C: Ledger, D: Ledger, R: Net + Wait + Clock> {
+struct Server<'a, C: Ledger, D: Ledger, K: Keeper, R: Net + Wait + Clock> {
     rt: &'a R,
     common: &'a Common<'a, C, D>,
     /// How often threads are to have begun to accept before this one may send.
     needed: u64,
     /// When an exchange has to be done, so that its answer can still be passed back.
     latest: Option<Moment>,
+    books: Storing<'a, K, R>,
     clock: RuntimeClock<'a, R>,
     /// The account from which the last request that was answered arrived at the desk.
     account: Option<usize>,
 }
 
-impl<C: Ledger, D: Ledger, R: Net + Wait + Clock> Answerer for Server<'_, C, D, R> {
+impl<C: Ledger, D: Ledger, K: Keeper, R: Net + Wait + Clock> Answerer for Server<'_, C, D, K, R> {
     // An answer was given at the desk to this account.
     ghost gives = { λ _ account _ answer new. IsSome answer → new.account ≡ Some account };
 
@@ -128,6 +131,7 @@ impl<C: Ledger, D: Ledger, R: Net + Wait + Clock> Answerer for Server<'_, C, D, 
             common,
             needed,
             latest,
+            books,
             clock,
             account: at,
         } = self;
@@ -145,7 +149,7 @@ impl<C: Ledger, D: Ledger, R: Net + Wait + Clock> Answerer for Server<'_, C, D, 
             account,
             body,
             &mut ways,
-            &mut NoBooks,
+            books,
             clock,
         ) {
             Ok(Served { account, answer }) => {
@@ -157,7 +161,7 @@ impl<C: Ledger, D: Ledger, R: Net + Wait + Clock> Answerer for Server<'_, C, D, 
     }
 }
 
-impl<C: Ledger, D: Ledger, R: Net + Wait + Clock> Server<'_, C, D, R> {
+impl<C: Ledger, D: Ledger, K: Keeper, R: Net + Wait + Clock> Server<'_, C, D, K, R> {
     /// Notes that a connection was accepted now, and how often threads are to have begun to accept before its request may
     /// be sent to a neighbour.
     fn note_accepted(&mut self, needed: u64) {
@@ -167,13 +171,14 @@ impl<C: Ledger, D: Ledger, R: Net + Wait + Clock> Server<'_, C, D, R> {
     }
 }
 
-/// A thread of a connector: it accepts connections and serves one request on each, until the crew needs it no more.
-fn serve_all<
-    'a,
+/// Accepts a connection and serves one request on it. Whether the thread is to accept the next one.
+fn serve_next<
     C: Ledger,
     D: Ledger,
+    K: Keeper,
     R: Net<Listener = TcpListener, Stream = TcpStream> + Wait + Clock,
->(rt: &'a R, common: &'a Common<'a, C, D>) {
+>(server: &mut Server<'_, C, D, K, R>) -> bool {
+    let (rt, common) = (server.rt, server.common);
     let Common {
         alloc,
         listener,
@@ -181,46 +186,115 @@ fn serve_all<
         terms,
         ..
     } = common;
+    match accept_next(rt, *listener) {
+        Ok(stream) => {
+            let Some(needed) = crew.take(rt) else {
+                return false;
+            };
+            server.note_accepted(needed);
+            let came = serve_on(rt, *alloc, stream, terms.tokens, server, terms.turns);
+            crew.finish(rt, came)
+        }
+        Err(error) => {
+            let ends = crew.fail(rt, error);
+            if ends {
+                shut(*listener);
+            }
+            !ends
+        }
+    }
+}
+
+/// A thread of a connector: it accepts connections and serves one request on each, until the crew needs it no more.
+fn serve_all<
+    'a,
+    C: Ledger,
+    D: Ledger,
+    K: Keeper,
+    R: Net<Listener = TcpListener, Stream = TcpStream> + Wait + Clock,
+>(rt: &'a R, common: &'a Common<'a, C, D>, till: Option<&'a Till<K, Global>>) {
+    let crew = &common.crew;
     let mut server = Server {
         rt,
         common,
         needed: 0,
         latest: None,
+        books: Storing {
+            rt,
+            till,
+            crew,
+            listener: common.listener,
+        },
         clock: RuntimeClock::new(rt),
         account: None,
     };
     crew.begin(rt);
     for _ in rt.forever() {
-        let is_done = match accept_next(rt, *listener) {
-            Ok(stream) => {
-                server.note_accepted(crew.take(rt));
-                let came = serve_on(rt, *alloc, stream, terms.tokens, &mut server, terms.turns);
-                !crew.finish(rt, came)
-            }
-            Err(error) => crew.fail(rt, error),
-        };
-        if is_done {
+        if !serve_next(&mut server) {
             return;
         }
     }
 }
 
-/// Makes the threads of a connector wherever too few of them accept, until none is left.
+/// What each thread of a connector is given.
+#[derive(Drop)]
+struct Job<'a, C: Ledger, D: Ledger, K: Keeper, R> {
+    rt: &'a R,
+    common: &'a Common<'a, C, D>,
+    till: Option<&'a Till<K, Global>>,
+}
+
+/// Does the work of a thread.
+fn serve_job<
+    C: Ledger,
+    D: Ledger,
+    K: Keeper,
+    R: Net<Listener = TcpListener, Stream = TcpStream> + Wait + Clock,
+>(job: &Job<'_, C, D, K, R>) {
+    serve_all(job.rt, job.common, job.till);
+}
+
+/// Makes a thread of a connector. False where that is refused.
+fn spawn_one<
+    's,
+    E,
+    C: Ledger + Send + Sync,
+    D: Ledger + Send + Sync,
+    K: Keeper + Send,
+    R: Net<Listener = TcpListener, Stream = TcpStream> + Wait + Clock + Sync,
+>(scope: &Scope<'s, E>, job: &'s Job<'s, C, D, K, R>) -> bool {
+    scope.spawn(move || serve_job(job)).is_ok()
+}
+
+/// Makes the threads of a connector in a scope, wherever too few of them accept, until none is left.
+fn make_threads<
+    's,
+    E,
+    C: Ledger + Send + Sync,
+    D: Ledger + Send + Sync,
+    K: Keeper + Send,
+    R: Net<Listener = TcpListener, Stream = TcpStream> + Wait + Clock + Sync,
+>(rt: &R, crew: &Crew, scope: &Scope<'s, E>, job: &'s Job<'s, C, D, K, R>) {
+    for _ in rt.forever() {
+        if !crew.wants_thread(rt) {
+            return;
+        }
+        if !spawn_one(scope, job) {
+            crew.do_without(rt);
+        }
+    }
+}
+
+/// Makes the threads of a connector, and waits until none is left.
 fn manage<
     'a,
     C: Ledger + Send + Sync,
     D: Ledger + Send + Sync,
+    K: Keeper + Send,
     R: Net<Listener = TcpListener, Stream = TcpStream> + Threads + Wait + Clock + Sync,
->(rt: &'a R, common: &'a Common<'a, C, D>) {
+>(rt: &'a R, crew: &'a Crew, job: &'a Job<'a, C, D, K, R>) {
     thread::scope(thread::scope_env(), rt, |scope| {
-        for _ in rt.forever() {
-            if !common.crew.wants_thread(rt) {
-                return;
-            }
-            if scope.spawn(move || serve_all(rt, common)).is_err() {
-                common.crew.do_without(rt);
-            }
-        }
+        make_threads(rt, crew, scope, job);
     });
 }
 
@@ -272,6 +346,7 @@ fn common_of<'a, C: Ledger, D: Ledger>(
 fn run<
     C: Ledger + Send + Sync,
     D: Ledger + Send + Sync,
+    K: Keeper + Send,
     R: Net<Listener = TcpListener, Stream = TcpStream> + Threads + Wait + Clock + Sync,
 >(
     rt: &R,
@@ -281,6 +356,7 @@ fn run<
     claims: Blank,
     dues: Blank,
     terms: ConnectTerms<'_>,
+    till: Option<&Till<K, Global>>,
     accounts: Vec<AccountTotals>,
 ) -> ConnectorEnded
     requires claims { (claims.name ≡ C.name) × (claims.parts ≡ C.parts) × (claims.parts ≡ 64) }
@@ -296,7 +372,12 @@ fn run<
             overloaded: 0,
         },
     };
-    manage(rt, &common);
+    let job = Job {
+        rt,
+        common: &common,
+        till,
+    };
+    manage(rt, &common.crew, &job);
     let Common {
         desk,
         shares,
@@ -329,22 +410,31 @@ fn run<
 /// `terms.workers` and 16 more threads do. Beyond 1,024 threads with a connection, or where no further thread can be made
 /// and none waits for a connection, a Prepare that would be forwarded is answered with T00 at once, and counted.
 ///
-/// Fails with `Accept` where the listener gives no connection 100 times in a row and no thread has one, and then no
-/// further request is claimed; with `NoMemory` where memory is refused, or not one thread can be made. The call ends with
-/// its threads. The totals of the accounts are given whatever the result is.
+/// With a `till`, what a Fulfill books is committed there before the Fulfill is passed back, each booking once. A Fulfill
+/// that could not be stored is answered with T01 in its place. The till has to be for `MOST_THREADS`. Without one, what is
+/// booked is in memory alone.
+///
+/// Fails with `Accept` where the listener gives no connection 100 times in a row and no thread has one; with `NoMemory`
+/// where memory is refused, or not one thread can be made; with `Books` and the number of the books once they refused a
+/// booking. Then no further request is served: the listener is shut, and connections that no thread took are closed. A
+/// Prepare that a thread has by then is answered with T00 where it was not sent on, and else as its exchange ends.
+///
+/// The call ends with its threads. The totals of the accounts are given whatever the result is.
 pub fn connector_on<
     R: Net<Listener = TcpListener, Stream = TcpStream> + Threads + Wait + Clock + Sync,
+    K: Keeper + Send + Drop,
 >(
     rt: &R,
     alloc: Global,
     listener: TcpListener,
     hop: HopState<Global>,
     terms: ConnectTerms<'_>,
+    till: Option<&Till<K, Global>>,
 ) -> ConnectorEnded
     ensures { (vec_len result.accounts ≡ length terms.entry.tokens.now) ⊎ (result.result ≡ Err NoMemory) }
 {
     match places(alloc, terms.tokens.len()) {
-        Ok(accounts) => run::<Brand, Brand, R>(
+        Ok(accounts) => run::<Brand, Brand, K, R>(
             rt,
             alloc,
             &listener,
@@ -352,6 +442,7 @@ pub fn connector_on<
             Blank::new(64),
             Blank::new(64),
             terms,
+            till,
             accounts,
         ),
         Err(_) => ConnectorEnded {

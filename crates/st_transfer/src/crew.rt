@@ -1,7 +1,9 @@
 //! The threads of a connector: how many of them accept, and how many requests they may still take.
 
-ghost use Rattle.std.specs.Prelude.{◌≡◌, ◌+◌, ◌<◌, ◌↔◌, IsSome, IsTrue, MatchBool, None};
-ghost use Rattle.st_transfer.specs.Crew.{threads_of, Hires, Wants, Begins, Takes, IsNeeded, IsDone, GoesOn, Stays, LeavesNone, IsLeave};
+ghost use Rattle.std.specs.Prelude.{◌≡◌, ◌⊎◌, ◌+◌, ◌<◌, ◌↔◌, ℕ, false, true, IsNone, IsSome, IsTrue, MatchBool, MatchOption, None, Some};
+ghost use Rattle.std.specs.Option.{option_or};
+ghost use Rattle.st_transfer.specs.Crew.{threads_of, Hires, LeavesAgain, Forgoes, EndsBy, GivesUp, Wants, Begins, Takes, Leaves, IsNeeded, IsDone, GoesOn, Stays, LeavesNone, IsLeave};
+ghost use Rattle.st_transfer.specs.declared.error.TransferError.TheVariants.{Books};
 
 use crate::error::TransferError;
 use std::marker::Model;
@@ -10,6 +12,10 @@ use std::time::{Clock, Duration};
 
 /// The largest number of threads with a connection of which each may still send to a neighbour.
 pub(crate) const MOST_BUSY: u64 = 1_024;
+
+/// For how many threads a till of a connector has to be: so many may send to a neighbour at once, and store what its
+/// Fulfills book.
+pub const MOST_THREADS: usize = MOST_BUSY as usize;
 
 /// How many more threads than workers may wait for a connection, so that not every connection makes a thread.
 const SPARE: u64 = 16;
@@ -51,24 +57,25 @@ pub(crate) struct Roster {
     is_refused: bool,
     /// How many requests were not sent to a neighbour because too many threads were busy.
     overloaded: u64,
+    /// The fault that ended all: no request is served after it, but by threads that have a connection.
     fault: Option<TransferError>,
 }
 
 impl Model for Roster {
-    ghost use Rattle.std.specs.Prelude.{◌≡◌, ◌+◌, ◌≤◌};
+    ghost use Rattle.std.specs.Prelude.{◌≡◌, ◌+◌, ◌≤◌, IsSome};
     ghost use Rattle.st_transfer.specs.Crew as crew;
 
     ghost Value = { crew.Roster };
 
-    ghost view = { λ r. record { workers = r.workers; left = r.left; coming = r.coming; accepting = r.accepting; busy = r.busy; spent = r.spent; begun = r.begun; fault = r.fault } };
+    ghost view = { λ r. record { workers = r.workers; left = r.left; coming = r.coming; accepting = r.accepting; busy = r.busy; spent = r.spent; begun = r.begun; refused = r.is_refused; fault = r.fault } };
 
-    ghost invariant = { λ r. (r.left + r.coming + r.accepting + r.busy + r.spent ≡ r.requests) × (r.coming + r.accepting + r.busy ≤ 1024 + r.workers) };
+    ghost invariant = { λ r. (r.left + r.coming + r.accepting + r.busy + r.spent ≡ r.requests) × (r.coming + r.accepting + r.busy ≤ 1024 + r.workers) × (IsSome r.fault → r.left ≡ 0) };
 }
 
 impl Roster {
     /// No threads, and a given number of requests.
     fn new(requests: u64, workers: u8) -> Roster
-        ensures { result ≡ record { workers = workers; left = requests; coming = 0; accepting = 0; busy = 0; spent = 0; begun = 0; fault = None } }
+        ensures { result ≡ record { workers = workers; left = requests; coming = 0; accepting = 0; busy = 0; spent = 0; begun = 0; refused = false; fault = None } }
     {
         Roster {
             workers,
@@ -121,16 +128,21 @@ impl Roster {
         true
     }
 
-    /// Gives the request of a thread back that could not be made. Where there is no other thread, no request is served.
+    /// Gives the request of a thread back that could not be made, but after a fault. Where there is no other thread, no
+    /// request is served.
     fn give_up(&mut self)
-        ensures back { 0 < self.old.coming → 0 < threads_of self.new → Hires self.new self.old }
-        ensures last { 0 < self.old.coming → threads_of self.new ≡ 0 → (self.new.left ≡ 0) × IsSome self.new.fault }
+        ensures back { 0 < self.old.coming → 0 < threads_of self.new → MatchOption self.old.fault (LeavesAgain self.old self.new) (λ _. Forgoes self.old self.new) }
+        ensures last { 0 < self.old.coming → threads_of self.new ≡ 0 → MatchOption self.old.fault (GivesUp self.old self.new) (λ _. Forgoes self.old self.new) }
     {
         if self.coming == 0 {
             return;
         }
         self.coming -= 1;
-        self.left += 1;
+        if self.fault.is_none() {
+            self.left += 1;
+        } else {
+            self.spent += 1;
+        }
         self.is_refused = true;
         if self.threads() == 0 {
             self.end(TransferError::NoMemory);
@@ -148,6 +160,13 @@ impl Roster {
         }
     }
 
+    /// The books refused a booking: no request is left to any thread.
+    fn refuse(&mut self, number: u8)
+        ensures { LeavesNone self.old (Books number) self.new }
+    {
+        self.end(TransferError::Books(number));
+    }
+
     /// A thread that was made accepts.
     fn begin(&mut self)
         ensures { 0 < self.old.coming → Begins self.old self.new }
@@ -161,29 +180,35 @@ impl Roster {
     }
 
     /// A thread has a connection. Answers how often threads are to have begun to accept before it may send to a
-    /// neighbour: once more where no other thread accepts.
-    fn take(&mut self) -> u64
-        ensures taken { 0 < self.old.accepting → Takes self.old self.new }
-        ensures needed { 0 < self.old.accepting → IsNeeded self.new result }
+    /// neighbour: once more where no other thread accepts. After a fault the thread is to end, and the answer is `None`.
+    fn take(&mut self) -> Option<u64>
+        ensures taken { 0 < self.old.accepting → IsNone self.old.fault → Takes self.old self.new × ((needed : ℕ) × (result ≡ Some needed) × IsNeeded self.new needed) }
+        ensures left { 0 < self.old.accepting → IsSome self.old.fault → Leaves self.old self.new × (result ≡ None) }
     {
         if self.accepting == 0 {
-            return self.begun;
+            return None;
         }
         self.accepting -= 1;
+        if self.fault.is_some() {
+            self.spent += 1;
+            return None;
+        }
         self.busy += 1;
         if self.accepting == 0 {
-            self.begun.saturating_add(1)
+            Some(self.begun.saturating_add(1))
         } else {
-            self.begun
+            Some(self.begun)
         }
     }
 
     /// A thread meets a fault as it accepts. False where it is to try again: other threads have connections, which take
-    /// file descriptors and memory until they end. Else it ends, and no request is left.
+    /// file descriptors and memory until they end. Else it ends, and so do all: the first fault is why.
     fn fail(&mut self, fault: TransferError) -> bool
-        ensures { MatchBool result ((self.new.left ≡ 0) × IsSome self.new.fault) ((0 < self.old.busy) × (self.new ≡ self.old)) }
+        ensures known { MatchBool result ((self.new.left ≡ 0) × (self.new.fault ≡ option_or self.old.fault (Some fault))) ((0 < self.old.busy) × IsNone self.old.fault × (self.new ≡ self.old)) }
+        ensures busy { IsTrue result ↔ ((self.old.busy ≡ 0) ⊎ IsSome self.old.fault) }
+        ensures ended { IsTrue result → 0 < self.old.accepting → EndsBy self.old fault self.new }
     {
-        if self.busy > 0 {
+        if self.busy > 0 && self.fault.is_none() {
             return false;
         }
         if self.accepting > 0 {
@@ -194,15 +219,15 @@ impl Roster {
         true
     }
 
-    /// A thread is done with its connection. Its request is left again where none came whole.
+    /// A thread is done with its connection. Its request is left again where none came whole, but after a fault.
     fn finish(&mut self, came: bool)
-        ensures { 0 < self.old.busy → IsDone self.old came self.new }
+        ensures { 0 < self.old.busy → MatchOption self.old.fault (IsDone self.old came self.new) (λ _. IsDone self.old true self.new) }
     {
         if self.busy == 0 {
             return;
         }
         self.busy -= 1;
-        if came {
+        if came || self.fault.is_some() {
             self.spent += 1;
         } else {
             self.left += 1;
@@ -225,11 +250,12 @@ impl Roster {
         true
     }
 
-    /// Whether a thread may send to a neighbour that waited until threads began to accept this often.
+    /// Whether a thread may send to a neighbour that waited until threads began to accept this often. After a fault none
+    /// may.
     fn leave(&self, needed: u64) -> Leave
         ensures { IsLeave self.now needed result }
     {
-        if self.busy > MOST_BUSY {
+        if self.fault.is_some() || self.busy > MOST_BUSY {
             return Leave::Refuse;
         }
         if needed <= self.begun || (self.left == 0 && self.coming == 0) {
@@ -297,15 +323,23 @@ impl Crew {
         self.relieved.notify_all();
     }
 
-    /// A thread has a connection. Answers what `may_send` asks.
-    pub(crate) fn take(&self, rt: &impl Wait) -> u64 {
+    /// A thread has a connection. Answers what `may_send` asks; `None` where the thread is to end.
+    pub(crate) fn take(&self, rt: &impl Wait) -> Option<u64> {
         let needed = self.roster.lock(rt).take();
         self.changed.notify_one();
         needed
     }
 
-    /// A thread meets a fault as it accepts. Whether it is to end, and no further request is claimed; else it is to try
-    /// again, since other threads have connections.
+    /// The books refused a booking: no further request is served, and nothing more is sent to a neighbour. Each thread that
+    /// accepts is to be woken.
+    pub(crate) fn refuse(&self, rt: &impl Wait, number: u8) {
+        self.roster.lock(rt).refuse(number);
+        self.changed.notify_one();
+        self.relieved.notify_all();
+    }
+
+    /// A thread meets a fault as it accepts. Whether it is to end, and no further request is served: each thread that
+    /// accepts is to be woken. Else it is to try again, since other threads have connections.
     pub(crate) fn fail(&self, rt: &impl Wait, fault: TransferError) -> bool {
         let ends = self.roster.lock(rt).fail(fault);
         self.changed.notify_one();
@@ -331,14 +365,16 @@ impl Crew {
     }
 
     /// Whether a thread with a connection may send to a neighbour: at most 1,024 threads are busy, and another thread
-    /// accepts meanwhile. It waits until one does, or none can be made. Each refusal is counted.
+    /// accepts meanwhile. It waits until one does, or none can be made. Each refusal is counted. After a fault none may send.
     pub(crate) fn may_send(&self, rt: &impl Wait, needed: u64) -> bool {
         let mut roster = self.roster.lock(rt);
         for _ in rt.forever() {
             match roster.leave(needed) {
                 Leave::Send => return true,
                 Leave::Refuse => {
-                    roster.overloaded = roster.overloaded.saturating_add(1);
+                    if roster.fault.is_none() {
+                        roster.overloaded = roster.overloaded.saturating_add(1);
+                    }
                     return false;
                 }
                 Leave::Wait => roster = self.relieved.wait(rt, roster),

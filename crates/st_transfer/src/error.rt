@@ -46,11 +46,14 @@ pub enum TransferError {
     /// The input was not read whole, or the output not written whole.
     #[error("{0}")]
     File(FileError),
+    /// The books refused a booking with this number.
+    #[error("the books refused a booking")]
+    Books(u8),
 }
 
 impl TransferError {
     /// The error's number in the program's table of faults. For `End`, `Desk` and `File` it is that of the wrapped
-    /// error.
+    /// error, and for `Books` that of the books.
     pub fn number(&self) -> u8
         ensures { result ≡ errors.number self.now }
     {
@@ -66,6 +69,7 @@ impl TransferError {
             TransferError::End(error) => error.number(),
             TransferError::Desk(error) => error.number(),
             TransferError::File(error) => error.number(),
+            TransferError::Books(number) => *number,
         }
     }
 

@@ -2,7 +2,7 @@
 //!
 //! `receive_on` answers the requests that arrive at a listener from one end of a connection, and writes to an output
 //! what its peer sends on stream 1. `connector_on` answers requests from a hop that many threads serve, each with links of
-//! its own to the neighbours. `send_on` sends an input with money on stream 1, by workers that share one hub.
+//! its own to the neighbours, and books at a till where it is given one. `send_on` sends an input with money on stream 1, by workers that share one hub.
 //! Each returns a `TransferError` where it fails, of which `number` gives the program's fault. Each also reports the
 //! totals of its end or of its accounts.
 #![tactic(auto)]
@@ -23,6 +23,7 @@ mod receive;
 mod receiver;
 mod send;
 mod serving;
+mod storing;
 mod terms;
 mod waiting;
 mod workers;
@@ -30,6 +31,7 @@ mod workers;
 pub use accounts::AccountTotals;
 pub use clock::RuntimeClock;
 pub use connect::{ConnectorEnded, connector_on};
+pub use crew::MOST_THREADS;
 pub use ended::Ended;
 pub use ends::{client_end, server_end};
 pub use error::TransferError;

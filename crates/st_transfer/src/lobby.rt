@@ -1,7 +1,9 @@
 //! The connections of a receiver on which a request is on its way.
 
-ghost use Rattle.std.specs.Prelude.{◌≡◌, ◌+◌, ◌<◌, ◌≤◌, IsSome, IsTrue, IfErr, IfOk, IfSome, IsOkUnless, MatchOption, OnErr, Err, vec_len};
+ghost use Rattle.std.specs.Prelude.{◌≡◌, ℕ, ◌+◌, ◌<◌, ◌≤◌, IsSome, IsTrue, IfErr, IfOk, IfSome, IsOkUnless, MatchOption, OnErr, Err, vec_len};
+ghost use Rattle.st_http.specs.Message.{refused};
 ghost use Rattle.st_http.specs.Progress.{account_of, body_of};
+ghost use Rattle.st_http.specs.declared.error.HttpError.TheVariants.{Status};
 ghost use Rattle.st_transfer.specs.Answering.{AskedOnce, IsWholeAt};
 ghost use Rattle.st_transfer.specs.Lobby.{IsOfLobby};
 ghost use Rattle.st_transfer.specs.declared.error.TransferError.TheVariants.{Accept, Silent, Turns};
@@ -53,7 +55,8 @@ pub(crate) struct Guest<'a, S, R: Clock> {
 impl<S: Read + Write + OpenStream + Drop, R: Clock> Guest<'_, S, R> {
     /// Reads what has arrived, with one call of the stream.
     fn read(&mut self) -> Step
-        ensures { result ≡ Step.Whole → IsWholeAt self.new.reading.standing }
+        ensures whole { result ≡ Step.Whole → IsWholeAt self.new.reading.standing }
+        ensures refused { (status : ℕ) → result ≡ Step.Refused status → self.new.reading.standing ≡ refused (Status status) }
     {
         if self.turns == 0 {
             return Step::Gone;
@@ -88,8 +91,10 @@ impl<S: Read + Write + OpenStream + Drop, R: Clock> Guest<'_, S, R> {
         let _ = respond(alloc, &mut stream, &reading, answerer, &mut turns);
     }
 
-    /// Refuses the request by this status, and ends the connection.
-    fn refuse(self, alloc: Global, status: u16) {
+    /// Refuses the request by this status, which is its own, and ends the connection.
+    fn refuse(self, alloc: Global, status: u16)
+        requires { self.reading.standing ≡ refused (Status status) }
+    {
         let Guest {
             mut stream,
             mut turns,

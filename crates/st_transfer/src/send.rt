@@ -1,6 +1,6 @@
 //! The command `send`.
 
-ghost use Rattle.std.specs.Prelude.{◌≡◌, ℕ, length, Err, IfOk, IfSome};
+ghost use Rattle.std.specs.Prelude.{◌≡◌, ℕ, length, Err, IfErr, IfOk, IfSome, IsOkUnless};
 ghost use Rattle.st_end.specs.Seen.{totals_seen};
 ghost use Rattle.st_queues.specs.Lanes.{ring_at};
 ghost use Rattle.st_end.specs.Totals as totals;
@@ -8,7 +8,8 @@ ghost use Rattle.st_file.specs.Errors.{counted};
 ghost use Rattle.st_hub.specs.Hub.{IsNew};
 ghost use Rattle.st_transfer.specs.Keeping.{file_stream};
 ghost use Rattle.st_transfer.specs.Outcomes as outcomes;
-ghost use Rattle.st_transfer.specs.Outcomes.{ComesTo, IsTold, OpensWith, no_totals};
+ghost use Rattle.st_transfer.specs.Outcomes.{ComesTo, IsTold, OpensWith, WhyNotBegun, no_totals};
+ghost use Rattle.st_transfer.specs.declared.error.TransferError.TheVariants.{Rings as NoRings};
 
 use crate::delivery::STREAM;
 use crate::ended::Ended;
@@ -135,7 +136,8 @@ fn open_on<N: HubName<Global>>(
     hub: &mut HubState<N, Global>,
     money: u64,
 ) -> Result<StreamWriter<N, Global>, TransferError>
-    ensures { IfOk result (λ _. OpensWith hub.old.flow.core money hub.new.flow.core) }
+    ensures opened { IfOk result (λ _. OpensWith hub.old.flow.core money hub.new.flow.core) }
+    ensures refused { IfErr result (WhyNotBegun hub.old.flow.core money) }
 {
     let (stream, writer, _reader) = match hub.open_stream() {
         Ok(opened) => opened,
@@ -159,7 +161,8 @@ fn open<N: HubName<Global>>(
     requires writes { (k : ℕ) → N.write_ring k ≡ ring_at rings.writes k }
     requires reads { (k : ℕ) → N.read_ring k ≡ ring_at rings.reads k }
     requires name { (blank.name ≡ N.name) × (blank.parts ≡ N.parts) × (blank.parts ≡ 64) }
-    ensures { IfOk result (λ opened. OpensWith end money opened.hub.flow.core) }
+    ensures opened { IfOk result (λ opened. OpensWith end money opened.hub.flow.core) }
+    ensures refused { IfErr result (WhyNotBegun end money) }
 {
     let (mut hub, gauge, seat) = HubState::<N, Global>::new(end, rings, blank);
     match open_on(&mut hub, money) {
@@ -332,11 +335,21 @@ fn run<
     requires reads { (k : ℕ) → N.read_ring k ≡ ring_at rings.reads k }
     requires name { (blank.name ≡ N.name) × (blank.parts ≡ N.parts) × (blank.parts ≡ 64) }
     ensures whole { IfOk result.result (λ n. IfSome (I.remaining input) (λ bytes. n ≡ counted (length bytes))) }
-    ensures told { ComesTo result.result (totals_seen result.totals) }
+    ensures told { ComesTo end terms.entry.money result.result (totals_seen result.totals) }
 {
     match open::<N>(end, rings, blank, terms.money) {
         Ok(opened) => transfer(rt, alloc, opened, input, random, terms),
         Err(error) => refused(error),
+    }
+}
+
+/// The rings of a transfer's streams. Fails with `Rings` alone, where memory is refused.
+fn rings_of(alloc: Global) -> Result<Rings<Global>, TransferError>
+    ensures { IsOkUnless result NoRings }
+{
+    match Rings::new(alloc) {
+        Ok(rings) => Ok(rings),
+        Err(_) => Err(TransferError::Rings),
     }
 }
 
@@ -363,10 +376,19 @@ pub fn send_on<
 >(rt: &R, alloc: Global, end: EndState<Global>, input: I, random: G, terms: SendTerms<'_>) -> Ended
     requires fresh { IsNew end }
     ensures whole { IfOk result.result (λ n. IfSome (I.remaining input) (λ bytes. n ≡ counted (length bytes))) }
-    ensures told { ComesTo result.result (totals_seen result.totals) }
+    ensures told { ComesTo end terms.entry.money result.result (totals_seen result.totals) }
 {
-    let Ok(rings) = Rings::new(alloc) else {
-        return refused(TransferError::Rings);
-    };
-    run::<Brand, I, G, R>(rt, alloc, end, rings, Blank::new(64), input, random, terms)
+    match rings_of(alloc) {
+        Ok(rings) => run::<Brand, I, G, R>(
+            rt,
+            alloc,
+            end,
+            rings,
+            Blank::new(64),
+            input,
+            random,
+            terms,
+        ),
+        Err(error) => refused(error),
+    }
 }

@@ -5,12 +5,14 @@ ghost use Rattle.st_transfer.specs.Answering.{AskedOnce};
 ghost use Rattle.st_transfer.specs.declared.error.TransferError.TheVariants.{Accept};
 
 use crate::error::TransferError;
+use libc::net::{SHUT_RDWR, shutdown};
 use st_http::{Answerer, HttpError, serve_one};
 use st_link::{ANSWER_SECONDS, Buffered, Timed};
 use st_oer::Counting;
 use std::alloc::Global;
-use std::io::{Read, Write};
+use std::io::{ErrorKind, Read, Write};
 use std::net::{OpenListener, OpenStream};
+use std::os::fd::AsRawFd;
 use std::thread;
 use std::time::{Clock, Duration};
 
@@ -24,7 +26,8 @@ pub(crate) const PAUSE: u64 = 10;
 pub(crate) const WRITE_SECONDS: u64 = 5;
 
 /// Accepts the next connection of a listener. Where that fails, for example because the process has no file descriptor
-/// left, it tries again after 10 milliseconds. Fails with `Accept` after 100 failures in a row.
+/// left, it tries again after 10 milliseconds. Fails with `Accept` after 100 failures in a row, or 10 milliseconds after the
+/// listener was found shut.
 pub(crate) fn accept_next<L: OpenListener>(
     rt: &impl Clock,
     listener: &L,
@@ -32,12 +35,22 @@ pub(crate) fn accept_next<L: OpenListener>(
     ensures refused { IsOkUnless result Accept }
 {
     for _ in 0..TRIES {
-        if let Ok((stream, _)) = listener.accept() {
-            return Ok(stream);
-        }
+        let is_shut = match listener.accept() {
+            Ok((stream, _)) => return Ok(stream),
+            Err(error) => error.kind() == ErrorKind::InvalidInput,
+        };
         thread::sleep(rt, Duration::from_millis(PAUSE));
+        if is_shut {
+            break;
+        }
     }
     Err(TransferError::Accept)
+}
+
+/// Shuts a listener: each `accept` of it fails from now on, those that wait among them. Linux resets the connections that
+/// were not accepted yet.
+pub(crate) fn shut(listener: &impl AsRawFd) {
+    let _ = shutdown(listener.as_raw_fd(), SHUT_RDWR);
 }
 
 /// Reads one request from a stream, has it answered where it is valid, and writes the response. Returns whether a request

@@ -1,7 +1,7 @@
 //! How long a receiver waits for its next request.
 
-ghost use Rattle.std.specs.Prelude.{◌≡◌, IsSome, IfErr};
-ghost use Rattle.st_transfer.specs.Moments.{IsWait};
+ghost use Rattle.std.specs.Prelude.{◌≡◌, ◌↔◌, IsSome, IfErr, None, Ok};
+ghost use Rattle.st_transfer.specs.Moments.{IsSeconds, IsWait};
 ghost use Rattle.st_transfer.specs.declared.error.TransferError.TheVariants.{Silent};
 
 use crate::error::TransferError;
@@ -51,7 +51,8 @@ pub(crate) struct Patience {
 impl Patience {
     /// A patience of this number of seconds that begins now. `None` is one without end.
     pub(crate) fn new(rt: &impl Clock, seconds: Option<u64>) -> Patience
-        ensures { IsSome result.time → IsSome seconds }
+        ensures some { IsSome result.time → IsSome seconds }
+        ensures seconds { IsSeconds seconds result.time }
     {
         let time = match seconds {
             Some(seconds) => Some(Duration::from_secs(seconds)),
@@ -77,7 +78,8 @@ impl Patience {
     /// What is left of it. `None` where it has no end. Fails with `Silent` where it is over, or where the clock cannot be
     /// read.
     pub(crate) fn left(&self, rt: &impl Clock) -> Result<Option<Duration>, TransferError>
-        ensures { IfErr result (λ e. (e ≡ Silent) × IsSome self.now.time) }
+        ensures silent { IfErr result (λ e. (e ≡ Silent) × IsSome self.now.time) }
+        ensures endless { result ≡ Ok None ↔ self.now.time ≡ None }
     {
         if self.time.is_none() {
             return Ok(None);

@@ -1,17 +1,19 @@
 //! Inputs, outputs and listeners that fail.
 
-use crate::sides::{Terms, connect, receive, with_money};
+use crate::sides::{Terms, connect, receive, send, with_money};
 use crate::transfers::{Kept, Place, listen, pattern, transfer, transfer_into};
 use st_file::FileError;
 use st_oer::{Counting, FailAt, Rate};
 use st_transfer::{AwaitListener, TransferError};
 use std::alloc::Global;
+use std::cell::Cell;
 use std::io;
 use std::io::{ErrorKind, Write};
 use std::net::{Net, OpenListener, SocketAddr, TcpListener, TcpStream};
 use std::process::Abort;
 use std::sync::Wait;
 use std::thread::Threads;
+use std::time::{Duration, Instant};
 
 /// That a sender met the fault after so many bytes, and that its receiver got no end, and no other byte.
 fn check_part(rt: &impl Abort, kept: &Kept, bytes: &[u8], k: u64, read: u64) {
@@ -108,6 +110,19 @@ fn each_call_of_the_output_fails_in_turn(rt: HostRuntime) {
     assert!(rt; TransferError::File(FileError::WriteFault(0)).number() == 91);
 }
 
+/// A source of IVs with 23 bytes holds one IV, for the first Prepare, which reaches nobody. Nothing is sent under what is left.
+#[test]
+fn a_source_of_ivs_that_ends_is_a_fault(rt: HostRuntime) {
+    let alloc = rt.alloc();
+    let Place { listener, host } = listen(&rt, alloc);
+    drop(listener);
+    let random = pattern(&rt, alloc, 23);
+    let (input, terms) = (b"abc".as_slice(), with_money(0, 1));
+    let sent = send(&rt, alloc, host.as_str(), input, random.as_slice(), terms);
+    assert!(rt; sent == Err(TransferError::IvFault));
+    assert!(rt; sent.err().map(|e| e.number()) == Some(90));
+}
+
 /// An output that takes nothing: each call of it is interrupted.
 #[derive(Drop)]
 struct Busy;
@@ -140,30 +155,39 @@ fn an_output_that_is_always_interrupted_uses_up_the_turns(rt: HostRuntime) {
     assert!(rt; sent == Err(TransferError::Failed));
 }
 
-/// A listener of which each accept fails.
+/// A listener of which each accept fails. It counts them.
 #[derive(Drop)]
-struct Failing;
+struct Failing<'a> {
+    asked: &'a Cell<u64>,
+}
 
-impl OpenListener for Failing {
+impl OpenListener for Failing<'_> {
     type Stream = TcpStream;
 
     fn accept(&self) -> io::Result<(TcpStream, SocketAddr)> {
+        self.asked.set(self.asked.get().saturating_add(1));
         Err(io::Error::from(ErrorKind::Other))
     }
 }
 
-impl AwaitListener for Failing {}
+impl AwaitListener for Failing<'_> {}
 
-/// A listener gives no connection, since each accept fails, or since it does not wait: a receiver ends, and so do the
-/// workers of a connector.
+/// A listener gives no connection, since each accept fails, or since it does not wait: a receiver ends after 100 failures in
+/// a row, and so do the workers of a connector.
 #[test]
 fn a_listener_that_gives_no_connection_is_a_fault(rt: HostRuntime) {
     let alloc = rt.alloc();
     let Place { listener, host } = listen(&rt, alloc);
     drop(listener);
     let mut writer = Counting::new(Vec::new(alloc));
-    let told = receive(&rt, alloc, Failing, &mut writer, with_money(0, 1));
+    let begun = Instant::now(&rt).expect(&rt, "there is a clock");
+    let asked = Cell::new(0);
+    let failing = Failing { asked: &asked };
+    let told = receive(&rt, alloc, failing, &mut writer, with_money(0, 1));
     assert!(rt; told == Err(TransferError::Accept));
+    assert!(rt; asked.get() == 100);
+    let took = begun.elapsed(&rt).expect(&rt, "there is a clock");
+    assert!(rt; took >= Duration::from_secs(1));
     assert!(rt; told.err().map(|e| e.number()) == Some(80));
     assert!(rt; writer.into_inner().len() == 0);
     let between = listen(&rt, alloc);

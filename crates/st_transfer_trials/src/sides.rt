@@ -2,7 +2,8 @@
 ghost use Rattle.std.specs.Prelude.{◌≡◌, IfOk};
 ghost use Rattle.st_hub.specs.Hub as hub;
 
-use st_desk::Owed;
+use st_booking::Keeper;
+use st_desk::{NoBooks, Owed, Till};
 use st_end::{EndState, Totals};
 use st_hop::{Account, HopError, HopState, Route};
 use st_oer::{Counting, Rate, is_address};
@@ -164,18 +165,23 @@ pub(crate) fn connect<
     next: &str,
     rate: Rate,
 ) -> Result<Owed, TransferError> {
-    connect_telling(rt, alloc, listener, next, rate)?.result
+    let till = None::<&Till<NoBooks, Global>>;
+    connect_storing(rt, alloc, listener, next, rate, 4, till)?.result
 }
 
-/// How such a connector ended; an error where there is no memory for its hop.
-pub(crate) fn connect_telling<
+/// How such a connector ended, with so many workers, and with a till or without; an error where there is no memory for its
+/// hop.
+pub(crate) fn connect_storing<
     R: Net<Listener = TcpListener, Stream = TcpStream> + Threads + Wait + std::time::Clock + Sync,
+    K: Keeper + Send + Drop,
 >(
     rt: &R,
     alloc: Global,
     listener: TcpListener,
     next: &str,
     rate: Rate,
+    workers: u8,
+    till: Option<&Till<K, Global>>,
 ) -> Result<ConnectorEnded, TransferError> {
     let Ok(hop) = new_hop(alloc, rate) else {
         return Err(TransferError::NoMemory);
@@ -184,10 +190,10 @@ pub(crate) fn connect_telling<
         tokens: &[TOKEN, "t1"],
         neighbours: &[None, Neighbour::new(next, TOKEN)],
         requests: 1_000,
-        workers: 4,
+        workers,
         turns: TURNS,
     };
-    Ok(connector_on(rt, alloc, listener, hop, terms))
+    Ok(connector_on(rt, alloc, listener, hop, terms, till))
 }
 
 /// The end of the sender `test.a`.

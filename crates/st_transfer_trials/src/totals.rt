@@ -1,7 +1,8 @@
 //! The totals that the sides of a transfer tell.
 
+use crate::books::till_of;
 use crate::sides::{
-    Counter, connect_telling, nothing_yet, receive_telling, send_telling, with_money,
+    Counter, connect_storing, nothing_yet, receive_telling, send_telling, with_money,
 };
 use crate::transfers::{Place, listen, pattern, use_up};
 use st_end::Totals;
@@ -11,15 +12,17 @@ use std::alloc::Global;
 use std::net::{Net, TcpListener, TcpStream};
 use std::process::Abort;
 use std::sync::Wait;
+use std::sync::atomic::AtomicU64;
 use std::thread;
 use std::thread::Threads;
 
-/// The totals of the two ends, and of the accounts of the connector between them.
+/// The totals of the two ends, and of the accounts of the connector between them; and all claims and dues that it booked.
 #[derive(Drop)]
 struct Told {
     sender: Totals,
     receiver: Totals,
     accounts: Vec<AccountTotals>,
+    booked: (u64, u64),
 }
 
 /// The two ends of a transfer of these bytes and 500 units, by way of the host `next`, whose connections are used up then.
@@ -60,9 +63,11 @@ fn tell<
     let (mut sender, mut receiver) = (nothing_yet(), nothing_yet());
     let (hub_listener, next) = (hub.listener, hub.host.as_str());
     let (listener, host) = (end.listener, end.host.as_str());
+    let count = AtomicU64::new(0);
+    let till = till_of(rt, alloc, &count, usize::MAX);
     let (ended, _) = thread::join(
         rt,
-        || connect_telling(rt, alloc, hub_listener, host, same),
+        || connect_storing(rt, alloc, hub_listener, host, same, 4, Some(&till)),
         || tell_ends(rt, alloc, listener, next, bytes, &mut sender, &mut receiver),
     );
     let ConnectorEnded {
@@ -70,15 +75,18 @@ fn tell<
         overloaded,
         ..
     } = ended.expect(rt, "there is memory");
-    assert!(rt; overloaded == 0);
+    let (books, refused) = till.into_books();
+    assert!(rt; overloaded == 0 && refused.is_none());
     Told {
         sender,
         receiver,
         accounts,
+        booked: books.sums(),
     }
 }
 
-/// The sender paid what the receiver was credited; the first account owes that, and the second is owed it.
+/// The sender paid what the receiver was credited; the first account owes that, and the second is owed it. The books of the
+/// connector have each booking once.
 #[test]
 fn each_side_tells_its_totals(rt: HostRuntime) {
     let alloc = rt.alloc();
@@ -87,6 +95,7 @@ fn each_side_tells_its_totals(rt: HostRuntime) {
         sender,
         receiver,
         accounts,
+        booked,
     } = tell(&rt, alloc, &bytes);
     let sent = Totals {
         accepted: 70_000,
@@ -98,7 +107,7 @@ fn each_side_tells_its_totals(rt: HostRuntime) {
         credited: 500,
         ..nothing_yet()
     };
-    assert!(rt; sender == sent && receiver == came);
+    assert!(rt; sender == sent && receiver == came && booked == (500, 500));
     assert!(rt; accounts.len() == 2);
     let (first, second) = (accounts[0], accounts[1]);
     assert!(rt; first.claims == 500 && first.dues == 0 && first.held == 0);

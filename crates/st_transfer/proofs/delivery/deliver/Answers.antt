@@ -1,7 +1,7 @@
 use Rattle.std.proofs.Common.{◌∙◌, Err, subst}
 use Rattle.st_file.specs.Stores.{WritesPiece}
 use Rattle.st_oer.specs.Tallies.{device_of}
-use Rattle.st_transfer.proofs.Keeping.{kept_ended, kept_flushed, kept_idle, kept_more, kept_past, kept_why, flush_why}
+use Rattle.st_transfer.proofs.Keeping.{kept_ended, kept_idle, kept_more, kept_past, kept_quiet, kept_why, flush_why}
 use Rattle.st_transfer.proofs.delivery.deliver.Goals as goal
 
 pub returns-in-Err-write_piece-clause-kept : goal.returns-in-Err-write_piece-clause-kept
@@ -18,8 +18,7 @@ loop-turns-preserved g c = record {
 
 pub returns-in-Ok-flush_all-clause-kept : goal.returns-in-Ok-flush_all-clause-kept
 returns-in-Ok-flush_all-clause-kept g c start before k =
-    let idle = kept_idle start c.loop-turns.end c.next_of.new.end before (g.W.Write.contents (device_of c.loop-turns.writer)) c.loop-turns.written (c.loop-turns.invariant.kept start before k) (rw c.in-Ok-Nothing.field-0-is at c.in-Ok-Nothing.ensures.gave) in
-    kept_flushed start c.next_of.new.end before (g.W.Write.contents (device_of c.loop-turns.writer)) (g.W.Write.contents (device_of c.flush_all.new.writer)) c.loop-turns.written idle c.in-Ok-flush_all.ensures.bytes
+    kept_quiet start c.loop-turns.end c.next_of.new.end before (g.W.Write.contents (device_of c.loop-turns.writer)) (g.W.Write.contents (device_of c.flush_all.new.writer)) c.loop-turns.written (c.loop-turns.invariant.kept start before k) (rw c.in-Ok-Nothing.field-0-is at c.in-Ok-Nothing.ensures.gave) c.in-Ok-flush_all.ensures.bytes
 
 pub returns-in-Err-flush_all-clause-kept : goal.returns-in-Err-flush_all-clause-kept
 returns-in-Err-flush_all-clause-kept g c start before k =

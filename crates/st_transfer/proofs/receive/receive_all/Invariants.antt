@@ -1,12 +1,12 @@
 use Rattle.std.proofs.Common.{◌≡◌, ◌+◌}
 use Rattle.std.specs.Prelude.{IsSome, vec_len}
 use Rattle.st_oer.specs.Tallies.{device_of, tally_of}
-use Rattle.st_transfer.specs.Keeping.{Kept}
+use Rattle.st_transfer.specs.Keeping.{IsUpToDate}
 use Rattle.st_transfer.proofs.receive.receive_all.Given as goal
 
 abbrev pub invariant-requests : goal.invariant-requests
 invariant-requests g l = record {
-  kept : Kept l.fn.receiver.end (g.W.Write.contents (device_of l.fn.writer)) l.receiver.end (g.W.Write.contents (device_of l.writer)) l.written;
+  kept : IsUpToDate l.fn.receiver.end (g.W.Write.contents (device_of l.fn.writer)) l.receiver.end (g.W.Write.contents (device_of l.writer)) l.written;
   faults : (tally_of l.writer).faults ≡ (tally_of l.fn.writer).faults;
   patient : IsSome l.patience.time → IsSome l.terms.patience;
 }

@@ -1,0 +1,43 @@
+//! Where a thread of a connector stores what a Fulfill books.
+
+use crate::crew::Crew;
+use crate::serving::shut;
+use st_booking::{Booked, Booking, Keeper};
+use st_desk::{Books, NoBooks, Till, deposit, refused_at};
+use std::alloc::Global;
+use std::net::TcpListener;
+use std::sync::Wait;
+
+/// Where one thread of a connector stores what a Fulfill books: at a till of durable books, or in memory alone.
+#[derive(Drop)]
+pub(crate) struct Storing<'a, K: Keeper, R: Wait> {
+    pub(crate) rt: &'a R,
+    pub(crate) till: Option<&'a Till<K, Global>>,
+    /// The threads of the connector, which end once the books refused a booking.
+    pub(crate) crew: &'a Crew,
+    /// Where they wait for connections.
+    pub(crate) listener: &'a TcpListener,
+}
+
+impl<K: Keeper, R: Wait> Storing<'_, K, R> {
+    /// Ends the threads of the connector where the books of a till refused a booking.
+    fn end_if_refused(&self, till: &Till<K, Global>) {
+        if let Some(number) = refused_at(self.rt, till) {
+            self.crew.refuse(self.rt, number);
+            shut(self.listener);
+        }
+    }
+}
+
+impl<K: Keeper, R: Wait> Books for Storing<'_, K, R> {
+    fn store(&mut self, booking: Booking) -> Option<Booked> {
+        let Some(till) = self.till else {
+            return NoBooks.store(booking);
+        };
+        let token = deposit(self.rt, till, booking);
+        if token.is_none() {
+            self.end_if_refused(till);
+        }
+        token
+    }
+}
