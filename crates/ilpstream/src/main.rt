@@ -5,5 +5,5 @@ use st_program::ilpstream;
 use std::process::ExitCode;
 
 fn main(rt: HostRuntime) -> ExitCode {
-    ilpstream(&rt, &rt)
+    ilpstream(&rt, &rt, &rt)
 }

@@ -4,8 +4,9 @@ use refusing::Refusing;
 use st_settings::{TableError, read_table};
 use std::alloc::Global;
 
-/// Three accounts and three routes, with an empty line, a line of a space, and a line that ends by CR LF.
-const TABLE: &str = "account 1000 100 alice 127.0.0.1:7771 hub
+/// Three accounts, one of them with a name, and three routes, with an empty line, a line of a space, and a line that ends
+/// by CR LF.
+const TABLE: &str = "account NAME=alice 1000 100 alice 127.0.0.1:7771 hub
 
 account  9223372036854775807 0 bob - -\r
 route example 0

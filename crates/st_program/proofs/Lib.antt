@@ -3,3 +3,4 @@ pub mod Telling
 pub mod WordsTaken
 pub mod Asked
 pub mod Tables
+pub mod Ledgers

@@ -1,6 +1,7 @@
 -- The lines of accounts, and how a command ends that told its totals.
 use Rattle.std.proofs.Common.{◌≡◌, ◌≢◌, ℕ, suc, ◌+◌, ◌<◌, List, [], ◌∷◌, ◌++◌, length, take, get_or, Option, refl, sym, ap, subst, ◌∙◌, append_assoc, arith, inr}
 use Rattle.std.specs.Prelude.{Result, Ok, Err}
+use Rattle.std.specs.Borrow.{Bor}
 use Rattle.std.proofs.lemmas.List.{append-nil, take_more, length-take-le}
 use Rattle.st_commands.specs.declared.error.Fault.{Fault}
 use Rattle.st_transfer.specs.declared.accounts.AccountTotals.{AccountTotals}
@@ -31,15 +32,15 @@ next_line xs i d old line new lt before next grown =
     one_more 0 (take i xs) x ∙ ap (λ (k : ℕ). accounts_text 0 (take i xs) ++ account_text k x) place in
     cc (all, text)
 
-module _ (own : List ℕ) (input : Option (List ℕ)) (r s : Tally) where
-  ends_with : (ended : Result (Unit {0}) RunError) (told : Result (Unit {0}) Fault) → EndsBy own input r s ended → EndsBy own input r s (ended_with ended told)
+module _ (own : List ℕ) (ledger : Option (Bor (List ℕ))) (input : Option (List ℕ)) (r s : Tally) where
+  ends_with : (ended : Result (Unit {0}) RunError) (told : Result (Unit {0}) Fault) → EndsBy own ledger input r s ended → EndsBy own ledger input r s (ended_with ended told)
   ends_with (Err e) told by = by
   ends_with (Ok x) (Ok y) by = by
   ends_with (Ok x) (Err fault) by = inr by
 
   -- a connector that told its totals ends by its input as it did before
-  pub ends_told : (ended result : Result (Unit {0}) RunError) → EndsBy own input r s ended → (told : Result (Unit {0}) Fault) × (result ≡ ended_with ended told) → EndsBy own input r s result
-  ends_told ended result by (told, is) = subst (EndsBy own input r s) (sym is) (ends_with ended told by)
+  pub ends_told : (ended result : Result (Unit {0}) RunError) → EndsBy own ledger input r s ended → (told : Result (Unit {0}) Fault) × (result ≡ ended_with ended told) → EndsBy own ledger input r s result
+  ends_told ended result by (told, is) = subst (EndsBy own ledger input r s) (sym is) (ends_with ended told by)
 
 not_bad : (ended : Result (Unit {0}) RunError) (told : Result (Unit {0}) Fault) → ended ≢ Err run.BadOption → ended_with ended told ≢ Err run.BadOption
 not_bad (Err e) told none wrong = none wrong

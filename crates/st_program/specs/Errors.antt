@@ -2,6 +2,7 @@
 use Rattle.std.specs.Prelude.{ℕ}
 use Rattle.st_commands.specs.Errors.{fault_number}
 use Rattle.st_transfer.specs.Errors as transfer
+use Rattle.st_ledger.specs.Errors as ledger
 use Rattle.st_program.specs.declared.error.RunError.{RunError}
 use Rattle.st_program.specs.declared.error.RunError.TheVariants as run
 
@@ -13,3 +14,4 @@ number run.NoHop = 35
 number run.BadTable = 96
 number run.BadOption = 98
 number (run.Transfer e) = transfer.number e
+number (run.Ledger e) = ledger.number e

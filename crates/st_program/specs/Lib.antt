@@ -4,6 +4,8 @@ pub mod Words
 pub mod Settings
 pub mod Input
 pub mod Table
+pub mod Restored
 pub mod Totals
+pub mod Ledger
 pub mod Endings
 pub mod Process

@@ -32,3 +32,4 @@ IsLawful (request.Local s) = IsChain s
 IsLawful (request.Send s) = IsSender s
 IsLawful (request.Receive s) = IsReceiver s
 IsLawful (request.Connector s) = ⊤
+IsLawful (request.Ledger s) = ⊤

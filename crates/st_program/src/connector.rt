@@ -1,19 +1,24 @@
 //! The command `connector`.
 
-ghost use Rattle.std.specs.Prelude.{◌≡◌, ◌⊎◌, true, Err, IfErr, IfOk};
+ghost use Rattle.std.specs.Prelude.{◌≡◌, ◌⊎◌, true, Err, IfErr, IfOk, IsSome};
 ghost use Rattle.st_oer.specs.Tallies.{device_of, tally_of};
 ghost use Rattle.st_program.specs.Table.{EndsBy, SaysTable, Serves, WhyNoTable, is_hop};
 ghost use Rattle.st_program.specs.declared.error.RunError.TheVariants.{BadOption};
 
 use crate::error::RunError;
-use crate::hop::{hop_of, neighbours_of};
+use crate::hop::{Going, hop_of, neighbours_of, restored};
 use crate::input::read_whole;
 use crate::totals::{ConnectorTotals, places, tell_accounts, totals_file};
+use sqlite_trees::store::Alter;
+use st_booking::Keeper;
+use st_books::Books;
 use st_commands::{Fault, TURNS};
+use st_desk::{NoBooks, Till};
 use st_hop::HopState;
+use st_ledger::{LedgerError, OpensBooks, Placed};
 use st_oer::{CountRead, utf8};
 use st_settings::{ConnectorSettings, Table, TableError, read_table};
-use st_transfer::{ConnectTerms, ConnectorEnded, connector_on};
+use st_transfer::{ConnectTerms, ConnectorEnded, MOST_THREADS, connector_on};
 use std::alloc::Global;
 use std::fs::{File, Files};
 use std::io::Read;
@@ -32,23 +37,26 @@ fn table_in<'a>(alloc: Global, bytes: &'a [u8]) -> Result<Table<'a, Global>, Run
     match read_table(alloc, text) {
         Ok(table) => Ok(table),
         Err(TableError::BadLine) => Err(RunError::BadTable),
+        Err(TableError::SameName) => Err(RunError::BadTable),
         Err(TableError::NoMemory) => Err(RunError::Fault(Fault::NoMemory)),
     }
 }
 
-/// Runs a connector over a hop that was made by the table, and sets its totals.
+/// Runs a connector over a hop of the table's accounts, and sets its totals. With a till, what it books is stored there.
 fn serve_by<
     N: Net<Listener = TcpListener, Stream = TcpStream> + Threads + Wait + std::time::Clock + Sync,
+    K: Keeper + Send + Drop,
 >(
     rt: &N,
     alloc: Global,
     settings: &ConnectorSettings<'_>,
     table: &Table<'_, Global>,
     hop: HopState<Global>,
+    till: Option<&Till<K, Global>>,
     totals: &mut ConnectorTotals,
 ) -> Result<(), RunError>
     requires made { is_hop settings.now.own.now table.now.accounts.items table.now.routes.items ≡ true }
-    ensures { Serves settings.now.own.now table.now.accounts.items table.now.routes.items result }
+    ensures { Serves settings.now.own.now settings.now.ledger table.now.accounts.items table.now.routes.items result }
 {
     let tokens = table.tokens(alloc)?;
     let neighbours = neighbours_of(alloc, &table.accounts)?;
@@ -69,7 +77,7 @@ fn serve_by<
         result,
         accounts,
         overloaded,
-    } = connector_on(rt, alloc, listener, hop, terms);
+    } = connector_on(rt, alloc, listener, hop, terms, till);
     *totals = ConnectorTotals {
         accounts,
         overloaded,
@@ -80,21 +88,56 @@ fn serve_by<
     }
 }
 
-/// Runs a connector by a table.
-fn serve<
+/// Runs a connector that goes on with books, and stores there what it books. The books are closed at its end.
+fn serve_with<
     N: Net<Listener = TcpListener, Stream = TcpStream> + Threads + Wait + std::time::Clock + Sync,
+    S: Alter + Send + Drop,
 >(
     rt: &N,
     alloc: Global,
     settings: &ConnectorSettings<'_>,
     table: &Table<'_, Global>,
+    mut books: Books<S>,
     totals: &mut ConnectorTotals,
 ) -> Result<(), RunError>
-    ensures { Serves settings.now.own.now table.now.accounts.items table.now.routes.items result }
+    requires made { is_hop settings.now.own.now table.now.accounts.items table.now.routes.items ≡ true }
+    requires asked { IsSome settings.now.ledger }
+    ensures { Serves settings.now.own.now settings.now.ledger table.now.accounts.items table.now.routes.items result }
 {
-    match hop_of(alloc, settings.own, table) {
-        Ok(hop) => serve_by(rt, alloc, settings, table, hop, totals),
-        Err(error) => Err(error),
+    let Going { hop, places } = match restored(alloc, settings.own, table, &mut books) {
+        Ok(going) => going,
+        Err(error) => return Err(error),
+    };
+    let till = Till::new(alloc, Placed::new(alloc, books, places), MOST_THREADS)?;
+    serve_by(rt, alloc, settings, table, hop, Some(&till), totals)
+}
+
+/// Runs a connector by a table, over the books of a file where one is asked for. The books are opened only for a table that
+/// a hop may have.
+fn serve<
+    N: Net<Listener = TcpListener, Stream = TcpStream> + Threads + Wait + std::time::Clock + Sync,
+    O: OpensBooks,
+>(
+    rt: &N,
+    opener: &O,
+    alloc: Global,
+    settings: &ConnectorSettings<'_>,
+    table: &Table<'_, Global>,
+    totals: &mut ConnectorTotals,
+) -> Result<(), RunError>
+    ensures { Serves settings.now.own.now settings.now.ledger table.now.accounts.items table.now.routes.items result }
+{
+    let hop = match hop_of(alloc, settings.own, table) {
+        Ok(hop) => hop,
+        Err(error) => return Err(error),
+    };
+    let Some(file) = settings.ledger else {
+        let none = None::<&Till<NoBooks, Global>>;
+        return serve_by(rt, alloc, settings, table, hop, none, totals);
+    };
+    match opener.open(file) {
+        Ok(books) => serve_with(rt, alloc, settings, table, books, totals),
+        Err(error) => Err(RunError::Ledger(LedgerError::Books(error))),
     }
 }
 
@@ -102,24 +145,26 @@ fn serve<
 fn serve_input<
     R: Read,
     N: Net<Listener = TcpListener, Stream = TcpStream> + Threads + Wait + std::time::Clock + Sync,
+    O: OpensBooks,
 >(
     rt: &N,
+    opener: &O,
     alloc: Global,
     settings: &ConnectorSettings<'_>,
     reader: &mut CountRead<R>,
     totals: &mut ConnectorTotals,
 ) -> Result<(), RunError>
-    ensures { EndsBy settings.now.own.now (R.remaining (device_of reader.old)) (tally_of reader.old) (tally_of reader.new) result }
+    ensures { EndsBy settings.now.own.now settings.now.ledger (R.remaining (device_of reader.old)) (tally_of reader.old) (tally_of reader.new) result }
 {
     let bytes = read_whole(alloc, reader)?;
     match table_in(alloc, &bytes) {
-        Ok(table) => serve(rt, alloc, settings, &table, totals),
+        Ok(table) => serve(rt, opener, alloc, settings, &table, totals),
         Err(error) => Err(error),
     }
 }
 
-/// Reads the table, runs a connector by it, and writes its totals where they are asked for. Where the file for the
-/// totals cannot be opened, nothing else is done.
+/// Reads the table, runs a connector by it, over the books of a file where one is asked for, and writes its totals where
+/// they are. Where the file for the totals cannot be opened, nothing else is done.
 pub(crate) fn connector<
     R: Read,
     N: Net<Listener = TcpListener, Stream = TcpStream>
@@ -128,13 +173,15 @@ pub(crate) fn connector<
         + Wait
         + std::time::Clock
         + Sync,
+    O: OpensBooks,
 >(
     rt: &N,
+    opener: &O,
     alloc: Global,
     settings: &ConnectorSettings<'_>,
     reader: &mut CountRead<R>,
 ) -> Result<(), RunError>
-    ensures { EndsBy settings.now.own.now (R.remaining (device_of reader.old)) (tally_of reader.old) (tally_of reader.new) result ⊎ ((result ≡ Err BadOption) × (reader.new ≡ reader.old)) }
+    ensures { EndsBy settings.now.own.now settings.now.ledger (R.remaining (device_of reader.old)) (tally_of reader.old) (tally_of reader.new) result ⊎ ((result ≡ Err BadOption) × (reader.new ≡ reader.old)) }
 {
     match totals_file(rt, settings.totals) {
         Ok(file) => {
@@ -142,7 +189,7 @@ pub(crate) fn connector<
                 accounts: Vec::new(alloc),
                 overloaded: 0,
             };
-            let ended = serve_input(rt, alloc, settings, reader, &mut totals);
+            let ended = serve_input(rt, opener, alloc, settings, reader, &mut totals);
             tell_accounts(alloc, file, &totals, ended)
         }
         Err(error) => Err(error),

@@ -4,6 +4,7 @@ ghost use Rattle.std.specs.Prelude.{◌≡◌};
 ghost use Rattle.st_program.specs.Errors as errors;
 
 use st_commands::Fault;
+use st_ledger::LedgerError;
 use st_transfer::TransferError;
 use std::alloc::AllocError;
 use thiserror::Error;
@@ -32,6 +33,9 @@ pub enum RunError {
     /// The transfer failed.
     #[error("{0}")]
     Transfer(TransferError),
+    /// The books cannot be used, or not with this table.
+    #[error("{0}")]
+    Ledger(LedgerError),
 }
 
 impl RunError {
@@ -47,11 +51,12 @@ impl RunError {
             RunError::BadTable => 96,
             RunError::BadOption => 98,
             RunError::Transfer(error) => error.number(),
+            RunError::Ledger(error) => error.number(),
         }
     }
 }
 
-ghost use Rattle.st_program.specs.declared.error.RunError.TheVariants.{Fault as IsFault, Transfer};
+ghost use Rattle.st_program.specs.declared.error.RunError.TheVariants.{Fault as IsFault, Ledger, Transfer};
 ghost use Rattle.st_commands.specs.declared.error.Fault.TheVariants.{NoMemory};
 
 impl From<Fault> for RunError {
@@ -67,6 +72,14 @@ impl From<TransferError> for RunError {
 
     fn from(error: TransferError) -> RunError {
         RunError::Transfer(error)
+    }
+}
+
+impl From<LedgerError> for RunError {
+    ghost from_gives = { λ x e. e ≡ Ledger x };
+
+    fn from(error: LedgerError) -> RunError {
+        RunError::Ledger(error)
     }
 }
 

@@ -1,14 +1,41 @@
 //! The hop of a connector and its neighbours, made by a table.
 
-ghost use Rattle.std.specs.Prelude.{◌≡◌, true, IfErr, IfOk};
+ghost use Rattle.std.specs.Prelude.{◌≡◌, true, map, IfErr, IfOk, IsErrOf, IsOkUnless, MatchBool};
+ghost use Rattle.st_hop.specs.Seen.{way_seen};
+ghost use Rattle.st_hop.specs.Table.{is_table, new_hop};
+ghost use Rattle.st_ledger.specs.Placed.{ArePlaces};
+ghost use Rattle.st_settings.specs.Table.{names_of};
 ghost use Rattle.st_program.specs.Table.{WhyNoHop, is_hop};
+ghost use Rattle.st_program.specs.Restored.{IsRestored, WhyNotRestored};
+ghost use Rattle.st_program.specs.declared.error.RunError.TheVariants.{BadTable, NoHop};
 
 use crate::error::RunError;
+use sqlite_trees::store::Alter;
+use st_books::Books;
 use st_commands::Fault;
-use st_hop::{HopError, HopState};
+use st_hop::{Account, HopError, HopState, Route};
+use st_ledger::{Life, place};
 use st_settings::{AccountLine, Table};
 use st_transfer::Neighbour;
 use std::alloc::{AllocError, Global};
+
+/// The hop of this address with these accounts and routes. Fails with `BadTable` where no hop may have them, and else with
+/// `NoHop` alone, where memory is refused.
+fn make_hop(
+    alloc: Global,
+    own: &str,
+    accounts: &[Account],
+    routes: &[Route<'_>],
+) -> Result<HopState<Global>, RunError>
+    ensures made { IfOk result (λ hop. hop ≡ new_hop own.now accounts.now (map way_seen routes.now)) }
+    ensures refused { MatchBool (is_table own.now accounts.now (map way_seen routes.now)) (IsOkUnless result NoHop) (IsErrOf result BadTable) }
+{
+    match HopState::new(alloc, own, accounts, routes) {
+        Ok(hop) => Ok(hop),
+        Err(HopError::BadTable) => Err(RunError::BadTable),
+        Err(_) => Err(RunError::NoHop),
+    }
+}
 
 /// The hop of this address that a table makes.
 pub(crate) fn hop_of(
@@ -16,15 +43,46 @@ pub(crate) fn hop_of(
     own: &str,
     table: &Table<'_, Global>,
 ) -> Result<HopState<Global>, RunError>
+    ensures of_table { IfOk result (λ hop. hop ≡ new_hop own.now (map (λ x. x.terms) table.now.accounts.items) (map way_seen table.now.routes.items)) }
     ensures made { IfOk result (λ hop. is_hop own.now table.now.accounts.items table.now.routes.items ≡ true) }
     ensures refused { IfErr result (WhyNoHop own.now table.now.accounts.items table.now.routes.items) }
 {
     let Ok(terms) = table.terms(alloc) else {
         return Err(RunError::Fault(Fault::NoMemory));
     };
-    match HopState::new(alloc, own, &terms, &table.routes) {
-        Ok(hop) => Ok(hop),
-        Err(HopError::BadTable) => Err(RunError::BadTable),
+    make_hop(alloc, own, &terms, &table.routes)
+}
+
+/// A hop that goes on with books.
+#[derive(Drop)]
+pub(crate) struct Going {
+    pub(crate) hop: HopState<Global>,
+    /// The place in the books of each of its accounts.
+    pub(crate) places: Vec<usize>,
+}
+
+/// The hop of this address and of a table that goes on with books: what they say, by the names of accounts, is owed, and its
+/// tickets are numbered above those of each earlier life. The names that the books lack are added, and the start is counted.
+pub(crate) fn restored<S: Alter>(
+    alloc: Global,
+    own: &str,
+    table: &Table<'_, Global>,
+    books: &mut Books<S>,
+) -> Result<Going, RunError>
+    ensures hop { IfOk result (λ going. IsRestored own.now table.now.accounts.items table.now.routes.items books.old books.new going.hop) }
+    ensures placed { IfOk result (λ going. ArePlaces books.new.names (names_of table.now.accounts.items) going.places.items) }
+    ensures refused { IfErr result WhyNotRestored }
+{
+    let names = table.names(alloc)?;
+    let terms = table.terms(alloc)?;
+    let Life {
+        places,
+        claims,
+        dues,
+        first,
+    } = place(alloc, books, &names, &terms)?;
+    match HopState::restored(alloc, own, &terms, &table.routes, &claims, &dues, first) {
+        Ok(hop) => Ok(Going { hop, places }),
         Err(_) => Err(RunError::NoHop),
     }
 }

@@ -1,7 +1,7 @@
 //! The program `ilpstream`: it reads the arguments of the command line, and runs the command that they name.
 //!
-//! `run` takes the arguments, a reader, a writer and a writer for errors, and the runtime that gives files, sockets,
-//! threads and the time. What the arguments mean is in specs/Words.antt of st_words; what the program answers is in
+//! `run` takes the arguments, a reader, a writer and a writer for errors, the runtime that gives files, sockets, threads
+//! and the time, and what opens books. What the arguments mean is in specs/Words.antt of st_words; what the program answers is in
 //! specs/. `ilpstream` calls it with the arguments and the standard streams of a process.
 #![tactic(auto)]
 
@@ -10,6 +10,7 @@ mod error;
 mod hop;
 mod input;
 mod laws;
+mod ledger;
 mod process;
 mod program;
 mod receive;

@@ -9,6 +9,7 @@ ghost use Rattle.st_program.specs.Texts.{not_utf8_text};
 use crate::program::run;
 use crate::stdin::{Interruptible, STDIN};
 use st_commands::{Fault, say, tell_fault};
+use st_ledger::OpensBooks;
 use st_oer::{CountRead, CountWrite};
 use st_words::{Request, read_words};
 use std::alloc::Global;
@@ -73,8 +74,10 @@ fn obey<
         + Wait
         + std::time::Clock
         + Sync,
+    O: OpensBooks,
 >(
     rt: &N,
+    opener: &O,
     alloc: Global,
     is_terminal: bool,
     words: &[S],
@@ -88,7 +91,7 @@ fn obey<
     ensures status { result ≤ 2 }
 {
     tell_terminal(alloc, is_terminal, words, errors);
-    run(rt, alloc, words, reader, writer, errors)
+    run(rt, opener, alloc, words, reader, writer, errors)
 }
 
 /// Runs the program with the arguments of `host`, as `run` does, and returns its exit status. Where they ask for
@@ -105,8 +108,10 @@ pub fn start<
         + Wait
         + std::time::Clock
         + Sync,
+    O: OpensBooks,
 >(
     rt: &N,
+    opener: &O,
     alloc: Global,
     host: &H,
     is_terminal: bool,
@@ -123,6 +128,7 @@ pub fn start<
     match words(host) {
         Ok(words) => obey(
             rt,
+            opener,
             alloc,
             is_terminal,
             words.as_slice(),
@@ -135,7 +141,7 @@ pub fn start<
 }
 
 /// Runs the program `ilpstream` and returns its exit code. `host` gives the arguments and the standard streams of the
-/// process; `rt`, the same runtime, gives files, sockets, threads and the time. A read of standard input for which
+/// process; `rt`, the same runtime, gives files, sockets, threads and the time, and `opener`, again the same, opens books. A read of standard input for which
 /// nothing comes within 200 milliseconds is interrupted, and made again.
 pub fn ilpstream<
     N: Net<Listener = TcpListener, Stream = TcpStream>
@@ -144,7 +150,8 @@ pub fn ilpstream<
         + Wait
         + std::time::Clock
         + Sync,
->(host: &HostRuntime, rt: &N) -> ExitCode {
+    O: OpensBooks,
+>(host: &HostRuntime, rt: &N, opener: &O) -> ExitCode {
     let input = host.stdin();
     let is_terminal = input.is_terminal();
     let mut reader = CountRead::new(Interruptible::new(input, STDIN));
@@ -152,6 +159,7 @@ pub fn ilpstream<
     let mut errors = CountWrite::new(host.stderr());
     ExitCode::from(start(
         rt,
+        opener,
         host.alloc(),
         host,
         is_terminal,

@@ -9,12 +9,14 @@ ghost use Rattle.st_program.specs.Endings.{Does, LacksMemory, TellsAnswer};
 ghost use Rattle.st_program.specs.Process.{Obeys};
 
 use crate::connector::connector;
+use crate::ledger::ledger;
 use crate::receive::receive;
 use crate::send::send;
 use crate::tell::{tell_end, tell_number};
 use clap::Error;
 use clap::error::ErrorKind;
 use st_commands::{Fault, TURNS, put, run_frames, say, tell_fault};
+use st_ledger::OpensBooks;
 use st_local::run_local;
 use st_oer::{CountRead, CountWrite, Tally};
 use st_words::{Request, WordsError, read_words};
@@ -88,8 +90,10 @@ fn obey<
         + Wait
         + std::time::Clock
         + Sync,
+    O: OpensBooks,
 >(
     rt: &N,
+    opener: &O,
     alloc: Global,
     request: &Request<'_>,
     reader: &mut CountRead<R>,
@@ -110,14 +114,22 @@ fn obey<
             tell_end(alloc, errors, receive(rt, alloc, settings, writer))
         }
         Request::Connector(settings) => {
-            tell_end(alloc, errors, connector(rt, alloc, settings, reader))
+            tell_end(
+                alloc,
+                errors,
+                connector(rt, opener, alloc, settings, reader),
+            )
+        }
+        Request::Ledger(settings) => {
+            tell_end(alloc, errors, ledger(rt, opener, alloc, settings, writer))
         }
     }
 }
 
 /// Runs the command that the arguments name and returns the exit status: 0 where it did its work, or printed help or
 /// the version; 1 where a line was refused or a fault ended the run; 2 where the arguments are refused. The first
-/// argument is the program's name. With no further argument it runs `frames`.
+/// argument is the program's name. With no further argument it runs `frames`. `opener` opens the books of `connector` and
+/// `ledger`.
 ///
 /// Help and the version are written to `writer`, a mistake in the arguments to `errors`. Fault 98 reports an option
 /// whose text is bad, and fault 99 that memory was refused.
@@ -132,8 +144,10 @@ pub fn run<
         + Wait
         + std::time::Clock
         + Sync,
+    O: OpensBooks,
 >(
     rt: &N,
+    opener: &O,
     alloc: Global,
     words: &[S],
     reader: &mut CountRead<R>,
@@ -146,7 +160,7 @@ pub fn run<
     ensures status { result ≤ 2 }
 {
     match read_words(alloc, words) {
-        Ok(request) => obey(rt, alloc, &request, reader, writer, errors),
+        Ok(request) => obey(rt, opener, alloc, &request, reader, writer, errors),
         Err(WordsError::Refused(error)) => tell(alloc, writer, errors, &error),
         Err(WordsError::BadOption) => tell_number(alloc, errors, 98),
     }

@@ -2,3 +2,4 @@ pub mod Digits
 pub mod Colons
 pub mod Lines
 pub mod Tables
+pub mod AccountNames

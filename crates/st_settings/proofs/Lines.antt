@@ -1,59 +1,112 @@
 -- What the words of a line say, word by word.
-use Rattle.std.proofs.Common.{◌≡◌, ◌≤◌, ◌<◌, ℕ, Option, Some, None, List, [], ◌∷◌, Bor, length, map, get_or, codes, refl, inl, inr, arith}
+use Rattle.std.proofs.Common.{◌≡◌, ◌≤◌, ◌<◌, ℕ, Option, Some, None, List, [], ◌∷◌, ◌++◌, Bor, length, map, get_or, codes, refl, sym, ◌∙◌, inl, inr, arith}
 use Rattle.std.specs.Prelude.{MatchOption}
 use Rattle.st_oer.specs.Ratios.{Ratio}
 use Rattle.st_hop.specs.declared.route.Route.{Route}
 use Rattle.st_settings.specs.declared.line.AccountLine.{AccountLine}
-use Rattle.st_settings.specs.declared.line.Neighbour.{Neighbour}
 use Rattle.st_settings.specs.Numbers.{AreTerms, IsNumber}
 use Rattle.st_settings.specs.Settings.{most_money}
-use Rattle.st_settings.specs.Table.{HasTerms, IsAccountLine, IsRoute, IsRouteLine, Leads, Text}
+use Rattle.st_settings.specs.Table.{IsAccount, IsAccountLine, IsNaming, IsRoute, IsRouteLine, Text}
 
 abbrev Words : Type 0
 Words = List (Bor (List ℕ))
 
+pub three_words : (ws : Words) (d : Bor (List ℕ)) → 3 ≤ length ws → length ws < 4
+    → map (λ w. w.now) ws ≡ (get_or ws 0 d).now ∷ (get_or ws 1 d).now ∷ (get_or ws 2 d).now ∷ []
+three_words [] d least most = absurd (omega arith)
+three_words (a ∷ []) d least most = absurd (omega arith)
+three_words (a ∷ b ∷ []) d least most = absurd (omega arith)
+three_words (a ∷ b ∷ x ∷ []) d least most = refl
+three_words (a ∷ b ∷ x ∷ y ∷ ws) d least most = absurd (omega arith)
+
 pub four_words : (ws : Words) (d : Bor (List ℕ)) → 4 ≤ length ws → length ws < 5
     → map (λ w. w.now) ws ≡ (get_or ws 0 d).now ∷ (get_or ws 1 d).now ∷ (get_or ws 2 d).now ∷ (get_or ws 3 d).now ∷ []
 four_words [] d least most = absurd (omega arith)
-four_words (a ∷ []) d least most = absurd (omega arith)
-four_words (a ∷ b ∷ []) d least most = absurd (omega arith)
-four_words (a ∷ b ∷ x ∷ []) d least most = absurd (omega arith)
-four_words (a ∷ b ∷ x ∷ y ∷ []) d least most = refl
-four_words (a ∷ b ∷ x ∷ y ∷ z ∷ ws) d least most = absurd (omega arith)
+four_words (a ∷ ws) d least most = rw (three_words ws d (omega arith) (omega arith)) refl
 
 pub five_words : (ws : Words) (d : Bor (List ℕ)) → 5 ≤ length ws → length ws < 6
     → map (λ w. w.now) ws ≡ (get_or ws 0 d).now ∷ (get_or ws 1 d).now ∷ (get_or ws 2 d).now ∷ (get_or ws 3 d).now ∷ (get_or ws 4 d).now ∷ []
 five_words [] d least most = absurd (omega arith)
 five_words (a ∷ ws) d least most = rw (four_words ws d (omega arith) (omega arith)) refl
 
+pub six_words : (ws : Words) (d : Bor (List ℕ)) → 6 ≤ length ws → length ws < 7
+    → map (λ w. w.now) ws ≡ (get_or ws 0 d).now ∷ (get_or ws 1 d).now ∷ (get_or ws 2 d).now ∷ (get_or ws 3 d).now ∷ (get_or ws 4 d).now ∷ (get_or ws 5 d).now ∷ []
+six_words [] d least most = absurd (omega arith)
+six_words (a ∷ ws) d least most = rw (five_words ws d (omega arith) (omega arith)) refl
+
+-- a word gives one name alone
+naming_once : (word name other : Text) → IsNaming word name → IsNaming word other → other ≡ name
+naming_once word name other is has =
+    let same : codes "NAME=" ++ name ≡ codes "NAME=" ++ other = sym is.word_is ∙ has.word_is in
+    sym (cc)
+
 module _ (limit max_packet token host out : Text) where
-  abbrev account_words : List Text
-  account_words = codes "account" ∷ limit ∷ max_packet ∷ token ∷ host ∷ out ∷ []
+  abbrev plain_words : List Text
+  plain_words = codes "account" ∷ limit ∷ max_packet ∷ token ∷ host ∷ out ∷ []
 
-  pub leads_nowhere : ((n : Option Neighbour) → ¬ (Leads host out n)) → (x : AccountLine) → ¬ (IsAccountLine account_words x)
-  leads_nowhere none x has =
-      let same_host : has.host ≡ host = cc in
-      let same_out : has.out ≡ out = cc in
-      none x.neighbour (rw (same_host, same_out) at has.leads)
-
-  pub account_said : (n : Option Neighbour) → Leads host out n → (o : Option AccountLine)
-      → MatchOption o ((x : AccountLine) → ¬ (HasTerms limit max_packet token x)) (λ x. (x.neighbour ≡ n) × HasTerms limit max_packet token x)
-      → MatchOption o ((x : AccountLine) → ¬ (IsAccountLine account_words x)) (IsAccountLine account_words)
-  account_said n leads None none = λ x has.
+  no_plain : ((x : AccountLine) → ¬ (IsAccount None limit max_packet token host out x)) → (x : AccountLine) → ¬ (IsAccountLine plain_words x)
+  no_plain none x (inl has) =
       let same_limit : has.limit ≡ limit = cc in
       let same_max : has.max_packet ≡ max_packet = cc in
       let same_token : has.token ≡ token = cc in
-      none x (rw (same_limit, same_max, same_token) at has.terms)
-  account_said n leads (Some x) is = record {
+      let same_host : has.host ≡ host = cc in
+      let same_out : has.out ≡ out = cc in
+      none x (rw (same_limit, same_max, same_token, same_host, same_out) at has.is)
+  no_plain none x (inr has) = let wrong = has.words_are in absurd (cc)
+
+  pub plain_said : (o : Option AccountLine)
+      → MatchOption o ((x : AccountLine) → ¬ (IsAccount None limit max_packet token host out x)) (IsAccount None limit max_packet token host out)
+      → MatchOption o ((x : AccountLine) → ¬ (IsAccountLine plain_words x)) (IsAccountLine plain_words)
+  plain_said None none = no_plain none
+  plain_said (Some x) is = inl (record {
     limit = limit;
     max_packet = max_packet;
     token = token;
     host = host;
     out = out;
     words_are = refl;
-    terms = is.1;
-    leads = rw is.0 leads;
-  }
+    is = is;
+  })
+
+  module _ (word : Text) where
+    abbrev named_words : List Text
+    named_words = codes "account" ∷ word ∷ limit ∷ max_packet ∷ token ∷ host ∷ out ∷ []
+
+    pub no_name : ((name : Text) → ¬ (IsNaming word name)) → (x : AccountLine) → ¬ (IsAccountLine named_words x)
+    no_name none x (inl has) = let wrong = has.words_are in absurd (cc)
+    no_name none x (inr has) =
+        let same : has.word ≡ word = cc in
+        none has.name (rw same at has.naming)
+
+    no_named : (name : Text) → IsNaming word name → ((x : AccountLine) → ¬ (IsAccount (Some name) limit max_packet token host out x))
+        → (x : AccountLine) → ¬ (IsAccountLine named_words x)
+    no_named name naming none x (inl has) = let wrong = has.words_are in absurd (cc)
+    no_named name naming none x (inr has) =
+        let same_word : has.word ≡ word = cc in
+        let same_limit : has.limit ≡ limit = cc in
+        let same_max : has.max_packet ≡ max_packet = cc in
+        let same_token : has.token ≡ token = cc in
+        let same_host : has.host ≡ host = cc in
+        let same_out : has.out ≡ out = cc in
+        let same_name : has.name ≡ name = naming_once word name has.name naming (rw same_word at has.naming) in
+        none x (rw (same_name, same_limit, same_max, same_token, same_host, same_out) at has.is)
+
+    pub named_said : (name : Text) → IsNaming word name → (o : Option AccountLine)
+        → MatchOption o ((x : AccountLine) → ¬ (IsAccount (Some name) limit max_packet token host out x)) (IsAccount (Some name) limit max_packet token host out)
+        → MatchOption o ((x : AccountLine) → ¬ (IsAccountLine named_words x)) (IsAccountLine named_words)
+    named_said name naming None none = no_named name naming none
+    named_said name naming (Some x) is = inr (record {
+      word = word;
+      name = name;
+      limit = limit;
+      max_packet = max_packet;
+      token = token;
+      host = host;
+      out = out;
+      words_are = refl;
+      naming = naming;
+      is = is;
+    })
 
 module _ (prefix account num den : Text) where
   abbrev route_words : List Text

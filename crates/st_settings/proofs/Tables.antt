@@ -61,6 +61,10 @@ no_route_there : (words rest : List Text) (r : Route) → words ≡ codes "accou
 no_route_there words rest r is (inl plain) = apart rest _ (sym is ∙ plain.words_are)
 no_route_there words rest r is (inr rated) = apart rest _ (sym is ∙ rated.words_are)
 
+no_account_there : (words rest : List Text) (x : AccountLine) → words ≡ codes "route" ∷ rest → ¬ (IsAccountLine words x)
+no_account_there words rest x is (inl plain) = apart _ rest (sym plain.words_are ∙ is)
+no_account_there words rest x is (inr named) = apart _ rest (sym named.words_are ∙ is)
+
 pub bad_account : (words rest : List Text) → words ≡ codes "account" ∷ rest → ((x : AccountLine) → ¬ (IsAccountLine (codes "account" ∷ rest) x)) → IsBad words
 bad_account words rest is none = record {
   some_word = λ e. absurd (cc);
@@ -71,7 +75,7 @@ bad_account words rest is none = record {
 pub bad_route : (words rest : List Text) → words ≡ codes "route" ∷ rest → ((r : Route) → ¬ (IsRouteLine (codes "route" ∷ rest) r)) → IsBad words
 bad_route words rest is none = record {
   some_word = λ e. absurd (cc);
-  no_account = λ x has. apart _ rest (sym has.words_are ∙ is);
+  no_account = λ x. no_account_there words rest x is;
   no_route = λ r has. none r (rw is at has);
 }
 
@@ -81,7 +85,10 @@ pub bad_word : (words : Words) (d : Bor (List ℕ)) → 1 ≤ length words → b
 bad_word [] d some a b = absurd (omega arith)
 bad_word (w ∷ ws) d some a b = record {
   some_word = λ e. absurd (cc);
-  no_account = λ x has. differs w.now (codes "account") a (texts ws) _ has.words_are;
+  no_account = λ x has. elim has [
+    | inl plain ↦ differs w.now (codes "account") a (texts ws) _ plain.words_are
+    | inr named ↦ differs w.now (codes "account") a (texts ws) _ named.words_are
+  ];
   no_route = λ r has. elim has [
     | inl plain ↦ differs w.now (codes "route") b (texts ws) _ plain.words_are
     | inr rated ↦ differs w.now (codes "route") b (texts ws) _ rated.words_are

@@ -5,4 +5,5 @@ use Rattle.st_settings.specs.declared.error.TableError.TheVariants as table
 
 abbrev pub number : TableError → ℕ
 number table.BadLine = 96
+number table.SameName = 96
 number table.NoMemory = 99

@@ -111,6 +111,7 @@ pub record ConnectorTexts : Type 0 where
   pub requests : List ℕ
   pub workers : List ℕ
   pub totals : Option (List ℕ)
+  pub ledger : Option (List ℕ)
 
 abbrev pub connector_texts : ConnectorOptions → ConnectorTexts
 connector_texts o = record {
@@ -119,6 +120,7 @@ connector_texts o = record {
   requests = o.requests.now;
   workers = o.workers.now;
   totals = said o.totals;
+  ledger = said o.ledger;
 }
 
 -- the texts ask `local` for this
@@ -158,3 +160,4 @@ pub record IsConnector (o : ConnectorTexts) (s : ConnectorSettings) : Type 0 whe
   pub requests : IsWithin 1 (2 ^ 31 - 1) o.requests s.requests
   pub workers : IsWithin 1 most_workers o.workers s.workers
   pub totals : said s.totals ≡ o.totals
+  pub ledger : said s.ledger ≡ o.ledger

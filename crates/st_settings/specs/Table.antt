@@ -1,6 +1,6 @@
 -- The lines of a connector's table.
-use Rattle.std.specs.Prelude.{◌≡◌, ◌≢◌, ◌⊎◌, ◌==◌, ℕ, true, not, List, [], ◌∷◌, ◌++◌, length, filter, codes, Option, Some, None}
-use Rattle.std.specs.List.{slice_split}
+use Rattle.std.specs.Prelude.{◌≡◌, ◌≢◌, ◌⊎◌, ◌==◌, ℕ, suc, true, not, ⊤, List, [], ◌∷◌, ◌++◌, length, filter, codes, decimal, Option, Some, None, unwrap_or}
+use Rattle.std.specs.List.{AllByRecursion, slice_split}
 use Rattle.std.specs.Str.Lines.{lines}
 use Rattle.st_oer.specs.Ratios.{Ratio, ratio}
 use Rattle.st_http.specs.Texts.{is_field_text}
@@ -8,7 +8,7 @@ use Rattle.st_hop.specs.declared.route.Route.{Route}
 use Rattle.st_settings.specs.declared.line.Neighbour.{Neighbour}
 use Rattle.st_settings.specs.declared.line.AccountLine.{AccountLine}
 use Rattle.st_settings.specs.Numbers.{AreTerms, IsHostPort, IsNumber}
-use Rattle.st_settings.specs.Settings.{most_money}
+use Rattle.st_settings.specs.Settings.{most_money, said}
 
 abbrev pub Text : Type 0
 Text = List ℕ
@@ -34,16 +34,42 @@ pub record IsRoute (prefix account : Text) (rate : Ratio) (r : Route) : Type 0 w
   pub account_is : IsNumber most_money account r.account
   pub rate_is : r.rate ≡ rate
 
+-- the word is `NAME=` and this name, 1 to 255 visible characters
+pub record IsNaming (word name : Text) : Type 0 where
+  pub word_is : word ≡ codes "NAME=" ++ name
+  pub visible : is_field_text name ≡ true
+
+-- the account has this name, or none, and these five words say the rest of it
+pub record IsAccount (name : Option Text) (limit max_packet token host out : Text) (a : AccountLine) : Type 0 where
+  pub name_is : said a.name ≡ name
+  pub terms : HasTerms limit max_packet token a
+  pub leads : Leads host out a.neighbour
+
 -- `account LIMIT MAX TOKEN HOST:PORT TOKEN`
-pub record IsAccountLine (words : List Text) (a : AccountLine) : Type 0 where
+pub record IsPlainAccount (words : List Text) (a : AccountLine) : Type 0 where
   pub limit : Text
   pub max_packet : Text
   pub token : Text
   pub host : Text
   pub out : Text
   pub words_are : words ≡ codes "account" ∷ limit ∷ max_packet ∷ token ∷ host ∷ out ∷ []
-  pub terms : HasTerms limit max_packet token a
-  pub leads : Leads host out a.neighbour
+  pub is : IsAccount None limit max_packet token host out a
+
+-- `account NAME=alice LIMIT MAX TOKEN HOST:PORT TOKEN`
+pub record IsNamedAccount (words : List Text) (a : AccountLine) : Type 0 where
+  pub word : Text
+  pub name : Text
+  pub limit : Text
+  pub max_packet : Text
+  pub token : Text
+  pub host : Text
+  pub out : Text
+  pub words_are : words ≡ codes "account" ∷ word ∷ limit ∷ max_packet ∷ token ∷ host ∷ out ∷ []
+  pub naming : IsNaming word name
+  pub is : IsAccount (Some name) limit max_packet token host out a
+
+abbrev pub IsAccountLine : List Text → AccountLine → Type 0
+IsAccountLine words a = IsPlainAccount words a ⊎ IsNamedAccount words a
 
 -- `route PREFIX ACCOUNT`, at the rate 1 to 1
 pub record IsPlainRoute (words : List Text) (r : Route) : Type 0 where
@@ -94,3 +120,36 @@ pub record HasBad (text : Text) : Type 0 where
   pub after : List Text
   pub lines_are : lines text ≡ before ++ line ∷ after
   pub bad : IsBad (words_of line)
+
+-- the name of the account at place i: that of its line, or i in decimal digits where its line has none
+abbrev pub name_of : (i : ℕ) → AccountLine → Text
+name_of i a = unwrap_or (said a.name) (decimal i)
+
+-- the names of accounts, the first of which stands at place i
+unfoldable pub names_from : (i : ℕ) → List AccountLine → List Text
+names_from i [] = []
+names_from i (a ∷ rest) = name_of i a ∷ names_from (suc i) rest
+
+-- the names of a table's accounts, which are numbered from 0
+abbrev pub names_of : List AccountLine → List Text
+names_of accounts = names_from 0 accounts
+
+-- no name stands twice
+abbrev pub AreDistinct : List Text → Type 0
+AreDistinct [] = ⊤
+AreDistinct (name ∷ names) = AllByRecursion (λ other. other ≢ name) names × AreDistinct names
+
+-- a name stands twice
+pub record StandTwice (names : List Text) : Type 0 where
+  pub before : List Text
+  pub name : Text
+  pub between : List Text
+  pub after : List Text
+  pub names_are : names ≡ before ++ name ∷ between ++ name ∷ after
+
+-- the text says accounts, two of which have one name
+pub record HasSameName (text : Text) : Type 0 where
+  pub accounts : List AccountLine
+  pub routes : List Route
+  pub says : Says (lines text) accounts routes
+  pub twice : StandTwice (names_of accounts)

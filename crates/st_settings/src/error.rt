@@ -13,6 +13,9 @@ pub enum TableError {
     /// A line is not empty, and is neither an account nor a route.
     #[error("a line is neither an account nor a route")]
     BadLine,
+    /// Two accounts have one name: the same `NAME=`, or one has the number of an account that has no name.
+    #[error("two accounts have one name")]
+    SameName,
     /// Memory that the call asked for was refused.
     #[error("out of memory")]
     NoMemory,
@@ -24,7 +27,7 @@ impl TableError {
         ensures { result ≡ errors.number self.now }
     {
         match self {
-            TableError::BadLine => 96,
+            TableError::BadLine | TableError::SameName => 96,
             TableError::NoMemory => 99,
         }
     }

@@ -1,13 +1,15 @@
-//! The settings of the commands `local`, `send`, `receive` and `connector`, from their arguments; and the connector's
-//! table.
+//! The settings of the commands `local`, `send`, `receive`, `connector` and `ledger`, from their arguments; and the
+//! connector's table.
 //!
 //! The texts of the options are given, and the settings are returned, or `None` where a text is bad. What each text has
-//! to be is in specs/: numbers, HOST:PORT and rates (Numbers), the settings of each command (Settings), and the lines
-//! of a table (Table). This crate uses no file, no socket and no clock.
+//! to be is in specs/: numbers, HOST:PORT and rates (Numbers), the settings of each command (Settings, Ledger), and the
+//! lines of a table with the names of its accounts (Table). This crate uses no file, no socket and no clock.
 #![tactic(auto)]
 
 mod error;
+mod ledger;
 mod line;
+mod names;
 mod number;
 mod options;
 mod settings;
@@ -15,9 +17,10 @@ mod table;
 mod text;
 
 pub use error::TableError;
+pub use ledger::{LedgerSettings, Payment, Side};
 pub use line::{AccountLine, Neighbour};
 pub use number::read_number;
-pub use options::{ConnectorOptions, LocalOptions, ReceiveOptions, SendOptions};
+pub use options::{ConnectorOptions, LedgerOptions, LocalOptions, ReceiveOptions, SendOptions};
 pub use settings::{
     ConnectorSettings, LocalSettings, MAX_HOPS, MAX_LOSE, MAX_MONEY, MAX_PATIENCE, MAX_REQUESTS,
     MAX_STREAMS, MAX_WORKERS, ReceiveSettings, SendSettings,

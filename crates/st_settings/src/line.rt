@@ -1,12 +1,12 @@
 //! A line of a connector's table.
 
-ghost use Rattle.std.specs.Prelude.{◌≡◌, ◌∷◌, ℕ, Option, IfOk, MatchOption, codes, map};
+ghost use Rattle.std.specs.Prelude.{◌≡◌, ◌∷◌, ℕ, List, Option, IfOk, MatchOption, codes, map};
 ghost use Rattle.st_settings.specs.declared.line.AccountLine.{AccountLine};
 ghost use Rattle.st_settings.specs.declared.line.Neighbour.{Neighbour};
 ghost use Rattle.st_hop.specs.declared.route.Route.{Route};
 ghost use Rattle.st_settings.specs.Numbers.{IsNumber};
-ghost use Rattle.st_settings.specs.Settings.{most_money};
-ghost use Rattle.st_settings.specs.Table.{HasTerms, IsAccountLine, IsRoute, IsRouteLine, Leads};
+ghost use Rattle.st_settings.specs.Settings.{most_money, said};
+ghost use Rattle.st_settings.specs.Table.{IsAccount, IsAccountLine, IsNaming, IsRoute, IsRouteLine, Leads};
 ghost use Rattle.st_settings.specs.Table as specs;
 
 use crate::number::read_number;
@@ -29,6 +29,8 @@ pub struct Neighbour<'a> {
 /// An account of a connector's table.
 #[derive(Clone, Copy, Debug)]
 pub struct AccountLine<'a> {
+    /// The account's name, where its line gives one: 1 to 255 visible characters.
+    pub name: Option<&'a str>,
     /// The most that the account may owe, and the most that one Prepare from it may carry, in units.
     pub terms: Account,
     /// The bearer token by which the connector knows the account: 1 to 255 visible characters.
@@ -63,23 +65,38 @@ fn leads_to<'a>(host: &'a str, token: &'a str) -> Option<Option<Neighbour<'a>>>
     None
 }
 
-/// The account of these terms, in two texts, and of these tokens.
+/// The name that a word `NAME=..` gives. `None` for any other word.
+fn name_in(word: &str) -> Option<&str>
+    ensures { MatchOption result ((name : List ℕ) → ¬ (IsNaming word.now name)) (λ name. IsNaming word.now name.now) }
+{
+    let (key, name) = word.split_once('=')?;
+    if key == "NAME" && is_field_text(name) {
+        return Some(name);
+    }
+    None
+}
+
+/// The account of this name, or of none, that the other five parts of its line say.
 fn account_by<'a>(
+    name: Option<&'a str>,
     limit: &str,
     max_packet: &str,
     token: &'a str,
-    neighbour: Option<Neighbour<'a>>,
+    host: &'a str,
+    out: &'a str,
 ) -> Option<AccountLine<'a>>
     ensures { MatchOption result
-        ((a : AccountLine) → ¬ (HasTerms limit.now max_packet.now token.now a))
-        (λ a. (a.neighbour ≡ neighbour.entry) × HasTerms limit.now max_packet.now token.now a) }
+        ((a : AccountLine) → ¬ (IsAccount (said name.entry) limit.now max_packet.now token.now host.now out.now a))
+        (IsAccount (said name.entry) limit.now max_packet.now token.now host.now out.now) }
 {
+    let neighbour = leads_to(host, out)?;
     let limit = read_number(limit.as_bytes(), MAX_MONEY)?;
     let max_packet = read_number(max_packet.as_bytes(), MAX_MONEY)?;
     if !is_field_text(token) {
         return None;
     }
     Some(AccountLine {
+        name,
         terms: Account { limit, max_packet },
         token,
         neighbour,
@@ -92,10 +109,15 @@ pub(crate) fn account_of<'a>(words: &[&'a str]) -> Option<AccountLine<'a>>
         ((a : AccountLine) → ¬ (IsAccountLine (codes "account" ∷ map (λ w. w.now) words.now) a))
         (IsAccountLine (codes "account" ∷ map (λ w. w.now) words.now)) }
 {
-    let [limit, max_packet, token, host, out] = *words else {
-        return None;
-    };
-    account_by(limit, max_packet, token, leads_to(host, out)?)
+    match *words {
+        [limit, max_packet, token, host, out] => {
+            account_by(None, limit, max_packet, token, host, out)
+        }
+        [word, limit, max_packet, token, host, out] => {
+            account_by(Some(name_in(word)?), limit, max_packet, token, host, out)
+        }
+        _ => None,
+    }
 }
 
 /// The route to an account of this number, at this rate.

@@ -70,4 +70,15 @@ pub struct ConnectorOptions<'a> {
     pub workers: &'a str,
     /// The text of `--totals`, where it is given.
     pub totals: Option<&'a str>,
+    /// The text of `--ledger`, where it is given.
+    pub ledger: Option<&'a str>,
+}
+
+/// The texts of the arguments of `ledger`.
+#[derive(Clone, Copy, Debug)]
+pub struct LedgerOptions<'w, 'a> {
+    /// The text of FILE.
+    pub file: &'a str,
+    /// The words of a payment, where there are any.
+    pub payment: Option<&'w [&'a str]>,
 }

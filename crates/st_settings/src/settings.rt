@@ -102,17 +102,26 @@ pub struct ConnectorSettings<'a> {
     pub workers: u8,
     /// The name of the file that the totals are written to, where one was given.
     pub totals: Option<&'a str>,
+    /// The name of the file that the books are kept in, where one was given.
+    pub ledger: Option<&'a str>,
+}
+
+/// The number that bytes write, from `least` to `most`.
+pub(crate) fn number_within(bytes: &[u8], least: u64, most: u64) -> Option<u64>
+    ensures { MatchOption result ((n : ℕ) → ¬ (IsWithin least most bytes.now n)) (IsWithin least most bytes.now) }
+{
+    let number = read_number(bytes, most)?;
+    if number < least {
+        return None;
+    }
+    Some(number)
 }
 
 /// The number that a text writes, from `least` to `most`.
 fn number(text: &str, least: u64, most: u64) -> Option<u64>
     ensures { MatchOption result ((n : ℕ) → ¬ (IsWithin least most text.now n)) (IsWithin least most text.now) }
 {
-    let number = read_number(text.as_bytes(), most)?;
-    if number < least {
-        return None;
-    }
-    Some(number)
+    number_within(text.as_bytes(), least, most)
 }
 
 /// The number that the text of an option writes, from `least` to `most`, where the option is given.
@@ -215,6 +224,7 @@ impl<'a> ConnectorSettings<'a> {
             requests: number(options.requests, 1, MAX_REQUESTS)?,
             workers: number(options.workers, 1, MAX_WORKERS)? as u8,
             totals: options.totals,
+            ledger: options.ledger,
         })
     }
 }

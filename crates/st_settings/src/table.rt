@@ -1,12 +1,14 @@
 //! A connector's table: its accounts and its routes.
 
-ghost use Rattle.std.specs.Prelude.{◌≡◌, [], IfErr, IfOk, OnOk, map};
+ghost use Rattle.std.specs.Prelude.{◌≡◌, ◌≢◌, [], IfErr, IfOk, OnOk, map, string_bytes};
 ghost use Rattle.std.specs.Str.Lines.{lines};
-ghost use Rattle.st_settings.specs.declared.error.TableError.TheVariants.{BadLine};
-ghost use Rattle.st_settings.specs.Table.{HasBad, IsBad, Says, Takes};
+ghost use Rattle.st_settings.specs.declared.error.TableError.TheVariants.{BadLine, SameName};
+ghost use Rattle.st_settings.specs.Table.{AreDistinct, HasBad, HasSameName, IsBad, Says, Takes};
+ghost use Rattle.st_settings.specs.Table as specs;
 
 use crate::error::TableError;
 use crate::line::{AccountLine, account_of, route_of, words_of};
+use crate::names::{are_distinct, names_of};
 use st_hop::{Account, Route};
 use std::alloc::{AllocError, Allocator};
 
@@ -49,10 +51,19 @@ impl<'a, A: Allocator + Copy> Table<'a, A> {
             .collect(alloc)
     }
 
+    /// The name of each account: that of its line, or its number in decimal digits where the line has none. Fails where
+    /// memory is refused.
+    pub fn names(&self, alloc: A) -> Result<Vec<String<A>, A>, AllocError>
+        ensures { IfOk result (λ names. map string_bytes names.items ≡ specs.names_of self.now.accounts.items) }
+    {
+        names_of(alloc, &self.accounts)
+    }
+
     /// Takes a line, which is given as the texts between its spaces.
     fn take_line(&mut self, words: &[&'a str]) -> Result<(), TableError>
         ensures taken { OnOk result (Takes (map (λ w. w.now) words.now) self.old.accounts.items self.old.routes.items self.new.accounts.items self.new.routes.items) }
         ensures bad { IfErr result (λ e. e ≡ BadLine → IsBad (map (λ w. w.now) words.now)) }
+        ensures other { IfErr result (λ e. e ≢ SameName) }
     {
         let [kind, rest @ ..] = words else {
             return Ok(());
@@ -77,22 +88,30 @@ impl<'a, A: Allocator + Copy> Table<'a, A> {
 }
 
 /// Reads a table, line by line. An account is `account LIMIT MAX TOKEN HOST:PORT TOKEN`, with `- -` in place of the
-/// last two where nothing is sent to it. A route is `route PREFIX ACCOUNT`, with `NUM DEN` behind it for a rate other
-/// than 1 to 1. The parts of a line are separated by spaces; empty lines are skipped.
+/// last two where nothing is sent to it, and with `NAME=` and its name in front of LIMIT where it has one. A route is
+/// `route PREFIX ACCOUNT`, with `NUM DEN` behind it for a rate other than 1 to 1. The parts of a line are separated by
+/// spaces; empty lines are skipped.
 ///
-/// Fails with `BadLine` where a line is neither, and with `NoMemory` where memory is refused.
+/// Fails with `BadLine` where a line is neither, with `SameName` where two accounts have one name, and with `NoMemory`
+/// where memory is refused.
 pub fn read_table<'a, A: Allocator + Copy>(
     alloc: A,
     text: &'a str,
 ) -> Result<Table<'a, A>, TableError>
     ensures said { IfOk result (λ table. Says (lines text.now) table.accounts.items table.routes.items) }
+    ensures distinct { IfOk result (λ table. AreDistinct (specs.names_of table.accounts.items)) }
     ensures bad { IfErr result (λ e. e ≡ BadLine → HasBad text.now) }
+    ensures same { IfErr result (λ e. e ≡ SameName → HasSameName text.now) }
 {
     let lines: Vec<&'a str, A> = text.lines().collect(alloc)?;
     let mut table = Table::new(alloc);
     for line in &lines {
         let words = words_of(alloc, line)?;
         table.take_line(&words)?;
+    }
+    let names = table.names(alloc)?;
+    if !are_distinct(alloc, &names)? {
+        return Err(TableError::SameName);
     }
     Ok(table)
 }

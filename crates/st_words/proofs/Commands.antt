@@ -5,14 +5,16 @@ use Rattle.std.proofs.lemmas.Slice.Eq.{bytes_eq-Decides}
 use Rattle.clap.specs.Words.{Row, Text, first_of}
 use Rattle.clap.specs.Faults.{is_simple_and_free}
 use Rattle.clap.specs.Simple.{is_simple}
+use Rattle.st_settings.specs.Ledger as ledger
 use Rattle.st_settings.specs.Settings as settings
 use Rattle.st_settings.specs.declared.settings.LocalSettings.{LocalSettings}
 use Rattle.st_settings.specs.declared.settings.SendSettings.{SendSettings}
 use Rattle.st_settings.specs.declared.settings.ReceiveSettings.{ReceiveSettings}
 use Rattle.st_settings.specs.declared.settings.ConnectorSettings.{ConnectorSettings}
+use Rattle.st_settings.specs.declared.ledger.LedgerSettings.{LedgerSettings}
 use Rattle.st_words.specs.declared.request.Request.TheVariants as request
 use Rattle.st_words.specs.Program.{program}
-use Rattle.st_words.specs.Words.{IsBad, connector_texts, local_texts, receive_texts, send_texts, value_of}
+use Rattle.st_words.specs.Words.{IsBad, connector_texts, ledger_texts, local_texts, receive_texts, send_texts, value_of}
 
 pub is_simple_program : is_simple program ≡ true
 is_simple_program = refl
@@ -42,6 +44,7 @@ module _ (name : Text) (rows : List Row) where
   bad_local is none (request.Send s) asks = unlike (codes "local") (codes "send") refl (sym is ∙ asks.0)
   bad_local is none (request.Receive s) asks = unlike (codes "local") (codes "receive") refl (sym is ∙ asks.0)
   bad_local is none (request.Connector s) asks = unlike (codes "local") (codes "connector") refl (sym is ∙ asks.0)
+  bad_local is none (request.Ledger s) asks = unlike (codes "local") (codes "ledger") refl (sym is ∙ asks.0)
 
   pub bad_send : name ≡ codes "send" → ((s : SendSettings) → ¬ (settings.IsSend (send_texts rows) s)) → IsBad name rows
   bad_send is none request.Frames asks = unlike (codes "send") (codes "frames") refl (sym is ∙ asks)
@@ -49,6 +52,7 @@ module _ (name : Text) (rows : List Row) where
   bad_send is none (request.Send s) asks = none s asks.1
   bad_send is none (request.Receive s) asks = unlike (codes "send") (codes "receive") refl (sym is ∙ asks.0)
   bad_send is none (request.Connector s) asks = unlike (codes "send") (codes "connector") refl (sym is ∙ asks.0)
+  bad_send is none (request.Ledger s) asks = unlike (codes "send") (codes "ledger") refl (sym is ∙ asks.0)
 
   pub bad_receive : name ≡ codes "receive" → ((s : ReceiveSettings) → ¬ (settings.IsReceive (receive_texts rows) s)) → IsBad name rows
   bad_receive is none request.Frames asks = unlike (codes "receive") (codes "frames") refl (sym is ∙ asks)
@@ -56,6 +60,7 @@ module _ (name : Text) (rows : List Row) where
   bad_receive is none (request.Send s) asks = unlike (codes "receive") (codes "send") refl (sym is ∙ asks.0)
   bad_receive is none (request.Receive s) asks = none s asks.1
   bad_receive is none (request.Connector s) asks = unlike (codes "receive") (codes "connector") refl (sym is ∙ asks.0)
+  bad_receive is none (request.Ledger s) asks = unlike (codes "receive") (codes "ledger") refl (sym is ∙ asks.0)
 
   pub bad_connector : name ≡ codes "connector" → ((s : ConnectorSettings) → ¬ (settings.IsConnector (connector_texts rows) s)) → IsBad name rows
   bad_connector is none request.Frames asks = unlike (codes "connector") (codes "frames") refl (sym is ∙ asks)
@@ -63,3 +68,12 @@ module _ (name : Text) (rows : List Row) where
   bad_connector is none (request.Send s) asks = unlike (codes "connector") (codes "send") refl (sym is ∙ asks.0)
   bad_connector is none (request.Receive s) asks = unlike (codes "connector") (codes "receive") refl (sym is ∙ asks.0)
   bad_connector is none (request.Connector s) asks = none s asks.1
+  bad_connector is none (request.Ledger s) asks = unlike (codes "connector") (codes "ledger") refl (sym is ∙ asks.0)
+
+  pub bad_ledger : name ≡ codes "ledger" → ((s : LedgerSettings) → ¬ (ledger.IsLedger (ledger_texts rows) s)) → IsBad name rows
+  bad_ledger is none request.Frames asks = unlike (codes "ledger") (codes "frames") refl (sym is ∙ asks)
+  bad_ledger is none (request.Local s) asks = unlike (codes "ledger") (codes "local") refl (sym is ∙ asks.0)
+  bad_ledger is none (request.Send s) asks = unlike (codes "ledger") (codes "send") refl (sym is ∙ asks.0)
+  bad_ledger is none (request.Receive s) asks = unlike (codes "ledger") (codes "receive") refl (sym is ∙ asks.0)
+  bad_ledger is none (request.Connector s) asks = unlike (codes "ledger") (codes "connector") refl (sym is ∙ asks.0)
+  bad_ledger is none (request.Ledger s) asks = none s asks.1

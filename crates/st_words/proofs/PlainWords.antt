@@ -1,7 +1,12 @@
 -- Plain words: clap's rules compute at them.
-use Rattle.std.proofs.Common.{refl}
+use Rattle.std.proofs.Common.{◌≡◌, ◌≢◌, ◌==◌, ℕ, Bool, true, false, Option, Some, None, List, [], ◌∷◌, codes, refl, sym, ◌∙◌}
+use Rattle.std.specs.Prelude.{bytes_eq}
+use Rattle.std.proofs.lemmas.Bool.{ne_eqb}
+use Rattle.clap.specs.Lexer.{long_of, short_of}
+use Rattle.clap.specs.Words.{Row, Text}
 use Rattle.clap.proofs.OnLiterals.{clap_on_literals}
-use Rattle.st_words.specs.Laws.{ConnectorSaysItsTexts, ReceiveSaysItsTexts, SendSaysItsTexts}
+use Rattle.st_words.specs.Words.{command_of}
+use Rattle.st_words.specs.Laws.{BooksSayTheirFile, ConnectorSaysItsTexts, LedgerSaysItsFile, PaymentSaysItsTexts, ReceiveSaysItsTexts, SayLedger, SendSaysItsTexts}
 
 pub send_plain : SendSaysItsTexts
 unfolding clap_on_literals
@@ -14,3 +19,45 @@ receive_plain listen token secret address peer = (refl, (_, refl, refl))
 pub connector_plain : ConnectorSaysItsTexts
 unfolding clap_on_literals
 connector_plain listen own = (refl, (_, refl, refl))
+
+pub books_plain : BooksSayTheirFile
+unfolding clap_on_literals
+books_plain listen own totals ledger = (refl, (_, refl, refl))
+
+-- the values that a command has
+rows_in : Option (Text × List Row) → List Row
+rows_in None = []
+rows_in (Some (name, rows)) = rows
+
+-- a word that is neither an option nor the end of options
+record IsValue (word : Text) : Type 0 where
+  more : bytes_eq word (codes "--") ≡ false
+  no_long : long_of word ≡ None
+  no_short : short_of word ≡ None
+
+is_value : (first : ℕ) (rest : Text) → first ≢ 45 → IsValue (first ∷ rest)
+is_value first rest no_hyphen =
+    let other : (first == 45) ≡ false = ne_eqb first 45 no_hyphen in
+    record { more = rw other refl; no_long = rw other refl; no_short = rw other refl }
+
+abbrev file_words : Text → List Text
+file_words file = codes "ilpstream" ∷ codes "ledger" ∷ file ∷ []
+
+file_plain : (file : Text) → IsValue file → SayLedger (file_words file) file None
+unfolding clap_on_literals rows_in
+file_plain file is =
+    (rw (is.more, is.no_long, is.no_short) refl, (rows_in (command_of (file_words file)), rw (is.more, is.no_long, is.no_short) refl, rw (is.more, is.no_long, is.no_short) refl))
+
+pub ledger_plain : LedgerSaysItsFile
+ledger_plain first rest no_hyphen = file_plain (first ∷ rest) (is_value first rest no_hyphen)
+
+abbrev payment_words : Text → Text → Text → List Text
+payment_words file name amount = codes "ilpstream" ∷ codes "ledger" ∷ file ∷ codes "settle" ∷ name ∷ amount ∷ []
+
+paid_plain : (file name amount : Text) → IsValue file → SayLedger (payment_words file name amount) file (Some (codes "settle" ∷ name ∷ amount ∷ []))
+unfolding clap_on_literals rows_in
+paid_plain file name amount is =
+    (rw (is.more, is.no_long, is.no_short) refl, (rows_in (command_of (payment_words file name amount)), rw (is.more, is.no_long, is.no_short) refl, rw (is.more, is.no_long, is.no_short) refl))
+
+pub payment_plain : PaymentSaysItsTexts
+payment_plain first rest name amount no_hyphen = paid_plain (first ∷ rest) name amount (is_value first rest no_hyphen)

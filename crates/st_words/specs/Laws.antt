@@ -1,7 +1,7 @@
 -- What plain words ask for, whatever the texts in them are.
-use Rattle.std.specs.Prelude.{◌≡◌, List, [], ◌∷◌, ◌++◌, codes, Some, None}
+use Rattle.std.specs.Prelude.{◌≡◌, ◌≢◌, ℕ, List, [], ◌∷◌, ◌++◌, codes, Option, Some, None}
 use Rattle.clap.specs.Words.{Row, Text}
-use Rattle.st_words.specs.Words.{command_of, connector_texts, receive_texts, refusals, send_texts}
+use Rattle.st_words.specs.Words.{command_of, connector_texts, ledger_texts, receive_texts, refusals, send_texts}
 
 -- the words of `send` with these texts
 abbrev pub send_words : Text → Text → Text → Text → Text → List Text
@@ -47,12 +47,36 @@ ReceiveSaysItsTexts = (listen token secret address peer : Text) → (refusals (r
 abbrev pub connector_words : Text → Text → List Text
 connector_words listen own = codes "ilpstream" ∷ codes "connector" ∷ (codes "--listen=" ++ listen) ∷ (codes "--own=" ++ own) ∷ codes "--requests=1000" ∷ []
 
-abbrev pub ConnectorSaysItsTexts : Type 0
-ConnectorSaysItsTexts = (listen own : Text) → (refusals (connector_words listen own) ≡ [])
-    × ((rows : List Row) × (command_of (connector_words listen own) ≡ Some (codes "connector", rows)) × (connector_texts rows ≡ record {
+-- words of `connector` say these texts, and these files for totals and books
+abbrev pub SayConnector : List Text → (listen own : Text) → (totals ledger : Option Text) → Type 0
+SayConnector words listen own totals ledger = (refusals words ≡ [])
+    × ((rows : List Row) × (command_of words ≡ Some (codes "connector", rows)) × (connector_texts rows ≡ record {
       listen = listen;
       own = own;
       requests = codes "1000";
       workers = codes "4";
-      totals = None;
+      totals = totals;
+      ledger = ledger;
     }))
+
+abbrev pub ConnectorSaysItsTexts : Type 0
+ConnectorSaysItsTexts = (listen own : Text) → SayConnector (connector_words listen own) listen own None None
+
+-- the same with a file for totals and one for books
+abbrev pub BooksSayTheirFile : Type 0
+BooksSayTheirFile = (listen own totals ledger : Text)
+    → SayConnector (connector_words listen own ++ (codes "--totals=" ++ totals) ∷ (codes "--ledger=" ++ ledger) ∷ []) listen own (Some totals) (Some ledger)
+
+-- words of `ledger` say this file, and the words of a payment or none
+abbrev pub SayLedger : List Text → (file : Text) → Option (List Text) → Type 0
+SayLedger words file payment = (refusals words ≡ [])
+    × ((rows : List Row) × (command_of words ≡ Some (codes "ledger", rows)) × (ledger_texts rows ≡ record { file = file; payment = payment }))
+
+-- any file whose name does not begin with a hyphen
+abbrev pub LedgerSaysItsFile : Type 0
+LedgerSaysItsFile = (first : ℕ) (rest : Text) → first ≢ 45 → SayLedger (codes "ilpstream" ∷ codes "ledger" ∷ (first ∷ rest) ∷ []) (first ∷ rest) None
+
+-- and any name and amount, also an amount that begins with a minus
+abbrev pub PaymentSaysItsTexts : Type 0
+PaymentSaysItsTexts = (first : ℕ) (rest name amount : Text) → first ≢ 45
+    → SayLedger (codes "ilpstream" ∷ codes "ledger" ∷ (first ∷ rest) ∷ codes "settle" ∷ name ∷ amount ∷ []) (first ∷ rest) (Some (codes "settle" ∷ name ∷ amount ∷ []))

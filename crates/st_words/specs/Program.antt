@@ -45,6 +45,18 @@ with_ends s = with_rule (with_rule (with_rule (with_rule s (required_rule (codes
 abbrev pub totals_rule : Rule
 totals_rule = option_rule (codes "totals")
 
+-- where books are kept
+abbrev pub ledger_rule : Rule
+ledger_rule = option_rule (codes "ledger")
+
+-- a value that is known by its place
+abbrev pub place_rule : Text → Rule
+place_rule name = record (new_rule name) { value_names = 1; action = Some Set }
+
+-- n values at the end: behind the first of them each word is one, also with a hyphen in front
+abbrev pub last_rule : Text → (n : ℕ) → Rule
+last_rule name n = record (new_rule name) { value_names = n; trailing_var_arg = true; action = Some Set }
+
 -- where requests are taken
 abbrev pub with_listen : Shape → Shape
 with_listen s = with_rule s (required_rule (codes "listen"))
@@ -114,7 +126,15 @@ connector = record (new_shape (codes "connector")) {
       ∷ required_rule (codes "own")
       ∷ with_required (number_rule (codes "requests") 1 (2 ^ 31 - 1))
       ∷ with_default (codes "4") (number_rule (codes "workers") 1 most_workers)
-      ∷ totals_rule ∷ [];
+      ∷ totals_rule
+      ∷ ledger_rule ∷ [];
+}
+
+-- FILE, and three words or none
+abbrev pub ledger : Shape
+ledger = record (new_shape (codes "ledger")) {
+  rules = with_required (place_rule (codes "file"))
+      ∷ last_rule (codes "payment") 3 ∷ [];
 }
 
 -- the program without a command: it has a version
@@ -129,5 +149,5 @@ with_transfers a = with_subcommand (with_subcommand (with_subcommand a send) rec
 abbrev pub program : App
 program = record {
   top = record alone.top { is_leaf = false };
-  subs = frames ∷ local ∷ send ∷ receive ∷ connector ∷ [];
+  subs = frames ∷ local ∷ send ∷ receive ∷ connector ∷ ledger ∷ [];
 }

@@ -1,6 +1,7 @@
 -- What the words of the command line ask for, by what clap makes of them.
 use Rattle.std.specs.Prelude.{◌≡◌, List, [], codes, Option, Some, None, Result, Ok, Err, unwrap_or}
-use Rattle.clap.specs.Words.{HasKind, Kinds, Row, Text, fault_of, first_of, subcommand_of}
+use Rattle.clap.specs.Words.{HasKind, Kinds, Row, Text, all_of, fault_of, first_of, subcommand_of}
+use Rattle.st_settings.specs.Ledger as ledger
 use Rattle.st_settings.specs.Settings as settings
 use Rattle.st_words.specs.declared.error.WordsError.{WordsError}
 use Rattle.st_words.specs.declared.error.WordsError.TheVariants.{Refused, BadOption}
@@ -52,6 +53,13 @@ connector_texts rows = record {
   requests = value_of (codes "requests") rows;
   workers = value_of (codes "workers") rows;
   totals = first_of (codes "totals") rows;
+  ledger = first_of (codes "ledger") rows;
+}
+
+abbrev pub ledger_texts : List Row → ledger.LedgerTexts
+ledger_texts rows = record {
+  file = value_of (codes "file") rows;
+  payment = all_of (codes "payment") rows;
 }
 
 -- a command of this name, with these values of its options, asks for this
@@ -61,6 +69,7 @@ Asks name rows (request.Local s) = (name ≡ codes "local") × settings.IsLocal 
 Asks name rows (request.Send s) = (name ≡ codes "send") × settings.IsSend (send_texts rows) s
 Asks name rows (request.Receive s) = (name ≡ codes "receive") × settings.IsReceive (receive_texts rows) s
 Asks name rows (request.Connector s) = (name ≡ codes "connector") × settings.IsConnector (connector_texts rows) s
+Asks name rows (request.Ledger s) = (name ≡ codes "ledger") × ledger.IsLedger (ledger_texts rows) s
 
 -- it asks for nothing
 abbrev pub IsBad : Text → List Row → Type 0

@@ -1,9 +1,9 @@
 //! The kinds of options that the commands have.
 
-ghost use Rattle.std.specs.Prelude.{◌≡◌, ◌≤◌, ◌<◌, ◌^◌, ℕ, List, [], ◌∷◌, false, IfOk};
+ghost use Rattle.std.specs.Prelude.{◌≡◌, ◌≤◌, ◌<◌, ◌^◌, ℕ, List, [], ◌∷◌, false, length, IfOk};
 ghost use Rattle.clap.specs.Words.{app_of, rule_of, shape_of, with_subcommand};
 ghost use Rattle.st_words.specs.Program as spec;
-ghost use Rattle.st_words.specs.Program.{HasShape, has_globals, number_rule, option_rule, required_rule, with_rule};
+ghost use Rattle.st_words.specs.Program.{HasShape, has_globals, last_rule, number_rule, option_rule, place_rule, required_rule, with_rule};
 
 use clap::{Arg, ArgAction, Command, value_parser};
 use std::alloc::{AllocError, Global};
@@ -16,6 +16,35 @@ pub(crate) fn option<'a>(alloc: Global, name: &'a str, value: &'a str, help: &'a
     Arg::new(alloc, name)
         .long(name)
         .value_name(value)
+        .help(help)
+        .action(ArgAction::Set)
+}
+
+/// An argument that is known by its place, which help shows as `value`.
+pub(crate) fn placed<'a>(alloc: Global, name: &'a str, value: &'a str, help: &'a str) -> Arg<'a>
+    ensures rule { rule_of result ≡ place_rule name.now }
+    ensures own { result.global ≡ false }
+{
+    Arg::new(alloc, name)
+        .value_name(value)
+        .help(help)
+        .action(ArgAction::Set)
+}
+
+/// As many words at the end as there are `values`, as which help shows them; or none. Behind the first of them each word
+/// is one, also a word that begins with a hyphen.
+pub(crate) fn last<'a>(
+    alloc: Global,
+    name: &'a str,
+    values: &'a [&'a str],
+    help: &'a str,
+) -> Arg<'a>
+    ensures rule { rule_of result ≡ last_rule name.now (length values.now) }
+    ensures own { result.global ≡ false }
+{
+    Arg::new(alloc, name)
+        .value_names(values)
+        .trailing_var_arg(true)
         .help(help)
         .action(ArgAction::Set)
 }

@@ -4,15 +4,15 @@ ghost use Rattle.std.specs.Prelude.{◌≡◌, false, IfOk};
 ghost use Rattle.clap.specs.Words.{app_of, shape_of};
 ghost use Rattle.clap.specs.Simple.{new_shape};
 ghost use Rattle.st_words.specs.Program as spec;
-ghost use Rattle.st_words.specs.Program.{HasShape, has_globals, patience_rule, totals_rule, with_rule};
+ghost use Rattle.st_words.specs.Program.{HasShape, has_globals, ledger_rule, patience_rule, totals_rule, with_rule};
 
 use crate::options::{
-    number, option, ranged, required, with, with_command, with_default, with_required,
+    last, number, option, placed, ranged, required, with, with_command, with_default, with_required,
 };
 use crate::texts::{
-    ACCOUNTS_HELP, AFTER_CONNECTOR_HELP, AFTER_FRAMES_HELP, AFTER_HELP, AFTER_LOCAL_HELP,
-    AFTER_RECEIVE_HELP, AFTER_SEND_HELP, LEAST_HELP, PATIENCE_HELP, SECRET_HELP, TOKEN_HELP,
-    TOTALS_HELP,
+    ACCOUNTS_HELP, AFTER_CONNECTOR_HELP, AFTER_FRAMES_HELP, AFTER_HELP, AFTER_LEDGER_HELP,
+    AFTER_LOCAL_HELP, AFTER_RECEIVE_HELP, AFTER_SEND_HELP, BOOKS_HELP, LEAST_HELP, LEDGER_HELP,
+    LEDGER_USAGE, PATIENCE_HELP, PAYMENT_HELP, SECRET_HELP, TOKEN_HELP, TOTALS_HELP,
 };
 use clap::Command;
 use st_settings::{
@@ -133,6 +133,14 @@ fn with_totals<'a>(
     with(command, option(alloc, "totals", "FILE", help))
 }
 
+/// The command with the option for the file of books.
+fn with_ledger<'a>(alloc: Global, command: Command<'a>) -> Result<Command<'a>, AllocError>
+    requires { has_globals command ≡ false }
+    ensures { IfOk result (HasShape (with_rule (shape_of command.entry) ledger_rule)) }
+{
+    with(command, option(alloc, "ledger", "FILE", LEDGER_HELP))
+}
+
 /// The command with the options that say where a sender sends to.
 fn with_peers<'a>(alloc: Global, command: Command<'a>) -> Result<Command<'a>, AllocError>
     requires { has_globals command ≡ false }
@@ -209,7 +217,22 @@ fn connector<'a>(alloc: Global) -> Result<Command<'a>, AllocError>
         command,
         "Number of threads that answer requests, 1 to 16",
     )?;
-    with_totals(alloc, command, ACCOUNTS_HELP)
+    let command = with_totals(alloc, command, ACCOUNTS_HELP)?;
+    with_ledger(alloc, command)
+}
+
+/// What help calls the words of a payment.
+static PAYMENT: [&str; 3] = ["settle", "NAME", "AMOUNT"];
+
+fn ledger<'a>(alloc: Global) -> Result<Command<'a>, AllocError>
+    ensures { IfOk result (HasShape spec.ledger) }
+{
+    let about = "Prints the books of a connector, or books a payment outside Interledger";
+    let command = named(alloc, "ledger", about, AFTER_LEDGER_HELP).override_usage(LEDGER_USAGE);
+    let file = required(placed(alloc, "file", "FILE", BOOKS_HELP));
+    let command = with(command, file)?;
+    let payment = last(alloc, "payment", PAYMENT.as_slice(), PAYMENT_HELP);
+    with(command, payment)
 }
 
 /// The program with the commands that work between machines.
@@ -231,5 +254,6 @@ pub(crate) fn program<'a>(alloc: Global) -> Result<Command<'a>, AllocError>
         .after_help(AFTER_HELP);
     let program = with_command(program, frames(alloc))?;
     let program = with_command(program, local(alloc)?)?;
-    with_transfers(alloc, program)
+    let program = with_transfers(alloc, program)?;
+    with_command(program, ledger(alloc)?)
 }

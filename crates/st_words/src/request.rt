@@ -2,6 +2,7 @@
 
 ghost use Rattle.std.specs.Prelude.{◌≡◌, IfOk, MatchOption, map};
 ghost use Rattle.clap.specs.Words.{FailsBy, first_of, found_of, rows_of, subcommand_rows_of};
+ghost use Rattle.st_settings.specs.Ledger as ledger;
 ghost use Rattle.st_settings.specs.Settings as settings;
 ghost use Rattle.st_words.specs.Words as spec;
 ghost use Rattle.st_words.specs.declared.request.Request.{Request};
@@ -11,8 +12,8 @@ use crate::error::WordsError;
 use crate::program::program;
 use clap::{ArgMatches, Error};
 use st_settings::{
-    ConnectorOptions, ConnectorSettings, LocalOptions, LocalSettings, ReceiveOptions,
-    ReceiveSettings, SendOptions, SendSettings,
+    ConnectorOptions, ConnectorSettings, LedgerOptions, LedgerSettings, LocalOptions,
+    LocalSettings, ReceiveOptions, ReceiveSettings, SendOptions, SendSettings,
 };
 use std::alloc::Global;
 use std::convert::AsStr;
@@ -30,6 +31,8 @@ pub enum Request<'a> {
     Receive(ReceiveSettings<'a>),
     /// `connector`, with its settings.
     Connector(ConnectorSettings<'a>),
+    /// `ledger`, with its settings.
+    Ledger(LedgerSettings<'a>),
 }
 
 /// The value of an option, where it has one.
@@ -97,6 +100,16 @@ fn connector<'a>(matches: &ArgMatches<'a>) -> ConnectorOptions<'a>
         requests: value(matches, "requests"),
         workers: value(matches, "workers"),
         totals: chosen(matches, "totals"),
+        ledger: chosen(matches, "ledger"),
+    }
+}
+
+fn ledger<'w, 'a>(matches: &'w ArgMatches<'a>) -> LedgerOptions<'w, 'a>
+    ensures { ledger.ledger_texts result ≡ spec.ledger_texts (rows_of (found_of matches.now)) }
+{
+    LedgerOptions {
+        file: value(matches, "file"),
+        payment: matches.get_strs("payment"),
     }
 }
 
@@ -116,6 +129,7 @@ fn request_of<'a>(name: &str, matches: &ArgMatches<'a>) -> Option<Request<'a>>
         }
         "receive" => Some(Request::Receive(ReceiveSettings::read(&receive(matches))?)),
         "connector" => Some(Request::Connector(ConnectorSettings::read(&connector(matches))?)),
+        "ledger" => Some(Request::Ledger(LedgerSettings::read(&ledger(matches))?)),
         _ => None,
     }
 }

@@ -61,8 +61,10 @@ pub const AFTER_CONNECTOR_HELP: &str =
     "It reads the table from standard input until its end, and then accepts requests. Each line of the
 table is an account or a route; its parts are separated by spaces. Empty lines are skipped.
 
-  account LIMIT MAX TOKEN HOST:PORT TOKEN
+  account [NAME=TEXT] LIMIT MAX TOKEN HOST:PORT TOKEN
       an account; accounts are numbered from 0 in the order of their lines
+      NAME=TEXT: its name in the books, 1 to 255 visible characters; no two accounts have one name;
+      the name of an account without this part is its number
       LIMIT: the most that the account may owe, in units, 0 to 2^63 - 1
       MAX: the most that one packet from it may carry, in units, 0 to 2^63 - 1
       TOKEN: the token that its requests show here, 1 to 255 visible characters
@@ -74,6 +76,36 @@ table is an account or a route; its parts are separated by spaces. Empty lines a
 
 Example:
   ./ilpstream connector --listen 127.0.0.1:7770 --own example.hub --requests 1000 < table";
+
+/// The end of the help of `ledger`.
+pub const AFTER_LEDGER_HELP: &str =
+    "FILE is the file of `connector --ledger FILE`. No connector may run with it meanwhile.
+
+Without further words it prints what each account owes and is owed, and how often a connector was
+started with the books. With them it books a payment that was made outside Interledger:
+
+  settle NAME AMOUNT
+      NAME: the name of the account, 1 to 255 visible characters
+      AMOUNT: the units that NAME paid of what it owes, 1 to 2^63 - 1; or with a minus in front the
+      units that were paid to NAME of what it is owed
+
+Examples:
+  ./ilpstream ledger books.db
+  ./ilpstream ledger books.db settle alice 500
+  ./ilpstream ledger books.db settle alice -500";
+
+/// The usage of `ledger`.
+pub const LEDGER_USAGE: &str = "ilpstream ledger <FILE> [settle <NAME> <AMOUNT>]";
+
+/// The help of FILE of `ledger`.
+pub const BOOKS_HELP: &str = "File of the books";
+
+/// The help of the words of a payment.
+pub const PAYMENT_HELP: &str = "Book a payment outside Interledger";
+
+/// The help of `--ledger`.
+pub const LEDGER_HELP: &str =
+    "File for the books, which a kill does not lose; without it they are in memory alone";
 
 /// The help of `--token`.
 pub const TOKEN_HELP: &str = "Bearer token of the requests, 1 to 255 visible characters";

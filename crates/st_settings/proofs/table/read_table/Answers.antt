@@ -1,5 +1,6 @@
-use Rattle.std.proofs.Common.{◌≡◌, [], map, sym}
+use Rattle.std.proofs.Common.{◌≡◌, [], false, map, sym, arith, rules}
 use Rattle.std.specs.Str.Lines.{lines}
+use Rattle.std.proofs.lemmas.Grind.{common_steps}
 use Rattle.std.proofs.lemmas.Iterator.Consumers.{map_from_collect}
 use Rattle.std.proofs.lemmas.Iterator.Splits.{YieldsList-from_lines}
 use Rattle.st_settings.specs.Table.{Says}
@@ -28,3 +29,16 @@ returns-clause-said g c =
     let items = rw c.in_ok-lines.was at (map_from_collect _ c.collect.ensures.ran (YieldsList-from_lines c.args.text.now c.lines.ensures.rest)) in
     let all : map (λ w. w.now) c.deref-line-items.result.now ≡ lines c.args.text.now = rw c.deref-line-items.ensures.value items in
     rw (sym all) (rw (lines_whole c.deref-line-items.result.now c.loop-line.line-index c.loop-line-test.false) at c.loop-line.invariant)
+
+pub returns-then-not-branch-clause-same : goal.returns-then-not-branch-clause-same
+returns-then-not-branch-clause-same g c _ =
+    let items = rw c.in_ok-lines.was at (map_from_collect _ c.collect.ensures.ran (YieldsList-from_lines c.args.text.now c.lines.ensures.rest)) in
+    let all : map (λ w. w.now) c.deref-line-items.result.now ≡ lines c.args.text.now = rw c.deref-line-items.ensures.value items in
+    let said : Says (lines c.args.text.now) c.loop-line.table.accounts.items c.loop-line.table.routes.items = rw (sym all) (rw (lines_whole c.deref-line-items.result.now c.loop-line.line-index c.loop-line-test.false) at c.loop-line.invariant) in
+    let is : c.in_ok-are_distinct.field-0 ≡ false = first_of (search rules, grind (arith, common_steps)) in
+    record {
+      accounts = c.loop-line.table.accounts.items;
+      routes = c.loop-line.table.routes.items;
+      says = said;
+      twice = rw (c.deref-2.ensures.value, c.in_ok-names.ensures) at (rw is at c.in_ok-are_distinct.ensures);
+    }

@@ -1,11 +1,13 @@
 use Rattle.std.proofs.Common.{subst}
 use Rattle.clap.specs.Words.{found_of, rows_of}
+use Rattle.st_settings.specs.Ledger as ledger
 use Rattle.st_settings.specs.Settings as settings
 use Rattle.st_settings.specs.declared.settings.LocalSettings.{LocalSettings}
 use Rattle.st_settings.specs.declared.settings.SendSettings.{SendSettings}
 use Rattle.st_settings.specs.declared.settings.ReceiveSettings.{ReceiveSettings}
 use Rattle.st_settings.specs.declared.settings.ConnectorSettings.{ConnectorSettings}
-use Rattle.st_words.proofs.Commands.{bad_connector, bad_local, bad_receive, bad_send}
+use Rattle.st_settings.specs.declared.ledger.LedgerSettings.{LedgerSettings}
+use Rattle.st_words.proofs.Commands.{bad_connector, bad_ledger, bad_local, bad_receive, bad_send}
 use Rattle.st_words.proofs.request.request_of.Goals as goal
 
 pub returns-in_err-read-in-local : goal.returns-in_err-read-in-local
@@ -30,3 +32,9 @@ returns-in_err-read-in-connector c =
     rw c.from_residual-in_err-read-in-connector.ensures
     (bad_connector c.args.name.now (rows_of (found_of c.args.matches.now)) c.in-connector.is
     (subst (λ (t : settings.ConnectorTexts). (s : ConnectorSettings) → ¬ (settings.IsConnector t s)) c.connector.ensures c.in_err-read-in-connector.ensures))
+
+pub returns-in_err-read-in-ledger : goal.returns-in_err-read-in-ledger
+returns-in_err-read-in-ledger c =
+    rw c.from_residual-in_err-read-in-ledger.ensures
+    (bad_ledger c.args.name.now (rows_of (found_of c.args.matches.now)) c.in-ledger.is
+    (subst (λ (t : ledger.LedgerTexts). (s : LedgerSettings) → ¬ (ledger.IsLedger t s)) c.ledger.ensures c.in_err-read-in-ledger.ensures))

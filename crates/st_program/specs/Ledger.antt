@@ -1,0 +1,64 @@
+-- What the command `ledger` prints, and how it ends.
+use Rattle.std.specs.Prelude.{◌≡◌, ℕ, List, Option, Some, None, Result, Ok, Err}
+use Rattle.std.specs.Io.KnownBytes.{Appends}
+use Rattle.sqlite_trees.specs.declared.store.Store.{Ghosts}
+use Rattle.st_oer.specs.Faults.{count_after}
+use Rattle.st_oer.specs.Tallies.{device_of, tally_of}
+use Rattle.st_oer.specs.declared.counted.Counting.{Counting}
+use Rattle.st_oer.specs.declared.tally.Tally.{Tally}
+use Rattle.st_books.specs.declared.balance.Side.{Side}
+use Rattle.st_books.specs.declared.balance.Side.TheVariants as books
+use Rattle.st_books.specs.Standing.{Kept}
+use Rattle.st_commands.specs.declared.error.Fault.{Fault}
+use Rattle.st_commands.specs.declared.error.Fault.TheVariants as fault
+use Rattle.st_commands.specs.Endings.{most_turns}
+use Rattle.st_settings.specs.declared.ledger.LedgerSettings.{LedgerSettings}
+use Rattle.st_settings.specs.declared.ledger.Payment.{Payment}
+use Rattle.st_settings.specs.declared.ledger.Side.{Side as Paid}
+use Rattle.st_settings.specs.declared.ledger.Side.TheVariants as paid
+use Rattle.st_ledger.specs.Names.{amounts_of}
+use Rattle.st_ledger.specs.Placing.{IsLate}
+use Rattle.st_ledger.specs.Settling.{IsSettled}
+use Rattle.st_ledger.specs.Texts.{account_text, ledger_text}
+use Rattle.st_program.specs.declared.error.RunError.{RunError}
+use Rattle.st_program.specs.declared.error.RunError.TheVariants as run
+
+-- the side of the books that a payment is taken off
+abbrev pub side_of : Paid → Side
+side_of paid.Claims = books.Claims
+side_of paid.Dues = books.Dues
+
+-- the text of books, old and new: all accounts and the starts of books that stay; or the payment was booked, and the text is its
+-- account's line as it stands then
+abbrev pub IsPrinted : {S : Type 0} → Ghosts S → Option Payment → (old new : Kept S) → List ℕ → Type 0
+IsPrinted g None old new text = (new ≡ old) × (text ≡ ledger_text old.starts old.names old.amounts)
+IsPrinted g (Some p) old new text =
+    ((moment : ℕ) × IsSettled g old p.name.now (side_of p.side) p.amount moment new) × (text ≡ account_text p.name.now (amounts_of new.names new.amounts p.name.now))
+
+-- the text of books that were found was written
+abbrev pub PrintsFound : {S : Type 0} → Ghosts S → (finds : Kept S → Type 0) → Option Payment → (before now : Option (List ℕ)) → Type 0
+PrintsFound {S} g finds payment before now = (old : Kept S) × (new : Kept S) × (text : List ℕ) × finds old × IsPrinted g payment old new text × Appends before now text
+
+-- why a text was not written, w the writer's tally before and v now
+abbrev pub FailsToWrite : Fault → (w v : Tally) → Type 0
+FailsToWrite fault.Input w v = ⊥
+FailsToWrite fault.Output w v = v.faults ≡ count_after 1 w.faults
+FailsToWrite fault.Turns w v = v.calls ≡ count_after most_turns w.calls
+FailsToWrite fault.NoMemory w v = ⊥
+
+-- what `ledger` wrote: some books' lines and starts, or the line of the account of which it booked a payment
+abbrev pub PrintsLedger : Option Payment → (before now : Option (List ℕ)) → Type 0
+PrintsLedger None before now = (starts : ℕ) × (names : _) × (all : _) × Appends before now (ledger_text starts names all)
+PrintsLedger (Some p) before now = (a : _) × Appends before now (account_text p.name.now a)
+
+-- how `ledger` ends, w the writer before and v now: nothing is written where the books refuse
+abbrev pub EndsLedger : {T W : Type 0} → (W → Option (List ℕ)) → Option Payment → Counting W → Counting W → Result T RunError → Type 0
+EndsLedger contents payment w v (Ok x) = PrintsLedger payment (contents (device_of w)) (contents (device_of v))
+EndsLedger contents payment w v (Err (run.Fault x)) = FailsToWrite x (tally_of w) (tally_of v)
+EndsLedger contents payment w v (Err (run.Ledger e)) = (v ≡ w) × IsLate e
+EndsLedger contents payment w v (Err run.NoRandom) = ⊥
+EndsLedger contents payment w v (Err run.NoListener) = ⊥
+EndsLedger contents payment w v (Err run.NoHop) = ⊥
+EndsLedger contents payment w v (Err run.BadTable) = ⊥
+EndsLedger contents payment w v (Err run.BadOption) = ⊥
+EndsLedger contents payment w v (Err (run.Transfer e)) = ⊥

@@ -1,0 +1,99 @@
+//! The command `ledger`.
+
+ghost use Rattle.std.specs.Prelude.{◌≡◌, Some, IfErr, IfOk, OnOk};
+ghost use Rattle.std.specs.Io.KnownBytes.{Appends};
+ghost use Rattle.st_oer.specs.Tallies.{device_of, tally_of};
+ghost use Rattle.st_commands.specs.declared.error.Fault.{Fault};
+ghost use Rattle.st_ledger.specs.Placing.{IsLate};
+ghost use Rattle.st_program.specs.Ledger.{EndsLedger, FailsToWrite, IsPrinted, PrintsFound};
+ghost use Rattle.st_program.specs.Ledger as specs;
+ghost use Rattle.st_program.specs.declared.error.RunError.TheVariants as run;
+
+use crate::error::RunError;
+use sqlite_trees::store::Alter;
+use st_books::{Books, Side};
+use st_commands::{TURNS, put};
+use st_desk::Clock;
+use st_ledger::{LedgerError, OpensBooks, account_text, ledger_text, settle};
+use st_oer::CountWrite;
+use st_settings::{LedgerSettings, Payment};
+use st_transfer::RuntimeClock;
+use std::alloc::Global;
+use std::io::Write;
+
+/// The side of the books that a payment is taken off.
+fn side_of(side: st_settings::Side) -> Side
+    ensures { result ≡ specs.side_of side }
+{
+    match side {
+        st_settings::Side::Claims => Side::Claims,
+        st_settings::Side::Dues => Side::Dues,
+    }
+}
+
+/// The present moment, in milliseconds since the start of 1970; 0 where the clock cannot be read.
+fn moment<C: std::time::Clock>(rt: &C) -> u64 {
+    u64::try_from(RuntimeClock::new(rt).now().ms()).unwrap_or(0)
+}
+
+/// Books a payment, and gives the line of its account.
+fn settled<S: Alter, C: std::time::Clock>(
+    rt: &C,
+    alloc: Global,
+    books: &mut Books<S>,
+    payment: Payment<'_>,
+) -> Result<Vec<u8>, LedgerError>
+    ensures printed { IfOk result (λ text. IsPrinted S.Store (Some payment.entry) books.old books.new text.items) }
+    ensures late { IfErr result IsLate }
+{
+    let Payment { name, amount, side } = payment;
+    let left = settle(books, name, side_of(side), amount, moment(rt))?;
+    Ok(account_text(alloc, name.as_bytes(), left)?)
+}
+
+/// What is printed of books: the line of the account of which a payment was booked, or all of them.
+fn text_of<S: Alter, C: std::time::Clock>(
+    rt: &C,
+    alloc: Global,
+    books: &mut Books<S>,
+    payment: Option<Payment<'_>>,
+) -> Result<Vec<u8>, LedgerError>
+    ensures printed { IfOk result (λ text. IsPrinted S.Store payment.entry books.old books.new text.items) }
+    ensures late { IfErr result IsLate }
+{
+    match payment {
+        Some(payment) => settled(rt, alloc, books, payment),
+        None => Ok(ledger_text(alloc, books)?),
+    }
+}
+
+/// Writes the text of books that were opened.
+fn print<W: Write>(writer: &mut CountWrite<W>, text: &[u8]) -> Result<(), RunError>
+    ensures whole { OnOk result (Appends (W.contents (device_of writer.old)) (W.contents (device_of writer.new)) text.now) }
+    ensures refused { IfErr result (λ e. (x : Fault) × (e ≡ run.Fault x) × FailsToWrite x (tally_of writer.old) (tally_of writer.new)) }
+{
+    let mut turns = TURNS;
+    put(writer, text, &mut turns)?;
+    Ok(())
+}
+
+/// Prints the books of a file: a line for each account, and one for the starts. With a payment it books that, with the
+/// present moment, and prints the line of its account as it stands then. The file has to hold books: none are made.
+///
+/// Nothing is printed where the books refuse.
+pub(crate) fn ledger<W: Write, C: std::time::Clock, O: OpensBooks>(
+    rt: &C,
+    opener: &O,
+    alloc: Global,
+    settings: &LedgerSettings<'_>,
+    writer: &mut CountWrite<W>,
+) -> Result<(), RunError>
+    ensures found { OnOk result (PrintsFound O.Store.Store (O.finds_existing opener.now settings.now.file.now) settings.now.payment (W.contents (device_of writer.old)) (W.contents (device_of writer.new))) }
+    ensures ends { EndsLedger W.contents settings.now.payment writer.old writer.new result }
+{
+    let text = match opener.open_existing(settings.file) {
+        Ok(mut books) => text_of(rt, alloc, &mut books, settings.payment)?,
+        Err(error) => return Err(RunError::Ledger(LedgerError::Books(error))),
+    };
+    print(writer, &text)
+}
