@@ -204,6 +204,32 @@ ilp_code ilp_hop_new(ilp_hop *hop, const uint8_t *own, size_t own_len, const ilp
     return end_making(call, hop, result);
 }
 
+ilp_code proved_ilp_hop_restored(void **handle, const uint8_t *own, size_t own_len, const ilp_account *accounts,
+        size_t accounts_len, const uint8_t *prefixes, size_t prefixes_len, const ilp_route *routes, size_t routes_len,
+        const uint64_t *claims, size_t claims_len, const uint64_t *dues, size_t dues_len, uint64_t next);
+
+ilp_code ilp_hop_restored(ilp_hop *hop, const uint8_t *own, size_t own_len, const ilp_account *accounts,
+        size_t accounts_len, const uint8_t *prefixes, size_t prefixes_len, const ilp_route *routes, size_t routes_len,
+        const uint64_t *claims, size_t claims_len, const uint64_t *dues, size_t dues_len, uint64_t next) {
+    if (is_missing(own, own_len) || is_missing(accounts, accounts_len) || is_missing(prefixes, prefixes_len) ||
+        is_missing(routes, routes_len) || is_missing(claims, claims_len) || is_missing(dues, dues_len)) return ILP_NULL;
+    struct call call = begin_making(hop, ILP_HOP_NO_MEMORY);
+    if (!call.slot) return call.code;
+    ilp_code result = proved_ilp_hop_restored(&call.slot->object, somewhere(own), own_len, somewhere(accounts),
+        accounts_len, somewhere(prefixes), prefixes_len, somewhere(routes), routes_len, somewhere(claims), claims_len,
+        somewhere(dues), dues_len, next);
+    return end_making(call, hop, result);
+}
+
+ilp_code proved_ilp_hop_restart(void **handle);
+
+ilp_code ilp_hop_restart(ilp_hop *hop) {
+    struct call call = begin_call(hop);
+    if (!call.slot) return call.code;
+    ilp_code result = proved_ilp_hop_restart(&call.slot->object);
+    return end_call(call, result);
+}
+
 ilp_code proved_ilp_hop_arrive(void **handle, size_t account, const uint8_t *bytes, size_t len, int64_t now,
         ilp_arrived *arrived);
 
@@ -213,6 +239,18 @@ ilp_code ilp_hop_arrive(ilp_hop *hop, size_t account, const uint8_t *bytes, size
     struct call call = begin_call(hop);
     if (!call.slot) return call.code;
     ilp_code result = proved_ilp_hop_arrive(&call.slot->object, account, somewhere(bytes), len, now, arrived);
+    return end_call(call, result);
+}
+
+ilp_code proved_ilp_hop_books(void **handle, uint64_t ticket, const uint8_t *bytes, size_t len, int64_t now,
+        ilp_booking *booking);
+
+ilp_code ilp_hop_books(ilp_hop *hop, uint64_t ticket, const uint8_t *bytes, size_t len, int64_t now,
+        ilp_booking *booking) {
+    if (is_missing(bytes, len) || !booking) return ILP_NULL;
+    struct call call = begin_call(hop);
+    if (!call.slot) return call.code;
+    ilp_code result = proved_ilp_hop_books(&call.slot->object, ticket, somewhere(bytes), len, now, booking);
     return end_call(call, result);
 }
 

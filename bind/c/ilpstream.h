@@ -64,6 +64,7 @@ enum {
     ILP_BAD_TABLE = 34,      /* a prefix stands twice, a route names no account, or a limit is above 2^63 - 1 */
     ILP_HOP_NO_MEMORY = 35,  /* out of memory */
     ILP_NO_ACCOUNT = 36,     /* there is no account of this number */
+    ILP_BAD_BOOKS = 37,      /* an account lacks its claim or due or is past its limit, or a sum is above 2^63 - 1 */
     /* refusals of an end */
     ILP_NO_STREAM = 50,      /* the stream is not open, or all stream numbers of this end are used: 32 */
     ILP_CLOSED = 51,         /* the stream was closed or aborted at this end, or the peer closed the connection */
@@ -231,6 +232,18 @@ typedef struct ilp_route {
 ilp_code ilp_hop_new(ilp_hop *hop, const uint8_t *own, size_t own_len, const ilp_account *accounts, size_t accounts_len,
                      const uint8_t *prefixes, size_t prefixes_len, const ilp_route *routes, size_t routes_len);
 
+/* The same with the books of an earlier hop: `claims` is what each account owes the hop, by its number, and `dues` what the hop
+ * owes it. No ticket is open. Tickets are numbered from `next` on, which has to be above each number that an earlier hop with
+ * these books gave out, so that no late answer settles another ticket. Refused as ilp_hop_new is, and ILP_BAD_BOOKS where not
+ * each account has a claim and a due, one owes more than its limit beyond its due, or a sum is above 2^63 - 1. */
+ilp_code ilp_hop_restored(ilp_hop *hop, const uint8_t *own, size_t own_len, const ilp_account *accounts, size_t accounts_len,
+                          const uint8_t *prefixes, size_t prefixes_len, const ilp_route *routes, size_t routes_len,
+                          const uint64_t *claims, size_t claims_len, const uint64_t *dues, size_t dues_len, uint64_t next);
+
+/* Forgets every open ticket, as a crash and a start with the same books do. Claims and dues stay, nothing is held any more, and
+ * the numbers of tickets go on: the answer to an earlier Prepare is ILP_UNKNOWN. */
+ilp_code ilp_hop_restart(ilp_hop *hop);
+
 /* What a hop did with a Prepare. `len` is how many bytes were put out. Where they go on, `ticket` is the number by which the
  * answer is reported, and `account` the one that they go on to. */
 typedef struct ilp_arrived {
@@ -244,6 +257,21 @@ typedef struct ilp_arrived {
  * against the first one until the ticket is settled. ILP_NO_ACCOUNT. ILP_HOP_NO_MEMORY: answer it with the bytes of
  * ilp_hop_t00, and the sender sends again. */
 ilp_code ilp_hop_arrive(ilp_hop *hop, size_t account, const uint8_t *bytes, size_t len, int64_t now, ilp_arrived *arrived);
+
+/* What a ticket books: the account `payer`, from which the Prepare came, owes `claim` more, and `payee`, to which it went on, is
+ * owed `due` more, each in units of its link. `books` is 1; where nothing is booked, all are 0. */
+typedef struct ilp_booking {
+    size_t payer;
+    uint64_t claim;
+    size_t payee;
+    uint64_t due;
+    uint32_t books;
+} ilp_booking;
+
+/* What ilp_hop_settle would book with the same arguments. It changes nothing. A host that keeps books of its own asks this,
+ * stores the booking, settles the ticket with the same bytes and the same `now`, and then sends the answer back. ILP_UNKNOWN,
+ * ILP_HOP_NO_MEMORY. */
+ilp_code ilp_hop_books(ilp_hop *hop, uint64_t ticket, const uint8_t *bytes, size_t len, int64_t now, ilp_booking *booking);
 
 /* Takes the `len` bytes of the answer to a Prepare that went on under a ticket, and puts out the answer to the Prepare that had
  * come: `answer_len` is how many bytes it has. A Fulfill that fits and came in time is booked; all else is a Reject. What was

@@ -96,12 +96,43 @@ static void of_another_kind(void) {
     ilp_reading reading;
     IS(ilp_end_close((ilp_end *)&keys, 1), ILP_MISUSE);
     IS(ilp_hop_balances((ilp_hop *)&keys, 0, &balances), ILP_MISUSE);
+    IS(ilp_hop_restart((ilp_hop *)&keys), ILP_MISUSE);
     IS(ilp_packet_header((ilp_packet *)&keys, &header), ILP_MISUSE);
     IS(ilp_message_feed((ilp_message *)&keys, NULL, 0, &reading), ILP_MISUSE);
     IS(sealed((ilp_keys *)&end), ILP_MISUSE);
     IS(sealed(&keys), ILP_DONE);
     IS(ilp_free(&keys), ILP_DONE);
     IS(ilp_free(&end), ILP_DONE);
+}
+
+static ilp_code restored(ilp_hop *hop, const uint64_t *claims, size_t claims_len, const uint64_t *dues, size_t dues_len) {
+    const ilp_account account = {.limit = 100, .max_packet = 100};
+    const uint8_t *own = (const uint8_t *)"test.hub";
+    return ilp_hop_restored(hop, own, 8, &account, 1, NULL, 0, NULL, 0, claims, claims_len, dues, dues_len, 5);
+}
+
+static void hops_with_books(void) {
+    const uint64_t claims[] = {40}, too_many[] = {104}, dues[] = {3};
+    ilp_hop hop = {0};
+    ilp_balances balances;
+    ilp_booking booking;
+    IS(restored(&hop, too_many, 1, dues, 1), ILP_BAD_BOOKS);
+    IS(restored(&hop, claims, 0, dues, 1), ILP_BAD_BOOKS);
+    IS(restored(&hop, claims, 1, dues, 0), ILP_BAD_BOOKS);
+    IS(restored(&hop, NULL, 1, dues, 1), ILP_NULL);
+    IS(restored(&hop, claims, 1, NULL, 1), ILP_NULL);
+    IS(hop.inner != 0, 0);
+    IS(restored(&hop, claims, 1, dues, 1), ILP_DONE);
+    IS(restored(&hop, claims, 1, dues, 1), ILP_MISUSE);
+    IS(ilp_hop_restart(&hop), ILP_DONE);
+    IS(ilp_hop_balances(&hop, 0, &balances), ILP_DONE);
+    IS(balances.claims != 40 || balances.dues != 3 || balances.held != 0, 0);
+    IS(ilp_hop_books(&hop, 5, NULL, 0, 0, &booking), ILP_UNKNOWN);
+    IS(ilp_hop_books(&hop, 5, NULL, 0, INT64_MIN, &booking), ILP_ARGUMENT);
+    IS(ilp_hop_books(&hop, 5, NULL, 1, 0, &booking), ILP_NULL);
+    IS(ilp_hop_books(&hop, 5, NULL, 0, 0, NULL), ILP_NULL);
+    IS(ilp_free(&hop), ILP_DONE);
+    IS(ilp_hop_restart(&hop), ILP_MISUSE);
 }
 
 static void never_made(void) {
@@ -270,6 +301,7 @@ int main(int argc, char **argv) {
     used_after_a_free();
     made_over_another();
     of_another_kind();
+    hops_with_books();
     never_made();
     null_pointers();
     bad_frames();

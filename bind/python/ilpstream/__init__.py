@@ -6,7 +6,7 @@ raises `IlpError`, whose `number` is that of docs/ERRORS.md, and changes nothing
 secret of 31 bytes, raises `ValueError`."""
 
 from ._end import Aborted, End, Outgoing, Received, Role, Totals
-from ._hop import Account, Answer, Balances, Forward, Hop, Route
+from ._hop import Account, Answer, Balances, Booking, Forward, Hop, Route
 from ._http import Request, Response, Status, Wants, Whole, answer_text, refusal_text, request_text
 from ._ilp import Fulfill, Prepare, Reject, read_answer
 from ._keys import Keys, condition
@@ -34,6 +34,7 @@ __all__ = [
     "Account",
     "Answer",
     "Balances",
+    "Booking",
     "Code",
     "ConnectionClose",
     "ConnectionDataBlocked",

@@ -49,6 +49,16 @@ class Balances(Structure):
     _fields_ = [("claims", c_uint64), ("dues", c_uint64), ("held", c_uint64)]
 
 
+class Booking(Structure):
+    _fields_ = [
+        ("payer", c_size_t),
+        ("claim", c_uint64),
+        ("payee", c_size_t),
+        ("due", c_uint64),
+        ("books", c_uint32),
+    ]
+
+
 class Prepare(Structure):
     _fields_ = [
         ("amount", c_uint64),
@@ -131,7 +141,26 @@ CALLS = {
         c_uint32,
         (_handle, *_bytes, POINTER(Account), c_size_t, *_bytes, POINTER(Route), c_size_t),
     ),
+    "ilp_hop_restored": (
+        c_uint32,
+        (
+            _handle,
+            *_bytes,
+            POINTER(Account),
+            c_size_t,
+            *_bytes,
+            POINTER(Route),
+            c_size_t,
+            _u64,
+            c_size_t,
+            _u64,
+            c_size_t,
+            c_uint64,
+        ),
+    ),
+    "ilp_hop_restart": (c_uint32, (_handle,)),
     "ilp_hop_arrive": (c_uint32, (_handle, c_size_t, *_bytes, c_int64, POINTER(Arrived))),
+    "ilp_hop_books": (c_uint32, (_handle, c_uint64, *_bytes, c_int64, POINTER(Booking))),
     "ilp_hop_settle": (c_uint32, (_handle, c_uint64, *_bytes, c_int64, _size)),
     "ilp_hop_fault": (c_uint32, (_handle, c_uint64, _size)),
     "ilp_hop_abandon": (c_uint32, (_handle, c_uint64)),

@@ -3,7 +3,7 @@
 from __future__ import annotations
 
 from collections.abc import Sequence
-from ctypes import byref, c_size_t
+from ctypes import byref, c_size_t, c_uint64
 from dataclasses import dataclass
 
 from . import _declared
@@ -55,6 +55,44 @@ class Balances:
     held: int
 
 
+@dataclass(frozen=True)
+class Booking:
+    """What a ticket books: the account `payer`, from which the Prepare came, owes `claim` more, and `payee`, to which it was sent
+    on, is owed `due` more, each in units of its link."""
+
+    payer: int
+    claim: int
+    payee: int
+    due: int
+
+
+def _table(own: str, accounts: Sequence[Account], routes: Sequence[Route]) -> tuple[object, ...]:
+    """A table as arguments of a call."""
+    prefixes = [route.prefix.encode() for route in routes]
+    text = b"".join(prefixes)
+    terms = (_declared.Account * len(accounts))(
+        *((number(it.limit, 64, "a limit"), number(it.max_packet, 64, "a greatest amount")) for it in accounts)
+    )
+    table = (_declared.Route * len(routes))(
+        *(
+            (
+                len(prefix),
+                number(route.account, 64, "an account"),
+                number(route.num, 32, "a rate"),
+                number(route.den, 32, "a rate"),
+            )
+            for prefix, route in zip(prefixes, routes)
+        )
+    )
+    name = own.encode()
+    return name, len(name), terms, len(terms), text, len(text), table, len(table)
+
+
+def _sums(sums: Sequence[int], name: str) -> tuple[object, int]:
+    """A sum for each account, as arguments of a call."""
+    return (c_uint64 * len(sums))(*(number(it, 64, name) for it in sums)), len(sums)
+
+
 class Hop(Object):
     """A hop (RFC 0027): it sends Prepares on by its routes, holds their amounts against the accounts that they came from, and
     books those that are fulfilled in time. It does no I/O and knows no clock.
@@ -71,26 +109,41 @@ class Hop(Object):
     def __init__(self, own: str, accounts: Sequence[Account], routes: Sequence[Route]) -> None:
         """A hop with its own ILP address, its accounts, numbered from 0, and its routes. Nothing is owed yet."""
         super().__init__()
-        prefixes = [route.prefix.encode() for route in routes]
-        text = b"".join(prefixes)
-        terms = (_declared.Account * len(accounts))(
-            *((number(it.limit, 64, "a limit"), number(it.max_packet, 64, "a greatest amount")) for it in accounts)
-        )
-        table = (_declared.Route * len(routes))(
-            *(
-                (
-                    len(prefix),
-                    number(route.account, 64, "an account"),
-                    number(route.num, 32, "a rate"),
-                    number(route.den, 32, "a rate"),
-                )
-                for prefix, route in zip(prefixes, routes)
-            )
-        )
-        name = own.encode()
-        done(
-            lib.ilp_hop_new(self._at(), name, len(name), terms, len(terms), text, len(text), table, len(table))
-        )
+        done(lib.ilp_hop_new(self._at(), *_table(own, accounts, routes)))
+
+    @classmethod
+    def restored(
+        cls,
+        own: str,
+        accounts: Sequence[Account],
+        routes: Sequence[Route],
+        claims: Sequence[int],
+        dues: Sequence[int],
+        next: int,
+    ) -> Hop:
+        """A hop with the books of an earlier one: what each account owes it, and what it owes each. No ticket is open. Tickets are
+        numbered from `next` on, which has to be above each number that an earlier hop with these books gave out. Raises
+        `Code.BAD_BOOKS` where not each account has a claim and a due, one owes more than its limit beyond its due, or a sum is
+        above 2^63 - 1.
+
+        >>> terms = Account(limit=1000, max_packet=500)
+        >>> routes = [Route("example.bob", 1)]
+        >>> with Hop.restored("example.hub", [terms, terms], routes, [40, 0], [0, 40], next=1 << 44) as hop:
+        ...     hop.balances(1)
+        Balances(claims=0, dues=40, held=0)
+        """
+        hop = cls.__new__(cls)
+        Object.__init__(hop)
+        books = (*_sums(claims, "a claim"), *_sums(dues, "a due"))
+        table = _table(own, accounts, routes)
+        done(lib.ilp_hop_restored(hop._at(), *table, *books, number(next, 64, "the first number")))
+        return hop
+
+    @alone
+    def restart(self) -> None:
+        """Forgets every open ticket, as a crash and a start with the same books do. Claims and dues stay, nothing is held any more,
+        and the numbers of tickets go on."""
+        done(lib.ilp_hop_restart(self._at()))
 
     @alone
     def arrive(self, account: int, data: Buffer, now: int) -> Answer | Forward:
@@ -104,6 +157,28 @@ class Hop(Object):
         if answer == Code.ONWARD:
             return Forward(arrived.ticket, arrived.account, self._output(arrived.len))
         raise IlpError(answer)
+
+    @alone
+    def books(self, ticket: int, data: Buffer, now: int) -> Booking | None:
+        """What `settle` with the same arguments would book, or None. It changes nothing. A host that keeps books of its own asks
+        this, stores the booking, settles the ticket with the same bytes and the same `now`, and then sends the answer back.
+        Raises `Code.UNKNOWN` where the ticket is not open.
+
+        >>> from ilpstream import Fulfill, Prepare, condition
+        >>> terms = Account(limit=1000, max_packet=500)
+        >>> prepare = Prepare(5, 60_000, condition(bytes(32)), "example.bob")
+        >>> answer = Fulfill(bytes(32)).write()
+        >>> with Hop("example.hub", [terms, terms], [Route("example.bob", 1, num=3, den=2)]) as hop:
+        ...     ticket = hop.arrive(0, prepare.write(), 0).ticket
+        ...     hop.books(ticket, answer, 0)
+        ...     hop.settle(ticket, answer, 0) == answer, hop.balances(1).dues
+        Booking(payer=0, claim=5, payee=1, due=7)
+        (True, 7)
+        """
+        it = _declared.Booking()
+        data, ticket = bytes(data), number(ticket, 64, "the ticket")
+        done(lib.ilp_hop_books(self._at(), ticket, data, len(data), moment(now), byref(it)))
+        return Booking(it.payer, it.claim, it.payee, it.due) if it.books else None
 
     @alone
     def settle(self, ticket: int, data: Buffer, now: int) -> bytes:

@@ -55,6 +55,7 @@ class Code(enum.IntEnum):
     BAD_TABLE = 34
     HOP_NO_MEMORY = 35
     NO_ACCOUNT = 36
+    BAD_BOOKS = 37
     NO_STREAM = 50
     CLOSED = 51
     FULL = 52
@@ -103,6 +104,7 @@ _TEXTS = {
     Code.BAD_TABLE: "the table of the hop is bad",
     Code.HOP_NO_MEMORY: "the hop is out of memory",
     Code.NO_ACCOUNT: "there is no such account",
+    Code.BAD_BOOKS: "the books of the hop are bad",
     Code.NO_STREAM: "the stream is not open",
     Code.CLOSED: "the stream was closed",
     Code.FULL: "too many bytes are not acknowledged",

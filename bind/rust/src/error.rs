@@ -88,6 +88,9 @@ refusals! {
     HopOutOfMemory = 35, "the hop is out of memory";
     /// There is no account of this number.
     NoAccount = 36, "there is no such account";
+    /// The books of a hop: an account has no claim or no due, one owes more than its limit beyond its due, or a sum is above
+    /// 2^63 - 1.
+    BadBooks = 37, "the books of the hop are bad";
     /// The stream is not open, or all 32 streams of this end are used.
     NoStream = 50, "the stream is not open";
     /// The stream was closed or aborted at this end, or the peer closed the connection.

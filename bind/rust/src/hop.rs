@@ -66,6 +66,31 @@ pub struct Balances {
     pub held: u64,
 }
 
+/// What a ticket books, in units of the accounts' links.
+#[derive(Clone, Copy, Debug, PartialEq, Eq)]
+pub struct Booking {
+    /// The account that the Prepare came from.
+    pub payer: usize,
+    /// What it owes more.
+    pub claim: u64,
+    /// The account that the Prepare was sent on to.
+    pub payee: usize,
+    /// What it is owed more.
+    pub due: u64,
+}
+
+/// Routes, with their prefixes one after another.
+fn table(routes: &[Route<'_>]) -> (String, Vec<raw::Route>) {
+    let prefixes = routes.iter().map(|route| route.prefix).collect();
+    let routes = routes.iter().map(|route| raw::Route {
+        prefix_len: route.prefix.len(),
+        account: route.account,
+        num: route.num,
+        den: route.den,
+    });
+    (prefixes, routes.collect())
+}
+
 /// A hop (RFC 0027): it sends Prepares on by its routes, holds their amounts against the accounts that they came from, and
 /// books those that are fulfilled in time. It does no I/O and knows no clock.
 ///
@@ -93,18 +118,55 @@ impl Hop {
     /// where one is no ILP address (RFC 0015), or a rate has 0 below; [`Error::BadTable`], [`Error::HopOutOfMemory`].
     pub fn new(own: &str, accounts: &[Account], routes: &[Route<'_>]) -> Result<Hop, Error> {
         let mut handle = Handle::empty();
-        let prefixes: String = routes.iter().map(|route| route.prefix).collect();
-        let routes: Vec<raw::Route> = routes
-            .iter()
-            .map(|route| raw::Route {
-                prefix_len: route.prefix.len(),
-                account: route.account,
-                num: route.num,
-                den: route.den,
-            })
-            .collect();
+        let (prefixes, routes) = table(routes);
         done(raw::hop_new(&mut handle, own, accounts, &prefixes, &routes))?;
         Ok(Hop { handle })
+    }
+
+    /// A hop with the books of an earlier one: by account, what it owes the hop, and what the hop owes it. No ticket is open.
+    /// Tickets are numbered from `next` on, which has to be above each number that an earlier hop with these books gave out.
+    /// Refused as [`Hop::new`] is, and as [`Error::BadBooks`] where not each account has a claim and a due, one owes more than
+    /// its limit beyond its due, or a sum is above 2^63 - 1.
+    ///
+    /// ```
+    /// use ilpstream::{Account, Balances, Error, Hop};
+    ///
+    /// # fn main() -> Result<(), Error> {
+    /// let terms = Account { limit: 1_000, max_packet: 500 };
+    /// let mut hop = Hop::restored("example.hub", &[terms], &[], &[40], &[7], 1 << 44)?;
+    /// assert_eq!(hop.balances(0)?, Balances { claims: 40, dues: 7, held: 0 });
+    /// let refused = Hop::restored("example.hub", &[terms], &[], &[1_008], &[7], 1 << 44);
+    /// assert_eq!(refused.err(), Some(Error::BadBooks));
+    /// # Ok(())
+    /// # }
+    /// ```
+    pub fn restored(
+        own: &str,
+        accounts: &[Account],
+        routes: &[Route<'_>],
+        claims: &[u64],
+        dues: &[u64],
+        next: u64,
+    ) -> Result<Hop, Error> {
+        let mut handle = Handle::empty();
+        let (prefixes, routes) = table(routes);
+        let restored = raw::Restored {
+            own,
+            accounts,
+            prefixes: &prefixes,
+            routes: &routes,
+            claims,
+            dues,
+            next,
+        };
+        done(raw::hop_restored(&mut handle, &restored))?;
+        Ok(Hop { handle })
+    }
+
+    /// Forgets every open ticket, as a crash and a start with the same books do. Claims and dues stay, nothing is held any more,
+    /// and the numbers of tickets go on: for a ticket of before, each call is [`Error::Unknown`].
+    pub fn restart(&mut self) -> Result<(), Error> {
+        done(raw::ilp_hop_restart(&mut self.handle))
     }
 
     /// What becomes of a Prepare that came from an account at the time `now`, in milliseconds after 1970-01-01 00:00 UTC. Where
@@ -121,6 +183,50 @@ impl Hop {
             }),
             number => Err(Error::of(number)),
         }
+    }
+
+    /// What [`Hop::settle`] with the same arguments would book, if it would. It changes nothing. [`Error::Unknown`],
+    /// [`Error::HopOutOfMemory`].
+    ///
+    /// A host that keeps books of its own stores the booking before it settles the ticket, with the same bytes and the same
+    /// time, and sends the answer back after that:
+    ///
+    /// ```
+    /// use ilpstream::{Booking, Error, Hop, Ticket};
+    ///
+    /// fn end(
+    ///     hop: &mut Hop,
+    ///     ticket: Ticket,
+    ///     answer: &[u8],
+    ///     now: i64,
+    ///     store: impl FnOnce(Booking) -> bool,
+    /// ) -> Result<Vec<u8>, Error> {
+    ///     match hop.books(ticket, answer, now)? {
+    ///         Some(booking) if !store(booking) => hop.fault(ticket),
+    ///         _ => hop.settle(ticket, answer, now),
+    ///     }
+    /// }
+    /// ```
+    pub fn books(
+        &mut self,
+        ticket: Ticket,
+        bytes: &[u8],
+        now: i64,
+    ) -> Result<Option<Booking>, Error> {
+        let mut it = raw::Booking::default();
+        done(raw::hop_books(
+            &mut self.handle,
+            ticket.0,
+            bytes,
+            now,
+            &mut it,
+        ))?;
+        Ok((it.books == 1).then_some(Booking {
+            payer: it.payer,
+            claim: it.claim,
+            payee: it.payee,
+            due: it.due,
+        }))
     }
 
     /// Settles a ticket by the bytes that came back, and gives those that are to be sent back. A Fulfill that fits and came in

@@ -36,7 +36,7 @@ pub mod refusing;
 
 pub use end::{End, EndConfig, Flight, Outgoing, Read, Received, Role, Totals};
 pub use error::Error;
-pub use hop::{Account, Balances, Hop, Route, Ticket, Verdict};
+pub use hop::{Account, Balances, Booking, Hop, Route, Ticket, Verdict};
 pub use http::{Progress, Request, Response, answer_text, refusal_text, request_text};
 pub use ilp::{Answer, Prepare};
 pub use ivs::{Ivs, now};

@@ -3,6 +3,7 @@ use Rattle.std.proofs.Common.{◌≡◌, ◌⊎◌, inl, inr, ℕ, true, List, m
 use Rattle.std.specs.Prelude.{Option, Some, None}
 use Rattle.st_keys.specs.Keys.{keys_of}
 use Rattle.st_end.specs.State.{new_end}
+use Rattle.st_hop.specs.Books.{AreBooks, restored}
 use Rattle.st_hop.specs.Table.{is_table, new_hop}
 use Rattle.st_embed.specs.Codes.{done}
 use Rattle.st_embed.specs.Ends.{IsNewEnd}
@@ -15,7 +16,7 @@ use Rattle.st_c.specs.declared.end.HostConfig.{HostConfig}
 use Rattle.st_c.specs.declared.table.HostAccount.{HostAccount}
 use Rattle.st_c.specs.declared.table.HostRoute.{HostRoute}
 use Rattle.st_c.specs.Ends.{AreTerms, IsEndMade, config_of, no_memory, role_of}
-use Rattle.st_c.specs.Hops.{IsHopMade, account_of, are_routes, hop_no_memory, ways_of}
+use Rattle.st_c.specs.Hops.{IsHopMade, IsHopRestored, account_of, are_routes, hop_no_memory, ways_of}
 
 -- an object is put into the handle, or memory is refused for it
 abbrev pub Put : Object → (code : ℕ) (new : Option Object) (refused : ℕ) → Type 0
@@ -38,3 +39,12 @@ module _ (own : List ℕ) (accounts : List HostAccount) (text : List ℕ) (route
   pub hop_made : (old : Option Object) → old ≡ None → (refused : ℕ) → refused ≡ hop_no_memory → Put (Hop h) code new refused → IsHopMade own accounts text routes old new code
   hop_made old is refused same put =
       subst (λ (s : Option Object). IsHopMade own accounts text routes s new code) (sym is) (hop_put (subst (Put (Hop h) code new) same put))
+
+module _ (own : List ℕ) (accounts : List HostAccount) (text : List ℕ) (routes : List HostRoute) (claims dues : List ℕ) (next : ℕ) (new : Option Object) (code : ℕ) (h : HostHop) (cut : are_routes text routes ≡ true) (books : AreBooks (map account_of accounts) claims dues) (made : IsNewHop (restored (new_hop own (map account_of accounts) (ways_of text routes)) claims dues next) h) where
+  restored_put : Put (Hop h) code new hop_no_memory → IsHopRestored own accounts text routes claims dues next None new code
+  restored_put (inl p) = inl (p.0, (cut, (books, (h, (p.1, made)))))
+  restored_put (inr q) = inr (inl q.0, q.1)
+
+  pub hop_restored : (old : Option Object) → old ≡ None → (refused : ℕ) → refused ≡ hop_no_memory → Put (Hop h) code new refused → IsHopRestored own accounts text routes claims dues next old new code
+  hop_restored old is refused same put =
+      subst (λ (s : Option Object). IsHopRestored own accounts text routes claims dues next s new code) (sym is) (restored_put (subst (Put (Hop h) code new) same put))

@@ -2,18 +2,18 @@
 
 ghost use Rattle.std.specs.Prelude.{◌≡◌, ◌⊎◌, ◌&&◌, ◌<◌, true, false, length, map, nat_lt, pos, Some, None, Err, IfOk, IsOk, MatchBool, MatchResult};
 ghost use Rattle.st_oer.specs.Address.{is_address};
+ghost use Rattle.st_hop.specs.Books.{AreBooks, restored};
 ghost use Rattle.st_hop.specs.Refusals.{t00_text};
 ghost use Rattle.st_hop.specs.Table.{is_table, new_hop};
-ghost use Rattle.st_embed.specs.Codes.{argument};
-ghost use Rattle.st_embed.specs.Hops.{IsNewHop};
+ghost use Rattle.st_embed.specs.Codes.{done, argument};
+ghost use Rattle.st_embed.specs.Hops.{IsNewHop, IsRestarted};
 ghost use Rattle.st_c.specs.Handles.{OnHop, IfMoment, Copies};
-ghost use Rattle.st_c.specs.Hops.{IsHopMade, HopArrives, Closes, Settles, Abandons, Balances, AreBalances, account_of, ways_of, are_routes, hop_no_memory, bad_table};
+ghost use Rattle.st_c.specs.Hops.{IsHopMade, IsHopRestored, WhyNoHop, HopArrives, Closes, Settles, Abandons, Balances, AreBalances, TellsBooking, IsBooking, IsNoBooking, account_of, ways_of, are_routes, hop_no_memory, bad_table};
 
-use crate::arguments::address;
 use crate::handle::{copy_out, is_empty, put_new};
-use crate::table::{HostAccount, HostRoute, accounts_of, routes_of};
-use st_embed::{ARGUMENT, DONE, Handle, HostHop, MISUSE, ONWARD, Object, UNKNOWN, Way};
-use st_hop::HopError;
+use crate::table::{HostAccount, HostRoute, table_of};
+use st_embed::{ARGUMENT, DONE, Handle, HostHop, MISUSE, ONWARD, Object, Settling, UNKNOWN, Way};
+use st_hop::{HopError, Open};
 use st_ilp::Moment;
 use std::alloc::{AllocError, Global};
 
@@ -42,14 +42,8 @@ fn hop_of(
 ) -> Result<HostHop, u32>
     ensures { MatchResult result (λ h. (is_table own.now (map account_of accounts.now) (ways_of text.now routes.now) ≡ true) × ((are_routes text.now routes.now ≡ true) × IsNewHop (new_hop own.now (map account_of accounts.now) (ways_of text.now routes.now)) h)) (λ code. (code ≡ hop_no_memory) ⊎ (((code ≡ argument) × (is_address own.now && are_routes text.now routes.now ≡ false)) ⊎ ((code ≡ bad_table) × (is_table own.now (map account_of accounts.now) (ways_of text.now routes.now) ≡ false)))) }
 {
-    let Some(own) = address(own) else {
-        return Err(ARGUMENT);
-    };
-    let routes = routes_of(alloc, text, routes)?;
-    let Ok(accounts) = accounts_of(alloc, accounts) else {
-        return Err(u32::from(HopError::NoMemory.number()));
-    };
-    match HostHop::new(alloc, own, &accounts, &routes) {
+    let table = table_of(alloc, own, accounts, text, routes)?;
+    match HostHop::new(alloc, table.own, &table.accounts, &table.routes) {
         Ok(hop) => Ok(hop),
         Err(error) => Err(u32::from(error.number())),
     }
@@ -79,6 +73,76 @@ pub extern "C" fn ilp_hop_new(
         Ok(hop) => put_new(alloc, handle, Object::Hop(hop), no_memory),
         Err(code) => code,
     }
+}
+
+/// The hop of a table that goes on with these books.
+fn restored_of(
+    alloc: Global,
+    own: &[u8],
+    accounts: &[HostAccount],
+    text: &[u8],
+    routes: &[HostRoute],
+    claims: &[u64],
+    dues: &[u64],
+    next: u64,
+) -> Result<HostHop, u32>
+    ensures { MatchResult result (λ h. (are_routes text.now routes.now ≡ true) × (AreBooks (map account_of accounts.now) claims.now dues.now × IsNewHop (restored (new_hop own.now (map account_of accounts.now) (ways_of text.now routes.now)) claims.now dues.now next) h)) (λ code. WhyNoHop own.now accounts.now text.now routes.now claims.now dues.now code) }
+{
+    let table = table_of(alloc, own, accounts, text, routes)?;
+    match HostHop::restored(
+        alloc,
+        table.own,
+        &table.accounts,
+        &table.routes,
+        claims,
+        dues,
+        next,
+    ) {
+        Ok(hop) => Ok(hop),
+        Err(error) => Err(u32::from(error.number())),
+    }
+}
+
+/// Makes a hop in an empty handle that goes on with the books of an earlier one: as `ilp_hop_new`, with the claim and the due
+/// of each account. No ticket is open. Tickets are numbered from `next` on, which has to be above each number that an
+/// earlier hop with these books gave out.
+///
+/// Refused as `ilp_hop_new` is; 37 where not each account has a claim and a due, one owes more than its limit above its due,
+/// or a sum is above 2^63 - 1.
+#[unsafe(no_mangle)]
+pub extern "C" fn ilp_hop_restored(
+    alloc: Global,
+    handle: &mut Handle,
+    own: &[u8],
+    accounts: &[HostAccount],
+    prefixes: &[u8],
+    routes: &[HostRoute],
+    claims: &[u64],
+    dues: &[u64],
+    next: u64,
+) -> u32
+    ensures { IsHopRestored own.now accounts.now prefixes.now routes.now claims.now dues.now next handle.old.state handle.new.state result }
+{
+    if !is_empty(alloc, handle) {
+        return MISUSE;
+    }
+    let no_memory = u32::from(HopError::NoMemory.number());
+    match restored_of(alloc, own, accounts, prefixes, routes, claims, dues, next) {
+        Ok(hop) => put_new(alloc, handle, Object::Hop(hop), no_memory),
+        Err(code) => code,
+    }
+}
+
+/// Forgets every open ticket, as a restart with the same books does. Claims and dues stay, nothing is held any more, and the
+/// numbers of tickets go on.
+#[unsafe(no_mangle)]
+pub extern "C" fn ilp_hop_restart(alloc: Global, handle: &mut Handle) -> u32
+    ensures { OnHop handle.old.state handle.new.state result (λ old new. (result ≡ done) × IsRestarted old new) }
+{
+    on_hop!(alloc, handle, hop => {
+        hop.restart();
+        DONE
+    })
 }
 
 /// What a hop did with a Prepare.
@@ -129,6 +193,79 @@ pub extern "C" fn ilp_hop_arrive(
             ONWARD
         }
         Err(error) => u32::from(error.number()),
+    })
+}
+
+/// What settling a ticket books, in units of the accounts' links. Where it books nothing, all are 0.
+#[repr(C)]
+#[derive(Clone, Copy, Debug, Drop)]
+pub struct HostBooking {
+    /// The index of the account that the Prepare came from.
+    pub payer: usize,
+    /// What it owes more.
+    pub claim: u64,
+    /// The index of the account that the Prepare went to.
+    pub payee: usize,
+    /// What it is owed more.
+    pub due: u64,
+    /// 1 where the ticket books, else 0.
+    pub books: u32,
+}
+
+/// The claim and the due of a ticket.
+fn booking_of(ticket: Open) -> HostBooking
+    ensures { IsBooking ticket result }
+{
+    HostBooking {
+        payer: ticket.incoming,
+        claim: ticket.amount_in,
+        payee: ticket.outgoing,
+        due: ticket.amount_out,
+        books: 1,
+    }
+}
+
+/// No claim and no due.
+fn no_booking() -> HostBooking
+    ensures { IsNoBooking result }
+{
+    HostBooking {
+        payer: 0,
+        claim: 0,
+        payee: 0,
+        due: 0,
+        books: 0,
+    }
+}
+
+/// What `ilp_hop_settle` with the same arguments would book, so that a host can store it before. Changes nothing.
+///
+/// `UNKNOWN` where no open ticket has this number; 35 where memory is refused.
+#[unsafe(no_mangle)]
+pub extern "C" fn ilp_hop_books(
+    alloc: Global,
+    handle: &mut Handle,
+    ticket: u64,
+    bytes: &[u8],
+    now: i64,
+    booking: &mut HostBooking,
+) -> u32
+    ensures { IfMoment now handle.old.state handle.new.state result (OnHop handle.old.state handle.new.state result (λ old new. TellsBooking old new ticket bytes.now now result booking.new)) }
+{
+    let Some(now) = Moment::new(now) else {
+        return ARGUMENT;
+    };
+    on_hop!(alloc, handle, hop => match hop.books(alloc, ticket, bytes, now) {
+        Ok(Settling::Unknown) => UNKNOWN,
+        Ok(Settling::Nothing) => {
+            *booking = no_booking();
+            DONE
+        }
+        Ok(Settling::Books(open)) => {
+            *booking = booking_of(open);
+            DONE
+        }
+        Err(AllocError) => u32::from(HopError::NoMemory.number()),
     })
 }
 

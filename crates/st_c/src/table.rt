@@ -1,6 +1,7 @@
 //! The table of a hop, as a host gives it.
 
-ghost use Rattle.std.specs.Prelude.{◌≡◌, ◌⊎◌, true, false, map, IfOk, MatchOption, MatchResult};
+ghost use Rattle.std.specs.Prelude.{◌≡◌, ◌⊎◌, ◌&&◌, true, false, map, IfOk, MatchOption, MatchResult};
+ghost use Rattle.st_oer.specs.Address.{is_address};
 ghost use Rattle.st_hop.specs.Seen.{way_seen};
 ghost use Rattle.st_embed.specs.Codes.{argument};
 ghost use Rattle.st_c.specs.Hops.{account_of, way_of, ways_of, is_rate, are_routes, hop_no_memory};
@@ -36,10 +37,7 @@ pub struct HostRoute {
 }
 
 /// The accounts, for st_hop.
-pub(crate) fn accounts_of(
-    alloc: Global,
-    accounts: &[HostAccount],
-) -> Result<Vec<Account>, AllocError>
+fn accounts_of(alloc: Global, accounts: &[HostAccount]) -> Result<Vec<Account>, AllocError>
     ensures { IfOk result (λ kept. kept.items ≡ map account_of accounts.now) }
 {
     let mut kept = Vec::new(alloc);
@@ -66,11 +64,7 @@ fn route_of<'t>(prefix: &'t str, route: &HostRoute) -> Option<Route<'t>>
 
 /// The routes, for st_hop, whose prefixes stand one after another in a text. Fails with `ARGUMENT` where the text is not
 /// that of the prefixes, one of them is no ILP address, or a rate has a 0; and with 35 where memory is refused.
-pub(crate) fn routes_of<'t>(
-    alloc: Global,
-    text: &'t [u8],
-    routes: &[HostRoute],
-) -> Result<Vec<Route<'t>>, u32>
+fn routes_of<'t>(alloc: Global, text: &'t [u8], routes: &[HostRoute]) -> Result<Vec<Route<'t>>, u32>
     ensures { MatchResult result (λ kept. (are_routes text.now routes.now ≡ true) × (map way_seen kept.items ≡ ways_of text.now routes.now)) (λ code. (code ≡ hop_no_memory) ⊎ ((code ≡ argument) × (are_routes text.now routes.now ≡ false))) }
 {
     let mut kept = Vec::new(alloc);
@@ -96,4 +90,37 @@ pub(crate) fn routes_of<'t>(
     } else {
         Err(ARGUMENT)
     }
+}
+
+/// A table, for st_hop.
+#[derive(Drop)]
+pub(crate) struct Table<'t> {
+    pub(crate) own: &'t str,
+    pub(crate) accounts: Vec<Account>,
+    pub(crate) routes: Vec<Route<'t>>,
+}
+
+/// The table, for st_hop. Fails with `ARGUMENT` where the address is none, or as `routes_of` does; and with 35 where memory
+/// is refused.
+pub(crate) fn table_of<'t>(
+    alloc: Global,
+    own: &'t [u8],
+    accounts: &[HostAccount],
+    text: &'t [u8],
+    routes: &[HostRoute],
+) -> Result<Table<'t>, u32>
+    ensures { MatchResult result (λ t. (are_routes text.now routes.now ≡ true) × ((t.own.now ≡ own.now) × ((t.accounts.items ≡ map account_of accounts.now) × (map way_seen t.routes.items ≡ ways_of text.now routes.now)))) (λ code. (code ≡ hop_no_memory) ⊎ ((code ≡ argument) × (is_address own.now && are_routes text.now routes.now ≡ false))) }
+{
+    let Some(own) = address(own) else {
+        return Err(ARGUMENT);
+    };
+    let routes = routes_of(alloc, text, routes)?;
+    let Ok(accounts) = accounts_of(alloc, accounts) else {
+        return Err(u32::from(HopError::NoMemory.number()));
+    };
+    Ok(Table {
+        own,
+        accounts,
+        routes,
+    })
 }

@@ -1,14 +1,16 @@
 -- What a call on a hop's tickets and bytes leaves.
-use Rattle.std.specs.Prelude.{◌≡◌, ℕ, ℤ, List, [], ◌∷◌, ◌++◌, Option, Some, slice_get}
+use Rattle.std.specs.Prelude.{◌≡◌, ℕ, ℤ, List, [], ◌∷◌, ◌++◌, true, false, Option, Some, slice_get}
 use Rattle.std.specs.List.{remove}
 use Rattle.st_hop.specs.declared.ticket.Open.{Open}
-use Rattle.st_hop.specs.Hop.{Hop}
+use Rattle.st_hop.specs.Hop.{Hop, restarted}
 use Rattle.st_hop.specs.Arriving.{Answers, Forwards, arrived}
-use Rattle.st_hop.specs.Settling.{settled}
+use Rattle.st_hop.specs.Settling.{settled, is_booked}
 use Rattle.st_hop.specs.Tickets.{IsAmong}
 use Rattle.st_embed.specs.declared.hop.HostHop.{HostHop}
 use Rattle.st_embed.specs.declared.hop.Way.{Way}
 use Rattle.st_embed.specs.declared.hop.Way.TheVariants.{Back, Onward}
+use Rattle.st_embed.specs.declared.hop.Settling.{Settling}
+use Rattle.st_embed.specs.declared.hop.Settling.TheVariants.{Unknown, Nothing, Books}
 
 -- no ticket was given out, and nothing put out
 pub record IsNewHop (h : Hop) (k : HostHop) : Type 0 where
@@ -53,3 +55,15 @@ pub record IsAbandoned (old new : HostHop) (number : ℕ) : Type 0 where
   pub state_is : new.state ≡ old.state
   pub left_is : new.tickets.items ≡ remove old.tickets.items place
   pub output_is : new.output ≡ old.output
+
+-- what was open is gone, numbers go on, and what was put out stays
+pub record IsRestarted (old new : HostHop) : Type 0 where
+  pub state_is : new.state ≡ restarted old.state old.state.next
+  pub tickets_are : new.tickets.items ≡ []
+  pub output_is : new.output ≡ old.output
+
+-- whether the ticket of this number books as it ends by these bytes, and which it is
+abbrev pub IsToldBooking : HostHop → (number : ℕ) (bytes : List ℕ) (now : ℤ) → Settling → Type 0
+IsToldBooking h number bytes now Unknown = HasNoTicket h.state h.tickets.items number
+IsToldBooking h number bytes now Nothing = (t : Open) × ((place : ℕ) × (IsTicket h.state h.tickets.items number place t × (is_booked t (Some bytes) now ≡ false)))
+IsToldBooking h number bytes now (Books t) = (place : ℕ) × (IsTicket h.state h.tickets.items number place t × (is_booked t (Some bytes) now ≡ true))

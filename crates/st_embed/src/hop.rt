@@ -1,13 +1,15 @@
 //! A hop, with the tickets that wait for their answer and the bytes that were put out.
 
-ghost use Rattle.std.specs.Prelude.{◌≡◌, ◌↔◌, ◌<◌, ◌++◌, ◌∷◌, [], ℕ, pos, length, map, nat_lt, Some, None, OnErr, IfOk, IsTrue, IsOk, IsOkUnless, IsErrOf, MatchBool, MatchOption};
+ghost use Rattle.std.specs.Prelude.{◌≡◌, ◌↔◌, ◌<◌, ◌++◌, ◌∷◌, [], ℕ, pos, length, map, nat_lt, Some, None, OnOk, OnErr, IfOk, IfErr, IsTrue, IsOk, IsOkUnless, IsErrOf, MatchBool, MatchOption};
 ghost use Rattle.st_hop.specs.declared.ticket.Open as open_ticket;
+ghost use Rattle.st_hop.specs.Books.{AreBooks, WhyNotRestored, restored};
 ghost use Rattle.st_hop.specs.Seen.{way_seen, outcome_seen};
+ghost use Rattle.st_hop.specs.Settling.{is_booked};
 ghost use Rattle.st_hop.specs.Table.{is_table, new_hop};
 ghost use Rattle.st_hop.specs.Tickets.{IsAmong};
-ghost use Rattle.st_embed.specs.Hops.{IsNewHop, IsSameHop, IsTicket, HasNoTicket, Arrives, IsSettled, IsAbandoned};
+ghost use Rattle.st_embed.specs.Hops.{IsNewHop, IsSameHop, IsTicket, HasNoTicket, Arrives, IsSettled, IsAbandoned, IsRestarted, IsToldBooking};
 
-use st_hop::{Account, HopError, HopState, Outcome, Route, Ticket, Verdict};
+use st_hop::{Account, HopError, HopState, Open, Outcome, Route, Ticket, Verdict, books_go_on};
 use st_ilp::Moment;
 use std::alloc::{AllocError, Global};
 use std::marker::Model;
@@ -51,6 +53,18 @@ impl KeptTicket {
         state.is_open(&self.ticket)
     }
 
+    fn books(&self, outcome: &Outcome<Global>, now: Moment) -> bool
+        ensures { result ≡ is_booked self.now (outcome_seen outcome.now) now }
+    {
+        outcome.books(&self.ticket, now)
+    }
+
+    fn read(&self) -> Open
+        ensures { result ≡ self.now }
+    {
+        self.ticket.read()
+    }
+
     fn spend(self) -> Ticket
         ensures { result ≡ self }
     {
@@ -85,6 +99,17 @@ pub enum Way {
     },
 }
 
+/// What settling a ticket would book.
+#[derive(Clone, Copy, Debug, PartialEq, Eq)]
+pub enum Settling {
+    /// No open ticket has the number.
+    Unknown,
+    /// Nothing.
+    Nothing,
+    /// The claim and the due of this ticket.
+    Books(Open),
+}
+
 /// A hop, the tickets that it gave out and that are not spent, and the bytes that were put out.
 #[derive(Drop)]
 pub struct HostHop {
@@ -112,6 +137,40 @@ impl HostHop {
             tickets: Vec::new(alloc),
             output: Vec::new(alloc),
         })
+    }
+
+    /// A hop with this address, these accounts and these routes, which goes on with the claims and dues of an earlier one.
+    /// Its tickets are numbered from `next` on. Fails as `HopState::restored` does.
+    pub fn restored(
+        alloc: Global,
+        own: &str,
+        accounts: &[Account],
+        routes: &[Route<'_>],
+        claims: &[u64],
+        dues: &[u64],
+        next: u64,
+    ) -> Result<HostHop, HopError>
+        ensures made { IfOk result (λ k. IsNewHop (restored (new_hop own.now accounts.now (map way_seen routes.now)) claims.now dues.now next) k) }
+        ensures books { OnOk result (AreBooks accounts.now claims.now dues.now) }
+        ensures refused { IfErr result (WhyNotRestored own.now accounts.now (map way_seen routes.now) claims.now dues.now) }
+    {
+        let state = HopState::restored(alloc, own, accounts, routes, claims, dues, next)?;
+        state.is_lawful();
+        books_go_on();
+        Ok(HostHop {
+            state,
+            tickets: Vec::new(alloc),
+            output: Vec::new(alloc),
+        })
+    }
+
+    /// Ends all open tickets, as a restart with the same books does. Claims and dues stay, nothing is reserved any more,
+    /// and the numbers of tickets go on.
+    pub fn restart(&mut self)
+        ensures { IsRestarted self.old self.new }
+    {
+        self.state.restart();
+        self.tickets.clear();
     }
 
     /// Takes the bytes of a Prepare from an account. Puts out the bytes that answer it, or that go on. Fails with
@@ -171,6 +230,28 @@ impl HostHop {
     {
         let outcome = Outcome::Answered(Vec::from_slice(alloc, bytes)?);
         Ok(self.close(number, outcome, now))
+    }
+
+    /// What `settle` with the same arguments would book. Changes nothing. Fails where memory is refused.
+    pub fn books(
+        &self,
+        alloc: Global,
+        number: u64,
+        bytes: &[u8],
+        now: Moment,
+    ) -> Result<Settling, AllocError>
+        ensures { IfOk result (λ found. IsToldBooking self.now number bytes.now now found) }
+    {
+        let Some(place) = place_of(&self.state, &self.tickets, number) else {
+            return Ok(Settling::Unknown);
+        };
+        let outcome = Outcome::Answered(Vec::from_slice(alloc, bytes)?);
+        let ticket = &self.tickets[place];
+        if ticket.books(&outcome, now) {
+            Ok(Settling::Books(ticket.read()))
+        } else {
+            Ok(Settling::Nothing)
+        }
     }
 
     /// No bytes came back to a Prepare that went on under this number: puts out the answer to the Prepare that had come.

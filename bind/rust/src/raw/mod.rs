@@ -54,6 +54,28 @@ pub(crate) struct Arrived {
     pub ticket: u64,
 }
 
+/// What a ticket books: nothing where `books` is 0.
+#[repr(C)]
+#[derive(Clone, Copy, Default)]
+pub(crate) struct Booking {
+    pub payer: usize,
+    pub claim: u64,
+    pub payee: usize,
+    pub due: u64,
+    pub books: u32,
+}
+
+/// A table and its books, as slices.
+pub(crate) struct Restored<'a> {
+    pub own: &'a str,
+    pub accounts: &'a [Account],
+    pub prefixes: &'a str,
+    pub routes: &'a [Route],
+    pub claims: &'a [u64],
+    pub dues: &'a [u64],
+    pub next: u64,
+}
+
 /// A route, whose prefix is the next part of a text that all routes share.
 #[repr(C)]
 #[derive(Clone, Copy)]
@@ -190,6 +212,23 @@ unsafe extern "C" {
         routes: *const Route,
         routes_len: usize,
     ) -> u32;
+    fn ilp_hop_restored(
+        hop: &mut Handle,
+        own: *const u8,
+        own_len: usize,
+        accounts: *const Account,
+        accounts_len: usize,
+        prefixes: *const u8,
+        prefixes_len: usize,
+        routes: *const Route,
+        routes_len: usize,
+        claims: *const u64,
+        claims_len: usize,
+        dues: *const u64,
+        dues_len: usize,
+        next: u64,
+    ) -> u32;
+    pub(crate) safe fn ilp_hop_restart(hop: &mut Handle) -> u32;
     fn ilp_hop_arrive(
         hop: &mut Handle,
         account: usize,
@@ -197,6 +236,14 @@ unsafe extern "C" {
         len: usize,
         now: i64,
         arrived: &mut Arrived,
+    ) -> u32;
+    fn ilp_hop_books(
+        hop: &mut Handle,
+        ticket: u64,
+        bytes: *const u8,
+        len: usize,
+        now: i64,
+        booking: &mut Booking,
     ) -> u32;
     fn ilp_hop_settle(
         hop: &mut Handle,
@@ -400,6 +447,37 @@ pub(crate) fn hop_new(
             routes.len(),
         )
     }
+}
+
+pub(crate) fn hop_restored(hop: &mut Handle, it: &Restored<'_>) -> u32 {
+    unsafe {
+        ilp_hop_restored(
+            hop,
+            it.own.as_ptr(),
+            it.own.len(),
+            it.accounts.as_ptr(),
+            it.accounts.len(),
+            it.prefixes.as_ptr(),
+            it.prefixes.len(),
+            it.routes.as_ptr(),
+            it.routes.len(),
+            it.claims.as_ptr(),
+            it.claims.len(),
+            it.dues.as_ptr(),
+            it.dues.len(),
+            it.next,
+        )
+    }
+}
+
+pub(crate) fn hop_books(
+    hop: &mut Handle,
+    ticket: u64,
+    bytes: &[u8],
+    now: i64,
+    booking: &mut Booking,
+) -> u32 {
+    unsafe { ilp_hop_books(hop, ticket, bytes.as_ptr(), bytes.len(), now, booking) }
 }
 
 pub(crate) fn hop_arrive(

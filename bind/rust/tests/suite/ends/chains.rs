@@ -1,12 +1,16 @@
 //! Two ends with none to eight hops between them, by a seed: Prepares, answers and Fulfills are lost on each link, both ways at
-//! once. What each end reads, and each hop's balances, are compared with what was written, and what was given and taken on each
-//! link. At the end everything passes.
+//! once, and hops crash and start again with their books. What each end reads, and each hop's balances, are compared with what
+//! was written, and what was given and taken on each link. At the end everything passes.
 
 use super::config;
 use super::sides::Lane;
 use crate::hostile::plain::ilp;
 use crate::seeds::{Numbers, for_each};
-use ilpstream::{Account, End, EndConfig, Flight, Hop, Role, Route, Ticket, Verdict};
+use ilpstream::{
+    Account, Booking, End, EndConfig, Error, Flight, Hop, Role, Route, Ticket, Verdict,
+};
+use std::collections::HashSet;
+use std::sync::atomic::{AtomicU64, Ordering};
 
 /// How many chains are run, and for how many steps before everything passes.
 const SEEDS: u64 = 1_000;
@@ -35,8 +39,14 @@ struct Shipment {
     behind: Vec<(Ticket, u64, u64)>,
     bytes: Vec<u8>,
     is_answer: bool,
-    /// What the node that it goes to is to be paid.
+    /// What the node that it goes to is to be paid; of a Fulfill, what the node that gave it was.
     amount: u64,
+}
+
+impl Shipment {
+    fn is_fulfill(&self) -> bool {
+        self.is_answer && is_fulfill(&self.bytes)
+    }
 }
 
 /// What was given and taken, by the two ways.
@@ -46,13 +56,38 @@ struct Sums {
     dues: [u64; 2],
 }
 
+/// Fulfills that the near node of a link never took, by the two ways of their Prepares.
+#[derive(Clone, Copy, Default)]
+struct Missed {
+    /// Those that were lost on the link.
+    lost: [u64; 2],
+    /// Those for which the near node, a hop, had no ticket any more.
+    late: [u64; 2],
+    /// What the hop was to pay for the Prepares that were open there as it crashed.
+    open_at_crashes: [u64; 2],
+}
+
+/// What a hop is made of.
+struct Terms {
+    name: String,
+    account: Account,
+    rates: [(u32, u32); 2],
+}
+
 struct Chain {
     parties: [Party; 2],
+    terms: Vec<Terms>,
     hops: Vec<Hop>,
     sums: Vec<Sums>,
+    /// By link, of which one begins at each node: from the client on.
+    missed: Vec<Missed>,
     on_the_way: Vec<Shipment>,
-    /// Whether a stream may be aborted.
+    /// By hop, the tickets that were open as it crashed.
+    forgotten: HashSet<(usize, Ticket)>,
+    crashes: u64,
+    /// Whether a stream may be aborted, and a hop crash.
     may_abort: bool,
+    may_crash: bool,
 }
 
 /// A rate that is 1 in half of the cases.
@@ -65,22 +100,41 @@ fn rate(numbers: &mut Numbers) -> (u32, u32) {
     }
 }
 
-fn new_hop(numbers: &mut Numbers, place: u64) -> Hop {
-    let account = Account {
-        limit: u64::MAX >> 1,
-        max_packet: numbers.choice(&[10, 60, 100, 1_000_000]),
-    };
-    let ways = [("test.a", 0), ("test.b", 1)];
-    let routes = ways.map(|(prefix, account)| {
-        let (num, den) = rate(numbers);
-        Route {
-            prefix,
+impl Terms {
+    fn new(numbers: &mut Numbers, place: u64) -> Terms {
+        let account = Account {
+            limit: u64::MAX >> 1,
+            max_packet: numbers.choice(&[10, 60, 100, 1_000_000]),
+        };
+        Terms {
+            name: format!("test.h{place}"),
             account,
-            num,
-            den,
+            rates: [rate(numbers), rate(numbers)],
         }
-    });
-    Hop::new(&format!("test.h{place}"), &[account, account], &routes).unwrap()
+    }
+
+    fn routes(&self) -> [Route<'_>; 2] {
+        [("test.a", 0), ("test.b", 1)].map(|(prefix, account)| {
+            let (num, den) = self.rates[account];
+            Route {
+                prefix,
+                account,
+                num,
+                den,
+            }
+        })
+    }
+
+    fn hop(&self) -> Hop {
+        Hop::new(&self.name, &[self.account; 2], &self.routes()).unwrap()
+    }
+
+    /// The hop with these books, at its start of this number.
+    fn restored(&self, sums: &Sums, start: u64) -> Hop {
+        let (accounts, routes) = ([self.account; 2], self.routes());
+        let (claims, dues) = (&sums.claims, &sums.dues);
+        Hop::restored(&self.name, &accounts, &routes, claims, dues, start << 44).unwrap()
+    }
 }
 
 /// A party with up to four lanes, of which it opens its own.
@@ -159,15 +213,20 @@ impl Chain {
         let (streams, may_abort) = (numbers.below(4) as u8 + 1, numbers.below(4) == 0);
         let both = [Role::Client, Role::Server];
         let parties = both.map(|role| new_party(numbers, role, streams, may_abort));
-        let hops: Vec<Hop> = (0..numbers.below(9))
-            .map(|at| new_hop(numbers, at))
+        let terms: Vec<Terms> = (0..numbers.below(9))
+            .map(|at| Terms::new(numbers, at))
             .collect();
         Chain {
             parties,
-            sums: vec![Sums::default(); hops.len()],
-            hops,
+            hops: terms.iter().map(Terms::hop).collect(),
+            sums: vec![Sums::default(); terms.len()],
+            missed: vec![Missed::default(); terms.len() + 1],
+            terms,
             on_the_way: Vec::new(),
+            forgotten: HashSet::new(),
+            crashes: 0,
             may_abort,
+            may_crash: numbers.below(2) == 0,
         }
     }
 
@@ -176,6 +235,37 @@ impl Chain {
         match from {
             Role::Client => count,
             Role::Server => self.hops.len() - 1 - count,
+        }
+    }
+
+    /// The link over which a Prepare of this end goes after `count` hops.
+    fn link(&self, from: Role, count: usize) -> usize {
+        match from {
+            Role::Client => count,
+            Role::Server => self.hops.len() - count,
+        }
+    }
+
+    /// A hop crashes, and starts again with its books. Its open tickets are those of what is on the way.
+    fn crash(&mut self, numbers: &mut Numbers, place: usize) {
+        for it in &self.on_the_way {
+            let count = self.hop(it.from, place);
+            let Some((ticket, _, outgoing)) = it.behind.get(count) else {
+                continue;
+            };
+            if self.forgotten.insert((place, *ticket)) {
+                let link = self.link(it.from, count + 1);
+                self.missed[link].open_at_crashes[side(it.from)] += outgoing;
+            }
+        }
+        self.crashes += 1;
+        if numbers.below(2) == 0 {
+            self.hops[place].restart().unwrap();
+        } else {
+            self.hops[place] = self.terms[place].restored(&self.sums[place], self.crashes);
+        }
+        for account in 0..2 {
+            assert_eq!(self.hops[place].balances(account).unwrap().held, 0);
         }
     }
 
@@ -211,9 +301,39 @@ impl Chain {
         }
     }
 
-    /// An answer comes to the node before, or nothing does: whether the shipment still is on its way.
+    /// What a hop answers to the Prepare of a ticket, or none where it knows the ticket no more. It tells before what it books.
+    fn close(
+        &mut self,
+        place: usize,
+        ticket: Ticket,
+        came: Option<&[u8]>,
+        booking: Booking,
+    ) -> Option<Vec<u8>> {
+        let hop = &mut self.hops[place];
+        let told = came.map(|bytes| hop.books(ticket, bytes, 0));
+        let answer = match came {
+            Some(bytes) => hop.settle(ticket, bytes, 0),
+            None => hop.fault(ticket),
+        };
+        if self.forgotten.contains(&(place, ticket)) {
+            assert_eq!(answer, Err(Error::Unknown));
+            assert!(matches!(told, None | Some(Err(Error::Unknown))));
+            return None;
+        }
+        let answer = answer.unwrap();
+        let want = is_fulfill(&answer).then_some(booking);
+        assert!(told.is_none_or(|told| told == Ok(want)));
+        Some(answer)
+    }
+
+    /// An answer comes to the node before, or nothing does: whether the shipment still is on its way. Where a hop crashed that the
+    /// answer comes to, nothing comes to the node before it.
     fn come_back(&mut self, it: &mut Shipment, is_lost: bool) -> bool {
         let from = side(it.from);
+        let link = self.link(it.from, it.behind.len());
+        if is_lost && it.is_fulfill() {
+            self.missed[link].lost[from] += it.amount;
+        }
         let Some((ticket, incoming, outgoing)) = it.behind.pop() else {
             let party = &mut self.parties[from];
             if is_lost {
@@ -224,11 +344,21 @@ impl Chain {
             return false;
         };
         let place = self.hop(it.from, it.behind.len());
-        let hop = &mut self.hops[place];
-        it.bytes = match is_lost {
-            true => hop.fault(ticket).unwrap(),
-            false => hop.settle(ticket, &it.bytes, 0).unwrap(),
+        let came = (!is_lost).then_some(it.bytes.as_slice());
+        let booking = Booking {
+            payer: from,
+            claim: incoming,
+            payee: 1 - from,
+            due: outgoing,
         };
+        let Some(answer) = self.close(place, ticket, came, booking) else {
+            if !is_lost && it.is_fulfill() {
+                self.missed[link].late[from] += it.amount;
+            }
+            it.is_answer = false;
+            return self.come_back(it, true);
+        };
+        it.bytes = answer;
         if is_fulfill(&it.bytes) {
             self.sums[place].claims[from] += incoming;
             self.sums[place].dues[1 - from] += outgoing;
@@ -265,6 +395,10 @@ impl Chain {
             4..7 => party.lanes[at].read_on(&mut party.end, numbers.place(4_000)),
             7..10 => self.on_the_way.extend(party.send()),
             10 if numbers.below(40) == 0 => party.lanes[at].abort(&mut party.end),
+            11 if self.may_crash && !self.hops.is_empty() && numbers.below(4) == 0 => {
+                let place = numbers.place(self.hops.len());
+                self.crash(numbers, place);
+            }
             _ if !self.on_the_way.is_empty() => {
                 let at = numbers.place(self.on_the_way.len());
                 self.go_on(at, numbers.below(24) == 0, numbers.below(2) == 0);
@@ -305,6 +439,34 @@ impl Chain {
         }
     }
 
+    /// That on each link, each way, what the far node was given and what the near node gave differ by the Fulfills that the near
+    /// node never took. Those that a crash cost are at most what was open then.
+    fn check_links(&mut self) {
+        let last = self.hops.len();
+        for role in [Role::Client, Role::Server] {
+            let from = side(role);
+            for count in 0..=last {
+                let given = match count {
+                    _ if count == last => self.parties[1 - from].credited,
+                    _ => self.sums[self.hop(role, count)].claims[from],
+                };
+                let taken = match count {
+                    0 => self.parties[from].paid,
+                    _ => self.sums[self.hop(role, count - 1)].dues[1 - from],
+                };
+                let missed = self.missed[self.link(role, count)];
+                let (lost, late) = (missed.lost[from], missed.late[from]);
+                assert_eq!(given - taken, lost + late);
+                assert!(late <= missed.open_at_crashes[from]);
+            }
+        }
+    }
+
+    /// What crashes cost on all links.
+    fn cost(&self) -> u64 {
+        self.missed.iter().flat_map(|it| it.late).sum()
+    }
+
     /// That nothing is held, and all that was written and offered came, but for what was aborted.
     fn check_done(&mut self) {
         for hop in &mut self.hops {
@@ -325,6 +487,9 @@ impl Chain {
     }
 }
 
+/// What crashes cost in all runs.
+static COST: AtomicU64 = AtomicU64::new(0);
+
 /// The chain of a seed: much happens, and then everything passes.
 fn run(seed: u64) {
     let mut numbers = Numbers::of(seed);
@@ -335,10 +500,13 @@ fn run(seed: u64) {
     }
     assert!((0..ROUNDS).any(|_| chain.pass_all()));
     chain.check_sums();
+    chain.check_links();
     chain.check_done();
+    COST.fetch_add(chain.cost(), Ordering::Relaxed);
 }
 
 #[test]
 fn what_each_node_reports_is_what_came_over_its_links() {
     for_each(SEEDS, run);
+    assert!(0 < COST.load(Ordering::Relaxed));
 }

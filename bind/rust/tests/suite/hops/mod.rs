@@ -1,9 +1,10 @@
-//! A hop: worked Prepares and answers, rates, and each request for memory refused in turn. The hop of these tests is
+//! A hop: worked Prepares and answers, rates, books, and each request for memory refused in turn. The hop of these tests is
 //! `example.c`, with the accounts 0, behind `example`, and 1, behind `example.b`.
 
 use ilpstream::{Account, Error, Hop, Route, Ticket, Verdict};
 
 mod between_ends;
+mod books;
 mod memory;
 mod rates;
 mod worked;

@@ -1,4 +1,4 @@
-//! Hostile bytes at a hop.
+//! Hostile bytes at a hop, which is started again with its books now and then.
 
 use super::plain_hop::{
     PlainAccount, PlainOutcome, PlainRoute, PlainTicket, PlainVerdict, ZERO_DIGEST, hold, onward,
@@ -9,7 +9,7 @@ use crate::hostile::plain::answers::{ANSWERS, FULFILL, reject_bytes};
 use crate::hostile::plain::prepares::{EXPIRIES, EXPIRY, Offer, PREPARE, PREPARES, prepare_bytes};
 use crate::hostile::plain::{EDGES, Met, changed_at, ilp};
 use crate::seeds::Numbers;
-use ilpstream::{Account, Balances, Error, Hop, Route, Ticket, Verdict};
+use ilpstream::{Account, Balances, Booking, Error, Hop, Route, Ticket, Verdict};
 
 /// The hop's address.
 const OWN: &[u8] = b"example.c";
@@ -94,6 +94,15 @@ fn new_hop() -> Hop {
     let accounts = new_accounts().map(|account| terms(&account));
     let routes = ROUTES.map(|plain| route(&plain));
     Hop::new("example.c", &accounts, &routes).unwrap()
+}
+
+/// The same hop with the books of an earlier one, at so many starts before.
+fn restored(accounts: &[PlainAccount; 3], start: u64) -> Hop {
+    let terms = accounts.map(|account| terms(&account));
+    let routes = ROUTES.map(|plain| route(&plain));
+    let claims = accounts.map(|account| account.claims);
+    let dues = accounts.map(|account| account.dues);
+    Hop::restored("example.c", &terms, &routes, &claims, &dues, start << 44).unwrap()
 }
 
 /// Whether the hop has these counts.
@@ -186,6 +195,16 @@ fn goes_on(came: &[u8], went: &[u8], ticket: PlainTicket<'_>) -> bool {
     went == want.as_slice() && ilp::expiry(expiry) == Some(earlier)
 }
 
+/// What a ticket is to book by the rules.
+fn booking(ticket: PlainTicket<'_>, want: PlainOutcome) -> Option<Booking> {
+    matches!(want, PlainOutcome::Books).then_some(Booking {
+        payer: ticket.from,
+        claim: ticket.received,
+        payee: ticket.to,
+        due: ticket.sent,
+    })
+}
+
 /// The answer to a ticket.
 fn settled(hop: &mut Hop, ticket: Ticket, came: Option<&[u8]>, now: i64) -> Vec<u8> {
     let answer = match came {
@@ -227,8 +246,9 @@ fn note_verdict(met: &mut Met, want: PlainVerdict<'_>) {
     });
 }
 
-/// All that a hop answers without want of memory: F01, F02, F05, F08, R00, R02, T01, T04, and what passes and goes on.
-const ANSWERS_OF_A_HOP: [u64; 11] = [1, 2, 5, 8, 100, 102, 201, 204, 300, 301, 302];
+/// All that a hop answers without want of memory: F01, F02, F05, F08, R00, R02, T01, T04, and what passes and goes on; and 303, that
+/// it starts again.
+const ANSWERS_OF_A_HOP: [u64; 12] = [1, 2, 5, 8, 100, 102, 201, 204, 300, 301, 302, 303];
 
 /// The bytes that go back where a ticket is settled with what came.
 fn text_due(came: Option<&[u8]>, want: PlainOutcome) -> Vec<u8> {
@@ -254,9 +274,33 @@ fn settles(
     let came = answer(numbers);
     let want = outcome(ticket, came.as_deref(), now);
     note_outcome(met, want);
+    let told = match &came {
+        Some(bytes) => hop.books(waiting, bytes, now),
+        None => Ok(None),
+    };
     release(accounts, ticket, matches!(want, PlainOutcome::Books));
     let text = text_due(came.as_deref(), want);
-    settled(hop, waiting, came.as_deref(), now) == text
+    told == Ok(booking(ticket, want)) && settled(hop, waiting, came.as_deref(), now) == text
+}
+
+/// Now and then the hop starts again: it forgets what is open, or another one goes on with its books. Its tickets' numbers go on,
+/// or begin at the start's.
+fn may_start_again(
+    hop: &mut Hop,
+    accounts: &mut [PlainAccount; 3],
+    numbers: &mut Numbers,
+    met: &mut Met,
+    start: u64,
+) {
+    match numbers.below(200) {
+        0 => hop.restart().unwrap(),
+        1 => *hop = restored(accounts, start),
+        _ => return,
+    }
+    met.note(303);
+    for account in accounts {
+        (account.held, account.pending) = (0, 0);
+    }
 }
 
 /// Whether an answer is the hop's Reject of this code.
@@ -305,6 +349,7 @@ fn runs(seed: u64, met: &mut Met) {
     let mut hop = new_hop();
     let mut accounts = new_accounts();
     for step in 0..STEPS {
+        may_start_again(&mut hop, &mut accounts, &mut numbers, met, step + 1);
         let bytes = arrival(&mut numbers);
         let agrees = does(&mut hop, &mut accounts, &mut numbers, met, &bytes);
         sure_at(agrees, seed, step, &bytes);
