@@ -4,16 +4,16 @@
 # the peak of memory. Of each the best of the runs, all in one run of this script. Needs GNU time. By hand, on a quiet
 # machine: bench/end.sh [RUNS]
 set -euo pipefail
-cd "$(dirname "$0")/../crates/bench_end"
+cd "$(dirname "$0")/../crates/bench"
 runs=${1:-3}
 
-echo "proving and building bench_end where it is older than its sources" >&2
-rt run -- 0 1 0 0 >&2
+echo "proving and building bench where it is older than its sources" >&2
+rt run -- end 0 1 0 0 >&2
 
 milliseconds() { # of the processor's time that the program takes with these words
     local TIMEFORMAT='%U %S' taken least=
     for _ in $(seq "$runs"); do
-        taken=$({ time out/bench_end "$@" >/dev/null; } 2>&1 | awk '{ printf "%.0f\n", ($1 + $2) * 1000 }')
+        taken=$({ time out/bench end "$@" >/dev/null; } 2>&1 | awk '{ printf "%.0f\n", ($1 + $2) * 1000 }')
         if [ -z "$least" ] || [ "$taken" -lt "$least" ]; then
             least=$taken
         fi
@@ -28,7 +28,7 @@ for packets in 66 4195 67109; do # the fewest that hold as many bytes
     hashed=$(($(milliseconds 0 1 0 "$packets") - start))
     for streams in 1 64; do
         taken=$(($(milliseconds "$packets" "$streams" 0 0) - start))
-        memory=$(/usr/bin/time -f %M out/bench_end "$packets" "$streams" 0 0 2>&1 >/dev/null)
+        memory=$(/usr/bin/time -f %M out/bench end "$packets" "$streams" 0 0 2>&1 >/dev/null)
         awk -v bytes=$((packets * 16000)) -v streams="$streams" -v taken="$taken" -v sealed="$sealed" -v hashed="$hashed" -v memory="$memory" 'BEGIN {
             printf "%12d %8d %16.0f %8.2f %8.2f %8d kB\n", bytes, streams, bytes * 1000 / taken, sealed / taken, hashed / taken, memory
         }'

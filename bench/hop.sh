@@ -15,22 +15,22 @@
 # the program, where it is not the one of this repository; RUNS is how many runs are made of each, 7 where it is not set.
 set -euo pipefail
 top=$(cd "$(dirname "$0")/.." && pwd)
-program=${PROGRAM:-$top/crates/bench_hop/out/bench_hop}
+program=${PROGRAM:-$top/crates/bench/out/bench}
 runs=${RUNS:-7}
 programs=("$program" "$@")
 room=$(mktemp -d)
 trap 'rm -rf "$room"' EXIT
 
 if [ -z "${PROGRAM-}" ]; then
-    echo "proving and building bench_hop where it is older than its sources" >&2
-    (cd "$top/crates/bench_hop" && rt run -- 0 >&2)
+    echo "proving and building bench where it is older than its sources" >&2
+    (cd "$top/crates/bench" && rt run -- hop 0 0 0 0 0 >&2)
 fi
 
 measure() { # runs program number $1 with the arguments behind $2, and appends the nanoseconds to the file $2.$1
     local from number=$1 file=$2
     shift 2
     from=$(date +%s%N)
-    "${programs[$number]}" "$@" >"$room/answer"
+    "${programs[$number]}" hop "$@" >"$room/answer"
     echo $(($(date +%s%N) - from)) >>"$room/$file.$number"
 }
 

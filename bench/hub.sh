@@ -4,16 +4,16 @@
 # of the runs, and beside that the processor's seconds that they took. By hand, on a quiet machine of more than one core:
 # bench/hub.sh [RUNS]
 set -euo pipefail
-cd "$(dirname "$0")/../crates/bench_hub"
+cd "$(dirname "$0")/../crates/bench"
 runs=${1:-3}
 
-echo "proving and building bench_hub where it is older than its sources" >&2
-rt run -- 0 0 >&2
+echo "proving and building bench where it is older than its sources" >&2
+rt run -- hub 0 0 0 0 >&2
 
 seconds() { # of the clock and of the processor that the program takes with these words, the run of the least time
     local TIMEFORMAT='%R %U %S'
     for _ in $(seq "$runs"); do
-        { time out/bench_hub "$@" >/dev/null; } 2>&1
+        { time out/bench hub "$@" >/dev/null; } 2>&1
     done | sort -n | head -n 1
 }
 

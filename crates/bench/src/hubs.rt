@@ -3,7 +3,7 @@ ghost use Rattle.std.specs.Prelude.{◌≡◌, ℕ};
 ghost use Rattle.st_queues.specs.Lanes.{ring_at};
 ghost use Rattle.st_hub.specs.Hub.{IsNew};
 
-use crate::ends::{Counting, Half, Still, new_half};
+use crate::halves::{Counting, Half, Still, new_half};
 use crate::ring::{end, write};
 use st_end::Role;
 use st_hub::{Bench, HubLink, HubState, Worker, work};

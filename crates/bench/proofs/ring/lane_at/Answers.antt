@@ -1,6 +1,6 @@
 use Rattle.std.proofs.Common.{◌≡◌, ◌<◌, length, rules, refl}
 use Rattle.std.proofs.lemmas.Option.{slice_get_read}
-use Rattle.bench_hub.proofs.ring.lane_at.Goals as goal
+use Rattle.bench.proofs.ring.lane_at.Goals as goal
 
 pub returns : goal.returns
 returns g c =

@@ -1,5 +1,5 @@
 use Rattle.st_queues.specs.Lanes.{ring_at}
-use Rattle.bench_hub.proofs.hubs.pass_bytes.Given as goal
+use Rattle.bench.proofs.hubs.pass_bytes.Given as goal
 
 abbrev pub ghosts-pass_named-N-HubName : goal.ghosts-pass_named-N-HubName
 ghosts-pass_named-N-HubName g a = record { gauge = a.near.rings.gauge; write_ring = ring_at a.near.rings.writes; read_ring = ring_at a.near.rings.reads }
