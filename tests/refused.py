@@ -6,9 +6,10 @@ break a promise (a line `promise:` says which), and then, for ten minutes of the
 the number of the commit. `refused.py --look` says whether each can be made. It stands on the libraries in crates/*/out/rlib that
 `rt ci` left there.
 
-Edits of different functions are made in one copy, since each function is proved by itself. An edit is refused where the prover
-reports, in the function that it changes, what is not proved. Where it reports nothing there, the edit is tried alone, and is
-refused where the crate is not proved, for a cause other than a name that the edit took away."""
+Edits of different functions are made in one copy, since each function is proved by itself, and these functions alone are proved.
+An edit is refused where the prover reports, in the function that it changes, what is not proved. Where it reports nothing there,
+the edit is tried alone with the whole crate, and is refused where that is not proved, for a cause other than a name that the edit
+took away."""
 import concurrent.futures
 import os
 import re
@@ -138,8 +139,8 @@ def fits(edit, group):
 class Prover:
     """Checks copies of one crate, in a folder of its own that keeps what was proved for the next check."""
 
-    def __init__(self, crate, is_brief):
-        self.crate, self.is_brief = crate, is_brief
+    def __init__(self, crate):
+        self.crate = crate
         every, at = repository.read_crates(), repository.kit()
         self.lacking = repository.lacking(crate, every)
         self.words = [f"{at}/bin/rattle", "check", *repository.words(crate, every, at), "--jobs", "1"]
@@ -171,7 +172,7 @@ class Prover:
 
     def attempt(self, group, kept):
         """Which edits of a group are refused."""
-        only = [name for it in group for name in it.functions] if self.is_brief and all(it.functions for it in group) else []
+        only = [name for it in group for name in it.functions] if all(it.functions for it in group) else []
         said, status = self.check(group, kept, only)
         if status == 2 and only:
             said, status = self.check(group, kept)
@@ -214,9 +215,9 @@ class Tried:
     seconds: float = 0.0
 
 
-def try_crate(crate, edits, is_brief=False, budget=None):
+def try_crate(crate, edits, budget=None):
     """Tries edits of one crate. A budget, in seconds of the processor, ends it before the next group."""
-    prover, found = Prover(crate, is_brief), Tried(crate)
+    prover, found = Prover(crate), Tried(crate)
     if prover.lacking:
         return Tried(crate, [f"{crate}: {prover.lacking[0]} was not built here: run rt ci"], 0, len(edits))
     with tempfile.TemporaryDirectory(prefix="rt-edit-") as kept:
@@ -235,14 +236,14 @@ def lanes():
     return max(min(len(os.sched_getaffinity(0)), free // 4_500_000_000), 1)
 
 
-def try_all(edits, is_brief, others=()):
+def try_all(edits, others=()):
     """Tries edits, crates side by side, those of the highest first, and prints what came of each. Before them it begins with others,
     a crate and its edits, for the time of a rotation."""
     order = repository.read_crates()
     by_crate = {crate: [it for it in edits if it.crate == crate] for crate in reversed(order)}
     with concurrent.futures.ThreadPoolExecutor(lanes()) as pool:
         works = [pool.submit(try_crate, *others, budget=ROTATION)] if others else []
-        works += [pool.submit(try_crate, crate, found, is_brief) for crate, found in by_crate.items() if found]
+        works += [pool.submit(try_crate, crate, found) for crate, found in by_crate.items() if found]
         for work in concurrent.futures.as_completed(works):
             found = work.result()
             print(*found.lines, f"{found.crate}: {found.seconds:.0f} seconds of the processor", sep="\n", flush=True)
@@ -264,7 +265,7 @@ def gate():
     promises = [it for it in read_edits(sorted(os.listdir(EDITS)))[0] if it.promise]
     crate, edits = by_rotation()
     print(f"those that break a promise, and for {ROTATION} seconds those of {crate}, by rotation")
-    return try_all(promises, True, (crate, edits))
+    return try_all(promises, (crate, edits))
 
 
 def main(arguments):
@@ -274,7 +275,7 @@ def main(arguments):
     elif arguments == ["--look"] or arguments == ["--all"] or arguments and not {*arguments} - {*every}:
         edits, lost = read_edits(every if arguments[0].startswith("--") else arguments)
         print(*[f"tests/refused/{it}.edit: one of its old texts does not stand once in its file" for it in lost], sep="\n", end="\n" * bool(lost))
-        passed, tried = (len(edits), len(edits)) if arguments == ["--look"] else try_all(edits, False)
+        passed, tried = (len(edits), len(edits)) if arguments == ["--look"] else try_all(edits)
         tried += len(lost)
     else:
         print(__doc__, f"Crates: {' '.join(every)}", sep="\n\n", file=sys.stderr)
