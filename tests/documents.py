@@ -17,7 +17,7 @@ TOP = os.path.realpath(os.path.join(os.path.dirname(os.path.realpath(__file__)),
 CODE = re.compile(r"`([^`]+)`")
 
 # The crates of the tests and of the measurements: what they count is no limit of the program.
-TESTS = re.compile(r"^(bench_\w+|refusing|\w+_trials)$")
+TESTS = re.compile(r"^(bench|bench_aes|refusing|\w+_trials)$")
 
 # Constants that are no limits, by crate and name.
 OTHERS = {

@@ -2,171 +2,12 @@
 """Runs `send`, `receive` and `connector` at their edges: edges.py [PROGRAM [WORD]]. Links that fail and come back, peers that stop,
 many connections, too few threads and files. With a WORD, only the tests whose names have it. A line for each test says how long
 it took or what was measured, or what is wrong; the last line counts them. Tests that wait for a time-out run side by side."""
-import os, pty, re, resource, shutil, socket, subprocess, sys, tempfile, threading, time
-from concurrent.futures import ThreadPoolExecutor
-from itertools import chain
+import os, pty, re, resource, shutil, socket, sys, threading, time
 
-from peers import GIVING, HOST, SECRET, Peer, answer, asked, ended, free_port, free_ports, fulfill, listens, message
-from peers import prepare, request, totals, use_up
+from peers import HOST, Peer, answer, asked, ended, free_port, free_ports, fulfill, message, prepare, request, totals, use_up
+from play import PROGRAM, Wrong, main, some_bytes, stands, table_to, test, want
 
-TOP = os.path.join(os.path.dirname(os.path.realpath(__file__)), "..")
-PROGRAM = os.path.realpath(sys.argv[1] if len(sys.argv) > 1 else f"{TOP}/crates/ilpstream/out/ilpstream")
-STAY = 2_147_483_647  # requests of a connector that does not end by itself
 MANY = 200  # transfers at once
-AT_ONCE = 16  # tests that wait, side by side
-TESTS, WAITING = [], []
-
-
-class Wrong(Exception):
-    """What a test saw, where that is not right."""
-
-
-def want(is_so, told):
-    if not is_so:
-        raise Wrong(told)
-
-
-def test(*rows, waits=False):
-    """Has a function be a test, once for each row of its arguments; where it waits, beside others that do."""
-
-    def listed(function):
-        for row in rows or [()]:
-            words = " ".join(map(str, row))
-            (WAITING if waits else TESTS).append((f"{function.__name__.replace('_', ' ')} {words}".strip(), function, row))
-        return function
-
-    return listed
-
-
-def some_bytes(count):
-    return bytes(n % 251 for n in range(count % 251)) + bytes(range(251)) * (count // 251)
-
-
-def until_it_listens(process):
-    """Whether a command listens within 30 seconds."""
-    until = time.monotonic() + 30
-    while time.monotonic() < until and process.poll() is None:
-        if listens(process.port):
-            return True
-        time.sleep(0.02)
-    return False
-
-
-def listening(start):
-    """Has a command begin that listens: at the port that is given, or at a free one; at another where that was taken meanwhile."""
-
-    def begun(play, *words, port=None, **how):
-        for _ in range(1 if port else 3):
-            it = start(play, *words, port=port or free_port(), **how)
-            if until_it_listens(it):
-                return it
-            told = ended(it, 1)
-            if told != "80":
-                break
-        raise Wrong(f"a command does not listen: {told}")
-
-    return begun
-
-
-class Play:
-    """What a test started, with a folder of its own. All of it ends with the test."""
-
-    def __init__(self):
-        self.folder = tempfile.TemporaryDirectory(prefix="edges-")
-        self.room, self.started, self.peers, self.open, self.count = self.folder.name, [], [], [], 0
-        self.secret = SECRET
-
-    def __enter__(self):
-        return self
-
-    def __exit__(self, *_):
-        for process in self.started:
-            if process.poll() is None:
-                process.kill()
-            process.wait()
-            if process.stderr:
-                process.stderr.close()
-        for it in self.peers + self.open:
-            it.close()
-        self.folder.cleanup()
-
-    def start(self, command, words, given=subprocess.DEVNULL, out=subprocess.DEVNULL, **how):
-        self.count += 1
-        totals = f"{self.room}/{self.count}.totals"
-        words = [how.pop("program", PROGRAM), command, *words, f"--totals={totals}"]
-        # (while a port is tried, no process begins: it would have that socket until it runs its program)
-        with GIVING:
-            process = subprocess.Popen(words, stdin=given, stdout=out, stderr=subprocess.PIPE, **how)
-        process.totals = totals
-        self.started.append(process)
-        return process
-
-    def file(self, content):
-        """A file with these bytes, open for reading."""
-        file = tempfile.TemporaryFile(dir=self.room)
-        file.write(content)
-        file.seek(0)
-        self.open.append(file)
-        return file
-
-    @listening
-    def receive(self, *words, token="t", address="test.b", peer="test.a", most=1_000_000, port=None, **how):
-        """A receiver that listens; `out` is the path of what it writes."""
-        path = f"{self.room}/{port}.out"
-        with open(path, "wb") as out:
-            ways = [f"--listen={HOST}:{port}", f"--token={token}", f"--address={address}", f"--peer={peer}"]
-            it = self.start("receive", [*ways, f"--secret={self.secret}", f"--receive-max={most}", *words], out=out, **how)
-        it.port, it.path = port, path
-        return it
-
-    @listening
-    def connector(self, table, *words, port=None, requests=STAY, **how):
-        """A connector that listens, with this table."""
-        ways = [f"--listen={HOST}:{port}", "--own=test.hub", f"--requests={requests}"]
-        it = self.start("connector", [*ways, *words], given=self.file(table.encode()), **how)
-        it.port = port
-        return it
-
-    def before(self, receiver, *words, **how):
-        """A connector of two accounts: the sender's, and the receiver's or a peer's. It takes any money."""
-        return self.connector(table_to(receiver.port), *words, **how)
-
-    def send(self, port, given, *words, token="t", address="test.a", peer="test.b", **how):
-        if isinstance(given, bytes):
-            given = self.file(given)
-        ways = [f"--to={HOST}:{port}", f"--token={token}", f"--address={address}", f"--peer={peer}", f"--secret={self.secret}"]
-        return self.start("send", [*ways, *words], given=given, **how)
-
-    def peer(self, handle):
-        it = Peer(handle)
-        self.peers.append(it)
-        return it
-
-    def pipe(self):
-        """A silent input, and the file that it is written by."""
-        given, writer = os.pipe()
-        writer = os.fdopen(writer, "wb", buffering=0)
-        given = os.fdopen(given, "rb")
-        self.open += [writer, given]
-        return given, writer
-
-    def connect(self, port, content=b""):
-        """A connection on which so much is sent and then nothing."""
-        stream = socket.create_connection((HOST, port), timeout=60)
-        self.open.append(stream)
-        stream.sendall(content)
-        return stream
-
-    def knock(self, port):
-        """A connection that is closed at once, where one is taken."""
-        try:
-            self.connect(port).close()
-        except OSError:
-            pass
-
-
-def table_to(port):
-    return f"account 1000000000 1000000 t - -\naccount 0 0 u {HOST}:{port} t\nroute test.b 1\n"
 
 
 def whole(receiver, content, bound):
@@ -175,12 +16,6 @@ def whole(receiver, content, bound):
     with open(receiver.path, "rb") as file:
         came = file.read()
     want(told == "0" and came == content, f"receive {told}, {len(came)} of {len(content)} bytes, {'' if content.startswith(came) else 'not '}a beginning")
-
-
-def stands(process, command):
-    """A command has not ended."""
-    if process.poll() is not None:
-        raise Wrong(f"{command} {ended(process, 1)}")
 
 
 def ends_well(process, bound):
@@ -931,30 +766,6 @@ def a_fulfill_after_seconds_of_two_is_booked_as(play, seconds, wanted):
     booked = [found.get("account 0 claims"), found.get("account 1 dues"), found.get("account 0 held")]
     want(booked == [wanted, wanted, 0], f"totals {found}")
     return body[2:5].decode() if not wanted else "fulfilled"
-
-
-def tried(name, function, row):
-    """A line that says what a test saw, and whether it passed."""
-    try:
-        with Play() as play:
-            return True, f"{name}: {function(play, *row)}"
-    except Wrong as wrong:
-        return False, f"{name}: WRONG: {wrong}"
-    except Exception as error:  # a test that breaks off is one that failed
-        return False, f"{name}: WRONG: {type(error).__name__}: {error}"
-
-
-def main():
-    word = sys.argv[2] if len(sys.argv) > 2 else ""
-    waiting, others = ([it for it in tests if word in it[0]] for tests in (WAITING, TESTS))
-    results = []
-    with ThreadPoolExecutor(max_workers=AT_ONCE) as pool:
-        begun = [pool.submit(tried, *it) for it in waiting]
-        for passed, told in chain((tried(*it) for it in others), (it.result() for it in begun)):
-            results.append(passed)
-            print(told, flush=True)
-    print(f"{results.count(True)} passed, {results.count(False)} failed")
-    return 0 if results and all(results) else 1
 
 
 if __name__ == "__main__":

@@ -29,6 +29,11 @@ def lawful(kind):
     return ctypes.cast(ROOM, kind) if is_pointer(kind) else 1
 
 
+def is_maker(name):
+    """Whether a call fills an empty handle."""
+    return name.endswith("_new") or name in ("ilp_packet_read", "ilp_hop_restored")
+
+
 def an_object(name):
     """An object of the kind that a call is for."""
     kind = name.split("_")[1]
@@ -59,7 +64,7 @@ class Look:
         freed = an_object(name)
         copy = _declared.Handle(freed._handle.inner)
         freed.free()
-        makes = name.endswith("_new") or name == "ilp_packet_read"
+        makes = is_maker(name)
         free = name == "ilp_free"
         self.is_code(name, [None, *others], [0 if free else MISUSE], "a null handle")
         if not makes:
@@ -73,8 +78,7 @@ class Look:
                 continue
             of, arguments = an_object(name), [lawful(it) for it in kinds]
             if kinds[0] is HANDLE:
-                empty = name.endswith("_new") or name == "ilp_packet_read"
-                arguments[0] = ctypes.byref(_declared.Handle() if empty else of._handle)
+                arguments[0] = ctypes.byref(_declared.Handle() if is_maker(name) else of._handle)
             arguments[place] = None
             self.is_code(name, arguments, [NULL], f"a null pointer as parameter {place}")
             is_slice = kinds[place + 1 : place + 2] == [ctypes.c_size_t]

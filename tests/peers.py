@@ -54,21 +54,23 @@ def listens(port):
 
 
 def message(stream):
-    """One message of HTTP: its head with the empty line, and its body."""
-    head = b""
-    while not head.endswith(b"\r\n\r\n"):
-        byte = stream.recv(1)
-        if not byte:
-            return head, b""
-        head += byte
+    """One message of HTTP: its head with the empty line, and its body. Where the stream ends before, what it had. Nothing may
+    stand behind the message."""
+    with stream.makefile("rb") as file:
+        head = b""
+        while not head.endswith(b"\r\n\r\n"):
+            line = file.readline()
+            if not line:
+                return head, b""
+            head += line
+        length = re.search(rb"(?i)content-length: *(\d+)", head)
+        return head, file.read(int(length[1])) if length else b""
+
+
+def is_whole(head, body):
+    """Whether all of a message was there."""
     length = re.search(rb"(?i)content-length: *(\d+)", head)
-    body = b""
-    while length and len(body) < int(length[1]):
-        piece = stream.recv(65_536)
-        if not piece:
-            break
-        body += piece
-    return head, body
+    return head.endswith(b"\r\n\r\n") and bool(length) and len(body) == int(length[1])
 
 
 def asked(host, request, bound=BOUND):

@@ -172,7 +172,7 @@ for words in --help -h help 'frames --help' 'frames -h' 'help frames'; do
 done
 run --help </dev/null
 for part in 'Usage: ilpstream [COMMAND]' 'Without a command it runs `frames`' '  0  the command did its work' \
-    '  1  a line was refused' '  2  the arguments ask for no command' frames local send receive connector; do
+    '  1  a line was refused' '  2  the arguments ask for no command' frames local send receive connector ledger; do
     has 'help' "$out" "$part"
 done
 
@@ -189,7 +189,9 @@ names send '--to <HOST:PORT>' '--token <TOKEN>' '--secret <HEX>' '--address <ADD
     '--workers <N>' '--random <FILE>' '--least <NUM:DEN>' '--totals <FILE>'
 names receive '--listen <HOST:PORT>' '--token <TOKEN>' '--secret <HEX>' '--address <ADDRESS>' '--peer <ADDRESS>' \
     '--receive-max <N>' '--patience <SECONDS>' '--totals <FILE>'
-names connector '--listen <HOST:PORT>' '--own <ADDRESS>' '--requests <N>' '--workers <N>' '--totals <FILE>'
+names connector '--listen <HOST:PORT>' '--own <ADDRESS>' '--requests <N>' '--workers <N>' '--totals <FILE>' '--ledger <FILE>' \
+    '[NAME=TEXT]'
+names ledger 'Usage: ilpstream ledger <FILE> [settle <NAME> <AMOUNT>]' '<FILE>' AMOUNT
 
 for words in fames 'frames frames' '--frames' send; do
     # shellcheck disable=SC2086
@@ -279,6 +281,24 @@ with 5 --peer=.b "${receive[@]}" && bad_option
 words=("${receive[@]}" --patience=+5) && bad_option
 with 1 --listen=here "${connector[@]}" && bad_option
 with 2 '--own=test hub' "${connector[@]}" && bad_option
+while read -r -a rest; do
+    words=(ledger "$room/books" "${rest[@]}") && bad_option
+done <<'ROWS'
+pay alice 5
+settle é 5
+settle alice 0
+settle alice -0
+settle alice +5
+settle alice --5
+settle alice -
+settle alice 5.0
+settle alice 9223372036854775808
+settle alice -9223372036854775808
+settle alice --help
+ROWS
+words=(ledger "$room/books" settle '' 5) && bad_option
+words=(ledger "$room/books" settle alice '') && bad_option
+same 'no books were made' '' "$(find "$room" -name 'books*')"
 # (a file for totals that cannot be opened, before the file of random bytes, the listener or the table is looked at)
 for totals in --totals=/nowhere/totals --totals=; do
     words=("${send[@]}" "$totals") && bad_option
@@ -303,6 +323,17 @@ for word in --patience=0 --patience=86401 --patience=; do
 done
 with 3 --requests=0 "${connector[@]}" && refused_words
 with 3 --workers=4 "${connector[@]}" && refused_words
+while read -r -a words; do
+    refused_words
+done <<'ROWS'
+ledger
+ledger -books
+ledger --file=books
+ledger books settle
+ledger books settle alice
+ledger books settle alice 5 6
+ledger books -5
+ROWS
 
 # A table is read before anything is listened to: the fault 96 tells a bad one, and 80 that a good one has no listener.
 while IFS= read -r bad; do
@@ -333,10 +364,21 @@ account 100 10 alice - -\nroute test.b 0\nroute test.b 0 1 1
 account 100 10 alice - -\nRoute test.b 0
 account 100 10 alice - -\n\troute test.b 0
 account 100 10 alice - -\n\xff
+account NAME= 100 10 alice - -
+account NAME=é 100 10 alice - -
+account name=alice 100 10 alice - -
+account alice 100 10 alice - -
+account 100 NAME=alice 10 alice - -
+account NAME=alice NAME=alice 100 10 alice - -
+account NAME=alice 100 10 alice - -\naccount NAME=alice 100 10 bob - -
+account NAME=1 100 10 alice - -\naccount 100 10 bob - -
+account 100 10 alice - -\naccount NAME=0 100 10 bob - -
 ROWS
 several=$'account 1000 100 alice 127.0.0.1:7771 hub\n\naccount  9223372036854775807 0 bob - -\r\nroute example 0\n \nroute example.bob 1 3 2
 account 5 5 carol [::1]:1 x\nroute example.carol 2 1 1'
-for good in "$table" "$several" '' $' account  1 2 t - - \r'; do
+named=$'account NAME=alice 100 10 a - -\naccount NAME=Alice 100 10 b - -\naccount 100 10 c - -\naccount NAME=1 100 10 d - -
+account NAME=NAME=alice 100 10 e - -\nroute test.b 0'
+for good in "$table" "$several" "$named" '' $' account  1 2 t - - \r'; do
     run "${connector[@]}" <<<"$good"
     same "the table $good" $'\n--\nfault 80\n--\n1' "$(told)"
 done

@@ -6,8 +6,9 @@ are stopped for some seconds or killed. What is wrong is printed with the round'
 and its open files, threads and memory are looked at. A summary is printed each minute, and at the end `N rounds, M wrong`."""
 import collections, dataclasses, glob, os, random, re, resource, select, signal, socket, sys, tempfile, threading, time, traceback
 
-from edges import HOST, STAY, Play, Wrong, feed, hold, some_bytes, threads, want
-from peers import Peer, ended, fields_at, free_ports, give_back, message, prepare, request, totals, use_up
+from edges import feed, hold, threads
+from peers import HOST, Peer, ended, fields_at, free_ports, give_back, is_whole, message, prepare, request, totals, use_up
+from play import STAY, Play, Wrong, some_bytes, want
 
 PROGRAM = os.path.realpath(sys.argv[1]) if len(sys.argv) > 1 else ""
 AT_ONCE = 3  # rounds side by side
@@ -216,11 +217,6 @@ class Relay(Peer):
             except OSError:
                 time.sleep(0.02)
         raise OSError(f"port {self.port} stays taken")
-
-
-def is_whole(head, body):
-    length = re.search(rb"(?i)content-length: *(\d+)", head)
-    return head.endswith(b"\r\n\r\n") and bool(length) and len(body) == int(length[1])
 
 
 def place(head, body, part):

@@ -10,6 +10,8 @@ from peers import HOST, SECRET, asked, free_port, listens, request
 PROGRAM = sys.argv[1]
 INPUT = bytes(n % 251 for n in range(70_000))
 TABLE = b"account 500 500 alice - -\naccount 500 500 bob 127.0.0.1:9 hub\nroute example.bob 1\n"
+# A hop that needs more memory than a step.
+ROUTES = TABLE + b"".join(b"route example.bob.%d 1\n" % n for n in range(4_000))
 STEP = 64 * 1024
 # So many runs that end well end a sweep, and so many steps are too many.
 WELL, STEPS = 8, 1_000
@@ -88,13 +90,24 @@ def words():
     return lambda space: Run(["--version", *["x" * 100_000] * 5], space).ending(b"ilpstream 0.1.0\n")
 
 
-def connector(table):
+def connector(table, books=None):
+    """A connector; where books are named, one that makes them, and they are read afterwards where there are any."""
+
     def run(space):
         port = free_port()
-        it = Run(["connector", f"--listen=127.0.0.1:{port}", "--own=example.hub", "--requests=1"], space, table)
+        for path in [f"{books}{end}" for end in ("", "-wal") if books]:
+            if os.path.exists(path):
+                os.remove(path)
+        kept = [f"--ledger={books}"] if books else []
+        it = Run(["connector", f"--listen=127.0.0.1:{port}", "--own=example.hub", "--requests=1", *kept], space, table)
         if is_up(port, it.ran):
             ask(port, it.ran)
-        return it.ending(b"", 1)
+        told = it.ending(b"", 1)
+        if books:
+            read = subprocess.run([PROGRAM, "ledger", books], stdin=subprocess.DEVNULL, capture_output=True, check=False)
+            if read.returncode and read.stderr != b"fault 110\n":
+                return f"WRONG: {told}, and then {read.stderr!r}"
+        return told
 
     return run
 
@@ -138,8 +151,8 @@ def sweep(run, low):
 
 def main():
     with tempfile.TemporaryDirectory() as room:
-        bytes_, table = f"{room}/bytes", f"{room}/table"
-        for path, held in ((bytes_, INPUT), (table, TABLE)):
+        bytes_, table, routes = f"{room}/bytes", f"{room}/table", f"{room}/routes"
+        for path, held in ((bytes_, INPUT), (table, TABLE), (routes, ROUTES)):
             with open(path, "wb") as file:
                 file.write(held)
         low = least()
@@ -147,6 +160,8 @@ def main():
             ("words", words()),
             ("local", local(bytes_)),
             ("connector", connector(table)),
+            ("routes", connector(routes)),
+            ("connector with books", connector(table, f"{room}/books")),
             ("receive", transfer(bytes_, "receive")),
             ("send", transfer(bytes_, "send")),
         ):

@@ -4,9 +4,8 @@
 The prover is called by itself, since `rt` works on one crate at a time where two have a crate below them in common. It writes
 a library, into crates/NAME/out/built, and the program of crates that are proved alone. Each crate is proved once those below it
 are. Of those that can begin, the one with the longest chain of crates above it begins first. A crate on the longest chain of all
-gets several jobs and the processors first; the others take what is left, with several jobs while processors are idle. JOBS=N
-uses N processors. A crate that is not proved ends the build with its log. `tools/build.py --plan N` prints what the weights below
-give for N processors."""
+gets two jobs, where there are four processors, and any crate more while processors are idle. JOBS=N uses N processors. A crate
+that is not proved ends the build with its log. `tools/build.py --plan N` prints what the weights below give for N processors."""
 import os
 import shutil
 import signal
@@ -25,15 +24,16 @@ WEIGHTS = {
     "st_nodes": 253, "st_words": 252, "st_local": 227, "st_end": 227, "ilpstream": 215, "st_http": 209, "st_aes": 190,
     "st_program": 175, "st_desk": 160, "st_queues": 129, "st_oer": 129, "st_frames": 129, "st_ilp": 127, "st_settings": 125,
     "st_unacked": 94, "st_reassembly": 86, "st_file": 84, "st_link": 68, "st_keys": 49, "st_world": 33, "st_booking": 20,
-    "st_tables": 12,
+    "st_tables": 12, "st_books": 278, "st_ledger": 60,
 }
 OTHER = 60
 # Memory in bytes: what a check takes at most, and what each further job of it takes.
 CHECK, JOB = 3_500_000_000, 1_000_000_000
 MOST_JOBS = 3
-# A crate is urgent where the longest chain through it is this part of the longest of all. The others are nice to it.
-URGENT = 0.9
-NICE = 10
+# A crate is urgent where the longest chain through it is this part of the longest of all. It has two jobs from so many processors
+# on. (A second job does half as much as the first: the crates side by side make better use of the processors.)
+URGENT = 0.95
+URGENT_FROM = 4
 # What a processor of level x86-64-v3 has beside those of level 2: with vectors of 32 bytes the cipher is twice as fast.
 LEVEL_3 = {"avx", "avx2", "bmi1", "bmi2", "f16c", "fma", "abm", "movbe"}
 
@@ -131,7 +131,8 @@ class Schedule:
         if not ready or self.running and (left < CHECK or len(self.running) == self.processors):
             return None
         idle = self.processors - sum(self.running.values())
-        jobs = self.processors - 1 if self.is_urgent(ready[0]) else idle // len(ready)
+        least = 2 if self.processors >= URGENT_FROM and self.is_urgent(ready[0]) else 1
+        jobs = max(idle // len(ready), least)
         self.running[ready[0]] = max(min(jobs, MOST_JOBS, 1 + max(left - CHECK, 0) // JOB), 1)
         return ready[0], self.running[ready[0]]
 
@@ -145,17 +146,13 @@ class Schedule:
 
 
 def plan(crates, processors):
-    """The minutes that the weights give, where each further job of a crate counts as 0.7 of the first."""
+    """The minutes that the weights give, where each further job of a crate counts as 0.45 of the first."""
     schedule, now, left = Schedule(crates, processors, processors * (CHECK + JOB)), 0.0, {}
     while len(schedule.proved) < len(crates):
         while begun := schedule.next():
             left[begun[0]] = weight(begun[0])
-        speeds, free = {}, processors
-        for urgent in (True, False):
-            of = {it: jobs for it, jobs in schedule.running.items() if schedule.is_urgent(it) == urgent}
-            share = min(1, free / max(sum(of.values()), 1))
-            speeds |= {it: max(share, 0.02) * (0.3 + 0.7 * jobs) for it, jobs in of.items()}
-            free = max(free - sum(of.values()), 0)
+        share = min(1, processors / sum(schedule.running.values()))
+        speeds = {it: share * (0.55 + 0.45 * jobs) for it, jobs in schedule.running.items()}
         crate = min(left, key=lambda it: left[it] / speeds[it])
         took = left[crate] / speeds[crate]
         left = {it: seconds - took * speeds[it] for it, seconds in left.items() if it != crate}
@@ -196,7 +193,7 @@ def level():
     return ["--cpu=x86-64-v3"] if LEVEL_3.issubset(flags) else []
 
 
-def begin(crate, jobs, is_urgent, logs, every, at):
+def begin(crate, jobs, logs, every, at):
     """Begins the proof of a crate, which builds its library too. (Its text has the layout of `rt fmt` in the gate alone.)"""
     folder = f"{TOP}/crates/{crate}"
     os.makedirs(f"{folder}/out", exist_ok=True)
@@ -208,7 +205,6 @@ def begin(crate, jobs, is_urgent, logs, every, at):
         os.mkdir(f"{folder}/out/built")
         command += ["--statements", "-o", library(crate)]
     how = {"cwd": folder, "stdin": subprocess.DEVNULL, "stderr": subprocess.STDOUT}
-    command = command if is_urgent else ["nice", "-n", str(NICE), *command]
     with open(f"{logs}/{crate}", "wb") as log:
         return subprocess.Popen(command, stdout=log, **how)
 
@@ -244,7 +240,7 @@ def build(crates, logs):
             # (more where another program ended meanwhile)
             schedule.memory = max(schedule.memory, memory())
             while begun := schedule.next():
-                processes[begun[0]] = begin(*begun, schedule.is_urgent(begun[0]), logs, every, at)
+                processes[begun[0]] = begin(*begun, logs, every, at)
             progress.tell()
             time.sleep(0.5)
             for crate in [it for it, process in processes.items() if process.poll() is not None]:

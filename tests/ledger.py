@@ -1,0 +1,899 @@
+#!/usr/bin/env python3
+"""Kills `connector --ledger` and starts it again, fills its disk, and gives it files that are damaged, taken or no books:
+ledger.py [PROGRAM [WORD]] [--kills=N] [--seed=N]. With a WORD, only the tests whose names have it. Two neighbours in Python send
+each other Prepares through the connector and note which Fulfills they gave and took. Python's sqlite3 reads the books, from copies
+of both files. A line for each test says what was seen, or what is wrong; the last line counts them."""
+import collections, contextlib, itertools, os, random, re, shutil, socket, sqlite3, subprocess, threading, time
+
+from peers import HOST, Peer, answer, ended, fields_at, free_port, fulfill, is_whole, listens, message, octets, prepare
+from peers import request, totals, use_up
+from play import PROGRAM, STAY, TOP, Skipped, Wrong, main, option, some_bytes, stands, test, until_it_listens, want
+
+KILLS = int(option("kills", "12"))
+SEED = option("seed", str(int(time.time())))
+SENDERS = 8  # threads of each neighbour that send, and workers of the connector
+LIMIT = 2**60
+# Units of a Prepare. They are drawn from so many that sums of different Prepares differ.
+MOST = 2**36
+MONEY, PIECE = 20_000, 100  # units of a transfer by `send`, and of its greatest Prepare
+REFUSALS = {"110", "111", "112", "113", "114", "115"}  # of books that cannot be opened
+NAMES = "alice", "bob"
+
+
+# The books, as sqlite3 and as `ledger` read them.
+
+
+class Books(collections.namedtuple("Books", "starts sums")):
+    """The count of starts, and by name what an account owes the connector and what it is owed: (claims, dues)."""
+
+    def claims(self, name):
+        return self.sums.get(name, (0, 0))[0]
+
+    def dues(self, name):
+        return self.sums.get(name, (0, 0))[1]
+
+
+def files_of(path):
+    return [it for it in (path, f"{path}-wal") if os.path.exists(it)]
+
+
+def copied(path, to):
+    """A copy of the books' files, as a backup has them: the database and its log."""
+    for old in files_of(to):
+        os.remove(old)
+    for it in files_of(path):
+        shutil.copyfile(it, to + it[len(path) :])
+    return to
+
+
+def with_sqlite(path, *statements):
+    """What sqlite3 answers to each statement, and the last one's rows. It is closed before this returns, and then has no log."""
+    with contextlib.closing(sqlite3.connect(path, isolation_level=None)) as database:
+        database.text_factory = lambda text: text.decode(errors="replace")
+        return [database.execute(it).fetchall() for it in statements]
+
+
+def books_in(path, room):
+    """What sqlite3 reads in a copy of the books, which has to pass its test of integrity."""
+    copy = copied(path, f"{room}/copy")
+    if not os.path.exists(copy):
+        return Books(0, {})
+    integrity, starts, tables = with_sqlite(copy, "PRAGMA integrity_check", "PRAGMA user_version", "SELECT name FROM sqlite_schema")
+    want(integrity == [("ok",)], f"sqlite3 says {integrity}")
+    if not tables:
+        return Books(0, {})
+    rows = with_sqlite(copy, "SELECT name, claims, dues FROM account")[0]
+    want(len({name for name, _, _ in rows}) == len(rows), f"a name twice in {rows}")
+    return Books(starts[0][0], {name: (claims, dues) for name, claims, dues in rows})
+
+
+def ledger(path, *words):
+    """How `ledger FILE` ended, as `ended` says it, and what it printed."""
+    ran = subprocess.run([PROGRAM, "ledger", path, *words], stdin=subprocess.DEVNULL, capture_output=True, timeout=60, check=False)
+    fault = re.fullmatch(rb"fault (\d+)\n", ran.stderr)
+    if ran.returncode == 1 and fault and not ran.stdout:
+        return fault[1].decode(), ""
+    well = ran.returncode == 0 and not ran.stderr
+    return "0" if well else f"WRONG {ran.returncode} {ran.stdout!r} {ran.stderr!r}", ran.stdout.decode(errors="replace")
+
+
+def books_of(path):
+    """How `ledger FILE` ended, and the books that it printed: a line for each account, and a last one with the starts."""
+    told, text = ledger(path)
+    if told != "0":
+        return told, None
+    *lines, last = text.split("\n")[:-1]
+    rows = [re.fullmatch(r"account (.*) claims (\d+) dues (\d+)", it) for it in lines]
+    starts = re.fullmatch(r"starts (\d+)", last)
+    want(all(rows) and starts, f"`ledger` prints {text!r}")
+    return told, Books(int(starts[1]), {row[1]: (int(row[2]), int(row[3])) for row in rows})
+
+
+def same_books(path, wanted):
+    told, found = books_of(path)
+    want(found == wanted, f"`ledger` {told} finds {found}, and there is {wanted}")
+
+
+# Neighbours that note what they gave and took.
+
+
+class Gate:
+    """Lets exchanges begin while a connector runs, and waits for the end of those that did."""
+
+    def __init__(self):
+        self.changed, self.is_open, self.is_over, self.inside = threading.Condition(), False, False, 0
+
+    def enter(self):
+        """Whether an exchange is to begin, once one may."""
+        with self.changed:
+            self.changed.wait_for(lambda: self.is_open or self.is_over)
+            self.inside += not self.is_over
+            return not self.is_over
+
+    def leave(self):
+        with self.changed:
+            self.inside -= 1
+            self.changed.notify_all()
+
+    def open(self):
+        with self.changed:
+            self.is_open = True
+            self.changed.notify_all()
+
+    def shut(self):
+        with self.changed:
+            self.is_open = False
+
+    def empty(self):
+        """Waits until no exchange is under way."""
+        with self.changed:
+            want(self.changed.wait_for(lambda: not self.inside, 60), "an exchange outlives its connector")
+
+    def end(self):
+        with self.changed:
+            self.is_over = True
+            self.changed.notify_all()
+
+
+class Way:
+    """The Prepares from one neighbour to another. Each has a number, which its address and its preimage are made of. `sent`,
+    `taken` and `refused` are those of the connector's present life."""
+
+    def __init__(self, payer, payee, prefix, rate):
+        self.payer, self.payee, self.prefix, self.rate = payer, payee, prefix, rate
+        self.rng = random.Random(f"{SEED} {payer}")
+        self.numbers, self.amounts = itertools.count(1), {}
+        self.met, self.given, self.strange = collections.Counter(), set(), []
+        self.paid = self.unanswered = self.fulfilled = self.pending = 0  # sums over the lives that have ended, in units
+        self.begin()
+
+    def begin(self):
+        self.sent, self.taken, self.refused = set(), set(), {}
+
+    def due(self, number):
+        """What the connector owes for a Prepare that is fulfilled."""
+        return self.amounts[number] * self.rate[0] // self.rate[1]
+
+    def meet(self, body):
+        """A Prepare is at its payee. Gives the answer: a Reject for one in eight, a Fulfill for the others."""
+        at = fields_at(body)
+        number = int(re.search(rb"%s\.(\d+)" % self.prefix.encode(), body)[1])
+        self.met[number] += 1
+        if int.from_bytes(body[at : at + 8], "big") != self.due(number):
+            self.strange.append(number)
+        if number % 8 == 0:
+            return reject()
+        self.given.add(number)
+        return fulfill(number.to_bytes(32, "big"))
+
+    def exchange(self, port):
+        """Sends a Prepare, and notes what came back. Where nobody listens, nothing is sent."""
+        try:
+            stream = socket.create_connection((HOST, port), timeout=60)
+        except OSError:
+            time.sleep(0.005)
+            return
+        number, amount = next(self.numbers), self.rng.randrange(1, MOST)
+        self.amounts[number] = amount
+        self.sent.add(number)
+        preimage = number.to_bytes(32, "big")
+        packet = prepare(amount, 30, f"{self.prefix}.{number}", preimage)
+        try:
+            with stream:
+                stream.sendall(request(f"{self.payer}-at-hub", packet))
+                _, body = message(stream)
+        except OSError:
+            return
+        if body == fulfill(preimage):
+            self.taken.add(number)
+        elif body[:1] == b"\x0e":
+            self.refused[number] = body[2:5].decode()
+
+
+def reject():
+    """An ILP Reject F99 without more."""
+    return b"\x0e" + octets(b"F99" + octets(b"test.end") + octets(b"") + octets(b""))
+
+
+class Neighbour(Peer):
+    """Answers the Prepares that arrive for it, each after up to 20 ms."""
+
+    def __init__(self, name, way):
+        self.name, self.way = name, way
+        super().__init__(self.take)
+
+    def take(self, _, stream):
+        head, body = message(stream)
+        if not is_whole(head, body):  # the connector was killed meanwhile
+            return
+        if f"Authorization: Bearer hub-at-{self.name}\r\n".encode() not in head:
+            self.way.strange.append(head)
+            return
+        time.sleep(self.way.rng.random() * 0.02)
+        stream.sendall(answer(self.way.meet(body)))
+
+
+# A connector that keeps books, between two neighbours.
+
+
+class Connector:
+    """A connector with books, which may be started again and again: what its table has of each account, by name, and the routes,
+    each with the account's name and the rate."""
+
+    def __init__(self, play, path):
+        self.play, self.path, self.port, self.rng = play, path, free_port(), random.Random(SEED)
+        self.accounts, self.routes = {}, {}
+
+    def table(self, names=None):
+        """A table with these accounts, in this order; in one that is drawn, with all of them."""
+        names = names or self.rng.sample(sorted(self.accounts), len(self.accounts))
+        lines = [f"account NAME={name} {self.accounts[name]}" for name in names]
+        lines += [f"route {prefix} {names.index(name)}{rate}" for prefix, (name, rate) in self.routes.items() if name in names]
+        return "\n".join(lines) + "\n", names
+
+    def start(self, table=None, requests=STAY, port=None, **how):
+        """The connector begins, with the accounts in an order that is drawn."""
+        words = [f"--listen={HOST}:{port or self.port}", "--own=test.hub", f"--requests={requests}", f"--workers={SENDERS}"]
+        with self.play.file((table or self.table()[0]).encode()) as given:
+            it = self.play.start("connector", [*words, f"--ledger={self.path}"], given=given, **how)
+        it.port = port or self.port
+        return it
+
+
+def killed(it):
+    """A kill ends a connector, which has not ended by itself."""
+    it.kill()
+    _, errors = it.communicate()
+    want(it.returncode == -9 and not errors, f"before its kill a connector ended with {it.returncode} {errors!r}")
+
+
+class Hub(Connector):
+    """A connector between two neighbours. A rate of three for two is on one way, so that claims and dues are of different
+    amounts."""
+
+    def __init__(self, play, path):
+        super().__init__(play, path)
+        self.ways = [Way("alice", "bob", "test.b", (3, 2)), Way("bob", "alice", "test.a", (1, 1))]
+        neighbours = [Neighbour("bob", self.ways[0]), Neighbour("alice", self.ways[1])]
+        play.peers += neighbours
+        self.accounts = {it.name: line_of(it.name, it.port) for it in neighbours}
+        self.routes = {"test.b": ("bob", " 3 2"), "test.a": ("alice", "")}
+        self.books, self.tally, self.gate = Books(0, {}), collections.Counter(), Gate()
+        play.open.append(self)
+        for way in self.ways * SENDERS:
+            threading.Thread(target=self.send_on, args=(way,), daemon=True).start()
+
+    def close(self):
+        self.gate.end()
+
+    def send_on(self, way):
+        while self.gate.enter():
+            try:
+                way.exchange(self.port)
+            finally:
+                self.gate.leave()
+
+    def serve(self, **how):
+        """The connector begins, and all neighbours send once it listens."""
+        it = self.start(**how)
+        if not until_it_listens(it):
+            raise Wrong(f"a connector does not listen: {ended(it, 1)}")
+        self.gate.open()
+        return it
+
+    def stop(self, it, listened=True):
+        """A kill ends a life of the connector."""
+        self.gate.shut()
+        killed(it)
+        self.gate.empty()
+        self.account(listened)
+
+    def live(self, seconds, **how):
+        """A life of so many seconds with all neighbours sending, which a kill ends. Whether it listened."""
+        it = self.start(**how)
+        self.gate.open()
+        time.sleep(seconds)
+        listened = listens(it.port)
+        self.stop(it, listened)
+        return listened
+
+    def account(self, listened, refused_too=False):
+        """A life has ended. Compares what the books have more than before with what each neighbour gave and took in it."""
+        before, after = self.books, books_in(self.path, self.play.room)
+        more = after.starts - before.starts
+        want(more == 1 or (more == 0 and not listened), f"starts {before.starts}, then {after.starts}; it listened: {listened}")
+        for way in self.ways:
+            self.compare(way, before, after, refused_too)
+        self.books = after
+
+    def compare(self, way, before, after, refused_too):
+        """In this life the books have each Fulfill that was passed on, once, and of those that were given and not passed on, with
+        claim and due, any or none."""
+        claims = after.claims(way.payer) - before.claims(way.payer) - sum(way.amounts[it] for it in way.taken)
+        dues = after.dues(way.payee) - before.dues(way.payee) - sum(map(way.due, way.taken))
+        unanswered = way.sent - way.taken - (set() if refused_too else set(way.refused))
+        pending = sorted(unanswered & way.given)
+        kept = sum_of(pending, claims, dues, way)
+        told = f"{way.payer} to {way.payee}: claims {claims} and dues {dues} beside {len(way.taken)} that were passed on"
+        want(kept is not None, f"{told}, and {[(way.amounts[it], way.due(it)) for it in pending]} were open")
+        want(not way.strange, f"{way.payee} met {way.strange[:3]}")
+        want(all(way.met[it] <= 1 for it in way.sent), f"{way.payee} met a Prepare twice")
+        self.tally.update(passed=len(way.taken), open=len(pending), kept=len(kept))
+        self.tally.update(f"answered {it}" for it in way.refused.values())
+        way.paid += sum(way.amounts[it] for it in way.taken)
+        way.unanswered += sum(way.amounts[it] for it in unanswered)
+        way.fulfilled += sum(way.due(it) for it in way.sent & way.given)
+        way.pending += sum(map(way.due, pending))
+        way.begin()
+
+    def laws(self):
+        """On each link, over all lives: what is claimed and was not paid, or was fulfilled and is not owed, is not below nothing,
+        and at most what was open at the ends of lives."""
+        for way in self.ways:
+            more, less = self.books.claims(way.payer) - way.paid, way.fulfilled - self.books.dues(way.payee)
+            want(0 <= more <= way.unanswered, f"claims from {way.payer} {more} above {way.paid}, of {way.unanswered} unanswered")
+            want(0 <= less <= way.pending, f"dues to {way.payee} {less} below {way.fulfilled}, of {way.pending} pending")
+
+    def served(self, seconds=0.5, **how):
+        """A life in which the connector listens, and which a kill ends so many seconds later."""
+        it = self.serve(**how)
+        time.sleep(seconds)
+        self.stop(it)
+
+    def some_sums(self):
+        """Books in which something is owed both ways."""
+        it, until = self.serve(), time.monotonic() + 30
+        while min(len(way.taken) for way in self.ways) < 50 and time.monotonic() < until:
+            time.sleep(0.05)
+        self.stop(it)
+        want(all(self.books.claims(it) and self.books.dues(it) for it in NAMES), f"nothing is owed in {self.books}")
+        return self.books
+
+
+def line_of(name, port):
+    """What a table has of a neighbour behind its name."""
+    return f"{LIMIT} {MOST} {name}-at-hub {HOST}:{port} hub-at-{name}"
+
+
+def sum_of(numbers, claims, dues, way):
+    """Which of these Prepares have these sums, as a set; None where none have."""
+    for count in range(len(numbers) + 1):
+        for some in itertools.combinations(numbers, count):
+            if sum(way.amounts[it] for it in some) == claims and sum(map(way.due, some)) == dues:
+                return set(some)
+    return None
+
+
+def told_by(hub, **how):
+    """How a connector ends by itself that is started with the books of a hub."""
+    return ended(hub.start(**how), 20)
+
+
+class Transfers:
+    """Transfers by `send` to `receive` over connectors, one after the other, until they are to be over."""
+
+    def __init__(self, play, port, sender, receiver):
+        self.play, self.hub, self.sender, self.receiver, self.is_over, self.wrong = play, port, sender, receiver, False, []
+        self.port, self.count, self.paid, self.credited = free_port(), 0, 0, 0
+        self.thread = threading.Thread(target=self.run, daemon=True)
+
+    def lines(self):
+        """What the table of a connector has of the sender, and of the receiver."""
+        yield self.sender, f"{LIMIT} {PIECE} {self.sender}-at-hub - -"
+        yield self.receiver, f"0 0 {self.receiver}-at-hub {HOST}:{self.port} hub-at-{self.receiver}"
+
+    def run(self):
+        while not self.is_over:
+            try:
+                self.one(some_bytes(300_000))
+            except Wrong as wrong:
+                self.wrong.append(str(wrong))
+                return
+
+    def one(self, content):
+        here, there, secret = f"test.{self.sender}", f"test.{self.receiver}", os.urandom(32).hex()
+        receiver = self.play.receive(port=self.port, token=f"hub-at-{self.receiver}", address=there, peer=here, secret=secret)
+        ways = {"token": f"{self.sender}-at-hub", "address": here, "peer": there, "secret": secret}
+        sender = self.play.send(self.hub, content, f"--money={MONEY}", **ways)
+        told = ended(sender, 120), ended(receiver, 20)
+        with open(receiver.path, "rb") as file:
+            want(told == ("0", "0") and file.read() == content, f"send {told[0]}, receive {told[1]}")
+        self.count += 1
+        self.paid += totals(sender.totals)["paid"]
+        self.credited += totals(receiver.totals)["credited"]
+
+    def end(self, *connectors):
+        """Has the last transfer end over these connectors, and looks at all of them."""
+        self.is_over, until = True, time.monotonic() + 180
+        while self.thread.is_alive() and time.monotonic() < until:
+            for it in connectors:
+                stands(it, "connector")
+            self.thread.join(0.1)
+        want(not self.thread.is_alive() and not self.wrong, f"transfers: {self.wrong or 'the last one does not end'}")
+
+    def compare(self, kills, *sums):
+        """What was paid, what connectors booked on the way, and what was credited. A kill finds one Prepare open for each of the
+        sender's four workers."""
+        row = [self.paid, *sums, self.credited]
+        told = f"{self.count} transfers from {self.sender} to {self.receiver} paid, booked and credited {row}"
+        want(all(0 <= more - less <= 4 * kills * PIECE for less, more in zip(row, row[1:])), told)
+        return told
+
+
+# Kills.
+
+
+def moment(rng):
+    """After so many seconds a connector is killed: one in five times while it begins."""
+    return rng.uniform(0, 0.04) if rng.random() < 0.2 else rng.uniform(0.04, 0.7)
+
+
+@test()
+def kills_at_random_moments(play):
+    hub = Hub(play, f"{play.room}/books")
+    transfers = Transfers(play, hub.port, "carol", "dave")
+    hub.accounts.update(transfers.lines())
+    hub.routes["test.dave"] = ("dave", "")
+    transfers.thread.start()
+    listened = 0
+    for _ in range(KILLS):
+        listened += hub.live(moment(hub.rng))
+        if hub.books.sums and hub.rng.random() < 0.25:
+            same_books(hub.path, hub.books)
+    # A life that lasts until the transfers have ended, and is then killed too.
+    last = hub.serve()
+    transfers.end(last)
+    hub.stop(last)
+    hub.laws()
+    same_books(hub.path, hub.books)
+    stays_whole(hub)
+    counts = ", ".join(f"{name} {count}" for name, count in sorted(hub.tally.items()))
+    sums = hub.books.claims("carol"), hub.books.dues("dave")
+    want(sums[0] == sums[1], f"claims from carol and dues to dave are {sums}")
+    return f"seed {SEED}: {KILLS} kills, {listened} of them while it served; {counts}; {transfers.compare(KILLS + 1, *sums)}"
+
+
+@test()
+def two_connectors_are_killed(play):
+    one, two = Connector(play, f"{play.room}/one"), Connector(play, f"{play.room}/two")
+    there, back = Transfers(play, one.port, "carol", "dan"), Transfers(play, two.port, "frank", "erin")
+    (carol, dan), (frank, erin) = there.lines(), back.lines()
+    one.accounts = dict([carol, erin, ("two", f"{LIMIT} {PIECE} two-at-one {HOST}:{two.port} one-at-two")])
+    two.accounts = dict([frank, dan, ("one", f"{LIMIT} {PIECE} one-at-two {HOST}:{one.port} two-at-one")])
+    one.routes, two.routes = {"test.dan": ("two", ""), "test.erin": ("erin", "")}, {"test.dan": ("dan", ""), "test.erin": ("one", "")}
+    lives = {it: it.start() for it in (one, two)}
+    there.thread.start()
+    back.thread.start()
+    for _ in range(KILLS):
+        it = one.rng.choice((one, two))
+        time.sleep(moment(one.rng))
+        killed(lives[it])
+        books_in(it.path, play.room)
+        lives[it] = it.start()
+    for it in (there, back):
+        it.end(*lives.values())
+    for it in lives.values():
+        killed(it)
+    first, second = books_in(one.path, play.room), books_in(two.path, play.room)
+    for books, names in ((first, ("carol", "two", "erin")), (second, ("frank", "one", "dan"))):
+        sender, other, receiver = names
+        want(books.claims(sender) == books.dues(other) and books.claims(other) == books.dues(receiver), f"{books}")
+    told = there.compare(KILLS, first.claims("carol"), first.dues("two"), second.claims("one"), second.dues("dan"))
+    return f"{told}; {back.compare(KILLS, second.claims('frank'), second.dues('one'), first.claims('two'), first.dues('erin'))}"
+
+
+def stays_whole(hub):
+    """A last life that ends by itself leaves the sums as they were, in its totals and in the books."""
+    table, names = hub.table()
+    it = hub.start(table=table, requests=3)
+    use_up(it, it.port, "alice-at-hub")
+    told = ended(it, 20)
+    want(told == "0", f"connector {told} after three requests")
+    found = totals(it.totals)
+    for at, name in enumerate(names):
+        sums = found.get(f"account {at} claims"), found.get(f"account {at} dues"), found.get(f"account {at} held")
+        want(sums == (*hub.books.sums[name], 0), f"totals of {name} are {sums}, and the books have {hub.books.sums[name]}")
+    hub.account(True)
+    same_books(hub.path, hub.books)
+
+
+@test()
+def kills_while_a_file_is_made(play):
+    hub = Hub(play, f"{play.room}/books")
+    begun = time.monotonic()
+    hub.stop(hub.serve())
+    taken = time.monotonic() - begun
+    files = collections.Counter()
+    for life in range(KILLS):
+        hub.path, hub.books = f"{play.room}/books{life}", Books(0, {})
+        hub.live(hub.rng.uniform(0, taken))
+        files[f"{len(files_of(hub.path))} files and {len(hub.books.sums)} accounts"] += 1
+        hub.stop(hub.serve())
+    return f"{KILLS} in up to {taken:.3f} s, with {dict(files)}"
+
+
+@test()
+def a_payment_is_killed(play):
+    hub = Hub(play, f"{play.room}/books")
+    before = hub.some_sums()
+    begun = time.monotonic()
+    same_books(hub.path, before)
+    taken, booked = time.monotonic() - begun, 0
+    for _ in range(KILLS):
+        it = subprocess.Popen([PROGRAM, "ledger", hub.path, "settle", "alice", "1"], stdout=subprocess.DEVNULL, stderr=subprocess.PIPE)
+        time.sleep(hub.rng.uniform(0, 1.5 * taken))
+        it.kill()
+        _, errors = it.communicate()
+        want(it.returncode in (0, -9) and not errors, f"`ledger settle` ended with {it.returncode} {errors!r}")
+        after = books_in(hub.path, play.room)
+        less = before.claims("alice") - after.claims("alice")
+        want(less == 1 or (less == 0 and it.returncode), f"`ledger settle` ended with {it.returncode}, and {less} is off the claims")
+        booked, before = booked + less, after
+    payments = with_sqlite(copied(hub.path, f"{play.room}/copy"), "SELECT count(*) FROM payment")[0]
+    want(payments == [(booked,)], f"{booked} payments were booked, and {payments} stand there")
+    return f"{booked} of {KILLS} booked"
+
+
+# Disks and files.
+
+
+def failing(play):
+    """The library that has calls on the books fail."""
+    library = f"{play.room}/failing.so"
+    try:
+        subprocess.run(["cc", "-O", "-shared", "-fPIC", "-o", library, f"{TOP}/tests/failing.c", "-ldl"], check=True, capture_output=True)
+    except (OSError, subprocess.CalledProcessError) as error:
+        raise Skipped(f"no cc: {error}") from None
+    return library
+
+
+def life_with(hub, library, way, call):
+    """A life in which this call on the books fails in this way, and then one without. How the first one ended."""
+    names = {"LD_PRELOAD": library, "FAIL_PATH": hub.path, "FAIL_AT": str(call), "FAIL_WITH": way}
+    it = hub.start(env={**os.environ, **names})
+    hub.gate.open()
+    with contextlib.suppress(subprocess.TimeoutExpired):
+        it.wait(10)
+    hub.gate.shut()
+    serves = it.poll() is None
+    if serves:
+        it.kill()
+    told = ended(it, 1)
+    hub.gate.empty()
+    # What was refused for the failure may be in the books all the same.
+    hub.account(any(way.taken for way in hub.ways), refused_too=True)
+    hub.stop(hub.serve())
+    return "serves" if serves else "killed" if told == "WRONG -9 b''" else told
+
+
+@test(("kill", "killed"), ("error", "112"), ("full", "113"))
+def a_call_on_the_books_meets(play, way, wanted):
+    hub, library, found = Hub(play, ""), failing(play), collections.Counter()
+    drawn = [hub.rng.randrange(1_000) for _ in range(KILLS // 4)]
+    for at, call in enumerate([*range(1, 2 * KILLS + 1), *drawn]):
+        hub.path, hub.books = f"{play.room}/books{at}", Books(0, {})
+        for life in ("new", "kept"):
+            told = life_with(hub, library, way, call)
+            found[told] += 1
+            want(told in (wanted, "serves"), f"connector {told} where call {call} on {life} books meets {way}")
+    want(found[wanted] > found["serves"], f"most calls are not made: {dict(found)}")
+    return f"seed {SEED}: {dict(found)}"
+
+
+def disk(play, size):
+    """A folder on a disk of its own, of this size, in a mount namespace that ends with the test."""
+    place = f"{play.room}/disk"
+    os.mkdir(place)
+    shell = f'mount -t tmpfs -o size={size} none "$1" && echo mounted && exec sleep 1000'
+    ways = ["unshare", "--mount"] if os.getuid() == 0 else ["unshare", "--user", "--map-root-user", "--mount"]
+    try:
+        it = subprocess.Popen([*ways, "sh", "-c", shell, "sh", place], stdout=subprocess.PIPE, stderr=subprocess.PIPE)
+    except OSError as error:
+        raise Skipped(f"no unshare: {error}") from None
+    play.started.append(it)
+    with it.stdout as told:
+        if told.readline() != b"mounted\n":
+            raise Skipped(f"no disk of its own: {it.stderr.read().decode().strip()}")
+    return f"/proc/{it.pid}/root{place}"
+
+
+@test()
+def a_disk_of_2_mb_that_fills(play):
+    hub = Hub(play, f"{disk(play, '2m')}/books")
+    it = hub.start()
+    hub.gate.open()
+    told = ended(it, 120)
+    hub.gate.shut()
+    hub.gate.empty()
+    want(told == "113", f"connector {told} on a full disk")
+    larger = copied(hub.path, f"{play.room}/books")
+    again = hub.start()
+    told = "listens" if until_it_listens(again) else ended(again, 20)
+    want(told in ("113", "listens"), f"connector {told} on a disk that was full")
+    hub.path = larger
+    # A booking that met the full disk was answered with T01, and may be in the books all the same.
+    hub.account(True, refused_too=True)
+    passed = hub.tally["passed"]
+    hub.port = free_port()
+    hub.served()
+    hub.laws()
+    return f"113 after {passed} that were passed on, and all of them are on a larger disk; on the full one {told}"
+
+
+@test()
+def a_second_connector_on_one_file(play):
+    hub = Hub(play, f"{play.room}/books")
+    hub.some_sums()
+    first = hub.serve()
+    told = [told_by(hub, port=free_port()) for _ in range(2)] + [ledger(hub.path)[0], ledger(hub.path, "settle", "alice", "1")[0]]
+    want(told == ["111"] * 4, f"two connectors and two `ledger` beside one: {told}")
+    time.sleep(0.3)
+    hub.stop(first)
+    return "111"
+
+
+def read_of(path, room):
+    """What sqlite3 reads of a file that may be damaged; None where it refuses."""
+    try:
+        return books_in(path, room)
+    except (sqlite3.Error, Wrong):
+        return None
+
+
+class Damaged:
+    """Copies of books with something wrong, of which each is read. It is refused, or read as sqlite3 reads it."""
+
+    def __init__(self, play, path, wanted):
+        self.play, self.path, self.wanted, self.tally, self.others = play, path, wanted, collections.Counter(), set()
+
+    def look(self, what, kind, file, change):
+        """Reads a copy of which one file is changed by a function."""
+        copy = copied(self.path, f"{self.play.room}/damaged")
+        with open(copy + file, "r+b") as it:
+            change(it)
+        kept = copied(copy, f"{self.play.room}/kept")
+        told, found = books_of(copy)
+        if found is None:
+            want(told in REFUSALS, f"{what}: {told}")
+            self.tally[f"{kind} refused"] += 1
+        elif found == self.wanted:
+            self.tally[f"{kind} without an effect"] += 1
+        else:
+            others = read_of(kept, self.play.room)
+            want(found == others, f"{what}: {found}, where sqlite3 reads {others}, and the whole file has {self.wanted}")
+            self.tally[f"{kind} read otherwise, as sqlite3 does"] += 1
+            self.others.add(what)
+
+    def cut(self, kind, file, size):
+        self.look(f"{kind} to {size} bytes", kind, file, lambda it: it.truncate(size))
+
+    def turn(self, kind, file, place):
+        """Changes the byte at a place."""
+
+        def change(it):
+            it.seek(place)
+            byte = it.read(1)[0]
+            it.seek(place)
+            it.write(bytes([byte ^ 0x55]))
+
+        self.look(f"{kind} at {place}", kind, file, change)
+
+    def told(self):
+        return "; ".join(f"{name}: {count}" for name, count in sorted(self.tally.items()))
+
+
+def in_one_file(path):
+    """Has sqlite3 write all into the database, and leave no log."""
+    with_sqlite(path, "PRAGMA wal_checkpoint(TRUNCATE)")
+    want(not os.path.exists(f"{path}-wal"), "sqlite3 leaves a log")
+
+
+def places(rng, size, count):
+    return sorted(rng.sample(range(size), min(size, count)))
+
+
+@test()
+def a_file_that_was_cut(play):
+    hub = Hub(play, f"{play.room}/books")
+    damaged = Damaged(play, hub.path, hub.some_sums())
+    for size in places(hub.rng, os.path.getsize(f"{hub.path}-wal"), 40):
+        damaged.cut("a log cut", "-wal", size)
+    in_one_file(hub.path)
+    same_books(hub.path, hub.books)
+    whole = os.path.getsize(hub.path)
+    # (one of a byte is taken for a new one, as an empty one is)
+    for size in [2, 99, 100, 511, 4_095, 4_096, whole - 4_096, whole - 1, *places(hub.rng, whole, 20)]:
+        damaged.cut("the database cut", "", max(2, size))
+    others = [it for it in damaged.others if it.startswith("the database")]
+    want(not others, f"{others} give other sums")
+    return damaged.told()
+
+
+@test()
+def a_file_with_a_changed_byte(play):
+    hub = Hub(play, f"{play.room}/books")
+    damaged = Damaged(play, hub.path, hub.some_sums())
+    for place in places(hub.rng, os.path.getsize(f"{hub.path}-wal"), 100):
+        damaged.turn("a byte of the log", "-wal", place)
+    in_one_file(hub.path)
+    pages, root = with_sqlite(hub.path, "PRAGMA page_size", "SELECT rootpage FROM sqlite_schema WHERE name = 'account'")
+    size, root = pages[0][0], root[0][0]
+    for place in range(100):
+        damaged.turn("a byte of the header", "", place)
+    for place in places(hub.rng, os.path.getsize(hub.path), 150):
+        damaged.turn("a byte of the database", "", place)
+    # (the rows stand at the end of their page)
+    for place in range(root * size - 60, root * size):
+        damaged.turn("a byte of the rows", "", place)
+    places_of = {int(it.split()[-1]) for it in damaged.others if "log" not in it}
+    strange = [it for it in places_of if not (60 <= it < 64 or (root - 1) * size <= it < root * size)]
+    want(not strange, f"bytes at {strange} give other sums, and are neither the starts nor in the page of the sums")
+    return damaged.told()
+
+
+def other_files(rng):
+    """Files that hold no books."""
+    yield "a text", b"account alice claims 500 dues 0\nstarts 3\n"
+    yield "two bytes", b"SQ"
+    yield "the first bytes of a database", b"SQLite format 3\0"
+    yield "random bytes", rng.randbytes(5_000)
+    yield "random pages", rng.randbytes(8_192)
+    yield "zeros", bytes(4_096)
+
+
+OTHER_TABLES = {
+    "another table": ["CREATE TABLE money (id INTEGER PRIMARY KEY)"],
+    "a table of that name": ["CREATE TABLE account (id INTEGER PRIMARY KEY, name TEXT, claims INTEGER, dues INTEGER)"],
+    "a view of that name": ["CREATE VIEW account AS SELECT 1 AS id, 'alice' AS name, 500 AS claims, 0 AS dues"],
+}
+CHANGES = {
+    "an index": "CREATE INDEX by_name ON account (name)",
+    "a trigger": "CREATE TRIGGER twice AFTER UPDATE ON account BEGIN DELETE FROM payment; END",
+    "a table more": "CREATE TABLE more (id INTEGER PRIMARY KEY)",
+    "a name twice": "INSERT INTO account SELECT max(id) + 1, 'alice', 0, 0 FROM account",
+    "a claim below 0": "UPDATE account SET claims = -1 WHERE name = 'alice'",
+    "a gap": "UPDATE account SET id = 77 WHERE name = 'bob'",
+}
+
+
+def stays_as_it_is(hub, kind, wanted=("110",)):
+    """A connector and `ledger` refuse a file with one of these numbers, and leave it."""
+    with open(hub.path, "rb") as file:
+        before = file.read()
+    told = told_by(hub), ledger(hub.path)[0], ledger(hub.path, "settle", "alice", "1")[0]
+    want(len(set(told)) == 1 and told[0] in wanted, f"{kind}: {told}")
+    with open(hub.path, "rb") as file:
+        want(file.read() == before, f"{kind}: it is changed")
+
+
+@test()
+def a_file_of_something_else(play):
+    hub = Hub(play, f"{play.room}/books")
+    for kind, content in other_files(hub.rng):
+        with open(hub.path, "wb") as file:
+            file.write(content)
+        stays_as_it_is(hub, kind, ("110", "114"))
+    for kind, statements in OTHER_TABLES.items():
+        os.remove(hub.path)
+        with_sqlite(hub.path, *statements)
+        stays_as_it_is(hub, kind)
+    hub.path = f"{play.room}/changed"
+    hub.some_sums()
+    in_one_file(hub.path)
+    for kind, statement in CHANGES.items():
+        hub.path = copied(f"{play.room}/changed", f"{play.room}/other")
+        # (a sqlite3 that writes spoils the sums of its pages, so that they are damaged)
+        with_sqlite(hub.path, statement)
+        stays_as_it_is(hub, kind, ("110", "114"))
+    return "each is left"
+
+
+@test()
+def no_file(play):
+    hub = Hub(play, f"{play.room}/books")
+    told = [ledger(hub.path)[0], ledger(hub.path, "settle", "alice", "1")[0]]
+    want(told == ["110"] * 2 and not files_of(hub.path), f"`ledger` {told}, and then there are {files_of(hub.path)}")
+    with open(hub.path, "wb"):
+        pass
+    told = ledger(hub.path)[0]
+    want(told == "110" and os.path.getsize(hub.path) == 0, f"`ledger` {told} on an empty file")
+    hub.some_sums()
+    return "110, and none is made; an empty one is for a connector to fill"
+
+
+@test()
+def a_file_that_cannot_be_opened(play):
+    hub = Hub(play, f"{play.room}/books")
+    hub.some_sums()
+    os.link(hub.path, f"{play.room}/second")
+    found = {"a second name": (told_by(hub), ledger(hub.path)[0])}
+    os.remove(f"{play.room}/second")
+    same_books(hub.path, hub.books)
+    hub.path = play.room
+    found["a folder"] = told_by(hub), ledger(hub.path)[0]
+    hub.path = f"{play.room}/none/books"
+    found["no folder"] = told_by(hub), ledger(hub.path)[0].replace("110", "111")  # (`ledger` finds no file)
+    want(all(told == ("111", "111") for told in found.values()), f"{found}")
+    return "111"
+
+
+# Names, limits and payments.
+
+
+@test()
+def accounts_by_their_names(play):
+    hub = Hub(play, f"{play.room}/books")
+    wanted = hub.some_sums()
+    for names in (["alice", "bob"], ["bob", "alice"]):
+        it = hub.start(table=hub.table(names)[0], requests=1)
+        use_up(it, it.port, "alice-at-hub")
+        told, found = ended(it, 20), totals(it.totals)
+        sums = {name: (found.get(f"account {at} claims"), found.get(f"account {at} dues")) for at, name in enumerate(names)}
+        want(told == "0" and sums == wanted.sums, f"connector {told} with {names}: {sums}, and the books have {wanted.sums}")
+        hub.account(True)
+    hub.accounts["erin"] = line_of("erin", 1)
+    hub.served()
+    want(hub.books.sums.get("erin") == (0, 0), f"books with a name more: {hub.books}")
+    hub.served(table=hub.table(["bob", "alice"])[0])
+    before = hub.books
+    told = told_by(hub, table=hub.table(["bob", "erin"])[0])
+    want(told == "122", f"connector {told} without alice, which owes and is owed")
+    want(books_in(hub.path, play.room) == before, "a refused table changes the books")
+    return "two orders, a name more, one less; 122 where it owes"
+
+
+@test()
+def a_limit_below_what_is_owed(play):
+    hub = Hub(play, f"{play.room}/books")
+    hub.some_sums()
+    for name in NAMES:
+        want(ledger(hub.path, "settle", name, str(-hub.books.dues(name)))[0] == "0", f"all that is owed to {name} is not settled")
+        hub.books = books_in(hub.path, play.room)
+        owed = hub.books.claims(name)
+        hub.accounts[name] = line_with(hub.accounts[name], owed - 1)
+        told = told_by(hub)
+        want(told == "123", f"connector {told} where {name} owes {owed} and may owe {owed - 1}")
+        want(books_in(hub.path, play.room) == hub.books, "a refused limit changes the books")
+        hub.accounts[name] = line_with(hub.accounts[name], owed)
+        hub.served()
+        hub.accounts[name] = line_with(hub.accounts[name], LIMIT)
+    return "123 for one unit, and not for none"
+
+
+def line_with(line, limit):
+    return f"{limit} {line.partition(' ')[2]}"
+
+
+@test()
+def payments(play):
+    hub = Hub(play, f"{play.room}/books")
+    before = hub.some_sums()
+    same_books(hub.path, before)
+    claims, dues = before.sums["alice"]
+    for amount, wanted in ((200, (claims - 200, dues)), (-200, (claims - 200, dues - 200))):
+        told, text = ledger(hub.path, "settle", "alice", str(amount))
+        found = books_in(hub.path, play.room)
+        line = f"account alice claims {wanted[0]} dues {wanted[1]}\n"
+        want((told, text) == ("0", line) and found.sums["alice"] == wanted, f"settle {amount} {told} {text!r} leaves {found}")
+    for amount in (claims - 199, 199 - dues, 2**63 - 1, 1 - 2**63):
+        told, _ = ledger(hub.path, "settle", "alice", str(amount))
+        want(told == "121", f"settle {amount} {told} of {found}")
+    told, _ = ledger(hub.path, "settle", "nobody", "1")
+    want(told == "116", f"settle of a name that is not there {told}")
+    want(books_in(hub.path, play.room) == found, "a refused payment changes the books")
+    for name in NAMES:
+        for side in (0, 1):
+            amount = found.sums[name][side]
+            told, _ = ledger(hub.path, "settle", name, str(-amount if side else amount))
+            want(told == "0", f"settle of all that {name} has {told}")
+    last = books_in(hub.path, play.room)
+    want(set(last.sums.values()) == {(0, 0)} and last.starts == before.starts, f"all is settled, and there is {last}")
+    rows = with_sqlite(copied(hub.path, f"{play.room}/copy"), "SELECT * FROM payment ORDER BY 1")[0]
+    want(len(rows) == 6 and [it[1] for it in rows] == ["alice"] * 4 + ["bob"] * 2, f"payments {rows}")
+    hub.books = last
+    hub.served()
+    return f"121 above what stands; the table has {rows[0]} and {rows[1]}"
+
+
+if __name__ == "__main__":
+    raise SystemExit(main())

@@ -1,0 +1,208 @@
+"""What tests of the real program start and share: a test's processes, with a folder of their own, that end with it; the list of
+the tests of a file; and how they are run and counted. A file of tests is called FILE.py [PROGRAM [WORD]]."""
+import os, socket, subprocess, sys, tempfile, time
+from concurrent.futures import ThreadPoolExecutor
+from itertools import chain
+
+from peers import GIVING, HOST, SECRET, Peer, ended, free_port, listens
+
+TOP = os.path.join(os.path.dirname(os.path.realpath(__file__)), "..")
+WORDS = [it for it in sys.argv[1:] if not it.startswith("--")]
+PROGRAM = os.path.realpath(WORDS[0] if WORDS else f"{TOP}/crates/ilpstream/out/ilpstream")
+STAY = 2_147_483_647  # requests of a connector that does not end by itself
+AT_ONCE = 16  # tests that wait, side by side
+TESTS, WAITING = [], []
+
+
+class Wrong(Exception):
+    """What a test saw, where that is not right."""
+
+
+class Skipped(Exception):
+    """Why a test cannot be made on this machine."""
+
+
+def want(is_so, told):
+    if not is_so:
+        raise Wrong(told)
+
+
+def test(*rows, waits=False):
+    """Has a function be a test, once for each row of its arguments; where it waits, beside others that do."""
+
+    def listed(function):
+        for row in rows or [()]:
+            words = " ".join(map(str, row))
+            (WAITING if waits else TESTS).append((f"{function.__name__.replace('_', ' ')} {words}".strip(), function, row))
+        return function
+
+    return listed
+
+
+def some_bytes(count):
+    return bytes(n % 251 for n in range(count % 251)) + bytes(range(251)) * (count // 251)
+
+
+def until_it_listens(process):
+    """Whether a command listens within 30 seconds."""
+    until = time.monotonic() + 30
+    while time.monotonic() < until and process.poll() is None:
+        if listens(process.port):
+            return True
+        time.sleep(0.02)
+    return False
+
+
+def listening(start):
+    """Has a command begin that listens: at the port that is given, or at a free one; at another where that was taken meanwhile."""
+
+    def begun(play, *words, port=None, **how):
+        for _ in range(1 if port else 3):
+            it = start(play, *words, port=port or free_port(), **how)
+            if until_it_listens(it):
+                return it
+            told = ended(it, 1)
+            if told != "80":
+                break
+        raise Wrong(f"a command does not listen: {told}")
+
+    return begun
+
+
+def stands(process, command):
+    """A command has not ended."""
+    if process.poll() is not None:
+        raise Wrong(f"{command} {ended(process, 1)}")
+
+
+class Play:
+    """What a test started, with a folder of its own. All of it ends with the test."""
+
+    def __init__(self):
+        self.folder = tempfile.TemporaryDirectory(prefix="play-")
+        self.room, self.started, self.peers, self.open, self.count = self.folder.name, [], [], [], 0
+        self.secret = SECRET
+
+    def __enter__(self):
+        return self
+
+    def __exit__(self, *_):
+        for process in self.started:
+            if process.poll() is None:
+                process.kill()
+            process.wait()
+            if process.stderr:
+                process.stderr.close()
+        for it in self.peers + self.open:
+            it.close()
+        self.folder.cleanup()
+
+    def start(self, command, words, given=subprocess.DEVNULL, out=subprocess.DEVNULL, **how):
+        # (while a port is tried, no process begins: it would have that socket until it runs its program)
+        with GIVING:
+            self.count += 1
+            totals = f"{self.room}/{self.count}.totals"
+            words = [how.pop("program", PROGRAM), command, *words, f"--totals={totals}"]
+            process = subprocess.Popen(words, stdin=given, stdout=out, stderr=subprocess.PIPE, **how)
+        process.totals = totals
+        self.started.append(process)
+        return process
+
+    def file(self, content):
+        """A file with these bytes, open for reading."""
+        file = tempfile.TemporaryFile(dir=self.room)
+        file.write(content)
+        file.seek(0)
+        self.open.append(file)
+        return file
+
+    @listening
+    def receive(self, *words, token="t", address="test.b", peer="test.a", most=1_000_000, secret=None, port=None, **how):
+        """A receiver that listens; `out` is the path of what it writes."""
+        path = f"{self.room}/{port}.out"
+        with open(path, "wb") as out:
+            ways = [f"--listen={HOST}:{port}", f"--token={token}", f"--address={address}", f"--peer={peer}"]
+            it = self.start("receive", [*ways, f"--secret={secret or self.secret}", f"--receive-max={most}", *words], out=out, **how)
+        it.port, it.path = port, path
+        return it
+
+    @listening
+    def connector(self, table, *words, port=None, requests=STAY, **how):
+        """A connector that listens, with this table."""
+        ways = [f"--listen={HOST}:{port}", "--own=test.hub", f"--requests={requests}"]
+        it = self.start("connector", [*ways, *words], given=self.file(table.encode()), **how)
+        it.port = port
+        return it
+
+    def before(self, receiver, *words, **how):
+        """A connector of two accounts: the sender's, and the receiver's or a peer's. It takes any money."""
+        return self.connector(table_to(receiver.port), *words, **how)
+
+    def send(self, port, given, *words, token="t", address="test.a", peer="test.b", secret=None, **how):
+        if isinstance(given, bytes):
+            given = self.file(given)
+        ways = [f"--to={HOST}:{port}", f"--token={token}", f"--address={address}", f"--peer={peer}", f"--secret={secret or self.secret}"]
+        return self.start("send", [*ways, *words], given=given, **how)
+
+    def peer(self, handle):
+        it = Peer(handle)
+        self.peers.append(it)
+        return it
+
+    def pipe(self):
+        """A silent input, and the file that it is written by."""
+        given, writer = os.pipe()
+        writer = os.fdopen(writer, "wb", buffering=0)
+        given = os.fdopen(given, "rb")
+        self.open += [writer, given]
+        return given, writer
+
+    def connect(self, port, content=b""):
+        """A connection on which so much is sent and then nothing."""
+        stream = socket.create_connection((HOST, port), timeout=60)
+        self.open.append(stream)
+        stream.sendall(content)
+        return stream
+
+    def knock(self, port):
+        """A connection that is closed at once, where one is taken."""
+        try:
+            self.connect(port).close()
+        except OSError:
+            pass
+
+
+def table_to(port):
+    return f"account 1000000000 1000000 t - -\naccount 0 0 u {HOST}:{port} t\nroute test.b 1\n"
+
+
+def tried(name, function, row):
+    """A line that says what a test saw, and whether it passed; None in its place where it was skipped."""
+    try:
+        with Play() as play:
+            return True, f"{name}: {function(play, *row)}"
+    except Wrong as wrong:
+        return False, f"{name}: WRONG: {wrong}"
+    except Skipped as why:
+        return None, f"{name}: skipped: {why}"
+    except Exception as error:  # a test that breaks off is one that failed
+        return False, f"{name}: WRONG: {type(error).__name__}: {error}"
+
+
+def main():
+    word = WORDS[1] if len(WORDS) > 1 else ""
+    waiting, others = ([it for it in tests if word in it[0]] for tests in (WAITING, TESTS))
+    results = []
+    with ThreadPoolExecutor(max_workers=AT_ONCE) as pool:
+        begun = [pool.submit(tried, *it) for it in waiting]
+        for passed, told in chain((tried(*it) for it in others), (it.result() for it in begun)):
+            results.append(passed)
+            print(told, flush=True)
+    print(f"{results.count(True)} passed, {results.count(False)} failed")
+    return 0 if results and all(results) else 1
+
+
+def option(name, default):
+    """The value of `--NAME=VALUE` among a file's words."""
+    found = [it.partition("=")[2] for it in sys.argv[1:] if it.startswith(f"--{name}=")]
+    return found[-1] if found else default
