@@ -4,7 +4,8 @@
  *
  *   kill   the process ends by SIGKILL; of a write, half was made
  *   error  EIO; of a write, half was made; all other calls are made
- *   full   each write and change of length from there on is refused with ENOSPC; syncs are made */
+ *   full   each write and change of length from there on is refused with ENOSPC; syncs are made
+ *   read   EIO; reads are counted, and no other calls */
 #define _GNU_SOURCE
 #include <dlfcn.h>
 #include <errno.h>
@@ -20,17 +21,21 @@ static atomic_long calls;
 
 enum way { MADE, KILL, ERROR, FULL };
 
+enum call { WRITE, SYNC, READ };
+
 /* What becomes of the next call on a file. */
-static enum way next_way(int fd, int is_sync) {
+static enum way next_way(int fd, enum call call) {
     char link[64], name[4096];
     const char *path = getenv("FAIL_PATH"), *at = getenv("FAIL_AT"), *with = getenv("FAIL_WITH");
     snprintf(link, sizeof link, "/proc/self/fd/%d", fd);
     ssize_t length = readlink(link, name, sizeof name - 1);
     if (!path || !at || !with || length < 0 || strncmp(name, path, strlen(path)) != 0)
         return MADE;
+    if ((call == READ) != (strcmp(with, "read") == 0))
+        return MADE;
     long number = atomic_fetch_add(&calls, 1) + 1, first = atol(at);
     if (strcmp(with, "full") == 0)
-        return number >= first && !is_sync ? FULL : MADE;
+        return number >= first && call != SYNC ? FULL : MADE;
     return number != first ? MADE : strcmp(with, "kill") == 0 ? KILL : ERROR;
 }
 
@@ -45,7 +50,7 @@ typedef ssize_t writer(int, const void *, size_t, off_t);
 
 static ssize_t write_at(const char *symbol, int fd, const void *bytes, size_t count, off_t offset) {
     writer *real = (writer *)dlsym(RTLD_NEXT, symbol);
-    enum way way = next_way(fd, 0);
+    enum way way = next_way(fd, WRITE);
     if (way == MADE)
         return real(fd, bytes, count, offset);
     if (way != FULL)
@@ -57,9 +62,20 @@ ssize_t pwrite(int fd, const void *bytes, size_t count, off_t offset) { return w
 
 ssize_t pwrite64(int fd, const void *bytes, size_t count, off_t offset) { return write_at("pwrite64", fd, bytes, count, offset); }
 
+typedef ssize_t reader(int, void *, size_t, off_t);
+
+static ssize_t read_at(const char *symbol, int fd, void *bytes, size_t count, off_t offset) {
+    enum way way = next_way(fd, READ);
+    return way == MADE ? ((reader *)dlsym(RTLD_NEXT, symbol))(fd, bytes, count, offset) : ends(way);
+}
+
+ssize_t pread(int fd, void *bytes, size_t count, off_t offset) { return read_at("pread", fd, bytes, count, offset); }
+
+ssize_t pread64(int fd, void *bytes, size_t count, off_t offset) { return read_at("pread64", fd, bytes, count, offset); }
+
 static int cut_at(const char *symbol, int fd, off_t length) {
     int (*real)(int, off_t) = (int (*)(int, off_t))dlsym(RTLD_NEXT, symbol);
-    enum way way = next_way(fd, 0);
+    enum way way = next_way(fd, WRITE);
     return way == MADE ? real(fd, length) : ends(way);
 }
 
@@ -69,7 +85,7 @@ int ftruncate64(int fd, off_t length) { return cut_at("ftruncate64", fd, length)
 
 static int sync_by(const char *symbol, int fd) {
     int (*real)(int) = (int (*)(int))dlsym(RTLD_NEXT, symbol);
-    enum way way = next_way(fd, 1);
+    enum way way = next_way(fd, SYNC);
     return way == MADE ? real(fd) : ends(way);
 }
 

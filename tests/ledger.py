@@ -3,7 +3,7 @@
 ledger.py [PROGRAM [WORD]] [--kills=N] [--seed=N]. With a WORD, only the tests whose names have it. Two neighbours in Python send
 each other Prepares through the connector and note which Fulfills they gave and took. Python's sqlite3 reads the books, from copies
 of both files. A line for each test says what was seen, or what is wrong; the last line counts them."""
-import collections, contextlib, itertools, os, random, re, shutil, socket, sqlite3, subprocess, threading, time
+import collections, contextlib, itertools, os, random, re, shlex, shutil, socket, sqlite3, subprocess, threading, time
 
 from peers import HOST, Peer, answer, ended, fields_at, free_port, fulfill, is_whole, listens, message, octets, prepare
 from peers import request, totals, use_up
@@ -501,12 +501,13 @@ def stays_whole(hub):
 def kills_while_a_file_is_made(play):
     hub = Hub(play, f"{play.room}/books")
     begun = time.monotonic()
-    hub.stop(hub.serve())
+    first = hub.serve()
     taken = time.monotonic() - begun
+    hub.stop(first)
     files = collections.Counter()
     for life in range(KILLS):
         hub.path, hub.books = f"{play.room}/books{life}", Books(0, {})
-        hub.live(hub.rng.uniform(0, taken))
+        hub.live(hub.rng.uniform(0, taken) * hub.rng.random())
         files[f"{len(files_of(hub.path))} files and {len(hub.books.sums)} accounts"] += 1
         hub.stop(hub.serve())
     return f"{KILLS} in up to {taken:.3f} s, with {dict(files)}"
@@ -547,11 +548,27 @@ def failing(play):
     return library
 
 
+def is_no_database(path, room):
+    """Whether sqlite3 reads no database in a copy of the books."""
+    try:
+        with_sqlite(copied(path, f"{room}/copy"), "PRAGMA user_version")
+    except sqlite3.DatabaseError as error:
+        return str(error) == "file is not a database"
+    return False
+
+
+def with_failing(hub, library, way, call):
+    """The environment in which this call on the books fails in this way."""
+    return {**os.environ, "LD_PRELOAD": library, "FAIL_PATH": hub.path, "FAIL_AT": str(call), "FAIL_WITH": way}
+
+
 def life_with(hub, library, way, call):
-    """A life in which this call on the books fails in this way, and then one without. How the first one ended."""
-    names = {"LD_PRELOAD": library, "FAIL_PATH": hub.path, "FAIL_AT": str(call), "FAIL_WITH": way}
-    it = hub.start(env={**os.environ, **names})
-    hub.gate.open()
+    """A life in which this call on the books fails in this way, and then one without. How the first one ended, and whether it
+    listened before that."""
+    it = hub.start(env=with_failing(hub, library, way, call))
+    listened = until_it_listens(it)
+    if listened:
+        hub.gate.open()
     with contextlib.suppress(subprocess.TimeoutExpired):
         it.wait(10)
     hub.gate.shut()
@@ -560,10 +577,12 @@ def life_with(hub, library, way, call):
         it.kill()
     told = ended(it, 1)
     hub.gate.empty()
-    # What was refused for the failure may be in the books all the same.
-    hub.account(any(way.taken for way in hub.ways), refused_too=True)
+    # Where the first page of a new file was half written there are no books yet: the next connector makes them.
+    if listened or hub.books.starts or not is_no_database(hub.path, hub.play.room):
+        # What was refused for the failure may be in the books all the same.
+        hub.account(any(way.taken for way in hub.ways), refused_too=True)
     hub.stop(hub.serve())
-    return "serves" if serves else "killed" if told == "WRONG -9 b''" else told
+    return "serves" if serves else "killed" if told == "WRONG -9 b''" else told, listened
 
 
 @test(("kill", "killed"), ("error", "112"), ("full", "113"))
@@ -573,19 +592,40 @@ def a_call_on_the_books_meets(play, way, wanted):
     for at, call in enumerate([*range(1, 2 * KILLS + 1), *drawn]):
         hub.path, hub.books = f"{play.room}/books{at}", Books(0, {})
         for life in ("new", "kept"):
-            told = life_with(hub, library, way, call)
+            told, listened = life_with(hub, library, way, call)
             found[told] += 1
-            want(told in (wanted, "serves"), f"connector {told} where call {call} on {life} books meets {way}")
+            # (a file that cannot be synced before it is read is not opened: 111)
+            is_so = told in (wanted, "serves") or (told, way, listened) == ("111", "error", False)
+            want(is_so, f"connector {told} where call {call} on {life} books meets {way}; it listened: {listened}")
     want(found[wanted] > found["serves"], f"most calls are not made: {dict(found)}")
     return f"seed {SEED}: {dict(found)}"
 
 
+@test()
+def a_read_of_the_books_fails(play):
+    hub, library = Hub(play, f"{play.room}/books"), failing(play)
+    found, sums = [], hub.some_sums()
+    # (each of the first eight, and then fewer and fewer)
+    for call in itertools.accumulate(itertools.repeat(1), lambda call, one: call + one + call // 8):
+        it = hub.start(env=with_failing(hub, library, "read", call))
+        if until_it_listens(it):
+            break
+        found.append(ended(it, 1))
+        want(found[-1] == "112", f"connector {found[-1]} where read {call} of the books fails")
+        same_books(hub.path, sums)
+    want(found, "no read was seen")
+    hub.stop(it, listened=True)
+    return f"112 for each of {len(found)}"
+
+
 def disk(play, size):
-    """A folder on a disk of its own, of this size, in a mount namespace that ends with the test."""
+    """A folder on a disk of its own, of this size, in a mount namespace that ends with the test: the folder's path there, a program
+    that is the tested one within it, and the path by which this process sees the folder."""
     place = f"{play.room}/disk"
     os.mkdir(place)
     shell = f'mount -t tmpfs -o size={size} none "$1" && echo mounted && exec sleep 1000'
-    ways = ["unshare", "--mount"] if os.getuid() == 0 else ["unshare", "--user", "--map-root-user", "--mount"]
+    own = [] if os.getuid() == 0 else ["--user"]
+    ways = ["unshare", "--mount", *own, *["--map-root-user"] * len(own)]
     try:
         it = subprocess.Popen([*ways, "sh", "-c", shell, "sh", place], stdout=subprocess.PIPE, stderr=subprocess.PIPE)
     except OSError as error:
@@ -594,20 +634,26 @@ def disk(play, size):
     with it.stdout as told:
         if told.readline() != b"mounted\n":
             raise Skipped(f"no disk of its own: {it.stderr.read().decode().strip()}")
-    return f"/proc/{it.pid}/root{place}"
+    within = f"{play.room}/within"
+    with open(within, "w", encoding="ascii") as script:
+        words = ["nsenter", f"--target={it.pid}", "--mount", *own, *["--preserve-credentials"] * len(own), PROGRAM]
+        script.write(f'#!/bin/sh\nexec {shlex.join(words)} "$@"\n')
+    os.chmod(within, 0o700)
+    return place, within, f"/proc/{it.pid}/root{place}"
 
 
 @test()
 def a_disk_of_2_mb_that_fills(play):
-    hub = Hub(play, f"{disk(play, '2m')}/books")
-    it = hub.start()
+    place, within, seen = disk(play, "2m")
+    hub = Hub(play, f"{place}/books")
+    it = hub.start(program=within)
     hub.gate.open()
     told = ended(it, 120)
     hub.gate.shut()
     hub.gate.empty()
     want(told == "113", f"connector {told} on a full disk")
-    larger = copied(hub.path, f"{play.room}/books")
-    again = hub.start()
+    larger = copied(f"{seen}/books", f"{play.room}/books")
+    again = hub.start(program=within)
     told = "listens" if until_it_listens(again) else ended(again, 20)
     want(told in ("113", "listens"), f"connector {told} on a disk that was full")
     hub.path = larger

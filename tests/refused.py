@@ -9,7 +9,7 @@ the number of the commit. `refused.py --look` says whether each can be made. It 
 Edits of different functions are made in one copy, since each function is proved by itself, and these functions alone are proved.
 An edit is refused where the prover reports, in the function that it changes, what is not proved. Where it reports nothing there,
 the edit is tried alone with the whole crate, and is refused where that is not proved, for a cause other than a name that the edit
-took away."""
+took away. One that does not compile counts as not refused."""
 import concurrent.futures
 import os
 import re
@@ -24,8 +24,10 @@ import crates as repository  # noqa: E402
 
 TOP = repository.TOP
 EDITS = f"{TOP}/tests/refused"
-# What the edits of one crate in rotation may take, in seconds of the processor.
+# What the edits of one crate in rotation may take, in seconds of the processor. It is looked at between groups of so many edits.
 ROTATION = 600
+AT_ONCE = 12
+REFUSED = "refused"
 FUNCTION = re.compile(r"( *)(?:pub(?:\([a-z]+\))? )?(?:const )?(?:unsafe )?(?:extern \"C\" )?fn (\w+)")
 IMPL = re.compile(r"( *)(?:unsafe )?impl\b(.*)")
 # A proof file names what the edit took away: that says little of the contract.
@@ -42,6 +44,8 @@ class Edit:
     name: str
     promise: str = ""
     changes: list = field(default_factory=list)
+    # of each change, the line of its file where the text begins
+    lines: list = field(default_factory=list)
     # of each change, its file and the first and last line of the function around it
     spans: list = field(default_factory=list)
     # the functions, a method by its type and its name, another by its path below the crate; none where a change stands in no function
@@ -75,7 +79,8 @@ def read_edit(crate, name):
             was = texts.get(file) or read(f"{TOP}/crates/{crate}/{file}")
             if not old or was.count(old) != 1:
                 return None
-            look_around(found, file, was, was[: was.index(old)].count("\n"))
+            found.lines.append(was[: was.index(old)].count("\n"))
+            look_around(found, file, was, found.lines[-1])
             texts[file] = was.replace(old, new)
     except OSError:
         return None
@@ -93,20 +98,33 @@ def look_around(edit, file, text, at):
     last = next(past, first)
     if last < at:
         return
-    edit.spans.append((file, first + 1, last + 1))
+    begin = next(it for it in range(first, -1, -1) if not lines[it - 1].strip().startswith("#["))  # (its attributes)
+    edit.spans.append((file, begin + 1, last + 1))
     path = [it for it in file.removeprefix("src/").removesuffix(".rt").split("/") if it not in ("lib", "mod")]
     above = next((it for it in range(first, -1, -1) if IMPL.match(lines[it])), None) if indent else None
     edit.functions.append("::".join([*path, name] if above is None else [type_of(lines[above]), name]))
 
 
 def type_of(line):
-    """How a check names the type of an `impl`, with the trait behind it."""
-    words = IMPL.match(line).group(2)
-    for _ in range(5):
-        words = re.sub(r"<[^<>]*>", "", words.replace("->", ""))
-    trait, is_of, name = words.replace("{", "").partition(" for ")
-    names = [name, trait] if is_of else [trait]
-    return "".join(it.split("where")[0].strip().split("::")[-1].strip() for it in names)
+    """How a check names the type of an `impl`, and behind it the trait with those of its arguments that are no parameters."""
+    text = IMPL.match(line).group(2).replace("->", "").split(" where ")[0].rstrip(" {")
+    depth = 0
+    for end, character in enumerate(text if text.startswith("<") else ""):
+        depth += (character == "<") - (character == ">")
+        if depth == 0:
+            break
+    given, text = (text[1:end], text[end + 1 :]) if text.startswith("<") else ("", text)
+    free = {*re.findall(r"(?:^|, )(?:const )?(\w+)", given)}
+    trait, is_of, name = text.strip().partition(" for ")
+    if not is_of:
+        return words_of(trait)[0]
+    first, *others = words_of(trait)
+    return "".join([words_of(name)[0], first, *[it[0].upper() + it[1:] for it in others if it not in free]])
+
+
+def words_of(text):
+    """The names in a type, each without its path."""
+    return re.findall(r"\b\w+\b(?!::)", re.sub(r"'\w+", "", text))
 
 
 def names_of(crate):
@@ -120,7 +138,7 @@ def read_edits(crates):
 
 
 def batches(edits):
-    """The edits in groups, none of which changes a function twice. One in no function stands alone."""
+    """The edits in groups of at most AT_ONCE, none of which changes a function twice. One in no function stands alone."""
     groups = []
     for edit in edits:
         group = next((it for it in groups if fits(edit, it)), None)
@@ -133,7 +151,15 @@ def batches(edits):
 
 def fits(edit, group):
     whole = [it for it in [edit, *group] if not it.functions]
-    return not whole and not {*edit.spans} & {span for it in group for span in it.spans}
+    return len(group) < AT_ONCE and not whole and not {*edit.spans} & {span for it in group for span in it.spans}
+
+
+def write_change(room, file, old, new, line):
+    """Makes a change in a copy of a crate, at its line: another edit may have brought the same text elsewhere."""
+    lines = read(f"{room}/{file}").split("\n")
+    lines[line] = lines[line].replace(old, new, 1)
+    with open(f"{room}/{file}", "w", encoding="utf-8") as changed:
+        changed.write("\n".join(lines))
 
 
 class Prover:
@@ -153,11 +179,8 @@ class Prover:
             for part in ("src", "specs", "proofs"):
                 if os.path.isdir(f"{TOP}/crates/{self.crate}/{part}"):
                     shutil.copytree(f"{TOP}/crates/{self.crate}/{part}", f"{room}/{part}")
-            for edit in edits:
-                for file, old, new in edit.changes:
-                    text = read(f"{room}/{file}")
-                    with open(f"{room}/{file}", "w", encoding="utf-8") as changed:
-                        changed.write(text.replace(old, new))
+            for change, line in [it for edit in edits for it in zip(edit.changes, edit.lines)]:
+                write_change(room, *change, line)
             words = [*self.words, "--incremental", kept, *[word for name in only for word in ("--only", name)]]
             return self.run(words, room)
 
@@ -170,23 +193,34 @@ class Prover:
             output.seek(0)
             return output.read().split("\n"), ran.returncode
 
-    def attempt(self, group, kept):
-        """Which edits of a group are refused."""
+    def attempt(self, group, kept, budget=None):
+        """What came of each edit of a group, by its name. A budget, in seconds of the processor, leaves out some of those that have
+        to be tried alone."""
         only = [name for it in group for name in it.functions] if all(it.functions for it in group) else []
         said, status = self.check(group, kept, only)
         if status == 2 and only:
             said, status = self.check(group, kept)
-        refused = [it for it in group if status == 1 and is_reported(it, said)]
-        for edit in [it for it in group if it not in refused]:
-            if is_refused_alone(*self.check([edit], kept)):
-                refused.append(edit)
-        return refused
+        unread = [it for it in group if is_unread(it, said)]
+        if unread:
+            rest = [it for it in group if it not in unread]
+            return {it.name: "NOT COMPILED" for it in unread} | (self.attempt(rest, kept, budget) if rest else {})
+        found = {it.name: REFUSED for it in group if status == 1 and is_reported(it, said)}
+        for edit in [it for it in group if it.name not in found]:
+            if not budget or self.spent < budget:
+                found[edit.name] = REFUSED if is_refused_alone(*self.check([edit], kept)) else "NOT REFUSED"
+        return found
+
+
+def is_unread(edit, said):
+    """Whether the compiler refuses what the edit made of a function, before anything is proved."""
+    found = [re.match(r"(?:note: )?(?:\./)?(src/\S+?):(\d+):\d+: error\[", it) for it in said]
+    return any(it[1] == file and first <= int(it[2]) <= last for it in found if it for file, first, last in edit.spans)
 
 
 def is_reported(edit, said):
     """Whether the prover reports, in a function that the edit changes, something that it could not prove."""
     for line in said:
-        at = re.match(r"(?:note: )?(?:\./)?(src/\S+?):(\d+):\d+: (?:error: )?it is not proved", line)
+        at = re.match(r"(?:note: )?(?:\./)?(src/\S+?):(\d+):\d+: (?:error: )?(?:it is not proved|`search` found no proof)", line)
         if at and any(at[1] == file and first <= int(at[2]) <= last for file, first, last in edit.spans):
             return True
         proof = re.match(r"(?:note: )?(?:\./)?proofs/(\S+)/\w+\.antt:\d+:\d+: error", line)
@@ -224,9 +258,10 @@ def try_crate(crate, edits, budget=None):
         for group in batches(edits):
             if budget and prover.spent > budget:
                 break
-            refused = prover.attempt(group, kept)
-            found.lines += [f"{it}: {'refused' if it in refused else 'NOT REFUSED'}" for it in group]
-            found.refused, found.tried, found.seconds = found.refused + len(refused), found.tried + len(group), prover.spent
+            tried = prover.attempt(group, kept, budget)
+            found.lines += [f"{crate}/{name}: {what}" for name, what in tried.items()]
+            found.refused += [*tried.values()].count(REFUSED)
+            found.tried, found.seconds = found.tried + len(tried), prover.spent
     return found
 
 

@@ -20,11 +20,11 @@ PROGRAM = "ilpstream"
 BUILT = f"{TOP}/crates/{PROGRAM}/out/{PROGRAM}"
 # The processor's seconds that each crate takes from nothing, by the table in docs/GATE.md; those that are not here take OTHER.
 WEIGHTS = {
-    "st_transfer": 441, "st_sender": 400, "st_chain": 381, "st_hub": 313, "st_hop": 293, "st_receiver": 283, "st_commands": 260,
-    "st_nodes": 253, "st_words": 252, "st_local": 227, "st_end": 227, "ilpstream": 215, "st_http": 209, "st_aes": 190,
-    "st_program": 175, "st_desk": 160, "st_queues": 129, "st_oer": 129, "st_frames": 129, "st_ilp": 127, "st_settings": 125,
-    "st_unacked": 94, "st_reassembly": 86, "st_file": 84, "st_link": 68, "st_keys": 49, "st_world": 33, "st_booking": 20,
-    "st_tables": 12, "st_books": 278, "st_ledger": 60,
+    "st_transfer": 396, "st_chain": 331, "st_books": 330, "st_sender": 320, "st_hub": 244, "st_words": 227, "st_receiver": 226,
+    "st_program": 219, "st_hop": 212, "st_nodes": 203, "st_commands": 185, "st_end": 184, "st_local": 178, "st_http": 167,
+    "st_aes": 152, "ilpstream": 150, "st_settings": 147, "st_desk": 120, "st_ledger": 105, "st_oer": 103, "st_queues": 103,
+    "st_frames": 103, "st_ilp": 102, "st_unacked": 75, "st_reassembly": 69, "st_file": 67, "st_link": 56, "st_keys": 39,
+    "st_world": 21, "st_booking": 16, "st_tables": 10,
 }
 OTHER = 60
 # Memory in bytes: what a check takes at most, and what each further job of it takes.
@@ -32,7 +32,7 @@ CHECK, JOB = 3_500_000_000, 1_000_000_000
 MOST_JOBS = 3
 # A crate is urgent where the longest chain through it is this part of the longest of all. It has two jobs from so many processors
 # on. (A second job does half as much as the first: the crates side by side make better use of the processors.)
-URGENT = 0.95
+URGENT = 0.93
 URGENT_FROM = 4
 # What a processor of level x86-64-v3 has beside those of level 2: with vectors of 32 bytes the cipher is twice as fast.
 LEVEL_3 = {"avx", "avx2", "bmi1", "bmi2", "f16c", "fma", "abm", "movbe"}
