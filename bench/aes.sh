@@ -1,10 +1,12 @@
 #!/usr/bin/env bash
 # Bytes that st_aes seals a second at 64, 1,024, 1,500 and 16,384 bytes, built for x86-64-v2 (the kit's level, which the gate builds)
 # and for x86-64-v3 (AVX2), beside OpenSSL's AES-256-GCM with and without the processor's AES instructions, and what Key::new costs
-# beside one block, in one run. By hand, on a quiet machine: bench/aes.sh [SECONDS]
+# beside one block, in one run. Of each the best of the rounds, in each of which each program runs for so many seconds, in turns. By
+# hand, on a quiet machine: bench/aes.sh [SECONDS [ROUNDS]]
 set -euo pipefail
 cd "$(dirname "$0")/../crates/bench_aes"
-seconds=${1:-3}
+seconds=${1:-1}
+rounds=${2:-5}
 room=$(mktemp -d)
 trap 'rm -rf "$room"' EXIT
 
@@ -38,22 +40,38 @@ openssl_rate() { # bytes a second at $1 bytes
     openssl speed -mr -seconds "$seconds" -bytes "$1" -evp aes-256-gcm 2>/dev/null | awk -F: '/^\+F:/ { printf "%.0f\n", $NF }'
 }
 
+most() { # the greatest of the numbers in a file
+    sort -n "$1" | tail -n 1
+}
+
 printf '%6s  %-32s  %14s  %s\n' bytes "" "bytes a second" "of openssl without AES instructions, with them"
 for bytes in 64 1024 1500 16384; do
-    with=$(openssl_rate "$bytes")
-    without=$(OPENSSL_ia32cap="~0x200000200000000:~0" openssl_rate "$bytes")
+    rm -f "$room"/*.rates
+    for _ in $(seq "$rounds"); do
+        openssl_rate "$bytes" >>"$room/with.rates"
+        OPENSSL_ia32cap="~0x200000200000000:~0" openssl_rate "$bytes" >>"$room/without.rates"
+        for level in $levels; do
+            echo $((bytes * 1000000000000 / $(each "$bytes" @))) >>"$room/$level.rates"
+        done
+    done
+    with=$(most "$room/with.rates") without=$(most "$room/without.rates")
     for level in $levels; do
-        awk -v bytes="$bytes" -v each="$(each "$bytes" @)" -v with="$with" -v without="$without" -v level="$level" 'BEGIN {
-            ours = bytes * 1e12 / each
+        awk -v bytes="$bytes" -v ours="$(most "$room/$level.rates")" -v with="$with" -v without="$without" -v level="$level" 'BEGIN {
             printf "%6d  %-32s  %14.0f  %.2f  %.2f\n", bytes, "st_aes, " level, ours, ours / without, ours / with
         }'
     done
     printf '%6d  %-32s  %14.0f\n' "$bytes" "openssl without AES instructions" "$without" "$bytes" openssl "$with"
 done
 
+least() { # the least of what each round of these words gives
+    for _ in $(seq "$rounds"); do
+        each "$@"
+    done | sort -n | head -n 1
+}
+
 for level in $levels; do
-    block=$(each 0 0 0 @)
-    key=$(($(each 0 0 @) - $(each 0 @)))
+    block=$(least 0 0 0 @)
+    key=$(($(least 0 0 @) - $(least 0 @)))
     awk -v key="$key" -v block="$block" -v level="$level" 'BEGIN {
         printf "%s: Key::new takes %.2f microseconds, one block %.3f: as long as %.0f blocks\n", level, key / 1e6, block / 1e6, key / block
     }'
