@@ -522,8 +522,9 @@ def accepts_that_fail_for_good_at(play, command):
 def a_connector_with_more_connections_than_files(play):
     content = some_bytes(50_000)
     receiver = play.receive()
-    hub = play.before(receiver, preexec_fn=lambda: resource.setrlimit(resource.RLIMIT_NOFILE, (24, 24)))
-    streams = [play.connect(hub.port) for _ in range(40)]
+    # (four workers and 16 threads more that accept take a number each)
+    hub = play.before(receiver, preexec_fn=lambda: resource.setrlimit(resource.RLIMIT_NOFILE, (48, 48)))
+    streams = [play.connect(hub.port) for _ in range(100)]
     time.sleep(0.5)
     for stream in streams:
         stream.close()
