@@ -6,7 +6,7 @@ ghost use Rattle.st_hub.specs.Hub.{IsNew};
 use crate::ends::{Counting, client, server, stopped_clock};
 use st_desk::Link;
 use st_end::EndState;
-use st_hub::{Bench, CreditShare, HubState, WorkEnd, Worker, work};
+use st_hub::{Bench, CreditShare, HubState, Unwatched, WorkEnd, Worker, work};
 use st_queues::{Gauge, GaugeSeat, HubName, Rings, StreamWriter};
 use std::alloc::{Allocator, Global};
 use std::marker::Brand;
@@ -55,6 +55,7 @@ pub(crate) fn work_on<
             stream: 0,
             rest: rest(),
             turns: u64::from(turns),
+            watch: &mut Unwatched,
         },
     )
 }
