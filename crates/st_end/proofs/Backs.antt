@@ -1,16 +1,12 @@
 -- The data of an answer are the last of its bytes, and its sender is short.
-use Rattle.std.proofs.Common.{◌≡◌, ℕ, suc, ◌-◌, ◌≤◌, Bool, true, false, ◌&&◌, List, [], ◌∷◌, ◌++◌, length, drop, refl, sym, ap, subst, ◌∙◌, arith, append_assoc, length-append, Ok}
-use Rattle.std.specs.Prelude.{nat_le}
-use Rattle.std.proofs.lemmas.Bool.{ne_eqb}
-use Rattle.std.proofs.lemmas.Bool.Decides.{nat_tests}
-use Rattle.st_oer.specs.Address.{max_address, is_segments, is_address}
+use Rattle.std.proofs.Common.{◌≡◌, ℕ, ◌-◌, ◌≤◌, List, [], ◌∷◌, ◌++◌, length, drop, refl, sym, ap, subst, ◌∙◌, arith, append_assoc, length-append, Ok}
 use Rattle.st_oer.specs.Laws.{IsBytes}
 use Rattle.st_oer.specs.Spelling.{length_bytes, octets}
 use Rattle.st_ilp.specs.Packets.{Fulfilled, Rejected}
-use Rattle.st_ilp.specs.Rules.{is_sender}
 use Rattle.st_ilp.specs.Reading.{answer_at}
 use Rattle.st_ilp.specs.Spelling.{answer_kind, answer_contents, answer_text}
 use Rattle.st_ilp.specs.Laws.{AnswerReads, IsAnswer, is_reject}
+use Rattle.st_ilp.proofs.AddressTexts.{sender_is_short}
 
 past_front : (front payload : List ℕ) → drop (length front) (front ++ payload) ≡ payload
 past_front [] payload = refl
@@ -52,26 +48,8 @@ reject_data bytes code by message payload reads fits e =
 
 -- ---- how long a sender may be
 
-and_left : (a b : Bool) → (a && b) ≡ true → a ≡ true
-and_left true b h = refl
-and_left false b h = h
-
-le_is : (a b : ℕ) → nat_le a b ≡ true → a ≤ b
-le_is a b e = grind (arith, nat_tests)
-
-address_short : (text : List ℕ) → is_address text ≡ true → length text ≤ 1023
-unfolding is_address
-address_short text e = le_is (length text) max_address (and_left (nat_le (length text) max_address) (is_segments text) e)
-
-sender_is_address : (c : ℕ) (cs : List ℕ) → is_sender (c ∷ cs) ≡ is_address (c ∷ cs)
-sender_is_address c cs = rw (ne_eqb (suc (length cs)) 0 (omega arith)) refl
-
-sender_short : (text : List ℕ) → is_sender text ≡ true → length text ≤ 1023
-sender_short [] e = omega arith
-sender_short (c ∷ cs) e = address_short (c ∷ cs) (sym (sender_is_address c cs) ∙ e)
-
 by_short : (code by message payload : List ℕ) → IsAnswer (Rejected code by message payload) → length by ≤ 1023
-by_short code by message payload (is_reject _ _ _ _ three lawful sender text few whole) = sender_short by sender
+by_short code by message payload (is_reject _ _ _ _ three lawful sender text few whole) = sender_is_short by sender
 
 pub reject_short : (bytes code by message payload : List ℕ) → AnswerReads → IsBytes bytes → answer_at bytes ≡ Ok (Rejected code by message payload) → length by ≤ 1023
 reject_short bytes code by message payload reads fits e = by_short code by message payload (reads.found bytes (Rejected code by message payload) fits e).1
