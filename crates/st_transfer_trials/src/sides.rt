@@ -9,8 +9,9 @@ use st_hop::{Account, HopError, HopState, Route};
 use st_oer::{Counting, Rate, is_address};
 use st_sender::EndConfig;
 use st_transfer::{
-    AwaitListener, ConnectTerms, ConnectorEnded, Ended, Neighbour, ReceiveTerms, RuntimeClock,
-    SendTerms, TransferError, client_end, connector_on, receive_on, send_on, server_end,
+    AwaitListener, ConnectTerms, ConnectorEnded, Ended, Neighbour, NoMinutes, ReceiveTerms,
+    RuntimeClock, SendTerms, TransferError, client_end, connector_on, receive_on, send_on,
+    server_end,
 };
 use std::alloc::Global;
 use std::io;
@@ -18,6 +19,7 @@ use std::io::{Read, Write};
 use std::net::{Net, OpenStream, TcpListener, TcpStream};
 use std::sync::Wait;
 use std::thread::Threads;
+use std::time::Duration;
 
 /// More calls of a stream than one exchange takes, and more turns than a transfer does.
 pub(crate) const TURNS: u64 = 1_000_000;
@@ -192,8 +194,10 @@ pub(crate) fn connect_storing<
         requests: 1_000,
         workers,
         turns: TURNS,
+        period: Duration::from_secs(3_600),
     };
-    Ok(connector_on(rt, alloc, listener, hop, terms, till))
+    let minutes = &mut NoMinutes;
+    Ok(connector_on(rt, alloc, listener, hop, terms, till, minutes))
 }
 
 /// The end of the sender `test.a`.
