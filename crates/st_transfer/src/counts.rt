@@ -268,9 +268,10 @@ impl Counts {
     fn add(&mut self, account: usize, fate: Fate)
         ensures { spec.Adds account fate self.old.accounts.items self.new.accounts.items self.old.codes.items self.new.codes.items }
     {
-        let Some(old) = self.accounts.get(account).copied() else {
+        if account >= self.accounts.len() {
             return;
-        };
+        }
+        let old = self.accounts[account];
         let entry = count_fate(&mut self.codes, account, fate, old.kinds < MOST_CODES);
         self.accounts[account] = entered(entry, tallied(fate, old));
     }
