@@ -21,9 +21,9 @@ pub(crate) trait Place<W: Write> {
         ensures empty { IfSome result (λ file. IsEmptyBeside (held self.old) (W.contents (device_of file))) }
         ensures kept { held self.new ≡ held self.old };
 
-    /// Puts the file in its place. False where that fails.
-    fn finish(&mut self, file: CountWrite<W>) -> bool
-        ensures { MatchBool result (TakesPlace (held self.old) (W.contents (device_of file)) (held self.new)) (held self.new ≡ held self.old) };
+    /// Puts the file in its place, with what was written to it so far. False where that fails.
+    fn finish(&mut self, file: &CountWrite<W>) -> bool
+        ensures { MatchBool result (TakesPlace (held self.old) (W.contents (device_of file.now)) (held self.new)) (held self.new ≡ held self.old) };
 }
 
 /// Puts a text in its place whole. Where that fails, the place is as it was.
@@ -39,7 +39,7 @@ pub(crate) fn replace<W: Write + Drop, P: Place<W>>(place: &mut P, text: &[u8]) 
     if let Err(fault) = put(&mut file, text, &mut turns) {
         return Err(fault);
     }
-    if place.finish(file) {
+    if place.finish(&file) {
         Ok(())
     } else {
         Err(Fault::Output)
@@ -94,8 +94,7 @@ impl<N: Files<File = File>> Place<File> for Beside<'_, N> {
         }
     }
 
-    fn finish(&mut self, file: CountWrite<File>) -> bool {
-        drop(file);
+    fn finish(&mut self, _file: &CountWrite<File>) -> bool {
         fs::rename(self.rt, self.beside.as_str(), self.name).is_ok()
     }
 }
