@@ -441,8 +441,10 @@ def a_connector_counts_its_answers_with_t00(play):
     found = totals(hub.totals)
     want(refused == [b"T00"] * 4 and answers[4] == fulfill(), f"answers {answers}")
     want(found["overloaded"] == 4 and found["account 0 claims"] == 10, f"totals {found}")
+    counts = "count 0 fulfilled 1 rejected 0 lost 0 refused 4\ncount 1 fulfilled 0 rejected 0 lost 0 refused 0\ncode 0 T00 4\n"
     with open(hub.totals, encoding="ascii") as file:
-        want(file.read().endswith("held 0\noverloaded 4\n"), "it is not the last line")
+        told = file.read()
+    want(told.endswith(f"held 0\noverloaded 4\n{counts}"), f"it says {told!r}")
     return "4 of 5"
 
 
@@ -730,7 +732,7 @@ def an_account_is_billed_what_its_token_sent(play):
     told = transfer(play.send(hub.port, content, "--money=500"), receiver, content, 20)
     use_up(hub, hub.port, "x")
     want(ended(hub, 10) == "0", "the connector does not end")
-    claims = {name: number for name, number in totals(hub.totals).items() if number}
+    claims = {name: number for name, number in totals(hub.totals).items() if number and name.startswith("account")}
     want(claims == {"account 1 claims": 500, "account 2 dues": 500}, f"totals {claims}")
     return told
 
@@ -767,6 +769,58 @@ def a_fulfill_after_seconds_of_two_is_booked_as(play, seconds, wanted):
     booked = [found.get("account 0 claims"), found.get("account 1 dues"), found.get("account 0 held")]
     want(booked == [wanted, wanted, 0], f"totals {found}")
     return body[2:5].decode() if not wanted else "fulfilled"
+
+
+# What a connector writes of its totals.
+
+
+def told_by(path):
+    with open(path, encoding="ascii") as file:
+        return file.read()
+
+
+NOTHING = "account 0 claims 0 dues 0 held 0\naccount 1 claims 0 dues 0 held 0\n"
+
+
+@test()
+def a_file_of_totals_is_replaced_at_the_end(play):
+    for number in range(1, 9):
+        with open(f"{play.room}/{number}.totals", "w", encoding="ascii") as file:
+            file.write("of an earlier run\n")
+    hub = play.connector(table_to(1), requests=3)
+    want(told_by(hub.totals) == "of an earlier run\n", "it is not as it was")
+    first = asked((HOST, hub.port), request("t", prepare(0, 5, "test.x")), 20)[1]
+    second = asked((HOST, hub.port), request("t", prepare(0, 5, "test.b")), 20)[1]
+    use_up(hub, hub.port, "none")
+    want(ended(hub, 10) == "0", "the connector does not end")
+    found = [first[2:5], second[2:5]]
+    want(found == [b"F02", b"T01"], f"answers {found}")
+    # (nobody listens at the second account's place)
+    counts = "count 0 fulfilled 0 rejected 0 lost 1 refused 1\ncount 1 fulfilled 0 rejected 0 lost 0 refused 0\n"
+    told = told_by(hub.totals)
+    want(told == NOTHING + counts + "code 0 F02 1\ncode 0 T01 1\n", f"it says {told!r}")
+    want(not os.path.exists(hub.totals + ".new"), "the file beside it is still there")
+    return "F02 and T01"
+
+
+@test(waits=True)
+def a_file_of_totals_is_replaced_each_minute(play):
+    for number in range(1, 9):
+        with open(f"{play.room}/{number}.totals", "w", encoding="ascii") as file:
+            file.write("of an earlier run\n")
+    hub = play.connector(table_to(1))
+    begun = time.monotonic()
+    found = asked((HOST, hub.port), request("t", prepare(0, 5, "test.x")), 20)[1][2:5]
+    want(found == b"F02" and told_by(hub.totals) == "of an earlier run\n", f"answer {found}, totals {told_by(hub.totals)!r}")
+    seen = set()
+    while len(seen) < 2 and time.monotonic() < begun + 75:
+        seen.add(told_by(hub.totals))
+        time.sleep(0.005)
+    counts = "count 0 fulfilled 0 rejected 0 lost 0 refused 1\ncount 1 fulfilled 0 rejected 0 lost 0 refused 0\ncode 0 F02 1\n"
+    want(seen == {"of an earlier run\n", NOTHING + counts}, f"it said {seen}")
+    stands(hub, "connector")
+    return f"after {time.monotonic() - begun:.0f} s"
+
 
 
 if __name__ == "__main__":

@@ -402,8 +402,16 @@ totals_of() {
 }
 same 'totals: no random bytes' $'fault 90\n'"$nothing" "$(totals_of "${send[@]}")"
 same 'totals: no listener' $'fault 80\n'"$nothing" "$(totals_of "${receive[@]}")"
-same 'totals: no listener for a connector' $'fault 80\naccount 0 claims 0 dues 0 held 0\naccount 1 claims 0 dues 0 held 0' \
-    "$(totals_of "${connector[@]}")"
+zeros=$'account 0 claims 0 dues 0 held 0\naccount 1 claims 0 dues 0 held 0\ncount 0 fulfilled 0 rejected 0 lost 0 refused 0
+count 1 fulfilled 0 rejected 0 lost 0 refused 0'
+same 'totals: no listener for a connector' $'fault 80\n'"$zeros" "$(totals_of "${connector[@]}")"
+same 'totals: no file beside them is left' '' "$(find "$room" -name '*.new')"
+# (what is no regular file is written as it is, and nothing takes its place)
+run "${connector[@]}" --totals=/dev/stdout <<<"$table"
+same 'totals: at the output' "$zeros"$'\n--\nfault 80\n--\n1' "$(told)"
+ln -s "$room/far" "$room/link"
+run "${connector[@]}" --totals="$room/link" <<<"$table"
+same 'totals: at the end of a link' "$zeros"$'\n'"$room/far" "$(cat "$room/far")"$'\n'"$(readlink "$room/link")"
 same 'totals: no table' 'fault 96' "$(table=account && totals_of "${connector[@]}")"
 # (a sender that reaches nobody read its input and paid nothing; and one whose source of IVs ends after the first)
 reaching=(send --to=127.0.0.1:1 --token=t "$secret" --address=test.a --peer=test.b --money=500)
@@ -478,6 +486,7 @@ program=$top/examples/transfer/run
 export BYTES=70000 MONEY=500 END=17771 HUB=17770
 run </dev/null
 unset BYTES MONEY END HUB
+out=$(grep -v '^connector: co' <<<"$out") # (how many packets it takes is not the same in each run)
 same 'a transfer' 'sender: accepted 70000
 sender: delivered 0
 sender: credited 0

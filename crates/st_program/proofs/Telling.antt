@@ -1,36 +1,37 @@
 -- The lines of accounts, and how a command ends that told its totals.
 use Rattle.std.proofs.Common.{◌≡◌, ◌≢◌, ℕ, suc, ◌+◌, ◌<◌, List, [], ◌∷◌, ◌++◌, length, take, get_or, Option, refl, sym, ap, subst, ◌∙◌, append_assoc, arith, inr}
-use Rattle.std.specs.Prelude.{Result, Ok, Err}
+use Rattle.std.specs.Prelude.{Result, Ok, Err, Some, None}
+use Rattle.std.specs.Io.KnownBytes.{Appends}
 use Rattle.std.specs.Borrow.{Bor}
 use Rattle.std.proofs.lemmas.List.{append-nil, take_more, length-take-le}
 use Rattle.st_commands.specs.declared.error.Fault.{Fault}
-use Rattle.st_transfer.specs.declared.accounts.AccountTotals.{AccountTotals}
 use Rattle.st_program.specs.declared.error.RunError.{RunError}
 use Rattle.st_program.specs.declared.error.RunError.TheVariants as run
 use Rattle.st_oer.specs.declared.tally.Tally.{Tally}
 use Rattle.st_program.specs.Table.{EndsBy}
-use Rattle.st_program.specs.Totals.{account_text, accounts_text, ended_with}
+use Rattle.st_program.specs.Totals.{IsEmptyBeside, Replaced, TakesPlace, ended_with, lines_from}
 
--- one account behind the others
-one_more : (n : ℕ) (xs : List AccountTotals) (x : AccountTotals) → accounts_text n (xs ++ x ∷ []) ≡ accounts_text n xs ++ account_text (n + length xs) x
-unfolding accounts_text
-one_more n [] x = let here : n + 0 ≡ n = omega arith in rw here (append-nil (account_text n x))
-one_more n (y ∷ xs) x =
-    let place : suc n + length xs ≡ n + suc (length xs) = omega arith in
-    ap (λ (t : List ℕ). account_text n y ++ t) (one_more (suc n) xs x)
-    ∙ sym (append_assoc (account_text n y) (accounts_text (suc n) xs) (account_text (suc n + length xs) x))
-    ∙ ap (λ (k : ℕ). (account_text n y ++ accounts_text (suc n) xs) ++ account_text k x) place
+module _ {X : Type 0} (text : ℕ → X → List ℕ) where
+  -- one value behind the others
+  one_more : (n : ℕ) (xs : List X) (x : X) → lines_from text n (xs ++ x ∷ []) ≡ lines_from text n xs ++ text (n + length xs) x
+  unfolding lines_from
+  one_more n [] x = let here : n + 0 ≡ n = omega arith in rw here (append-nil (text n x))
+  one_more n (y ∷ xs) x =
+      let place : suc n + length xs ≡ n + suc (length xs) = omega arith in
+      ap (λ (t : List ℕ). text n y ++ t) (one_more (suc n) xs x)
+      ∙ sym (append_assoc (text n y) (lines_from text (suc n) xs) (text (suc n + length xs) x))
+      ∙ ap (λ (k : ℕ). (text n y ++ lines_from text (suc n) xs) ++ text k x) place
 
--- the lines of the first accounts, and then the next one's
-pub next_line : (xs : List AccountTotals) (i : ℕ) (d : AccountTotals) (old line new : List ℕ) → i < length xs → old ≡ accounts_text 0 (take i xs)
-    → line ≡ account_text i (get_or xs i d) → new ≡ old ++ line → new ≡ accounts_text 0 (take (i + 1) xs)
-next_line xs i d old line new lt before next grown =
-    let x = get_or xs i d in
-    let all : take (i + 1) xs ≡ take i xs ++ x ∷ [] = take_more xs i d lt in
-    let place : 0 + length (take i xs) ≡ i = omega (arith, length-take-le i xs (omega arith)) in
-    let text : accounts_text 0 (take i xs ++ x ∷ []) ≡ accounts_text 0 (take i xs) ++ account_text i x =
-    one_more 0 (take i xs) x ∙ ap (λ (k : ℕ). accounts_text 0 (take i xs) ++ account_text k x) place in
-    cc (all, text)
+  -- the lines of the first values, and then the next one's
+  pub next_line : (xs : List X) (i : ℕ) (d : X) (old line new : List ℕ) → i < length xs → old ≡ lines_from text 0 (take i xs)
+      → line ≡ text i (get_or xs i d) → new ≡ old ++ line → new ≡ lines_from text 0 (take (i + 1) xs)
+  next_line xs i d old line new lt before next grown =
+      let x = get_or xs i d in
+      let all : take (i + 1) xs ≡ take i xs ++ x ∷ [] = take_more xs i d lt in
+      let place : 0 + length (take i xs) ≡ i = omega (arith, length-take-le i xs (omega arith)) in
+      let lines : lines_from text 0 (take i xs ++ x ∷ []) ≡ lines_from text 0 (take i xs) ++ text i x =
+      one_more 0 (take i xs) x ∙ ap (λ (k : ℕ). lines_from text 0 (take i xs) ++ text k x) place in
+      cc (all, lines)
 
 module _ (own : List ℕ) (ledger : Option (Bor (List ℕ))) (input : Option (List ℕ)) (r s : Tally) where
   ends_with : (ended : Result (Unit {0}) RunError) (told : Result (Unit {0}) Fault) → EndsBy own ledger input r s ended → EndsBy own ledger input r s (ended_with ended told)
@@ -55,3 +56,9 @@ never_bad ended result none (told, is) wrong = not_bad ended told none (sym is �
 pub untold : (ended : Result (Unit {0}) RunError) → ended ≡ ended_with ended (Ok tt)
 untold (Err e) = refl
 untold (Ok x) = refl
+
+-- what was written to the file beside a place is what the place holds then
+pub replaced : (held empty file now : Option (List ℕ)) (text : List ℕ) → IsEmptyBeside held empty → Appends empty file text → TakesPlace held file now → Replaced held now text
+replaced None empty file now text is grown takes = tt
+replaced (Some bytes) empty None now text is grown takes = absurd (rw is at grown)
+replaced (Some bytes) empty (Some written) now text is grown takes = takes ∙ ap Some (rw is at grown)

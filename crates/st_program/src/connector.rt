@@ -8,7 +8,7 @@ ghost use Rattle.st_program.specs.declared.error.RunError.TheVariants.{BadOption
 use crate::error::RunError;
 use crate::hop::{Going, hop_of, neighbours_of, restored};
 use crate::input::read_whole;
-use crate::totals::{ConnectorTotals, places, tell_accounts, totals_file};
+use crate::totals::{ConnectorTotals, places, tell_accounts, telling};
 use sqlite_trees::store::Alter;
 use st_booking::Keeper;
 use st_books::Books;
@@ -18,13 +18,17 @@ use st_hop::HopState;
 use st_ledger::{LedgerError, OpensBooks, Placed};
 use st_oer::{CountRead, utf8};
 use st_settings::{ConnectorSettings, Table, TableError, read_table};
-use st_transfer::{ConnectTerms, ConnectorEnded, MOST_THREADS, connector_on};
+use st_transfer::{ConnectTerms, ConnectorEnded, Counts, MOST_THREADS, Minutes, connector_on};
 use std::alloc::Global;
 use std::fs::{File, Files};
 use std::io::Read;
 use std::net::{Net, TcpListener, TcpStream};
 use std::sync::Wait;
 use std::thread::Threads;
+use std::time::Duration;
+
+/// How many seconds pass between two times that a connector writes its totals while it runs.
+const PERIOD_SECONDS: u64 = 60;
 
 /// The table that bytes spell.
 fn table_in<'a>(alloc: Global, bytes: &'a [u8]) -> Result<Table<'a, Global>, RunError>
@@ -46,6 +50,7 @@ fn table_in<'a>(alloc: Global, bytes: &'a [u8]) -> Result<Table<'a, Global>, Run
 fn serve_by<
     N: Net<Listener = TcpListener, Stream = TcpStream> + Threads + Wait + std::time::Clock + Sync,
     K: Keeper + Send + Drop,
+    M: Minutes,
 >(
     rt: &N,
     alloc: Global,
@@ -54,6 +59,7 @@ fn serve_by<
     hop: HopState<Global>,
     till: Option<&Till<K, Global>>,
     totals: &mut ConnectorTotals,
+    minutes: &mut M,
 ) -> Result<(), RunError>
     requires made { is_hop settings.now.own.now table.now.accounts.items table.now.routes.items ≡ true }
     ensures { Serves settings.now.own.now settings.now.ledger table.now.accounts.items table.now.routes.items result }
@@ -62,6 +68,7 @@ fn serve_by<
     let neighbours = neighbours_of(alloc, &table.accounts)?;
     if settings.totals.is_some() {
         totals.accounts = places(alloc, table.accounts.len())?;
+        totals.counts = Counts::new(alloc, table.accounts.len())?;
     }
     let Ok(listener) = TcpListener::bind(rt, settings.listen) else {
         return Err(RunError::NoListener);
@@ -72,14 +79,17 @@ fn serve_by<
         requests: settings.requests,
         workers: settings.workers,
         turns: TURNS,
+        period: Duration::from_secs(PERIOD_SECONDS),
     };
     let ConnectorEnded {
         result,
         accounts,
+        counts,
         overloaded,
-    } = connector_on(rt, alloc, listener, hop, terms, till);
+    } = connector_on(rt, alloc, listener, hop, terms, till, minutes);
     *totals = ConnectorTotals {
         accounts,
+        counts,
         overloaded,
     };
     match result {
@@ -92,6 +102,7 @@ fn serve_by<
 fn serve_with<
     N: Net<Listener = TcpListener, Stream = TcpStream> + Threads + Wait + std::time::Clock + Sync,
     S: Alter + Send + Drop,
+    M: Minutes,
 >(
     rt: &N,
     alloc: Global,
@@ -99,6 +110,7 @@ fn serve_with<
     table: &Table<'_, Global>,
     mut books: Books<S>,
     totals: &mut ConnectorTotals,
+    minutes: &mut M,
 ) -> Result<(), RunError>
     requires made { is_hop settings.now.own.now table.now.accounts.items table.now.routes.items ≡ true }
     requires asked { IsSome settings.now.ledger }
@@ -109,7 +121,16 @@ fn serve_with<
         Err(error) => return Err(error),
     };
     let till = Till::new(alloc, Placed::new(alloc, books, places), MOST_THREADS)?;
-    serve_by(rt, alloc, settings, table, hop, Some(&till), totals)
+    serve_by(
+        rt,
+        alloc,
+        settings,
+        table,
+        hop,
+        Some(&till),
+        totals,
+        minutes,
+    )
 }
 
 /// Runs a connector by a table, over the books of a file where one is asked for. The books are opened only for a table that
@@ -117,6 +138,7 @@ fn serve_with<
 fn serve<
     N: Net<Listener = TcpListener, Stream = TcpStream> + Threads + Wait + std::time::Clock + Sync,
     O: OpensBooks,
+    M: Minutes,
 >(
     rt: &N,
     opener: &O,
@@ -124,6 +146,7 @@ fn serve<
     settings: &ConnectorSettings<'_>,
     table: &Table<'_, Global>,
     totals: &mut ConnectorTotals,
+    minutes: &mut M,
 ) -> Result<(), RunError>
     ensures { Serves settings.now.own.now settings.now.ledger table.now.accounts.items table.now.routes.items result }
 {
@@ -133,10 +156,10 @@ fn serve<
     };
     let Some(file) = settings.ledger else {
         let none = None::<&Till<NoBooks, Global>>;
-        return serve_by(rt, alloc, settings, table, hop, none, totals);
+        return serve_by(rt, alloc, settings, table, hop, none, totals, minutes);
     };
     match opener.open(file) {
-        Ok(books) => serve_with(rt, alloc, settings, table, books, totals),
+        Ok(books) => serve_with(rt, alloc, settings, table, books, totals, minutes),
         Err(error) => Err(RunError::Ledger(LedgerError::Books(error))),
     }
 }
@@ -146,6 +169,7 @@ fn serve_input<
     R: Read,
     N: Net<Listener = TcpListener, Stream = TcpStream> + Threads + Wait + std::time::Clock + Sync,
     O: OpensBooks,
+    M: Minutes,
 >(
     rt: &N,
     opener: &O,
@@ -153,18 +177,19 @@ fn serve_input<
     settings: &ConnectorSettings<'_>,
     reader: &mut CountRead<R>,
     totals: &mut ConnectorTotals,
+    minutes: &mut M,
 ) -> Result<(), RunError>
     ensures { EndsBy settings.now.own.now settings.now.ledger (R.remaining (device_of reader.old)) (tally_of reader.old) (tally_of reader.new) result }
 {
     let bytes = read_whole(alloc, reader)?;
     match table_in(alloc, &bytes) {
-        Ok(table) => serve(rt, opener, alloc, settings, &table, totals),
+        Ok(table) => serve(rt, opener, alloc, settings, &table, totals, minutes),
         Err(error) => Err(error),
     }
 }
 
 /// Reads the table, runs a connector by it, over the books of a file where one is asked for, and writes its totals where
-/// they are. Where the file for the totals cannot be opened, nothing else is done.
+/// they are, each minute and at the end. Where no file for the totals can be made, nothing else is done.
 pub(crate) fn connector<
     R: Read,
     N: Net<Listener = TcpListener, Stream = TcpStream>
@@ -183,14 +208,16 @@ pub(crate) fn connector<
 ) -> Result<(), RunError>
     ensures { EndsBy settings.now.own.now settings.now.ledger (R.remaining (device_of reader.old)) (tally_of reader.old) (tally_of reader.new) result ⊎ ((result ≡ Err BadOption) × (reader.new ≡ reader.old)) }
 {
-    match totals_file(rt, settings.totals) {
-        Ok(file) => {
+    match telling(rt, alloc, settings.totals) {
+        Ok(mut telling) => {
             let mut totals = ConnectorTotals {
                 accounts: Vec::new(alloc),
+                counts: Counts::none(alloc),
                 overloaded: 0,
             };
-            let ended = serve_input(rt, opener, alloc, settings, reader, &mut totals);
-            tell_accounts(alloc, file, &totals, ended)
+            let minutes = &mut telling;
+            let ended = serve_input(rt, opener, alloc, settings, reader, &mut totals, minutes);
+            tell_accounts(telling, &totals, ended)
         }
         Err(error) => Err(error),
     }

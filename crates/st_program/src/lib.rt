@@ -5,7 +5,9 @@
 //! specs/. `ilpstream` calls it with the arguments and the standard streams of a process.
 #![tactic(auto)]
 
+mod beside;
 mod connector;
+mod counts;
 mod error;
 mod hop;
 mod input;

@@ -1,17 +1,20 @@
 //! The file to which a command writes its totals.
 
-ghost use Rattle.std.specs.Prelude.{◌≡◌, IfErr, IfOk, IsNone, IsSome, OnOk, Result, string_bytes, vec_len};
+ghost use Rattle.std.specs.Prelude.{◌≡◌, ◌⊎◌, IfErr, IfOk, IsNone, IsSome, OnErr, OnOk, Result, string_bytes, vec_len};
 ghost use Rattle.std.specs.Io.KnownBytes.{Appends};
 ghost use Rattle.st_oer.specs.Tallies.{device_of};
 ghost use Rattle.st_end.specs.Seen.{totals_seen};
 ghost use Rattle.st_program.specs.Totals as spec;
-ghost use Rattle.st_program.specs.declared.error.RunError.TheVariants.{BadOption};
+ghost use Rattle.st_program.specs.declared.error.RunError.TheVariants.{BadOption, Fault as IsFault};
+ghost use Rattle.st_commands.specs.declared.error.Fault.TheVariants.{NoMemory};
 
+use crate::beside::{Beside, Place, is_replaced, replace};
+use crate::counts::counts_text;
 use crate::error::RunError;
 use st_commands::{Fault, TURNS, put};
 use st_end::Totals;
 use st_oer::CountWrite;
-use st_transfer::AccountTotals;
+use st_transfer::{AccountTotals, Counts, Minutes};
 use std::alloc::{AllocError, Global};
 use std::fs::{File, Files};
 use std::io::Write;
@@ -21,8 +24,34 @@ use std::io::Write;
 pub(crate) struct ConnectorTotals {
     /// Those of each account, by the account's number. Empty where nothing is known of them.
     pub(crate) accounts: Vec<AccountTotals>,
+    /// How the Prepares of each account ended. Empty where nothing is known of them.
+    pub(crate) counts: Counts,
     /// How many Prepares were answered with T00 because too many threads were busy.
     pub(crate) overloaded: u64,
+}
+
+/// What a connector writes of its totals.
+#[derive(Clone, Copy)]
+struct Report<'a> {
+    accounts: &'a [AccountTotals],
+    counts: &'a Counts,
+    overloaded: u64,
+}
+
+/// Where a connector writes its totals.
+#[derive(Drop)]
+pub(crate) enum TotalsPlace<'a, N> {
+    /// To a file that was opened at the start, since it is no regular one: at the end alone.
+    Open(CountWrite<File>),
+    /// Beside a file, which they replace.
+    Beside(Beside<'a, N>),
+}
+
+/// Where a connector writes its totals, and the memory for them. Nowhere where no file was asked for.
+#[derive(Drop)]
+pub(crate) struct Telling<'a, N> {
+    alloc: Global,
+    place: Option<TotalsPlace<'a, N>>,
 }
 
 /// Creates or empties the file of this name, where one was asked for. Fails with `BadOption` where it cannot be opened.
@@ -120,13 +149,24 @@ fn overloaded_text(alloc: Global, overloaded: u64) -> Result<String, AllocError>
     Ok(text)
 }
 
-/// The lines that report the totals of a connector.
-fn connector_text(alloc: Global, totals: &ConnectorTotals) -> Result<String, AllocError>
-    ensures { IfOk result (λ text. string_bytes text ≡ spec.connector_text totals.now.accounts.items totals.now.overloaded) }
+/// The lines that report what is owed at a connector, and how many Prepares it did not forward because it had no thread.
+fn owed_text(alloc: Global, report: Report<'_>) -> Result<String, AllocError>
+    ensures { IfOk result (λ text. string_bytes text ≡ spec.owed_text report.accounts.now report.overloaded) }
 {
-    let mut text = accounts_text(alloc, &totals.accounts)?;
-    let last = overloaded_text(alloc, totals.overloaded)?;
+    let mut text = accounts_text(alloc, report.accounts)?;
+    let last = overloaded_text(alloc, report.overloaded)?;
     text.push_str(last.as_str())?;
+    Ok(text)
+}
+
+/// The lines that report the totals of a connector.
+fn connector_text(alloc: Global, report: Report<'_>) -> Result<Vec<u8>, AllocError>
+    ensures { IfOk result (λ text. text.items ≡ spec.connector_text report.accounts.now report.overloaded report.counts.now.accounts.items report.counts.now.codes.items) }
+{
+    let owed = owed_text(alloc, report)?;
+    let counts = counts_text(alloc, report.counts)?;
+    let mut text = Vec::from_slice(alloc, owed.as_bytes())?;
+    text.extend_from_slice(&counts)?;
     Ok(text)
 }
 
@@ -147,13 +187,26 @@ fn put_totals<W: Write>(
 fn put_accounts<W: Write>(
     alloc: Global,
     file: &mut CountWrite<W>,
-    totals: &ConnectorTotals,
+    report: Report<'_>,
 ) -> Result<(), Fault>
-    ensures { OnOk result (Appends (W.contents (device_of file.old)) (W.contents (device_of file.new)) (spec.connector_text totals.now.accounts.items totals.now.overloaded)) }
+    ensures { OnOk result (Appends (W.contents (device_of file.old)) (W.contents (device_of file.new)) (spec.connector_text report.accounts.now report.overloaded report.counts.now.accounts.items report.counts.now.codes.items)) }
 {
-    let text = connector_text(alloc, totals)?;
+    let text = connector_text(alloc, report)?;
     let mut turns = TURNS;
-    put(file, text.as_bytes(), &mut turns)
+    put(file, &text, &mut turns)
+}
+
+/// Replaces the totals of a connector.
+fn replace_accounts<W: Write + Drop, P: Place<W>>(
+    alloc: Global,
+    place: &mut P,
+    report: Report<'_>,
+) -> Result<(), Fault>
+    ensures whole { OnOk result (spec.Replaced (P.held place.old) (P.held place.new) (spec.connector_text report.accounts.now report.overloaded report.counts.now.accounts.items report.counts.now.codes.items)) }
+    ensures kept { OnErr result (P.held place.new ≡ P.held place.old) }
+{
+    let text = connector_text(alloc, report)?;
+    replace(place, &text)
 }
 
 /// The result of a command: its own error, or else that of writing its totals.
@@ -182,18 +235,82 @@ pub(crate) fn tell_totals<W: Write + Drop>(
     }
 }
 
-/// Writes the totals of a connector where a file was asked for, however it ended. Returns the result of the command.
-pub(crate) fn tell_accounts<W: Write + Drop>(
+/// Finds out where a connector is to write its totals. A file of that name that is no regular one is opened, and emptied
+/// where it can be. Else a file is made beside it and removed. Fails with `BadOption` where that cannot be done.
+pub(crate) fn telling<'a, N: Files<File = File>>(
+    rt: &'a N,
     alloc: Global,
-    file: Option<CountWrite<W>>,
+    name: Option<&'a str>,
+) -> Result<Telling<'a, N>, RunError>
+    ensures refused { IfErr result (λ e. (e ≡ BadOption) ⊎ (e ≡ IsFault NoMemory)) }
+{
+    let Some(name) = name else {
+        return Ok(Telling { alloc, place: None });
+    };
+    if !is_replaced(rt, name) {
+        return match File::create(rt, name) {
+            Ok(file) => {
+                let place = Some(TotalsPlace::Open(CountWrite::new(file)));
+                Ok(Telling { alloc, place })
+            }
+            Err(_) => Err(RunError::BadOption),
+        };
+    }
+    let Ok(mut beside) = Beside::new(rt, alloc, name) else {
+        return Err(RunError::Fault(Fault::NoMemory));
+    };
+    if !beside.can_begin() {
+        return Err(RunError::BadOption);
+    }
+    let place = Some(TotalsPlace::Beside(beside));
+    Ok(Telling { alloc, place })
+}
+
+/// Writes the totals of a connector at its end.
+fn tell_last<N: Files<File = File>>(
+    alloc: Global,
+    place: TotalsPlace<'_, N>,
+    report: Report<'_>,
+) -> Result<(), Fault> {
+    match place {
+        TotalsPlace::Open(mut file) => put_accounts(alloc, &mut file, report),
+        TotalsPlace::Beside(mut place) => replace_accounts(alloc, &mut place, report),
+    }
+}
+
+/// Writes the totals of a connector where a file was asked for, however it ended. Returns the result of the command.
+pub(crate) fn tell_accounts<N: Files<File = File>>(
+    telling: Telling<'_, N>,
     totals: &ConnectorTotals,
     ended: Result<(), RunError>,
 ) -> Result<(), RunError>
-    ensures none { IsNone file → result ≡ ended }
+    ensures none { IsNone telling.entry.place → result ≡ ended }
     ensures told { (told : Result (Unit {0}) Fault) × (result ≡ spec.ended_with ended told) }
 {
-    match file {
-        Some(mut file) => ended_with(ended, put_accounts(alloc, &mut file, totals)),
+    let Telling { alloc, place } = telling;
+    match place {
+        Some(place) => {
+            let report = Report {
+                accounts: &totals.accounts,
+                counts: &totals.counts,
+                overloaded: totals.overloaded,
+            };
+            ended_with(ended, tell_last(alloc, place, report))
+        }
         None => ended,
+    }
+}
+
+impl<N: Files<File = File>> Minutes for Telling<'_, N> {
+    fn minute(&mut self, totals: &[AccountTotals], counts: &Counts, overloaded: u64) {
+        if let Some(TotalsPlace::Beside(place)) = &mut self.place {
+            let report = Report {
+                accounts: totals,
+                counts,
+                overloaded,
+            };
+            // (what could not be written is tried again after the next minute)
+            let _ = replace_accounts(self.alloc, place, report);
+        }
     }
 }

@@ -3,6 +3,7 @@ pub mod Crew
 pub mod Lobby
 pub mod Moments
 pub mod Accounts
+pub mod Counts
 pub mod Answering
 pub mod Keeping
 pub mod Outcomes

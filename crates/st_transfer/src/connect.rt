@@ -8,8 +8,10 @@ ghost use Rattle.st_transfer.specs.declared.error.TransferError.TheVariants.{NoM
 
 use crate::accounts::{AccountTotals, note, places};
 use crate::clock::RuntimeClock;
-use crate::crew::Crew;
+use crate::counts::{Came, Counts, came_of, count_answer};
+use crate::crew::{Crew, Wanted};
 use crate::error::TransferError;
+use crate::minutes::{Minutes, tell_minute};
 use crate::neighbour::Neighbourhood;
 use crate::serving::{accept_next, serve_on, shut};
 use crate::storing::Storing;
@@ -19,6 +21,7 @@ use st_desk::{AccountShares, HopDesk, Links, Owed, Served, Till, serve};
 use st_hop::{HopState, Outcome};
 use st_http::Answerer;
 use st_ilp::Moment;
+use st_link::deadline_in;
 use std::alloc::Global;
 use std::marker::Brand;
 use std::net::{Net, TcpListener, TcpStream};
@@ -36,6 +39,8 @@ pub struct ConnectorEnded {
     pub result: Result<Owed, TransferError>,
     /// The totals of each account that has a token, by the account's place. Empty where memory for them was refused.
     pub accounts: Vec<AccountTotals>,
+    /// How the Prepares of these accounts ended. Empty where the totals are.
+    pub counts: Counts,
     /// How many Prepares were answered with T00 in place of being forwarded, because too many threads were busy.
     pub overloaded: u64,
 }
@@ -47,6 +52,7 @@ struct Common<'a, C: Ledger, D: Ledger> {
     listener: &'a TcpListener,
     desk: Mutex<HopDesk<C, D, Global>>,
     shares: Mutex<AccountShares<C, D>>,
+    counts: Mutex<Counts>,
     crew: Crew,
     neighbourhood: Neighbourhood<'a>,
     /// A Reject of the hop with code T00.
@@ -63,6 +69,8 @@ struct Ways<'a, C: Ledger, D: Ledger, R: Net + Wait + Clock> {
     needed: u64,
     /// When an exchange has to be done, so that its answer can still be passed back. `None` where there is no such moment.
     latest: Option<Moment>,
+    /// What the last exchange brought, where there was one.
+    came: Came,
 }
 
 /// How many milliseconds after its connection was accepted a thread may wait for a neighbour: a second less than the whole
@@ -97,7 +105,9 @@ impl<C: Ledger, D: Ledger, R: Net + Wait + Clock> Links<Global> for Ways<'_, C, 
         } = self.common;
         if crew.may_send(self.rt, self.needed) {
             let by = earlier(self.latest, by);
-            return neighbourhood.exchange(self.rt, *alloc, account, bytes, by);
+            let outcome = neighbourhood.exchange(self.rt, *alloc, account, bytes, by);
+            self.came = came_of(&outcome);
+            return outcome;
         }
         match Vec::from_slice(*alloc, t00) {
             Ok(reject) => Outcome::Answered(reject),
@@ -141,6 +151,7 @@ impl<C: Ledger, D: Ledger, K: Keeper, R: Net + Wait + Clock> Answerer for Server
             common,
             needed: *needed,
             latest: *latest,
+            came: Came::NotSent,
         };
         match serve(
             rt,
@@ -153,6 +164,7 @@ impl<C: Ledger, D: Ledger, K: Keeper, R: Net + Wait + Clock> Answerer for Server
             clock,
         ) {
             Ok(Served { account, answer }) => {
+                count_answer(rt, &common.counts, account, ways.came, &answer);
                 *at = Some(account);
                 Some(answer)
             }
@@ -266,21 +278,44 @@ fn spawn_one<
     scope.spawn(move || serve_job(job)).is_ok()
 }
 
-/// Makes the threads of a connector in a scope, wherever too few of them accept, until none is left.
+/// Makes the threads of a connector in a scope, wherever too few of them accept, until none is left. Each period it tells
+/// what the connector has, for which `accounts` has places.
 fn make_threads<
     's,
     E,
     C: Ledger + Send + Sync,
     D: Ledger + Send + Sync,
     K: Keeper + Send,
+    M: Minutes,
     R: Net<Listener = TcpListener, Stream = TcpStream> + Wait + Clock + Sync,
->(rt: &R, crew: &Crew, scope: &Scope<'s, E>, job: &'s Job<'s, C, D, K, R>) {
+>(
+    rt: &R,
+    scope: &Scope<'s, E>,
+    job: &'s Job<'s, C, D, K, R>,
+    accounts: &mut [AccountTotals],
+    minutes: &mut M,
+) {
+    let Common {
+        alloc,
+        desk,
+        counts,
+        crew,
+        terms,
+        ..
+    } = job.common;
+    let mut period_ends = deadline_in(rt, terms.period);
     for _ in rt.forever() {
-        if !crew.wants_thread(rt) {
-            return;
-        }
-        if !spawn_one(scope, job) {
-            crew.do_without(rt);
+        match crew.wants(rt, period_ends) {
+            Wanted::Nothing => return,
+            Wanted::Thread => {
+                if !spawn_one(scope, job) {
+                    crew.do_without(rt);
+                }
+            }
+            Wanted::Report => {
+                tell_minute(rt, *alloc, desk, counts, crew, accounts, minutes);
+                period_ends = deadline_in(rt, terms.period);
+            }
         }
     }
 }
@@ -291,10 +326,13 @@ fn manage<
     C: Ledger + Send + Sync,
     D: Ledger + Send + Sync,
     K: Keeper + Send,
+    M: Minutes,
     R: Net<Listener = TcpListener, Stream = TcpStream> + Threads + Wait + Clock + Sync,
->(rt: &'a R, crew: &'a Crew, job: &'a Job<'a, C, D, K, R>) {
+>(rt: &'a R, job: &'a Job<'a, C, D, K, R>, accounts: &mut [AccountTotals], minutes: &mut M)
+    ensures { length accounts.new ≡ length accounts.old }
+{
     thread::scope(thread::scope_env(), rt, |scope| {
-        make_threads(rt, crew, scope, job);
+        make_threads(rt, scope, job, accounts, minutes);
     });
 }
 
@@ -328,6 +366,7 @@ fn common_of<'a, C: Ledger, D: Ledger>(
     terms: ConnectTerms<'a>,
 ) -> Result<Common<'a, C, D>, TransferError> {
     let shares = desk.shares().map_err(TransferError::Desk)?;
+    let counts = Counts::new(alloc, terms.tokens.len())?;
     let t00 = Vec::from_slice(alloc, desk.t00())?;
     let neighbourhood = Neighbourhood::new(alloc, terms.neighbours, terms.turns)?;
     Ok(Common {
@@ -335,6 +374,7 @@ fn common_of<'a, C: Ledger, D: Ledger>(
         listener,
         desk: Mutex::new(desk),
         shares: Mutex::new(shares),
+        counts: Mutex::new(counts),
         crew: Crew::new(terms.requests, terms.workers),
         neighbourhood,
         t00,
@@ -347,6 +387,7 @@ fn run<
     C: Ledger + Send + Sync,
     D: Ledger + Send + Sync,
     K: Keeper + Send,
+    M: Minutes,
     R: Net<Listener = TcpListener, Stream = TcpStream> + Threads + Wait + Clock + Sync,
 >(
     rt: &R,
@@ -357,6 +398,7 @@ fn run<
     dues: Blank,
     terms: ConnectTerms<'_>,
     till: Option<&Till<K, Global>>,
+    minutes: &mut M,
     accounts: Vec<AccountTotals>,
 ) -> ConnectorEnded
     requires claims { (claims.name ≡ C.name) × (claims.parts ≡ C.parts) × (claims.parts ≡ 64) }
@@ -369,23 +411,25 @@ fn run<
         Err(error) => return ConnectorEnded {
             result: Err(error),
             accounts,
+            counts: Counts::none(alloc),
             overloaded: 0,
         },
     };
+    let mut accounts = accounts;
     let job = Job {
         rt,
         common: &common,
         till,
     };
-    manage(rt, &common.crew, &job);
+    manage(rt, &job, accounts.as_mut_slice(), minutes);
     let Common {
         desk,
         shares,
+        counts,
         crew,
         ..
     } = common;
     let (overloaded, served) = crew.ended();
-    let mut accounts = accounts;
     let result = gathered(
         alloc,
         &mut desk.into_inner(),
@@ -396,6 +440,7 @@ fn run<
     ConnectorEnded {
         result,
         accounts,
+        counts: counts.into_inner(),
         overloaded,
     }
 }
@@ -419,10 +464,15 @@ fn run<
 /// booking. Then no further request is served: the listener is shut, and connections that no thread took are closed. A
 /// Prepare that a thread has by then is answered with T00 where it was not sent on, and else as its exchange ends.
 ///
-/// The call ends with its threads. The totals of the accounts are given whatever the result is.
+/// `minutes` is told each period of the terms, by the thread that calls, what the accounts have then. Meanwhile no thread is
+/// made, so that it is to take little time.
+///
+/// The call ends with its threads. The totals of the accounts, and how their Prepares ended, are given whatever the result
+/// is.
 pub fn connector_on<
     R: Net<Listener = TcpListener, Stream = TcpStream> + Threads + Wait + Clock + Sync,
     K: Keeper + Send + Drop,
+    M: Minutes,
 >(
     rt: &R,
     alloc: Global,
@@ -430,11 +480,12 @@ pub fn connector_on<
     hop: HopState<Global>,
     terms: ConnectTerms<'_>,
     till: Option<&Till<K, Global>>,
+    minutes: &mut M,
 ) -> ConnectorEnded
     ensures { (vec_len result.accounts ≡ length terms.entry.tokens.now) ⊎ (result.result ≡ Err NoMemory) }
 {
     match places(alloc, terms.tokens.len()) {
-        Ok(accounts) => run::<Brand, Brand, K, R>(
+        Ok(accounts) => run::<Brand, Brand, K, M, R>(
             rt,
             alloc,
             &listener,
@@ -443,11 +494,13 @@ pub fn connector_on<
             Blank::new(64),
             terms,
             till,
+            minutes,
             accounts,
         ),
         Err(_) => ConnectorEnded {
             result: Err(TransferError::NoMemory),
             accounts: Vec::new(alloc),
+            counts: Counts::none(alloc),
             overloaded: 0,
         },
     }

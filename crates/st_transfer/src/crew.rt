@@ -6,9 +6,10 @@ ghost use Rattle.st_transfer.specs.Crew.{threads_of, Hires, LeavesAgain, Forgoes
 ghost use Rattle.st_transfer.specs.declared.error.TransferError.TheVariants.{Books};
 
 use crate::error::TransferError;
+use st_link::left_until;
 use std::marker::Model;
 use std::sync::{Condvar, Mutex, Wait};
-use std::time::{Clock, Duration};
+use std::time::{Clock, Duration, Instant};
 
 /// The largest number of threads with a connection of which each may still send to a neighbour.
 pub(crate) const MOST_BUSY: u64 = 1_024;
@@ -32,6 +33,17 @@ enum Leave {
     Wait,
     /// It may not.
     Refuse,
+}
+
+/// What the manager of a connector's threads is to do.
+#[derive(Clone, Copy, Debug, PartialEq, Eq)]
+pub(crate) enum Wanted {
+    /// One more thread is to be made, for which a request is claimed.
+    Thread,
+    /// The period is over.
+    Report,
+    /// No thread is left.
+    Nothing,
 }
 
 /// The threads of a connector, and its requests: the value of one lock. Each request is left, or claimed by one thread,
@@ -290,19 +302,32 @@ impl Crew {
         }
     }
 
-    /// Waits until one more thread is to be made, for which a request is claimed. False where no thread is left.
-    pub(crate) fn wants_thread(&self, rt: &impl Wait) -> bool {
+    /// Waits until one more thread is to be made, for which a request is claimed, until no thread is left, or for the end of
+    /// a period, where there is one.
+    pub(crate) fn wants<R: Wait + Clock>(&self, rt: &R, period_ends: Option<Instant>) -> Wanted {
         let mut roster = self.roster.lock(rt);
         for _ in rt.forever() {
             if roster.hire() {
-                return true;
+                return Wanted::Thread;
             }
             if roster.threads() == 0 {
-                return false;
+                return Wanted::Nothing;
             }
-            roster = self.changed.wait(rt, roster);
+            if period_ends.is_none() {
+                roster = self.changed.wait(rt, roster);
+                continue;
+            }
+            let Some(left) = left_until(rt, period_ends) else {
+                return Wanted::Report;
+            };
+            roster = self.changed.wait_timeout(rt, roster, left).0;
         }
         unreachable!()
+    }
+
+    /// How many requests were not sent to a neighbour so far.
+    pub(crate) fn overloaded(&self, rt: &impl Wait) -> u64 {
+        self.roster.lock(rt).overloaded
     }
 
     /// Gives the request of a thread back that could not be made, and waits until a thread reports something, for a

@@ -1,6 +1,7 @@
 //! The arguments of a transfer and of a connector.
 
 use crate::neighbour::Neighbour;
+use std::time::Duration;
 
 /// What a sender is to do, apart from its input.
 #[derive(Clone, Copy)]
@@ -43,4 +44,6 @@ pub struct ConnectTerms<'a> {
     pub workers: u8,
     /// The most I/O calls of one TCP stream for one request, or for one exchange with a neighbour.
     pub turns: u64,
+    /// How often it is told, while it runs, what the connector has of its accounts.
+    pub period: Duration,
 }

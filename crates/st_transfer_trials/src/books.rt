@@ -77,12 +77,12 @@ impl Keeper for Noted<'_> {
 
 /// A Prepare of 10 to the receiver's side, which expires as the year 9999 begins. Its condition is SHA-256 of 32 zero
 /// bytes.
-const PREPARE: &[u8; 67] = b"\x0c\x41\0\0\0\0\0\0\0\x0a99990101000000000\
+pub(crate) const PREPARE: &[u8; 67] = b"\x0c\x41\0\0\0\0\0\0\0\x0a99990101000000000\
 \x66\x68\x7a\xad\xf8\x62\xbd\x77\x6c\x8f\xc1\x8b\x8e\x9f\x8e\x20\
 \x08\x97\x14\x85\x6e\xe2\x33\xb3\x90\x2a\x59\x1d\x0d\x5f\x29\x25\x06test.b\0";
 
 /// The Fulfill of 32 zero bytes, without data.
-const FULFILL: &[u8; 35] =
+pub(crate) const FULFILL: &[u8; 35] =
     b"\x0d\x21\0\0\0\0\0\0\0\0\0\0\0\0\0\0\0\0\0\0\0\0\0\0\0\0\0\0\0\0\0\0\0\0\0";
 
 /// The Reject of the connector where a Prepare that it sent on is not answered, or its Fulfill not stored.
@@ -123,11 +123,21 @@ fn fulfill_two(alloc: Global, listener: TcpListener) {
 
 /// What a connector at this place answers to the Prepare. `None` where it does not.
 fn ask<N: Net + std::time::Clock>(net: &N, alloc: Global, host: &str) -> Option<Vec<u8>> {
+    ask_with(net, alloc, host, PREPARE)
+}
+
+/// What it answers to these bytes.
+pub(crate) fn ask_with<N: Net + std::time::Clock>(
+    net: &N,
+    alloc: Global,
+    host: &str,
+    prepare: &[u8],
+) -> Option<Vec<u8>> {
     if !is_field_text(host) || !is_field_text(TOKEN) {
         return None;
     }
     let mut link = HttpLink::new(alloc, alloc, net, host, TOKEN, TURNS).ok()?;
-    link.exchange(PREPARE, Moment::new(253_402_300_000_000)?)
+    link.exchange(prepare, Moment::new(253_402_300_000_000)?)
         .ok()
 }
 

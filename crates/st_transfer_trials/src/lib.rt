@@ -8,6 +8,8 @@ mod aborts;
 #[cfg(test)]
 mod books;
 #[cfg(test)]
+mod counts;
+#[cfg(test)]
 mod devices;
 #[cfg(test)]
 mod sides;

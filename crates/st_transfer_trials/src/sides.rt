@@ -9,8 +9,9 @@ use st_hop::{Account, HopError, HopState, Route};
 use st_oer::{Counting, Rate, is_address};
 use st_sender::EndConfig;
 use st_transfer::{
-    AwaitListener, ConnectTerms, ConnectorEnded, Ended, Neighbour, ReceiveTerms, RuntimeClock,
-    SendTerms, TransferError, client_end, connector_on, receive_on, send_on, server_end,
+    AwaitListener, ConnectTerms, ConnectorEnded, Ended, Minutes, Neighbour, NoMinutes,
+    ReceiveTerms, RuntimeClock, SendTerms, TransferError, client_end, connector_on, receive_on,
+    send_on, server_end,
 };
 use std::alloc::Global;
 use std::io;
@@ -18,6 +19,7 @@ use std::io::{Read, Write};
 use std::net::{Net, OpenStream, TcpListener, TcpStream};
 use std::sync::Wait;
 use std::thread::Threads;
+use std::time::Duration;
 
 /// More calls of a stream than one exchange takes, and more turns than a transfer does.
 pub(crate) const TURNS: u64 = 1_000_000;
@@ -183,6 +185,28 @@ pub(crate) fn connect_storing<
     workers: u8,
     till: Option<&Till<K, Global>>,
 ) -> Result<ConnectorEnded, TransferError> {
+    let minutes = &mut NoMinutes;
+    connect_telling(
+        rt, alloc, listener, next, rate, workers, till, 3_600_000, minutes,
+    )
+}
+
+/// The same, where something is told each period of so many milliseconds.
+pub(crate) fn connect_telling<
+    R: Net<Listener = TcpListener, Stream = TcpStream> + Threads + Wait + std::time::Clock + Sync,
+    K: Keeper + Send + Drop,
+    M: Minutes,
+>(
+    rt: &R,
+    alloc: Global,
+    listener: TcpListener,
+    next: &str,
+    rate: Rate,
+    workers: u8,
+    till: Option<&Till<K, Global>>,
+    period: u64,
+    minutes: &mut M,
+) -> Result<ConnectorEnded, TransferError> {
     let Ok(hop) = new_hop(alloc, rate) else {
         return Err(TransferError::NoMemory);
     };
@@ -192,8 +216,9 @@ pub(crate) fn connect_storing<
         requests: 1_000,
         workers,
         turns: TURNS,
+        period: Duration::from_millis(period),
     };
-    Ok(connector_on(rt, alloc, listener, hop, terms, till))
+    Ok(connector_on(rt, alloc, listener, hop, terms, till, minutes))
 }
 
 /// The end of the sender `test.a`.

@@ -1,0 +1,105 @@
+//! The lines that report how the Prepares of a connector's accounts ended.
+
+ghost use Rattle.std.specs.Prelude.{◌≡◌, IfOk, string_bytes};
+ghost use Rattle.st_program.specs.Totals as spec;
+
+use st_transfer::{AccountCounts, CodeCount, Counts};
+use std::alloc::{AllocError, Global};
+
+/// The line of the account of this number.
+#[tactic(auto, using(crate::proofs::Pieces::pieces), unfolding(crate::specs::Totals::count_text))]
+fn count_text(alloc: Global, number: usize, counts: AccountCounts) -> Result<String, AllocError>
+    ensures { IfOk result (λ text. string_bytes text ≡ spec.count_text number counts) }
+{
+    let AccountCounts {
+        fulfilled,
+        rejected,
+        lost,
+        refused,
+        ..
+    } = counts;
+    let text = format!(in alloc;
+        "count {number} fulfilled {fulfilled} rejected {rejected} lost {lost} refused {refused}\n"
+    )?;
+    Ok(text)
+}
+
+/// The line of a code.
+#[tactic(auto, using(crate::proofs::Pieces::pieces), unfolding(crate::specs::Totals::code_text))]
+fn code_text(alloc: Global, code: CodeCount) -> Result<Vec<u8>, AllocError>
+    ensures { IfOk result (λ text. text.items ≡ spec.code_text code) }
+{
+    let CodeCount {
+        account,
+        code,
+        count,
+    } = code;
+    let front = format!(in alloc; "code {account} ")?;
+    let back = format!(in alloc; " {count}\n")?;
+    let mut text = Vec::from_slice(alloc, front.as_bytes())?;
+    text.extend_from_slice(&code)?;
+    text.extend_from_slice(back.as_bytes())?;
+    Ok(text)
+}
+
+/// The line of an account's Rejects whose codes have none. Empty where there are none.
+#[tactic(auto, using(crate::proofs::Pieces::pieces), unfolding(crate::specs::Totals::other_text))]
+fn other_text(alloc: Global, number: usize, counts: AccountCounts) -> Result<String, AllocError>
+    ensures { IfOk result (λ text. string_bytes text ≡ spec.other_text number counts) }
+{
+    let other = counts.other;
+    if other == 0 {
+        return Ok(String::new(alloc));
+    }
+    let text = format!(in alloc; "code {number} other {other}\n")?;
+    Ok(text)
+}
+
+/// The lines of accounts, numbered from 0.
+fn counts_lines(alloc: Global, counts: &[AccountCounts]) -> Result<String, AllocError>
+    ensures { IfOk result (λ text. string_bytes text ≡ spec.lines_from spec.count_text 0 counts.now) }
+{
+    let mut text = String::new(alloc);
+    for number in 0..counts.len() {
+        let line = count_text(alloc, number, counts[number])?;
+        text.push_str(line.as_str())?;
+    }
+    Ok(text)
+}
+
+/// The lines of codes.
+fn codes_lines(alloc: Global, codes: &[CodeCount]) -> Result<Vec<u8>, AllocError>
+    ensures { IfOk result (λ text. text.items ≡ spec.lines_from (λ place. spec.code_text) 0 codes.now) }
+{
+    let mut text = Vec::new(alloc);
+    for place in 0..codes.len() {
+        let line = code_text(alloc, codes[place])?;
+        text.extend_from_slice(&line)?;
+    }
+    Ok(text)
+}
+
+/// The lines of what has another code, by account.
+fn others_lines(alloc: Global, counts: &[AccountCounts]) -> Result<String, AllocError>
+    ensures { IfOk result (λ text. string_bytes text ≡ spec.lines_from spec.other_text 0 counts.now) }
+{
+    let mut text = String::new(alloc);
+    for number in 0..counts.len() {
+        let line = other_text(alloc, number, counts[number])?;
+        text.push_str(line.as_str())?;
+    }
+    Ok(text)
+}
+
+/// The lines that report how the Prepares of accounts ended.
+pub(crate) fn counts_text(alloc: Global, counts: &Counts) -> Result<Vec<u8>, AllocError>
+    ensures { IfOk result (λ text. text.items ≡ spec.counts_text counts.now.accounts.items counts.now.codes.items) }
+{
+    let front = counts_lines(alloc, &counts.accounts)?;
+    let codes = codes_lines(alloc, &counts.codes)?;
+    let others = others_lines(alloc, &counts.accounts)?;
+    let mut text = Vec::from_slice(alloc, front.as_bytes())?;
+    text.extend_from_slice(&codes)?;
+    text.extend_from_slice(others.as_bytes())?;
+    Ok(text)
+}

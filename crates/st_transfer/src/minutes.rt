@@ -1,0 +1,50 @@
+//! What is told of a connector while it runs.
+
+use crate::accounts::{AccountTotals, note};
+use crate::counts::{Counts, counts_now};
+use crate::crew::Crew;
+use st_desk::HopDesk;
+use std::alloc::Global;
+use std::sync::ledger::Ledger;
+use std::sync::{Mutex, Wait};
+
+/// Something that is told each period what a connector has of its accounts, while it runs.
+pub trait Minutes {
+    /// A period is over. `totals` and `counts` are copies, by the account's place, and `overloaded` is how many Prepares
+    /// were answered with T00 because too many threads were busy. No lock is held meanwhile, but no thread is made.
+    fn minute(&mut self, totals: &[AccountTotals], counts: &Counts, overloaded: u64);
+}
+
+/// Nothing is told.
+#[derive(Clone, Copy, Debug, PartialEq, Eq)]
+pub struct NoMinutes;
+
+impl Minutes for NoMinutes {
+    fn minute(&mut self, _: &[AccountTotals], _: &Counts, _: u64) {}
+}
+
+// Each function here that takes a lock lets it go before it returns.
+
+fn note_now<C: Ledger, D: Ledger>(
+    rt: &impl Wait,
+    desk: &Mutex<HopDesk<C, D, Global>>,
+    totals: &mut [AccountTotals],
+) {
+    note(desk.lock(rt).hop(), totals);
+}
+
+/// Tells what a connector has now, for which `totals` has places. Nothing is told where memory for a copy is refused.
+pub(crate) fn tell_minute<C: Ledger, D: Ledger, M: Minutes>(
+    rt: &impl Wait,
+    alloc: Global,
+    desk: &Mutex<HopDesk<C, D, Global>>,
+    counts: &Mutex<Counts>,
+    crew: &Crew,
+    totals: &mut [AccountTotals],
+    minutes: &mut M,
+) {
+    note_now(rt, desk, totals);
+    if let Ok(counts) = counts_now(rt, alloc, counts) {
+        minutes.minute(totals, &counts, crew.overloaded(rt));
+    }
+}
