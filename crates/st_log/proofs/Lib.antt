@@ -1,0 +1,4 @@
+pub mod Pieces
+pub mod Newlines
+pub mod Counts
+pub mod Dates

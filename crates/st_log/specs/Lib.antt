@@ -1,0 +1,4 @@
+pub mod Quoting
+pub mod Lines
+pub mod Pacing
+pub mod Laws

@@ -1,0 +1,304 @@
+//! What is logged.
+
+ghost use Rattle.std.specs.Prelude.{◌≡◌, ◌<◌};
+ghost use Rattle.st_log.specs.Lines as spec;
+
+/// One event of a run. Which neighbour it is about is said beside it: the number of an account at a connector, and 0 at
+/// `send` and `receive`. No event has a secret, a token or a payload.
+#[derive(Clone, Copy)]
+pub enum Event<'a> {
+    /// A command begins.
+    Start(Start<'a>),
+    /// An exchange with the neighbour brought no Fulfill.
+    Exchange(Cause<'a>),
+    /// A packet from the neighbour was refused here.
+    Refused {
+        /// The code of the Reject.
+        code: [u8; 3],
+        /// The number of the reason, where an end refused it.
+        reason: Option<u8>,
+    },
+    /// A connection brought no request that is answered.
+    Connection(Lost),
+    /// The neighbour found a packet too large (F08).
+    Limit {
+        /// The new packet limit, in units.
+        most: u64,
+    },
+    /// The sender waits.
+    Waits {
+        /// At which limit of the peer.
+        bound: Bound,
+        /// The limit: an offset in bytes, or units.
+        value: u64,
+    },
+    /// A stream is at its end.
+    Closed {
+        /// The number of the stream.
+        stream: u64,
+        /// The code with which it was aborted. `None` where it was closed cleanly.
+        code: Option<u8>,
+    },
+    /// The totals of an end so far.
+    End(EndCounts),
+    /// The totals of the neighbour's account so far.
+    Account(AccountCounts),
+    /// How many exchanges with the neighbour brought a Reject of one code so far.
+    Rejects {
+        /// The code of the Rejects.
+        code: [u8; 3],
+        /// Their number.
+        count: u64,
+    },
+    /// Further events of one kind from the neighbour, of which no line was written.
+    More {
+        /// Their kind.
+        kind: Kind,
+        /// Their number.
+        count: u64,
+    },
+    /// The command ended, its work done.
+    Done,
+    /// The command ended early.
+    Failed {
+        /// The number of the fault.
+        fault: u8,
+        /// The fault in words.
+        words: &'a str,
+    },
+}
+
+/// The settings with which a command begins. It has those that are no secrets.
+#[derive(Clone, Copy)]
+pub enum Start<'a> {
+    /// The command `send`.
+    Send {
+        /// Its neighbour, as HOST:PORT.
+        to: &'a str,
+        /// Its own ILP address.
+        address: &'a str,
+        /// The ILP address of its peer.
+        peer: &'a str,
+        /// The units that it offers.
+        money: u64,
+        /// The number of workers.
+        workers: u8,
+    },
+    /// The command `receive`.
+    Receive {
+        /// Where it listens, as HOST:PORT.
+        listen: &'a str,
+        /// Its own ILP address.
+        address: &'a str,
+        /// The ILP address of its peer.
+        peer: &'a str,
+        /// The most units that it takes.
+        receive_max: u64,
+    },
+    /// The command `connector`.
+    Connector {
+        /// Where it listens, as HOST:PORT.
+        listen: &'a str,
+        /// Its own ILP address.
+        own: &'a str,
+        /// How many threads wait for a connection.
+        workers: u8,
+        /// How many requests it answers.
+        requests: u64,
+    },
+}
+
+/// Why an exchange brought no Fulfill.
+#[derive(Clone, Copy)]
+pub enum Cause<'a> {
+    /// The link to the neighbour failed.
+    Link {
+        /// The number of its fault.
+        fault: u8,
+        /// The status of the response, where it is not 200.
+        status: Option<u16>,
+    },
+    /// No connection to the neighbour could be made in time, or there is no place where it is reached.
+    Unreached,
+    /// The answer is a Reject.
+    Reject {
+        /// Its code.
+        code: [u8; 3],
+        /// The ILP address of the node that made it, or the empty text.
+        by: &'a str,
+        /// Its message for people.
+        message: &'a str,
+    },
+    /// The answer is a Fulfill that does not fit the condition.
+    Unfit,
+    /// The answer is neither a Fulfill nor a Reject.
+    Unreadable,
+    /// There was no memory for the exchange.
+    NoMemory,
+}
+
+/// What became of a connection on which no request was answered.
+#[derive(Clone, Copy, Debug, PartialEq, Eq)]
+pub enum Lost {
+    /// Its request was refused by this status.
+    Status(u16),
+    /// It ended, failed or was silent before its request was whole, or the response could not be written.
+    Cut,
+}
+
+/// A limit that the peer of a sender set.
+#[derive(Clone, Copy, Debug, PartialEq, Eq)]
+pub enum Bound {
+    /// The greatest offset of a stream's bytes.
+    StreamData,
+    /// The most bytes of all streams together.
+    ConnectionData,
+    /// The most units of a stream.
+    ReceiveMax,
+}
+
+/// The totals of an end.
+#[derive(Clone, Copy, Debug, PartialEq, Eq)]
+pub struct EndCounts {
+    /// Bytes that were accepted to be sent.
+    pub accepted: u64,
+    /// Bytes of the peer that were read.
+    pub delivered: u64,
+    /// Units that arrived.
+    pub credited: u64,
+    /// Units that were paid.
+    pub paid: u64,
+}
+
+/// The totals of an account of a connector.
+#[derive(Clone, Copy, Debug, PartialEq, Eq)]
+pub struct AccountCounts {
+    /// Units that the account owes the connector.
+    pub claims: u64,
+    /// Units that the connector owes the account.
+    pub dues: u64,
+    /// Units that are reserved against the account.
+    pub held: u64,
+    /// Its Prepares that were fulfilled.
+    pub fulfilled: u64,
+    /// Its Prepares that were rejected further on.
+    pub rejected: u64,
+    /// Its Prepares of which the answer was lost.
+    pub lost: u64,
+    /// Its packets that were refused here.
+    pub refused: u64,
+}
+
+/// The kind of an event: what lines are counted by.
+#[derive(Clone, Copy, Debug, PartialEq, Eq)]
+pub enum Kind {
+    /// `start`
+    Start,
+    /// `exchange`
+    Exchange,
+    /// `refused`
+    Refused,
+    /// `connection`
+    Connection,
+    /// `limit`
+    Limit,
+    /// `waits`
+    Waits,
+    /// `closed`
+    Closed,
+    /// `totals`
+    Totals,
+    /// `more`
+    More,
+    /// `end`
+    End,
+}
+
+/// How many kinds there are.
+pub(crate) const KINDS: usize = 10;
+
+impl Event<'_> {
+    /// The kind of the event: the word with which its line begins.
+    pub fn kind(&self) -> Kind
+        ensures { result ≡ spec.kind_of self.now }
+    {
+        match self {
+            Event::Start(_) => Kind::Start,
+            Event::Exchange(_) => Kind::Exchange,
+            Event::Refused { .. } => Kind::Refused,
+            Event::Connection(_) => Kind::Connection,
+            Event::Limit { .. } => Kind::Limit,
+            Event::Waits { .. } => Kind::Waits,
+            Event::Closed { .. } => Kind::Closed,
+            Event::End(_) | Event::Account(_) | Event::Rejects { .. } => Kind::Totals,
+            Event::More { .. } => Kind::More,
+            Event::Done | Event::Failed { .. } => Kind::End,
+        }
+    }
+}
+
+impl Kind {
+    /// All kinds, each at its place.
+    pub(crate) const ALL: [Kind; KINDS] = [
+        Kind::Start,
+        Kind::Exchange,
+        Kind::Refused,
+        Kind::Connection,
+        Kind::Limit,
+        Kind::Waits,
+        Kind::Closed,
+        Kind::Totals,
+        Kind::More,
+        Kind::End,
+    ];
+
+    /// The place of the kind among all kinds.
+    pub(crate) fn place(self) -> usize
+        ensures place { result ≡ spec.place_of self }
+        ensures few { result < 10 }
+    {
+        match self {
+            Kind::Start => 0,
+            Kind::Exchange => 1,
+            Kind::Refused => 2,
+            Kind::Connection => 3,
+            Kind::Limit => 4,
+            Kind::Waits => 5,
+            Kind::Closed => 6,
+            Kind::Totals => 7,
+            Kind::More => 8,
+            Kind::End => 9,
+        }
+    }
+
+    /// The word with which the line of such an event begins.
+    pub fn word(self) -> &'static str
+        ensures { result.now ≡ spec.word_of self }
+    {
+        match self {
+            Kind::Start => "start",
+            Kind::Exchange => "exchange",
+            Kind::Refused => "refused",
+            Kind::Connection => "connection",
+            Kind::Limit => "limit",
+            Kind::Waits => "waits",
+            Kind::Closed => "closed",
+            Kind::Totals => "totals",
+            Kind::More => "more",
+            Kind::End => "end",
+        }
+    }
+}
+
+impl Bound {
+    /// Its word in a line.
+    pub(crate) fn word(self) -> &'static str
+        ensures { result.now ≡ spec.bound_word self }
+    {
+        match self {
+            Bound::StreamData => "stream_data",
+            Bound::ConnectionData => "connection_data",
+            Bound::ReceiveMax => "receive_max",
+        }
+    }
+}

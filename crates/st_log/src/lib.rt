@@ -1,0 +1,21 @@
+//! The log of `send`, `receive` and `connector`: one line for each event.
+//!
+//! `Event` has what can happen, and `line` the text of one. A `Journal` is a writer that many threads share. It writes at
+//! most ten lines a second of one kind from one neighbour, counts the others, and tells their number in a line of its own.
+//! specs/Lines.antt has the text of each line, and specs/Pacing.antt says which are written.
+#![tactic(auto)]
+
+mod date;
+mod event;
+mod journal;
+mod laws;
+mod outlet;
+mod pace;
+mod quote;
+mod text;
+
+pub use event::{AccountCounts, Bound, Cause, EndCounts, Event, Kind, Lost, Start};
+pub use journal::Journal;
+pub use laws::{events_are_counted, line_has_one_newline, ten_a_second};
+pub use pace::{LINES_A_SECOND, Left, Pace, Verdict};
+pub use text::line;

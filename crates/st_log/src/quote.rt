@@ -1,0 +1,79 @@
+//! Texts of others, as they stand in a line.
+
+ghost use Rattle.std.specs.Prelude.{◌≡◌, ◌++◌, ◌<◌, IfOk, OnOk, string_bytes};
+ghost use Rattle.st_log.specs.Quoting as spec;
+
+use std::alloc::{AllocError, Global};
+
+/// The character of a hexadecimal digit.
+fn hex_digit(n: u8) -> u8
+    requires { n < 16 }
+    ensures digit { result ≡ spec.hex_digit n }
+    ensures ascii { result < 128 }
+{
+    if n < 10 { b'0' + n } else { b'a' + (n - 10) }
+}
+
+/// Whether a byte may stand in a line as it is.
+fn is_plain(byte: u8) -> bool
+    ensures { result ≡ spec.is_plain byte }
+{
+    byte >= 32 && byte <= 126 && byte != b'"' && byte != b'\\'
+}
+
+/// Appends a byte as `\xHH`.
+fn put_hex(text: &mut String, byte: u8) -> Result<(), AllocError>
+    ensures { OnOk result (string_bytes text.new ≡ string_bytes text.old ++ spec.hex_escape byte) }
+{
+    text.push_str("\\x")?;
+    text.push(char::from(hex_digit(byte / 16)))?;
+    text.push(char::from(hex_digit(byte % 16)))
+}
+
+/// Appends a byte as it stands in a line.
+#[tactic(auto, unfolding(crate::specs::Quoting::escaped))]
+fn put_escaped(text: &mut String, byte: u8) -> Result<(), AllocError>
+    ensures { OnOk result (string_bytes text.new ≡ string_bytes text.old ++ spec.escaped byte) }
+{
+    if byte == b'"' {
+        return text.push_str("\\\"");
+    }
+    if byte == b'\\' {
+        return text.push_str("\\\\");
+    }
+    if is_plain(byte) {
+        return text.push(char::from(byte));
+    }
+    put_hex(text, byte)
+}
+
+/// Appends bytes as they stand in a line.
+fn put_all_escaped(text: &mut String, bytes: &[u8]) -> Result<(), AllocError>
+    ensures { OnOk result (string_bytes text.new ≡ string_bytes text.old ++ spec.all_escaped bytes.now) }
+{
+    for byte in bytes {
+        put_escaped(text, *byte)?;
+    }
+    Ok(())
+}
+
+/// Bytes as they stand in a line, in double quotes.
+#[tactic(auto, using(crate::proofs::Pieces::pieces), unfolding(crate::specs::Quoting::quoted))]
+pub(crate) fn quoted(alloc: Global, bytes: &[u8]) -> Result<String, AllocError>
+    ensures { IfOk result (λ text. string_bytes text ≡ spec.quoted bytes.now) }
+{
+    let mut text = String::new(alloc);
+    text.push('"')?;
+    put_all_escaped(&mut text, bytes)?;
+    text.push('"')?;
+    Ok(text)
+}
+
+/// The code of a Reject as it stands in a line, without quotes.
+pub(crate) fn code_text(alloc: Global, code: &[u8; 3]) -> Result<String, AllocError>
+    ensures { IfOk result (λ text. string_bytes text ≡ spec.all_escaped code.now) }
+{
+    let mut text = String::new(alloc);
+    put_all_escaped(&mut text, code)?;
+    Ok(text)
+}
