@@ -72,6 +72,7 @@ fn serve_by<
         requests: settings.requests,
         workers: settings.workers,
         turns: TURNS,
+        log: None,
     };
     let ConnectorEnded {
         result,

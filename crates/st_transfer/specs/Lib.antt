@@ -6,3 +6,4 @@ pub mod Accounts
 pub mod Answering
 pub mod Keeping
 pub mod Outcomes
+pub mod Telling

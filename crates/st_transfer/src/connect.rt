@@ -13,6 +13,7 @@ use crate::error::TransferError;
 use crate::neighbour::Neighbourhood;
 use crate::serving::{accept_next, serve_on, shut};
 use crate::storing::Storing;
+use crate::telling::{Sent, tell_outcome, tell_served};
 use crate::terms::ConnectTerms;
 use st_booking::Keeper;
 use st_desk::{AccountShares, HopDesk, Links, Owed, Served, Till, serve};
@@ -63,6 +64,8 @@ struct Ways<'a, C: Ledger, D: Ledger, R: Net + Wait + Clock> {
     needed: u64,
     /// When an exchange has to be done, so that its answer can still be passed back. `None` where there is no such moment.
     latest: Option<Moment>,
+    /// What became of the request's exchange.
+    sent: Sent,
 }
 
 /// How many milliseconds after its connection was accepted a thread may wait for a neighbour: a second less than the whole
@@ -93,11 +96,15 @@ impl<C: Ledger, D: Ledger, R: Net + Wait + Clock> Links<Global> for Ways<'_, C, 
             crew,
             neighbourhood,
             t00,
+            terms,
             ..
         } = self.common;
         if crew.may_send(self.rt, self.needed) {
             let by = earlier(self.latest, by);
-            return neighbourhood.exchange(self.rt, *alloc, account, bytes, by);
+            let (outcome, cause) =
+                neighbourhood.exchange_explained(self.rt, *alloc, account, bytes, by);
+            self.sent = tell_outcome(self.rt, terms.log, account, &outcome, cause);
+            return outcome;
         }
         match Vec::from_slice(*alloc, t00) {
             Ok(reject) => Outcome::Answered(reject),
@@ -141,6 +148,7 @@ impl<C: Ledger, D: Ledger, K: Keeper, R: Net + Wait + Clock> Answerer for Server
             common,
             needed: *needed,
             latest: *latest,
+            sent: Sent::No,
         };
         match serve(
             rt,
@@ -154,6 +162,7 @@ impl<C: Ledger, D: Ledger, K: Keeper, R: Net + Wait + Clock> Answerer for Server
         ) {
             Ok(Served { account, answer }) => {
                 *at = Some(account);
+                tell_served(rt, common.terms.log, account, &answer, ways.sent);
                 Some(answer)
             }
             Err(_) => None,
@@ -192,7 +201,15 @@ fn serve_next<
                 return false;
             };
             server.note_accepted(needed);
-            let came = serve_on(rt, *alloc, stream, terms.tokens, server, terms.turns);
+            let came = serve_on(
+                rt,
+                *alloc,
+                stream,
+                terms.tokens,
+                server,
+                terms.turns,
+                terms.log,
+            );
             crew.finish(rt, came)
         }
         Err(error) => {

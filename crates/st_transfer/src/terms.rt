@@ -1,6 +1,8 @@
 //! The arguments of a transfer and of a connector.
 
 use crate::neighbour::Neighbour;
+use st_log::Journal;
+use std::fs::File;
 
 /// What a sender is to do, apart from its input.
 #[derive(Clone, Copy)]
@@ -13,6 +15,8 @@ pub struct SendTerms<'a> {
     pub workers: u8,
     /// The most turns of each worker, the most I/O calls of one exchange, and the most I/O calls for the input.
     pub turns: u64,
+    /// Where it is told what happens. `None` where that is told nowhere.
+    pub log: Option<&'a Journal<File>>,
 }
 
 /// What `receive` is to do, apart from its output.
@@ -26,6 +30,8 @@ pub struct ReceiveTerms<'a> {
     pub patience: Option<u64>,
     /// The most connections that are accepted, and the most I/O calls of each.
     pub turns: u64,
+    /// Where it is told what happens. `None` where that is told nowhere.
+    pub log: Option<&'a Journal<File>>,
 }
 
 /// What a connector is to do.
@@ -43,4 +49,6 @@ pub struct ConnectTerms<'a> {
     pub workers: u8,
     /// The most I/O calls of one TCP stream for one request, or for one exchange with a neighbour.
     pub turns: u64,
+    /// Where it is told what happens, for neighbours up to the last account. `None` where that is told nowhere.
+    pub log: Option<&'a Journal<File>>,
 }

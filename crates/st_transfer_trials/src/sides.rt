@@ -132,6 +132,7 @@ where
                 receive_max: terms.receive_max,
                 patience: None,
                 turns: terms.connections,
+                log: None,
             };
             let clock = RuntimeClock::new(rt);
             receive_on(rt, alloc, listener, end, writer, clock, terms)
@@ -192,6 +193,7 @@ pub(crate) fn connect_storing<
         requests: 1_000,
         workers,
         turns: TURNS,
+        log: None,
     };
     Ok(connector_on(rt, alloc, listener, hop, terms, till))
 }
@@ -264,6 +266,7 @@ pub(crate) fn send_telling<
             money,
             workers,
             turns,
+            log: None,
         },
     );
     *totals = ended.totals;
