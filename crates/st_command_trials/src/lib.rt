@@ -1,6 +1,6 @@
 //! Tests of the command `frames` over devices that move few bytes a call, fail or interrupt, and of `frames` and a connector's table
 //! while each request for memory is refused in turn. No contract can say that memory is to be had, or what a device gives: these
-//! tests do. What the commands answer to their inputs and their arguments is tested by runs of the program.
+//! tests do. Lines of the log have dates from outside, and a journal is tried over a device that fails. What the commands answer to their inputs and their arguments is tested by runs of the program.
 #![tactic(auto)]
 
 #[cfg(test)]
@@ -34,6 +34,8 @@ mod devices;
 mod examples;
 #[cfg(test)]
 mod frames;
+#[cfg(test)]
+mod log;
 #[cfg(test)]
 mod memory;
 #[cfg(test)]

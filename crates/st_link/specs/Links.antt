@@ -1,9 +1,11 @@
 -- A link by HTTP.
-use Rattle.std.specs.Prelude.{ℕ, List}
+use Rattle.std.specs.Prelude.{ℕ, List, Option, Some, None}
 use Rattle.st_desk.specs.declared.link.LinkFault.{LinkFault}
 use Rattle.st_desk.specs.declared.link.LinkFault.TheVariants.{Device, Peer, NoMemory}
 use Rattle.st_http.specs.declared.error.HttpError.{HttpError}
 use Rattle.st_http.specs.declared.error.HttpError.TheVariants as http
+use Rattle.st_link.specs.declared.cause.LinkCause.{LinkCause}
+use Rattle.st_link.specs.declared.cause.LinkCause.TheVariants as cause
 
 -- where a neighbour is reached, and the token that it knows this side by
 pub record Neighbour : Type 0 where
@@ -16,3 +18,14 @@ fault_of http.ReadFault = Device
 fault_of (http.WriteFault sent) = Device
 fault_of http.NoMemory = NoMemory
 fault_of e = Peer
+
+-- which fault a cause is
+abbrev pub caused_fault : LinkCause → LinkFault
+caused_fault cause.Unreached = Peer
+caused_fault cause.NoMemory = NoMemory
+caused_fault (cause.Http e) = fault_of e
+
+-- the status of a response that is not 200
+abbrev pub status_of : LinkCause → Option ℕ
+status_of (cause.Http (http.Status status)) = Some status
+status_of e = None

@@ -1,11 +1,14 @@
 //! A link to a neighbour by ILP over HTTP.
 
-ghost use Rattle.std.specs.Prelude.{◌≡◌, true, IfErr, IfOk, IsTrue};
+ghost use Rattle.std.specs.Prelude.{◌≡◌, true, IfErr, IfOk, IsTrue, OnOk, None, Some};
 ghost use Rattle.st_desk.specs.declared.link.LinkFault.TheVariants.{Device};
 ghost use Rattle.st_http.specs.Texts as texts;
-ghost use Rattle.st_link.specs.Links.{fault_of};
+ghost use Rattle.st_link.specs.Links.{caused_fault, fault_of};
+ghost use Rattle.st_link.specs.declared.cause.LinkCause as causes;
+ghost use Rattle.st_oer.specs.Faults.{Rose};
 
 use crate::buffered::Buffered;
+use crate::cause::LinkCause;
 use crate::timed::{Timed, deadline_in, left_until};
 use st_desk::{Link, LinkFault};
 use st_http::{HttpError, exchange};
@@ -50,6 +53,8 @@ pub struct HttpLink<'n, N: Net + Clock, A: Allocator + Copy> {
     /// So many calls of its stream an exchange may take.
     turns: u64,
     faults: u64,
+    /// Why the last exchange brought no answer.
+    cause: Option<LinkCause>,
     alloc: A,
     global: Global,
 }
@@ -65,6 +70,17 @@ fn fault_of(error: HttpError) -> LinkFault
     }
 }
 
+/// Which fault of a link a cause is.
+fn caused_fault(cause: LinkCause) -> LinkFault
+    ensures { result ≡ caused_fault cause }
+{
+    match cause {
+        LinkCause::Unreached => LinkFault::Peer,
+        LinkCause::NoMemory => LinkFault::NoMemory,
+        LinkCause::Http(error) => fault_of(error),
+    }
+}
+
 impl<A: Allocator + Copy> Neighbour<A> {
     /// One exchange on a stream to it.
     fn exchange<S: Read + Write + Drop>(
@@ -74,7 +90,7 @@ impl<A: Allocator + Copy> Neighbour<A> {
         stream: S,
         bytes: &[u8],
         turns: u64,
-    ) -> Result<Vec<u8, A>, LinkFault> {
+    ) -> Result<Vec<u8, A>, LinkCause> {
         let mut stream = Counting::new(stream);
         exchange(
             alloc,
@@ -85,7 +101,7 @@ impl<A: Allocator + Copy> Neighbour<A> {
             bytes,
             turns,
         )
-        .map_err(fault_of)
+        .map_err(LinkCause::Http)
     }
 }
 
@@ -113,6 +129,7 @@ impl<'n, N: Net + Clock, A: Allocator + Copy> HttpLink<'n, N, A> {
             address: None,
             turns,
             faults: 0,
+            cause: None,
             alloc,
             global,
         })
@@ -126,9 +143,17 @@ impl<'n, N: Net + Clock, A: Allocator + Copy> HttpLink<'n, N, A> {
             address: None,
             turns: 0,
             faults: 0,
+            cause: None,
             alloc,
             global,
         }
+    }
+
+    /// Why the last exchange brought no answer. `None` where it brought one, or there was none yet.
+    pub fn cause(&self) -> Option<LinkCause>
+        ensures { result ≡ self.now.cause }
+    {
+        self.cause
     }
 
     /// The address that the host's name was resolved to, if an exchange over it succeeded last.
@@ -171,21 +196,45 @@ impl<'n, N: Net + Clock, A: Allocator + Copy> HttpLink<'n, N, A> {
         &self,
         bytes: &[u8],
         by: Moment,
-    ) -> Result<(Vec<u8, A>, SocketAddr), LinkFault> {
+    ) -> Result<(Vec<u8, A>, SocketAddr), LinkCause> {
         let Some(neighbour) = &self.neighbour else {
-            return Err(LinkFault::Peer);
+            return Err(LinkCause::Unreached);
         };
         let deadline = self.deadline(by);
         let Some((stream, address)) = self.connect(neighbour.host.as_str(), deadline) else {
-            return Err(LinkFault::Peer);
+            return Err(LinkCause::Unreached);
         };
         let _ = stream.set_nodelay(true);
         let timed = Timed::until(stream, self.net, deadline);
         let Ok(buffered) = Buffered::new(self.alloc, timed) else {
-            return Err(LinkFault::NoMemory);
+            return Err(LinkCause::NoMemory);
         };
         let answer = neighbour.exchange(self.alloc, self.global, buffered, bytes, self.turns)?;
         Ok((answer, address))
+    }
+
+    /// The same, and it keeps the address, or the cause.
+    fn exchange_noting(&mut self, bytes: &[u8], by: Moment) -> Result<Vec<u8, A>, LinkFault>
+        ensures answered { OnOk result (self.new.cause ≡ None) }
+        ensures told { IfErr result (λ e. (cause : causes.LinkCause) × (self.new.cause ≡ Some cause) × (e ≡ caused_fault cause)) }
+        ensures counted { IfErr result (λ e. e ≡ Device → Rose self.old.faults self.new.faults) }
+    {
+        match self.exchange_once(bytes, by) {
+            Ok((answer, address)) => {
+                self.address = Some(address);
+                self.cause = None;
+                Ok(answer)
+            }
+            Err(cause) => {
+                self.address = None;
+                self.cause = Some(cause);
+                let fault = caused_fault(cause);
+                if matches!(fault, LinkFault::Device) {
+                    self.faults = self.faults.saturating_add(1);
+                }
+                Err(fault)
+            }
+        }
     }
 }
 
@@ -199,18 +248,6 @@ impl<N: Net + Clock, A: Allocator + Copy> Counted for HttpLink<'_, N, A> {
 
 impl<N: Net + Clock, A: Allocator + Copy> Link<A> for HttpLink<'_, N, A> {
     fn exchange(&mut self, bytes: &[u8], by: Moment) -> Result<Vec<u8, A>, LinkFault> {
-        match self.exchange_once(bytes, by) {
-            Ok((answer, address)) => {
-                self.address = Some(address);
-                Ok(answer)
-            }
-            Err(fault) => {
-                self.address = None;
-                if matches!(fault, LinkFault::Device) {
-                    self.faults = self.faults.saturating_add(1);
-                }
-                Err(fault)
-            }
-        }
+        self.exchange_noting(bytes, by)
     }
 }

@@ -3,9 +3,11 @@
 #![tactic(auto)]
 
 mod buffered;
+mod cause;
 mod http_link;
 mod timed;
 
 pub use buffered::Buffered;
+pub use cause::LinkCause;
 pub use http_link::{ANSWER_SECONDS, HttpLink};
 pub use timed::{Timed, deadline_in, left_until};

@@ -37,7 +37,7 @@ pub enum Event<'a> {
         /// The number of the stream.
         stream: u64,
         /// The code with which it was aborted. `None` where it was closed cleanly.
-        code: Option<u8>,
+        code: Option<u64>,
     },
     /// The totals of an end so far.
     End(EndCounts),
@@ -129,7 +129,7 @@ pub enum Cause<'a> {
         /// Its message for people.
         message: &'a str,
     },
-    /// The answer is a Fulfill that does not fit the condition.
+    /// The answer is a Fulfill that is not passed back: it does not fit the condition, came too late or could not be stored.
     Unfit,
     /// The answer is neither a Fulfill nor a Reject.
     Unreadable,

@@ -237,7 +237,7 @@ fn closed_text(alloc: Global, stream: u64) -> Result<String, AllocError>
     Ok(text)
 }
 
-fn aborted_text(alloc: Global, stream: u64, code: u8) -> Result<String, AllocError>
+fn aborted_text(alloc: Global, stream: u64, code: u64) -> Result<String, AllocError>
     ensures { IfOk result (λ text. string_bytes text ≡ spec.aborted_text stream code) }
 {
     let text = format!(in alloc; "closed stream={stream} code={code}\n")?;

@@ -80,6 +80,7 @@ fn serve_by<
         workers: settings.workers,
         turns: TURNS,
         period: Duration::from_secs(PERIOD_SECONDS),
+        log: None,
     };
     let ConnectorEnded {
         result,

@@ -44,6 +44,7 @@ fn transfer<W: Write, N: Net<Listener = TcpListener, Stream = TcpStream> + std::
                 receive_max: settings.receive_max,
                 patience: settings.patience,
                 turns: TURNS,
+                log: None,
             };
             let clock = RuntimeClock::new(rt);
             let ended = receive_on(rt, alloc, listener, end, writer, clock, terms);

@@ -66,6 +66,7 @@ fn transfer<
                 money: settings.money,
                 workers: settings.workers,
                 turns: TURNS,
+                log: None,
             };
             let Ended {
                 result,

@@ -7,3 +7,4 @@ pub mod Counts
 pub mod Answering
 pub mod Keeping
 pub mod Outcomes
+pub mod Telling

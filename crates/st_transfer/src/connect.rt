@@ -15,6 +15,7 @@ use crate::minutes::{Minutes, tell_minute};
 use crate::neighbour::Neighbourhood;
 use crate::serving::{accept_next, serve_on, shut};
 use crate::storing::Storing;
+use crate::telling::{Sent, tell_outcome, tell_served};
 use crate::terms::ConnectTerms;
 use st_booking::Keeper;
 use st_desk::{AccountShares, HopDesk, Links, Owed, Served, Till, serve};
@@ -71,6 +72,8 @@ struct Ways<'a, C: Ledger, D: Ledger, R: Net + Wait + Clock> {
     latest: Option<Moment>,
     /// What the last exchange brought, where there was one.
     came: Came,
+    /// What became of the request's exchange.
+    sent: Sent,
 }
 
 /// How many milliseconds after its connection was accepted a thread may wait for a neighbour: a second less than the whole
@@ -101,12 +104,15 @@ impl<C: Ledger, D: Ledger, R: Net + Wait + Clock> Links<Global> for Ways<'_, C, 
             crew,
             neighbourhood,
             t00,
+            terms,
             ..
         } = self.common;
         if crew.may_send(self.rt, self.needed) {
             let by = earlier(self.latest, by);
-            let outcome = neighbourhood.exchange(self.rt, *alloc, account, bytes, by);
+            let (outcome, cause) =
+                neighbourhood.exchange_explained(self.rt, *alloc, account, bytes, by);
             self.came = came_of(&outcome);
+            self.sent = tell_outcome(self.rt, terms.log, account, &outcome, cause);
             return outcome;
         }
         match Vec::from_slice(*alloc, t00) {
@@ -152,6 +158,7 @@ impl<C: Ledger, D: Ledger, K: Keeper, R: Net + Wait + Clock> Answerer for Server
             needed: *needed,
             latest: *latest,
             came: Came::NotSent,
+            sent: Sent::No,
         };
         match serve(
             rt,
@@ -166,6 +173,7 @@ impl<C: Ledger, D: Ledger, K: Keeper, R: Net + Wait + Clock> Answerer for Server
             Ok(Served { account, answer }) => {
                 count_answer(rt, &common.counts, account, ways.came, &answer);
                 *at = Some(account);
+                tell_served(rt, common.terms.log, account, &answer, ways.sent);
                 Some(answer)
             }
             Err(_) => None,
@@ -204,7 +212,15 @@ fn serve_next<
                 return false;
             };
             server.note_accepted(needed);
-            let came = serve_on(rt, *alloc, stream, terms.tokens, server, terms.turns);
+            let came = serve_on(
+                rt,
+                *alloc,
+                stream,
+                terms.tokens,
+                server,
+                terms.turns,
+                terms.log,
+            );
             crew.finish(rt, came)
         }
         Err(error) => {

@@ -26,8 +26,11 @@ mod receiver;
 mod send;
 mod serving;
 mod storing;
+mod telling;
 mod terms;
+mod told_link;
 mod waiting;
+mod watched;
 mod workers;
 
 pub use accounts::AccountTotals;

@@ -10,6 +10,7 @@ ghost use Rattle.st_transfer.specs.declared.error.TransferError.TheVariants.{Acc
 
 use crate::error::TransferError;
 use crate::serving::{PAUSE, WRITE_SECONDS, accept_next};
+use crate::telling::{Log, tell_connection};
 use crate::waiting::{AwaitListener, Patience, millis_of};
 use libc::net::{POLLIN, poll};
 use libc::types::pollfd;
@@ -130,6 +131,8 @@ pub(crate) struct Lobby<'a, L: AwaitListener, R: Clock> {
     guests: Vec<Guest<'a, L::Stream, R>>,
     /// Where the search for a connection that can be read begins, so that each has its turn.
     from: usize,
+    /// Where connections are told on which no request came.
+    log: Log<'a>,
 }
 
 impl<'a, L: AwaitListener, R: Clock> Lobby<'a, L, R>
@@ -143,6 +146,7 @@ where
         listener: &'a L,
         tokens: &'a [&'a str],
         turns: u64,
+        log: Log<'a>,
     ) -> Lobby<'a, L, R> {
         Lobby {
             rt,
@@ -153,6 +157,7 @@ where
             left: turns,
             guests: Vec::new(alloc),
             from: 0,
+            log,
         }
     }
 
@@ -296,10 +301,12 @@ where
             Step::Whole => Some(self.guests.remove(place)),
             Step::Refused(status) => {
                 self.guests.remove(place).refuse(self.alloc, status);
+                tell_connection(self.rt, self.log, Some(status));
                 None
             }
             Step::Gone => {
                 drop(self.guests.remove(place));
+                tell_connection(self.rt, self.log, None);
                 None
             }
         }

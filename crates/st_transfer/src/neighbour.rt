@@ -7,7 +7,7 @@ use st_desk::Link;
 use st_hop::Outcome;
 use st_http::is_field_text;
 use st_ilp::Moment;
-use st_link::HttpLink;
+use st_link::{HttpLink, LinkCause};
 use std::alloc::{AllocError, Global};
 use std::net::{Net, SocketAddr};
 use std::sync::{Mutex, Wait};
@@ -100,18 +100,31 @@ impl<'a> Neighbourhood<'a> {
         bytes: &[u8],
         by: Moment,
     ) -> Outcome<Global> {
+        let (outcome, _) = self.exchange_explained(rt, alloc, account, bytes, by);
+        outcome
+    }
+
+    /// The same, and why it brought no answer.
+    pub(crate) fn exchange_explained<R: Net + Wait + Clock>(
+        &self,
+        rt: &R,
+        alloc: Global,
+        account: usize,
+        bytes: &[u8],
+        by: Moment,
+    ) -> (Outcome<Global>, Option<LinkCause>) {
         let Some(Some(neighbour)) = self.neighbours.get(account) else {
-            return Outcome::Fault;
+            return (Outcome::Fault, Some(LinkCause::Unreached));
         };
         let Ok(mut link) = link_to(alloc, rt, *neighbour, self.turns) else {
-            return Outcome::Fault;
+            return (Outcome::Fault, Some(LinkCause::NoMemory));
         };
         link.set_address(self.address(rt, account));
         let answer = link.exchange(bytes, by);
         self.set_address(rt, account, link.address());
         match answer {
-            Ok(answer) => Outcome::Answered(answer),
-            Err(_) => Outcome::Fault,
+            Ok(answer) => (Outcome::Answered(answer), None),
+            Err(_) => (Outcome::Fault, link.cause()),
         }
     }
 }

@@ -13,6 +13,7 @@ use crate::ended::Ended;
 use crate::error::TransferError;
 use crate::lobby::{Guest, Lobby};
 use crate::receiver::Receiver;
+use crate::telling::{tell_end, tell_refused};
 use crate::terms::ReceiveTerms;
 use crate::waiting::{AwaitListener, Patience};
 use st_desk::Clock;
@@ -61,6 +62,7 @@ where
             Err(_) => unreachable!(),
         };
         serve_guest(guest, receiver);
+        tell_refused(rt, terms.log, receiver.refused);
         let mut left = terms.turns;
         match deliver(&mut receiver.end, writer, &mut written, &mut left) {
             Ok(Delivered::More) => patience.renew(rt),
@@ -124,10 +126,16 @@ where
     ensures faults { (tally_of writer.new).faults ≡ faults_told result.result (tally_of writer.old).faults }
     ensures patient { result.result ≡ Err Silent → IsSome terms.entry.patience }
 {
-    let mut receiver = Receiver { end, clock, alloc };
+    let mut receiver = Receiver {
+        end,
+        clock,
+        alloc,
+        refused: None,
+    };
     let tokens = [terms.token];
-    let mut lobby = Lobby::new(rt, alloc, &listener, &tokens, terms.turns);
+    let mut lobby = Lobby::new(rt, alloc, &listener, &tokens, terms.turns, terms.log);
     let result = receive_from(rt, &mut lobby, &mut receiver, writer, terms);
+    tell_end(rt, terms.log, u64::from(STREAM), &result);
     Ended {
         result,
         totals: receiver.end.totals(),

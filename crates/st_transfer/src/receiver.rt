@@ -1,5 +1,6 @@
 //! An end that answers requests.
 
+use crate::telling::{Refusal, refusal_of};
 use st_desk::Clock;
 use st_end::{EndState, Received};
 use st_http::Answerer;
@@ -12,6 +13,8 @@ pub(crate) struct Receiver<K: Clock> {
     pub(crate) end: EndState<Global>,
     pub(crate) clock: K,
     pub(crate) alloc: Global,
+    /// Why the last request was refused. `None` where it was fulfilled.
+    pub(crate) refused: Option<Refusal>,
 }
 
 impl<K: Clock> Answerer for Receiver<K> {
@@ -22,8 +25,14 @@ impl<K: Clock> Answerer for Receiver<K> {
     fn answer(&mut self, _account: usize, body: &[u8]) -> Option<Vec<u8>> {
         let now = self.clock.now();
         match self.end.receive(body, now) {
-            Ok(Received { bytes, .. }) => Some(bytes),
-            Err(_) => Vec::from_slice(self.alloc, self.end.t00()).ok(),
+            Ok(Received { bytes, reason, .. }) => {
+                self.refused = refusal_of(&bytes, reason);
+                Some(bytes)
+            }
+            Err(_) => {
+                self.refused = Some(Refusal::without_memory());
+                Vec::from_slice(self.alloc, self.end.t00()).ok()
+            }
         }
     }
 }

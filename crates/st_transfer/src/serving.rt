@@ -5,6 +5,8 @@ ghost use Rattle.st_transfer.specs.Answering.{AskedOnce};
 ghost use Rattle.st_transfer.specs.declared.error.TransferError.TheVariants.{Accept};
 
 use crate::error::TransferError;
+use crate::telling::{Log, tell_connection};
+use crate::watched::Watched;
 use libc::net::{SHUT_RDWR, shutdown};
 use st_http::{Answerer, HttpError, serve_one};
 use st_link::{ANSWER_SECONDS, Buffered, Timed};
@@ -78,7 +80,8 @@ fn serve_stream<S: Read + Write, T: Answerer>(
 /// both together `turns` I/O calls. What fails on the connection ends it alone.
 ///
 /// Returns whether a request came whole, be it answered or refused. False where the connection ended, failed or was
-/// silent before that, and where memory for its buffer is refused.
+/// silent before that, and where memory for its buffer is refused. A connection on which no request was answered is told to
+/// `log`.
 pub(crate) fn serve_on<S: Read + Write + OpenStream + Drop, T: Answerer>(
     rt: &impl Clock,
     alloc: Global,
@@ -86,6 +89,7 @@ pub(crate) fn serve_on<S: Read + Write + OpenStream + Drop, T: Answerer>(
     tokens: &[&str],
     answerer: &mut T,
     turns: u64,
+    log: Log<'_>,
 ) -> bool
     ensures asked { AskedOnce T.gives answerer.old answerer.new }
     ensures unasked { MatchBool result ⊤ (answerer.new ≡ answerer.old) }
@@ -96,6 +100,8 @@ pub(crate) fn serve_on<S: Read + Write + OpenStream + Drop, T: Answerer>(
     let Ok(buffered) = Buffered::new(alloc, timed) else {
         return false;
     };
-    let mut stream = Counting::new(buffered);
-    serve_stream(alloc, &mut stream, tokens, answerer, turns)
+    let mut stream = Counting::new(Watched::new(buffered));
+    let came = serve_stream(alloc, &mut stream, tokens, answerer, turns);
+    tell_connection(rt, log, stream.into_inner().status());
+    came
 }

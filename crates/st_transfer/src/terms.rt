@@ -2,6 +2,8 @@
 
 use crate::neighbour::Neighbour;
 use std::time::Duration;
+use st_log::Journal;
+use std::fs::File;
 
 /// What a sender is to do, apart from its input.
 #[derive(Clone, Copy)]
@@ -14,6 +16,8 @@ pub struct SendTerms<'a> {
     pub workers: u8,
     /// The most turns of each worker, the most I/O calls of one exchange, and the most I/O calls for the input.
     pub turns: u64,
+    /// Where it is told what happens. `None` where that is told nowhere.
+    pub log: Option<&'a Journal<File>>,
 }
 
 /// What `receive` is to do, apart from its output.
@@ -27,6 +31,8 @@ pub struct ReceiveTerms<'a> {
     pub patience: Option<u64>,
     /// The most connections that are accepted, and the most I/O calls of each.
     pub turns: u64,
+    /// Where it is told what happens. `None` where that is told nowhere.
+    pub log: Option<&'a Journal<File>>,
 }
 
 /// What a connector is to do.
@@ -46,4 +52,6 @@ pub struct ConnectTerms<'a> {
     pub turns: u64,
     /// How often it is told, while it runs, what the connector has of its accounts.
     pub period: Duration,
+    /// Where it is told what happens, for neighbours up to the last account. `None` where that is told nowhere.
+    pub log: Option<&'a Journal<File>>,
 }

@@ -5,6 +5,7 @@ use crate::delivery::STREAM;
 use crate::ivs::SharedIvs;
 use crate::neighbour::link_to;
 use crate::terms::SendTerms;
+use crate::told_link::ToldLink;
 use st_hub::{Bench, Ivs, Unwatched, WorkEnd, Worker, work};
 use st_queues::{Gauge, GaugeSeat, HubName};
 use std::alloc::Global;
@@ -39,11 +40,15 @@ pub(crate) fn work_alone<N: HubName<Global>, I: Ivs, R: Net + Wait + std::time::
 ) -> WorkEnd {
     let mut seat = split_seat(rt, gauge, seat);
     let told = match link_to(alloc, rt, terms.neighbour, terms.turns) {
-        Ok(mut link) => work(
+        Ok(link) => work(
             rt,
             bench,
             Worker {
-                link: &mut link,
+                link: &mut ToldLink {
+                    link,
+                    rt,
+                    log: terms.log,
+                },
                 ivs: &mut SharedIvs::new(rt, ivs),
                 clock: &mut RuntimeClock::new(rt),
                 gauge,

@@ -134,6 +134,7 @@ where
                 receive_max: terms.receive_max,
                 patience: None,
                 turns: terms.connections,
+                log: None,
             };
             let clock = RuntimeClock::new(rt);
             receive_on(rt, alloc, listener, end, writer, clock, terms)
@@ -217,6 +218,7 @@ pub(crate) fn connect_telling<
         workers,
         turns: TURNS,
         period: Duration::from_millis(period),
+        log: None,
     };
     Ok(connector_on(rt, alloc, listener, hop, terms, till, minutes))
 }
@@ -289,6 +291,7 @@ pub(crate) fn send_telling<
             money,
             workers,
             turns,
+            log: None,
         },
     );
     *totals = ended.totals;

@@ -1,0 +1,212 @@
+//! What is told to the log.
+
+ghost use Rattle.std.specs.Prelude.{◌≡◌, None};
+ghost use Rattle.st_transfer.specs.Telling.{cause_told, lost_told};
+
+use crate::clock::RuntimeClock;
+use crate::error::TransferError;
+use st_file::FileError;
+use st_hop::Outcome;
+use st_ilp::{Answer, read_answer};
+use st_link::LinkCause;
+use st_log::{Cause, Event, Journal, Lost};
+use std::alloc::Global;
+use std::fs::File;
+use std::time::Clock;
+
+/// The log of a run, where it has one.
+pub(crate) type Log<'a> = Option<&'a Journal<File>>;
+
+/// What became of the exchange of a request.
+#[derive(Clone, Copy, Debug, PartialEq, Eq)]
+pub(crate) enum Sent {
+    /// There was none.
+    No,
+    /// It brought a Fulfill from this account.
+    Fulfilled(usize),
+    /// It brought none, and that was told.
+    Unfulfilled,
+}
+
+/// Why a packet was refused here.
+#[derive(Clone, Copy, Debug, PartialEq, Eq)]
+pub(crate) struct Refusal {
+    /// The code of the Reject.
+    code: [u8; 3],
+    /// The number of the reason, where there is one.
+    reason: Option<u8>,
+}
+
+impl Refusal {
+    /// Memory was refused.
+    pub(crate) fn without_memory() -> Refusal {
+        Refusal {
+            code: *b"T00",
+            reason: None,
+        }
+    }
+}
+
+/// Why an end refused a packet, by its answer and the number of its reason. `None` where that is 0.
+pub(crate) fn refusal_of(answer: &[u8], reason: u8) -> Option<Refusal>
+    ensures { reason ≡ 0 → result ≡ None }
+{
+    if reason == 0 {
+        return None;
+    }
+    match read_answer(answer) {
+        Ok(Answer::Reject { code, .. }) => Some(Refusal {
+            code,
+            reason: Some(reason),
+        }),
+        _ => None,
+    }
+}
+
+/// Why an exchange brought no answer, as the log tells it.
+fn cause_of(cause: Option<LinkCause>) -> Cause<'static>
+    ensures { result ≡ cause_told cause }
+{
+    match cause {
+        Some(LinkCause::Http(error)) => Cause::Link {
+            fault: error.number(),
+            status: LinkCause::Http(error).status(),
+        },
+        Some(LinkCause::NoMemory) => Cause::NoMemory,
+        Some(LinkCause::Unreached) | None => Cause::Unreached,
+    }
+}
+
+/// What became of a connection on which a response with this status was written, or none was. `None` where its request was
+/// answered.
+pub(crate) fn lost_by(status: Option<u16>) -> Option<Lost>
+    ensures { result ≡ lost_told status }
+{
+    match status {
+        Some(200) => None,
+        Some(status) => Some(Lost::Status(status)),
+        None => Some(Lost::Cut),
+    }
+}
+
+/// Writes the line of an event that happens now, where there is a log. No lock of a hub or a desk is held then.
+pub(crate) fn tell<R: Clock>(rt: &R, log: Log<'_>, neighbour: usize, event: &Event<'_>) {
+    if let Some(journal) = log {
+        let now = st_desk::Clock::now(&mut RuntimeClock::new(rt));
+        journal.note(rt, now, neighbour, event);
+    }
+}
+
+/// Tells why an exchange brought no answer.
+pub(crate) fn tell_fault<R: Clock>(
+    rt: &R,
+    log: Log<'_>,
+    neighbour: usize,
+    cause: Option<LinkCause>,
+) {
+    tell(rt, log, neighbour, &Event::Exchange(cause_of(cause)));
+}
+
+/// Tells of an answer that is no Fulfill. Whether it is one.
+pub(crate) fn tell_answer<R: Clock>(
+    rt: &R,
+    log: Log<'_>,
+    neighbour: usize,
+    answer: &[u8],
+) -> bool {
+    let cause = match read_answer(answer) {
+        Ok(Answer::Fulfill { .. }) => return true,
+        Ok(Answer::Reject {
+            code, by, message, ..
+        }) => Cause::Reject { code, by, message },
+        Err(_) => Cause::Unreadable,
+    };
+    tell(rt, log, neighbour, &Event::Exchange(cause));
+    false
+}
+
+/// Tells what an exchange brought, where it is no Fulfill.
+pub(crate) fn tell_outcome<R: Clock>(
+    rt: &R,
+    log: Log<'_>,
+    neighbour: usize,
+    outcome: &Outcome<Global>,
+    cause: Option<LinkCause>,
+) -> Sent {
+    if log.is_none() {
+        return Sent::Unfulfilled;
+    }
+    match outcome {
+        Outcome::Answered(answer) => {
+            if tell_answer(rt, log, neighbour, answer) {
+                return Sent::Fulfilled(neighbour);
+            }
+        }
+        Outcome::Fault => tell_fault(rt, log, neighbour, cause),
+    }
+    Sent::Unfulfilled
+}
+
+/// Tells that a packet from a neighbour was refused here, where the answer is a Reject.
+pub(crate) fn tell_refusal<R: Clock>(
+    rt: &R,
+    log: Log<'_>,
+    neighbour: usize,
+    answer: &[u8],
+    reason: Option<u8>,
+) {
+    if let Ok(Answer::Reject { code, .. }) = read_answer(answer) {
+        tell(rt, log, neighbour, &Event::Refused { code, reason });
+    }
+}
+
+/// Tells what a hop answered by itself: a Reject to an account without an exchange, or one in the place of a Fulfill.
+pub(crate) fn tell_served<R: Clock>(
+    rt: &R,
+    log: Log<'_>,
+    account: usize,
+    answer: &[u8],
+    sent: Sent,
+) {
+    if log.is_none() {
+        return;
+    }
+    match sent {
+        Sent::No => tell_refusal(rt, log, account, answer, None),
+        Sent::Fulfilled(to) => {
+            if !matches!(read_answer(answer), Ok(Answer::Fulfill { .. })) {
+                tell(rt, log, to, &Event::Exchange(Cause::Unfit));
+            }
+        }
+        Sent::Unfulfilled => {}
+    }
+}
+
+/// Tells of a connection on which no request was answered.
+pub(crate) fn tell_connection<R: Clock>(rt: &R, log: Log<'_>, status: Option<u16>) {
+    if let Some(lost) = lost_by(status) {
+        tell(rt, log, 0, &Event::Connection(lost));
+    }
+}
+
+/// Tells that an end refused a packet, where it did.
+pub(crate) fn tell_refused<R: Clock>(rt: &R, log: Log<'_>, refused: Option<Refusal>) {
+    if let Some(Refusal { code, reason }) = refused {
+        tell(rt, log, 0, &Event::Refused { code, reason });
+    }
+}
+
+/// Tells how a stream ended, where it did.
+pub(crate) fn tell_end<R: Clock>(
+    rt: &R,
+    log: Log<'_>,
+    stream: u64,
+    ended: &Result<u64, TransferError>,
+) {
+    let code = match ended {
+        Ok(_) => None,
+        Err(TransferError::File(FileError::Aborted(code, _))) => Some(*code),
+        Err(_) => return,
+    };
+    tell(rt, log, 0, &Event::Closed { stream, code });
+}

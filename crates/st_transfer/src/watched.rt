@@ -1,0 +1,85 @@
+//! A stream of which the status of what is written is known.
+
+use std::io;
+use std::io::{Read, Write};
+
+/// How many bytes a response has before its status, which has three digits: `HTTP/1.1 `.
+const FRONT: u8 = 9;
+
+/// The status of a response, as far as its bytes were written.
+#[derive(Clone, Copy, Debug, PartialEq, Eq)]
+struct StatusLine {
+    /// How many bytes were looked at.
+    at: u8,
+    status: u16,
+}
+
+impl StatusLine {
+    /// Looks at the next byte of the response.
+    fn see(&mut self, byte: u8) {
+        if self.at >= FRONT {
+            let digit = u16::from(byte.saturating_sub(b'0'));
+            self.status = self.status.saturating_mul(10).saturating_add(digit);
+        }
+        self.at = self.at.saturating_add(1);
+    }
+
+    /// Looks at the next bytes.
+    fn see_all(&mut self, bytes: &[u8]) {
+        for byte in bytes {
+            if self.at >= FRONT + 3 {
+                return;
+            }
+            self.see(*byte);
+        }
+    }
+}
+
+/// A stream on which one response is written, and which keeps its status. Each call goes through as it is.
+#[derive(Drop)]
+pub(crate) struct Watched<S> {
+    stream: S,
+    line: StatusLine,
+}
+
+impl<S> Watched<S> {
+    /// The stream, on which nothing was written yet.
+    pub(crate) fn new(stream: S) -> Watched<S> {
+        Watched {
+            stream,
+            line: StatusLine { at: 0, status: 0 },
+        }
+    }
+
+    /// The status of the response. `None` where not so much of it was written.
+    pub(crate) fn status(&self) -> Option<u16> {
+        if self.line.at < FRONT + 3 {
+            return None;
+        }
+        Some(self.line.status)
+    }
+}
+
+impl<S: Read> Read for Watched<S> {
+    ghost remaining = { λ s. S.remaining s.stream };
+
+    fn read(&mut self, buf: &mut [u8]) -> io::Result<usize> {
+        self.stream.read(buf)
+    }
+}
+
+impl<S: Write> Write for Watched<S> {
+    ghost contents = { λ s. S.contents s.stream };
+
+    fn write(&mut self, buf: &[u8]) -> io::Result<usize> {
+        let written = self.stream.write(buf);
+        if let Ok(n) = written {
+            self.line.see_all(&buf[..n.min(buf.len())]);
+        }
+        written
+    }
+
+    fn flush(&mut self) -> io::Result<()> {
+        self.stream.flush()
+    }
+}
