@@ -6,11 +6,13 @@
 #![tactic(auto)]
 
 mod connector;
+mod credentials;
 mod error;
 mod hop;
 mod input;
 mod laws;
 mod ledger;
+mod log;
 mod process;
 mod program;
 mod receive;
