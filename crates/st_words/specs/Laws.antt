@@ -27,6 +27,30 @@ SendSaysItsTexts = (to token secret address peer : Text) → (refusals (send_wor
       log = None;
     }))
 
+-- the words of `send` with a token and a secret in files, and a file for events
+abbrev pub filed_words : Text → Text → Text → Text → Text → Text → List Text
+filed_words to token secret address peer log =
+    codes "ilpstream" ∷ codes "send" ∷ (codes "--to=" ++ to) ∷ (codes "--token-file=" ++ token) ∷ (codes "--secret-file=" ++ secret)
+    ∷ (codes "--address=" ++ address) ∷ (codes "--peer=" ++ peer) ∷ (codes "--log=" ++ log) ∷ []
+
+abbrev pub FilesSayTheirNames : Type 0
+FilesSayTheirNames = (to token secret address peer log : Text) → (refusals (filed_words to token secret address peer log) ≡ [])
+    × ((rows : List Row) × (command_of (filed_words to token secret address peer log) ≡ Some (codes "send", rows)) × (send_texts rows ≡ record {
+      to = to;
+      token = None;
+      token_file = Some token;
+      secret = None;
+      secret_file = Some secret;
+      address = address;
+      peer = peer;
+      money = codes "0";
+      workers = codes "4";
+      random = codes "/dev/urandom";
+      least = codes "1:1";
+      totals = None;
+      log = Some log;
+    }))
+
 -- the words of `receive` with these texts
 abbrev pub receive_words : Text → Text → Text → Text → Text → List Text
 receive_words listen token secret address peer =
