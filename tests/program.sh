@@ -186,10 +186,13 @@ names() {
 }
 names local '--hops <N>' '--streams <N>' '--lose <N>'
 names send '--to <HOST:PORT>' '--token <TOKEN>' '--secret <HEX>' '--address <ADDRESS>' '--peer <ADDRESS>' '--money <N>' \
-    '--workers <N>' '--random <FILE>' '--least <NUM:DEN>' '--totals <FILE>'
+    '--workers <N>' '--random <FILE>' '--least <NUM:DEN>' '--totals <FILE>' '--log <FILE>' ' --token-file <FILE> ' ' --secret-file <FILE> ' \
+    'Usage: ilpstream send [OPTIONS] --to <HOST:PORT> <--token <TOKEN>|--token-file <FILE>>'
 names receive '--listen <HOST:PORT>' '--token <TOKEN>' '--secret <HEX>' '--address <ADDRESS>' '--peer <ADDRESS>' \
-    '--receive-max <N>' '--patience <SECONDS>' '--totals <FILE>'
-names connector '--listen <HOST:PORT>' '--own <ADDRESS>' '--requests <N>' '--workers <N>' '--totals <FILE>' '--ledger <FILE>' \
+    '--receive-max <N>' '--patience <SECONDS>' '--totals <FILE>' '--log <FILE>' ' --token-file <FILE> ' ' --secret-file <FILE> ' \
+    'Usage: ilpstream receive [OPTIONS] --listen <HOST:PORT> <--token <TOKEN>|--token-file <FILE>>'
+names connector '--listen <HOST:PORT>' '--own <ADDRESS>' '--requests <N>' '--workers <N>' '--totals <FILE>' '--log <FILE>' \
+    '--ledger <FILE>' \
     '[NAME=TEXT]'
 names ledger 'Usage: ilpstream ledger <FILE> [settle <NAME> <AMOUNT>]' '<FILE>' AMOUNT
 
@@ -299,12 +302,67 @@ ROWS
 words=(ledger "$room/books" settle '' 5) && bad_option
 words=(ledger "$room/books" settle alice '') && bad_option
 same 'no books were made' '' "$(find "$room" -name 'books*')"
-# (a file for totals that cannot be opened, before the file of random bytes, the listener or the table is looked at)
-for totals in --totals=/nowhere/totals --totals=; do
-    words=("${send[@]}" "$totals") && bad_option
-    words=("${receive[@]}" "$totals") && bad_option
-    words=("${connector[@]}" "$totals") && bad_option
+# (a file for totals or events that cannot be opened, before the file of random bytes, the listener or the table is looked at)
+for file in --totals=/nowhere/totals --totals= --log=/nowhere/log --log= "--log=$room"; do
+    words=("${send[@]}" "$file") && bad_option
+    words=("${receive[@]}" "$file") && bad_option
+    words=("${connector[@]}" "$file") && bad_option
 done
+
+# Tokens and secrets in files: the first line counts, without its LF or CR LF. A bad line, or a file that cannot be read, is fault 98
+# before the files for events and for totals are made. With good ones the sender ends with 90, for want of random bytes.
+digits=${secret#--secret=}
+token_file=--token-file=$room/token secret_file=--secret-file=$room/secret
+filed=(send --to=127.0.0.1:1 "$token_file" "$secret_file" --address=test.a --peer=test.b --random=/nowhere/random
+    --log="$room/filed.log" --totals="$room/filed.totals")
+filed() { # the fault that is wanted, and the files that were made by then
+    rm -f "$room"/filed.*
+    left_by "${words[@]}" <<<abc
+    same "$1" $'\n--\nfault '"$2"$'\n--\n1\nabc\n'"$3" "$(told)"$'\n'"$left"$'\n'"$(cd "$room" && ls filed.* 2>/dev/null)"
+}
+in_files() { # the fault that is wanted, and the bytes of the two files
+    printf '%b' "$2" >"$room/token"
+    printf '%b' "$3" >"$room/secret"
+    words=("${filed[@]}")
+    if [ "$1" = 90 ]; then filed "$2, $3" 90 $'filed.log\nfiled.totals'; else filed "$2, $3" 98 ''; fi
+}
+longest=$(printf '%255s' '' | tr ' ' t)
+for token in t 't\n' 't\r\n' 't\n\n' 't\na b' 't\r\n\xff' "$longest" "$longest\r\n"; do
+    in_files 90 "$token" "$digits\n"
+done
+for written in "$digits" "$digits\r\n" "$digits\nno secret\n" "$digits\r\n\xff"; do
+    in_files 90 't\n' "$written"
+done
+for token in '' '\n' '\nt\n' '\r\n' 'a b\n' ' t\n' 't \n' 't\r' 't\r\r\n' 't\0\n' '\xff\n' '\xc3\xa9\n' "${longest}t\n"; do
+    in_files 98 "$token" "$digits\n"
+done
+for written in '' '\n' "\n$digits\n" "${digits%?}\n" "${digits}0\n" "$digits \n" "0x${digits#00}\n" "$digits\r" "$digits\r\r\n" \
+    "${digits%?}g\n" "$digits\0\n" "${digits%??}\xc3\xa9\n"; do
+    in_files 98 't\n' "$written"
+done
+in_files 90 't\n' "$digits\n"
+for file in "$room" /nowhere/file /dev/zero ''; do
+    with 2 "--token-file=$file" "${filed[@]}" && filed "a token in '$file'" 98 ''
+    with 3 "--secret-file=$file" "${filed[@]}" && filed "a secret in '$file'" 98 ''
+done
+(
+    yes t | tr -d '\n' | head -c 4096
+    printf '\n'
+) >"$room/long"
+with 2 "--token-file=$room/long" "${filed[@]}" && filed 'a token of 4096 bytes' 98 ''
+(
+    printf 't\n'
+    yes | head -c 10000
+) >"$room/long"
+with 2 "--token-file=$room/long" "${filed[@]}" && filed 'a token before much else' 90 $'filed.log\nfiled.totals'
+for file in "$token_file" "$secret_file"; do
+    words=("${receive[@]}") && [ "$file" = "$token_file" ] && words[2]=$file || words[3]=$file
+    filed "a receiver with $file" 80 ''
+    : >"${file#*=}"
+    filed "a receiver with an empty $file" 98 ''
+done
+printf '%s\r\n' "$digits" >"$room/secret"
+printf 't\r\n' >"$room/token"
 
 # Numbers out of their bounds, and options that are missing or unknown.
 refused_words() {
@@ -323,6 +381,19 @@ for word in --patience=0 --patience=86401 --patience=; do
 done
 with 3 --requests=0 "${connector[@]}" && refused_words
 with 3 --workers=4 "${connector[@]}" && refused_words
+# (both of a pair, or neither)
+for command in send receive; do
+    declare -n given=$command
+    words=("${given[@]}" "$token_file") && refused_words
+    has "both tokens of $command" "$err" "error: the argument '--token <TOKEN>' cannot be used with '--token-file <FILE>'"
+    words=("${given[@]}" "$secret_file") && refused_words
+    has "both secrets of $command" "$err" "error: the argument '--secret <HEX>' cannot be used with '--secret-file <FILE>'"
+    with 2 --totals=/nowhere/totals "${given[@]}" && refused_words
+    has "no token of $command" "$err" $'error: the following required arguments were not provided:\n  <--token <TOKEN>|--token-file <FILE>>'
+    with 3 --totals=/nowhere/totals "${given[@]}" && refused_words
+    has "no secret of $command" "$err" $'error: the following required arguments were not provided:\n  <--secret <HEX>|--secret-file <FILE>>'
+    has "the usage of $command" "$err" "Usage: ilpstream $command [OPTIONS] "
+done
 while read -r -a words; do
     refused_words
 done <<'ROWS'
@@ -422,6 +493,17 @@ same 'one IV alone' $'\n--\nfault 90\n--\n1' "$(told)"
 left_by "${send[@]}" --totals=/dev/full <<<abc
 same 'a full file for totals, and a fault' $'\n--\nfault 90\n--\n1\nabc' "$(told)"$'\n'"$left"
 
+# A file for events is made, and never emptied.
+for command in send receive connector; do
+    declare -n given=$command
+    run "${given[@]}" --log="$room/events" <<<"$table"
+    same "events of $command" 1 "$status"
+    printf 'kept\n' >"$room/events"
+    run "${given[@]}" --log="$room/events" <<<"$table"
+    same "earlier events of $command" $'1\nkept' "$status"$'\n'"$(head -n 1 "$room/events")"
+    rm "$room/events"
+done
+
 # A receiver that waits two seconds for a valid request ends after two seconds and before five: nobody connects, or the
 # connection sends nothing, or half a request, or one with another token.
 patient=(receive --listen=127.0.0.1:17773 --token=t "$secret" --address=test.b --peer=test.a --patience=2)
@@ -502,6 +584,17 @@ receiver: paid 0
 
 --
 0' "${out% in *}"$'\n--\n'"$err"$'\n--\n'"$status"
+
+# The same token and the same secret, in files at one end and given at the other.
+program=$top/ilpstream
+for command in receive send; do
+    keys=(--token=t "$secret") others=("$token_file" "$secret_file")
+    [ $command = receive ] && keys=("${others[@]}") others=(--token=t "$secret")
+    "$program" receive --listen=127.0.0.1:17774 "${keys[@]}" --address=test.b --peer=test.a --patience=20 >"$room/got" &
+    sleep 0.5
+    run send --to=127.0.0.1:17774 "${others[@]}" --address=test.a --peer=test.b <"$top/README.md"
+    same "files at $command" $'\n--\n\n--\n0\n0\nequal' "$(told)"$'\n'"$(wait $! && echo $?)"$'\n'"$(cmp "$room/got" "$top/README.md" && echo equal)"
+done
 
 # Bytes over a chain in memory: none, 70,000 over two hops that lose each third Prepare, four on three streams, and one where
 # each Prepare is lost.

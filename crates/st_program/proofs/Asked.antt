@@ -6,12 +6,16 @@ use Rattle.clap.specs.Words.{Row, Text}
 use Rattle.st_oer.specs.Address.{is_address}
 use Rattle.st_http.specs.Texts.{is_field_text}
 use Rattle.st_settings.specs.Settings as settings
+use Rattle.st_settings.specs.Sources.{SaysToken}
+use Rattle.st_settings.specs.declared.source.Token.{Token}
+use Rattle.st_settings.specs.declared.source.Token.TheVariants as token
 use Rattle.st_settings.specs.declared.settings.LocalSettings.{LocalSettings}
 use Rattle.st_settings.specs.declared.settings.SendSettings.{SendSettings}
 use Rattle.st_settings.specs.declared.settings.ReceiveSettings.{ReceiveSettings}
 use Rattle.st_words.specs.declared.request.Request.{Request}
 use Rattle.st_words.specs.declared.request.Request.TheVariants as request
 use Rattle.st_words.specs.Words.{AsksBy}
+use Rattle.st_program.specs.Credentials.{IsLawfulToken}
 use Rattle.st_program.specs.Settings.{IsChain, IsLawful, IsReceiver, IsSender}
 use Rattle.st_program.specs.Words.{AsksFor, AsksFrames}
 
@@ -40,6 +44,15 @@ visible s t e h = ap is_field_text e ∙ h
 address : (s t : List ℕ) → s ≡ t → is_address t ≡ true → is_address s ≡ true
 address s t e h = ap is_address e ∙ h
 
+-- a token that an option's text says is one
+lawful_token : (text file : Option (List ℕ)) (t : Token) → SaysToken text file t → IsLawfulToken t
+lawful_token (Some text) None (token.Given t) says = visible _ _ says.0 says.1
+lawful_token (Some text) None (token.InFile f) says = tt
+lawful_token None (Some file) (token.Given t) says = absurd says
+lawful_token None (Some file) (token.InFile f) says = tt
+lawful_token (Some text) (Some file) t says = absurd says
+lawful_token None None t says = absurd says
+
 chain : (o : settings.LocalTexts) (s : LocalSettings) → settings.IsLocal o s → IsChain s
 chain o s h = record {
   hops = h.hops.number.bounded;
@@ -50,13 +63,14 @@ chain o s h = record {
 sender : (o : settings.SendTexts) (s : SendSettings) → settings.IsSend o s → IsSender s
 sender o s h = record {
   to = visible _ _ h.to.0 h.to.1.visible;
-  token = visible _ _ h.token.0 h.token.1;
+  token = lawful_token o.token o.token_file s.token h.token;
   address = address _ _ h.address.0 h.address.1;
   peer = address _ _ h.peer.0 h.peer.1;
 }
 
 receiver : (o : settings.ReceiveTexts) (s : ReceiveSettings) → settings.IsReceive o s → IsReceiver s
 receiver o s h = record {
+  token = lawful_token o.token o.token_file s.token h.token;
   address = address _ _ h.address.0 h.address.1;
   peer = address _ _ h.peer.0 h.peer.1;
 }

@@ -2,5 +2,6 @@ pub mod Pieces
 pub mod Telling
 pub mod WordsTaken
 pub mod Asked
+pub mod FirstLines
 pub mod Tables
 pub mod Ledgers

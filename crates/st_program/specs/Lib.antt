@@ -1,8 +1,9 @@
 pub mod Errors
 pub mod Texts
 pub mod Words
-pub mod Settings
 pub mod Input
+pub mod Credentials
+pub mod Settings
 pub mod Table
 pub mod Restored
 pub mod Totals

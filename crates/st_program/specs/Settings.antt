@@ -7,6 +7,7 @@ use Rattle.st_settings.specs.declared.settings.SendSettings.{SendSettings}
 use Rattle.st_settings.specs.declared.settings.ReceiveSettings.{ReceiveSettings}
 use Rattle.st_words.specs.declared.request.Request.{Request}
 use Rattle.st_words.specs.declared.request.Request.TheVariants as request
+use Rattle.st_program.specs.Credentials.{IsLawfulToken}
 
 -- a chain of so many hops, and so many streams
 pub record IsChain (s : LocalSettings) : Type 0 where
@@ -17,12 +18,13 @@ pub record IsChain (s : LocalSettings) : Type 0 where
 -- both ends have addresses, and the neighbour may stand in a request
 pub record IsSender (s : SendSettings) : Type 0 where
   pub to : is_field_text s.to.now ≡ true
-  pub token : is_field_text s.token.now ≡ true
+  pub token : IsLawfulToken s.token
   pub address : is_address s.address.now ≡ true
   pub peer : is_address s.peer.now ≡ true
 
--- both ends have addresses
+-- both ends have addresses, and a token that is given may stand in a request
 pub record IsReceiver (s : ReceiveSettings) : Type 0 where
+  pub token : IsLawfulToken s.token
   pub address : is_address s.address.now ≡ true
   pub peer : is_address s.peer.now ≡ true
 

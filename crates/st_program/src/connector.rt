@@ -8,6 +8,7 @@ ghost use Rattle.st_program.specs.declared.error.RunError.TheVariants.{BadOption
 use crate::error::RunError;
 use crate::hop::{Going, hop_of, neighbours_of, restored};
 use crate::input::read_whole;
+use crate::log::log_file;
 use crate::totals::{ConnectorTotals, places, tell_accounts, telling};
 use sqlite_trees::store::Alter;
 use st_booking::Keeper;
@@ -190,7 +191,8 @@ fn serve_input<
 }
 
 /// Reads the table, runs a connector by it, over the books of a file where one is asked for, and writes its totals where
-/// they are, each minute and at the end. Where no file for the totals can be made, nothing else is done.
+/// they are, each minute and at the end. Where the file for events cannot be opened or none for the totals can be made,
+/// nothing else is done.
 pub(crate) fn connector<
     R: Read,
     N: Net<Listener = TcpListener, Stream = TcpStream>
@@ -209,6 +211,10 @@ pub(crate) fn connector<
 ) -> Result<(), RunError>
     ensures { EndsBy settings.now.own.now settings.now.ledger (R.remaining (device_of reader.old)) (tally_of reader.old) (tally_of reader.new) result ⊎ ((result ≡ Err BadOption) × (reader.new ≡ reader.old)) }
 {
+    let _log = match log_file(rt, settings.log) {
+        Ok(log) => log,
+        Err(error) => return Err(error),
+    };
     match telling(rt, alloc, settings.totals) {
         Ok(mut telling) => {
             let mut totals = ConnectorTotals {

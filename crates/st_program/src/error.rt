@@ -27,7 +27,8 @@ pub enum RunError {
     /// The table of a connector is bad.
     #[error("the table is bad")]
     BadTable,
-    /// The text of an option is bad, or the file for totals that it names cannot be opened.
+    /// The text of an option is bad, or the file that it names for totals or events cannot be opened, or the file that has
+    /// the token or the secret cannot be read or its first line is bad.
     #[error("an option is bad")]
     BadOption,
     /// The transfer failed.

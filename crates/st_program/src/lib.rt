@@ -8,11 +8,13 @@
 mod beside;
 mod connector;
 mod counts;
+mod credentials;
 mod error;
 mod hop;
 mod input;
 mod laws;
 mod ledger;
+mod log;
 mod process;
 mod program;
 mod receive;

@@ -1,10 +1,13 @@
 //! The command `receive`.
 
 ghost use Rattle.std.specs.Prelude.{◌≡◌, ◌≢◌, Err};
+ghost use Rattle.st_program.specs.Credentials.{AreOf};
 ghost use Rattle.st_program.specs.Settings.{IsReceiver};
 ghost use Rattle.st_program.specs.declared.error.RunError.TheVariants.{BadOption};
 
+use crate::credentials::{Credentials, credentials};
 use crate::error::RunError;
+use crate::log::log_file;
 use crate::send::widest;
 use crate::totals::{nothing_yet, tell_totals, totals_file};
 use st_commands::TURNS;
@@ -22,10 +25,12 @@ fn transfer<W: Write, N: Net<Listener = TcpListener, Stream = TcpStream> + std::
     rt: &N,
     alloc: Global,
     settings: &ReceiveSettings<'_>,
+    credentials: &Credentials,
     writer: &mut CountWrite<W>,
     totals: &mut Totals,
 ) -> Result<(), RunError>
-    requires { IsReceiver settings.now }
+    requires settings { IsReceiver settings.now }
+    requires credentials { AreOf settings.now.token settings.now.secret credentials.now }
     ensures { result ≢ Err BadOption }
 {
     let Ok(listener) = TcpListener::bind(rt, settings.listen) else {
@@ -33,14 +38,14 @@ fn transfer<W: Write, N: Net<Listener = TcpListener, Stream = TcpStream> + std::
     };
     match server_end(
         alloc,
-        settings.secret,
+        credentials.secret,
         settings.address,
         settings.peer,
         widest(),
     ) {
         Ok(end) => {
             let terms = ReceiveTerms {
-                token: settings.token,
+                token: credentials.token.as_str(),
                 receive_max: settings.receive_max,
                 patience: settings.patience,
                 turns: TURNS,
@@ -57,7 +62,7 @@ fn transfer<W: Write, N: Net<Listener = TcpListener, Stream = TcpStream> + std::
 }
 
 /// Receives from one sender, writes the bytes to the output, and writes the totals of its end where they are asked for.
-/// Where the file for the totals cannot be opened, nothing else is done.
+/// Where a file that has the token or the secret, or one for events or totals, cannot be opened, nothing else is done.
 pub(crate) fn receive<
     W: Write,
     N: Net<Listener = TcpListener, Stream = TcpStream> + Files<File = File> + std::time::Clock,
@@ -70,10 +75,18 @@ pub(crate) fn receive<
     requires { IsReceiver settings.now }
     ensures { result ≡ Err BadOption → writer.new ≡ writer.old }
 {
+    let credentials = match credentials(rt, alloc, settings.token, settings.secret) {
+        Ok(credentials) => credentials,
+        Err(error) => return Err(error),
+    };
+    let _log = match log_file(rt, settings.log) {
+        Ok(log) => log,
+        Err(error) => return Err(error),
+    };
     match totals_file(rt, settings.totals) {
         Ok(file) => {
             let mut totals = nothing_yet();
-            let ended = transfer(rt, alloc, settings, writer, &mut totals);
+            let ended = transfer(rt, alloc, settings, &credentials, writer, &mut totals);
             tell_totals(alloc, file, &totals, ended)
         }
         Err(error) => Err(error),

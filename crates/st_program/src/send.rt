@@ -1,10 +1,13 @@
 //! The command `send`.
 
 ghost use Rattle.std.specs.Prelude.{◌≡◌, ◌≢◌, Err};
+ghost use Rattle.st_program.specs.Credentials.{AreOf};
 ghost use Rattle.st_program.specs.Settings.{IsSender};
 ghost use Rattle.st_program.specs.declared.error.RunError.TheVariants.{BadOption};
 
+use crate::credentials::{Credentials, credentials};
 use crate::error::RunError;
+use crate::log::log_file;
 use crate::totals::{nothing_yet, tell_totals, totals_file};
 use st_commands::TURNS;
 use st_end::Totals;
@@ -40,13 +43,15 @@ fn transfer<
     rt: &N,
     alloc: Global,
     settings: &SendSettings<'_>,
+    credentials: &Credentials,
     reader: &mut CountRead<R>,
     totals: &mut Totals,
 ) -> Result<(), RunError>
-    requires { IsSender settings.now }
+    requires settings { IsSender settings.now }
+    requires credentials { AreOf settings.now.token settings.now.secret credentials.now }
     ensures { result ≢ Err BadOption }
 {
-    let Some(neighbour) = Neighbour::new(settings.to, settings.token) else {
+    let Some(neighbour) = Neighbour::new(settings.to, credentials.token.as_str()) else {
         unreachable!();
     };
     let Ok(random) = File::open(rt, settings.random) else {
@@ -55,7 +60,7 @@ fn transfer<
     let config = widest().with_least(settings.least);
     match client_end(
         alloc,
-        settings.secret,
+        credentials.secret,
         settings.address,
         settings.peer,
         config,
@@ -80,8 +85,8 @@ fn transfer<
     }
 }
 
-/// Sends the input and the money to a receiver, and writes the totals of its end where they are asked for. Where the
-/// file for the totals cannot be opened, nothing else is done.
+/// Sends the input and the money to a receiver, and writes the totals of its end where they are asked for. Where a file
+/// that has the token or the secret, or one for events or totals, cannot be opened, nothing else is done.
 pub(crate) fn send<
     R: Read,
     N: Net<Listener = TcpListener, Stream = TcpStream>
@@ -99,10 +104,18 @@ pub(crate) fn send<
     requires { IsSender settings.now }
     ensures { result ≡ Err BadOption → reader.new ≡ reader.old }
 {
+    let credentials = match credentials(rt, alloc, settings.token, settings.secret) {
+        Ok(credentials) => credentials,
+        Err(error) => return Err(error),
+    };
+    let _log = match log_file(rt, settings.log) {
+        Ok(log) => log,
+        Err(error) => return Err(error),
+    };
     match totals_file(rt, settings.totals) {
         Ok(file) => {
             let mut totals = nothing_yet();
-            let ended = transfer(rt, alloc, settings, reader, &mut totals);
+            let ended = transfer(rt, alloc, settings, &credentials, reader, &mut totals);
             tell_totals(alloc, file, &totals, ended)
         }
         Err(error) => Err(error),

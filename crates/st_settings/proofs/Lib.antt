@@ -3,3 +3,4 @@ pub mod Colons
 pub mod Lines
 pub mod Tables
 pub mod AccountNames
+pub mod Visible

@@ -1,4 +1,5 @@
 pub mod Numbers
+pub mod Sources
 pub mod Settings
 pub mod Ledger
 pub mod Table

@@ -1,9 +1,7 @@
 -- The settings that the texts of a command's options say.
-use Rattle.std.specs.Prelude.{◌≡◌, ℕ, ◌≤◌, ◌^◌, ◌-◌, true, ⊤, List, Option, Some, None, Ok, option_map}
+use Rattle.std.specs.Prelude.{◌≡◌, ℕ, ◌≤◌, ◌^◌, ◌-◌, true, ⊤, List, Option, Some, None, option_map}
 use Rattle.std.specs.Borrow.{Bor}
-use Rattle.hex.specs.Hex.{decode_sized}
 use Rattle.st_oer.specs.Address.{is_address}
-use Rattle.st_http.specs.Texts.{is_field_text}
 use Rattle.st_settings.specs.declared.options.LocalOptions.{LocalOptions}
 use Rattle.st_settings.specs.declared.options.SendOptions.{SendOptions}
 use Rattle.st_settings.specs.declared.options.ReceiveOptions.{ReceiveOptions}
@@ -13,6 +11,7 @@ use Rattle.st_settings.specs.declared.settings.SendSettings.{SendSettings}
 use Rattle.st_settings.specs.declared.settings.ReceiveSettings.{ReceiveSettings}
 use Rattle.st_settings.specs.declared.settings.ConnectorSettings.{ConnectorSettings}
 use Rattle.st_settings.specs.Numbers.{IsNumber, IsHostPort, IsRate}
+use Rattle.st_settings.specs.Sources.{SaysSecret, SaysToken}
 
 -- the text writes a number within these bounds
 pub record IsWithin (least most : ℕ) (text : List ℕ) (n : ℕ) : Type 0 where
@@ -25,10 +24,6 @@ IsChosen least most None None = ⊤
 IsChosen least most None (Some n) = ⊥
 IsChosen least most (Some text) None = ⊥
 IsChosen least most (Some text) (Some n) = IsWithin least most text n
-
--- the text is 64 hexadecimal digits, which write these bytes
-abbrev pub IsSecret : List ℕ → List ℕ → Type 0
-IsSecret text bytes = decode_sized text 32 ≡ Ok bytes
 
 -- the greatest amount of money
 abbrev pub most_money : ℕ
@@ -57,8 +52,10 @@ local_texts o = record {
 -- the texts of `send`
 pub record SendTexts : Type 0 where
   pub to : List ℕ
-  pub token : List ℕ
-  pub secret : List ℕ
+  pub token : Option (List ℕ)
+  pub token_file : Option (List ℕ)
+  pub secret : Option (List ℕ)
+  pub secret_file : Option (List ℕ)
   pub address : List ℕ
   pub peer : List ℕ
   pub money : List ℕ
@@ -66,12 +63,15 @@ pub record SendTexts : Type 0 where
   pub random : List ℕ
   pub least : List ℕ
   pub totals : Option (List ℕ)
+  pub log : Option (List ℕ)
 
 abbrev pub send_texts : SendOptions → SendTexts
 send_texts o = record {
   to = o.to.now;
-  token = o.token.now;
-  secret = o.secret.now;
+  token = said o.token;
+  token_file = said o.token_file;
+  secret = said o.secret;
+  secret_file = said o.secret_file;
   address = o.address.now;
   peer = o.peer.now;
   money = o.money.now;
@@ -79,29 +79,36 @@ send_texts o = record {
   random = o.random.now;
   least = o.least.now;
   totals = said o.totals;
+  log = said o.log;
 }
 
 -- the texts of `receive`
 pub record ReceiveTexts : Type 0 where
   pub listen : List ℕ
-  pub token : List ℕ
-  pub secret : List ℕ
+  pub token : Option (List ℕ)
+  pub token_file : Option (List ℕ)
+  pub secret : Option (List ℕ)
+  pub secret_file : Option (List ℕ)
   pub address : List ℕ
   pub peer : List ℕ
   pub receive_max : List ℕ
   pub patience : Option (List ℕ)
   pub totals : Option (List ℕ)
+  pub log : Option (List ℕ)
 
 abbrev pub receive_texts : ReceiveOptions → ReceiveTexts
 receive_texts o = record {
   listen = o.listen.now;
-  token = o.token.now;
-  secret = o.secret.now;
+  token = said o.token;
+  token_file = said o.token_file;
+  secret = said o.secret;
+  secret_file = said o.secret_file;
   address = o.address.now;
   peer = o.peer.now;
   receive_max = o.receive_max.now;
   patience = said o.patience;
   totals = said o.totals;
+  log = said o.log;
 }
 
 -- the texts of `connector`
@@ -111,6 +118,7 @@ pub record ConnectorTexts : Type 0 where
   pub requests : List ℕ
   pub workers : List ℕ
   pub totals : Option (List ℕ)
+  pub log : Option (List ℕ)
   pub ledger : Option (List ℕ)
 
 abbrev pub connector_texts : ConnectorOptions → ConnectorTexts
@@ -120,6 +128,7 @@ connector_texts o = record {
   requests = o.requests.now;
   workers = o.workers.now;
   totals = said o.totals;
+  log = said o.log;
   ledger = said o.ledger;
 }
 
@@ -132,8 +141,8 @@ pub record IsLocal (o : LocalTexts) (s : LocalSettings) : Type 0 where
 -- the texts ask `send` for this
 pub record IsSend (o : SendTexts) (s : SendSettings) : Type 0 where
   pub to : (s.to.now ≡ o.to) × IsHostPort o.to
-  pub token : (s.token.now ≡ o.token) × (is_field_text o.token ≡ true)
-  pub secret : IsSecret o.secret s.secret
+  pub token : SaysToken o.token o.token_file s.token
+  pub secret : SaysSecret o.secret o.secret_file s.secret
   pub address : (s.address.now ≡ o.address) × (is_address o.address ≡ true)
   pub peer : (s.peer.now ≡ o.peer) × (is_address o.peer ≡ true)
   pub money : IsWithin 0 most_money o.money s.money
@@ -141,17 +150,19 @@ pub record IsSend (o : SendTexts) (s : SendSettings) : Type 0 where
   pub random : s.random.now ≡ o.random
   pub least : IsRate o.least s.least
   pub totals : said s.totals ≡ o.totals
+  pub log : said s.log ≡ o.log
 
 -- the texts ask `receive` for this
 pub record IsReceive (o : ReceiveTexts) (s : ReceiveSettings) : Type 0 where
   pub listen : (s.listen.now ≡ o.listen) × IsHostPort o.listen
-  pub token : (s.token.now ≡ o.token) × (is_field_text o.token ≡ true)
-  pub secret : IsSecret o.secret s.secret
+  pub token : SaysToken o.token o.token_file s.token
+  pub secret : SaysSecret o.secret o.secret_file s.secret
   pub address : (s.address.now ≡ o.address) × (is_address o.address ≡ true)
   pub peer : (s.peer.now ≡ o.peer) × (is_address o.peer ≡ true)
   pub receive_max : IsWithin 0 most_money o.receive_max s.receive_max
   pub patience : IsChosen 1 86_400 o.patience s.patience
   pub totals : said s.totals ≡ o.totals
+  pub log : said s.log ≡ o.log
 
 -- the texts ask `connector` for this
 pub record IsConnector (o : ConnectorTexts) (s : ConnectorSettings) : Type 0 where
@@ -160,4 +171,5 @@ pub record IsConnector (o : ConnectorTexts) (s : ConnectorSettings) : Type 0 whe
   pub requests : IsWithin 1 (2 ^ 31 - 1) o.requests s.requests
   pub workers : IsWithin 1 most_workers o.workers s.workers
   pub totals : said s.totals ≡ o.totals
+  pub log : said s.log ≡ o.log
   pub ledger : said s.ledger ≡ o.ledger

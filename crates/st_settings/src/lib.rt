@@ -2,21 +2,24 @@
 //! connector's table.
 //!
 //! The texts of the options are given, and the settings are returned, or `None` where a text is bad. What each text has
-//! to be is in specs/: numbers, HOST:PORT and rates (Numbers), the settings of each command (Settings, Ledger), and the
-//! lines of a table with the names of its accounts (Table). This crate uses no file, no socket and no clock.
+//! to be is in specs/: numbers, HOST:PORT and rates (Numbers), where tokens and secrets come from (Sources), the settings
+//! of each command (Settings, Ledger), and the lines of a table with the names of its accounts (Table). This crate uses no file, no socket and no clock.
 #![tactic(auto)]
 
 mod error;
+mod first_line;
 mod ledger;
 mod line;
 mod names;
 mod number;
 mod options;
 mod settings;
+mod source;
 mod table;
 mod text;
 
 pub use error::TableError;
+pub use first_line::{first_secret, first_token};
 pub use ledger::{LedgerSettings, Payment, Side};
 pub use line::{AccountLine, Neighbour};
 pub use number::read_number;
@@ -25,5 +28,6 @@ pub use settings::{
     ConnectorSettings, LocalSettings, MAX_HOPS, MAX_LOSE, MAX_MONEY, MAX_PATIENCE, MAX_REQUESTS,
     MAX_STREAMS, MAX_WORKERS, ReceiveSettings, SendSettings,
 };
+pub use source::{Secret, Token};
 pub use table::{Table, read_table};
 pub use text::{read_rate, read_secret};

@@ -16,10 +16,14 @@ pub struct LocalOptions<'a> {
 pub struct SendOptions<'a> {
     /// The text of `--to`.
     pub to: &'a str,
-    /// The text of `--token`.
-    pub token: &'a str,
-    /// The text of `--secret`.
-    pub secret: &'a str,
+    /// The text of `--token`, where it is given.
+    pub token: Option<&'a str>,
+    /// The text of `--token-file`, where it is given.
+    pub token_file: Option<&'a str>,
+    /// The text of `--secret`, where it is given.
+    pub secret: Option<&'a str>,
+    /// The text of `--secret-file`, where it is given.
+    pub secret_file: Option<&'a str>,
     /// The text of `--address`.
     pub address: &'a str,
     /// The text of `--peer`.
@@ -34,6 +38,8 @@ pub struct SendOptions<'a> {
     pub least: &'a str,
     /// The text of `--totals`, where it is given.
     pub totals: Option<&'a str>,
+    /// The text of `--log`, where it is given.
+    pub log: Option<&'a str>,
 }
 
 /// The texts of the options of `receive`.
@@ -41,10 +47,14 @@ pub struct SendOptions<'a> {
 pub struct ReceiveOptions<'a> {
     /// The text of `--listen`.
     pub listen: &'a str,
-    /// The text of `--token`.
-    pub token: &'a str,
-    /// The text of `--secret`.
-    pub secret: &'a str,
+    /// The text of `--token`, where it is given.
+    pub token: Option<&'a str>,
+    /// The text of `--token-file`, where it is given.
+    pub token_file: Option<&'a str>,
+    /// The text of `--secret`, where it is given.
+    pub secret: Option<&'a str>,
+    /// The text of `--secret-file`, where it is given.
+    pub secret_file: Option<&'a str>,
     /// The text of `--address`.
     pub address: &'a str,
     /// The text of `--peer`.
@@ -55,6 +65,8 @@ pub struct ReceiveOptions<'a> {
     pub patience: Option<&'a str>,
     /// The text of `--totals`, where it is given.
     pub totals: Option<&'a str>,
+    /// The text of `--log`, where it is given.
+    pub log: Option<&'a str>,
 }
 
 /// The texts of the options of `connector`.
@@ -70,6 +82,8 @@ pub struct ConnectorOptions<'a> {
     pub workers: &'a str,
     /// The text of `--totals`, where it is given.
     pub totals: Option<&'a str>,
+    /// The text of `--log`, where it is given.
+    pub log: Option<&'a str>,
     /// The text of `--ledger`, where it is given.
     pub ledger: Option<&'a str>,
 }

@@ -2,7 +2,6 @@
 
 ghost use Rattle.std.specs.Prelude.{◌≡◌, ℕ, Option, true, false, MatchOption};
 ghost use Rattle.st_oer.specs.Address as address;
-ghost use Rattle.st_http.specs.Texts as texts;
 ghost use Rattle.st_settings.specs.declared.settings.LocalSettings.{LocalSettings};
 ghost use Rattle.st_settings.specs.declared.settings.SendSettings.{SendSettings};
 ghost use Rattle.st_settings.specs.declared.settings.ReceiveSettings.{ReceiveSettings};
@@ -12,8 +11,8 @@ ghost use Rattle.st_settings.specs.Settings.{IsChosen, IsConnector, IsLocal, IsR
 
 use crate::number::read_number;
 use crate::options::{ConnectorOptions, LocalOptions, ReceiveOptions, SendOptions};
-use crate::text::{is_host_port, read_rate, read_secret};
-use st_http::is_field_text;
+use crate::source::{Secret, Token, secret_of, token_of};
+use crate::text::{is_host_port, read_rate};
 use st_oer::{Rate, is_address};
 
 /// The most connectors between the two ends of `local`.
@@ -47,10 +46,10 @@ pub struct LocalSettings {
 pub struct SendSettings<'a> {
     /// The neighbour that requests are sent to, written HOST:PORT.
     pub to: &'a str,
-    /// The bearer token by which the neighbour knows this end: 1 to 255 visible characters.
-    pub token: &'a str,
+    /// The bearer token by which the neighbour knows this end.
+    pub token: Token<'a>,
     /// The shared secret of the connection, 32 bytes (RFC 0029).
-    pub secret: [u8; 32],
+    pub secret: Secret<'a>,
     /// This end's ILP address.
     pub address: &'a str,
     /// The receiver's ILP address.
@@ -66,6 +65,8 @@ pub struct SendSettings<'a> {
     pub least: Rate,
     /// The name of the file that the totals are written to, where one was given.
     pub totals: Option<&'a str>,
+    /// The name of the file to which a line for each event is appended, where one was given.
+    pub log: Option<&'a str>,
 }
 
 /// The settings of `receive`.
@@ -73,10 +74,10 @@ pub struct SendSettings<'a> {
 pub struct ReceiveSettings<'a> {
     /// The address at which requests are accepted, written HOST:PORT.
     pub listen: &'a str,
-    /// The bearer token that a request has to show: 1 to 255 visible characters.
-    pub token: &'a str,
+    /// The bearer token that a request has to show.
+    pub token: Token<'a>,
     /// The shared secret of the connection, 32 bytes (RFC 0029).
-    pub secret: [u8; 32],
+    pub secret: Secret<'a>,
     /// This end's ILP address.
     pub address: &'a str,
     /// The sender's ILP address.
@@ -87,6 +88,8 @@ pub struct ReceiveSettings<'a> {
     pub patience: Option<u64>,
     /// The name of the file that the totals are written to, where one was given.
     pub totals: Option<&'a str>,
+    /// The name of the file to which a line for each event is appended, where one was given.
+    pub log: Option<&'a str>,
 }
 
 /// The settings of `connector`.
@@ -102,6 +105,8 @@ pub struct ConnectorSettings<'a> {
     pub workers: u8,
     /// The name of the file that the totals are written to, where one was given.
     pub totals: Option<&'a str>,
+    /// The name of the file to which a line for each event is appended, where one was given.
+    pub log: Option<&'a str>,
     /// The name of the file that the books are kept in, where one was given.
     pub ledger: Option<&'a str>,
 }
@@ -144,17 +149,6 @@ fn host_port(text: &str) -> Option<&str>
     if is_host_port(text) { Some(text) } else { None }
 }
 
-/// The text, where it may be a token.
-fn token(text: &str) -> Option<&str>
-    ensures { MatchOption result (texts.is_field_text text.now ≡ false) (λ t. (t ≡ text.entry) × (texts.is_field_text text.now ≡ true)) }
-{
-    if is_field_text(text) {
-        Some(text)
-    } else {
-        None
-    }
-}
-
 /// The text, where it is an ILP address.
 fn address(text: &str) -> Option<&str>
     ensures { MatchOption result (address.is_address text.now ≡ false) (λ t. (t ≡ text.entry) × (address.is_address text.now ≡ true)) }
@@ -182,8 +176,8 @@ impl<'a> SendSettings<'a> {
     {
         Some(SendSettings {
             to: host_port(options.to)?,
-            token: token(options.token)?,
-            secret: read_secret(options.secret)?,
+            token: token_of(options.token, options.token_file)?,
+            secret: secret_of(options.secret, options.secret_file)?,
             address: address(options.address)?,
             peer: address(options.peer)?,
             money: number(options.money, 0, MAX_MONEY)?,
@@ -191,6 +185,7 @@ impl<'a> SendSettings<'a> {
             random: options.random,
             least: read_rate(options.least)?,
             totals: options.totals,
+            log: options.log,
         })
     }
 }
@@ -202,13 +197,14 @@ impl<'a> ReceiveSettings<'a> {
     {
         Some(ReceiveSettings {
             listen: host_port(options.listen)?,
-            token: token(options.token)?,
-            secret: read_secret(options.secret)?,
+            token: token_of(options.token, options.token_file)?,
+            secret: secret_of(options.secret, options.secret_file)?,
             address: address(options.address)?,
             peer: address(options.peer)?,
             receive_max: number(options.receive_max, 0, MAX_MONEY)?,
             patience: chosen(options.patience, 1, MAX_PATIENCE)?,
             totals: options.totals,
+            log: options.log,
         })
     }
 }
@@ -224,6 +220,7 @@ impl<'a> ConnectorSettings<'a> {
             requests: number(options.requests, 1, MAX_REQUESTS)?,
             workers: number(options.workers, 1, MAX_WORKERS)? as u8,
             totals: options.totals,
+            log: options.log,
             ledger: options.ledger,
         })
     }

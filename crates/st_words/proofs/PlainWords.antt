@@ -6,11 +6,15 @@ use Rattle.clap.specs.Lexer.{long_of, short_of}
 use Rattle.clap.specs.Words.{Row, Text}
 use Rattle.clap.proofs.OnLiterals.{clap_on_literals}
 use Rattle.st_words.specs.Words.{command_of}
-use Rattle.st_words.specs.Laws.{BooksSayTheirFile, ConnectorSaysItsTexts, LedgerSaysItsFile, PaymentSaysItsTexts, ReceiveSaysItsTexts, SayLedger, SendSaysItsTexts}
+use Rattle.st_words.specs.Laws.{BooksSayTheirFile, ConnectorSaysItsTexts, FilesSayTheirNames, LedgerSaysItsFile, PaymentSaysItsTexts, ReceiveSaysItsTexts, SayLedger, SendSaysItsTexts}
 
 pub send_plain : SendSaysItsTexts
 unfolding clap_on_literals
 send_plain to token secret address peer = (refl, (_, refl, refl))
+
+pub files_plain : FilesSayTheirNames
+unfolding clap_on_literals
+files_plain to token secret address peer log = (refl, (_, refl, refl))
 
 pub receive_plain : ReceiveSaysItsTexts
 unfolding clap_on_literals

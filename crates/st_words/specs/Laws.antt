@@ -13,8 +13,10 @@ abbrev pub SendSaysItsTexts : Type 0
 SendSaysItsTexts = (to token secret address peer : Text) → (refusals (send_words to token secret address peer) ≡ [])
     × ((rows : List Row) × (command_of (send_words to token secret address peer) ≡ Some (codes "send", rows)) × (send_texts rows ≡ record {
       to = to;
-      token = token;
-      secret = secret;
+      token = Some token;
+      token_file = None;
+      secret = Some secret;
+      secret_file = None;
       address = address;
       peer = peer;
       money = codes "0";
@@ -22,6 +24,31 @@ SendSaysItsTexts = (to token secret address peer : Text) → (refusals (send_wor
       random = codes "/dev/urandom";
       least = codes "1:1";
       totals = None;
+      log = None;
+    }))
+
+-- the words of `send` with a token and a secret in files, and a file for events
+abbrev pub filed_words : Text → Text → Text → Text → Text → Text → List Text
+filed_words to token secret address peer log =
+    codes "ilpstream" ∷ codes "send" ∷ (codes "--to=" ++ to) ∷ (codes "--token-file=" ++ token) ∷ (codes "--secret-file=" ++ secret)
+    ∷ (codes "--address=" ++ address) ∷ (codes "--peer=" ++ peer) ∷ (codes "--log=" ++ log) ∷ []
+
+abbrev pub FilesSayTheirNames : Type 0
+FilesSayTheirNames = (to token secret address peer log : Text) → (refusals (filed_words to token secret address peer log) ≡ [])
+    × ((rows : List Row) × (command_of (filed_words to token secret address peer log) ≡ Some (codes "send", rows)) × (send_texts rows ≡ record {
+      to = to;
+      token = None;
+      token_file = Some token;
+      secret = None;
+      secret_file = Some secret;
+      address = address;
+      peer = peer;
+      money = codes "0";
+      workers = codes "4";
+      random = codes "/dev/urandom";
+      least = codes "1:1";
+      totals = None;
+      log = Some log;
     }))
 
 -- the words of `receive` with these texts
@@ -34,13 +61,16 @@ abbrev pub ReceiveSaysItsTexts : Type 0
 ReceiveSaysItsTexts = (listen token secret address peer : Text) → (refusals (receive_words listen token secret address peer) ≡ [])
     × ((rows : List Row) × (command_of (receive_words listen token secret address peer) ≡ Some (codes "receive", rows)) × (receive_texts rows ≡ record {
       listen = listen;
-      token = token;
-      secret = secret;
+      token = Some token;
+      token_file = None;
+      secret = Some secret;
+      secret_file = None;
       address = address;
       peer = peer;
       receive_max = codes "0";
       patience = None;
       totals = None;
+      log = None;
     }))
 
 -- the words of `connector` with these texts, for a thousand requests
@@ -56,6 +86,7 @@ SayConnector words listen own totals ledger = (refusals words ≡ [])
       requests = codes "1000";
       workers = codes "4";
       totals = totals;
+      log = None;
       ledger = ledger;
     }))
 

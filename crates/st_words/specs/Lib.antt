@@ -1,3 +1,4 @@
 pub mod Program
+pub mod Pairs
 pub mod Words
 pub mod Laws

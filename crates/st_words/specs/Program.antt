@@ -36,14 +36,22 @@ HasShape s c = (shape_of c ≡ s) × (has_globals c ≡ false)
 abbrev pub required_rule : Text → Rule
 required_rule name = with_required (option_rule name)
 
+-- the token and the secret, each given or in a file: exactly one of the two options of each is to be given (specs/Pairs.antt)
+abbrev pub with_keys : Shape → Shape
+with_keys s = with_rule (with_rule (with_rule (with_rule s (option_rule (codes "token"))) (option_rule (codes "token-file")))
+    (option_rule (codes "secret"))) (option_rule (codes "secret-file"))
+
 -- what both ends of a transfer have to be told
 abbrev pub with_ends : Shape → Shape
-with_ends s = with_rule (with_rule (with_rule (with_rule s (required_rule (codes "token"))) (required_rule (codes "secret")))
-    (required_rule (codes "address"))) (required_rule (codes "peer"))
+with_ends s = with_rule (with_rule (with_keys s) (required_rule (codes "address"))) (required_rule (codes "peer"))
 
 -- where totals are told
 abbrev pub totals_rule : Rule
 totals_rule = option_rule (codes "totals")
+
+-- where events are told
+abbrev pub log_rule : Rule
+log_rule = option_rule (codes "log")
 
 -- where books are kept
 abbrev pub ledger_rule : Rule
@@ -97,27 +105,33 @@ local = record (new_shape (codes "local")) {
 abbrev pub send : Shape
 send = record (new_shape (codes "send")) {
   rules = required_rule (codes "to")
-      ∷ required_rule (codes "token")
-      ∷ required_rule (codes "secret")
+      ∷ option_rule (codes "token")
+      ∷ option_rule (codes "token-file")
+      ∷ option_rule (codes "secret")
+      ∷ option_rule (codes "secret-file")
       ∷ required_rule (codes "address")
       ∷ required_rule (codes "peer")
       ∷ with_default (codes "0") (number_rule (codes "money") 0 most_money)
       ∷ with_default (codes "4") (number_rule (codes "workers") 1 most_workers)
       ∷ with_default (codes "/dev/urandom") (option_rule (codes "random"))
       ∷ with_default (codes "1:1") (option_rule (codes "least"))
-      ∷ totals_rule ∷ [];
+      ∷ totals_rule
+      ∷ log_rule ∷ [];
 }
 
 abbrev pub receive : Shape
 receive = record (new_shape (codes "receive")) {
   rules = required_rule (codes "listen")
-      ∷ required_rule (codes "token")
-      ∷ required_rule (codes "secret")
+      ∷ option_rule (codes "token")
+      ∷ option_rule (codes "token-file")
+      ∷ option_rule (codes "secret")
+      ∷ option_rule (codes "secret-file")
       ∷ required_rule (codes "address")
       ∷ required_rule (codes "peer")
       ∷ with_default (codes "0") (number_rule (codes "receive-max") 0 most_money)
       ∷ patience_rule
-      ∷ totals_rule ∷ [];
+      ∷ totals_rule
+      ∷ log_rule ∷ [];
 }
 
 abbrev pub connector : Shape
@@ -127,6 +141,7 @@ connector = record (new_shape (codes "connector")) {
       ∷ with_required (number_rule (codes "requests") 1 (2 ^ 31 - 1))
       ∷ with_default (codes "4") (number_rule (codes "workers") 1 most_workers)
       ∷ totals_rule
+      ∷ log_rule
       ∷ ledger_rule ∷ [];
 }
 

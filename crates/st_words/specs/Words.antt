@@ -1,5 +1,6 @@
 -- What the words of the command line ask for, by what clap makes of them.
 use Rattle.std.specs.Prelude.{◌≡◌, List, [], codes, Option, Some, None, Result, Ok, Err, unwrap_or}
+use Rattle.clap.specs.Kinds.{or_else}
 use Rattle.clap.specs.Words.{HasKind, Kinds, Row, Text, all_of, fault_of, first_of, subcommand_of}
 use Rattle.st_settings.specs.Ledger as ledger
 use Rattle.st_settings.specs.Settings as settings
@@ -7,6 +8,7 @@ use Rattle.st_words.specs.declared.error.WordsError.{WordsError}
 use Rattle.st_words.specs.declared.error.WordsError.TheVariants.{Refused, BadOption}
 use Rattle.st_words.specs.declared.request.Request.{Request}
 use Rattle.st_words.specs.declared.request.Request.TheVariants as request
+use Rattle.st_words.specs.Pairs.{pairs_fault}
 use Rattle.st_words.specs.Program.{program}
 
 -- the value that an option has by these words, or by its default; no text where it has none
@@ -23,8 +25,10 @@ local_texts rows = record {
 abbrev pub send_texts : List Row → settings.SendTexts
 send_texts rows = record {
   to = value_of (codes "to") rows;
-  token = value_of (codes "token") rows;
-  secret = value_of (codes "secret") rows;
+  token = first_of (codes "token") rows;
+  token_file = first_of (codes "token-file") rows;
+  secret = first_of (codes "secret") rows;
+  secret_file = first_of (codes "secret-file") rows;
   address = value_of (codes "address") rows;
   peer = value_of (codes "peer") rows;
   money = value_of (codes "money") rows;
@@ -32,18 +36,22 @@ send_texts rows = record {
   random = value_of (codes "random") rows;
   least = value_of (codes "least") rows;
   totals = first_of (codes "totals") rows;
+  log = first_of (codes "log") rows;
 }
 
 abbrev pub receive_texts : List Row → settings.ReceiveTexts
 receive_texts rows = record {
   listen = value_of (codes "listen") rows;
-  token = value_of (codes "token") rows;
-  secret = value_of (codes "secret") rows;
+  token = first_of (codes "token") rows;
+  token_file = first_of (codes "token-file") rows;
+  secret = first_of (codes "secret") rows;
+  secret_file = first_of (codes "secret-file") rows;
   address = value_of (codes "address") rows;
   peer = value_of (codes "peer") rows;
   receive_max = value_of (codes "receive-max") rows;
   patience = first_of (codes "patience") rows;
   totals = first_of (codes "totals") rows;
+  log = first_of (codes "log") rows;
 }
 
 abbrev pub connector_texts : List Row → settings.ConnectorTexts
@@ -53,6 +61,7 @@ connector_texts rows = record {
   requests = value_of (codes "requests") rows;
   workers = value_of (codes "workers") rows;
   totals = first_of (codes "totals") rows;
+  log = first_of (codes "log") rows;
   ledger = first_of (codes "ledger") rows;
 }
 
@@ -79,11 +88,12 @@ IsBad name rows = (r : Request) → ¬ (Asks name rows r)
 abbrev pub command_of : List Text → Option (Text × List Row)
 command_of words = subcommand_of program words
 
--- what clap may answer to the words in place of taking them: it takes them where this is empty
+-- what may be answered to the words in place of taking them: what clap answers, or else what is wrong with the pairs of options. They
+-- are taken where this is empty
 abbrev pub refusals : List Text → Kinds
-refusals words = fault_of program words
+refusals words = or_else (fault_of program words) (pairs_fault (command_of words))
 
--- words that clap takes ask for this: without a command for `frames`
+-- words that are taken ask for this: without a command for `frames`
 abbrev pub AsksBy : Option (Text × List Row) → Request → Type 0
 AsksBy None r = r ≡ request.Frames
 AsksBy (Some (name, rows)) r = Asks name rows r

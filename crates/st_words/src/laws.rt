@@ -1,12 +1,13 @@
 //! A law of the arguments of `send`, `receive`, `connector` and `ledger`.
 
-ghost use Rattle.st_words.specs.Laws.{BooksSayTheirFile, ConnectorSaysItsTexts, LedgerSaysItsFile, PaymentSaysItsTexts, ReceiveSaysItsTexts, SendSaysItsTexts};
+ghost use Rattle.st_words.specs.Laws.{BooksSayTheirFile, ConnectorSaysItsTexts, FilesSayTheirNames, LedgerSaysItsFile, PaymentSaysItsTexts, ReceiveSaysItsTexts, SendSaysItsTexts};
 
 /// States a law; it does nothing. A command gets the texts behind `--to=` and the other options exactly as they are,
 /// whatever they are; an option that is left out has its default. `ledger` gets its file, and each name and amount of a
 /// payment, also an amount behind a minus.
 pub fn plain_words_say_their_texts()
     ensures send { SendSaysItsTexts }
+    ensures files { FilesSayTheirNames }
     ensures receive { ReceiveSaysItsTexts }
     ensures connector { ConnectorSaysItsTexts }
     ensures books { BooksSayTheirFile }

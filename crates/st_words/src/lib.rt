@@ -9,6 +9,7 @@
 mod error;
 mod laws;
 mod options;
+mod pairs;
 mod program;
 mod request;
 mod texts;

@@ -4,7 +4,7 @@ ghost use Rattle.std.specs.Prelude.{◌≡◌, false, IfOk};
 ghost use Rattle.clap.specs.Words.{app_of, shape_of};
 ghost use Rattle.clap.specs.Simple.{new_shape};
 ghost use Rattle.st_words.specs.Program as spec;
-ghost use Rattle.st_words.specs.Program.{HasShape, has_globals, ledger_rule, patience_rule, totals_rule, with_rule};
+ghost use Rattle.st_words.specs.Program.{HasShape, has_globals, ledger_rule, log_rule, patience_rule, totals_rule, with_rule};
 
 use crate::options::{
     last, number, option, placed, ranged, required, with, with_command, with_default, with_required,
@@ -12,7 +12,8 @@ use crate::options::{
 use crate::texts::{
     ACCOUNTS_HELP, AFTER_CONNECTOR_HELP, AFTER_FRAMES_HELP, AFTER_HELP, AFTER_LEDGER_HELP,
     AFTER_LOCAL_HELP, AFTER_RECEIVE_HELP, AFTER_SEND_HELP, BOOKS_HELP, LEAST_HELP, LEDGER_HELP,
-    LEDGER_USAGE, PATIENCE_HELP, PAYMENT_HELP, SECRET_HELP, TOKEN_HELP, TOTALS_HELP,
+    LEDGER_USAGE, LOG_HELP, PATIENCE_HELP, PAYMENT_HELP, RECEIVE_USAGE, SECRET_FILE_HELP,
+    SECRET_HELP, SEND_USAGE, TOKEN_FILE_HELP, TOKEN_HELP, TOTALS_HELP,
 };
 use clap::Command;
 use st_settings::{
@@ -61,6 +62,23 @@ fn local<'a>(alloc: Global) -> Result<Command<'a>, AllocError>
     with_default(command, streams, "1")
 }
 
+/// The command with the options for the token and the secret, each given or in a file.
+fn with_keys<'a>(alloc: Global, command: Command<'a>) -> Result<Command<'a>, AllocError>
+    requires { has_globals command ≡ false }
+    ensures { IfOk result (HasShape (spec.with_keys (shape_of command.entry))) }
+{
+    let command = with(command, option(alloc, "token", "TOKEN", TOKEN_HELP))?;
+    let command = with(
+        command,
+        option(alloc, "token-file", "FILE", TOKEN_FILE_HELP),
+    )?;
+    let command = with(command, option(alloc, "secret", "HEX", SECRET_HELP))?;
+    with(
+        command,
+        option(alloc, "secret-file", "FILE", SECRET_FILE_HELP),
+    )
+}
+
 /// The command with the options that both ends of a transfer need: the token, the secret and the two addresses.
 fn with_ends<'a>(
     alloc: Global,
@@ -70,8 +88,7 @@ fn with_ends<'a>(
     requires { has_globals command ≡ false }
     ensures { IfOk result (HasShape (spec.with_ends (shape_of command.entry))) }
 {
-    let command = with_required(alloc, command, "token", "TOKEN", TOKEN_HELP)?;
-    let command = with_required(alloc, command, "secret", "HEX", SECRET_HELP)?;
+    let command = with_keys(alloc, command)?;
     let address = "ILP address of this end, at most 1023 characters";
     let command = with_required(alloc, command, "address", "ADDRESS", address)?;
     with_required(alloc, command, "peer", "ADDRESS", peer_help)
@@ -133,6 +150,14 @@ fn with_totals<'a>(
     with(command, option(alloc, "totals", "FILE", help))
 }
 
+/// The command with the option for the file of events.
+fn with_log<'a>(alloc: Global, command: Command<'a>) -> Result<Command<'a>, AllocError>
+    requires { has_globals command ≡ false }
+    ensures { IfOk result (HasShape (with_rule (shape_of command.entry) log_rule)) }
+{
+    with(command, option(alloc, "log", "FILE", LOG_HELP))
+}
+
 /// The command with the option for the file of books.
 fn with_ledger<'a>(alloc: Global, command: Command<'a>) -> Result<Command<'a>, AllocError>
     requires { has_globals command ≡ false }
@@ -168,27 +193,29 @@ fn send<'a>(alloc: Global) -> Result<Command<'a>, AllocError>
     ensures { IfOk result (HasShape spec.send) }
 {
     let about = "Sends standard input and money to a receiver";
-    let command = named(alloc, "send", about, AFTER_SEND_HELP);
+    let command = named(alloc, "send", about, AFTER_SEND_HELP).override_usage(SEND_USAGE);
     let command = with_peers(alloc, command)?;
     let money = "Money to offer on the stream, in units, 0 to 2^63 - 1";
     let command = with_money(alloc, command, "money", money)?;
     let command = with_workers(alloc, command, "Number of threads that send, 1 to 16")?;
     let command = with_sources(alloc, command)?;
-    with_totals(alloc, command, TOTALS_HELP)
+    let command = with_totals(alloc, command, TOTALS_HELP)?;
+    with_log(alloc, command)
 }
 
 fn receive<'a>(alloc: Global) -> Result<Command<'a>, AllocError>
     ensures { IfOk result (HasShape spec.receive) }
 {
     let about = "Receives data and money from one sender, and writes the data to standard output";
-    let command = named(alloc, "receive", about, AFTER_RECEIVE_HELP);
+    let command = named(alloc, "receive", about, AFTER_RECEIVE_HELP).override_usage(RECEIVE_USAGE);
     let command = with_listen(alloc, command)?;
     let peer = "ILP address of the sender, at most 1023 characters";
     let command = with_ends(alloc, command, peer)?;
     let most = "The most money to accept on the stream, in units, 0 to 2^63 - 1";
     let command = with_money(alloc, command, "receive-max", most)?;
     let command = with_patience(alloc, command)?;
-    with_totals(alloc, command, TOTALS_HELP)
+    let command = with_totals(alloc, command, TOTALS_HELP)?;
+    with_log(alloc, command)
 }
 
 /// The command with the option for the number of requests that a connector accepts.
@@ -218,6 +245,7 @@ fn connector<'a>(alloc: Global) -> Result<Command<'a>, AllocError>
         "Number of threads that answer requests, 1 to 16",
     )?;
     let command = with_totals(alloc, command, ACCOUNTS_HELP)?;
+    let command = with_log(alloc, command)?;
     with_ledger(alloc, command)
 }
 

@@ -1,14 +1,16 @@
 //! What the arguments of the command line ask for.
 
 ghost use Rattle.std.specs.Prelude.{◌≡◌, IfOk, MatchOption, map};
-ghost use Rattle.clap.specs.Words.{FailsBy, first_of, found_of, rows_of, subcommand_rows_of};
+ghost use Rattle.clap.specs.Words.{FailsBy, fault_of, first_of, found_of, rows_of, subcommand_rows_of};
 ghost use Rattle.st_settings.specs.Ledger as ledger;
 ghost use Rattle.st_settings.specs.Settings as settings;
+ghost use Rattle.st_words.specs.Program as grammar;
 ghost use Rattle.st_words.specs.Words as spec;
 ghost use Rattle.st_words.specs.declared.request.Request.{Request};
 ghost use Rattle.st_words.specs.Words.{Asks, AsksBy, IsBad, Reads, command_of, refusals, value_of};
 
 use crate::error::WordsError;
+use crate::pairs::look_at_pairs;
 use crate::program::program;
 use clap::{ArgMatches, Error};
 use st_settings::{
@@ -36,7 +38,7 @@ pub enum Request<'a> {
 }
 
 /// The value of an option, where it has one.
-fn chosen<'a>(matches: &ArgMatches<'a>, name: &str) -> Option<&'a str>
+pub(crate) fn chosen<'a>(matches: &ArgMatches<'a>, name: &str) -> Option<&'a str>
     ensures { settings.said result ≡ first_of name.now (rows_of (found_of matches.now)) }
 {
     matches.get_str(name)
@@ -64,8 +66,10 @@ fn send<'a>(matches: &ArgMatches<'a>) -> SendOptions<'a>
 {
     SendOptions {
         to: value(matches, "to"),
-        token: value(matches, "token"),
-        secret: value(matches, "secret"),
+        token: chosen(matches, "token"),
+        token_file: chosen(matches, "token-file"),
+        secret: chosen(matches, "secret"),
+        secret_file: chosen(matches, "secret-file"),
         address: value(matches, "address"),
         peer: value(matches, "peer"),
         money: value(matches, "money"),
@@ -73,6 +77,7 @@ fn send<'a>(matches: &ArgMatches<'a>) -> SendOptions<'a>
         random: value(matches, "random"),
         least: value(matches, "least"),
         totals: chosen(matches, "totals"),
+        log: chosen(matches, "log"),
     }
 }
 
@@ -81,13 +86,16 @@ fn receive<'a>(matches: &ArgMatches<'a>) -> ReceiveOptions<'a>
 {
     ReceiveOptions {
         listen: value(matches, "listen"),
-        token: value(matches, "token"),
-        secret: value(matches, "secret"),
+        token: chosen(matches, "token"),
+        token_file: chosen(matches, "token-file"),
+        secret: chosen(matches, "secret"),
+        secret_file: chosen(matches, "secret-file"),
         address: value(matches, "address"),
         peer: value(matches, "peer"),
         receive_max: value(matches, "receive-max"),
         patience: chosen(matches, "patience"),
         totals: chosen(matches, "totals"),
+        log: chosen(matches, "log"),
     }
 }
 
@@ -100,6 +108,7 @@ fn connector<'a>(matches: &ArgMatches<'a>) -> ConnectorOptions<'a>
         requests: value(matches, "requests"),
         workers: value(matches, "workers"),
         totals: chosen(matches, "totals"),
+        log: chosen(matches, "log"),
         ledger: chosen(matches, "ledger"),
     }
 }
@@ -136,10 +145,22 @@ fn request_of<'a>(name: &str, matches: &ArgMatches<'a>) -> Option<Request<'a>>
 
 /// What clap makes of the arguments; the first is the program's name.
 fn parse<'a, S: AsStr>(alloc: Global, words: &'a [S]) -> Result<ArgMatches<'a>, Error>
-    ensures kinds { FailsBy (refusals (map S.text words.now)) result }
+    ensures kinds { FailsBy (fault_of grammar.program (map S.text words.now)) result }
     ensures command { IfOk result (λ m. subcommand_rows_of m ≡ command_of (map S.text words.now)) }
 {
     program(alloc)?.try_get_matches_from(words)
+}
+
+/// What clap makes of the arguments, where exactly one of each pair of options is given.
+fn taken<'a, S: AsStr>(alloc: Global, words: &'a [S]) -> Result<ArgMatches<'a>, Error>
+    ensures kinds { FailsBy (refusals (map S.text words.now)) result }
+    ensures command { IfOk result (λ m. subcommand_rows_of m ≡ command_of (map S.text words.now)) }
+{
+    let matches = parse(alloc, words)?;
+    match look_at_pairs(alloc, &matches) {
+        Ok(()) => Ok(matches),
+        Err(error) => Err(error),
+    }
 }
 
 /// The command and its settings. `None` where the text of an option is bad.
@@ -154,12 +175,12 @@ fn asked<'a>(matches: &ArgMatches<'a>) -> Option<Request<'a>>
 
 /// Reads the arguments of the command line; the first is the program's name. Without a command the request is `Frames`.
 ///
-/// Fails with `Refused` where clap refuses the arguments, where they ask for help or the version, and where memory is
-/// refused; with `BadOption` where the text of an option is bad.
+/// Fails with `Refused` where clap refuses the arguments, where both or neither of a pair of options is given, where they ask
+/// for help or the version, and where memory is refused; with `BadOption` where the text of an option is bad.
 pub fn read_words<'a, S: AsStr>(alloc: Global, words: &'a [S]) -> Result<Request<'a>, WordsError>
     ensures { Reads (map S.text words.now) result }
 {
-    match parse(alloc, words) {
+    match taken(alloc, words) {
         Ok(matches) => match asked(&matches) {
             Some(request) => Ok(request),
             None => Err(WordsError::BadOption),

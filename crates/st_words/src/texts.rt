@@ -94,6 +94,16 @@ Examples:
   ./ilpstream ledger books.db settle alice 500
   ./ilpstream ledger books.db settle alice -500";
 
+/// The usage of `send`.
+pub const SEND_USAGE: &str =
+    "ilpstream send [OPTIONS] --to <HOST:PORT> <--token <TOKEN>|--token-file <FILE>>
+           <--secret <HEX>|--secret-file <FILE>> --address <ADDRESS> --peer <ADDRESS>";
+
+/// The usage of `receive`.
+pub const RECEIVE_USAGE: &str =
+    "ilpstream receive [OPTIONS] --listen <HOST:PORT> <--token <TOKEN>|--token-file <FILE>>
+           <--secret <HEX>|--secret-file <FILE>> --address <ADDRESS> --peer <ADDRESS>";
+
 /// The usage of `ledger`.
 pub const LEDGER_USAGE: &str = "ilpstream ledger <FILE> [settle <NAME> <AMOUNT>]";
 
@@ -113,6 +123,15 @@ pub const TOKEN_HELP: &str = "Bearer token of the requests, 1 to 255 visible cha
 /// The help of `--secret`.
 pub const SECRET_HELP: &str =
     "Secret that both ends share, 32 bytes written as 64 hexadecimal digits";
+
+/// The help of `--token-file`.
+pub const TOKEN_FILE_HELP: &str = "File whose first line is the token, in place of --token";
+
+/// The help of `--secret-file`.
+pub const SECRET_FILE_HELP: &str = "File whose first line is the secret, in place of --secret";
+
+/// The help of `--log`.
+pub const LOG_HELP: &str = "File to which one line for each event is appended";
 
 /// The help of `--patience`.
 pub const PATIENCE_HELP: &str =

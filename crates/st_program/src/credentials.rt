@@ -1,0 +1,142 @@
+//! The token and the secret of an end: given, or read from files.
+
+ghost use Rattle.std.specs.Prelude.{◌≡◌, true, IfErr, IfOk, string_bytes};
+ghost use Rattle.st_oer.specs.Tallies.{device_of, tally_of};
+ghost use Rattle.st_http.specs.Texts as texts;
+ghost use Rattle.st_commands.specs.declared.error.Fault.TheVariants.{NoMemory};
+ghost use Rattle.st_settings.specs.Sources.{IsSecret, IsToken};
+ghost use Rattle.st_program.specs.Credentials.{AreOf, ComesOfLine, HasSecret, HasToken, IsLawfulToken, WhyNotOpened};
+ghost use Rattle.st_program.specs.Credentials as spec;
+ghost use Rattle.st_program.specs.declared.error.RunError.TheVariants.{Fault as IsFault};
+
+use crate::error::RunError;
+use crate::input::read_whole;
+use st_commands::Fault;
+use st_oer::CountRead;
+use st_settings::{Secret, Token, first_secret, first_token};
+use std::alloc::Global;
+use std::fs::{File, Files};
+use std::io::Read;
+
+/// The most bytes that are read of a file for its first line.
+const MOST: u64 = 4096;
+
+/// What an end shows and shares.
+#[derive(Drop)]
+pub(crate) struct Credentials {
+    /// The bearer token: 1 to 255 visible characters.
+    pub(crate) token: String,
+    /// The shared secret of the connection.
+    pub(crate) secret: [u8; 32],
+}
+
+/// Why a file gives nothing that could not be read: the option that names it is bad, or memory was refused.
+fn unread(fault: Fault) -> RunError
+    ensures { result ≡ spec.unread fault }
+{
+    match fault {
+        Fault::NoMemory => RunError::Fault(Fault::NoMemory),
+        _ => RunError::BadOption,
+    }
+}
+
+/// The text, in memory of its own.
+fn owned(alloc: Global, text: &str) -> Result<String, RunError>
+    ensures same { IfOk result (λ s. string_bytes s ≡ text.now) }
+    ensures refused { IfErr result (λ e. e ≡ IsFault NoMemory) }
+{
+    Ok(String::from_str(alloc, text)?)
+}
+
+/// The token in the first line of an input. Fails with `BadOption` where the line is no token or the input cannot be
+/// read, and else where memory is refused.
+fn token_from<R: Read>(alloc: Global, reader: &mut CountRead<R>) -> Result<String, RunError>
+    ensures line { ComesOfLine (λ line token. IsToken line (string_bytes token)) (R.remaining (device_of reader.old)) (tally_of reader.old) (tally_of reader.new) result }
+    ensures visible { IfOk result (λ token. texts.is_field_text (string_bytes token) ≡ true) }
+{
+    let bytes = match read_whole(alloc, reader) {
+        Ok(bytes) => bytes,
+        Err(fault) => return Err(unread(fault)),
+    };
+    match first_token(&bytes) {
+        Some(token) => owned(alloc, token),
+        None => Err(RunError::BadOption),
+    }
+}
+
+/// The secret in the first line of an input. Fails with `BadOption` where the line is no secret or the input cannot be
+/// read, and else where memory is refused.
+fn secret_from<R: Read>(alloc: Global, reader: &mut CountRead<R>) -> Result<[u8; 32], RunError>
+    ensures { ComesOfLine IsSecret (R.remaining (device_of reader.old)) (tally_of reader.old) (tally_of reader.new) result }
+{
+    let bytes = match read_whole(alloc, reader) {
+        Ok(bytes) => bytes,
+        Err(fault) => return Err(unread(fault)),
+    };
+    match first_secret(&bytes) {
+        Some(secret) => Ok(secret),
+        None => Err(RunError::BadOption),
+    }
+}
+
+/// The token that is given, or that in the first line of its file.
+fn token_of<N: Files<File = File>>(
+    rt: &N,
+    alloc: Global,
+    token: Token<'_>,
+) -> Result<String, RunError>
+    requires { IsLawfulToken token }
+    ensures same { IfOk result (λ text. HasToken token (string_bytes text)) }
+    ensures visible { IfOk result (λ text. texts.is_field_text (string_bytes text) ≡ true) }
+    ensures refused { IfErr result WhyNotOpened }
+{
+    let name = match token {
+        Token::Given(token) => return owned(alloc, token),
+        Token::InFile(name) => name,
+    };
+    let Ok(file) = File::open(rt, name) else {
+        return Err(RunError::BadOption);
+    };
+    let mut reader = CountRead::new(file.take(MOST));
+    token_from(alloc, &mut reader)
+}
+
+/// The secret that is given, or that in the first line of its file.
+fn secret_of<N: Files<File = File>>(
+    rt: &N,
+    alloc: Global,
+    secret: Secret<'_>,
+) -> Result<[u8; 32], RunError>
+    ensures same { IfOk result (HasSecret secret) }
+    ensures refused { IfErr result WhyNotOpened }
+{
+    let name = match secret {
+        Secret::Given(secret) => return Ok(secret),
+        Secret::InFile(name) => name,
+    };
+    let Ok(file) = File::open(rt, name) else {
+        return Err(RunError::BadOption);
+    };
+    let mut reader = CountRead::new(file.take(MOST));
+    secret_from(alloc, &mut reader)
+}
+
+/// The token and the secret of an end. Of a file that has one of them, the first 4,096 bytes are read.
+///
+/// Fails with `BadOption` where a file cannot be read, or its first line is bad; and where memory is refused.
+pub(crate) fn credentials<N: Files<File = File>>(
+    rt: &N,
+    alloc: Global,
+    token: Token<'_>,
+    secret: Secret<'_>,
+) -> Result<Credentials, RunError>
+    requires { IsLawfulToken token }
+    ensures same { IfOk result (AreOf token secret) }
+    ensures refused { IfErr result WhyNotOpened }
+{
+    let secret = secret_of(rt, alloc, secret)?;
+    match token_of(rt, alloc, token) {
+        Ok(token) => Ok(Credentials { token, secret }),
+        Err(error) => Err(error),
+    }
+}

@@ -1,0 +1,28 @@
+-- Pairs of options of a command, of which exactly one has to be given. clap takes them both, or neither: with groups, or with rules on one
+-- another, its contracts would say less of all arguments.
+use Rattle.std.specs.Prelude.{ℕ, Bool, true, false, ◌||◌, [], ◌∷◌, List, codes, Option, Some, None, is_some, if◌then◌else◌}
+use Rattle.std.specs.Str.{bytes_eq}
+use Rattle.clap.specs.Kinds.{or_else}
+use Rattle.clap.specs.Words.{Kinds, Row, Text, first_of}
+use Rattle.clap.specs.declared.error.kind.ErrorKind.TheVariants.{ArgumentConflict, MissingRequiredArgument}
+
+-- what is answered by whether the one and the other are given
+abbrev pub pair_fault : Bool → Bool → Kinds
+pair_fault true true = ArgumentConflict ∷ []
+pair_fault true false = []
+pair_fault false true = []
+pair_fault false false = MissingRequiredArgument ∷ []
+
+-- the option is given
+abbrev pub is_given : Text → List Row → Bool
+is_given name rows = is_some (first_of name rows)
+
+-- what is answered where a token and a secret are needed
+abbrev pub keys_fault : List Row → Kinds
+keys_fault rows = or_else (pair_fault (is_given (codes "token") rows) (is_given (codes "token-file") rows))
+    (pair_fault (is_given (codes "secret") rows) (is_given (codes "secret-file") rows))
+
+-- what is answered by the command and its options: `send` and `receive` need a token and a secret
+abbrev pub pairs_fault : Option (Text × List Row) → Kinds
+pairs_fault None = []
+pairs_fault (Some (name, rows)) = if bytes_eq name (codes "send") || bytes_eq name (codes "receive") then keys_fault rows else []

@@ -1,0 +1,109 @@
+//! Pairs of options of which exactly one has to be given.
+
+ghost use Rattle.std.specs.Prelude.{◌≡◌, [], ◌∷◌, Some};
+ghost use Rattle.clap.specs.Words.{FailsBy, HasKind, found_of, rows_of, subcommand_rows_of};
+ghost use Rattle.st_words.specs.Pairs as spec;
+ghost use Rattle.st_words.specs.Pairs.{keys_fault, pair_fault, pairs_fault};
+
+use crate::request::chosen;
+use crate::texts::{RECEIVE_USAGE, SEND_USAGE};
+use clap::error::ErrorKind;
+use clap::{ArgMatches, Command, Error};
+use std::alloc::Global;
+
+/// What is said of a pair of options.
+struct Messages {
+    /// Where both are given.
+    both: &'static str,
+    /// Where neither is.
+    neither: &'static str,
+}
+
+/// What is said of `--token` and `--token-file`.
+const TOKEN: Messages = Messages {
+    both: "the argument '--token <TOKEN>' cannot be used with '--token-file <FILE>'",
+    neither: "the following required arguments were not provided:\n  <--token <TOKEN>|--token-file <FILE>>",
+};
+
+/// What is said of `--secret` and `--secret-file`.
+const SECRET: Messages = Messages {
+    both: "the argument '--secret <HEX>' cannot be used with '--secret-file <FILE>'",
+    neither: "the following required arguments were not provided:\n  <--secret <HEX>|--secret-file <FILE>>",
+};
+
+/// An error of this kind in the form of clap's, with this usage; or one of memory that was refused.
+fn refusal(alloc: Global, usage: &'static str, kind: ErrorKind, message: &str) -> Error
+    ensures { HasKind (kind ∷ []) result }
+{
+    let mut command = Command::new(alloc, "ilpstream").override_usage(usage);
+    match command.error(kind, message) {
+        Ok(error) => error,
+        Err(refused) => Error::from(refused),
+    }
+}
+
+/// Looks whether exactly one of a pair is given.
+fn look(
+    alloc: Global,
+    usage: &'static str,
+    messages: &Messages,
+    one: bool,
+    other: bool,
+) -> Result<(), Error>
+    ensures { FailsBy (pair_fault one other) result }
+{
+    match (one, other) {
+        (true, true) => Err(refusal(alloc, usage, ErrorKind::ArgumentConflict, messages.both)),
+        (false, false) => Err(refusal(
+            alloc,
+            usage,
+            ErrorKind::MissingRequiredArgument,
+            messages.neither,
+        )),
+        _ => Ok(()),
+    }
+}
+
+/// Whether an option is given.
+fn is_given(matches: &ArgMatches<'_>, name: &str) -> bool
+    ensures { result ≡ spec.is_given name.now (rows_of (found_of matches.now)) }
+{
+    chosen(matches, name).is_some()
+}
+
+/// Looks at the token and the secret of a command, each of which is given or in a file.
+fn look_at_keys(alloc: Global, usage: &'static str, matches: &ArgMatches<'_>) -> Result<(), Error>
+    ensures { FailsBy (keys_fault (rows_of (found_of matches.now))) result }
+{
+    let token = is_given(matches, "token");
+    let token_file = is_given(matches, "token-file");
+    look(alloc, usage, &TOKEN, token, token_file)?;
+    let secret = is_given(matches, "secret");
+    let secret_file = is_given(matches, "secret-file");
+    look(alloc, usage, &SECRET, secret, secret_file)
+}
+
+/// Looks at the pairs of the command of this name.
+fn look_at(alloc: Global, name: &str, matches: &ArgMatches<'_>) -> Result<(), Error>
+    ensures { FailsBy (pairs_fault (Some (name.now, rows_of (found_of matches.now)))) result }
+{
+    match name {
+        "send" => look_at_keys(alloc, SEND_USAGE, matches),
+        "receive" => look_at_keys(alloc, RECEIVE_USAGE, matches),
+        _ => Ok(()),
+    }
+}
+
+/// Looks whether exactly one of each pair of the command's options is given: `send` and `receive` need a token and a
+/// secret, each from an option or from a file.
+///
+/// Fails with `ArgumentConflict` where both of a pair are given, with `MissingRequiredArgument` where neither is, and with
+/// `OutOfMemory`.
+pub(crate) fn look_at_pairs(alloc: Global, matches: &ArgMatches<'_>) -> Result<(), Error>
+    ensures { FailsBy (pairs_fault (subcommand_rows_of matches.now)) result }
+{
+    match matches.subcommand() {
+        None => Ok(()),
+        Some((name, inner)) => look_at(alloc, name, inner),
+    }
+}
