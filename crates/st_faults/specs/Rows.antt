@@ -951,13 +951,17 @@ rows =
       number = 98;
       home = codes "st_program";
       variant = codes "RunError::BadOption";
-      places = codes "send" ∷
+      places = codes "local" ∷
+          codes "send" ∷
           codes "receive" ∷
           codes "connector" ∷
+          codes "ledger" ∷
+          codes "explain" ∷
           [];
-      cause = codes "The text of an option is bad. A secret has 64 hexadecimal digits, an address is an ILP address," ∷
-          codes "a token and a HOST:PORT are such as a request may have, and `--least` is NUM:DEN. Or the file of" ∷
-          codes "`--totals` cannot be opened." ∷
+      cause = codes "The text of an option or an argument is bad. A number has no plus in front, a secret has 64" ∷
+          codes "hexadecimal digits, an address is an ILP address, and `--least` is NUM:DEN. A token and a" ∷
+          codes "HOST:PORT are such as a request may have, and `ledger --help` says what a payment is. Or the" ∷
+          codes "file of `--totals` cannot be opened." ∷
           [];
       advice = codes "What to do: Correct the option. Nothing else was opened, and nothing was sent." ∷ [];
     } ∷

@@ -571,10 +571,12 @@ const FAULT_97: &str = "97  st_local LocalFault::Events, in local
     What to do: Use fewer hops, or lose fewer Prepares.
 ";
 
-const FAULT_98: &str = "98  st_program RunError::BadOption, in send, receive, connector
-    The text of an option is bad. A secret has 64 hexadecimal digits, an address is an ILP address,
-    a token and a HOST:PORT are such as a request may have, and `--least` is NUM:DEN. Or the file of
-    `--totals` cannot be opened.
+const FAULT_98: &str =
+    "98  st_program RunError::BadOption, in local, send, receive, connector, ledger, explain
+    The text of an option or an argument is bad. A number has no plus in front, a secret has 64
+    hexadecimal digits, an address is an ILP address, and `--least` is NUM:DEN. A token and a
+    HOST:PORT are such as a request may have, and `ledger --help` says what a payment is. Or the
+    file of `--totals` cannot be opened.
     What to do: Correct the option. Nothing else was opened, and nothing was sent.
 ";
 

@@ -7,6 +7,7 @@
 
 mod connector;
 mod error;
+mod explain;
 mod hop;
 mod input;
 mod laws;
