@@ -1,7 +1,7 @@
 #!/usr/bin/env python3
 """Compares docs/ERRORS.md and docs/LIMITS.md with the sources.
 
-ERRORS: the numbers and the variants of its tables are those of each `number` and `fault_number` in crates/*/specs, the
+ERRORS: the help of each command ends with the faults that the document has for it. The numbers and the variants of its tables are those of each `number` and `fault_number` in crates/*/specs, the
 numbers in brackets those of each `inner`; the reasons of an end, the codes of a hop's Rejects, the statuses of HTTP and the
 numbers that calls of the library for C return are those of their definitions. What is in one and not in the other is a
 finding.
@@ -12,6 +12,7 @@ import glob
 import os
 import re
 import sys
+import tomllib
 
 TOP = os.path.realpath(os.path.join(os.path.dirname(os.path.realpath(__file__)), ".."))
 CODE = re.compile(r"`([^`]+)`")
@@ -173,6 +174,30 @@ def check_names(count):
         count.compared()
 
 
+def check_help(count):
+    """The end of each command's help: the faults that the document has for it, and the refusals of a line of `frames`."""
+    where, path = "docs/ERRORS.md", "crates/st_words/src/texts.rt"
+    text, rows = read(path), rows_of(where, "Fault", count)
+    header = next(header for header, _ in tables(where) if header[0] == "Fault")
+    documented = {name.strip("`"): [cells[0] for _, cells in rows if cells[place]] for place, name in enumerate(header) if place}
+    refused = {cells[0].split("(")[0] for _, cells in rows_of(where, "R", count)}
+    last = r"`ilpstream explain N` says what each number means\.\Z"
+    helps = dict(re.findall(r'^pub const AFTER_(\w+)_HELP: &str =\s*"((?:[^"\\]|\\.)*)";', text, re.M))
+    for command, numbers in documented.items():
+        said = re.search(rf"^Faults: ([\d, ]+)\.\n(?:Lines are refused with ([\d, ]+)\.\n)?{last}", helps.get(command.upper(), ""), re.M)
+        count.check(said is not None, f"{path}: the help of {command} does not end with its faults")
+        if said:
+            lines = sorted(refused, key=int) if command == "frames" else []
+            count.check(said.group(1).split(", ") == numbers, f"{path}: {command} has the faults {said.group(1)}, and {where} has {numbers}")
+            count.check((said.group(2) or "").split(", ") == (lines or [""]), f"{path}: {command} has the refusals {said.group(2)}, and {where} has {lines}")
+    count.check(set(helps) == {name.upper() for name in documented}, f"{path}: the commands of {where} are others")
+    count.compared()
+    rows = tomllib.loads(read("docs/errors.toml"))["row"]
+    marked = {row["variant"] for row in rows if row.get("line")}
+    named = {CODE.findall(cells[1])[0] for _, cells in rows_of(where, "R", count)}
+    count.same(where, named, marked, "docs/errors.toml (`line`)")
+
+
 def code(text):
     """The three characters of a code that is spelled by their numbers."""
     return "".join(chr(int(number)) for number in re.findall(r"\d+", text))
@@ -318,6 +343,7 @@ def main():
     count = Count()
     check_numbers(count)
     check_names(count)
+    check_help(count)
     check_codes(count)
     check_calls(count)
     check_limits(count)

@@ -165,14 +165,14 @@ done
 for words in --help -h help 'frames --help' 'frames -h' 'help frames'; do
     # shellcheck disable=SC2086
     run $words </dev/null
-    for part in 'Usage: ilpstream ' 'standard input until its end' docs/ERRORS.md './ilpstream frames < examples/frames.txt'; do
+    for part in 'Usage: ilpstream ' 'standard input until its end' 'ilpstream explain ' './ilpstream frames < examples/frames.txt'; do
         has "$words" "$out" "$part"
     done
     same "$words" $'\n0' "$err"$'\n'"$status"
 done
 run --help </dev/null
 for part in 'Usage: ilpstream [COMMAND]' 'Without a command it runs `frames`' '  0  the command did its work' \
-    '  1  a line was refused' '  2  the arguments ask for no command' frames local send receive connector ledger; do
+    '  1  a line was refused' '  2  the arguments ask for no command' frames local send receive connector ledger explain; do
     has 'help' "$out" "$part"
 done
 
@@ -195,6 +195,67 @@ names connector '--listen <HOST:PORT>' '--own <ADDRESS>' '--requests <N>' '--wor
     '--ledger <FILE>' \
     '[NAME=TEXT]'
 names ledger 'Usage: ilpstream ledger <FILE> [settle <NAME> <AMOUNT>]' '<FILE>' AMOUNT
+names explain 'Usage: ilpstream explain <N>' 'Number of a fault or a refusal, 0 to 255'
+
+# The help of each command ends with its faults. tests/documents.py compares all with docs/ERRORS.md.
+ends() {
+    run "$1" --help </dev/null
+    same "the end of the help of $1" "$2"$'\n`ilpstream explain N` says what each number means.' "$(tail -n "${3:-2}" "$room/out")"
+}
+ends frames $'Faults: 90, 91, 93, 99.\nLines are refused with 20, 21, 22, 23, 24, 40, 41, 42, 63, 95.' 3
+ends local 'Faults: 58, 84, 90, 91, 93, 97, 98, 99.'
+ends send 'Faults: 54, 58, 59, 69, 86, 89, 90, 91, 93, 94, 98, 99.'
+ends receive 'Faults: 54, 80, 86, 88, 91, 92, 93, 98, 99.'
+ends connector 'Faults: 35, 80, 90, 91, 93, 96, 98, 99, 110, 111, 112, 113, 114, 115, 117, 119, 120, 122, 123.'
+ends ledger 'Faults: 91, 93, 98, 99, 110, 111, 112, 113, 114, 115, 116, 117, 119, 120, 121.'
+ends explain 'Faults: 91, 93, 98, 99.'
+
+# What a number means: one error, two, one of the library alone, one of a line, and none.
+explains() {
+    run explain "$1" </dev/null
+    same "explain $1" "$2"$'\n--\n\n--\n0' "$(told)"
+}
+explains 97 '97  st_local LocalFault::Events, in local
+    In `local`: 1,000,000 events were not enough.
+    What to do: Use fewer hops, or lose fewer Prepares.'
+explains 084 '84  st_local LocalFault::TooLong, in local
+    In `local`: the input has more than 1,048,576 bytes.
+    What to do: Give it less.
+Numbers of the library:
+84  st_http HttpError::TooLong
+    The body of a response has more than 65,535 bytes.
+    What to do: The neighbour sends more than an ILP packet.'
+explains 60 'Numbers of the library:
+60  st_receiver Reason::Repeated
+    A Prepare with this sequence was fulfilled before.
+    What to do: Nothing: the sender sends its contents again under another sequence where it needs
+    to.'
+explains 95 '95  st_commands LineError::NotHex, in a line of frames
+    In `frames`: a character is not a hexadecimal digit, or the number of digits is odd.
+    What to do: Remove byte order marks, `0x`, spaces and tabs.'
+# (a fault of each command, by its first line)
+while read -r number row; do
+    run explain "$number" </dev/null
+    has "explain $number" $'\n'"$out" $'\n'"$number  $row"$'\n'
+    has "explain $number" "$out" 'What to do: '
+    same "explain $number" $'\n0' "$err"$'\n'"$status"
+done <<'ROWS'
+90 st_commands Fault::Input, in frames, connector
+58 st_local LocalFault::Failed, in local
+58 st_transfer TransferError::Failed, in send
+88 st_transfer TransferError::Silent, in receive
+96 st_program RunError::BadTable, in connector
+116 st_books BooksError::NoAccount, in ledger
+91 st_commands Fault::Output, in frames, send, receive, connector, ledger, explain
+ROWS
+for number in 0 6 100 255; do
+    run explain "$number" </dev/null
+    same "explain $number" $'\n--\nerror: no fault and no refusal has this number\n--\n2' "$(told)"
+done
+"$program" explain 58 2>"$room/err" >/dev/full
+same 'a full output for explain' $'1\nfault 91' "$?"$'\n'"$(cat "$room/err")"
+"$program" explain 100 2>/dev/full >"$room/out"
+same 'a full output for a number that is none' $'2\n' "$?"$'\n'"$(cat "$room/out")"
 
 for words in fames 'frames frames' '--frames' send; do
     # shellcheck disable=SC2086
@@ -299,6 +360,7 @@ settle alice 9223372036854775808
 settle alice -9223372036854775808
 settle alice --help
 ROWS
+words=(explain +58) && bad_option
 words=(ledger "$room/books" settle '' 5) && bad_option
 words=(ledger "$room/books" settle alice '') && bad_option
 same 'no books were made' '' "$(find "$room" -name 'books*')"
@@ -404,6 +466,12 @@ ledger books settle
 ledger books settle alice
 ledger books settle alice 5 6
 ledger books -5
+explain
+explain 256
+explain -1
+explain 5.8
+explain fault
+explain 58 59
 ROWS
 
 # A table is read before anything is listened to: the fault 96 tells a bad one, and 80 that a good one has no listener.

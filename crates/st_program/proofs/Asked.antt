@@ -33,6 +33,7 @@ by_command (Some (name, rows)) (request.Send s) frames asks = absurd (unlike (co
 by_command (Some (name, rows)) (request.Receive s) frames asks = absurd (unlike (codes "frames") (codes "receive") refl (sym frames ∙ asks.0))
 by_command (Some (name, rows)) (request.Connector s) frames asks = absurd (unlike (codes "frames") (codes "connector") refl (sym frames ∙ asks.0))
 by_command (Some (name, rows)) (request.Ledger s) frames asks = absurd (unlike (codes "frames") (codes "ledger") refl (sym frames ∙ asks.0))
+by_command (Some (name, rows)) (request.Explain n) frames asks = absurd (unlike (codes "frames") (codes "explain") refl (sym frames ∙ asks.0))
 
 -- words that ask for `frames` ask for nothing else
 pub frames_alone : (words : List Text) (q : Request) → AsksFrames words → AsksFor words q → q ≡ request.Frames
@@ -84,3 +85,4 @@ asked_lawful (Some (name, rows)) (request.Send s) asks = sender _ s asks.1
 asked_lawful (Some (name, rows)) (request.Receive s) asks = receiver _ s asks.1
 asked_lawful (Some (name, rows)) (request.Connector s) asks = tt
 asked_lawful (Some (name, rows)) (request.Ledger s) asks = tt
+asked_lawful (Some (name, rows)) (request.Explain n) asks = tt

@@ -15,6 +15,7 @@ use Rattle.st_program.specs.declared.error.RunError.TheVariants as run
 use Rattle.st_program.specs.Errors.{number}
 use Rattle.st_program.specs.Table.{EndsBy}
 use Rattle.st_program.specs.Ledger.{EndsLedger}
+use Rattle.st_program.specs.Explain.{Explains}
 use Rattle.st_program.specs.Words.{MayRefuse, MayShow}
 
 -- no memory for the words: nothing was written but the fault
@@ -54,6 +55,7 @@ Does (request.Connector x) remaining contents said ended r s w v e f status =
     (v ≡ w) × ((end : Result (Unit {0}) RunError) × (EndsBy x.own.now x.ledger (remaining (device_of r)) (tally_of r) (tally_of s) end ⊎ ((end ≡ Err run.BadOption) × (s ≡ r))) × TellsEnd end said e f status)
 Does (request.Ledger x) remaining contents said ended r s w v e f status =
     (s ≡ r) × ((end : Result (Unit {0}) RunError) × EndsLedger contents x.payment w v end × TellsEnd end said e f status)
+Does (request.Explain n) remaining contents said ended r s w v e f status = (s ≡ r) × Explains n contents said ended w v e f status
 
 -- an option's text was told to be bad, or there was no memory for the words; nothing else was done
 abbrev pub TellsBadOption : {R W E : Type 0} → R → R → W → W → (E → Option (List ℕ)) → Counting E → Counting E → ℕ → Type 0

@@ -8,5 +8,6 @@ pub mod Table
 pub mod Restored
 pub mod Totals
 pub mod Ledger
+pub mod Explain
 pub mod Endings
 pub mod Process

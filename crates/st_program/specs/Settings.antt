@@ -35,3 +35,4 @@ IsLawful (request.Send s) = IsSender s
 IsLawful (request.Receive s) = IsReceiver s
 IsLawful (request.Connector s) = ⊤
 IsLawful (request.Ledger s) = ⊤
+IsLawful (request.Explain n) = ⊤

@@ -5,6 +5,10 @@ use Rattle.std.specs.Prelude.{ℕ, List, codes}
 abbrev pub waits_text : List ℕ
 waits_text = codes "ilpstream: reads packets from the terminal, one a line in hexadecimal; Ctrl-D on a new line ends them\n"
 
+-- what is told of a number that `explain` does not know
+abbrev pub no_fault_text : List ℕ
+no_fault_text = codes "error: no fault and no refusal has this number\n"
+
 -- what is told of words that are no text
 abbrev pub not_utf8_text : List ℕ
 not_utf8_text = codes "error: invalid UTF-8 was detected in one or more arguments\n"

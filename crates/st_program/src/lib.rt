@@ -10,6 +10,7 @@ mod connector;
 mod counts;
 mod credentials;
 mod error;
+mod explain;
 mod hop;
 mod input;
 mod laws;

@@ -9,6 +9,7 @@ ghost use Rattle.st_program.specs.Endings.{Does, LacksMemory, TellsAnswer};
 ghost use Rattle.st_program.specs.Process.{Obeys};
 
 use crate::connector::connector;
+use crate::explain::explain;
 use crate::ledger::ledger;
 use crate::receive::receive;
 use crate::send::send;
@@ -79,7 +80,8 @@ fn tell<W: Write, E: Write>(
     }
 }
 
-/// Does what was asked for. The status: 0 is done, 1 a run that refused a line or met a fault.
+/// Does what was asked for. The status: 0 is done, 1 a run that refused a line or met a fault, 2 a number that `explain`
+/// does not know.
 fn obey<
     R: Read,
     W: Write,
@@ -104,7 +106,7 @@ fn obey<
     ensures does { Does request.now R.remaining W.contents E.contents
         (HasEnded (tally_of reader.old) (tally_of reader.new) (tally_of writer.old) (tally_of writer.new))
         reader.old reader.new writer.old writer.new errors.old errors.new result }
-    ensures status { result ≤ 1 }
+    ensures status { result ≤ 2 }
 {
     match request {
         Request::Frames => run_frames(alloc, reader, writer, errors),
@@ -123,12 +125,13 @@ fn obey<
         Request::Ledger(settings) => {
             tell_end(alloc, errors, ledger(rt, opener, alloc, settings, writer))
         }
+        Request::Explain(number) => explain(*number, writer, errors),
     }
 }
 
 /// Runs the command that the arguments name and returns the exit status: 0 where it did its work, or printed help or
-/// the version; 1 where a line was refused or a fault ended the run; 2 where the arguments are refused. The first
-/// argument is the program's name. With no further argument it runs `frames`. `opener` opens the books of `connector` and
+/// the version; 1 where a line was refused or a fault ended the run; 2 where the arguments are refused, or `explain` is given
+/// a number that it does not know. The first argument is the program's name. With no further argument it runs `frames`. `opener` opens the books of `connector` and
 /// `ledger`.
 ///
 /// Help and the version are written to `writer`, a mistake in the arguments to `errors`. Fault 98 reports an option

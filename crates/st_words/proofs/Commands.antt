@@ -1,11 +1,12 @@
 -- What clap's getters give, and which command a name is.
-use Rattle.std.proofs.Common.{◌≡◌, ◌≢◌, true, false, Option, Some, None, List, [], Bor, codes, refl, sym, ap, ◌∙◌}
+use Rattle.std.proofs.Common.{◌≡◌, ◌≢◌, ℕ, true, false, Option, Some, None, List, [], Bor, codes, refl, sym, ap, ◌∙◌}
 use Rattle.std.specs.Prelude.{bytes_eq, option_map, unwrap_or}
 use Rattle.std.proofs.lemmas.Slice.Eq.{bytes_eq-Decides}
 use Rattle.clap.specs.Words.{Row, Text, first_of}
 use Rattle.clap.specs.Faults.{is_simple_and_free}
 use Rattle.clap.specs.Simple.{is_simple}
 use Rattle.st_settings.specs.Ledger as ledger
+use Rattle.st_settings.specs.Numbers.{IsNumber}
 use Rattle.st_settings.specs.Settings as settings
 use Rattle.st_settings.specs.declared.settings.LocalSettings.{LocalSettings}
 use Rattle.st_settings.specs.declared.settings.SendSettings.{SendSettings}
@@ -45,6 +46,7 @@ module _ (name : Text) (rows : List Row) where
   bad_local is none (request.Receive s) asks = unlike (codes "local") (codes "receive") refl (sym is ∙ asks.0)
   bad_local is none (request.Connector s) asks = unlike (codes "local") (codes "connector") refl (sym is ∙ asks.0)
   bad_local is none (request.Ledger s) asks = unlike (codes "local") (codes "ledger") refl (sym is ∙ asks.0)
+  bad_local is none (request.Explain n) asks = unlike (codes "local") (codes "explain") refl (sym is ∙ asks.0)
 
   pub bad_send : name ≡ codes "send" → ((s : SendSettings) → ¬ (settings.IsSend (send_texts rows) s)) → IsBad name rows
   bad_send is none request.Frames asks = unlike (codes "send") (codes "frames") refl (sym is ∙ asks)
@@ -53,6 +55,7 @@ module _ (name : Text) (rows : List Row) where
   bad_send is none (request.Receive s) asks = unlike (codes "send") (codes "receive") refl (sym is ∙ asks.0)
   bad_send is none (request.Connector s) asks = unlike (codes "send") (codes "connector") refl (sym is ∙ asks.0)
   bad_send is none (request.Ledger s) asks = unlike (codes "send") (codes "ledger") refl (sym is ∙ asks.0)
+  bad_send is none (request.Explain n) asks = unlike (codes "send") (codes "explain") refl (sym is ∙ asks.0)
 
   pub bad_receive : name ≡ codes "receive" → ((s : ReceiveSettings) → ¬ (settings.IsReceive (receive_texts rows) s)) → IsBad name rows
   bad_receive is none request.Frames asks = unlike (codes "receive") (codes "frames") refl (sym is ∙ asks)
@@ -61,6 +64,7 @@ module _ (name : Text) (rows : List Row) where
   bad_receive is none (request.Receive s) asks = none s asks.1
   bad_receive is none (request.Connector s) asks = unlike (codes "receive") (codes "connector") refl (sym is ∙ asks.0)
   bad_receive is none (request.Ledger s) asks = unlike (codes "receive") (codes "ledger") refl (sym is ∙ asks.0)
+  bad_receive is none (request.Explain n) asks = unlike (codes "receive") (codes "explain") refl (sym is ∙ asks.0)
 
   pub bad_connector : name ≡ codes "connector" → ((s : ConnectorSettings) → ¬ (settings.IsConnector (connector_texts rows) s)) → IsBad name rows
   bad_connector is none request.Frames asks = unlike (codes "connector") (codes "frames") refl (sym is ∙ asks)
@@ -69,6 +73,7 @@ module _ (name : Text) (rows : List Row) where
   bad_connector is none (request.Receive s) asks = unlike (codes "connector") (codes "receive") refl (sym is ∙ asks.0)
   bad_connector is none (request.Connector s) asks = none s asks.1
   bad_connector is none (request.Ledger s) asks = unlike (codes "connector") (codes "ledger") refl (sym is ∙ asks.0)
+  bad_connector is none (request.Explain n) asks = unlike (codes "connector") (codes "explain") refl (sym is ∙ asks.0)
 
   pub bad_ledger : name ≡ codes "ledger" → ((s : LedgerSettings) → ¬ (ledger.IsLedger (ledger_texts rows) s)) → IsBad name rows
   bad_ledger is none request.Frames asks = unlike (codes "ledger") (codes "frames") refl (sym is ∙ asks)
@@ -77,3 +82,13 @@ module _ (name : Text) (rows : List Row) where
   bad_ledger is none (request.Receive s) asks = unlike (codes "ledger") (codes "receive") refl (sym is ∙ asks.0)
   bad_ledger is none (request.Connector s) asks = unlike (codes "ledger") (codes "connector") refl (sym is ∙ asks.0)
   bad_ledger is none (request.Ledger s) asks = none s asks.1
+  bad_ledger is none (request.Explain n) asks = unlike (codes "ledger") (codes "explain") refl (sym is ∙ asks.0)
+
+  pub bad_explain : name ≡ codes "explain" → ((n : ℕ) → ¬ (IsNumber 255 (value_of (codes "number") rows) n)) → IsBad name rows
+  bad_explain is none request.Frames asks = unlike (codes "explain") (codes "frames") refl (sym is ∙ asks)
+  bad_explain is none (request.Local s) asks = unlike (codes "explain") (codes "local") refl (sym is ∙ asks.0)
+  bad_explain is none (request.Send s) asks = unlike (codes "explain") (codes "send") refl (sym is ∙ asks.0)
+  bad_explain is none (request.Receive s) asks = unlike (codes "explain") (codes "receive") refl (sym is ∙ asks.0)
+  bad_explain is none (request.Connector s) asks = unlike (codes "explain") (codes "connector") refl (sym is ∙ asks.0)
+  bad_explain is none (request.Ledger s) asks = unlike (codes "explain") (codes "ledger") refl (sym is ∙ asks.0)
+  bad_explain is none (request.Explain n) asks = none n asks.1

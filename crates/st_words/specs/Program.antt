@@ -61,6 +61,10 @@ ledger_rule = option_rule (codes "ledger")
 abbrev pub place_rule : Text → Rule
 place_rule name = record (new_rule name) { value_names = 1; action = Some Set }
 
+-- a number from `least` to `most` that is known by its place
+abbrev pub number_place_rule : Text → ℕ → ℕ → Rule
+number_place_rule name least most = record (place_rule name) { parser = Some (Unsigned least most) }
+
 -- n values at the end: behind the first of them each word is one, also with a hyphen in front
 abbrev pub last_rule : Text → (n : ℕ) → Rule
 last_rule name n = record (new_rule name) { value_names = n; trailing_var_arg = true; action = Some Set }
@@ -152,6 +156,12 @@ ledger = record (new_shape (codes "ledger")) {
       ∷ last_rule (codes "payment") 3 ∷ [];
 }
 
+-- the number of a fault, which is a byte
+abbrev pub explain : Shape
+explain = record (new_shape (codes "explain")) {
+  rules = with_required (number_place_rule (codes "number") 0 255) ∷ [];
+}
+
 -- the program without a command: it has a version
 abbrev pub alone : App
 alone = record { top = record (new_shape (codes "ilpstream")) { has_version = true }; subs = [] }
@@ -164,5 +174,5 @@ with_transfers a = with_subcommand (with_subcommand (with_subcommand a send) rec
 abbrev pub program : App
 program = record {
   top = record alone.top { is_leaf = false };
-  subs = frames ∷ local ∷ send ∷ receive ∷ connector ∷ ledger ∷ [];
+  subs = frames ∷ local ∷ send ∷ receive ∷ connector ∷ ledger ∷ explain ∷ [];
 }

@@ -3,6 +3,7 @@ use Rattle.std.specs.Prelude.{◌≡◌, List, [], codes, Option, Some, None, Re
 use Rattle.clap.specs.Kinds.{or_else}
 use Rattle.clap.specs.Words.{HasKind, Kinds, Row, Text, all_of, fault_of, first_of, subcommand_of}
 use Rattle.st_settings.specs.Ledger as ledger
+use Rattle.st_settings.specs.Numbers.{IsNumber}
 use Rattle.st_settings.specs.Settings as settings
 use Rattle.st_words.specs.declared.error.WordsError.{WordsError}
 use Rattle.st_words.specs.declared.error.WordsError.TheVariants.{Refused, BadOption}
@@ -79,6 +80,7 @@ Asks name rows (request.Send s) = (name ≡ codes "send") × settings.IsSend (se
 Asks name rows (request.Receive s) = (name ≡ codes "receive") × settings.IsReceive (receive_texts rows) s
 Asks name rows (request.Connector s) = (name ≡ codes "connector") × settings.IsConnector (connector_texts rows) s
 Asks name rows (request.Ledger s) = (name ≡ codes "ledger") × ledger.IsLedger (ledger_texts rows) s
+Asks name rows (request.Explain n) = (name ≡ codes "explain") × IsNumber 255 (value_of (codes "number") rows) n
 
 -- it asks for nothing
 abbrev pub IsBad : Text → List Row → Type 0

@@ -3,7 +3,7 @@
 ghost use Rattle.std.specs.Prelude.{◌≡◌, ◌≤◌, ◌<◌, ◌^◌, ℕ, List, [], ◌∷◌, false, length, IfOk};
 ghost use Rattle.clap.specs.Words.{app_of, rule_of, shape_of, with_subcommand};
 ghost use Rattle.st_words.specs.Program as spec;
-ghost use Rattle.st_words.specs.Program.{HasShape, has_globals, last_rule, number_rule, option_rule, place_rule, required_rule, with_rule};
+ghost use Rattle.st_words.specs.Program.{HasShape, has_globals, last_rule, number_place_rule, number_rule, option_rule, place_rule, required_rule, with_rule};
 
 use clap::{Arg, ArgAction, Command, value_parser};
 use std::alloc::{AllocError, Global};
@@ -29,6 +29,15 @@ pub(crate) fn placed<'a>(alloc: Global, name: &'a str, value: &'a str, help: &'a
         .value_name(value)
         .help(help)
         .action(ArgAction::Set)
+}
+
+/// A whole number from 0 to `most` that is known by its place, which help shows as `N`.
+pub(crate) fn placed_number<'a>(alloc: Global, name: &'a str, help: &'a str, most: u64) -> Arg<'a>
+    requires { most < 2 ^ 63 }
+    ensures rule { rule_of result ≡ number_place_rule name.now 0 most }
+    ensures own { result.global ≡ false }
+{
+    placed(alloc, name, "N", help).value_parser(value_parser!(u64).range(0..=most as i64))
 }
 
 /// As many words at the end as there are `values`, as which help shows them; or none. Behind the first of them each word

@@ -7,13 +7,15 @@ ghost use Rattle.st_words.specs.Program as spec;
 ghost use Rattle.st_words.specs.Program.{HasShape, has_globals, ledger_rule, log_rule, patience_rule, totals_rule, with_rule};
 
 use crate::options::{
-    last, number, option, placed, ranged, required, with, with_command, with_default, with_required,
+    last, number, option, placed, placed_number, ranged, required, with, with_command,
+    with_default, with_required,
 };
 use crate::texts::{
-    ACCOUNTS_HELP, AFTER_CONNECTOR_HELP, AFTER_FRAMES_HELP, AFTER_HELP, AFTER_LEDGER_HELP,
-    AFTER_LOCAL_HELP, AFTER_RECEIVE_HELP, AFTER_SEND_HELP, BOOKS_HELP, LEAST_HELP, LEDGER_HELP,
-    LEDGER_USAGE, LOG_HELP, PATIENCE_HELP, PAYMENT_HELP, RECEIVE_USAGE, SECRET_FILE_HELP,
-    SECRET_HELP, SEND_USAGE, TOKEN_FILE_HELP, TOKEN_HELP, TOTALS_HELP,
+    ACCOUNTS_HELP, AFTER_CONNECTOR_HELP, AFTER_EXPLAIN_HELP, AFTER_FRAMES_HELP, AFTER_HELP,
+    AFTER_LEDGER_HELP, AFTER_LOCAL_HELP, AFTER_RECEIVE_HELP, AFTER_SEND_HELP, BOOKS_HELP,
+    LEAST_HELP, LEDGER_HELP, LEDGER_USAGE, LOG_HELP, NUMBER_HELP, PATIENCE_HELP, PAYMENT_HELP,
+    RECEIVE_USAGE, SECRET_FILE_HELP, SECRET_HELP, SEND_USAGE, TOKEN_FILE_HELP, TOKEN_HELP,
+    TOTALS_HELP,
 };
 use clap::Command;
 use st_settings::{
@@ -263,6 +265,16 @@ fn ledger<'a>(alloc: Global) -> Result<Command<'a>, AllocError>
     with(command, payment)
 }
 
+fn explain<'a>(alloc: Global) -> Result<Command<'a>, AllocError>
+    ensures { IfOk result (HasShape spec.explain) }
+{
+    let about = "Prints what the number of a fault or a refusal means, and what to do";
+    let command = named(alloc, "explain", about, AFTER_EXPLAIN_HELP);
+    let most = u64::from(u8::MAX);
+    let number = required(placed_number(alloc, "number", NUMBER_HELP, most));
+    with(command, number)
+}
+
 /// The program with the commands that work between machines.
 fn with_transfers<'a>(alloc: Global, program: Command<'a>) -> Result<Command<'a>, AllocError>
     ensures { IfOk result (λ c. app_of c ≡ spec.with_transfers (app_of program.entry)) }
@@ -283,5 +295,6 @@ pub(crate) fn program<'a>(alloc: Global) -> Result<Command<'a>, AllocError>
     let program = with_command(program, frames(alloc))?;
     let program = with_command(program, local(alloc)?)?;
     let program = with_transfers(alloc, program)?;
-    with_command(program, ledger(alloc)?)
+    let program = with_command(program, ledger(alloc)?)?;
+    with_command(program, explain(alloc)?)
 }

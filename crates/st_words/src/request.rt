@@ -1,8 +1,9 @@
 //! What the arguments of the command line ask for.
 
-ghost use Rattle.std.specs.Prelude.{◌≡◌, IfOk, MatchOption, map};
+ghost use Rattle.std.specs.Prelude.{◌≡◌, ℕ, IfOk, MatchOption, map};
 ghost use Rattle.clap.specs.Words.{FailsBy, fault_of, first_of, found_of, rows_of, subcommand_rows_of};
 ghost use Rattle.st_settings.specs.Ledger as ledger;
+ghost use Rattle.st_settings.specs.Numbers.{IsNumber};
 ghost use Rattle.st_settings.specs.Settings as settings;
 ghost use Rattle.st_words.specs.Program as grammar;
 ghost use Rattle.st_words.specs.Words as spec;
@@ -15,7 +16,7 @@ use crate::program::program;
 use clap::{ArgMatches, Error};
 use st_settings::{
     ConnectorOptions, ConnectorSettings, LedgerOptions, LedgerSettings, LocalOptions,
-    LocalSettings, ReceiveOptions, ReceiveSettings, SendOptions, SendSettings,
+    LocalSettings, ReceiveOptions, ReceiveSettings, SendOptions, SendSettings, read_number,
 };
 use std::alloc::Global;
 use std::convert::AsStr;
@@ -35,6 +36,8 @@ pub enum Request<'a> {
     Connector(ConnectorSettings<'a>),
     /// `ledger`, with its settings.
     Ledger(LedgerSettings<'a>),
+    /// `explain`, with the number of a fault.
+    Explain(u8),
 }
 
 /// The value of an option, where it has one.
@@ -122,6 +125,13 @@ fn ledger<'w, 'a>(matches: &'w ArgMatches<'a>) -> LedgerOptions<'w, 'a>
     }
 }
 
+/// The byte that a text writes in decimal digits.
+fn byte_of(text: &str) -> Option<u8>
+    ensures { MatchOption result ((n : ℕ) → ¬ (IsNumber 255 text.now n)) (IsNumber 255 text.now) }
+{
+    Some(read_number(text.as_bytes(), u64::from(u8::MAX))? as u8)
+}
+
 /// The command of this name with the settings that its options say. `None` where an option is bad, or there is no such
 /// command.
 fn request_of<'a>(name: &str, matches: &ArgMatches<'a>) -> Option<Request<'a>>
@@ -139,6 +149,7 @@ fn request_of<'a>(name: &str, matches: &ArgMatches<'a>) -> Option<Request<'a>>
         "receive" => Some(Request::Receive(ReceiveSettings::read(&receive(matches))?)),
         "connector" => Some(Request::Connector(ConnectorSettings::read(&connector(matches))?)),
         "ledger" => Some(Request::Ledger(LedgerSettings::read(&ledger(matches))?)),
+        "explain" => Some(Request::Explain(byte_of(value(matches, "number"))?)),
         _ => None,
     }
 }

@@ -10,7 +10,7 @@ Exit status:
   2  the arguments ask for no command
 
 A fault prints `fault R` to standard error. `frames` prints `line N refused R` where line N is
-refused. docs/ERRORS.md says what each number R means.
+refused. `ilpstream explain R` says what each number R means, and so does docs/ERRORS.md.
 
 Example:
   ./ilpstream frames < examples/frames.txt";
@@ -19,12 +19,15 @@ Example:
 pub const AFTER_FRAMES_HELP: &str =
     "It reads standard input until its end. Each line is one plain STREAM packet of an ILP Prepare; an
 empty line is skipped. Where line N is refused, it prints `line N refused R` at once, and the exit
-status is 1. docs/ERRORS.md says what each number R means. At the end it prints each stream that a
-StreamData frame of an accepted packet names: its number, the length of its longest run in bytes,
-and the run in hexadecimal.
+status is 1. At the end it prints each stream that a StreamData frame of an accepted packet names:
+its number, the length of its longest run in bytes, and the run in hexadecimal.
 
 Example:
-  ./ilpstream frames < examples/frames.txt";
+  ./ilpstream frames < examples/frames.txt
+
+Faults: 90, 91, 93, 99.
+Lines are refused with 20, 21, 22, 23, 24, 40, 41, 42, 63, 95.
+`ilpstream explain N` says what each number means.";
 
 /// The end of the help of `local`.
 pub const AFTER_LOCAL_HELP: &str =
@@ -33,7 +36,10 @@ there are streams. Each part is sent on a stream of its own, which is then close
 written to standard output in the order of the streams. No socket is opened.
 
 Example:
-  ./ilpstream local --hops 2 --lose 3 --streams 4 < README.md";
+  ./ilpstream local --hops 2 --lose 3 --streams 4 < README.md
+
+Faults: 58, 84, 90, 91, 93, 97, 98, 99.
+`ilpstream explain N` says what each number means.";
 
 /// The end of the help of `send`.
 pub const AFTER_SEND_HELP: &str =
@@ -43,7 +49,10 @@ The exit status is 0 once the receiver acknowledged the close and all that was s
 
 Example:
   ./ilpstream send --to 127.0.0.1:7770 --token alice --address example.alice --peer example.bob \\
-    --secret 000102030405060708090a0b0c0d0e0f101112131415161718191a1b1c1d1e1f --money 500 < file";
+    --secret 000102030405060708090a0b0c0d0e0f101112131415161718191a1b1c1d1e1f --money 500 < file
+
+Faults: 54, 58, 59, 69, 86, 89, 90, 91, 93, 94, 98, 99.
+`ilpstream explain N` says what each number means.";
 
 /// The end of the help of `receive`.
 pub const AFTER_RECEIVE_HELP: &str =
@@ -54,7 +63,10 @@ the stream, and with fault 88 where no valid request arrived for as long as --pa
 
 Example:
   ./ilpstream receive --listen 127.0.0.1:7771 --token hub --address example.bob --peer example.alice \\
-    --secret 000102030405060708090a0b0c0d0e0f101112131415161718191a1b1c1d1e1f --receive-max 500 > file";
+    --secret 000102030405060708090a0b0c0d0e0f101112131415161718191a1b1c1d1e1f --receive-max 500 > file
+
+Faults: 54, 80, 86, 88, 91, 92, 93, 98, 99.
+`ilpstream explain N` says what each number means.";
 
 /// The end of the help of `connector`.
 pub const AFTER_CONNECTOR_HELP: &str =
@@ -75,7 +87,10 @@ table is an account or a route; its parts are separated by spaces. Empty lines a
       on as NUM units, rounded down; NUM and DEN are each from 1 to 4294967295, by default 1 and 1
 
 Example:
-  ./ilpstream connector --listen 127.0.0.1:7770 --own example.hub --requests 1000 < table";
+  ./ilpstream connector --listen 127.0.0.1:7770 --own example.hub --requests 1000 < table
+
+Faults: 35, 80, 90, 91, 93, 96, 98, 99, 110, 111, 112, 113, 114, 115, 117, 119, 120, 122, 123.
+`ilpstream explain N` says what each number means.";
 
 /// The end of the help of `ledger`.
 pub const AFTER_LEDGER_HELP: &str =
@@ -92,7 +107,22 @@ started with the books. With them it books a payment that was made outside Inter
 Examples:
   ./ilpstream ledger books.db
   ./ilpstream ledger books.db settle alice 500
-  ./ilpstream ledger books.db settle alice -500";
+  ./ilpstream ledger books.db settle alice -500
+
+Faults: 91, 93, 98, 99, 110, 111, 112, 113, 114, 115, 116, 117, 119, 120, 121.
+`ilpstream explain N` says what each number means.";
+
+/// The end of the help of `explain`.
+pub const AFTER_EXPLAIN_HELP: &str =
+    "N is the number of a line `fault N`, of `line L refused N`, or of an error of the library. For each
+error with this number it prints the crate and the name of the error, which commands report it, its
+cause, and what to do. Where no error has the number, the exit status is 2.
+
+Example:
+  ./ilpstream explain 58
+
+Faults: 91, 93, 98, 99.
+`ilpstream explain N` says what each number means.";
 
 /// The usage of `send`.
 pub const SEND_USAGE: &str =
@@ -112,6 +142,9 @@ pub const BOOKS_HELP: &str = "File of the books";
 
 /// The help of the words of a payment.
 pub const PAYMENT_HELP: &str = "Book a payment outside Interledger";
+
+/// The help of N of `explain`.
+pub const NUMBER_HELP: &str = "Number of a fault or a refusal, 0 to 255";
 
 /// The help of `--ledger`.
 pub const LEDGER_HELP: &str =

@@ -1,13 +1,14 @@
-use Rattle.std.proofs.Common.{subst}
+use Rattle.std.proofs.Common.{ℕ, List, subst}
 use Rattle.clap.specs.Words.{found_of, rows_of}
 use Rattle.st_settings.specs.Ledger as ledger
+use Rattle.st_settings.specs.Numbers.{IsNumber}
 use Rattle.st_settings.specs.Settings as settings
 use Rattle.st_settings.specs.declared.settings.LocalSettings.{LocalSettings}
 use Rattle.st_settings.specs.declared.settings.SendSettings.{SendSettings}
 use Rattle.st_settings.specs.declared.settings.ReceiveSettings.{ReceiveSettings}
 use Rattle.st_settings.specs.declared.settings.ConnectorSettings.{ConnectorSettings}
 use Rattle.st_settings.specs.declared.ledger.LedgerSettings.{LedgerSettings}
-use Rattle.st_words.proofs.Commands.{bad_connector, bad_ledger, bad_local, bad_receive, bad_send}
+use Rattle.st_words.proofs.Commands.{bad_connector, bad_explain, bad_ledger, bad_local, bad_receive, bad_send}
 use Rattle.st_words.proofs.request.request_of.Goals as goal
 
 pub returns-in_err-read-in-local : goal.returns-in_err-read-in-local
@@ -38,3 +39,9 @@ returns-in_err-read-in-ledger c =
     rw c.from_residual-in_err-read-in-ledger.ensures
     (bad_ledger c.args.name.now (rows_of (found_of c.args.matches.now)) c.in-ledger.is
     (subst (λ (t : ledger.LedgerTexts). (s : LedgerSettings) → ¬ (ledger.IsLedger t s)) c.ledger.ensures c.in_err-read-in-ledger.ensures))
+
+pub returns-in_err-byte_of-in-explain : goal.returns-in_err-byte_of-in-explain
+returns-in_err-byte_of-in-explain c =
+    rw c.from_residual-in_err-byte_of-in-explain.ensures
+    (bad_explain c.args.name.now (rows_of (found_of c.args.matches.now)) c.in-explain.is
+    (subst (λ (t : List ℕ). (n : ℕ) → ¬ (IsNumber 255 t n)) c.value.ensures c.in_err-byte_of-in-explain.ensures))
