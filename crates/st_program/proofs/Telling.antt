@@ -1,5 +1,5 @@
 -- The lines of accounts, and how a command ends that told its totals.
-use Rattle.std.proofs.Common.{◌≡◌, ◌≢◌, ℕ, suc, ◌+◌, ◌<◌, List, [], ◌∷◌, ◌++◌, length, take, get_or, Option, refl, sym, ap, subst, ◌∙◌, append_assoc, arith, inr}
+use Rattle.std.proofs.Common.{◌≡◌, ◌≢◌, ℕ, suc, ◌+◌, ◌<◌, List, [], ◌∷◌, ◌++◌, length, take, get_or, Option, refl, sym, ap, subst, ◌∙◌, ◌⊎◌, append_assoc, arith, inl, inr}
 use Rattle.std.specs.Prelude.{Result, Ok, Err, Some, None}
 use Rattle.std.specs.Io.KnownBytes.{Appends}
 use Rattle.std.specs.Borrow.{Bor}
@@ -43,6 +43,12 @@ module _ (own : List ℕ) (ledger : Option (Bor (List ℕ))) (input : Option (Li
   pub ends_told : (ended result : Result (Unit {0}) RunError) → EndsBy own ledger input r s ended → (told : Result (Unit {0}) Fault) × (result ≡ ended_with ended told) → EndsBy own ledger input r s result
   ends_told ended result by (told, is) = subst (EndsBy own ledger input r s) (sym is) (ends_with ended told by)
 
+  -- and so one that told its log, also where it did nothing since an option is bad
+  pub ends_logged : (Q : Type 0) (ended result : Result (Unit {0}) RunError) → EndsBy own ledger input r s ended ⊎ ((ended ≡ Err run.BadOption) × Q) → (told : Result (Unit {0}) Fault) × (result ≡ ended_with ended told)
+      → EndsBy own ledger input r s result ⊎ ((result ≡ Err run.BadOption) × Q)
+  ends_logged Q ended result (inl by) told = inl (ends_told ended result by told)
+  ends_logged Q ended result (inr (bad, q)) (told, is) = inr (is ∙ ap (λ (e : Result (Unit {0}) RunError). ended_with e told) bad, q)
+
 not_bad : (ended : Result (Unit {0}) RunError) (told : Result (Unit {0}) Fault) → ended ≢ Err run.BadOption → ended_with ended told ≢ Err run.BadOption
 not_bad (Err e) told none wrong = none wrong
 not_bad (Ok x) (Ok y) none wrong = absurd (cc)
@@ -51,6 +57,12 @@ not_bad (Ok x) (Err fault) none wrong = absurd (cc)
 -- telling totals makes no bad option
 pub never_bad : (ended result : Result (Unit {0}) RunError) → ended ≢ Err run.BadOption → (told : Result (Unit {0}) Fault) × (result ≡ ended_with ended told) → result ≢ Err run.BadOption
 never_bad ended result none (told, is) wrong = not_bad ended told none (sym is ∙ wrong)
+
+-- what holds where an option is bad, holds of a command that told its log
+pub logged : (ended result : Result (Unit {0}) RunError) (P : Type 0) → (ended ≡ Err run.BadOption → P) → (told : Result (Unit {0}) Fault) × (result ≡ ended_with ended told) → result ≡ Err run.BadOption → P
+logged (Err e) result P same (told, is) wrong = same (sym is ∙ wrong)
+logged (Ok x) result P same ((Ok y), is) wrong = absurd (cc)
+logged (Ok x) result P same ((Err fault), is) wrong = absurd (cc)
 
 -- a command that tells nothing ends as it did
 pub untold : (ended : Result (Unit {0}) RunError) → ended ≡ ended_with ended (Ok tt)

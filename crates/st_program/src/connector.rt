@@ -8,7 +8,8 @@ ghost use Rattle.st_program.specs.declared.error.RunError.TheVariants.{BadOption
 use crate::error::RunError;
 use crate::hop::{Going, hop_of, neighbours_of, restored};
 use crate::input::read_whole;
-use crate::log::log_file;
+use crate::log::{Log, journal, tell, tell_run};
+use crate::reports::{EachMinute, Reports};
 use crate::totals::{ConnectorTotals, places, tell_accounts, telling};
 use sqlite_trees::store::Alter;
 use st_booking::Keeper;
@@ -17,6 +18,7 @@ use st_commands::{Fault, TURNS};
 use st_desk::{NoBooks, Till};
 use st_hop::HopState;
 use st_ledger::{LedgerError, OpensBooks, Placed};
+use st_log::{Event, Start};
 use st_oer::{CountRead, utf8};
 use st_settings::{ConnectorSettings, Table, TableError, read_table};
 use st_transfer::{ConnectTerms, ConnectorEnded, Counts, MOST_THREADS, Minutes, connector_on};
@@ -59,8 +61,7 @@ fn serve_by<
     table: &Table<'_, Global>,
     hop: HopState<Global>,
     till: Option<&Till<K, Global>>,
-    totals: &mut ConnectorTotals,
-    minutes: &mut M,
+    reports: &mut Reports<'_, M>,
 ) -> Result<(), RunError>
     requires made { is_hop settings.now.own.now table.now.accounts.items table.now.routes.items ≡ true }
     ensures { Serves settings.now.own.now settings.now.ledger table.now.accounts.items table.now.routes.items result }
@@ -68,8 +69,8 @@ fn serve_by<
     let tokens = table.tokens(alloc)?;
     let neighbours = neighbours_of(alloc, &table.accounts)?;
     if settings.totals.is_some() {
-        totals.accounts = places(alloc, table.accounts.len())?;
-        totals.counts = Counts::new(alloc, table.accounts.len())?;
+        reports.totals.accounts = places(alloc, table.accounts.len())?;
+        reports.totals.counts = Counts::new(alloc, table.accounts.len())?;
     }
     let Ok(listener) = TcpListener::bind(rt, settings.listen) else {
         return Err(RunError::NoListener);
@@ -81,15 +82,23 @@ fn serve_by<
         workers: settings.workers,
         turns: TURNS,
         period: Duration::from_secs(PERIOD_SECONDS),
-        log: None,
+        log: reports.log,
     };
     let ConnectorEnded {
         result,
         accounts,
         counts,
         overloaded,
-    } = connector_on(rt, alloc, listener, hop, terms, till, minutes);
-    *totals = ConnectorTotals {
+    } = connector_on(
+        rt,
+        alloc,
+        listener,
+        hop,
+        terms,
+        till,
+        &mut reports.minutes,
+    );
+    reports.totals = ConnectorTotals {
         accounts,
         counts,
         overloaded,
@@ -111,8 +120,7 @@ fn serve_with<
     settings: &ConnectorSettings<'_>,
     table: &Table<'_, Global>,
     mut books: Books<S>,
-    totals: &mut ConnectorTotals,
-    minutes: &mut M,
+    reports: &mut Reports<'_, M>,
 ) -> Result<(), RunError>
     requires made { is_hop settings.now.own.now table.now.accounts.items table.now.routes.items ≡ true }
     requires asked { IsSome settings.now.ledger }
@@ -123,16 +131,7 @@ fn serve_with<
         Err(error) => return Err(error),
     };
     let till = Till::new(alloc, Placed::new(alloc, books, places), MOST_THREADS)?;
-    serve_by(
-        rt,
-        alloc,
-        settings,
-        table,
-        hop,
-        Some(&till),
-        totals,
-        minutes,
-    )
+    serve_by(rt, alloc, settings, table, hop, Some(&till), reports)
 }
 
 /// Runs a connector by a table, over the books of a file where one is asked for. The books are opened only for a table that
@@ -147,8 +146,7 @@ fn serve<
     alloc: Global,
     settings: &ConnectorSettings<'_>,
     table: &Table<'_, Global>,
-    totals: &mut ConnectorTotals,
-    minutes: &mut M,
+    reports: &mut Reports<'_, M>,
 ) -> Result<(), RunError>
     ensures { Serves settings.now.own.now settings.now.ledger table.now.accounts.items table.now.routes.items result }
 {
@@ -158,10 +156,10 @@ fn serve<
     };
     let Some(file) = settings.ledger else {
         let none = None::<&Till<NoBooks, Global>>;
-        return serve_by(rt, alloc, settings, table, hop, none, totals, minutes);
+        return serve_by(rt, alloc, settings, table, hop, none, reports);
     };
     match opener.open(file) {
-        Ok(books) => serve_with(rt, alloc, settings, table, books, totals, minutes),
+        Ok(books) => serve_with(rt, alloc, settings, table, books, reports),
         Err(error) => Err(RunError::Ledger(LedgerError::Books(error))),
     }
 }
@@ -178,21 +176,61 @@ fn serve_input<
     alloc: Global,
     settings: &ConnectorSettings<'_>,
     reader: &mut CountRead<R>,
-    totals: &mut ConnectorTotals,
-    minutes: &mut M,
+    reports: &mut Reports<'_, M>,
 ) -> Result<(), RunError>
     ensures { EndsBy settings.now.own.now settings.now.ledger (R.remaining (device_of reader.old)) (tally_of reader.old) (tally_of reader.new) result }
 {
     let bytes = read_whole(alloc, reader)?;
     match table_in(alloc, &bytes) {
-        Ok(table) => serve(rt, opener, alloc, settings, &table, totals, minutes),
+        Ok(table) => serve(rt, opener, alloc, settings, &table, reports),
         Err(error) => Err(error),
     }
 }
 
 /// Reads the table, runs a connector by it, over the books of a file where one is asked for, and writes its totals where
-/// they are, each minute and at the end. Where the file for events cannot be opened or none for the totals can be made,
-/// nothing else is done.
+/// they are, each minute and at the end. Where none for the totals can be made, nothing else is done.
+fn serve_reporting<
+    R: Read,
+    N: Net<Listener = TcpListener, Stream = TcpStream>
+        + Files<File = File>
+        + Threads
+        + Wait
+        + std::time::Clock
+        + Sync,
+    O: OpensBooks,
+>(
+    rt: &N,
+    opener: &O,
+    alloc: Global,
+    settings: &ConnectorSettings<'_>,
+    reader: &mut CountRead<R>,
+    log: Log<'_>,
+) -> Result<(), RunError>
+    ensures { EndsBy settings.now.own.now settings.now.ledger (R.remaining (device_of reader.old)) (tally_of reader.old) (tally_of reader.new) result ⊎ ((result ≡ Err BadOption) × (reader.new ≡ reader.old)) }
+{
+    match telling(rt, alloc, settings.totals) {
+        Ok(telling) => {
+            let mut reports = Reports {
+                totals: ConnectorTotals {
+                    accounts: Vec::new(alloc),
+                    counts: Counts::none(alloc),
+                    overloaded: 0,
+                },
+                minutes: EachMinute { rt, telling, log },
+                log,
+            };
+            let ended = serve_input(rt, opener, alloc, settings, reader, &mut reports);
+            let Reports {
+                totals, minutes, ..
+            } = reports;
+            tell_accounts(minutes.telling, &totals, ended)
+        }
+        Err(error) => Err(error),
+    }
+}
+
+/// Reads the table, and runs a connector by it, as the settings say. Where the file for events cannot be opened or none for
+/// the totals can be made, nothing else is done.
 pub(crate) fn connector<
     R: Read,
     N: Net<Listener = TcpListener, Stream = TcpStream>
@@ -211,21 +249,18 @@ pub(crate) fn connector<
 ) -> Result<(), RunError>
     ensures { EndsBy settings.now.own.now settings.now.ledger (R.remaining (device_of reader.old)) (tally_of reader.old) (tally_of reader.new) result ⊎ ((result ≡ Err BadOption) × (reader.new ≡ reader.old)) }
 {
-    let _log = match log_file(rt, settings.log) {
-        Ok(log) => log,
+    let journal = match journal(rt, alloc, settings.log) {
+        Ok(journal) => journal,
         Err(error) => return Err(error),
     };
-    match telling(rt, alloc, settings.totals) {
-        Ok(mut telling) => {
-            let mut totals = ConnectorTotals {
-                accounts: Vec::new(alloc),
-                counts: Counts::none(alloc),
-                overloaded: 0,
-            };
-            let minutes = &mut telling;
-            let ended = serve_input(rt, opener, alloc, settings, reader, &mut totals, minutes);
-            tell_accounts(telling, &totals, ended)
-        }
-        Err(error) => Err(error),
-    }
+    let log = journal.as_ref();
+    let start = Start::Connector {
+        listen: settings.listen,
+        own: settings.own,
+        workers: settings.workers,
+        requests: settings.requests,
+    };
+    tell(rt, log, &Event::Start(start));
+    let ended = serve_reporting(rt, opener, alloc, settings, reader, log);
+    tell_run(rt, alloc, log, ended)
 }

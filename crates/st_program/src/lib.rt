@@ -19,6 +19,7 @@ mod log;
 mod process;
 mod program;
 mod receive;
+mod reports;
 mod send;
 mod stdin;
 mod tell;

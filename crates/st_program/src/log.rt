@@ -1,17 +1,30 @@
-//! The file to which events are appended.
+//! The log of a command.
 
-ghost use Rattle.std.specs.Prelude.{◌≡◌, IfErr, IfOk, IsNone, IsSome};
-ghost use Rattle.st_program.specs.declared.error.RunError.TheVariants.{BadOption};
+ghost use Rattle.std.specs.Prelude.{◌≡◌, ◌⊎◌, IfErr, IfOk, IsNone, IsSome, Result};
+ghost use Rattle.st_commands.specs.declared.error.Fault.{Fault as AnyFault};
+ghost use Rattle.st_commands.specs.declared.error.Fault.TheVariants.{NoMemory};
+ghost use Rattle.st_program.specs.Totals as spec;
+ghost use Rattle.st_program.specs.declared.error.RunError.TheVariants.{BadOption, Fault as IsFault};
 
 use crate::error::RunError;
+use crate::totals::ended_with;
+use st_commands::Fault;
+use st_ilp::Moment;
+use st_log::{AccountCounts, EndCounts, Event, Journal};
+use st_transfer::{AccountTotals, Counts, RuntimeClock};
+use std::alloc::Global;
 use std::fs::{File, Files, OpenOptions};
+use std::time::Clock;
+
+/// The log of a run, where it has one.
+pub(crate) type Log<'a> = Option<&'a Journal<File>>;
+
+/// The greatest number of a neighbour whose lines are counted by themselves.
+const LAST: u32 = 255;
 
 /// Opens the file of this name at its end, where one was asked for, and makes it where there is none. It is never emptied.
 /// Fails with `BadOption` where it cannot be opened.
-pub(crate) fn log_file<N: Files<File = File>>(
-    rt: &N,
-    name: Option<&str>,
-) -> Result<Option<File>, RunError>
+fn log_file<N: Files<File = File>>(rt: &N, name: Option<&str>) -> Result<Option<File>, RunError>
     ensures none { IsNone name.entry → IfOk result (λ file. IsNone file) }
     ensures some { IsSome name.entry → IfOk result (λ file. IsSome file) }
     ensures refused { IfErr result (λ e. e ≡ BadOption) }
@@ -23,4 +36,153 @@ pub(crate) fn log_file<N: Files<File = File>>(
         Ok(file) => Ok(Some(file)),
         Err(_) => Err(RunError::BadOption),
     }
+}
+
+/// The log in the file of this name, behind what stands there, where one was asked for. Fails with `BadOption` where the
+/// file cannot be opened, and else where memory is refused.
+pub(crate) fn journal<N: Files<File = File>>(
+    rt: &N,
+    alloc: Global,
+    name: Option<&str>,
+) -> Result<Option<Journal<File>>, RunError>
+    ensures none { IsNone name.entry → IfOk result (λ log. IsNone log) }
+    ensures some { IsSome name.entry → IfOk result (λ log. IsSome log) }
+    ensures refused { IfErr result (λ e. (e ≡ BadOption) ⊎ (e ≡ IsFault NoMemory)) }
+{
+    match log_file(rt, name) {
+        Ok(None) => Ok(None),
+        Ok(Some(file)) => match Journal::new(alloc, file, LAST) {
+            Ok(journal) => Ok(Some(journal)),
+            Err(_) => Err(RunError::Fault(Fault::NoMemory)),
+        },
+        Err(error) => Err(error),
+    }
+}
+
+/// The moment that it is now.
+fn now(rt: &impl Clock) -> Moment {
+    st_desk::Clock::now(&mut RuntimeClock::new(rt))
+}
+
+/// Writes the line of an event of the command itself that happens now, where there is a log.
+pub(crate) fn tell<N: Clock>(rt: &N, log: Log<'_>, event: &Event<'_>) {
+    if let Some(journal) = log {
+        journal.note(rt, now(rt), 0, event);
+    }
+}
+
+/// Writes the totals of an end, where there is a log.
+pub(crate) fn tell_end<N: Clock>(rt: &N, log: Log<'_>, totals: &st_end::Totals) {
+    let counts = EndCounts {
+        accepted: totals.accepted,
+        delivered: totals.delivered,
+        credited: totals.credited,
+        paid: totals.paid,
+    };
+    tell(rt, log, &Event::End(counts));
+}
+
+/// What the log has of an account whose totals and whose Prepares' ends are these.
+fn account_counts(totals: AccountTotals, counts: st_transfer::AccountCounts) -> AccountCounts
+    ensures owed { (result.claims ≡ totals.claims) × (result.dues ≡ totals.dues) × (result.held ≡ totals.held) }
+    ensures ends { (result.fulfilled ≡ counts.fulfilled) × (result.rejected ≡ counts.rejected) × (result.lost ≡ counts.lost) × (result.refused ≡ counts.refused) }
+{
+    AccountCounts {
+        claims: totals.claims,
+        dues: totals.dues,
+        held: totals.held,
+        fulfilled: counts.fulfilled,
+        rejected: counts.rejected,
+        lost: counts.lost,
+        refused: counts.refused,
+    }
+}
+
+/// Writes the totals of each account of a connector, and its Rejects by their codes.
+fn note_accounts<N: Clock>(
+    rt: &N,
+    journal: &Journal<File>,
+    totals: &[AccountTotals],
+    counts: &Counts,
+) {
+    let now = now(rt);
+    for (number, account) in totals.iter().enumerate() {
+        if let Some(ends) = counts.accounts.get(number) {
+            let event = Event::Account(account_counts(*account, *ends));
+            journal.note(rt, now, number, &event);
+        }
+    }
+    for it in counts.codes.iter() {
+        let event = Event::Rejects {
+            code: it.code,
+            count: it.count,
+        };
+        journal.note(rt, now, it.account, &event);
+    }
+}
+
+/// Writes the totals of a connector's accounts, and what was left out before, where there is a log.
+pub(crate) fn tell_accounts<N: Clock>(
+    rt: &N,
+    log: Log<'_>,
+    totals: &[AccountTotals],
+    counts: &Counts,
+) {
+    if let Some(journal) = log {
+        note_accounts(rt, journal, totals, counts);
+        journal.catch_up(rt, now(rt));
+    }
+}
+
+/// An error in words. Empty where memory is refused.
+fn words_of(alloc: Global, error: RunError) -> String {
+    match format!(in alloc; "{error}") {
+        Ok(words) => words,
+        Err(_) => String::new(alloc),
+    }
+}
+
+/// Writes how a command ended, behind what was left out before.
+fn note_end<N: Clock>(
+    rt: &N,
+    alloc: Global,
+    journal: &Journal<File>,
+    ended: Result<(), RunError>,
+) {
+    let now = now(rt);
+    journal.catch_up(rt, now);
+    match ended {
+        Ok(()) => journal.note(rt, now, 0, &Event::Done),
+        Err(error) => {
+            let words = words_of(alloc, error);
+            let event = Event::Failed {
+                fault: error.number(),
+                words: words.as_str(),
+            };
+            journal.note(rt, now, 0, &event);
+        }
+    }
+}
+
+/// Writes how a command ended, where there is a log. Returns the result of the command: that the log failed is told where
+/// there is no other error.
+pub(crate) fn tell_run<N: Clock>(
+    rt: &N,
+    alloc: Global,
+    log: Log<'_>,
+    ended: Result<(), RunError>,
+) -> Result<(), RunError>
+    ensures none { IsNone log → result ≡ ended }
+    ensures told { (told : Result (Unit {0}) AnyFault) × (result ≡ spec.ended_with ended told) }
+{
+    let Some(journal) = log else {
+        return ended;
+    };
+    note_end(rt, alloc, journal, ended);
+    let told = if journal.has_failed() {
+        Err(Fault::Output)
+    } else {
+        Ok(())
+    };
+    ended_with(ended, told)
 }

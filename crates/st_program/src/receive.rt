@@ -7,11 +7,12 @@ ghost use Rattle.st_program.specs.declared.error.RunError.TheVariants.{BadOption
 
 use crate::credentials::{Credentials, credentials};
 use crate::error::RunError;
-use crate::log::log_file;
+use crate::log::{Log, journal, tell, tell_end, tell_run};
 use crate::send::widest;
 use crate::totals::{nothing_yet, tell_totals, totals_file};
 use st_commands::TURNS;
 use st_end::Totals;
+use st_log::{Event, Start};
 use st_oer::CountWrite;
 use st_settings::ReceiveSettings;
 use st_transfer::{ReceiveTerms, RuntimeClock, TransferError, receive_on, server_end};
@@ -27,6 +28,7 @@ fn transfer<W: Write, N: Net<Listener = TcpListener, Stream = TcpStream> + std::
     settings: &ReceiveSettings<'_>,
     credentials: &Credentials,
     writer: &mut CountWrite<W>,
+    log: Log<'_>,
     totals: &mut Totals,
 ) -> Result<(), RunError>
     requires settings { IsReceiver settings.now }
@@ -49,7 +51,7 @@ fn transfer<W: Write, N: Net<Listener = TcpListener, Stream = TcpStream> + std::
                 receive_max: settings.receive_max,
                 patience: settings.patience,
                 turns: TURNS,
-                log: None,
+                log,
             };
             let clock = RuntimeClock::new(rt);
             let ended = receive_on(rt, alloc, listener, end, writer, clock, terms);
@@ -62,7 +64,35 @@ fn transfer<W: Write, N: Net<Listener = TcpListener, Stream = TcpStream> + std::
 }
 
 /// Receives from one sender, writes the bytes to the output, and writes the totals of its end where they are asked for.
-/// Where a file that has the token or the secret, or one for events or totals, cannot be opened, nothing else is done.
+/// Where the file for the totals cannot be opened, nothing else is done.
+fn receive_reporting<
+    W: Write,
+    N: Net<Listener = TcpListener, Stream = TcpStream> + Files<File = File> + std::time::Clock,
+>(
+    rt: &N,
+    alloc: Global,
+    settings: &ReceiveSettings<'_>,
+    credentials: &Credentials,
+    writer: &mut CountWrite<W>,
+    log: Log<'_>,
+) -> Result<(), RunError>
+    requires settings { IsReceiver settings.now }
+    requires credentials { AreOf settings.now.token settings.now.secret credentials.now }
+    ensures { result ≡ Err BadOption → writer.new ≡ writer.old }
+{
+    match totals_file(rt, settings.totals) {
+        Ok(file) => {
+            let mut totals = nothing_yet();
+            let ended = transfer(rt, alloc, settings, credentials, writer, log, &mut totals);
+            tell_end(rt, log, &totals);
+            tell_totals(alloc, file, &totals, ended)
+        }
+        Err(error) => Err(error),
+    }
+}
+
+/// Receives from one sender and writes the bytes to the output, as the settings say. Where a file that has the token or the
+/// secret, or one for events or totals, cannot be opened, nothing else is done.
 pub(crate) fn receive<
     W: Write,
     N: Net<Listener = TcpListener, Stream = TcpStream> + Files<File = File> + std::time::Clock,
@@ -79,16 +109,18 @@ pub(crate) fn receive<
         Ok(credentials) => credentials,
         Err(error) => return Err(error),
     };
-    let _log = match log_file(rt, settings.log) {
-        Ok(log) => log,
+    let journal = match journal(rt, alloc, settings.log) {
+        Ok(journal) => journal,
         Err(error) => return Err(error),
     };
-    match totals_file(rt, settings.totals) {
-        Ok(file) => {
-            let mut totals = nothing_yet();
-            let ended = transfer(rt, alloc, settings, &credentials, writer, &mut totals);
-            tell_totals(alloc, file, &totals, ended)
-        }
-        Err(error) => Err(error),
-    }
+    let log = journal.as_ref();
+    let start = Start::Receive {
+        listen: settings.listen,
+        address: settings.address,
+        peer: settings.peer,
+        receive_max: settings.receive_max,
+    };
+    tell(rt, log, &Event::Start(start));
+    let ended = receive_reporting(rt, alloc, settings, &credentials, writer, log);
+    tell_run(rt, alloc, log, ended)
 }

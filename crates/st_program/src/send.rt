@@ -7,10 +7,11 @@ ghost use Rattle.st_program.specs.declared.error.RunError.TheVariants.{BadOption
 
 use crate::credentials::{Credentials, credentials};
 use crate::error::RunError;
-use crate::log::log_file;
+use crate::log::{Log, journal, tell, tell_end, tell_run};
 use crate::totals::{nothing_yet, tell_totals, totals_file};
 use st_commands::TURNS;
 use st_end::Totals;
+use st_log::{Event, Start};
 use st_oer::CountRead;
 use st_sender::{EndConfig, MAX_IN_FLIGHT, MAX_PACKET_LIMIT, MAX_PACKETS};
 use st_settings::SendSettings;
@@ -45,6 +46,7 @@ fn transfer<
     settings: &SendSettings<'_>,
     credentials: &Credentials,
     reader: &mut CountRead<R>,
+    log: Log<'_>,
     totals: &mut Totals,
 ) -> Result<(), RunError>
     requires settings { IsSender settings.now }
@@ -71,7 +73,7 @@ fn transfer<
                 money: settings.money,
                 workers: settings.workers,
                 turns: TURNS,
-                log: None,
+                log,
             };
             let Ended {
                 result,
@@ -85,8 +87,41 @@ fn transfer<
     }
 }
 
-/// Sends the input and the money to a receiver, and writes the totals of its end where they are asked for. Where a file
-/// that has the token or the secret, or one for events or totals, cannot be opened, nothing else is done.
+/// Sends the input and the money to a receiver, and writes the totals of its end where they are asked for. Where the file
+/// for the totals cannot be opened, nothing else is done.
+fn send_reporting<
+    R: Read,
+    N: Net<Listener = TcpListener, Stream = TcpStream>
+        + Files<File = File>
+        + Threads
+        + Wait
+        + std::time::Clock
+        + Sync,
+>(
+    rt: &N,
+    alloc: Global,
+    settings: &SendSettings<'_>,
+    credentials: &Credentials,
+    reader: &mut CountRead<R>,
+    log: Log<'_>,
+) -> Result<(), RunError>
+    requires settings { IsSender settings.now }
+    requires credentials { AreOf settings.now.token settings.now.secret credentials.now }
+    ensures { result ≡ Err BadOption → reader.new ≡ reader.old }
+{
+    match totals_file(rt, settings.totals) {
+        Ok(file) => {
+            let mut totals = nothing_yet();
+            let ended = transfer(rt, alloc, settings, credentials, reader, log, &mut totals);
+            tell_end(rt, log, &totals);
+            tell_totals(alloc, file, &totals, ended)
+        }
+        Err(error) => Err(error),
+    }
+}
+
+/// Sends the input and the money to a receiver, as the settings say. Where a file that has the token or the secret, or one
+/// for events or totals, cannot be opened, nothing else is done.
 pub(crate) fn send<
     R: Read,
     N: Net<Listener = TcpListener, Stream = TcpStream>
@@ -108,16 +143,19 @@ pub(crate) fn send<
         Ok(credentials) => credentials,
         Err(error) => return Err(error),
     };
-    let _log = match log_file(rt, settings.log) {
-        Ok(log) => log,
+    let journal = match journal(rt, alloc, settings.log) {
+        Ok(journal) => journal,
         Err(error) => return Err(error),
     };
-    match totals_file(rt, settings.totals) {
-        Ok(file) => {
-            let mut totals = nothing_yet();
-            let ended = transfer(rt, alloc, settings, &credentials, reader, &mut totals);
-            tell_totals(alloc, file, &totals, ended)
-        }
-        Err(error) => Err(error),
-    }
+    let log = journal.as_ref();
+    let start = Start::Send {
+        to: settings.to,
+        address: settings.address,
+        peer: settings.peer,
+        money: settings.money,
+        workers: settings.workers,
+    };
+    tell(rt, log, &Event::Start(start));
+    let ended = send_reporting(rt, alloc, settings, &credentials, reader, log);
+    tell_run(rt, alloc, log, ended)
 }

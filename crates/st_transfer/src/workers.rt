@@ -5,8 +5,8 @@ use crate::delivery::STREAM;
 use crate::ivs::SharedIvs;
 use crate::neighbour::link_to;
 use crate::terms::SendTerms;
-use crate::told_link::ToldLink;
-use st_hub::{Bench, Ivs, Unwatched, WorkEnd, Worker, work};
+use crate::told_link::{ToldFlights, ToldLink};
+use st_hub::{Bench, Ivs, WorkEnd, Worker, work};
 use st_queues::{Gauge, GaugeSeat, HubName};
 use std::alloc::Global;
 use std::net::Net;
@@ -56,7 +56,7 @@ pub(crate) fn work_alone<N: HubName<Global>, I: Ivs, R: Net + Wait + std::time::
                 stream: STREAM,
                 rest: Duration::from_millis(REST),
                 turns: terms.turns,
-                watch: &mut Unwatched,
+                watch: &mut ToldFlights { rt, log: terms.log },
             },
         ),
         Err(_) => WorkEnd::NoMemory,
