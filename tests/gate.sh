@@ -47,6 +47,7 @@ program() {
     if [ -x crates/ilpstream/out/ilpstream ]; then
         step 30 tests/program.sh
         step 15 tests/edges.py
+        step 10 tests/causes.py
         step 10 tests/ledger.py --kills=12
     else
         printf '%s\n' "the program was not built, so it was not run" '0 passed, 1 failed'

@@ -101,10 +101,10 @@ class Play:
         # (while a port is tried, no process begins: it would have that socket until it runs its program)
         with GIVING:
             self.count += 1
-            totals = f"{self.room}/{self.count}.totals"
-            words = [how.pop("program", PROGRAM), command, *words, f"--totals={totals}"]
+            totals, log = f"{self.room}/{self.count}.totals", how.pop("log", f"{self.room}/{self.count}.log")
+            words = [how.pop("program", PROGRAM), command, *words, f"--totals={totals}", f"--log={log}"]
             process = subprocess.Popen(words, stdin=given, stdout=out, stderr=subprocess.PIPE, **how)
-        process.totals = totals
+        process.totals, process.log = totals, log
         self.started.append(process)
         return process
 

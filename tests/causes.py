@@ -1,0 +1,217 @@
+#!/usr/bin/env python3
+"""Whether the logs of `send`, `receive` and `connector` say why: causes.py [PROGRAM [WORD]]. A transfer is made to fail for one
+cause after another, and each is told apart by the sender's log alone. Each event is seen once with its whole line. No secret and no
+token stands in any output, and what a peer sends forges no line. The last line counts the tests."""
+import os, re, sys, time
+
+from peers import HOST, SECRET, answer, ended, free_port, fulfill, message, octets, request, asked
+from play import Wrong, main, some_bytes, table_to, test, want
+
+DATE = r"\d{4}-\d\d-\d\dT\d\d:\d\d:\d\d\.\d{3}Z "
+
+
+def lines(process):
+    """The lines of a process's log without their dates, each of which has one."""
+    with open(process.log, encoding="ascii") as file:
+        text = file.read()
+    want(text.endswith("\n") and "\r" not in text, f"log {text[-80:]!r}")
+    found = text.split("\n")[:-1]
+    for line in found:
+        want(re.match(DATE, line), f"line {line!r}")
+    return [line.partition(" ")[2] for line in found]
+
+
+def kinds(process, *left_out):
+    """Which different lines a log has, but those of these events."""
+    return sorted({it for it in lines(process) if it.split(" ")[0] not in left_out})
+
+
+def causes(process):
+    """Which different lines say why a transfer failed: all but what it began with, what was left out, and its totals."""
+    return kinds(process, "start", "more", "totals")
+
+
+def fails(play, port, fault, words, *wanted, given=some_bytes(10_000), options=(), bound=60, **how):
+    """A sender ends with a fault, and its log has these lines besides its last one."""
+    sender = play.send(port, given, "--workers=2", *options, **how)
+    told = ended(sender, bound)
+    want(told == str(fault), f"send {told}")
+    last = f'end fault={fault} words="{words}"'
+    seen = causes(sender)
+    want(seen == sorted([*wanted, last]), f"log {seen}")
+    return " / ".join(wanted)
+
+
+def reject(code, by, text=b""):
+    """An ILP Reject without data (RFC 0027)."""
+    return b"\x0e" + octets(code + octets(by) + octets(text) + octets(b""))
+
+
+def answering(play, body):
+    """A peer that answers each request with these bytes of an ILP packet."""
+
+    def handle(_, stream):
+        message(stream)
+        stream.sendall(answer(body))
+
+    return play.peer(handle)
+
+
+FAILED = "the connection failed"
+
+
+# Ten causes and more, each of which is told apart by the sender's log.
+
+
+@test(waits=True)
+def nobody_listens(play):
+    return fails(play, free_port(), 58, FAILED, "exchange neighbour=0 cause=unreached")
+
+
+@test(waits=True)
+def another_token(play):
+    hub = play.before(play.receive())
+    return fails(play, hub.port, 58, FAILED, "exchange neighbour=0 cause=link fault=83 status=401", token="x")
+
+
+@test(waits=True)
+def no_route(play):
+    hub = play.before(play.receive())
+    return fails(play, hub.port, 58, FAILED, 'exchange neighbour=0 cause=reject code=F02 triggered_by="test.hub" message=""', peer="test.c")
+
+
+@test(waits=True)
+def a_limit_that_is_used_up(play):
+    hub = play.connector(table_to(play.receive().port).replace("account 1000000000", "account 10", 1))
+    return fails(play, hub.port, 58, FAILED, 'exchange neighbour=0 cause=reject code=T04 triggered_by="test.hub" message=""', options=["--money=500"], given=b"")
+
+
+@test(waits=True)
+def no_way_on(play):
+    hub = play.connector(table_to(free_port()))
+    return fails(play, hub.port, 58, FAILED, 'exchange neighbour=0 cause=reject code=T01 triggered_by="test.hub" message=""')
+
+
+@test(waits=True)
+def another_secret(play):
+    hub = play.before(play.receive(secret="ff" * 32))
+    return fails(play, hub.port, 58, FAILED, 'exchange neighbour=0 cause=reject code=F06 triggered_by="test.b" message=""')
+
+
+@test(waits=True)
+def another_address_of_the_receiver(play):
+    hub = play.before(play.receive(address="test.b.else"))
+    return fails(play, hub.port, 58, FAILED, 'exchange neighbour=0 cause=reject code=F02 triggered_by="test.b.else" message=""')
+
+
+@test(waits=True)
+def too_little_that_arrives(play):
+    hub = play.before(play.receive())
+    wanted = 'exchange neighbour=0 cause=reject code=F99 triggered_by="test.b" message=""'
+    return fails(play, hub.port, 58, FAILED, wanted, options=["--money=500", "--least=2:1"], given=b"")
+
+
+@test(waits=True)
+def answers_that_are_cut(play):
+    peer = play.peer(lambda _, stream: message(stream))
+    return fails(play, peer.port, 58, FAILED, "exchange neighbour=0 cause=link fault=85")
+
+
+@test(waits=True)
+def answers_that_are_no_packet(play):
+    return fails(play, answering(play, b"no packet").port, 58, FAILED, "exchange neighbour=0 cause=answer")
+
+
+@test(waits=True)
+def fulfills_that_do_not_fit(play):
+    return fails(play, answering(play, fulfill()).port, 58, FAILED, "exchange neighbour=0 cause=fulfillment")
+
+
+@test(waits=True)
+def a_server_that_is_out_of_order(play):
+    def handle(_, stream):
+        message(stream)
+        stream.sendall(b"HTTP/1.1 503 Busy\r\nContent-Length: 0\r\n\r\n")
+
+    return fails(play, play.peer(handle).port, 58, FAILED, "exchange neighbour=0 cause=link fault=83 status=503")
+
+
+# What a peer sends is escaped.
+
+
+@test(waits=True)
+def a_message_forges_no_line(play):
+    text = b'no"\\\r\n2026-01-01T00:00:00.000Z end ok\n\xc3\xa9'
+    escaped = r"no\"\\\x0d\x0a2026-01-01T00:00:00.000Z end ok\x0a\xc3\xa9"
+    wanted = f'exchange neighbour=0 cause=reject code=F00 triggered_by="test.x" message="{escaped}"'
+    return fails(play, answering(play, reject(b"F00", b"test.x", text)).port, 58, FAILED, wanted)
+
+
+# The other side's log.
+
+
+@test(waits=True)
+def a_connector_says_what_it_refused_and_what_failed(play):
+    hub = play.connector(table_to(free_port()))
+    ended(play.send(hub.port, some_bytes(1_000), "--workers=1"), 60)
+    asked((HOST, hub.port), request("x", b"\0"), 5)
+    seen = kinds(hub, "start", "more", "totals")
+    want(seen == ["connection status=401", "exchange neighbour=1 cause=unreached"], f"log {seen}")
+    return " / ".join(seen)
+
+
+@test(waits=True)
+def a_receiver_says_what_it_refused(play):
+    receiver = play.receive()
+    ended(play.send(receiver.port, some_bytes(1_000), "--workers=1", secret="ff" * 32), 60)
+    seen = kinds(receiver, "start", "more", "totals")
+    want(seen == ["refused neighbour=0 code=F06 reason=31"], f"log {seen}")
+    return " / ".join(seen)
+
+
+@test(waits=True)
+def a_log_is_appended_to_and_has_no_secret(play):
+    content, secret, token = some_bytes(50_000), "a1" * 32, "token-of-this-run"
+    receiver = play.receive(secret=secret, token=token)
+    hub = play.connector(f"account 1000000000 1000000 {token}-s - -\naccount 0 0 u {HOST}:{receiver.port} {token}\nroute test.b 1\n")
+    sender = play.send(hub.port, content, "--money=500", secret=secret, token=f"{token}-s")
+    want(ended(sender, 30) == "0" and ended(receiver, 30) == "0", "a transfer failed")
+    hub.terminate()
+    hub.wait()
+    for process in sender, receiver, hub:
+        text = open(process.log, "rb").read() + open(process.totals, "rb").read()
+        for hidden in secret, token, bytes.fromhex(secret).decode("latin-1"):
+            want(hidden.encode("latin-1") not in text, f"{hidden!r} stands in the log")
+    want(lines(sender)[-1] == "end ok" and lines(receiver)[-1] == "end ok", "no end")
+    return f"{len(lines(sender))}, {len(lines(receiver))} and {len(lines(hub))} lines"
+
+
+@test(waits=True)
+def at_most_ten_lines_a_second(play):
+    sender = play.send(free_port(), some_bytes(1_000), "--workers=4")
+    ended(sender, 60)
+    with open(sender.log, encoding="ascii") as file:
+        seconds = [line[:19] for line in file if " exchange " in line]
+    most = max(map(seconds.count, set(seconds)))
+    left = sum(int(it.rpartition("=")[2]) for it in lines(sender) if it.startswith("more "))
+    want(most <= 10 and len(seconds) + left >= 200, f"{most} a second, {len(seconds)} lines, {left} left out")
+    return f"{len(seconds)} lines, {left} left out"
+
+
+@test(waits=True)
+def a_log_that_is_full_changes_nothing_but_the_status(play):
+    content = some_bytes(50_000)
+    receiver = play.receive()
+    sender = play.send(receiver.port, content, log="/dev/full")
+    told = ended(sender, 30), ended(receiver, 30)
+    want(told == ("91", "0"), f"send {told[0]}, receive {told[1]}")
+    with open(receiver.path, "rb") as file:
+        want(file.read() == content, "not all came")
+    sender = play.send(free_port(), content, log="/dev/full")
+    told = ended(sender, 60)
+    want(told == "58", f"send {told}")
+    return "91, and 58 where that is the fault"
+
+
+if __name__ == "__main__":
+    sys.exit(main())
