@@ -3,3 +3,5 @@ pub mod Colons
 pub mod Lines
 pub mod Tables
 pub mod AccountNames
+pub mod LineFaults
+pub mod FirstFaults

@@ -2,4 +2,5 @@ pub mod Numbers
 pub mod Settings
 pub mod Ledger
 pub mod Table
+pub mod Faults
 pub mod Errors

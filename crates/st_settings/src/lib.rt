@@ -7,6 +7,7 @@
 #![tactic(auto)]
 
 mod error;
+mod fault;
 mod ledger;
 mod line;
 mod names;
@@ -17,6 +18,7 @@ mod table;
 mod text;
 
 pub use error::TableError;
+pub use fault::{LineFault, TableFault, table_fault};
 pub use ledger::{LedgerSettings, Payment, Side};
 pub use line::{AccountLine, Neighbour};
 pub use number::read_number;
