@@ -130,11 +130,10 @@ def explanation(rows, number):
     return "".join(map(row_text, met)) + heading + "".join(map(row_text, others))
 
 
-def codes_list(texts, indent):
-    pad = " " * indent
-    return " ∷ ".join([f'codes "{text}"' for text in texts] + ["[]"]) if len(texts) < 2 else (
-        f" ∷\n{pad}".join([f'codes "{text}"' for text in texts] + ["[]"])
-    )
+def texts_of(texts):
+    """A list of texts in a definition: one to a line where there are several."""
+    between = " ∷ " if len(texts) < 2 else " ∷\n" + " " * 10
+    return between.join([f'codes "{text}"' for text in texts] + ["[]"])
 
 
 def specs(rows):
@@ -157,9 +156,9 @@ def specs(rows):
             f"      number = {row.number};",
             f'      home = codes "{row.crate}";',
             f'      variant = codes "{row.variant}";',
-            f"      places = {codes_list(row.places(), 10)};",
-            f"      cause = {codes_list(wrapped(row.cause), 10)};",
-            f"      advice = {codes_list(wrapped(row.advice, 'What to do: '), 10)};",
+            f"      places = {texts_of(row.places())};",
+            f"      cause = {texts_of(wrapped(row.cause))};",
+            f"      advice = {texts_of(wrapped(row.advice, 'What to do: '))};",
             "    } ∷",
         ]
     return "\n".join(head + out + ["    []"]) + "\n"

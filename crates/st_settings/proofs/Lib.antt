@@ -4,3 +4,5 @@ pub mod Lines
 pub mod Tables
 pub mod AccountNames
 pub mod Visible
+pub mod LineFaults
+pub mod FirstFaults

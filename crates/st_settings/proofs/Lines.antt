@@ -44,7 +44,7 @@ module _ (limit max_packet token host out : Text) where
   abbrev plain_words : List Text
   plain_words = codes "account" ∷ limit ∷ max_packet ∷ token ∷ host ∷ out ∷ []
 
-  no_plain : ((x : AccountLine) → ¬ (IsAccount None limit max_packet token host out x)) → (x : AccountLine) → ¬ (IsAccountLine plain_words x)
+  pub no_plain : ((x : AccountLine) → ¬ (IsAccount None limit max_packet token host out x)) → (x : AccountLine) → ¬ (IsAccountLine plain_words x)
   no_plain none x (inl has) =
       let same_limit : has.limit ≡ limit = cc in
       let same_max : has.max_packet ≡ max_packet = cc in
@@ -119,7 +119,7 @@ module _ (prefix account num den : Text) where
       let same_den : rated.den ≡ den = cc in
       none rated.rate (rw (same_num, same_den) at rated.terms)
 
-  no_account : ((n : ℕ) → ¬ (IsNumber most_money account n)) → (r : Route) → ¬ (IsRouteLine route_words r)
+  pub no_account : ((n : ℕ) → ¬ (IsNumber most_money account n)) → (r : Route) → ¬ (IsRouteLine route_words r)
   no_account none r (inl plain) = let wrong = plain.words_are in absurd (cc)
   no_account none r (inr rated) =
       let same : rated.account ≡ account = cc in

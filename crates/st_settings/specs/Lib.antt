@@ -3,4 +3,5 @@ pub mod Sources
 pub mod Settings
 pub mod Ledger
 pub mod Table
+pub mod Faults
 pub mod Errors

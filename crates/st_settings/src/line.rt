@@ -53,7 +53,7 @@ pub(crate) fn words_of<'a, A: Allocator + Copy>(
 
 /// Where an account's Prepares are sent, by the last two parts of its line: nowhere by `- -`. `None` where they are not
 /// valid.
-fn leads_to<'a>(host: &'a str, token: &'a str) -> Option<Option<Neighbour<'a>>>
+pub(crate) fn leads_to<'a>(host: &'a str, token: &'a str) -> Option<Option<Neighbour<'a>>>
     ensures { MatchOption result ((n : Option Neighbour) → ¬ (Leads host.now token.now n)) (Leads host.now token.now) }
 {
     if host == "-" && token == "-" {
@@ -66,7 +66,7 @@ fn leads_to<'a>(host: &'a str, token: &'a str) -> Option<Option<Neighbour<'a>>>
 }
 
 /// The name that a word `NAME=..` gives. `None` for any other word.
-fn name_in(word: &str) -> Option<&str>
+pub(crate) fn name_in(word: &str) -> Option<&str>
     ensures { MatchOption result ((name : List ℕ) → ¬ (IsNaming word.now name)) (λ name. IsNaming word.now name.now) }
 {
     let (key, name) = word.split_once('=')?;
