@@ -7,11 +7,8 @@
 #![tactic(auto)]
 
 mod error;
-<<<<<<< HEAD
 mod first_line;
-=======
 mod fault;
->>>>>>> 03a69420ce4a1683691382f069fa2c778abd0c1c
 mod ledger;
 mod line;
 mod names;
@@ -23,11 +20,8 @@ mod table;
 mod text;
 
 pub use error::TableError;
-<<<<<<< HEAD
 pub use first_line::{first_secret, first_token};
-=======
 pub use fault::{LineFault, TableFault, table_fault};
->>>>>>> 03a69420ce4a1683691382f069fa2c778abd0c1c
 pub use ledger::{LedgerSettings, Payment, Side};
 pub use line::{AccountLine, Neighbour};
 pub use number::read_number;
