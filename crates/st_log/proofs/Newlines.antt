@@ -7,7 +7,7 @@ use Rattle.std.proofs.lemmas.List.Folds.{list_all-append}
 use Rattle.st_ilp.specs.Calendar.{DateAndTime, date_and_time}
 use Rattle.st_ilp.specs.Expiry.{digit}
 use Rattle.st_log.specs.Quoting.{is_plain, hex_digit, hex_escape, escaped, all_escaped, quoted}
-use Rattle.st_log.specs.Lines.{◌⧺◌, written_date, date_text, word_of, bound_word, plain_cause_text, reject_front, reject_back, exchange_text, start_text, account_front, account_back, event_text, line_text}
+use Rattle.st_log.specs.Lines.{◌⧺◌, written_date, date_text, word_of, plain_cause_text, reject_front, reject_back, exchange_text, start_text, account_front, account_back, event_text, line_text}
 use Rattle.st_log.specs.Laws.{has_no_newline, EndsByItsOneNewline, LineHasOneNewline}
 use Rattle.st_log.specs.declared.event.Event.{Event}
 use Rattle.st_log.specs.declared.event.Event.TheVariants as event
@@ -17,8 +17,6 @@ use Rattle.st_log.specs.declared.event.AccountCounts.{AccountCounts}
 use Rattle.st_log.specs.declared.event.Cause.{Cause}
 use Rattle.st_log.specs.declared.event.Cause.TheVariants as cause
 use Rattle.st_log.specs.declared.event.Lost.TheVariants as lost
-use Rattle.st_log.specs.declared.event.Bound.{Bound}
-use Rattle.st_log.specs.declared.event.Bound.TheVariants as bound
 use Rattle.st_log.specs.declared.event.Kind.{Kind}
 use Rattle.st_log.specs.declared.event.Kind.TheVariants as kind
 
@@ -152,16 +150,11 @@ word_clean kind.Exchange = refl
 word_clean kind.Refused = refl
 word_clean kind.Connection = refl
 word_clean kind.Limit = refl
-word_clean kind.Waits = refl
+word_clean kind.Table = refl
 word_clean kind.Closed = refl
 word_clean kind.Totals = refl
 word_clean kind.More = refl
 word_clean kind.End = refl
-
-bound_clean : (b : Bound) → has_no_newline (bound_word b) ≡ true
-bound_clean bound.StreamData = refl
-bound_clean bound.ConnectionData = refl
-bound_clean bound.ReceiveMax = refl
 
 -- a literal, a word, and then a literal and a number
 word_number : (text word next : List ℕ) (n : ℕ) → has_no_newline text ≡ true → has_no_newline word ≡ true → has_no_newline next ≡ true
@@ -221,8 +214,7 @@ event_ends n (event.Refused code (Some reason)) =
 event_ends n (event.Connection (lost.Status status)) = number (codes "connection status=") status (10 ∷ []) refl ends
 event_ends n (event.Connection lost.Cut) = more (codes "connection cut") (10 ∷ []) (record { is = refl }) ends
 event_ends n (event.Limit most) = number (codes "limit neighbour=") n _ refl (number (codes " most=") most (10 ∷ []) refl ends)
-event_ends n (event.Waits b value) =
-    number (codes "waits neighbour=") n _ refl (word_number (codes " limit=") (bound_word b) (codes " value=") value refl (bound_clean b) refl)
+event_ends n (event.Table line words) = number (codes "table line=") line _ refl (said (codes " words=") words.now (10 ∷ []) refl ends)
 event_ends n (event.Closed stream None) = number (codes "closed stream=") stream (10 ∷ []) refl ends
 event_ends n (event.Closed stream (Some code)) = number (codes "closed stream=") stream _ refl (number (codes " code=") code (10 ∷ []) refl ends)
 event_ends n (event.End t) =

@@ -11,8 +11,6 @@ use Rattle.st_log.specs.declared.event.Cause.{Cause}
 use Rattle.st_log.specs.declared.event.Cause.TheVariants as cause
 use Rattle.st_log.specs.declared.event.Lost.{Lost}
 use Rattle.st_log.specs.declared.event.Lost.TheVariants as lost
-use Rattle.st_log.specs.declared.event.Bound.{Bound}
-use Rattle.st_log.specs.declared.event.Bound.TheVariants as bound
 use Rattle.st_log.specs.declared.event.Kind.{Kind}
 use Rattle.st_log.specs.declared.event.Kind.TheVariants as kind
 use Rattle.st_log.specs.declared.event.EndCounts.{EndCounts}
@@ -48,7 +46,7 @@ kind_of (event.Exchange c) = kind.Exchange
 kind_of (event.Refused code reason) = kind.Refused
 kind_of (event.Connection l) = kind.Connection
 kind_of (event.Limit most) = kind.Limit
-kind_of (event.Waits b value) = kind.Waits
+kind_of (event.Table line words) = kind.Table
 kind_of (event.Closed stream code) = kind.Closed
 kind_of (event.End t) = kind.Totals
 kind_of (event.Account t) = kind.Totals
@@ -63,7 +61,7 @@ place_of kind.Exchange = 1
 place_of kind.Refused = 2
 place_of kind.Connection = 3
 place_of kind.Limit = 4
-place_of kind.Waits = 5
+place_of kind.Table = 5
 place_of kind.Closed = 6
 place_of kind.Totals = 7
 place_of kind.More = 8
@@ -75,16 +73,11 @@ word_of kind.Exchange = codes "exchange"
 word_of kind.Refused = codes "refused"
 word_of kind.Connection = codes "connection"
 word_of kind.Limit = codes "limit"
-word_of kind.Waits = codes "waits"
+word_of kind.Table = codes "table"
 word_of kind.Closed = codes "closed"
 word_of kind.Totals = codes "totals"
 word_of kind.More = codes "more"
 word_of kind.End = codes "end"
-
-abbrev pub bound_word : Bound → List ℕ
-bound_word bound.StreamData = codes "stream_data"
-bound_word bound.ConnectionData = codes "connection_data"
-bound_word bound.ReceiveMax = codes "receive_max"
 
 -- ---- what stands behind the date, by the event, with the newline; n is the neighbour's number
 
@@ -147,8 +140,8 @@ connection_text lost.Cut = codes "connection cut\n"
 abbrev pub limit_text : (n most : ℕ) → List ℕ
 limit_text n most = codes "limit neighbour=" ⧺ decimal n ⧺ codes " most=" ⧺ decimal most ⧺ 10 ∷ []
 
-abbrev pub waits_text : (n : ℕ) → Bound → (value : ℕ) → List ℕ
-waits_text n b value = codes "waits neighbour=" ⧺ decimal n ⧺ codes " limit=" ⧺ bound_word b ⧺ codes " value=" ⧺ decimal value ⧺ 10 ∷ []
+abbrev pub table_text : (line : ℕ) → (words : List ℕ) → List ℕ
+table_text line words = codes "table line=" ⧺ decimal line ⧺ codes " words=" ⧺ quoted words ⧺ 10 ∷ []
 
 abbrev pub closed_text : (stream : ℕ) → List ℕ
 closed_text stream = codes "closed stream=" ⧺ decimal stream ⧺ 10 ∷ []
@@ -184,7 +177,7 @@ event_text n (event.Refused code None) = refused_text n code
 event_text n (event.Refused code (Some reason)) = reason_text n code reason
 event_text n (event.Connection l) = connection_text l
 event_text n (event.Limit most) = limit_text n most
-event_text n (event.Waits b value) = waits_text n b value
+event_text n (event.Table line words) = table_text line words.now
 event_text n (event.Closed stream None) = closed_text stream
 event_text n (event.Closed stream (Some code)) = aborted_text stream code
 event_text n (event.End t) = end_text t

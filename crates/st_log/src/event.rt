@@ -25,12 +25,12 @@ pub enum Event<'a> {
         /// The new packet limit, in units.
         most: u64,
     },
-    /// The sender waits.
-    Waits {
-        /// At which limit of the peer.
-        bound: Bound,
-        /// The limit: an offset in bytes, or units.
-        value: u64,
+    /// A line of a connector's table is bad.
+    Table {
+        /// The number of the line, from 1.
+        line: usize,
+        /// The rule that it breaks, in words.
+        words: &'a str,
     },
     /// A stream is at its end.
     Closed {
@@ -146,17 +146,6 @@ pub enum Lost {
     Cut,
 }
 
-/// A limit that the peer of a sender set.
-#[derive(Clone, Copy, Debug, PartialEq, Eq)]
-pub enum Bound {
-    /// The greatest offset of a stream's bytes.
-    StreamData,
-    /// The most bytes of all streams together.
-    ConnectionData,
-    /// The most units of a stream.
-    ReceiveMax,
-}
-
 /// The totals of an end.
 #[derive(Clone, Copy, Debug, PartialEq, Eq)]
 pub struct EndCounts {
@@ -202,8 +191,8 @@ pub enum Kind {
     Connection,
     /// `limit`
     Limit,
-    /// `waits`
-    Waits,
+    /// `table`
+    Table,
     /// `closed`
     Closed,
     /// `totals`
@@ -228,7 +217,7 @@ impl Event<'_> {
             Event::Refused { .. } => Kind::Refused,
             Event::Connection(_) => Kind::Connection,
             Event::Limit { .. } => Kind::Limit,
-            Event::Waits { .. } => Kind::Waits,
+            Event::Table { .. } => Kind::Table,
             Event::Closed { .. } => Kind::Closed,
             Event::End(_) | Event::Account(_) | Event::Rejects { .. } => Kind::Totals,
             Event::More { .. } => Kind::More,
@@ -245,7 +234,7 @@ impl Kind {
         Kind::Refused,
         Kind::Connection,
         Kind::Limit,
-        Kind::Waits,
+        Kind::Table,
         Kind::Closed,
         Kind::Totals,
         Kind::More,
@@ -263,7 +252,7 @@ impl Kind {
             Kind::Refused => 2,
             Kind::Connection => 3,
             Kind::Limit => 4,
-            Kind::Waits => 5,
+            Kind::Table => 5,
             Kind::Closed => 6,
             Kind::Totals => 7,
             Kind::More => 8,
@@ -281,24 +270,11 @@ impl Kind {
             Kind::Refused => "refused",
             Kind::Connection => "connection",
             Kind::Limit => "limit",
-            Kind::Waits => "waits",
+            Kind::Table => "table",
             Kind::Closed => "closed",
             Kind::Totals => "totals",
             Kind::More => "more",
             Kind::End => "end",
-        }
-    }
-}
-
-impl Bound {
-    /// Its word in a line.
-    pub(crate) fn word(self) -> &'static str
-        ensures { result.now ≡ spec.bound_word self }
-    {
-        match self {
-            Bound::StreamData => "stream_data",
-            Bound::ConnectionData => "connection_data",
-            Bound::ReceiveMax => "receive_max",
         }
     }
 }

@@ -14,7 +14,7 @@ mod pace;
 mod quote;
 mod text;
 
-pub use event::{AccountCounts, Bound, Cause, EndCounts, Event, Kind, Lost, Start};
+pub use event::{AccountCounts, Cause, EndCounts, Event, Kind, Lost, Start};
 pub use journal::Journal;
 pub use laws::{events_are_counted, line_has_one_newline, ten_a_second};
 pub use pace::{LINES_A_SECOND, Left, Pace, Verdict};

@@ -4,7 +4,7 @@ ghost use Rattle.std.specs.Prelude.{◌≡◌, ◌++◌, IfOk, string_bytes};
 ghost use Rattle.st_log.specs.Lines as spec;
 
 use crate::date::date_text;
-use crate::event::{AccountCounts, Bound, Cause, EndCounts, Event, Kind, Lost, Start};
+use crate::event::{AccountCounts, Cause, EndCounts, Event, Kind, Lost, Start};
 use crate::quote::{code_text, quoted};
 use st_ilp::Moment;
 use std::alloc::{AllocError, Global};
@@ -217,16 +217,11 @@ fn limit_text(alloc: Global, neighbour: usize, most: u64) -> Result<String, Allo
     Ok(text)
 }
 
-fn waits_text(
-    alloc: Global,
-    neighbour: usize,
-    bound: Bound,
-    value: u64,
-) -> Result<String, AllocError>
-    ensures { IfOk result (λ text. string_bytes text ≡ spec.waits_text neighbour bound value) }
+fn table_text(alloc: Global, line: usize, words: &str) -> Result<String, AllocError>
+    ensures { IfOk result (λ text. string_bytes text ≡ spec.table_text line words.now) }
 {
-    let word = bound.word();
-    let text = format!(in alloc; "waits neighbour={neighbour} limit={word} value={value}\n")?;
+    let words = quoted(alloc, words.as_bytes())?;
+    let text = format!(in alloc; "table line={line} words={words}\n")?;
     Ok(text)
 }
 
@@ -348,7 +343,7 @@ fn event_text(alloc: Global, neighbour: usize, event: &Event<'_>) -> Result<Stri
         } => reason_text(alloc, neighbour, &code, reason),
         Event::Connection(lost) => connection_text(alloc, lost),
         Event::Limit { most } => limit_text(alloc, neighbour, most),
-        Event::Waits { bound, value } => waits_text(alloc, neighbour, bound, value),
+        Event::Table { line, words } => table_text(alloc, line, words),
         Event::Closed { stream, code: None } => closed_text(alloc, stream),
         Event::Closed {
             stream,

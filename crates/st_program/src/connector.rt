@@ -8,7 +8,7 @@ ghost use Rattle.st_program.specs.declared.error.RunError.TheVariants.{BadOption
 use crate::error::RunError;
 use crate::hop::{Going, hop_of, neighbours_of, restored};
 use crate::input::read_whole;
-use crate::log::{Log, journal, tell, tell_run};
+use crate::log::{Log, journal, tell, tell_run, tell_table};
 use crate::reports::{EachMinute, Reports};
 use crate::totals::{ConnectorTotals, places, tell_accounts, telling};
 use sqlite_trees::store::Alter;
@@ -89,15 +89,7 @@ fn serve_by<
         accounts,
         counts,
         overloaded,
-    } = connector_on(
-        rt,
-        alloc,
-        listener,
-        hop,
-        terms,
-        till,
-        &mut reports.minutes,
-    );
+    } = connector_on(rt, alloc, listener, hop, terms, till, &mut reports.minutes);
     reports.totals = ConnectorTotals {
         accounts,
         counts,
@@ -183,7 +175,10 @@ fn serve_input<
     let bytes = read_whole(alloc, reader)?;
     match table_in(alloc, &bytes) {
         Ok(table) => serve(rt, opener, alloc, settings, &table, reports),
-        Err(error) => Err(error),
+        Err(error) => {
+            tell_table(rt, alloc, reports.log, &bytes);
+            Err(error)
+        }
     }
 }
 
@@ -221,7 +216,9 @@ fn serve_reporting<
             };
             let ended = serve_input(rt, opener, alloc, settings, reader, &mut reports);
             let Reports {
-                totals, minutes, ..
+                totals,
+                minutes,
+                ..
             } = reports;
             tell_accounts(minutes.telling, &totals, ended)
         }

@@ -11,6 +11,7 @@ use crate::totals::ended_with;
 use st_commands::Fault;
 use st_ilp::Moment;
 use st_log::{AccountCounts, EndCounts, Event, Journal};
+use st_settings::{TableFault, table_fault};
 use st_transfer::{AccountTotals, Counts, RuntimeClock};
 use std::alloc::Global;
 use std::fs::{File, Files, OpenOptions};
@@ -134,6 +135,23 @@ pub(crate) fn tell_accounts<N: Clock>(
     }
 }
 
+/// Writes which line of a connector's table is bad, and the rule that it breaks, where there is a log and such a line.
+pub(crate) fn tell_table<N: Clock>(rt: &N, alloc: Global, log: Log<'_>, bytes: &[u8]) {
+    if log.is_none() {
+        return;
+    }
+    let Ok(Some(TableFault { line, fault })) = table_fault(alloc, bytes) else {
+        return;
+    };
+    if let Ok(words) = format!(in alloc; "{fault}") {
+        let event = Event::Table {
+            line,
+            words: words.as_str(),
+        };
+        tell(rt, log, &event);
+    }
+}
+
 /// An error in words. Empty where memory is refused.
 fn words_of(alloc: Global, error: RunError) -> String {
     match format!(in alloc; "{error}") {
@@ -143,12 +161,7 @@ fn words_of(alloc: Global, error: RunError) -> String {
 }
 
 /// Writes how a command ended, behind what was left out before.
-fn note_end<N: Clock>(
-    rt: &N,
-    alloc: Global,
-    journal: &Journal<File>,
-    ended: Result<(), RunError>,
-) {
+fn note_end<N: Clock>(rt: &N, alloc: Global, journal: &Journal<File>, ended: Result<(), RunError>) {
     let now = now(rt);
     journal.catch_up(rt, now);
     match ended {

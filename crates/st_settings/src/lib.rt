@@ -7,8 +7,8 @@
 #![tactic(auto)]
 
 mod error;
-mod first_line;
 mod fault;
+mod first_line;
 mod ledger;
 mod line;
 mod names;
@@ -20,8 +20,8 @@ mod table;
 mod text;
 
 pub use error::TableError;
-pub use first_line::{first_secret, first_token};
 pub use fault::{LineFault, TableFault, table_fault};
+pub use first_line::{first_secret, first_token};
 pub use ledger::{LedgerSettings, Payment, Side};
 pub use line::{AccountLine, Neighbour};
 pub use number::read_number;

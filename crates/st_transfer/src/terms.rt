@@ -1,9 +1,9 @@
 //! The arguments of a transfer and of a connector.
 
 use crate::neighbour::Neighbour;
-use std::time::Duration;
 use st_log::Journal;
 use std::fs::File;
+use std::time::Duration;
 
 /// What a sender is to do, apart from its input.
 #[derive(Clone, Copy)]
