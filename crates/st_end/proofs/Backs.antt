@@ -1,11 +1,12 @@
--- The data of an answer are the last of its bytes.
-use Rattle.std.proofs.Common.{◌≡◌, ℕ, ◌-◌, List, [], ◌∷◌, ◌++◌, length, drop, refl, sym, ap, subst, ◌∙◌, arith, append_assoc, length-append, Ok}
+-- The data of an answer are the last of its bytes, and its sender is short.
+use Rattle.std.proofs.Common.{◌≡◌, ℕ, ◌-◌, ◌≤◌, List, [], ◌∷◌, ◌++◌, length, drop, refl, sym, ap, subst, ◌∙◌, arith, append_assoc, length-append, Ok}
 use Rattle.st_oer.specs.Laws.{IsBytes}
 use Rattle.st_oer.specs.Spelling.{length_bytes, octets}
 use Rattle.st_ilp.specs.Packets.{Fulfilled, Rejected}
 use Rattle.st_ilp.specs.Reading.{answer_at}
 use Rattle.st_ilp.specs.Spelling.{answer_kind, answer_contents, answer_text}
-use Rattle.st_ilp.specs.Laws.{AnswerReads}
+use Rattle.st_ilp.specs.Laws.{AnswerReads, IsAnswer, is_reject}
+use Rattle.st_ilp.proofs.AddressTexts.{sender_is_short}
 
 past_front : (front payload : List ℕ) → drop (length front) (front ++ payload) ≡ payload
 past_front [] payload = refl
@@ -44,3 +45,11 @@ fulfill_data bytes fulfillment payload reads fits e =
 pub reject_data : (bytes code by message payload : List ℕ) → AnswerReads → IsBytes bytes → answer_at bytes ≡ Ok (Rejected code by message payload) → answer_at bytes ≡ Ok (Rejected code by message (drop (length bytes - length payload) bytes))
 reject_data bytes code by message payload reads fits e =
     e ∙ ap (λ x. Ok (Rejected code by message x)) (last_bytes bytes payload (subst (λ x. EndsWith x payload) (sym (reads.found bytes (Rejected code by message payload) fits e).0) (reject_ends code by message payload)))
+
+-- ---- how long a sender may be
+
+by_short : (code by message payload : List ℕ) → IsAnswer (Rejected code by message payload) → length by ≤ 1023
+by_short code by message payload (is_reject _ _ _ _ three lawful sender text few whole) = sender_is_short by sender
+
+pub reject_short : (bytes code by message payload : List ℕ) → AnswerReads → IsBytes bytes → answer_at bytes ≡ Ok (Rejected code by message payload) → length by ≤ 1023
+reject_short bytes code by message payload reads fits e = by_short code by message payload (reads.found bytes (Rejected code by message payload) fits e).1

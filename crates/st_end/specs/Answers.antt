@@ -3,6 +3,7 @@ use Rattle.std.specs.Prelude.{ℕ, Bool, false, List, bytes_eq, nat_eq, length, 
 use Rattle.std.specs.declared.option.Option.{Option}
 use Rattle.std.specs.declared.option.Option.TheVariants.{None, Some}
 use Rattle.std.specs.FinMap.{remove}
+use Rattle.std.specs.Option.{option_or}
 use Rattle.st_oer.specs.declared.error.OerError.{OerError}
 use Rattle.st_oer.specs.Reading.{u64_at}
 use Rattle.st_ilp.specs.Packets.{AnswerPacket, Fulfilled, Rejected}
@@ -18,6 +19,7 @@ use Rattle.st_sender.specs.Sending.{Sending}
 use Rattle.st_sender.specs.Answering as answering
 use Rattle.st_sender.specs.Answering.{Failure, Plain, TooLarge, f08, after_fulfilled, after_failed, after_all_told}
 use Rattle.st_end.specs.declared.flight.Open.{Open}
+use Rattle.st_end.specs.Failed.{Failed, Lost, Unreadable, Unfit, rejected_by}
 use Rattle.st_end.specs.State.{EndState}
 use Rattle.st_end.specs.Sending.{open_flight}
 
@@ -55,13 +57,28 @@ answered_by keys s flight p (Ok (Rejected code by message payload)) =
     raised (after_failed s p (failure_of code payload)) flight.sequence (opened keys reject_kind payload)
 answered_by keys s flight p (Err fault) = after_failed s p Plain
 
+-- why it fails its flight, where it does
+abbrev pub failed_by : Open → Result AnswerPacket IlpError → Option Failed
+failed_by flight (Ok (Fulfilled fulfillment payload)) = if fits flight fulfillment then None else Some Unfit
+failed_by flight (Ok (Rejected code by message payload)) = Some (rejected_by code by message)
+failed_by flight (Err fault) = Some Unreadable
+
+-- the same for the bytes that came back, or where none did
+abbrev pub failure : Open → (outcome : Option (List ℕ)) → Option Failed
+failure flight (Some bytes) = failed_by flight (answer_at bytes)
+failure flight None = Some Lost
+
 abbrev pub outcome_left : EndState → Open → sender.Flight → (outcome : Option (List ℕ)) → Sending
 outcome_left e flight p (Some bytes) = answered_by e.keys e.sending flight p (answer_at bytes)
 outcome_left e flight p None = after_failed e.sending p Plain
 
 -- the end after the bytes that came back to a flight that carries p, or after a fault where none did
 abbrev pub after_outcome : EndState → Open → sender.Flight → (outcome : Option (List ℕ)) → EndState
-after_outcome e flight p outcome = record e { sending = outcome_left e flight p outcome; conditions = remove e.conditions flight.sequence }
+after_outcome e flight p outcome = record e {
+  sending = outcome_left e flight p outcome;
+  conditions = remove e.conditions flight.sequence;
+  last = option_or (failure flight outcome) e.last;
+}
 
 abbrev pub ended_with : EndState → Open → Option sender.Flight → (outcome : Option (List ℕ)) → EndState
 ended_with e flight None outcome = e

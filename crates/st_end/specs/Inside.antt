@@ -30,7 +30,8 @@ use Rattle.st_end.specs.declared.back.Back.TheVariants.{Fulfill, Reject, Unreada
 -- what bytes say, and from where on they are its data
 abbrev pub IsBack : List ℕ → Back → Type 0
 IsBack bytes (Fulfill fulfillment start) = (start ≤ length bytes) × (answer_at bytes ≡ Ok (Fulfilled fulfillment (drop start bytes)))
-IsBack bytes (Reject code start) = (start ≤ length bytes) × ((by message : List ℕ) × (answer_at bytes ≡ Ok (Rejected code by message (drop start bytes))))
+IsBack bytes (Reject code by message start) =
+    (start ≤ length bytes) × (length by.now ≤ 1023) × (answer_at bytes ≡ Ok (Rejected code by.now message.now (drop start bytes)))
 IsBack bytes Unreadable = (fault : IlpError) × (answer_at bytes ≡ Err fault)
 
 -- what the sending side has once a packet took effect that leaves r

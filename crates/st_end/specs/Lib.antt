@@ -1,3 +1,5 @@
+pub mod Failed
+pub mod Failures
 pub mod State
 pub mod Errors
 pub mod Calls

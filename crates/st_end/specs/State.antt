@@ -2,9 +2,12 @@
 use Rattle.std.specs.Prelude.{ℕ, List}
 use Rattle.std.specs.Ordering.{nat_cmp}
 use Rattle.std.specs.FinMap.{FinMap, empty}
+use Rattle.std.specs.declared.option.Option.{Option}
+use Rattle.std.specs.declared.option.Option.TheVariants.{None}
 use Rattle.st_keys.specs.Keys.{DerivedKeys}
 use Rattle.st_sender.specs.Sending.{Config, Sending, new_sending}
 use Rattle.st_receiver.specs.Streams.{Receiving, new_receiving}
+use Rattle.st_end.specs.Failed.{Failed}
 use Rattle.st_end.specs.declared.role.Role.{Role}
 use Rattle.st_end.specs.declared.role.Role.TheVariants.{Client, Server}
 
@@ -15,6 +18,7 @@ pub record EndState : Type 0 where
   pub keys : DerivedKeys
   pub own : List ℕ  -- its address
   pub peer : List ℕ  -- and the peer's
+  pub last : Option Failed  -- why its last failed flight failed
 
 -- a client opens odd stream numbers, a server even ones
 abbrev pub parity : Role → ℕ
@@ -30,4 +34,5 @@ new_end role keys own peer config = record {
   keys = keys;
   own = own;
   peer = peer;
+  last = None;
 }

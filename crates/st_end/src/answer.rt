@@ -1,6 +1,7 @@
 //! The answers to Prepares.
 
 ghost use Rattle.std.specs.Prelude.{◌≡◌, true, Some, None};
+ghost use Rattle.std.specs.Option.{option_or};
 ghost use Rattle.st_ilp.specs.Reading.{answer_at};
 ghost use Rattle.st_sender.specs.Sending as sender;
 ghost use Rattle.st_sender.specs.Flights.{flight_at};
@@ -10,6 +11,7 @@ ghost use Rattle.st_end.specs.Answers as answers;
 
 use crate::back::{Back, amounts_in, raise_from, read_back};
 use crate::end::EndState;
+use crate::failed::Failed;
 use crate::flight::{Flight, Open};
 use crate::reply::{FULFILL, REJECT};
 use st_keys::{Keys, condition};
@@ -35,19 +37,22 @@ fn take_reject<A: Allocator + Copy>(
     }
 }
 
-/// Takes the bytes that came back to a flight, and tells whether they are a Fulfill that fits.
+/// Takes the bytes that came back to a flight, notes why they fail it, and tells whether they are a Fulfill that fits.
 fn take_answer<A: Allocator + Copy>(
     outbox: &mut Outbox<A>,
+    last: &mut Option<Failed>,
     keys: &Keys,
     flight: Open,
     bytes: &mut [u8],
 ) -> bool
     ensures left { (p : sender.Flight) → flight_at outbox.old.flights flight.sequence ≡ Some p → outbox.new ≡ answers.answered_by keys.now outbox.old flight p (answer_at bytes.old) }
     ensures taken { result ≡ answers.pays_by flight (answer_at bytes.old) }
+    ensures noted { last.new ≡ option_or (answers.failed_by flight (answer_at bytes.old)) last.old }
 {
     match read_back(bytes) {
         Back::Fulfill { fulfillment, start } => {
             if condition(fulfillment) != flight.condition {
+                *last = Some(Failed::unfit());
                 outbox.failed(flight.sequence, TEMPORARY);
                 return false;
             }
@@ -55,12 +60,19 @@ fn take_answer<A: Allocator + Copy>(
             raise_from(outbox, keys, FULFILL, flight.sequence, &mut bytes[start..]);
             true
         }
-        Back::Reject { code, start } => {
+        Back::Reject {
+            code,
+            by,
+            message,
+            start,
+        } => {
+            *last = Some(Failed::rejected(code, by, message));
             take_reject(outbox, flight.sequence, code, &bytes[start..]);
             raise_from(outbox, keys, REJECT, flight.sequence, &mut bytes[start..]);
             false
         }
         Back::Unreadable => {
+            *last = Some(Failed::unreadable());
             outbox.failed(flight.sequence, TEMPORARY);
             false
         }
@@ -92,7 +104,7 @@ impl<A: Allocator + Copy> EndState<A> {
     {
         let flight = flight.spend();
         self.conditions.remove(flight.sequence);
-        take_answer(&mut self.outbox, &self.keys, flight, bytes)
+        take_answer(&mut self.outbox, &mut self.last, &self.keys, flight, bytes)
     }
 
     /// Takes that no bytes came back for an open flight: what the Prepare carried can be sent again. The flight must be
@@ -104,6 +116,18 @@ impl<A: Allocator + Copy> EndState<A> {
     {
         let flight = flight.spend();
         self.conditions.remove(flight.sequence);
+        self.last = Some(Failed::lost());
         self.outbox.failed(flight.sequence, TEMPORARY);
+    }
+
+    /// Why the last Prepare that failed did so. `None` before the first failure; a Fulfill that fits leaves it as it
+    /// was. Does not allocate.
+    pub fn last_failure(&self) -> Option<Failed>
+        ensures { result ≡ self.now.last }
+    {
+        match &self.last {
+            Some(failed) => Some(failed.again()),
+            None => None,
+        }
     }
 }

@@ -17,17 +17,25 @@ use std::alloc::Allocator;
 
 /// An answer, and from where on its bytes are its data.
 #[derive(Clone, Copy)]
-pub(crate) enum Back {
+pub(crate) enum Back<'a> {
     /// A Fulfill.
-    Fulfill { fulfillment: [u8; 32], start: usize },
+    Fulfill {
+        fulfillment: [u8; 32],
+        start: usize,
+    },
     /// A Reject.
-    Reject { code: [u8; 3], start: usize },
+    Reject {
+        code: [u8; 3],
+        by: &'a str,
+        message: &'a str,
+        start: usize,
+    },
     /// Neither of both.
     Unreadable,
 }
 
 /// Reads an answer.
-pub(crate) fn read_back(bytes: &[u8]) -> Back
+pub(crate) fn read_back(bytes: &[u8]) -> Back<'_>
     ensures { IsBack bytes.now result }
 {
     answer_law();
@@ -44,12 +52,14 @@ pub(crate) fn read_back(bytes: &[u8]) -> Back
         Ok(
             Answer::Reject {
                 code,
-                by: _,
-                message: _,
+                by,
+                message,
                 payload,
             },
         ) => Back::Reject {
             code,
+            by,
+            message,
             start: bytes.len().saturating_sub(payload.len()),
         },
         Err(_) => Back::Unreadable,

@@ -10,6 +10,7 @@ ghost use Rattle.st_end.specs.Receiving.{t00_text};
 
 use crate::conditions::Conditions;
 use crate::error::EndError;
+use crate::failed::Failed;
 use crate::reply::ready_t00;
 use crate::role::Role;
 use st_keys::Keys;
@@ -30,6 +31,8 @@ pub struct EndState<A: Allocator + Copy> {
     pub(crate) own: String<A>,
     /// And the peer's.
     pub(crate) peer: String<A>,
+    /// Why the last Prepare that failed did so.
+    pub(crate) last: Option<Failed>,
     t00: Vec<u8, A>,
     pub(crate) alloc: A,
 }
@@ -46,9 +49,9 @@ impl<A: Allocator + Copy> Model for EndState<A> {
 
     ghost coded = { Prim.hlevel (codes, map.code) };
 
-    ghost view = { λ s. record { sending = s.outbox; conditions = s.conditions; receiving = s.intake.state; keys = s.keys; own = string_bytes s.own; peer = string_bytes s.peer } };
+    ghost view = { λ s. record { sending = s.outbox; conditions = s.conditions; receiving = s.intake.state; keys = s.keys; own = string_bytes s.own; peer = string_bytes s.peer; last = s.last } };
 
-    ghost invariant = { λ s. IsLawful (record { sending = s.outbox; conditions = s.conditions; receiving = s.intake.state; keys = s.keys; own = string_bytes s.own; peer = string_bytes s.peer }) × (s.t00.items ≡ t00_text (string_bytes s.own)) };
+    ghost invariant = { λ s. IsLawful (record { sending = s.outbox; conditions = s.conditions; receiving = s.intake.state; keys = s.keys; own = string_bytes s.own; peer = string_bytes s.peer; last = s.last }) × (s.t00.items ≡ t00_text (string_bytes s.own)) };
 }
 
 impl<A: Allocator + Copy> EndState<A> {
@@ -80,6 +83,7 @@ impl<A: Allocator + Copy> EndState<A> {
             keys,
             own: String::from_str(alloc, own)?,
             peer: String::from_str(alloc, peer)?,
+            last: None,
             t00: ready_t00(alloc, own)?,
             alloc,
         })

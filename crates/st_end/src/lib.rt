@@ -4,7 +4,7 @@
 //! and no clock here. A call that fails changes nothing, and each error has a number, `number`.
 //!
 //! `specs/State.antt` defines an end, `Calls` and `Reading` the calls, `Receiving` the answer to bytes that arrived,
-//! `Answers` the effect of bytes that came back, `Sending` the Prepare that is sent.
+//! `Answers` the effect of bytes that came back, `Failed` why a Prepare failed, `Sending` the Prepare that is sent.
 #![tactic(auto)]
 
 mod answer;
@@ -14,7 +14,9 @@ mod conditions;
 mod effect;
 mod end;
 mod error;
+mod failed;
 mod flight;
+mod kept;
 mod receive;
 mod received;
 mod reply;
@@ -24,6 +26,7 @@ mod totals;
 
 pub use end::EndState;
 pub use error::EndError;
+pub use failed::{Failed, FailedKind};
 pub use flight::{Flight, Open};
 pub use received::Received;
 pub use role::Role;

@@ -72,6 +72,14 @@ impl<A: Allocator + Copy> EndState<A> {
         self.outbox.is_waiting(stream)
     }
 
+    /// The greatest amount that this end's next Prepare may have, in units of its asset: at first that of the
+    /// `EndConfig`, then what each Reject F08 (RFC 0027) left. Does not allocate.
+    pub fn packet_limit(&self) -> u64
+        ensures { result ≡ self.now.sending.packet_limit }
+    {
+        self.outbox.packet_limit()
+    }
+
     /// Whether the connection failed. Nothing is sent any more then. Does not allocate.
     pub fn is_failed(&self) -> bool
         ensures { result ≡ self.now.sending.failed }

@@ -1,8 +1,9 @@
 -- From bytes to an exchange: the Prepare that goes is fulfilled where it comes, and its answer acknowledges it.
-use Rattle.std.proofs.Common.{◌≡◌, ℕ, zero, suc, ◌^◌, ◌<◌, ◌≤◌, true, false, not, cond, List, [], ◌∷◌, ◌++◌, length, take, length-take, refl, sym, ap, subst, ◌∙◌, arith, ℤ, None, Some, Result, Ok, nat_eq, nat_le}
+use Rattle.std.proofs.Common.{◌≡◌, ℕ, zero, suc, ◌^◌, ◌<◌, ◌≤◌, true, false, not, cond, List, [], ◌∷◌, ◌++◌, length, take, length-take, refl, sym, ap, subst, ◌∙◌, arith, ℤ, Option, None, Some, Result, Ok, nat_eq, nat_le}
 use Rattle.std.specs.Prelude.{◌+ℤ◌, bytes_eq, int_le}
 use Rattle.std.specs.Cmp.Lexicographic.{pointwise}
 use Rattle.std.specs.FinMap as fmap
+use Rattle.std.specs.Option.{option_or}
 use Rattle.std.specs.Ordering.{nat_cmp}
 use Rattle.std.proofs.lemmas.Bool.Decides.{Decides-eqb, nat_tests}
 use Rattle.std.proofs.lemmas.Grind.{common_steps}
@@ -32,7 +33,8 @@ use Rattle.st_receiver.specs.Limits.{limits, reply_frames}
 use Rattle.st_end.specs.State.{EndState}
 use Rattle.st_end.specs.Sending.{Goes, answer_time, flight_for, is_kept, open_flight, prepare_for, with_condition}
 use Rattle.st_end.specs.Receiving.{Fulfills, Rejects, Unread, after_verdict, answer_for, f02, is_own_condition, judged_as, opened_as, payload_or_none, r00, received, received_as, reply_iv, reply_payload, verdict_on}
-use Rattle.st_end.specs.Answers.{answered_by, ended, ended_with, raised}
+use Rattle.st_end.specs.Answers.{answered_by, ended, ended_with, failed_by, failure, raised}
+use Rattle.st_end.specs.Failed.{Failed, Unfit}
 use Rattle.st_end.specs.declared.flight.Open.{Open}
 use Rattle.st_end.proofs.Going.{seals, spellable}
 use Rattle.st_end.proofs.Taking.{received_read}
@@ -209,7 +211,8 @@ load_answered : (e : EndState) (p : Load) (payload bytes reply : List ℕ) (told
     → (let flight = flight_for e p payload in ended (with_condition e flight (with_flight e.sending p)) flight (Some bytes) ≡ answered_end e p payload told)
 load_answered e p payload bytes reply told alone a =
     ap (λ o. ended_with gone flight o (Some bytes)) opens
-    ∙ ap (λ s. record gone { sending = s; conditions = fmap.remove gone.conditions p.sequence }) taken
+    ∙ ap (λ s. record gone { sending = s; conditions = fmap.remove gone.conditions p.sequence; last = option_or (failure flight (Some bytes)) gone.last }) taken
+    ∙ ap (λ o. record gone { sending = after_all_told (once_fulfilled e.sending p) told; conditions = fmap.remove gone.conditions p.sequence; last = option_or o gone.last }) none
   where
     flight : Open
     flight = flight_for e p payload
@@ -232,6 +235,9 @@ load_answered e p payload bytes reply told alone a =
         ∙ ap (raised (once_fulfilled e.sending p) p.sequence) a.opens
         ∙ raises (once_fulfilled e.sending p) p.sequence a.packet a.sequence_is
         ∙ ap (after_all_told (once_fulfilled e.sending p)) a.frames
+
+    none : ◌≡◌ {A = Option Failed} (failure flight (Some bytes)) None
+    none = ap (failed_by flight) a.reads ∙ ap (λ b. cond {A = Option Failed} b None (Some Unfit)) (bytes_same (condition (fulfillment e.keys payload)))
 
 -- ---- both ends once the answer came back
 

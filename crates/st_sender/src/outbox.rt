@@ -155,6 +155,14 @@ impl<A: Allocator + Copy> Outbox<A> {
         self.failed
     }
 
+    /// The greatest amount that the next Prepare may have, in units of the sender's asset: at first that of the
+    /// `EndConfig`, then what each F08 (RFC 0027) left. Does not allocate.
+    pub fn packet_limit(&self) -> u64
+        ensures { result ≡ self.now.packet_limit }
+    {
+        self.packet_limit
+    }
+
     /// The number of bytes accepted on all streams. Does not allocate.
     pub fn accepted(&self) -> u128
         ensures { result ≡ specs.all_accepted self.now.streams }

@@ -1,7 +1,7 @@
 use Rattle.std.proofs.Common.{◌≡◌, drop, sym, subst, arith, Ok, rules}
 use Rattle.st_ilp.specs.Packets.{Fulfilled, Rejected}
 use Rattle.st_ilp.specs.Reading.{answer_at}
-use Rattle.st_end.proofs.Backs.{fulfill_data, reject_data}
+use Rattle.st_end.proofs.Backs.{fulfill_data, reject_data, reject_short}
 use Rattle.st_end.proofs.back.read_back.Goals as goal
 
 pub returns-in-Ok-Fulfill : goal.returns-in-Ok-Fulfill
@@ -14,12 +14,9 @@ returns-in-Ok-Fulfill c =
 
 pub returns-in-Ok-Reject : goal.returns-in-Ok-Reject
 returns-in-Ok-Reject c =
-    let read : answer_at c.args.bytes.now ≡ Ok (Rejected c.in-Ok-Reject.code c.in-Ok-Reject.field-0-1.now c.in-Ok-Reject.field-0-2.now c.in-Ok-Reject.payload.now) = search rules in (
+    let read : answer_at c.args.bytes.now ≡ Ok (Rejected c.in-Ok-Reject.code c.in-Ok-Reject.by.now c.in-Ok-Reject.message.now c.in-Ok-Reject.payload.now) = search rules in (
       omega (arith, c.saturating_sub-in-Ok-Reject.ensures),
-      (
-        c.in-Ok-Reject.field-0-1.now,
-        c.in-Ok-Reject.field-0-2.now,
-        subst (λ n. answer_at c.args.bytes.now ≡ Ok (Rejected c.in-Ok-Reject.code c.in-Ok-Reject.field-0-1.now c.in-Ok-Reject.field-0-2.now (drop n c.args.bytes.now))) (sym c.saturating_sub-in-Ok-Reject.ensures)
-            (reject_data c.args.bytes.now c.in-Ok-Reject.code c.in-Ok-Reject.field-0-1.now c.in-Ok-Reject.field-0-2.now c.in-Ok-Reject.payload.now c.answer_law.ensures (λ i. omega (arith, c.type_inv.bytes i)) read),
-      ),
+      reject_short c.args.bytes.now c.in-Ok-Reject.code c.in-Ok-Reject.by.now c.in-Ok-Reject.message.now c.in-Ok-Reject.payload.now c.answer_law.ensures (λ i. omega (arith, c.type_inv.bytes i)) read,
+      subst (λ n. answer_at c.args.bytes.now ≡ Ok (Rejected c.in-Ok-Reject.code c.in-Ok-Reject.by.now c.in-Ok-Reject.message.now (drop n c.args.bytes.now))) (sym c.saturating_sub-in-Ok-Reject.ensures)
+          (reject_data c.args.bytes.now c.in-Ok-Reject.code c.in-Ok-Reject.by.now c.in-Ok-Reject.message.now c.in-Ok-Reject.payload.now c.answer_law.ensures (λ i. omega (arith, c.type_inv.bytes i)) read),
     )
