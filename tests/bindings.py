@@ -338,6 +338,7 @@ ANSWERED = "calls were answered as they should be"
 def run_c(count, out, room):
     """The programs of bind/c: as they are, under valgrind, and with the sanitizers that the compiler has."""
     run_program(count, out, room, "two_ends", [], WHOLE, ["address,undefined"])
+    run_program(count, out, room, "failures", [], "4 causes were told", ["address,undefined"])
     run_program(count, out, room, "misuse", ["300"], ANSWERED, ["address,undefined", "thread"])
 
 

@@ -190,6 +190,16 @@ ilp_code ilp_end_is_failed(ilp_end *end, uint32_t *answer) {
     return end_call(call, result);
 }
 
+ilp_code proved_ilp_end_last_failure(void **handle, ilp_failure *failure);
+
+ilp_code ilp_end_last_failure(ilp_end *end, ilp_failure *failure) {
+    if (!failure) return ILP_NULL;
+    struct call call = begin_call(end);
+    if (!call.slot) return call.code;
+    ilp_code result = proved_ilp_end_last_failure(&call.slot->object, failure);
+    return end_call(call, result);
+}
+
 ilp_code proved_ilp_hop_new(void **handle, const uint8_t *own, size_t own_len, const ilp_account *accounts,
         size_t accounts_len, const uint8_t *prefixes, size_t prefixes_len, const ilp_route *routes, size_t routes_len);
 

@@ -204,6 +204,30 @@ ilp_code ilp_end_settled(ilp_end *end, uint32_t stream, uint32_t *answer);
 /* `answer` is 1 where the connection failed, else 0: 200 Prepares in a row without a Fulfill, or a final Reject code. */
 ilp_code ilp_end_is_failed(ilp_end *end, uint32_t *answer);
 
+/* What `kind` is of an ilp_failure. */
+enum {
+    ILP_LOST = 1,       /* no answer came */
+    ILP_UNREADABLE = 2, /* what came is neither a Fulfill nor a Reject */
+    ILP_UNFIT = 3,      /* a Fulfill came whose fulfillment does not fit the condition */
+    ILP_REJECTED = 4    /* a Reject came */
+};
+
+/* Why a Prepare failed. Of a Reject it has the code, such as T04; triggeredBy, the ILP address of whoever refused, in the first
+ * `by_len` bytes of `by`; and the first 255 bytes of the message, in the first `message_len` bytes of `message`. Whoever refused
+ * chose the message: it may have any characters, and its last one may be cut. Of anything else all of these are 0. No text ends
+ * with a 0. */
+typedef struct ilp_failure {
+    uint32_t kind;
+    uint8_t code[3];
+    size_t by_len;
+    size_t message_len;
+    uint8_t by[1023];
+    uint8_t message[255];
+} ilp_failure;
+
+/* Why the last Prepare of this end that failed did so. A later Fulfill does not change it. ILP_IDLE: none failed yet. */
+ilp_code ilp_end_last_failure(ilp_end *end, ilp_failure *failure);
+
 /* ---- a hop: the connector between a sender and a receiver (RFC 0027) */
 
 typedef struct ilp_hop { uint64_t inner; } ilp_hop;

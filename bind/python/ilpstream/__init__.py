@@ -5,7 +5,7 @@ There is no I/O here, no clock, no thread and no random number: bytes, times and
 raises `IlpError`, whose `number` is that of docs/ERRORS.md, and changes nothing. An argument that no call could be given, as a
 secret of 31 bytes, raises `ValueError`."""
 
-from ._end import Aborted, End, Outgoing, Received, Role, Totals
+from ._end import Aborted, End, Failure, FailureKind, Outgoing, Received, Role, Totals
 from ._hop import Account, Answer, Balances, Booking, Forward, Hop, Route
 from ._http import Request, Response, Status, Wants, Whole, answer_text, refusal_text, request_text
 from ._ilp import Fulfill, Prepare, Reject, read_answer
@@ -41,6 +41,8 @@ __all__ = [
     "ConnectionMaxData",
     "ConnectionNewAddress",
     "End",
+    "Failure",
+    "FailureKind",
     "Forward",
     "Frame",
     "Fulfill",

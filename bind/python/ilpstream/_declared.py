@@ -33,6 +33,17 @@ class Totals(Structure):
     _fields_ = [("accepted", c_uint64), ("delivered", c_uint64), ("credited", c_uint64), ("paid", c_uint64)]
 
 
+class Failure(Structure):
+    _fields_ = [
+        ("kind", c_uint32),
+        ("code", c_uint8 * 3),
+        ("by_len", c_size_t),
+        ("message_len", c_size_t),
+        ("by", c_uint8 * 1023),
+        ("message", c_uint8 * 255),
+    ]
+
+
 class Account(Structure):
     _fields_ = [("limit", c_uint64), ("max_packet", c_uint64)]
 
@@ -137,6 +148,7 @@ CALLS = {
     "ilp_end_has_stream": (c_uint32, (_handle, c_uint32, _u32)),
     "ilp_end_settled": (c_uint32, (_handle, c_uint32, _u32)),
     "ilp_end_is_failed": (c_uint32, (_handle, _u32)),
+    "ilp_end_last_failure": (c_uint32, (_handle, POINTER(Failure))),
     "ilp_hop_new": (
         c_uint32,
         (_handle, *_bytes, POINTER(Account), c_size_t, *_bytes, POINTER(Route), c_size_t),

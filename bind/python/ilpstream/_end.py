@@ -44,6 +44,27 @@ class Received:
     sequence: int | None
 
 
+class FailureKind(enum.IntEnum):
+    """How a Prepare failed: no answer came; what came is neither a Fulfill nor a Reject; a Fulfill came that does not fit; a
+    Reject came."""
+
+    LOST = 1
+    UNREADABLE = 2
+    UNFIT = 3
+    REJECTED = 4
+
+
+@dataclass(frozen=True)
+class Failure:
+    """Why a Prepare failed. Of a Reject: its code, as T04; `by`, the ILP address of whoever refused, or nothing; and the first
+    255 bytes of its message, which whoever refused chose, and whose last character may be cut. Else these are empty."""
+
+    kind: FailureKind
+    code: str = ""
+    by: str = ""
+    message: bytes = b""
+
+
 @dataclass(frozen=True)
 class Totals:
     """What an end did so far: bytes that were written and that were read, units that it received and that it paid."""
@@ -228,3 +249,30 @@ class End(Object):
     def is_failed(self) -> bool:
         """Whether the connection failed: 200 Prepares in a row without a Fulfill, or a final Reject code."""
         return self._answered("ilp_end_is_failed")
+
+    @alone
+    def last_failure(self) -> Failure | None:
+        """Why the last Prepare of this end that failed did so; None before the first. A later Fulfill does not change it.
+
+        >>> from ilpstream import Reject
+        >>> client = End(Role.CLIENT, bytes(32), "example.alice", "example.bob")
+        >>> client.write(client.open_stream(), b"hi")
+        >>> client.last_failure()
+        >>> client.fault(client.send(bytes(12), 0).flight)
+        >>> client.last_failure().kind.name
+        'LOST'
+        >>> client.answer(client.send(bytes(12), 0).flight, Reject("T04", "example.hub", "no liquidity").write())
+        False
+        >>> failure = client.last_failure()
+        >>> failure.kind.name, failure.code, failure.by, failure.message
+        ('REJECTED', 'T04', 'example.hub', b'no liquidity')
+        """
+        told = _declared.Failure()
+        answer = lib.ilp_end_last_failure(self._at(), byref(told))
+        if answer == Code.IDLE:
+            return None
+        done(answer)
+        if told.kind != FailureKind.REJECTED:
+            return Failure(FailureKind(told.kind))
+        by, message = bytes(told.by[: told.by_len]), bytes(told.message[: told.message_len])
+        return Failure(FailureKind.REJECTED, bytes(told.code).decode(), by.decode(), message)

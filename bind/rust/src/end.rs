@@ -90,6 +90,41 @@ pub enum Read {
     Aborted(u64),
 }
 
+/// Why a Prepare failed.
+#[derive(Clone, Debug, PartialEq, Eq)]
+pub enum Failure {
+    /// No answer came.
+    Lost,
+    /// What came is neither a Fulfill nor a Reject.
+    Unreadable,
+    /// A Fulfill came whose fulfillment does not fit the condition.
+    Unfit,
+    /// A Reject came.
+    Rejected {
+        /// Its code, as `T04`.
+        code: [u8; 3],
+        /// Its triggeredBy: the ILP address of whoever refused, or nothing.
+        by: String,
+        /// The first 255 bytes of its message. Whoever refused chose them: they may be any characters, and the last one may
+        /// be cut.
+        message: Vec<u8>,
+    },
+}
+
+/// A cause, as the archive tells it.
+fn failure(told: &raw::Failure) -> Failure {
+    match told.kind {
+        1 => Failure::Lost,
+        2 => Failure::Unreadable,
+        3 => Failure::Unfit,
+        _ => Failure::Rejected {
+            code: told.code,
+            by: String::from_utf8_lossy(&told.by[..told.by_len]).into_owned(),
+            message: told.message[..told.message_len].to_vec(),
+        },
+    }
+}
+
 /// What an end did with a Prepare.
 #[derive(Clone, Debug, PartialEq, Eq)]
 pub struct Received {
@@ -290,5 +325,16 @@ impl End {
     /// Whether the connection failed: 200 Prepares in a row without a Fulfill, or a final Reject code.
     pub fn is_failed(&mut self) -> Result<bool, Error> {
         answered(|answer| raw::ilp_end_is_failed(&mut self.handle, answer))
+    }
+
+    /// Why the last Prepare of this end that failed did so. `None` before the first failure; a later Fulfill does not change
+    /// it.
+    pub fn last_failure(&mut self) -> Result<Option<Failure>, Error> {
+        let mut told = raw::Failure::default();
+        match raw::ilp_end_last_failure(&mut self.handle, &mut told) {
+            DONE => Ok(Some(failure(&told))),
+            IDLE => Ok(None),
+            number => Err(Error::of(number)),
+        }
     }
 }

@@ -34,7 +34,7 @@ mod raw;
 #[cfg(feature = "refusing")]
 pub mod refusing;
 
-pub use end::{End, EndConfig, Flight, Outgoing, Read, Received, Role, Totals};
+pub use end::{End, EndConfig, Failure, Flight, Outgoing, Read, Received, Role, Totals};
 pub use error::Error;
 pub use hop::{Account, Balances, Booking, Hop, Route, Ticket, Verdict};
 pub use http::{Progress, Request, Response, answer_text, refusal_text, request_text};

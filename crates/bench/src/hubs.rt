@@ -6,7 +6,7 @@ ghost use Rattle.st_hub.specs.Hub.{IsNew};
 use crate::halves::{Counting, Half, Still, new_half};
 use crate::ring::{end, write};
 use st_end::Role;
-use st_hub::{Bench, HubLink, HubState, Worker, work};
+use st_hub::{Bench, HubLink, HubState, Unwatched, Worker, work};
 use st_ilp::Moment;
 use st_queues::{Gauge, GaugeSeat, Got, HubName, StreamReader, StreamWriter};
 use std::alloc::Global;
@@ -74,6 +74,7 @@ fn send_on<'a, N: HubName<Global>, M: HubName<Global>, R: Wait + std::time::Cloc
             stream: 0,
             rest: Duration::from_millis(IDLE),
             turns: u64::from(u32::MAX),
+            watch: &mut Unwatched,
         },
     );
 }

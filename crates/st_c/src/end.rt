@@ -1,6 +1,6 @@
 //! Calls on an end of a connection (RFC 0029).
 
-ghost use Rattle.std.specs.Prelude.{◌≡◌, ◌<◌, ◌⊎◌, length, nat_lt, Some, None, MatchOption, MatchResult};
+ghost use Rattle.std.specs.Prelude.{◌≡◌, ◌<◌, ◌≤◌, ◌⊎◌, length, take, nat_lt, Some, None, MatchOption, MatchResult};
 ghost use Rattle.st_end.specs.Calls as calls;
 ghost use Rattle.st_end.specs.Receiving.{t00_text};
 ghost use Rattle.st_end.specs.State.{new_end};
@@ -11,6 +11,7 @@ ghost use Rattle.st_sender.specs.Configs.{IsConfig, config};
 ghost use Rattle.st_embed.specs.Codes.{argument};
 ghost use Rattle.st_embed.specs.Ends.{IsNewEnd};
 ghost use Rattle.st_c.specs.Handles.{OnEnd, IfFits, IfMoment, is_byte, is_abort, flag, Copies};
+ghost use Rattle.st_c.specs.Failures.{IsFailure, SaysFailure, kind_number};
 ghost use Rattle.st_c.specs.Ends.{AreTerms, IsEndMade, Answers, Numbers, Says, SaysTotals, Reads, Sends, Receives, Sequence, Spends, Faults, role_of, config_of, no_memory};
 
 use crate::arguments::address;
@@ -19,7 +20,7 @@ use st_embed::{
     ABORTED, ARGUMENT, Answered, DONE, ENDED, Handle, HostEnd, IDLE, MISUSE, Object, Piece,
     UNKNOWN, code_of,
 };
-use st_end::{EndError, Role, Totals};
+use st_end::{EndError, Failed, FailedKind, Role, Totals};
 use st_ilp::Moment;
 use st_oer::Rate;
 use st_sender::EndConfig;
@@ -471,5 +472,81 @@ pub extern "C" fn ilp_end_is_failed(alloc: Global, handle: &mut Handle, answer: 
     on_end!(alloc, handle, end => {
         *answer = u32::from(end.state.is_failed());
         DONE
+    })
+}
+
+/// Why a Prepare of an end failed. `kind` is 1 where no answer came, 2 where it was neither a Fulfill nor a Reject, 3 where
+/// it was a Fulfill that does not fit, 4 where it was a Reject. Of a Reject it has the code, triggeredBy and the first bytes
+/// of the message; of anything else nothing.
+#[repr(C)]
+#[derive(Clone, Copy, Drop)]
+pub struct HostFailure {
+    /// 1 to 4.
+    pub kind: u32,
+    /// The code of the Reject.
+    pub code: [u8; 3],
+    /// How many bytes its triggeredBy has.
+    pub by_len: usize,
+    /// How many bytes of its message are told.
+    pub message_len: usize,
+    /// Its triggeredBy, at the front.
+    pub by: [u8; 1023],
+    /// Its message, at the front.
+    pub message: [u8; 255],
+}
+
+/// The number of a kind.
+fn kind_number(kind: FailedKind) -> u32
+    ensures { result ≡ kind_number kind }
+{
+    match kind {
+        FailedKind::Lost => 1,
+        FailedKind::Unreadable => 2,
+        FailedKind::Unfit => 3,
+        FailedKind::Rejected => 4,
+    }
+}
+
+/// These bytes at the front of an array, which has room for them.
+fn at_front<const N: usize>(bytes: &[u8]) -> [u8; N]
+    requires { length bytes.now ≤ N }
+    ensures { take (length bytes.now) result ≡ bytes.now }
+{
+    let mut front = [0; N];
+    front[..bytes.len()].copy_from_slice(bytes);
+    front
+}
+
+/// A cause, for a host.
+fn host_failure(failed: &Failed) -> HostFailure
+    ensures { IsFailure failed.now result }
+{
+    let by = failed.by();
+    let message = failed.message();
+    HostFailure {
+        kind: kind_number(failed.kind()),
+        code: failed.code().unwrap_or([0; 3]),
+        by_len: by.len(),
+        message_len: message.len(),
+        by: at_front(by),
+        message: at_front(message),
+    }
+}
+
+/// Why the last Prepare of this end that failed did so. `IDLE` where none failed yet.
+#[unsafe(no_mangle)]
+pub extern "C" fn ilp_end_last_failure(
+    alloc: Global,
+    handle: &mut Handle,
+    failure: &mut HostFailure,
+) -> u32
+    ensures { OnEnd handle.old.state handle.new.state result (λ old new. SaysFailure old new result failure.new) }
+{
+    on_end!(alloc, handle, end => match end.state.last_failure() {
+        Some(failed) => {
+            *failure = host_failure(&failed);
+            DONE
+        }
+        None => IDLE,
     })
 }

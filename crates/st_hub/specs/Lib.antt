@@ -9,5 +9,7 @@ pub mod Hub
 pub mod Turns
 pub mod Stalls
 pub mod Gates
+pub mod Causes
+pub mod Seen
 pub mod Begins
 pub mod Inside

@@ -18,7 +18,7 @@ ghost use Rattle.st_hub.specs.declared.error.HubError.TheVariants.{NoMemory};
 use crate::error::HubError;
 use crate::pumping::Pumped;
 use crate::streams::Streams;
-use st_end::{EndError, EndState, Totals};
+use st_end::{EndError, EndState, Failed, Totals};
 use st_queues::{Gauge, GaugeSeat, HubName, HubSeat, Named, Rings, StreamReader, StreamWriter};
 use std::alloc::Allocator;
 use std::marker::Model;
@@ -261,6 +261,20 @@ impl<N: HubName<A>, A: Allocator + Copy> HubState<N, A> {
         ensures { result ≡ self.now.flow.core.sending.failed }
     {
         self.streams.core().is_failed()
+    }
+
+    /// Why the last Prepare of this end that failed did so, as `EndState::last_failure` tells it. Does not allocate.
+    pub fn last_failure(&self) -> Option<Failed>
+        ensures { result ≡ self.now.flow.core.last }
+    {
+        self.streams.core().last_failure()
+    }
+
+    /// The greatest amount that this end's next Prepare may have, in units of its asset. Does not allocate.
+    pub fn packet_limit(&self) -> u64
+        ensures { result ≡ self.now.flow.core.sending.packet_limit }
+    {
+        self.streams.core().packet_limit()
     }
 
     /// A complete Reject with code T00 (RFC 0027), kept ready as the answer where memory is refused. Does not allocate.

@@ -8,6 +8,7 @@
 
 mod adding;
 mod bench;
+mod causes;
 mod error;
 mod gate;
 mod hub;
@@ -20,6 +21,7 @@ mod turns;
 mod workers;
 
 pub use bench::Bench;
+pub use causes::{Observer, Unwatched};
 pub use error::HubError;
 pub use hub::HubState;
 pub use hub_link::HubLink;

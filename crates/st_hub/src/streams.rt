@@ -5,7 +5,7 @@ ghost use Rattle.st_end.specs.Calls as calls;
 ghost use Rattle.st_end.specs.Calls.{OrWants};
 ghost use Rattle.st_end.specs.Sending as sending;
 ghost use Rattle.st_end.specs.Sending.{Goes, GoesNone};
-ghost use Rattle.st_end.specs.Answers.{ended};
+ghost use Rattle.st_end.specs.Answers.{ended, pays};
 ghost use Rattle.st_end.specs.Receiving.{received};
 ghost use Rattle.st_end.specs.Seen.{received_seen};
 ghost use Rattle.st_hop.specs.Seen.{outcome_seen};
@@ -133,14 +133,15 @@ impl<N: HubName<A>, A: Allocator + Copy> Streams<N, A> {
         self.core.send(iv, now)
     }
 
-    /// Ends a flight of the end with what came back to it.
-    pub(crate) fn settle(&mut self, flight: Flight, outcome: Outcome<A>)
+    /// Ends a flight of the end with what came back to it, and tells whether that is a Fulfill that fits.
+    pub(crate) fn settle(&mut self, flight: Flight, outcome: Outcome<A>) -> bool
         requires { sending.is_open self.old.core flight ≡ true }
         ensures left { self.new.core ≡ ended self.old.core flight (outcome_seen outcome) }
+        ensures paid { result ≡ pays flight (outcome_seen outcome) }
         ensures keeps { Keeps 0 self.old.core self.new.core }
         ensures rest { self.new ≡ record self.old { core = self.new.core } }
     {
-        settle_flight(&mut self.core, flight, outcome);
+        settle_flight(&mut self.core, flight, outcome)
     }
 
     /// The end's `receive`.
@@ -254,15 +255,21 @@ impl<N: HubName<A>, A: Allocator + Copy> Streams<N, A> {
     }
 }
 
-// Ends a flight with what came back to it.
-fn settle_flight<A: Allocator + Copy>(core: &mut EndState<A>, flight: Flight, outcome: Outcome<A>)
+// Ends a flight with what came back to it, and tells whether that is a Fulfill that fits.
+fn settle_flight<A: Allocator + Copy>(
+    core: &mut EndState<A>,
+    flight: Flight,
+    outcome: Outcome<A>,
+) -> bool
     requires { sending.is_open core.old flight ≡ true }
-    ensures { core.new ≡ ended core.old flight (outcome_seen outcome) }
+    ensures left { core.new ≡ ended core.old flight (outcome_seen outcome) }
+    ensures paid { result ≡ pays flight (outcome_seen outcome) }
 {
     match outcome {
-        Outcome::Answered(mut bytes) => {
-            let _ = core.answer(flight, &mut bytes);
+        Outcome::Answered(mut bytes) => core.answer(flight, &mut bytes),
+        Outcome::Fault => {
+            core.fault(flight);
+            false
         }
-        Outcome::Fault => core.fault(flight),
     }
 }

@@ -5,7 +5,7 @@ ghost use Rattle.st_hop.specs.Seen.{outcome_seen};
 ghost use Rattle.st_ilp.specs.Moments.{IsMoment};
 ghost use Rattle.st_end.specs.Sending as sending;
 ghost use Rattle.st_end.specs.Sending.{Goes, GoesNone};
-ghost use Rattle.st_end.specs.Answers.{ended};
+ghost use Rattle.st_end.specs.Answers.{ended, pays};
 ghost use Rattle.st_end.specs.Receiving.{received};
 ghost use Rattle.st_end.specs.Seen.{received_seen};
 ghost use Rattle.st_hub.specs.Hub.{with_core};
@@ -219,11 +219,13 @@ impl<N: HubName<A>, A: Allocator + Copy> HubState<N, A> {
     }
 
     /// Ends a turn with its outcome, as `EndState::answer` does with the bytes of an answer and `EndState::fault` where
-    /// none came. Does not allocate.
+    /// none came. Returns whether the outcome is a Fulfill that fits; where it is none, `last_failure` tells why. Does
+    /// not allocate.
     ///
     /// Fails with `Stranger` where the turn is not open at this hub. Then nothing has changed, and the turn is spent.
-    pub fn finish_turn(&mut self, turn: Turn<A>, outcome: Outcome<A>) -> Result<(), HubError>
+    pub fn finish_turn(&mut self, turn: Turn<A>, outcome: Outcome<A>) -> Result<bool, HubError>
         ensures finished { IfOk result (λ _. (sending.is_open self.old.flow.core turn.flight ≡ true) × (self.new.flow.core ≡ ended self.old.flow.core turn.flight (outcome_seen outcome))) }
+        ensures paid { IfOk result (λ paid. paid ≡ pays turn.flight (outcome_seen outcome)) }
         ensures stranger { IfErr result (λ e. (e ≡ Stranger) × (sending.is_open self.old.flow.core turn.flight ≡ false) × (self.new ≡ self.old)) }
         ensures rest { self.new ≡ with_core self.old self.new.flow.core }
     {
@@ -242,9 +244,9 @@ impl<N: HubName<A>, A: Allocator + Copy> HubState<N, A> {
             seat,
             ..
         } = self;
-        streams.settle(flight, outcome);
+        let paid = streams.settle(flight, outcome);
         publish(gauge, seat, streams);
-        Ok(())
+        Ok(paid)
     }
 
     /// Takes the bytes that arrived from the peer at the moment `now`, and returns the Fulfill or Reject that answers

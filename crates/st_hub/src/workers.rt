@@ -6,6 +6,7 @@ ghost use Rattle.st_hub.specs.Begins.{FindsAt, Finds, Uses, Exchanged};
 ghost use Rattle.st_hub.specs.Hub.{with_core};
 
 use crate::bench::Bench;
+use crate::causes::{Cause, Observer, close_turn};
 use crate::gate::is_temporary;
 use crate::hub::HubState;
 use crate::turns::{Step, Turn};
@@ -50,7 +51,7 @@ pub enum WorkEnd {
 }
 
 /// What one worker sends with, and for how long.
-pub struct Worker<'w, N: HubName<A>, A: Allocator + Copy, L, I, K> {
+pub struct Worker<'w, N: HubName<A>, A: Allocator + Copy, L, I, K, W> {
     /// The link over which it exchanges.
     pub link: &'w mut L,
     /// Where its IVs come from. One is read only where none is in hand.
@@ -68,6 +69,8 @@ pub struct Worker<'w, N: HubName<A>, A: Allocator + Copy, L, I, K> {
     pub rest: Duration,
     /// The most turns that it makes.
     pub turns: u64,
+    /// Who is told why a Prepare failed: `Unwatched` for nobody.
+    pub watch: &'w mut W,
 }
 
 /// What a worker found to do.
@@ -201,18 +204,27 @@ fn begin<N: HubName<A>, A: Allocator + Copy, K: Clock, R: Wait + std::time::Cloc
     }
 }
 
-/// Ends a turn, and wakes the workers that wait at the gate where that opens it.
+/// Ends a turn, and wakes the workers that wait at the gate where that opens it. Returns why the turn failed, where it
+/// did.
 fn finish<N: HubName<A>, A: Allocator + Copy, R: Wait + std::time::Clock>(
     rt: &R,
     bench: &Bench<N, A>,
     turn: Turn<A>,
     outcome: Outcome<A>,
-) {
+) -> Option<Cause> {
     let has_failed = is_temporary(&outcome);
     let mut state = bench.lock(rt);
-    let _ = state.finish_turn(turn, outcome);
+    let cause = close_turn(&mut state, turn, outcome);
     if bench.gate.lock(rt).ends(rt, has_failed) {
         bench.woken.notify_all();
+    }
+    cause
+}
+
+/// Tells of a cause, where there is one.
+fn tell<W: Observer>(watch: &mut W, cause: Option<Cause>) {
+    if let Some(cause) = cause {
+        watch.failed(&cause.failed, cause.limit);
     }
 }
 
@@ -233,8 +245,9 @@ fn make_turns<
     L: Link<A>,
     I: Ivs,
     K: Clock,
+    W: Observer,
     R: Wait + std::time::Clock,
->(rt: &R, bench: &Bench<N, A>, worker: Worker<'_, N, A, L, I, K>) -> WorkEnd {
+>(rt: &R, bench: &Bench<N, A>, worker: Worker<'_, N, A, L, I, K, W>) -> WorkEnd {
     let Worker {
         link,
         ivs,
@@ -244,6 +257,7 @@ fn make_turns<
         stream,
         rest,
         turns,
+        watch,
     } = worker;
     let mut hand = None;
     for _ in 0..turns {
@@ -256,7 +270,8 @@ fn make_turns<
         match begin(rt, bench, gauge, seat, &mut hand, stream, clock, rest) {
             Begun::Sends(turn) => {
                 let outcome = exchange(link, &turn);
-                finish(rt, bench, turn, outcome);
+                let cause = finish(rt, bench, turn, outcome);
+                tell(watch, cause);
             }
             Begun::Idle => {}
             Begun::Ends(end) => return end,
@@ -267,7 +282,7 @@ fn make_turns<
 
 /// Sends for a hub over the worker's link, and returns why it ended. In one turn it calls `pump` and `step` under the
 /// lock, exchanges the Prepare with the lock open, and calls `finish_turn` under the lock again. A `Turn` that is no
-/// longer open then changes nothing. After a turn with nothing to send it sleeps, until somebody wakes it (`Bench`) or its
+/// longer open then changes nothing. With the lock open again it tells its observer where the Prepare failed. After a turn with nothing to send it sleeps, until somebody wakes it (`Bench`) or its
 /// rest is over.
 ///
 /// While the last exchange failed for now (no answer came, or a Reject whose code begins with `T`), the workers of a hub
@@ -281,8 +296,9 @@ pub fn work<
     L: Link<A>,
     I: Ivs,
     K: Clock,
+    W: Observer,
     R: Wait + std::time::Clock,
->(rt: &R, bench: &Bench<N, A>, worker: Worker<'_, N, A, L, I, K>) -> WorkEnd {
+>(rt: &R, bench: &Bench<N, A>, worker: Worker<'_, N, A, L, I, K, W>) -> WorkEnd {
     let end = make_turns(rt, bench, worker);
     bench.wake_all(rt);
     end

@@ -6,7 +6,7 @@ ghost use Rattle.st_hub.specs.Hub.{IsNew};
 use crate::ends::{Counting, client, server, stopped_clock};
 use st_desk::Link;
 use st_end::EndState;
-use st_hub::{Bench, CreditShare, HubState, WorkEnd, Worker, work};
+use st_hub::{Bench, CreditShare, HubState, Observer, Unwatched, WorkEnd, Worker, work};
 use st_queues::{Gauge, GaugeSeat, HubName, Rings, StreamWriter};
 use std::alloc::{Allocator, Global};
 use std::marker::Brand;
@@ -42,6 +42,25 @@ pub(crate) fn work_on<
     ivs: &mut Counting,
     turns: u32,
 ) -> WorkEnd {
+    work_watched(rt, hubs, seat, link, ivs, turns, &mut Unwatched)
+}
+
+/// The same, watched.
+pub(crate) fn work_watched<
+    N: HubName<Global>,
+    M: HubName<Global>,
+    L: Link<Global>,
+    W: Observer,
+    R: Wait + Abort + std::time::Clock,
+>(
+    rt: &R,
+    hubs: &Locked<N, M>,
+    seat: &mut GaugeSeat<N, Global>,
+    link: &mut L,
+    ivs: &mut Counting,
+    turns: u32,
+    watch: &mut W,
+) -> WorkEnd {
     let mut clock = stopped_clock(rt);
     work(
         rt,
@@ -55,6 +74,7 @@ pub(crate) fn work_on<
             stream: 0,
             rest: rest(),
             turns: u64::from(turns),
+            watch,
         },
     )
 }

@@ -54,4 +54,6 @@ mod streams;
 #[cfg(test)]
 mod threads;
 #[cfg(test)]
+mod watched;
+#[cfg(test)]
 mod writers;

@@ -6,7 +6,7 @@ use crate::memory::{Refused, begin, came, prepare, run};
 use refusing::Refusing;
 use st_desk::{Link, LinkFault};
 use st_hop::Outcome;
-use st_hub::{Bench, CreditShare, HubError, HubLink, HubState, WorkEnd, Worker, work};
+use st_hub::{Bench, CreditShare, HubError, HubLink, HubState, Unwatched, WorkEnd, Worker, work};
 use st_ilp::Moment;
 use st_queues::{Gauge, GaugeSeat, Got, HubName, StreamReader, StreamWriter};
 use std::alloc::{Allocator, Global};
@@ -161,6 +161,7 @@ fn starve<N: HubName<A>, A: Allocator + Copy, L: Link<A>, R: Wait + Abort + std:
             stream: 0,
             rest: rest(),
             turns: 1,
+            watch: &mut Unwatched,
         },
     );
     sure!(rt; told == WorkEnd::NoMemory);

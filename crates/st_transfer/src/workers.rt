@@ -5,7 +5,7 @@ use crate::delivery::STREAM;
 use crate::ivs::SharedIvs;
 use crate::neighbour::link_to;
 use crate::terms::SendTerms;
-use st_hub::{Bench, Ivs, WorkEnd, Worker, work};
+use st_hub::{Bench, Ivs, Unwatched, WorkEnd, Worker, work};
 use st_queues::{Gauge, GaugeSeat, HubName};
 use std::alloc::Global;
 use std::net::Net;
@@ -51,6 +51,7 @@ pub(crate) fn work_alone<N: HubName<Global>, I: Ivs, R: Net + Wait + std::time::
                 stream: STREAM,
                 rest: Duration::from_millis(REST),
                 turns: terms.turns,
+                watch: &mut Unwatched,
             },
         ),
         Err(_) => WorkEnd::NoMemory,

@@ -45,6 +45,31 @@ pub(crate) struct Received {
     pub opened: u32,
 }
 
+/// Why a Prepare failed: what `kind` does not have is 0.
+#[repr(C)]
+#[derive(Clone, Copy)]
+pub(crate) struct Failure {
+    pub kind: u32,
+    pub code: [u8; 3],
+    pub by_len: usize,
+    pub message_len: usize,
+    pub by: [u8; 1023],
+    pub message: [u8; 255],
+}
+
+impl Default for Failure {
+    fn default() -> Failure {
+        Failure {
+            kind: 0,
+            code: [0; 3],
+            by_len: 0,
+            message_len: 0,
+            by: [0; 1023],
+            message: [0; 255],
+        }
+    }
+}
+
 /// What a hop did with a Prepare.
 #[repr(C)]
 #[derive(Clone, Copy, Default)]
@@ -200,6 +225,7 @@ unsafe extern "C" {
     pub(crate) safe fn ilp_end_has_stream(end: &mut Handle, stream: u32, answer: &mut u32) -> u32;
     pub(crate) safe fn ilp_end_settled(end: &mut Handle, stream: u32, answer: &mut u32) -> u32;
     pub(crate) safe fn ilp_end_is_failed(end: &mut Handle, answer: &mut u32) -> u32;
+    pub(crate) safe fn ilp_end_last_failure(end: &mut Handle, failure: &mut Failure) -> u32;
 
     fn ilp_hop_new(
         hop: &mut Handle,

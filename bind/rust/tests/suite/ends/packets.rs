@@ -6,7 +6,7 @@ use crate::hostile::plain::ilp::{self, PlainAnswer};
 use crate::hostile::plain::prepares::{Offer, prepare_bytes};
 use crate::hostile::plain::seal::{PlainKeys, sha256};
 use crate::hostile::plain::stream::{PlainFrame, packet, packet_bytes};
-use ilpstream::{End, EndConfig, Error, Flight, Read, Role};
+use ilpstream::{End, EndConfig, Error, Failure, Flight, Read, Role};
 
 /// A frame's type and its numbers (RFC 0029, section 5.3), and its text or data.
 type Frame = (u8, [u64; 3], Vec<u8>);
@@ -479,4 +479,46 @@ fn many_prepares_are_sent() {
     }
     assert!(send(&mut client).is_none());
     assert_eq!(client.totals().unwrap().paid, 1_000);
+}
+
+/// A Reject T04 of `example.c`, whose message has 256 bytes.
+fn long_reject() -> Vec<u8> {
+    let message = [b'x'; 256];
+    let front = b"\x0e\x82\x01\x11T04\x09example.c\x82\x01\x00";
+    [&front[..], &message, b"\0"].concat()
+}
+
+/// The last cause is told, also after a Fulfill.
+#[test]
+fn why_the_last_prepare_failed_is_told() {
+    let mut client = client(&[1], config(16, 1_000, 1_000));
+    client.write(1, b"a").unwrap();
+    assert_eq!(client.last_failure(), Ok(None));
+    let lost = sent(&mut client);
+    client.fault(lost.flight).unwrap();
+    assert_eq!(client.last_failure(), Ok(Some(Failure::Lost)));
+    let rejected = Failure::Rejected {
+        code: *b"T04",
+        by: "example.c".to_string(),
+        message: vec![b'x'; 255],
+    };
+    let mine = Failure::Rejected {
+        code: *b"F08",
+        by: "test.c".to_string(),
+        message: Vec::new(),
+    };
+    for (mut bytes, want) in [
+        (b"\x0e".to_vec(), Failure::Unreadable),
+        (long_reject(), rejected),
+        (fulfill_bytes(&[0; 32], b""), Failure::Unfit),
+        (reject_bytes(b"F08", b"test.c", b""), mine),
+    ] {
+        let next = sent(&mut client);
+        assert_eq!(client.answer(next.flight, &mut bytes), Ok(false));
+        assert_eq!(client.last_failure(), Ok(Some(want)));
+    }
+    let before = client.last_failure();
+    let taken = sent(&mut client);
+    fulfill(&mut client, &taken, &[]);
+    assert_eq!(client.last_failure(), before);
 }

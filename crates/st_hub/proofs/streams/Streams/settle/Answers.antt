@@ -7,7 +7,7 @@ use Rattle.st_hub.proofs.Opening.{ended_opens}
 use Rattle.st_hub.proofs.streams.Streams.settle.Goals as goal
 
 pub invariant_of-self : goal.invariant_of-self
-invariant_of-self g c = core_sound _ _ 0 _ _ _ _ (subst (Keeps 0 _) (sym c.settle_flight.ensures) (ended_keeps _ _ _)) (subst (OpensNoOwn _) (sym c.settle_flight.ensures) (ended_opens _ _ _)) c.self.invariant
+invariant_of-self g c = core_sound _ _ 0 _ _ _ _ (subst (Keeps 0 _) (sym c.settle_flight.ensures.left) (ended_keeps _ _ _)) (subst (OpensNoOwn _) (sym c.settle_flight.ensures.left) (ended_opens _ _ _)) c.self.invariant
 
 pub returns-clause-keeps : goal.returns-clause-keeps
-returns-clause-keeps g c = subst (λ (f : Flow _). Keeps 0 f.core c.settle_flight.new.core) c.self.view_is (subst (Keeps 0 _) (sym c.settle_flight.ensures) (ended_keeps _ _ _))
+returns-clause-keeps g c = subst (λ (f : Flow _). Keeps 0 f.core c.settle_flight.new.core) c.self.view_is (subst (Keeps 0 _) (sym c.settle_flight.ensures.left) (ended_keeps _ _ _))

@@ -1,0 +1,62 @@
+//! Why an exchange brought no Fulfill, for whoever watches the workers.
+
+ghost use Rattle.std.specs.Prelude.{◌≡◌};
+ghost use Rattle.st_hop.specs.Seen.{outcome_seen};
+ghost use Rattle.st_hub.specs.Causes.{cause_of, cause_with};
+ghost use Rattle.st_hub.specs.Seen.{cause_seen};
+
+use crate::hub::HubState;
+use crate::turns::Turn;
+use st_end::Failed;
+use st_hop::Outcome;
+use st_queues::HubName;
+use std::alloc::Allocator;
+
+/// Whoever is told of the exchanges of a worker that brought no Fulfill, as a log.
+pub trait Observer {
+    /// A Prepare failed, for this cause. `limit` is the end's packet limit after it, in units of its asset: after F08
+    /// (RFC 0027) it is a new one. It is called once for each exchange whose Prepare was open and is not fulfilled, in
+    /// the worker's thread, while it holds no lock of the hub.
+    fn failed(&mut self, failed: &Failed, limit: u64);
+}
+
+/// An observer that does nothing.
+#[derive(Clone, Copy, Debug, Drop)]
+pub struct Unwatched;
+
+impl Observer for Unwatched {
+    fn failed(&mut self, _failed: &Failed, _limit: u64) {}
+}
+
+/// Why a turn failed, and the packet limit after it.
+#[derive(Drop)]
+pub(crate) struct Cause {
+    pub(crate) failed: Failed,
+    pub(crate) limit: u64,
+}
+
+/// The last cause of a hub, and its packet limit.
+fn last_cause<N: HubName<A>, A: Allocator + Copy>(state: &HubState<N, A>) -> Option<Cause>
+    ensures { cause_seen result ≡ cause_with state.now.flow.core.sending.packet_limit state.now.flow.core.last }
+{
+    let failed = state.last_failure()?;
+    Some(Cause {
+        failed,
+        limit: state.packet_limit(),
+    })
+}
+
+/// Ends a turn, and tells why it failed, where it did.
+#[tactic(auto, using(crate::proofs::Causes::strange_tells_none, crate::proofs::Causes::paid_tells_none, crate::proofs::Causes::unpaid_tells))]
+pub(crate) fn close_turn<N: HubName<A>, A: Allocator + Copy>(
+    state: &mut HubState<N, A>,
+    turn: Turn<A>,
+    outcome: Outcome<A>,
+) -> Option<Cause>
+    ensures { cause_seen result ≡ cause_of state.old.flow.core turn.flight (outcome_seen outcome) }
+{
+    match state.finish_turn(turn, outcome) {
+        Ok(true) | Err(_) => None,
+        Ok(false) => last_cause(state),
+    }
+}
