@@ -2,9 +2,8 @@
 
 ghost use Rattle.std.specs.Prelude.{◌≡◌};
 ghost use Rattle.st_hop.specs.Seen.{outcome_seen};
-ghost use Rattle.st_hub.specs.Causes.{cause_of};
+ghost use Rattle.st_hub.specs.Causes.{cause_of, cause_with};
 ghost use Rattle.st_hub.specs.Seen.{cause_seen};
-ghost use Rattle.st_end.specs.Answers.{ended};
 
 use crate::hub::HubState;
 use crate::turns::Turn;
@@ -36,7 +35,19 @@ pub(crate) struct Cause {
     pub(crate) limit: u64,
 }
 
+/// The last cause of a hub, and its packet limit.
+fn last_cause<N: HubName<A>, A: Allocator + Copy>(state: &HubState<N, A>) -> Option<Cause>
+    ensures { cause_seen result ≡ cause_with state.now.flow.core.sending.packet_limit state.now.flow.core.last }
+{
+    let failed = state.last_failure()?;
+    Some(Cause {
+        failed,
+        limit: state.packet_limit(),
+    })
+}
+
 /// Ends a turn, and tells why it failed, where it did.
+#[tactic(auto, using(crate::proofs::Causes::strange_tells_none, crate::proofs::Causes::paid_tells_none, crate::proofs::Causes::unpaid_tells))]
 pub(crate) fn close_turn<N: HubName<A>, A: Allocator + Copy>(
     state: &mut HubState<N, A>,
     turn: Turn<A>,
@@ -44,15 +55,8 @@ pub(crate) fn close_turn<N: HubName<A>, A: Allocator + Copy>(
 ) -> Option<Cause>
     ensures { cause_seen result ≡ cause_of state.old.flow.core turn.flight (outcome_seen outcome) }
 {
-    let Ok(paid) = state.finish_turn(turn, outcome) else {
-        return None;
-    };
-    if paid {
-        return None;
+    match state.finish_turn(turn, outcome) {
+        Ok(true) | Err(_) => None,
+        Ok(false) => last_cause(state),
     }
-    let failed = state.last_failure()?;
-    Some(Cause {
-        failed,
-        limit: state.packet_limit(),
-    })
 }
