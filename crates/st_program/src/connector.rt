@@ -219,6 +219,7 @@ pub(crate) fn connector<
             let ended = serve_input(rt, opener, alloc, settings, reader, &mut totals, minutes);
             tell_accounts(telling, &totals, ended)
         }
-        Err(error) => Err(error),
+        Err(RunError::BadOption) => Err(RunError::BadOption),
+        Err(_) => Err(RunError::Fault(Fault::NoMemory)),
     }
 }
