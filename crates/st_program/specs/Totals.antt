@@ -32,10 +32,16 @@ accounts_text = lines_from account_text
 abbrev pub overloaded_text : ℕ → List ℕ
 overloaded_text n = if nat_eq n 0 then [] else codes "overloaded " ++ decimal n ++ 10 ∷ []
 
--- how the Prepares of the account of this number ended: `count 0 fulfilled 12 rejected 3 lost 1 refused 2` and a newline
-unfoldable pub count_text : (number : ℕ) → AccountCounts → List ℕ
-count_text n x = codes "count " ++ decimal n ++ codes " fulfilled " ++ decimal x.fulfilled ++ codes " rejected " ++ decimal x.rejected
-    ++ codes " lost " ++ decimal x.lost ++ codes " refused " ++ decimal x.refused ++ 10 ∷ []
+-- how the Prepares of an account ended, in two halves of a line
+unfoldable pub count_front : (number : ℕ) → AccountCounts → List ℕ
+count_front n x = codes "count " ++ decimal n ++ codes " fulfilled " ++ decimal x.fulfilled ++ codes " rejected " ++ decimal x.rejected
+
+unfoldable pub count_back : AccountCounts → List ℕ
+count_back x = codes " lost " ++ decimal x.lost ++ codes " refused " ++ decimal x.refused ++ 10 ∷ []
+
+-- the whole line: `count 0 fulfilled 12 rejected 3 lost 1 refused 2` and a newline
+abbrev pub count_text : (number : ℕ) → AccountCounts → List ℕ
+count_text n x = count_front n x ++ count_back x
 
 -- the Rejects of one code: `code 0 T04 3` and a newline
 unfoldable pub code_text : CodeCount → List ℕ

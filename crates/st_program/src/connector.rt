@@ -222,7 +222,8 @@ fn serve_reporting<
             } = reports;
             tell_accounts(minutes.telling, &totals, ended)
         }
-        Err(error) => Err(error),
+        Err(RunError::BadOption) => Err(RunError::BadOption),
+        Err(_) => Err(RunError::Fault(Fault::NoMemory)),
     }
 }
 
@@ -248,7 +249,8 @@ pub(crate) fn connector<
 {
     let journal = match journal(rt, alloc, settings.log) {
         Ok(journal) => journal,
-        Err(error) => return Err(error),
+        Err(RunError::BadOption) => return Err(RunError::BadOption),
+        Err(_) => return Err(RunError::Fault(Fault::NoMemory)),
     };
     let log = journal.as_ref();
     let start = Start::Connector {

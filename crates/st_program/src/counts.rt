@@ -6,21 +6,37 @@ ghost use Rattle.st_program.specs.Totals as spec;
 use st_transfer::{AccountCounts, CodeCount, Counts};
 use std::alloc::{AllocError, Global};
 
-/// The line of the account of this number.
-#[tactic(auto, using(crate::proofs::Pieces::pieces), unfolding(crate::specs::Totals::count_text))]
-fn count_text(alloc: Global, number: usize, counts: AccountCounts) -> Result<String, AllocError>
-    ensures { IfOk result (λ text. string_bytes text ≡ spec.count_text number counts) }
+/// The first half of the line of the account of this number.
+#[tactic(auto, using(crate::proofs::Pieces::pieces), unfolding(crate::specs::Totals::count_front))]
+fn count_front(alloc: Global, number: usize, counts: AccountCounts) -> Result<String, AllocError>
+    ensures { IfOk result (λ text. string_bytes text ≡ spec.count_front number counts) }
 {
     let AccountCounts {
         fulfilled,
         rejected,
-        lost,
-        refused,
         ..
     } = counts;
-    let text = format!(in alloc;
-        "count {number} fulfilled {fulfilled} rejected {rejected} lost {lost} refused {refused}\n"
-    )?;
+    let text = format!(in alloc; "count {number} fulfilled {fulfilled} rejected {rejected}")?;
+    Ok(text)
+}
+
+/// The second half of the line of an account.
+#[tactic(auto, using(crate::proofs::Pieces::pieces), unfolding(crate::specs::Totals::count_back))]
+fn count_back(alloc: Global, counts: AccountCounts) -> Result<String, AllocError>
+    ensures { IfOk result (λ text. string_bytes text ≡ spec.count_back counts) }
+{
+    let AccountCounts { lost, refused, .. } = counts;
+    let text = format!(in alloc; " lost {lost} refused {refused}\n")?;
+    Ok(text)
+}
+
+/// The line of the account of this number.
+fn count_text(alloc: Global, number: usize, counts: AccountCounts) -> Result<String, AllocError>
+    ensures { IfOk result (λ text. string_bytes text ≡ spec.count_text number counts) }
+{
+    let mut text = count_front(alloc, number, counts)?;
+    let back = count_back(alloc, counts)?;
+    text.push_str(back.as_str())?;
     Ok(text)
 }
 

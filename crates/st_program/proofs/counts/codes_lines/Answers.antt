@@ -5,7 +5,7 @@ use Rattle.st_program.proofs.counts.codes_lines.Goals as goal
 
 pub loop-place-init : goal.loop-place-init
 unfolding lines_from
-loop-place-init c = c.new-text.ensures
+loop-place-init c = c.new-text.ensures.items
 
 pub loop-place-preserved : goal.loop-place-preserved
 loop-place-preserved c =
