@@ -7,7 +7,8 @@ ghost use Rattle.st_words.specs.Program as spec;
 ghost use Rattle.st_words.specs.Program.{HasShape, has_globals, ledger_rule, log_rule, patience_rule, totals_rule, with_rule};
 
 use crate::options::{
-    last, number, option, placed, ranged, required, with, with_command, with_default, with_required,
+    last, number, option, placed, ranged, required, with, with_command, with_default,
+    with_optional, with_required,
 };
 use crate::texts::{
     ACCOUNTS_HELP, AFTER_CONNECTOR_HELP, AFTER_FRAMES_HELP, AFTER_HELP, AFTER_LEDGER_HELP,
@@ -67,16 +68,10 @@ fn with_keys<'a>(alloc: Global, command: Command<'a>) -> Result<Command<'a>, All
     requires { has_globals command ≡ false }
     ensures { IfOk result (HasShape (spec.with_keys (shape_of command.entry))) }
 {
-    let command = with(command, option(alloc, "token", "TOKEN", TOKEN_HELP))?;
-    let command = with(
-        command,
-        option(alloc, "token-file", "FILE", TOKEN_FILE_HELP),
-    )?;
-    let command = with(command, option(alloc, "secret", "HEX", SECRET_HELP))?;
-    with(
-        command,
-        option(alloc, "secret-file", "FILE", SECRET_FILE_HELP),
-    )
+    let command = with_optional(alloc, command, "token", "TOKEN", TOKEN_HELP)?;
+    let command = with_optional(alloc, command, "token-file", "FILE", TOKEN_FILE_HELP)?;
+    let command = with_optional(alloc, command, "secret", "HEX", SECRET_HELP)?;
+    with_optional(alloc, command, "secret-file", "FILE", SECRET_FILE_HELP)
 }
 
 /// The command with the options that both ends of a transfer need: the token, the secret and the two addresses.
