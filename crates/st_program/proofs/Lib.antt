@@ -2,6 +2,5 @@ pub mod Pieces
 pub mod Telling
 pub mod WordsTaken
 pub mod Asked
-pub mod FirstLines
 pub mod Tables
 pub mod Ledgers

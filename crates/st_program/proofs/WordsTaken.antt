@@ -2,22 +2,24 @@
 use Rattle.std.proofs.Common.{◌≡◌, ◌≢◌, ◌⊎◌, List, [], ◌∷◌, Option, codes, refl, sym, ap, subst, ◌∙◌, inl, inr}
 use Rattle.clap.specs.Words.{Kinds, Row, Text}
 use Rattle.clap.specs.Faults.{built_fault}
+use Rattle.clap.specs.Kinds.{or_else}
 use Rattle.clap.specs.Simple.{built, entered, names_of}
 use Rattle.clap.specs.Walk.{nothing_held, stop_after}
 use Rattle.clap.specs.declared.error.kind.ErrorKind.TheVariants as kind
 use Rattle.clap.proofs.OnLiterals.{clap_on_literals}
+use Rattle.st_words.specs.Pairs.{pairs_fault}
 use Rattle.st_words.specs.Program.{program}
 use Rattle.st_words.specs.declared.request.Request.TheVariants as request
 use Rattle.st_words.specs.Words.{AsksBy, refusals}
 use Rattle.st_program.specs.Words.{AsksFrames, AsksToShow, MayRefuse, NamesFrames, after_name}
 
--- the refusals of what follows the program's name
-abbrev faults : List Text → Kinds
-faults words = built_fault (built program) nothing_held words
-
--- the command that they name
+-- the command that they name which follow the program's name
 abbrev command : List Text → Option (Text × List Row)
 command words = entered (built program) (stop_after (built program).top.rules (names_of (built program)) words)
+
+-- their refusals
+abbrev faults : List Text → Kinds
+faults words = or_else (built_fault (built program) nothing_held words) (pairs_fault (command words))
 
 abbrev Takes : List Text → Type 0
 Takes words = (faults words ≡ []) × AsksBy (command words) request.Frames

@@ -86,7 +86,7 @@ fn token_of<N: Files<File = File>>(
     token: Token<'_>,
 ) -> Result<String, RunError>
     requires { IsLawfulToken token }
-    ensures same { IfOk result (λ text. HasToken token (string_bytes text)) }
+    ensures same { IfOk result (λ text. HasToken token.entry (string_bytes text)) }
     ensures visible { IfOk result (λ text. texts.is_field_text (string_bytes text) ≡ true) }
     ensures refused { IfErr result WhyNotOpened }
 {
@@ -107,7 +107,7 @@ fn secret_of<N: Files<File = File>>(
     alloc: Global,
     secret: Secret<'_>,
 ) -> Result<[u8; 32], RunError>
-    ensures same { IfOk result (HasSecret secret) }
+    ensures same { IfOk result (HasSecret secret.entry) }
     ensures refused { IfErr result WhyNotOpened }
 {
     let name = match secret {
@@ -124,14 +124,14 @@ fn secret_of<N: Files<File = File>>(
 /// The token and the secret of an end. Of a file that has one of them, the first 4,096 bytes are read.
 ///
 /// Fails with `BadOption` where a file cannot be read, or its first line is bad; and where memory is refused.
-pub(crate) fn credentials<N: Files<File = File>>(
+pub(crate) fn credentials_of<N: Files<File = File>>(
     rt: &N,
     alloc: Global,
     token: Token<'_>,
     secret: Secret<'_>,
 ) -> Result<Credentials, RunError>
     requires { IsLawfulToken token }
-    ensures same { IfOk result (AreOf token secret) }
+    ensures same { IfOk result (AreOf token.entry secret.entry) }
     ensures refused { IfErr result WhyNotOpened }
 {
     let secret = secret_of(rt, alloc, secret)?;

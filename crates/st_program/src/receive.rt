@@ -5,7 +5,7 @@ ghost use Rattle.st_program.specs.Credentials.{AreOf};
 ghost use Rattle.st_program.specs.Settings.{IsReceiver};
 ghost use Rattle.st_program.specs.declared.error.RunError.TheVariants.{BadOption};
 
-use crate::credentials::{Credentials, credentials};
+use crate::credentials::{Credentials, credentials_of};
 use crate::error::RunError;
 use crate::log::{Log, journal, tell, tell_end, tell_run};
 use crate::send::widest;
@@ -105,7 +105,7 @@ pub(crate) fn receive<
     requires { IsReceiver settings.now }
     ensures { result ≡ Err BadOption → writer.new ≡ writer.old }
 {
-    let credentials = match credentials(rt, alloc, settings.token, settings.secret) {
+    let credentials = match credentials_of(rt, alloc, settings.token, settings.secret) {
         Ok(credentials) => credentials,
         Err(error) => return Err(error),
     };

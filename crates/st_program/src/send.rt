@@ -5,7 +5,7 @@ ghost use Rattle.st_program.specs.Credentials.{AreOf};
 ghost use Rattle.st_program.specs.Settings.{IsSender};
 ghost use Rattle.st_program.specs.declared.error.RunError.TheVariants.{BadOption};
 
-use crate::credentials::{Credentials, credentials};
+use crate::credentials::{Credentials, credentials_of};
 use crate::error::RunError;
 use crate::log::{Log, journal, tell, tell_end, tell_run};
 use crate::totals::{nothing_yet, tell_totals, totals_file};
@@ -139,7 +139,7 @@ pub(crate) fn send<
     requires { IsSender settings.now }
     ensures { result ≡ Err BadOption → reader.new ≡ reader.old }
 {
-    let credentials = match credentials(rt, alloc, settings.token, settings.secret) {
+    let credentials = match credentials_of(rt, alloc, settings.token, settings.secret) {
         Ok(credentials) => credentials,
         Err(error) => return Err(error),
     };

@@ -1,6 +1,6 @@
 -- What is answered first, and what is answered then.
-use Rattle.std.proofs.Common.{◌≡◌, List, [], ◌∷◌, refl, inl, inr}
-use Rattle.std.specs.Prelude.{Result, Ok, Err}
+use Rattle.std.proofs.Common.{◌≡◌, [], ◌∷◌, sym, subst, inl, inr}
+use Rattle.std.specs.Prelude.{Result, Ok, Err, IsErrAnd}
 use Rattle.clap.specs.Kinds.{or_else}
 use Rattle.clap.specs.Words.{FailsBy, HasKind, Kinds}
 use Rattle.clap.specs.declared.error.Error.{Error}
@@ -11,6 +11,7 @@ refused_first [] next e (inl memory) = inl memory
 refused_first [] next e (inr none) = absurd none
 refused_first (k ∷ ks) next e has = has
 
--- where nothing was refused at first, what is refused then counts
-pub refused_then : {T : Type 0} (first next : Kinds) (r : Result T Error) → first ≡ [] → FailsBy next r → FailsBy (or_else first next) r
-refused_then first next r none fails = rw none fails
+-- the same of a result that is that error
+pub refused_on : {T : Type 0} (first next : Kinds) (r : Result T Error) (e : Error) → IsErrAnd r (λ x. x ≡ e) → HasKind first e → FailsBy (or_else first next) r
+refused_on first next (Ok x) e is has = absurd is
+refused_on first next (Err x) e is has = subst (λ (y : Error). HasKind (or_else first next) y) (sym is) (refused_first first next e has)

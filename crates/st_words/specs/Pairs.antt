@@ -1,6 +1,6 @@
 -- Pairs of options of a command, of which exactly one has to be given. clap takes them both, or neither: with groups, or with rules on one
 -- another, its contracts would say less of all arguments.
-use Rattle.std.specs.Prelude.{ℕ, Bool, true, false, ◌||◌, [], ◌∷◌, List, codes, Option, Some, None, is_some, if◌then◌else◌}
+use Rattle.std.specs.Prelude.{Bool, true, false, ◌||◌, [], ◌∷◌, List, codes, Option, Some, None, is_some, if◌then◌else◌}
 use Rattle.std.specs.Str.{bytes_eq}
 use Rattle.clap.specs.Kinds.{or_else}
 use Rattle.clap.specs.Words.{Kinds, Row, Text, first_of}

@@ -129,6 +129,20 @@ pub(crate) fn with_required<'a>(
     with(command, required(option(alloc, name, value, help)))
 }
 
+/// The command with one further option `--NAME`, which may be left out.
+pub(crate) fn with_optional<'a>(
+    alloc: Global,
+    command: Command<'a>,
+    name: &'a str,
+    value: &'a str,
+    help: &'a str,
+) -> Result<Command<'a>, AllocError>
+    requires { has_globals command ≡ false }
+    ensures { IfOk result (HasShape (with_rule (shape_of command.entry) (option_rule name.now))) }
+{
+    with(command, option(alloc, name, value, help))
+}
+
 /// The command with one further option, which has this default value.
 pub(crate) fn with_default<'a>(
     command: Command<'a>,

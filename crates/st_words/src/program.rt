@@ -8,7 +8,7 @@ ghost use Rattle.st_words.specs.Program.{HasShape, has_globals, ledger_rule, log
 
 use crate::options::{
     last, number, option, placed, placed_number, ranged, required, with, with_command,
-    with_default, with_required,
+    with_default, with_optional, with_required,
 };
 use crate::texts::{
     ACCOUNTS_HELP, AFTER_CONNECTOR_HELP, AFTER_EXPLAIN_HELP, AFTER_FRAMES_HELP, AFTER_HELP,
@@ -69,16 +69,10 @@ fn with_keys<'a>(alloc: Global, command: Command<'a>) -> Result<Command<'a>, All
     requires { has_globals command ≡ false }
     ensures { IfOk result (HasShape (spec.with_keys (shape_of command.entry))) }
 {
-    let command = with(command, option(alloc, "token", "TOKEN", TOKEN_HELP))?;
-    let command = with(
-        command,
-        option(alloc, "token-file", "FILE", TOKEN_FILE_HELP),
-    )?;
-    let command = with(command, option(alloc, "secret", "HEX", SECRET_HELP))?;
-    with(
-        command,
-        option(alloc, "secret-file", "FILE", SECRET_FILE_HELP),
-    )
+    let command = with_optional(alloc, command, "token", "TOKEN", TOKEN_HELP)?;
+    let command = with_optional(alloc, command, "token-file", "FILE", TOKEN_FILE_HELP)?;
+    let command = with_optional(alloc, command, "secret", "HEX", SECRET_HELP)?;
+    with_optional(alloc, command, "secret-file", "FILE", SECRET_FILE_HELP)
 }
 
 /// The command with the options that both ends of a transfer need: the token, the secret and the two addresses.
