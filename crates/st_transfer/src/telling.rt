@@ -108,17 +108,17 @@ pub(crate) fn tell_fault<R: Clock>(
 }
 
 /// Tells of an answer that is no Fulfill. Whether it is one.
-pub(crate) fn tell_answer<R: Clock>(
-    rt: &R,
-    log: Log<'_>,
-    neighbour: usize,
-    answer: &[u8],
-) -> bool {
+pub(crate) fn tell_answer<R: Clock>(rt: &R, log: Log<'_>, neighbour: usize, answer: &[u8]) -> bool {
     let cause = match read_answer(answer) {
         Ok(Answer::Fulfill { .. }) => return true,
-        Ok(Answer::Reject {
-            code, by, message, ..
-        }) => Cause::Reject { code, by, message },
+        Ok(
+            Answer::Reject {
+                code,
+                by,
+                message,
+                ..
+            },
+        ) => Cause::Reject { code, by, message },
         Err(_) => Cause::Unreadable,
     };
     tell(rt, log, neighbour, &Event::Exchange(cause));
