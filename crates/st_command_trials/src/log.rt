@@ -39,7 +39,8 @@ fn a_message_makes_no_second_line(rt: HostRuntime) {
         by: "test.c",
         message: "no \"route\"\\\n2026-01-02T03:04:05.006Z end ok\u{e9}",
     });
-    let text = "2026-01-02T03:04:05.006Z exchange neighbour=3 cause=reject code=F02 triggered_by=\"test.c\" message=\"no \\\"route\\\"\\\\\\x0a2026-01-02T03:04:05.006Z end ok\\xc3\\xa9\"\n";
+    let text =
+        "2026-01-02T03:04:05.006Z exchange neighbour=3 cause=reject code=F02 triggered_by=\"test.c\" message=\"no \\\"route\\\"\\\\\\x0a2026-01-02T03:04:05.006Z end ok\\xc3\\xa9\"\n";
     sure!(&rt; is_line(rt.alloc(), MOMENT, &event, text));
 }
 
