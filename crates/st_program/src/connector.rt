@@ -8,7 +8,7 @@ ghost use Rattle.st_program.specs.declared.error.RunError.TheVariants.{BadOption
 use crate::error::RunError;
 use crate::hop::{Going, hop_of, neighbours_of, restored};
 use crate::input::read_whole;
-use crate::totals::{ConnectorTotals, places, tell_accounts, telling};
+use crate::totals::{ConnectorTotals, place_for, places, tell_accounts};
 use sqlite_trees::store::Alter;
 use st_booking::Keeper;
 use st_books::Books;
@@ -208,7 +208,7 @@ pub(crate) fn connector<
 ) -> Result<(), RunError>
     ensures { EndsBy settings.now.own.now settings.now.ledger (R.remaining (device_of reader.old)) (tally_of reader.old) (tally_of reader.new) result ⊎ ((result ≡ Err BadOption) × (reader.new ≡ reader.old)) }
 {
-    match telling(rt, alloc, settings.totals) {
+    match place_for(rt, alloc, settings.totals) {
         Ok(mut telling) => {
             let mut totals = ConnectorTotals {
                 accounts: Vec::new(alloc),
