@@ -10,7 +10,7 @@ use crate::hop::{Going, hop_of, neighbours_of, restored};
 use crate::input::read_whole;
 use crate::log::{Log, journal, tell, tell_run, tell_table};
 use crate::reports::{EachMinute, Reports};
-use crate::totals::{ConnectorTotals, places, tell_accounts, telling};
+use crate::totals::{ConnectorTotals, place_for, places, tell_accounts};
 use sqlite_trees::store::Alter;
 use st_booking::Keeper;
 use st_books::Books;
@@ -203,7 +203,7 @@ fn serve_reporting<
 ) -> Result<(), RunError>
     ensures { EndsBy settings.now.own.now settings.now.ledger (R.remaining (device_of reader.old)) (tally_of reader.old) (tally_of reader.new) result ⊎ ((result ≡ Err BadOption) × (reader.new ≡ reader.old)) }
 {
-    match telling(rt, alloc, settings.totals) {
+    match place_for(rt, alloc, settings.totals) {
         Ok(telling) => {
             let mut reports = Reports {
                 totals: ConnectorTotals {

@@ -240,7 +240,7 @@ pub(crate) fn tell_totals<W: Write + Drop>(
 
 /// Finds out where a connector is to write its totals. A file of that name that is no regular one is opened, and emptied
 /// where it can be. Else a file is made beside it and removed. Fails with `BadOption` where that cannot be done.
-pub(crate) fn telling<'a, N: Files<File = File>>(
+pub(crate) fn place_for<'a, N: Files<File = File>>(
     rt: &'a N,
     alloc: Global,
     name: Option<&'a str>,
