@@ -109,9 +109,7 @@ impl<C: Ledger, D: Ledger, R: Net + Wait + Clock> Links<Global> for Ways<'_, C, 
         } = self.common;
         if crew.may_send(self.rt, self.needed) {
             let by = earlier(self.latest, by);
-            let (outcome, cause) = neighbourhood.exchange_explained(
-                self.rt, *alloc, account, bytes, by,
-            );
+            let (outcome, cause) = neighbourhood.exchange(self.rt, *alloc, account, bytes, by);
             self.came = came_of(&outcome);
             self.sent = tell_outcome(self.rt, terms.log, account, &outcome, cause);
             return outcome;

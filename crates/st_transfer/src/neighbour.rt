@@ -91,21 +91,8 @@ impl<'a> Neighbourhood<'a> {
         }
     }
 
-    /// One exchange with the neighbour behind an account, over a link of its own.
+    /// One exchange with the neighbour behind an account, over a link of its own, and why it brought no answer.
     pub(crate) fn exchange<R: Net + Wait + Clock>(
-        &self,
-        rt: &R,
-        alloc: Global,
-        account: usize,
-        bytes: &[u8],
-        by: Moment,
-    ) -> Outcome<Global> {
-        let (outcome, _) = self.exchange_explained(rt, alloc, account, bytes, by);
-        outcome
-    }
-
-    /// The same, and why it brought no answer.
-    pub(crate) fn exchange_explained<R: Net + Wait + Clock>(
         &self,
         rt: &R,
         alloc: Global,
