@@ -14,5 +14,5 @@ pub mod StepTies
 pub mod Handings
 pub mod FreshRings
 pub mod Tries
-pub mod Causes
+pub mod Failing
 pub mod Expiries

@@ -47,7 +47,7 @@ fn last_cause<N: HubName<A>, A: Allocator + Copy>(state: &HubState<N, A>) -> Opt
 }
 
 /// Ends a turn, and tells why it failed, where it did.
-#[tactic(auto, using(crate::proofs::Causes::strange_tells_none, crate::proofs::Causes::paid_tells_none, crate::proofs::Causes::unpaid_tells))]
+#[tactic(auto, using(crate::proofs::Failing::strange_tells_none, crate::proofs::Failing::paid_tells_none, crate::proofs::Failing::unpaid_tells))]
 pub(crate) fn close_turn<N: HubName<A>, A: Allocator + Copy>(
     state: &mut HubState<N, A>,
     turn: Turn<A>,
