@@ -177,6 +177,15 @@ fn note_end<N: Clock>(rt: &N, alloc: Global, journal: &Journal<File>, ended: Res
     }
 }
 
+/// Whether all lines could be written so far.
+fn written(journal: &Journal<File>) -> Result<(), Fault> {
+    if journal.has_failed() {
+        Err(Fault::Output)
+    } else {
+        Ok(())
+    }
+}
+
 /// Writes how a command ended, where there is a log. Returns the result of the command: that the log failed is told where
 /// there is no other error.
 pub(crate) fn tell_run<N: Clock>(
@@ -185,17 +194,14 @@ pub(crate) fn tell_run<N: Clock>(
     log: Log<'_>,
     ended: Result<(), RunError>,
 ) -> Result<(), RunError>
-    ensures none { IsNone log → result ≡ ended }
+    ensures none { IsNone log.entry → result ≡ ended }
     ensures told { (told : Result (Unit {0}) AnyFault) × (result ≡ spec.ended_with ended told) }
 {
-    let Some(journal) = log else {
-        return ended;
-    };
-    note_end(rt, alloc, journal, ended);
-    let told = if journal.has_failed() {
-        Err(Fault::Output)
-    } else {
-        Ok(())
-    };
-    ended_with(ended, told)
+    match log {
+        Some(journal) => {
+            note_end(rt, alloc, journal, ended);
+            ended_with(ended, written(journal))
+        }
+        None => ended,
+    }
 }
