@@ -1,7 +1,6 @@
 //! The log of a command.
 
 ghost use Rattle.std.specs.Prelude.{◌≡◌, ◌⊎◌, IfErr, IfOk, IsNone, IsSome, Result};
-ghost use Rattle.st_commands.specs.declared.error.Fault.{Fault as AnyFault};
 ghost use Rattle.st_commands.specs.declared.error.Fault.TheVariants.{NoMemory};
 ghost use Rattle.st_program.specs.Totals as spec;
 ghost use Rattle.st_program.specs.declared.error.RunError.TheVariants.{BadOption, Fault as IsFault};
@@ -195,7 +194,7 @@ pub(crate) fn tell_run<N: Clock>(
     ended: Result<(), RunError>,
 ) -> Result<(), RunError>
     ensures none { IsNone log.entry → result ≡ ended }
-    ensures told { (told : Result (Unit {0}) AnyFault) × (result ≡ spec.ended_with ended told) }
+    ensures told { (told : Result (Unit {0}) Fault) × (result ≡ spec.ended_with ended told) }
 {
     match log {
         Some(journal) => {
