@@ -5,7 +5,7 @@ use Rattle.st_link.specs.Links.{status_of}
 use Rattle.st_link.specs.declared.cause.LinkCause.{LinkCause}
 use Rattle.st_link.specs.declared.cause.LinkCause.TheVariants as link
 use Rattle.st_sender.specs.Answering.{f08}
-use Rattle.st_end.specs.Failed.{Failed, Lost, Unreadable, Unfit, Rejected}
+use Rattle.st_end.specs.Failed.{Failed, Lost as NoneCame, Unreadable, Unfit, Rejected}
 use Rattle.st_log.specs.declared.event.Event.{Event}
 use Rattle.st_log.specs.declared.event.Event.TheVariants as event
 use Rattle.st_log.specs.declared.event.Cause.{Cause}
@@ -27,7 +27,7 @@ lost_told (Some status) = if status == 200 then None else Some (lost.Status stat
 
 -- what an end alone finds in the answer to a Prepare that failed: a Fulfill that does not fit, and a new packet limit
 abbrev pub end_told : Failed → (limit : ℕ) → Option Event
-end_told Lost limit = None
+end_told NoneCame limit = None
 end_told Unreadable limit = None
 end_told Unfit limit = Some (event.Exchange cause.Unfit)
 end_told (Rejected code by message) limit = if bytes_eq code f08 then Some (event.Limit limit) else None

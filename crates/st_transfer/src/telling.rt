@@ -191,7 +191,9 @@ pub(crate) fn tell_connection<R: Clock>(rt: &R, log: Log<'_>, status: Option<u16
 
 /// Tells that an end refused a packet, where it did.
 pub(crate) fn tell_refused<R: Clock>(rt: &R, log: Log<'_>, refused: Option<Refusal>) {
-    if let Some(Refusal { code, reason }) = refused {
+    if let Some(refusal) = refused {
+        let code = refusal.code;
+        let reason = refusal.reason;
         tell(rt, log, 0, &Event::Refused { code, reason });
     }
 }
