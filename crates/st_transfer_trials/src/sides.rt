@@ -192,6 +192,24 @@ pub(crate) fn connect_storing<
     )
 }
 
+/// The terms of such a connector, of whose totals something is told each period of so many milliseconds.
+fn terms_of<'a>(
+    tokens: &'a [&'a str],
+    neighbours: &'a [Option<Neighbour<'a>>],
+    workers: u8,
+    period: u64,
+) -> ConnectTerms<'a> {
+    ConnectTerms {
+        tokens,
+        neighbours,
+        requests: 1_000,
+        workers,
+        turns: TURNS,
+        period: Duration::from_millis(period),
+        log: None,
+    }
+}
+
 /// The same, where something is told each period of so many milliseconds.
 pub(crate) fn connect_telling<
     R: Net<Listener = TcpListener, Stream = TcpStream> + Threads + Wait + std::time::Clock + Sync,
@@ -211,15 +229,9 @@ pub(crate) fn connect_telling<
     let Ok(hop) = new_hop(alloc, rate) else {
         return Err(TransferError::NoMemory);
     };
-    let terms = ConnectTerms {
-        tokens: &[TOKEN, "t1"],
-        neighbours: &[None, Neighbour::new(next, TOKEN)],
-        requests: 1_000,
-        workers,
-        turns: TURNS,
-        period: Duration::from_millis(period),
-        log: None,
-    };
+    let tokens = [TOKEN, "t1"];
+    let neighbours = [None, Neighbour::new(next, TOKEN)];
+    let terms = terms_of(&tokens, &neighbours, workers, period);
     Ok(connector_on(rt, alloc, listener, hop, terms, till, minutes))
 }
 
