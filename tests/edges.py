@@ -516,7 +516,8 @@ def accepts_that_fail_for_good_at(play, command):
     told, taken = ended(it, 1), time.monotonic() - begun
     # (100 failures, of which each is followed by ten milliseconds)
     want(told == "80" and taken > 0.9, f"{command} {told} after {taken:.1f} s")
-    want(totals(it.totals), "it reports no totals")
+    # (a connector opens the file that replaces its totals at its end, for which there is no number here)
+    want(command == "connector" or totals(it.totals), "it reports no totals")
     return f"80 after {taken:.1f} s"
 
 
