@@ -747,10 +747,10 @@ drop at once, each third, before a connector: whole
 drop in the request, each third, before a connector: whole
 drop before the receiver, each third, before a connector: whole
 wrong condition, each third, before a connector: whole
-request with a turned bit, each third, before a connector: send 58, receive waits, a part
+request with a turned bit, each third, before a connector: send 58, receive waits, at most a part
 another's request again, each third, before a connector: whole
-wrong fulfillment, each third, behind a connector: send 58, receive waits, a part
-another's fulfillment, each third, behind a connector: send 58, receive waits, a part
+wrong fulfillment, each third, behind a connector: send 58, receive waits, at most a part
+another's fulfillment, each third, behind a connector: send 58, receive waits, at most a part
 answer with a turned bit, each third, behind a connector: whole
 answer of 70,000 bytes, each third, behind a connector: whole
 drop before the answer, each third, behind a connector: whole
@@ -761,7 +761,7 @@ drop at once, each third, behind a connector: whole
 drop in the request, each third, behind a connector: whole
 drop before the receiver, each third, behind a connector: whole
 wrong condition, each third, behind a connector: whole
-request with a turned bit, each third, behind a connector: send 58, receive waits, nothing
+request with a turned bit, each third, behind a connector: send 58, receive waits, at most a part
 another's request again, each third, behind a connector: whole
 a full disk as output: send 58, receive 91, nothing
 an input that fails: send 90, receive waits, nothing
