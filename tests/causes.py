@@ -1,8 +1,9 @@
 #!/usr/bin/env python3
 """Whether the logs of `send`, `receive` and `connector` say why: causes.py [PROGRAM [WORD]]. A transfer is made to fail for one
-cause after another, and each is told apart by the sender's log alone. Each event is seen once with its whole line. No secret and no
-token stands in any output, and what a peer sends forges no line. The last line counts the tests."""
-import os, re, sys, time
+cause after another, and each is told apart by the sender's log alone. Each event is seen once with its whole line. A bad table is told by
+its line, for each rule of the whole table. No secret and no token stands in any output, and what a peer sends forges no line. The last
+line counts the tests."""
+import fcntl, os, re, select, signal, sys, threading, time
 
 from peers import HOST, SECRET, answer, ended, free_port, fulfill, message, octets, request, asked
 from play import Wrong, main, some_bytes, table_to, test, want
@@ -121,6 +122,22 @@ def too_little_that_arrives(play):
 
 
 @test(waits=True)
+def a_receive_max_that_is_met(play):
+    """Bytes arrive whole, money up to the receive max, and the sender says at which limit it waits."""
+    receiver = play.receive(most=300)
+    sender = play.send(play.before(receiver).port, b"", "--money=500", "--workers=1")
+    told = ended(sender, 60)
+    want(told == "59", f"send {told}")
+    seen = kinds(sender, "start", "more", "totals", "end", "closed")
+    wanted = [
+        'exchange neighbour=0 cause=reject code=F99 triggered_by="test.b" message=""',
+        "waits at=stream-money stream=1 receive_max=300 total=300",
+    ]
+    want(seen == wanted, f"log {seen}")
+    return wanted[1]
+
+
+@test(waits=True)
 def answers_that_are_cut(play):
     peer = play.peer(lambda _, stream: message(stream))
     return fails(play, peer.port, 58, FAILED, "exchange neighbour=0 cause=link fault=85")
@@ -143,6 +160,29 @@ def a_server_that_is_out_of_order(play):
         stream.sendall(b"HTTP/1.1 503 Busy\r\nContent-Length: 0\r\n\r\n")
 
     return fails(play, play.peer(handle).port, 58, FAILED, "exchange neighbour=0 cause=link fault=83 status=503")
+
+
+# A bad table is told by its line.
+
+ACCOUNTS = "account NAME=a 1 1 a - -\n\naccount 1 1 b - -\n"
+TABLES = {
+    "no limit": (ACCOUNTS + "account x 1 c - -\n", 4, "LIMIT is a number from 0 to 2^63 - 1"),
+    "one name": (ACCOUNTS + "route no! 9\naccount NAME=1 1 1 c - -\n", 5, "each name stands once, and an account without NAME= has its number as its name"),
+    "no address": (ACCOUNTS + "route test.b 1\nroute test..c 1\nroute test.b 1\n", 5, "PREFIX is an ILP address"),
+    "no account": (ACCOUNTS + "route test.b 1\n \nroute test.c 2\n", 6, "ACCOUNT is the number of an account of the table, from 0"),
+    "one prefix": (ACCOUNTS + "route test.b 1\nroute test.c 1\nroute test.b 0 1 2\n", 6, "each PREFIX stands once"),
+}
+
+
+@test(*[(rule,) for rule in TABLES], waits=True)
+def a_bad_table_is_told_by_its_line(play, rule):
+    table, line, words = TABLES[rule]
+    hub = play.start("connector", [f"--listen={HOST}:{free_port()}", "--own=test.hub", "--requests=1"], given=play.file(table.encode()))
+    told = ended(hub, 10)
+    want(told == "96", f"connector {told}")
+    seen = lines(hub)[1:]
+    want(seen == [f'table line={line} words="{words}"', 'end fault=96 words="the table is bad"'], f"log {seen}")
+    return seen[0]
 
 
 # What a peer sends is escaped.
@@ -220,6 +260,134 @@ def a_log_that_is_full_changes_nothing_but_the_status(play):
     told = ended(sender, 60)
     want(told == "58", f"send {told}")
     return "91, and 58 where that is the fault"
+
+
+@test(waits=True)
+def totals_are_told_each_minute(play):
+    given, writer = play.pipe()
+    receiver = play.receive()
+    sender = play.send(receiver.port, given, "--money=7")
+    writer.write(bytes(1_000))
+    time.sleep(62)
+    writer.write(bytes(500))
+    time.sleep(1)
+    writer.close()
+    told = ended(sender, 30), ended(receiver, 30)
+    want(told == ("0", "0"), f"send {told[0]}, receive {told[1]}")
+    seen = [[it for it in lines(process) if it.startswith("totals ")] for process in (sender, receiver)]
+    wanted = [
+        [f"totals accepted={count} delivered=0 credited=0 paid=7" for count in (1_000, 1_500)],
+        [f"totals accepted=0 delivered={count} credited=7 paid=0" for count in (1_000, 1_500)],
+    ]
+    want(seen == wanted, f"log {seen}")
+    return " / ".join(seen[0])
+
+
+def a_line_each_second(file, over):
+    """Reads a pipe as slowly as that."""
+    while not over.wait(1):
+        file.read(96)
+
+
+def a_page(play, name):
+    """A named pipe that takes one page, and its reader."""
+    path = f"{play.room}/{name}"
+    os.mkfifo(path)
+    file = os.fdopen(os.open(path, os.O_RDONLY | os.O_NONBLOCK), "rb", buffering=0)
+    play.open.append(file)
+    fcntl.fcntl(file.fileno(), fcntl.F_SETPIPE_SZ, 4_096)
+    return path, file
+
+
+@test(waits=True)
+def a_reader_of_a_log_holds_nothing_up(play):
+    (slow, file), (silent, _) = a_page(play, "slow"), a_page(play, "silent")
+    over = threading.Event()
+    threading.Thread(target=a_line_each_second, args=[file, over]).start()
+    seconds = []
+    try:
+        begun, logs = time.monotonic(), [{}, {"log": slow}, {"log": silent}]
+        for it in [play.send(free_port(), some_bytes(1_000), **log) for log in logs]:
+            told = ended(it, 60)
+            want(told == "58", f"send {told}")
+            seconds.append(time.monotonic() - begun)
+    finally:
+        over.set()
+    told = f"{seconds[0]:.1f} seconds with a file, {seconds[1]:.1f} with a slow reader, {seconds[2]:.1f} with one that reads nothing"
+    want(max(seconds[1:]) < 1.2 * seconds[0] + 2, told)
+    return told
+
+
+# What a terminal shows while a transfer runs.
+
+LINE = rb"\r\d+ bytes(?: \(\d+ %\))?, \d+ bytes/s, \d+ units(?: \(last failure: [a-z]+ T\d\d\))?\x1b\[K\r"
+CLEARED = rb"\r\x1b\[K"
+
+
+def written(file, bound):
+    """What is written to a terminal until nobody has it open any more, or for so many seconds."""
+    found, until = b"", time.monotonic() + bound
+    while select.select([file], [], [], max(until - time.monotonic(), 0))[0]:
+        try:
+            found += os.read(file.fileno(), 4_096)
+        except OSError:  # nobody has it open
+            break
+    return found
+
+
+def shows(play, file, process, begun):
+    """How many lines a process that ends well shows: at most four a second, and the last one is cleared."""
+    text = written(file, 30)
+    want(process.wait(10) == 0, f"status {process.returncode}, terminal {text[-80:]!r}")
+    want(re.fullmatch(rb"(?:%b)+%b" % (LINE, CLEARED), text), f"terminal {text!r}")
+    count = len(re.findall(LINE, text))
+    most = 4 * (time.monotonic() - begun) + 1
+    want(2 <= count <= most, f"{count} lines where {most:.0f} are the most")
+    return count, text
+
+
+@test(waits=True)
+def a_terminal_shows_how_far_a_sender_is(play):
+    receiver = play.receive()
+    file, terminal = play.terminal()
+    receiver.send_signal(signal.SIGSTOP)
+    threading.Timer(1.5, receiver.send_signal, [signal.SIGCONT]).start()
+    begun = time.monotonic()
+    sender = play.send(receiver.port, some_bytes(200_000), stderr=terminal)
+    terminal.close()
+    count, text = shows(play, file, sender, begun)
+    want(b" %), " in text, f"terminal {text!r}")
+    return f"{count} lines, as {text.split(bytes([13]))[1]!r}"
+
+
+@test(waits=True)
+def a_terminal_shows_how_far_a_receiver_is_and_a_pipe_shows_nothing(play):
+    given, writer = play.pipe()
+    file, terminal = play.terminal()
+    begun = time.monotonic()
+    receiver = play.receive(stderr=terminal)
+    terminal.close()
+    sender = play.send(receiver.port, given, "--money=7")
+    for _ in range(4):
+        writer.write(bytes(1_000))
+        time.sleep(0.4)
+    writer.close()
+    count, text = shows(play, file, receiver, begun)
+    want(re.search(rb"\r[123]000 bytes, \d+ bytes/s, 7 units", text), f"terminal {text!r}")
+    want(ended(sender, 10) == "0", "send printed something, or failed")
+    return f"{count} lines"
+
+
+@test(waits=True)
+def a_terminal_says_why_exchanges_fail(play):
+    peer = answering(play, reject(b"T00", b"test.x", b"\x1b[2J\n"))
+    file, terminal = play.terminal()
+    play.send(peer.port, some_bytes(1_000), "--workers=1", stderr=terminal)
+    terminal.close()
+    text = written(file, 2)
+    want(re.match(LINE, text) and b" (last failure: reject T00)\x1b[K\r" in text, f"terminal {text!r}")
+    want(b"\x1b[2J" not in text and b"test.x" not in text, f"terminal {text!r}")
+    return f"{text.count(bytes([27]))} lines"
 
 
 if __name__ == "__main__":

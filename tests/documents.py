@@ -1,10 +1,11 @@
 #!/usr/bin/env python3
-"""Compares docs/ERRORS.md and docs/LIMITS.md with the sources.
+"""Compares docs/ERRORS.md, docs/LIMITS.md and a table of docs/ARCHITECTURE.md with the sources.
 
 ERRORS: the help of each command ends with the faults that the document has for it. The numbers and the variants of its tables are those of each `number` and `fault_number` in crates/*/specs, the
 numbers in brackets those of each `inner`; the reasons of an end, the codes of a hop's Rejects, the statuses of HTTP and the
 numbers that calls of the library for C return are those of their definitions. What is in one and not in the other is a
 finding.
+ARCHITECTURE: the table of lemmas names each crate whose proofs cite another crate's lemmas, with that other crate.
 LIMITS: the value of each row is that of the constant, or stands in the definition, that the row names; and each constant of
 the crates below that is a whole number is in a row, or in OTHERS with the reason why it is no limit.
 Each finding is a line; the last line counts what was compared without a finding (tables for the most part), and findings."""
@@ -262,6 +263,29 @@ def check_calls(count):
     count.compared()
 
 
+# ---- lemmas of other crates
+
+
+def check_lemmas(count):
+    """The crates of the repository that cite lemmas of another one: each pair, and how many crates cite any."""
+    where, known = "docs/ARCHITECTURE.md", {path.split("/")[1] for path in files("crates/*/src/lib.rt")}
+    cited = set()
+    for path in files("crates/*/src/**/*.rt") + files("crates/*/specs/**/*.antt") + files("crates/*/proofs/**/*.antt"):
+        crate, text = path.split("/")[1], read(path)
+        for other in re.findall(r"\bRattle\.(\w+)\.proofs\b", text) + re.findall(r"\b(\w+)::proofs::", text):
+            if other in known and other != crate:
+                cited.add((other, crate))
+    documented = set()
+    for line, (below, _, above) in rows_of(where, "Lemmas of", count):
+        below, above = re.findall(r"\bst_\w+", below), re.findall(r"\bst_\w+", above)
+        in_order = "in this order" in read(where).splitlines()[line - 1]
+        documented |= set(zip(below, above)) if in_order else {(one, other) for one in below for other in above}
+    count.same(where, documented, cited, "crates/*/proofs")
+    crates = {above for _, above in cited}
+    count.check(f"the proofs of {len(crates)}\ncrates cite lemmas" in read(where), f"{where}: {len(crates)} crates cite lemmas")
+    count.compared()
+
+
 # ---- the limits
 
 CONST = re.compile(r"^\s*(?:pub(?:\(\w+\))? )?const (\w+): ([iu](?:8|16|32|64|128|size)) = ([^;]+);", re.M)
@@ -346,6 +370,7 @@ def main():
     check_help(count)
     check_codes(count)
     check_calls(count)
+    check_lemmas(count)
     check_limits(count)
     print(f"{count.passed} passed, {count.failed} failed")
     return 1 if count.failed else 0

@@ -2,7 +2,7 @@
 """Runs `send`, `receive` and `connector` at their edges: edges.py [PROGRAM [WORD]]. Links that fail and come back, peers that stop,
 many connections, too few threads and files. With a WORD, only the tests whose names have it. A line for each test says how long
 it took or what was measured, or what is wrong; the last line counts them. Tests that wait for a time-out run side by side."""
-import os, pty, re, resource, shutil, socket, sys, threading, time
+import os, pty, re, resource, shutil, socket, struct, sys, threading, time
 
 from peers import HOST, Peer, answer, asked, ended, free_port, free_ports, fulfill, message, prepare, request, totals, use_up
 from play import PROGRAM, Wrong, main, some_bytes, stands, table_to, test, want
@@ -525,8 +525,8 @@ def accepts_that_fail_for_good_at(play, command):
 def a_connector_with_more_connections_than_files(play):
     content = some_bytes(50_000)
     receiver = play.receive()
-    # (four workers and 16 threads more that accept take a number each)
-    hub = play.before(receiver, preexec_fn=lambda: resource.setrlimit(resource.RLIMIT_NOFILE, (48, 48)))
+    # (four workers and 16 threads more that accept would take a number each: those that get none end)
+    hub = play.before(receiver, preexec_fn=lambda: resource.setrlimit(resource.RLIMIT_NOFILE, (24, 24)))
     streams = [play.connect(hub.port) for _ in range(100)]
     time.sleep(0.5)
     for stream in streams:
@@ -559,6 +559,44 @@ def connections_that_send_nothing_use_up_no_request(play):
     told = ended(hub, 10)
     want(told == "0", f"connector {told} behind its requests")
     return "none"
+
+
+def reset(stream):
+    """Cuts a connection off, so that the other side's next call of it fails."""
+    stream.setsockopt(socket.SOL_SOCKET, socket.SO_LINGER, struct.pack("ii", 1, 0))
+    stream.close()
+
+
+@test((1, "closed"), (20, "reset"), (-40, "closed"), (-1, "reset"), (0, "reset"))
+def a_connection_to_a_connector_is_cut_behind_bytes(play, count, how):
+    sent, cut = threading.Event(), threading.Event()
+
+    def handle(number, stream):
+        message(stream)
+        if number == 1 and count == 0:
+            # (its answer is written to a connection that is no more)
+            sent.set()
+            cut.wait(10)
+            time.sleep(0.2)
+        stream.sendall(answer(fulfill()))
+
+    hub = play.before(play.peer(handle), requests=2)
+    whole = request("t", prepare(10, 30, "test.b"))
+    stream = play.connect(hub.port, whole[: count or None])
+    if count == 0:
+        want(sent.wait(10), "it is not sent on")
+    else:
+        time.sleep(0.2)
+    stream.close() if how == "closed" else reset(stream)
+    cut.set()
+    for _ in range(1 if count == 0 else 2):
+        _, body = asked((HOST, hub.port), request("t", prepare(10, 30, "test.b")), 20)
+        want(body[:1] == b"\x0d", f"answer {body[:20]!r}")
+    want(ended(hub, 10) == "0", "the connector does not end")
+    found = totals(hub.totals)
+    booked = [found.get("account 0 claims"), found.get("account 1 dues"), found.get("account 0 held")]
+    want(booked == [20, 20, 0], f"totals {found}")
+    return "two booked"
 
 
 # Clocks that advance.

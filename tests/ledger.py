@@ -374,7 +374,7 @@ class Transfers:
 
     def __init__(self, play, port, sender, receiver):
         self.play, self.hub, self.sender, self.receiver, self.is_over, self.wrong = play, port, sender, receiver, False, []
-        self.port, self.count, self.paid, self.credited = free_port(), 0, 0, 0
+        self.port, self.count, self.unanswered, self.paid, self.credited = free_port(), 0, 0, 0, 0
         self.thread = threading.Thread(target=self.run, daemon=True)
 
     def lines(self):
@@ -396,9 +396,12 @@ class Transfers:
         ways = {"token": f"{self.sender}-at-hub", "address": here, "peer": there, "secret": secret}
         sender = self.play.send(self.hub, content, f"--money={MONEY}", **ways)
         told = ended(sender, 120), ended(receiver, 20)
+        # A kill takes the answer to the last Prepare where the receiver has ended with all: nothing answers the sender again.
+        is_unanswered = told == ("58", "0")
         with open(receiver.path, "rb") as file:
-            want(told == ("0", "0") and file.read() == content, f"send {told[0]}, receive {told[1]}")
+            want((told == ("0", "0") or is_unanswered) and file.read() == content, f"send {told[0]}, receive {told[1]}")
         self.count += 1
+        self.unanswered += is_unanswered
         self.paid += totals(sender.totals)["paid"]
         self.credited += totals(receiver.totals)["credited"]
 
@@ -417,7 +420,8 @@ class Transfers:
         row = [self.paid, *sums, self.credited]
         told = f"{self.count} transfers from {self.sender} to {self.receiver} paid, booked and credited {row}"
         want(all(0 <= more - less <= 4 * kills * PIECE for less, more in zip(row, row[1:])), told)
-        return told
+        want(self.unanswered <= kills, f"{self.unanswered} transfers had no last answer, with {kills} kills")
+        return f"{told}, {self.unanswered} without the last answer"
 
 
 # Kills.

@@ -1,6 +1,6 @@
 """What tests of the real program start and share: a test's processes, with a folder of their own, that end with it; the list of
 the tests of a file; and how they are run and counted. A file of tests is called FILE.py [PROGRAM [WORD]]."""
-import os, socket, subprocess, sys, tempfile, time
+import os, pty, socket, subprocess, sys, tempfile, time
 from concurrent.futures import ThreadPoolExecutor
 from itertools import chain
 
@@ -103,7 +103,8 @@ class Play:
             self.count += 1
             totals, log = f"{self.room}/{self.count}.totals", how.pop("log", f"{self.room}/{self.count}.log")
             words = [how.pop("program", PROGRAM), command, *words, f"--totals={totals}", f"--log={log}"]
-            process = subprocess.Popen(words, stdin=given, stdout=out, stderr=subprocess.PIPE, **how)
+            how.setdefault("stderr", subprocess.PIPE)
+            process = subprocess.Popen(words, stdin=given, stdout=out, **how)
         process.totals, process.log = totals, log
         self.started.append(process)
         return process
@@ -156,6 +157,12 @@ class Play:
         given = os.fdopen(given, "rb")
         self.open += [writer, given]
         return given, writer
+
+    def terminal(self):
+        """A pseudo-terminal: the file that has what is written to it, and the one that it is written to."""
+        files = [os.fdopen(it, "r+b", buffering=0) for it in pty.openpty()]
+        self.open += files
+        return files
 
     def connect(self, port, content=b""):
         """A connection on which so much is sent and then nothing."""

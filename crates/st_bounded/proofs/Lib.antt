@@ -3,5 +3,6 @@ pub mod Joins
 pub mod Runs
 pub mod Tolds
 pub mod Parts
+pub mod Unopened
 pub mod Room
 pub mod Wholes

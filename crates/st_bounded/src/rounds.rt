@@ -1,6 +1,8 @@
 //! Rounds: a Prepare and its answer over all hops, then reads and writes.
 
-ghost use Rattle.std.specs.Prelude.{◌≡◌, suc, ◌+◌, ◌<◌, ◌^◌, MatchBool, IfErr, IfOk, OnOk};
+ghost use Rattle.std.specs.Prelude.{◌≡◌, suc, ◌+◌, ◌<◌, ◌^◌, [], ◌∷◌, MatchBool, IfErr, IfOk, OnOk};
+ghost use Rattle.st_world.specs.Sides.{Server};
+ghost use Rattle.st_world.specs.Events.{Read};
 ghost use Rattle.st_passage.specs.Worlds.{Met, going_over, passing};
 ghost use Rattle.st_passage.specs.Rounds.{reads};
 ghost use Rattle.st_passage.specs.Plays.{input_of};
@@ -54,13 +56,25 @@ fn pass<A: Allocator + Copy>(
     take(world, &Event::AnswerArrives(0, Way::ToServer, which, now))
 }
 
+/// A read of a stream at the server. It is left out where the stream is not open there: it would be refused, and change
+/// nothing.
+fn read_on<A: Allocator + Copy>(world: &mut World<A>, stream: u8) -> Result<(), Stop>
+    ensures met { OnOk result (Met world.old (Read Server stream read_limit ∷ []) world.new) }
+    ensures stops { IfErr result (λ e. Stops ⊥ ⊥ e world.old world.new) }
+{
+    if !world.has_stream(Side::Server, stream) {
+        return Ok(());
+    }
+    take(world, &Event::Read(Side::Server, stream, READ_LIMIT))
+}
+
 /// A read of each stream at the server.
 pub(crate) fn read_each<A: Allocator + Copy>(world: &mut World<A>) -> Result<(), Stop>
     ensures met { OnOk result (Met world.old (reads read_limit 0 65) world.new) }
     ensures stops { IfErr result (λ e. Stops ⊥ ⊥ e world.old world.new) }
 {
     for stream in 0..NUMBERS {
-        take(world, &Event::Read(Side::Server, stream, READ_LIMIT))?;
+        read_on(world, stream)?;
     }
     Ok(())
 }

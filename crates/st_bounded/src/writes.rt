@@ -71,7 +71,8 @@ fn fitting(input: &[u8], written: usize, read: usize) -> &[u8]
     &rest[..room.min(rest.len())]
 }
 
-/// Writes on a stream what fits of its input, and closes it at the input's end.
+/// Writes on a stream what fits of its input, and closes it at the input's end. Both are left out where the stream is
+/// not open: they would be refused, and change nothing.
 pub(crate) fn write_on<A: Allocator + Copy>(
     world: &mut World<A>,
     stream: u8,
@@ -80,6 +81,9 @@ pub(crate) fn write_on<A: Allocator + Copy>(
     ensures met { OnOk result (Met world.old (writes input.now stream (ledger_at world.old Client stream)) world.new) }
     ensures stops { IfErr result (λ e. Stops ⊥ ⊥ e world.old world.new) }
 {
+    if !world.has_stream(Side::Client, stream) {
+        return Ok(());
+    }
     let (written, read) = progress(world, stream);
     let piece = fitting(input, written, read);
     take(world, &Event::Write(Side::Client, stream, piece))?;

@@ -17,7 +17,7 @@ use Rattle.st_end.specs.Receiving.{Verdict, Unread, Rejects, Fulfills, verdict, 
 use Rattle.st_world.specs.Sides.{Side, Client, Server, other, Both, at, put}
 use Rattle.st_world.specs.Ledgers.{Ledger, ledger_or, written, cleanly_closed, given_up}
 use Rattle.st_world.specs.State.{World, Party, Node, Put, Lane, EndEntry, AtEnd, with_end, first_link}
-use Rattle.st_world.specs.Events.{Event, OpenStream, Write, Read, Close, Abort, Offer, ReceiveMax, Send, Told, Silent, Call, Opened, Gave, Sent, Answered, NoMemory}
+use Rattle.st_world.specs.Events.{Event, OpenStream, Write, Read, Close, Abort, Offer, ReceiveMax, Send, Told, Silent, Call, Took, Opened, Gave, Sent, Answered, NoMemory}
 use Rattle.st_world.specs.Ends.{Calls, accepted_at, AbortsAt, read_at, put_by, given_by, refused_entry, answered_at_end, flight_of, BackAtEnd}
 use Rattle.st_world.specs.Steps.{Meets, noted, MayHaveRisen, BackAt}
 use Rattle.st_nodes.specs.Parts.{CallMet, OpenMet, RaiseMet, ReadMet, kept_if, read_if, with_state, lane_in, with_lane_in, with_put_in, with_given_in, with_taken_in, with_answered}
@@ -191,7 +191,7 @@ module _ (ends : Both Party) (ns : List Node) (lg : Both Led) (r : Bool) where
         ])
 
     -- an outcome comes back to an end
-    ended_at : (link : ℕ) (way : Side) (j : ℕ) (z : Put) (outcome : Option (List ℕ)) (o : Option sender.Flight) (told : Told) (q : Party) (y : Lane) (ks : Links) → told ≡ cond (is_some o) (Call (Ok tt)) Silent
+    ended_at : (link : ℕ) (way : Side) (j : ℕ) (z : Put) (outcome : Option (List ℕ)) (o : Option sender.Flight) (told : Told) (q : Party) (y : Lane) (ks : Links) → told ≡ cond (is_some o) (Took (pays (flight_of z) outcome)) Silent
         → q ≡ with_state (at ends a) (ended_with (at ends a).state (flight_of z) o outcome) → y ≡ with_taken_in (is_some o && pays (flight_of z) outcome) (lane_in ls link way) j → ks ≡ with_lane_in ls link way y
         → BackAtEnd w link way j z outcome a o told (of_parts (put ends a q) ns ks lg r)
     ended_at link way j z outcome None told q y ks e eq ey ek = (e, back_to q ks r r link way y eq ek ey refl)

@@ -37,6 +37,9 @@ MeetsAt w link way which now p place told after =
 abbrev pub IsReached : World → Type 0
 IsReached w = (c : Chain) × (events : List Event) × Run (opening c) events w
 
--- with the links that there were, all holds that holds of a run
-abbrev pub HoldsOf : Left → Type 0
-HoldsOf t = (ls : List (Both Lane)) × Holds (in_world t ls)
+-- what is left is that of a world to which these events led, of which all holds that holds of a run
+pub record LeftBy (before : World) (events : List Event) (t : Left) : Type 0 where
+  pub world : World
+  pub run : Run before events world
+  pub holds : Holds world
+  pub left : t ≡ left_of world

@@ -12,6 +12,7 @@ mod event;
 mod fault;
 mod links;
 mod opening;
+mod sent;
 mod telling;
 mod trace;
 mod turn;

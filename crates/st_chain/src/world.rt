@@ -1,13 +1,15 @@
 //! A world: the result of a run so far, and the links over which it continues.
 
-ghost use Rattle.std.specs.Prelude.{◌≡◌, ◌<◌, ℕ, length, take, OnErr, IfOk, IfErr, IsOkUnless};
+ghost use Rattle.std.specs.Prelude.{◌≡◌, ◌<◌, ℕ, length, take, is_ok, OnErr, IfOk, IfErr, IsOkUnless};
+ghost use Rattle.st_end.specs.Calls.{has_stream};
+ghost use Rattle.st_end.specs.Reading.{read};
 ghost use Rattle.st_world.specs.Steps.{Happens};
-ghost use Rattle.st_world.specs.Runs.{Run};
-ghost use Rattle.st_world.specs.State as state;
+ghost use Rattle.st_world.specs.Holds.{Holds};
 ghost use Rattle.st_world.specs.Sides.{at};
+ghost use Rattle.st_world.specs.State.{end_at};
 ghost use Rattle.st_nodes.specs.Seen.{side_seen, told_seen};
 ghost use Rattle.st_chain.specs.Seen.{event_seen, events_seen};
-ghost use Rattle.st_chain.specs.Left.{left_of, HoldsOf};
+ghost use Rattle.st_chain.specs.Left.{left_of, LeftBy};
 
 use crate::event::Event;
 use crate::fault::Fault;
@@ -45,7 +47,7 @@ impl<A: Allocator + Copy> World<A> {
     /// The result of the run so far. Does not allocate.
     pub fn trace(&self) -> &Trace<A>
         ensures trace { result.now ≡ left_of self.now }
-        ensures holds { HoldsOf result.now }
+        ensures holds { Holds self.now }
     {
         every_run_holds();
         &self.trace
@@ -56,6 +58,15 @@ impl<A: Allocator + Copy> World<A> {
         ensures { result ≡ (at self.now.ends (side_seen side)).state.sending.failed }
     {
         self.trace.end(side).is_failed()
+    }
+
+    /// Whether a stream is open at an end. An event by which it is written, read or closed there is refused where it is
+    /// not, and changes nothing. Does not allocate.
+    pub fn has_stream(&self, side: Side, stream: u8) -> bool
+        ensures has { result ≡ has_stream (end_at self.now (side_seen side)) stream }
+        ensures reads { (limit : ℕ) → is_ok (read (end_at self.now (side_seen side)) stream limit).0 ≡ result }
+    {
+        self.trace.end(side).has_stream(stream)
     }
 
     /// Plays one event, and gives the result of its call. It is `Told::NoMemory` where the call of the end or the hop
@@ -71,13 +82,12 @@ impl<A: Allocator + Copy> World<A> {
     }
 
     /// Plays a list of events, and gives the result of the run. Where an event could not be recorded, it gives the
-    /// error and the result of the events before it.
+    /// error and the result of the events before it. What holds of every run (`every_run_holds` of st_world) holds of
+    /// the world that is left.
     pub fn play(mut self, events: &[Event<'_>]) -> Result<Trace<A>, (Fault, Trace<A>)>
-        ensures run { IfOk result (λ t. (w : state.World) × Run self (events_seen events.now) w × (t ≡ left_of w)) }
-        ensures part { IfErr result (λ e. (n : ℕ) × (n < length events.now) × (w : state.World) × Run self (events_seen (take n events.now)) w × (e.1 ≡ left_of w)) }
+        ensures run { IfOk result (λ t. LeftBy self (events_seen events.now) t) }
+        ensures part { IfErr result (λ e. (n : ℕ) × (n < length events.now) × LeftBy self (events_seen (take n events.now)) e.1) }
         ensures only_memory { IfErr result (λ e. e.0 ≡ Fault.NoMemory) }
-        ensures holds { IfOk result (λ t. HoldsOf t) }
-        ensures part_holds { IfErr result (λ e. HoldsOf e.1) }
     {
         for event in events {
             if let Err(fault) = self.step(event) {
@@ -92,7 +102,7 @@ impl<A: Allocator + Copy> World<A> {
     #[inline(never)]
     pub fn into_trace(self) -> Trace<A>
         ensures trace { result ≡ left_of self }
-        ensures holds { HoldsOf result }
+        ensures holds { Holds self }
     {
         every_run_holds();
         let World { trace, links: _ } = self;

@@ -232,7 +232,7 @@ impl<A: Allocator + Copy> Player<A> {
     fn outcome(&mut self, rt: &impl Abort, link: usize, way: Way, event: &Event<'_>) {
         let told = self.take(rt, event);
         match self.before(link, way) {
-            None => assert!(rt; matches!(told, Told::Call(Ok(())))),
+            None => assert!(rt; matches!(told, Told::Took(_))),
             Some(before) => {
                 assert!(rt; matches!(told, Told::Replied));
                 self.note_answer(rt, before, way);
@@ -253,9 +253,9 @@ impl<A: Allocator + Copy> Player<A> {
         self.outcome(rt, link, way, &event);
     }
 
-    /// What a read of a stream at an end tells.
+    /// What a read of a stream at an end tells, of as many bytes as there are.
     pub(crate) fn read(&mut self, rt: &impl Abort, side: Side, stream: u8) -> Told<A> {
-        self.take(rt, &Event::Read(side, stream, 10))
+        self.take(rt, &Event::Read(side, stream, usize::MAX))
     }
 }
 

@@ -2,8 +2,11 @@
 
 use crate::devices::Faulty;
 use st_ilp::Moment;
-use st_log::{Cause, Event, Journal, Lost, line};
+use st_log::{
+    AlwaysReady, Blocked, Brief, Cause, Event, Journal, Lost, Progress, Readiness, line, shown,
+};
 use std::alloc::Global;
+use std::cell::Cell;
 use std::io::ErrorKind;
 use std::process::Abort;
 
@@ -44,6 +47,37 @@ fn a_message_makes_no_second_line(rt: HostRuntime) {
     sure!(&rt; is_line(rt.alloc(), MOMENT, &event, text));
 }
 
+/// An end that waits at a receive max of 500 units, of which it paid 499.
+#[test]
+fn a_limit_has_its_stream(rt: HostRuntime) {
+    let event = Event::Waits(Blocked::StreamMoney {
+        stream: 1,
+        receive_max: 500,
+        total: 499,
+    });
+    let text =
+        "2026-01-02T03:04:05.006Z waits at=stream-money stream=1 receive_max=500 total=499\n";
+    sure!(&rt; is_line(rt.alloc(), MOMENT, &event, text));
+}
+
+/// A line of 1,500 bytes of 4,000 in three seconds, after a Reject whose code has an escape character.
+#[test]
+fn a_line_says_how_far_a_transfer_is(rt: HostRuntime) {
+    let progress = Progress {
+        bytes: 1_500,
+        length: Some(4_000),
+        millis: 3_000,
+        units: 7,
+        last: Some(Brief::Reject(*b"T0\x1b")),
+    };
+    let text = "\r1500 bytes (37 %), 500 bytes/s, 7 units (last failure: reject T0\\x1b)\x1b[K\r";
+    let is_so = match shown(rt.alloc(), &progress) {
+        Ok(line) => line.as_str() == text,
+        Err(_) => false,
+    };
+    sure!(&rt; is_so);
+}
+
 /// Thirteen events of one kind in a second have ten lines. The next second tells of the three.
 #[test]
 fn what_is_left_out_is_told(rt: HostRuntime) {
@@ -51,7 +85,7 @@ fn what_is_left_out_is_told(rt: HostRuntime) {
     let mut text = Vec::new(alloc);
     let moment = Moment::new(MOMENT).unwrap();
     let later = Moment::new(MOMENT + 1_000).unwrap();
-    if let Ok(journal) = Journal::new(alloc, Faulty::sound(&mut text), 3) {
+    if let Ok(journal) = Journal::new(alloc, Faulty::sound(&mut text), AlwaysReady, 3) {
         for _ in 0..13u32 {
             journal.note(&rt, moment, 3, &Event::Connection(Lost::Cut));
         }
@@ -71,11 +105,58 @@ fn a_failed_write_ends_the_log(rt: HostRuntime) {
     let alloc = rt.alloc();
     let mut text = Vec::new(alloc);
     let moment = Moment::new(MOMENT).unwrap();
-    if let Ok(journal) = Journal::new(alloc, Faulty::new(&mut text, 4096, 2, ErrorKind::Other), 0) {
+    let writer = Faulty::new(&mut text, 4096, 2, ErrorKind::Other);
+    if let Ok(journal) = Journal::new(alloc, writer, AlwaysReady, 0) {
         for _ in 0..3u32 {
             journal.note(&rt, moment, 0, &Event::Done);
         }
         sure!(&rt; journal.has_failed());
+    }
+    sure!(&rt; text.as_slice() == b"2026-01-02T03:04:05.006Z end ok\n".as_slice());
+}
+
+/// Says that its writer takes no line, for so many times.
+#[derive(Drop)]
+struct Busy {
+    left: Cell<u32>,
+}
+
+impl Readiness for Busy {
+    fn is_ready(&self) -> bool {
+        let left = self.left.get();
+        self.left.set(left.saturating_sub(1));
+        left == 0
+    }
+}
+
+/// Two lines for which the writer would wait are left out, and told before the third. The writer is asked once for the first
+/// of them, and twice for the second, which would stand behind the number of those before.
+#[test]
+fn a_line_that_would_wait_is_left_out(rt: HostRuntime) {
+    let alloc = rt.alloc();
+    let mut text = Vec::new(alloc);
+    let moment = Moment::new(MOMENT).unwrap();
+    let busy = Busy { left: Cell::new(3) };
+    if let Ok(journal) = Journal::new(alloc, Faulty::sound(&mut text), busy, 0) {
+        for _ in 0..3u32 {
+            journal.note(&rt, moment, 0, &Event::Connection(Lost::Cut));
+        }
+        sure!(&rt; !journal.has_failed());
+    }
+    let lines =
+        b"2026-01-02T03:04:05.006Z more neighbour=0 event=connection count=2\n2026-01-02T03:04:05.006Z connection cut\n";
+    sure!(&rt; text.as_slice() == lines.as_slice());
+}
+
+/// The line of the end waits for a writer that is not ready at first.
+#[test]
+fn the_end_waits_for_its_writer(rt: HostRuntime) {
+    let alloc = rt.alloc();
+    let mut text = Vec::new(alloc);
+    let moment = Moment::new(MOMENT).unwrap();
+    let busy = Busy { left: Cell::new(5) };
+    if let Ok(journal) = Journal::new(alloc, Faulty::sound(&mut text), busy, 0) {
+        journal.note(&rt, moment, 0, &Event::Done);
     }
     sure!(&rt; text.as_slice() == b"2026-01-02T03:04:05.006Z end ok\n".as_slice());
 }

@@ -1,6 +1,6 @@
 //! Text of hexadecimal digits.
 
-ghost use Rattle.std.specs.Prelude.{◌≡◌, ◌*◌, ◌≤◌, ℕ, length, take, Ok, IfOk};
+ghost use Rattle.std.specs.Prelude.{◌≡◌, ◌*◌, ◌<◌, ◌≤◌, ℕ, false, length, slice_index, take, Ok, IfOk};
 ghost use Rattle.std.specs.Bool.{OnTrue, OnFalse};
 ghost use Rattle.std.specs.List.{AllPass};
 ghost use Rattle.std.specs.Str.Lines.{strip_carriage_return};
@@ -49,6 +49,7 @@ fn value_of(character: u8) -> u8
 pub fn digits_before(text: &[u8]) -> usize
     ensures within { result ≤ length text.now }
     ensures digits { AllPass is_hex_digit (take result text.now) }
+    ensures other { result < length text.now → is_hex_digit (slice_index text.now result) ≡ false }
 {
     let mut count = 0;
     while count < text.len() && value_of(text[count]) < 16 {

@@ -75,7 +75,8 @@ impl<A: Allocator + Copy> LineSoFar<A> {
 
     /// Whether no byte of the line was appended.
     pub fn is_fresh(&self) -> bool
-        ensures { OnTrue result ((line : List ℕ) → StandsFor self.now line → line ≡ []) }
+        ensures yes { OnTrue result ((line : List ℕ) → StandsFor self.now line → line ≡ []) }
+        ensures no { OnFalse result ((line : List ℕ) → StandsFor self.now line → line ≢ []) }
     {
         match self.shape {
             Shape::Digits => self.count == 0,

@@ -103,6 +103,8 @@ gone_lawful e p c l = record {
     | inl same ↦ last_flies e.sending.flights (flight_of p) n (sym same)
     | inr apart ↦ still_flies e.sending.flights (flight_of p) n (l.kept n (sym (ap is_some (kept_apart e.conditions p.sequence n c apart)) ∙ h))
   ];
+  both = l.both;
+  places = l.places;
 }
 
 -- a load that flies, with its condition kept

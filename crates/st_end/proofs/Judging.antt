@@ -1,12 +1,11 @@
 -- What a packet that opened is answered, from what became of it.
 use Rattle.std.proofs.Common.{◌≡◌, ℕ, true, false, cond, Option, Some, None, Ok, ap, ◌∙◌, sym, subst, List, inl, inr}
-use Rattle.std.specs.Prelude.{is_some, ◌⊎◌}
+use Rattle.std.specs.Prelude.{◌⊎◌}
 use Rattle.st_ilp.specs.Packets.{PreparePacket, Fulfilled}
 use Rattle.st_ilp.specs.Spelling.{fulfill_kind, answer_text}
 use Rattle.st_frames.specs.Frames.{Packet, frames_of}
 use Rattle.st_keys.specs.Keys.{fulfillment}
 use Rattle.st_sender.specs.Sending.{Sending}
-use Rattle.st_sender.specs.Flights.{flight_at}
 use Rattle.st_receiver.specs.declared.reason.Reason.{Reason}
 use Rattle.st_receiver.specs.declared.reason.Reason.TheVariants.{NoMemory}
 use Rattle.st_receiver.specs.Reasons as reasons
@@ -16,6 +15,8 @@ use Rattle.st_end.specs.State.{EndState}
 use Rattle.st_end.specs.Lawful.{IsLawful}
 use Rattle.st_end.specs.Receiving.{Received, Rejects, judged_as, is_own_condition, opened_as, received_as, reply_payload, new_peer, fulfilled}
 use Rattle.st_end.specs.Inside.{taken_by}
+use Rattle.st_end.proofs.Streams.{sends, receives}
+use Rattle.st_end.proofs.Lawfulness.{both_open, lawful_as}
 use Rattle.st_end.proofs.Taking.{fulfilled_lawful}
 
 -- ---- the rule that applies
@@ -44,9 +45,10 @@ fulfilled_from e p r t s peer a b c =
     ∙ ap (λ (x : Receiving). record e { sending = taken_by e.sending r p; receiving = x; peer = peer }) b
     ∙ ap (λ (x : List ℕ). record e { sending = taken_by e.sending r p; receiving = r; peer = x }) c
 
-pub taken_lawful : (e : EndState) (p : Packet) (r t : Receiving) (s : Sending) (peer : List ℕ) → IsLawful e → s ≡ taken_by e.sending r p → t ≡ r → peer ≡ new_peer e.peer (frames_of p)
-    → IsLawful (record e { sending = s; receiving = t; peer = peer })
-taken_lawful e p r t s peer l a b c = subst IsLawful (sym (fulfilled_from e p r t s peer a b c)) (fulfilled_lawful e p r l)
+pub taken_lawful : (e : EndState) (p : Packet) (amount : ℕ) (t : Receiving) (s : Sending) (peer : List ℕ) → IsLawful e → fault_of e.receiving p amount ≡ None
+    → s ≡ taken_by e.sending (effect e.receiving p amount) p → t ≡ effect e.receiving p amount → peer ≡ new_peer e.peer (frames_of p) → IsLawful (record e { sending = s; receiving = t; peer = peer })
+taken_lawful e p amount t s peer l none a b c =
+    subst IsLawful (sym (fulfilled_from e p (effect e.receiving p amount) t s peer a b c)) (fulfilled_lawful e p amount none l)
 
 abbrev both : Received → EndState → Received × EndState
 both r e = (r, e)
@@ -61,8 +63,8 @@ taken_answer e now q p t s bytes peer same own fault a b c text =
     ∙ ap (λ (x : List ℕ). both (record { bytes = x; reason = 0; amount = q.amount; sequence = Some p.sequence }) (fulfilled e p (effect e.receiving p q.amount))) (sym text)
     ∙ ap (λ (x : EndState). both (record { bytes = bytes; reason = 0; amount = q.amount; sequence = Some p.sequence }) x) (sym (fulfilled_from e p (effect e.receiving p q.amount) t s peer a b c)))
 
-pub same_lawful : (e : EndState) (t : Receiving) (s : Sending) → IsLawful e → s ≡ e.sending → IsLawful (record e { sending = s; receiving = t })
-same_lawful e t s l a = record { own = l.own; peer = l.peer; kept = λ n h. ap (λ (x : Sending). is_some (flight_at x.flights n)) a ∙ l.kept n h }
+pub same_lawful : (e : EndState) (t : Receiving) (s : Sending) → IsLawful e → s ≡ e.sending → t ≡ e.receiving → IsLawful (record e { sending = s; receiving = t })
+same_lawful e t s l a b = lawful_as e s t (ap (λ (x : Sending). x.flights) a) (ap receives b ∙ both_open e l ∙ sym (ap sends a)) l
 
 -- ---- a decision
 

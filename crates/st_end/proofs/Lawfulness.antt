@@ -15,22 +15,26 @@ use Rattle.st_frames.specs.Frames.{Known, Packet, frames_of, ConnectionClose, Co
 use Rattle.st_keys.specs.Keys.{DerivedKeys}
 use Rattle.st_keys.specs.Sealed.{opened}
 use Rattle.st_keys.specs.declared.error.KeyError.{KeyError}
-use Rattle.st_sender.specs.Sending.{Outgoing, Flown, Data, Whole, Flight, Sending, changed_at, changed}
+use Rattle.st_sender.specs.Sending.{Outgoing, Flown, Data, Whole, Flight, Config, Sending, new_sending, changed_at, changed}
 use Rattle.st_sender.specs.Flights.{flight_at, without_flight}
 use Rattle.st_sender.specs.Answering.{after_acked, after_all_acked, landed, after_fulfilled, after_failed, Failure, Plain, after_told, after_all_told}
+use Rattle.st_receiver.specs.Streams.{Receiving, new_receiving}
 use Rattle.st_end.specs.declared.flight.Open.{Open}
 use Rattle.st_end.specs.State.{EndState}
 use Rattle.st_end.specs.Sending.{is_kept, open_flight, is_open}
 use Rattle.st_end.specs.Answers.{fits, raised, failure_of, answered_by, outcome_left, after_outcome, ended_with, ended}
 use Rattle.st_end.specs.Lawful.{IsLawful}
+use Rattle.st_end.proofs.Streams.{sends, receives, joined, alike, sends_stay}
 
 none_in_empty : (n : ℕ) → is_some (map.get (map.empty {X = List ℕ} {R = nat_cmp}) n) ≡ false
 none_in_empty n = ap is_some (map.get-empty nat_cmp n)
 
-pub lawful_when_new : (e : EndState) → e.conditions ≡ map.empty → is_address e.own ≡ true → is_address e.peer ≡ true → IsLawful e
-lawful_when_new e none o p = record { own = o; peer = p; kept = λ n h. absurd (false≢true (sym (ap (λ m. is_some (map.get m n)) none ∙ none_in_empty n) ∙ h)) }
+pub lawful_when_new : (e : EndState) (config : Config) (parity : ℕ) → e.conditions ≡ map.empty → is_address e.own ≡ true → is_address e.peer ≡ true → e.sending ≡ new_sending config → e.receiving ≡ new_receiving parity → IsLawful e
+lawful_when_new e config parity none o p s r =
+    let j = joined e.sending e.receiving (ap receives r ∙ sym (ap sends s)) in
+    record { own = o; peer = p; kept = λ n h. absurd (false≢true (sym (ap (λ m. is_some (map.get m n)) none ∙ none_in_empty n) ∙ h)); both = j.both; places = j.places }
 
--- what flies is not changed by a call on a stream
+-- what flies, and which streams are open, is not changed by a call on a stream
 at_flights : (s : Sending) (k : ℕ) (f : Outgoing → Outgoing) (o : Option Outgoing) → (changed_at s k f o).flights ≡ s.flights
 at_flights s k f None = refl
 at_flights s k f (Some x) = refl
@@ -38,72 +42,95 @@ at_flights s k f (Some x) = refl
 pub flights_stay : (s : Sending) (k : ℕ) (f : Outgoing → Outgoing) → (changed s k f).flights ≡ s.flights
 flights_stay s k f = at_flights s k f _
 
-pub lawful_with : (e : EndState) (s : Sending) → s.flights ≡ e.sending.flights → IsLawful e → IsLawful (record e { sending = s })
-lawful_with e s same l = record { own = l.own; peer = l.peer; kept = λ n h. subst (λ ps. is_some (flight_at ps n) ≡ true) (sym same) (l.kept n h) }
+abbrev pub Stays : (t s : Sending) → Type 0
+Stays t s = (s.flights ≡ t.flights) × (sends s ≡ sends t)
+
+pub both_open : (e : EndState) → IsLawful e → receives e.receiving ≡ sends e.sending
+both_open e l = alike e.sending e.receiving l.places l.both
+
+-- an end that keeps its addresses, its conditions, what flies and which streams are open
+pub lawful_as : (e : EndState) (s : Sending) (r : Receiving) → s.flights ≡ e.sending.flights → receives r ≡ sends s → IsLawful e → IsLawful (record e { sending = s; receiving = r })
+lawful_as e s r same alike_now l =
+    let j = joined s r alike_now in
+    record { own = l.own; peer = l.peer; kept = λ n h. subst (λ ps. is_some (flight_at ps n) ≡ true) (sym same) (l.kept n h); both = j.both; places = j.places }
+
+pub lawful_with : (e : EndState) (s : Sending) → Stays e.sending s → IsLawful e → IsLawful (record e { sending = s })
+lawful_with e s same l = lawful_as e s e.receiving same.0 (both_open e l ∙ sym same.1) l
+
+pub lawful_changed : (e : EndState) (s : Sending) (k : ℕ) (f : Outgoing → Outgoing) → s ≡ changed e.sending k f → IsLawful e → IsLawful (record e { sending = s })
+lawful_changed e s k f is l =
+    lawful_with e s (ap (λ (x : Sending). x.flights) is ∙ flights_stay e.sending k f, ap sends is ∙ sends_stay e.sending k f) l
+
+pub lawful_received : (e : EndState) (r : Receiving) → receives r ≡ receives e.receiving → IsLawful e → IsLawful (record e { receiving = r })
+lawful_received e r same l = lawful_as e e.sending r refl (same ∙ both_open e l) l
 
 -- ---- what answers and told limits leave as it is
 
-with_same : (s : Sending) (k : ℕ) (f : Outgoing → Outgoing) (t : Sending) → s.flights ≡ t.flights → (changed s k f).flights ≡ t.flights
-with_same s k f t h = flights_stay s k f ∙ h
+with_same : (s : Sending) (k : ℕ) (f : Outgoing → Outgoing) (t : Sending) → Stays t s → Stays t (changed s k f)
+with_same s k f t h = (flights_stay s k f ∙ h.0, sends_stay s k f ∙ h.1)
 
-acked_flies : (s t : Sending) (f : Flown) → s.flights ≡ t.flights → (after_acked s f).flights ≡ t.flights
-acked_flies s t (Data k o n) h = with_same s k _ t h
-acked_flies s t (Whole (StreamData k o xs)) h = h
-acked_flies s t (Whole (StreamMoney k n)) h = with_same s k _ t h
-acked_flies s t (Whole (StreamClose k code message)) h = with_same s k _ t h
-acked_flies s t (Whole (StreamDataBlocked k n)) h = with_same s k _ t h
-acked_flies s t (Whole (StreamMoneyBlocked k n m)) h = with_same s k _ t h
-acked_flies s t (Whole (ConnectionDataBlocked n)) h = h
-acked_flies s t (Whole (ConnectionMaxData n)) h = h
-acked_flies s t (Whole (StreamMaxData k n)) h = h
-acked_flies s t (Whole (StreamMaxMoney k n m)) h = h
-acked_flies s t (Whole (ConnectionClose code message)) h = h
-acked_flies s t (Whole (ConnectionNewAddress address)) h = h
+acked_stays : (s t : Sending) (f : Flown) → Stays t s → Stays t (after_acked s f)
+acked_stays s t (Data k o n) h = with_same s k _ t h
+acked_stays s t (Whole (StreamData k o xs)) h = h
+acked_stays s t (Whole (StreamMoney k n)) h = with_same s k _ t h
+acked_stays s t (Whole (StreamClose k code message)) h = with_same s k _ t h
+acked_stays s t (Whole (StreamDataBlocked k n)) h = with_same s k _ t h
+acked_stays s t (Whole (StreamMoneyBlocked k n m)) h = with_same s k _ t h
+acked_stays s t (Whole (ConnectionDataBlocked n)) h = h
+acked_stays s t (Whole (ConnectionMaxData n)) h = h
+acked_stays s t (Whole (StreamMaxData k n)) h = h
+acked_stays s t (Whole (StreamMaxMoney k n m)) h = h
+acked_stays s t (Whole (ConnectionClose code message)) h = h
+acked_stays s t (Whole (ConnectionNewAddress address)) h = h
 
-all_acked_flies : (t : Sending) (fs : List Flown) (s : Sending) → s.flights ≡ t.flights → (after_all_acked s fs).flights ≡ t.flights
-all_acked_flies t [] s h = h
-all_acked_flies t (f ∷ fs) s h = all_acked_flies t fs (after_acked s f) (acked_flies s t f h)
+all_acked_stays : (t : Sending) (fs : List Flown) (s : Sending) → Stays t s → Stays t (after_all_acked s fs)
+all_acked_stays t [] s h = h
+all_acked_stays t (f ∷ fs) s h = all_acked_stays t fs (after_acked s f) (acked_stays s t f h)
 
-told_flies : (s t : Sending) (f : Known) → s.flights ≡ t.flights → (after_told s f).flights ≡ t.flights
-told_flies s t (StreamData k o xs) h = h
-told_flies s t (StreamMoney k n) h = h
-told_flies s t (StreamClose k code message) h = h
-told_flies s t (StreamDataBlocked k n) h = h
-told_flies s t (StreamMoneyBlocked k n m) h = h
-told_flies s t (ConnectionDataBlocked n) h = h
-told_flies s t (ConnectionMaxData n) h = h
-told_flies s t (StreamMaxData k n) h = with_same s k _ t h
-told_flies s t (StreamMaxMoney k n m) h = with_same s k _ t h
-told_flies s t (ConnectionClose code message) h = h
-told_flies s t (ConnectionNewAddress address) h = h
+told_stays : (s t : Sending) (f : Known) → Stays t s → Stays t (after_told s f)
+told_stays s t (StreamData k o xs) h = h
+told_stays s t (StreamMoney k n) h = h
+told_stays s t (StreamClose k code message) h = h
+told_stays s t (StreamDataBlocked k n) h = h
+told_stays s t (StreamMoneyBlocked k n m) h = h
+told_stays s t (ConnectionDataBlocked n) h = h
+told_stays s t (ConnectionMaxData n) h = h
+told_stays s t (StreamMaxData k n) h = with_same s k _ t h
+told_stays s t (StreamMaxMoney k n m) h = with_same s k _ t h
+told_stays s t (ConnectionClose code message) h = h
+told_stays s t (ConnectionNewAddress address) h = h
 
-pub all_told_flies : (t : Sending) (fs : List Known) (s : Sending) → s.flights ≡ t.flights → (after_all_told s fs).flights ≡ t.flights
-all_told_flies t [] s h = h
-all_told_flies t (f ∷ fs) s h = all_told_flies t fs (after_told s f) (told_flies s t f h)
+pub all_told_stays : (t : Sending) (fs : List Known) (s : Sending) → Stays t s → Stays t (after_all_told s fs)
+all_told_stays t [] s h = h
+all_told_stays t (f ∷ fs) s h = all_told_stays t fs (after_told s f) (told_stays s t f h)
 
-told_if : (b : Bool) (s t u : Sending) → s.flights ≡ u.flights → t.flights ≡ u.flights → (cond b s t).flights ≡ u.flights
-told_if true s t u h k = h
-told_if false s t u h k = k
+either_stays : (b : Bool) (s t u : Sending) → Stays u s → Stays u t → Stays u (cond b s t)
+either_stays true s t u h k = h
+either_stays false s t u h k = k
 
-raised_flies : (s : Sending) (n : ℕ) (r : Result Packet KeyError) → (raised s n r).flights ≡ s.flights
-raised_flies s n (Ok q) = told_if (nat_eq q.sequence n) (after_all_told s (frames_of q)) s s (all_told_flies s (frames_of q) s refl) refl
-raised_flies s n (Err e) = refl
+pub itself : (s : Sending) → Stays s s
+itself s = (refl, refl)
+
+raised_stays : (s : Sending) (n : ℕ) (r : Result Packet KeyError) → Stays s (raised s n r)
+raised_stays s n (Ok q) = either_stays (nat_eq q.sequence n) (after_all_told s (frames_of q)) s s (all_told_stays s (frames_of q) s (itself s)) (itself s)
+raised_stays s n (Err e) = itself s
+
+pub then_stays : (s t u : Sending) → Stays s t → Stays t u → Stays s u
+then_stays s t u a b = (b.0 ∙ a.0, b.1 ∙ a.1)
 
 -- what lands is in flight no more, and nothing else changes place
-landed_if : (b : Bool) (s t : Sending) (ps : List Flight) → s.flights ≡ ps → t.flights ≡ ps → (cond b s t).flights ≡ ps
-landed_if true s t ps h k = h
-landed_if false s t ps h k = k
+answered_stays : (keys : DerivedKeys) (s : Sending) (flight : Open) (p : Flight) (a : Result AnswerPacket IlpError) → Stays (landed s p.sequence) (answered_by keys s flight p a)
+answered_stays keys s flight p (Ok (Fulfilled fulfillment payload)) =
+    let l = landed s p.sequence in
+    either_stays (fits flight fulfillment) (raised (after_fulfilled s p) flight.sequence (opened keys fulfill_kind payload)) (after_failed s p Plain) l
+    (then_stays l (after_fulfilled s p) (raised (after_fulfilled s p) flight.sequence (opened keys fulfill_kind payload)) (all_acked_stays l p.frames l (itself l)) (raised_stays (after_fulfilled s p) flight.sequence (opened keys fulfill_kind payload)))
+    (itself l)
+answered_stays keys s flight p (Ok (Rejected code by message payload)) = raised_stays (after_failed s p (failure_of code payload)) flight.sequence (opened keys reject_kind payload)
+answered_stays keys s flight p (Err e) = itself (landed s p.sequence)
 
-answered_flies : (keys : DerivedKeys) (s : Sending) (flight : Open) (p : Flight) (a : Result AnswerPacket IlpError) → (answered_by keys s flight p a).flights ≡ without_flight s.flights p.sequence
-answered_flies keys s flight p (Ok (Fulfilled fulfillment payload)) =
-    landed_if (fits flight fulfillment) (raised (after_fulfilled s p) flight.sequence (opened keys fulfill_kind payload)) (after_failed s p Plain) _
-    (raised_flies (after_fulfilled s p) flight.sequence (opened keys fulfill_kind payload) ∙ all_acked_flies (landed s p.sequence) p.frames (landed s p.sequence) refl) refl
-answered_flies keys s flight p (Ok (Rejected code by message payload)) = raised_flies (after_failed s p (failure_of code payload)) flight.sequence (opened keys reject_kind payload)
-answered_flies keys s flight p (Err e) = refl
-
-outcome_flies : (e : EndState) (flight : Open) (p : Flight) (o : Option (List ℕ)) → (outcome_left e flight p o).flights ≡ without_flight e.sending.flights p.sequence
-outcome_flies e flight p (Some bytes) = answered_flies e.keys e.sending flight p (answer_at bytes)
-outcome_flies e flight p None = refl
+outcome_stays : (e : EndState) (flight : Open) (p : Flight) (o : Option (List ℕ)) → Stays (landed e.sending p.sequence) (outcome_left e flight p o)
+outcome_stays e flight p (Some bytes) = answered_stays e.keys e.sending flight p (answer_at bytes)
+outcome_stays e flight p None = itself (landed e.sending p.sequence)
 
 same_test : {A : Type 0} (m n : ℕ) (x y : A) → m ≡ n → cond (nat_eq m n) x y ≡ x
 same_test m n x y e = grind (arith, nat_tests)
@@ -132,17 +159,22 @@ kept_gone : (m : map.FinMap nat_cmp (List ℕ)) (k q : ℕ) → q ≡ k → map.
 kept_gone m k q e = grind (arith, common_steps, map.gets)
 
 pub lawful_after : (e : EndState) (flight : Open) (p : Flight) (o : Option (List ℕ)) → flight_at e.sending.flights flight.sequence ≡ Some p → IsLawful e → IsLawful (after_outcome e flight p o)
-lawful_after e flight p o at l = record {
-  own = l.own;
-  peer = l.peer;
-  kept = λ n h. elim (cases_eq n flight.sequence) [
-    | inl same ↦ absurd (false≢true (sym (ap is_some (kept_gone e.conditions flight.sequence n same)) ∙ h))
-    | inr apart ↦
-        ap (λ (ps : List Flight). is_some (flight_at ps n)) (outcome_flies e flight p o)
-        ∙ ap is_some (others_fly e.sending.flights p.sequence n (λ s. apart (s ∙ found_sequence e.sending.flights flight.sequence p at)))
-        ∙ l.kept n (sym (ap is_some (kept_apart e.conditions flight.sequence n apart)) ∙ h)
-  ];
-}
+lawful_after e flight p o at l =
+    let left = outcome_stays e flight p o in
+    let j = joined (outcome_left e flight p o) e.receiving (both_open e l ∙ sym left.1) in
+    record {
+      own = l.own;
+      peer = l.peer;
+      kept = λ n h. elim (cases_eq n flight.sequence) [
+        | inl same ↦ absurd (false≢true (sym (ap is_some (kept_gone e.conditions flight.sequence n same)) ∙ h))
+        | inr apart ↦
+            ap (λ (ps : List Flight). is_some (flight_at ps n)) left.0
+            ∙ ap is_some (others_fly e.sending.flights p.sequence n (λ s. apart (s ∙ found_sequence e.sending.flights flight.sequence p at)))
+            ∙ l.kept n (sym (ap is_some (kept_apart e.conditions flight.sequence n apart)) ∙ h)
+      ];
+      both = j.both;
+      places = j.places;
+    }
 
 -- ---- open flights
 
@@ -183,18 +215,23 @@ same_kept : (e f : EndState) → f.sending ≡ e.sending → f.conditions ≡ e.
 same_kept e f s c kept n h = ap (λ (x : Sending). is_some (flight_at x.flights n)) s ∙ kept n (sym (ap (λ (m : map.FinMap nat_cmp (List ℕ)). is_some (map.get m n)) c) ∙ h)
 
 lawful_left : (e after : EndState) (flight : Open) (o : Option (List ℕ)) (p : Flight) → flight_at e.sending.flights flight.sequence ≡ Some p → IsLawful e
-    → after.own ≡ e.own → after.peer ≡ e.peer → after.sending ≡ outcome_left e flight p o → after.conditions ≡ map.remove e.conditions flight.sequence → IsLawful after
-lawful_left e after flight o p at l own peer s c = record {
-  own = ap is_address own ∙ l.own;
-  peer = ap is_address peer ∙ l.peer;
-  kept = same_kept (after_outcome e flight p o) after s c (lawful_after e flight p o at l).kept;
-}
+    → after.own ≡ e.own → after.peer ≡ e.peer → after.receiving ≡ e.receiving → after.sending ≡ outcome_left e flight p o → after.conditions ≡ map.remove e.conditions flight.sequence → IsLawful after
+lawful_left e after flight o p at l own peer r s c =
+    let left = lawful_after e flight p o at l in
+    let j = joined after.sending after.receiving (ap receives r ∙ both_open (after_outcome e flight p o) left ∙ sym (ap sends s)) in
+    record {
+      own = ap is_address own ∙ l.own;
+      peer = ap is_address peer ∙ l.peer;
+      kept = same_kept (after_outcome e flight p o) after s c left.kept;
+      both = j.both;
+      places = j.places;
+    }
 
-pub lawful_ended : (e now after : EndState) (flight spent : Open) (o : Option (List ℕ)) → e ≡ now → spent ≡ flight → is_open now flight ≡ true → IsLawful e → after.own ≡ e.own → after.peer ≡ e.peer
+pub lawful_ended : (e now after : EndState) (flight spent : Open) (o : Option (List ℕ)) → e ≡ now → spent ≡ flight → is_open now flight ≡ true → IsLawful e → after.own ≡ e.own → after.peer ≡ e.peer → after.receiving ≡ e.receiving
     → ((p : Flight) → flight_at e.sending.flights spent.sequence ≡ Some p → after.sending ≡ outcome_left e spent p o) → after.conditions ≡ map.remove e.conditions spent.sequence → IsLawful after
-lawful_ended e now after flight spent o same is open_here l own peer left c =
+lawful_ended e now after flight spent o same is open_here l own peer r left c =
     let f = open_found e spent (subst (λ (x : Open). is_open e x ≡ true) (sym is) (subst (λ (x : EndState). is_open x flight ≡ true) (sym same) open_here)) in
-    lawful_left e after spent o f.carried f.at l own peer (left f.carried f.at) c
+    lawful_left e after spent o f.carried f.at l own peer r (left f.carried f.at) c
 
 -- what a failure does to what is in flight
 pub failed_left : (s t : Sending) (n : ℕ) (p : Flight) (why : Failure) → flight_at s.flights n ≡ Some p → MatchOption (flight_at s.flights n) (t ≡ s) (λ q. t ≡ after_failed s q why) → t ≡ after_failed s p why

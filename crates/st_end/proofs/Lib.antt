@@ -1,4 +1,5 @@
 pub mod Maps
+pub mod Streams
 pub mod Lawfulness
 pub mod Numbers
 pub mod Backs
@@ -7,3 +8,4 @@ pub mod Replies
 pub mod Taking
 pub mod Judging
 pub mod Going
+pub mod Sealing

@@ -1,5 +1,5 @@
 -- What bytes that came leave lawful.
-use Rattle.std.proofs.Common.{◌≡◌, ℕ, ◌+◌, ◌≤◌, Bool, true, false, cond, ◌&&◌, not, Some, Result, Ok, Err, refl, ap, ◌∙◌, sym, subst, List, [], ◌∷◌, length, arith, ℤ}
+use Rattle.std.proofs.Common.{◌≡◌, ℕ, ◌+◌, ◌≤◌, Bool, true, false, cond, ◌&&◌, not, None, Some, Result, Ok, Err, refl, ap, ◌∙◌, sym, subst, List, [], ◌∷◌, length, arith, ℤ}
 use Rattle.std.specs.Prelude.{is_some}
 use Rattle.std.specs.List.{fold, range_with_len}
 use Rattle.st_oer.specs.Address.{is_address}
@@ -18,11 +18,13 @@ use Rattle.st_sender.specs.Sending.{Sending, new_outgoing, outgoing_at, with_out
 use Rattle.st_sender.specs.Flights.{flight_at}
 use Rattle.st_sender.specs.Answering.{after_all_told, after_marked}
 use Rattle.st_receiver.specs.Streams.{Receiving, is_open}
+use Rattle.st_receiver.specs.Judged.{fault_of, effect}
 use Rattle.st_receiver.specs.Limits.{reply_frames}
 use Rattle.st_end.specs.State.{EndState}
 use Rattle.st_end.specs.Lawful.{IsLawful}
 use Rattle.st_end.specs.Receiving.{Received, Unread, Rejects, reply_payload, f01, verdict_on, received_as, received, no_prepare, prepare_or_none, opened_at, opened_too, tells_blocked, marked_if, marked, all_marked, new_peer, told, fulfilled}
-use Rattle.st_end.proofs.Lawfulness.{lawful_with, all_told_flies}
+use Rattle.st_end.proofs.Streams.{joined, taken_joined}
+use Rattle.st_end.proofs.Lawfulness.{Stays, itself, then_stays, both_open, lawful_with, all_told_stays}
 
 -- ---- reading
 
@@ -41,32 +43,36 @@ pub opened_long : (keys : DerivedKeys) (kind : ℕ) (payload : List ℕ) (p : Pa
 unfolding opened
 opened_long keys kind payload p lengths e = long_if kind payload p (unsealed keys payload) (lengths.unsealed keys payload) e
 
--- ---- what flies
+-- ---- what flies, and which streams are open
 
-marked_flies : (s : Sending) (g : Known) → (after_marked s g).flights ≡ s.flights
-marked_flies s (StreamData k o xs) = refl
-marked_flies s (StreamMoney k n) = refl
-marked_flies s (StreamClose k code message) = refl
-marked_flies s (StreamDataBlocked k n) = refl
-marked_flies s (StreamMoneyBlocked k n m) = refl
-marked_flies s (ConnectionDataBlocked n) = refl
-marked_flies s (ConnectionMaxData n) = refl
-marked_flies s (StreamMaxData k n) = refl
-marked_flies s (StreamMaxMoney k n m) = refl
-marked_flies s (ConnectionClose code message) = refl
-marked_flies s (ConnectionNewAddress address) = refl
+marked_stays : (s : Sending) (g : Known) → Stays s (after_marked s g)
+marked_stays s (StreamData k o xs) = itself s
+marked_stays s (StreamMoney k n) = itself s
+marked_stays s (StreamClose k code message) = itself s
+marked_stays s (StreamDataBlocked k n) = itself s
+marked_stays s (StreamMoneyBlocked k n m) = itself s
+marked_stays s (ConnectionDataBlocked n) = itself s
+marked_stays s (ConnectionMaxData n) = itself s
+marked_stays s (StreamMaxData k n) = itself s
+marked_stays s (StreamMaxMoney k n m) = itself s
+marked_stays s (ConnectionClose code message) = itself s
+marked_stays s (ConnectionNewAddress address) = itself s
 
-marked_if_flies : (s : Sending) (b : Bool) (g : Known) → (marked_if s b g).flights ≡ s.flights
-marked_if_flies s true g = marked_flies s g
-marked_if_flies s false g = refl
+marked_if_stays : (s : Sending) (b : Bool) (g : Known) → Stays s (marked_if s b g)
+marked_if_stays s true g = marked_stays s g
+marked_if_stays s false g = itself s
 
-reply_flies : (f : Known) (reply : List Known) (s : Sending) → (marked reply s f).flights ≡ s.flights
-reply_flies f [] s = refl
-reply_flies f (g ∷ reply) s = reply_flies f reply (marked_if s (tells_blocked f g) g) ∙ marked_if_flies s (tells_blocked f g) g
+reply_stays : (f : Known) (reply : List Known) (s : Sending) → Stays s (marked reply s f)
+reply_stays f [] s = itself s
+reply_stays f (g ∷ reply) s =
+    let t = marked_if s (tells_blocked f g) g in
+    then_stays s t (marked reply t f) (marked_if_stays s (tells_blocked f g) g) (reply_stays f reply t)
 
-all_marked_flies : (reply : List Known) (fs : List Known) (s : Sending) → (all_marked reply s fs).flights ≡ s.flights
-all_marked_flies reply [] s = refl
-all_marked_flies reply (f ∷ fs) s = all_marked_flies reply fs (marked reply s f) ∙ reply_flies f reply s
+all_marked_stays : (reply : List Known) (fs : List Known) (s : Sending) → Stays s (all_marked reply s fs)
+all_marked_stays reply [] s = itself s
+all_marked_stays reply (f ∷ fs) s =
+    let t = marked reply s f in
+    then_stays s t (all_marked reply t fs) (reply_stays f reply s) (all_marked_stays reply fs t)
 
 if_flies : (b : Bool) (s t : Sending) → t.flights ≡ s.flights → (cond b t s).flights ≡ s.flights
 if_flies true s t h = h
@@ -83,7 +89,7 @@ too_flies r s = opened_flies r (range_with_len 1 64) s
 -- ---- what stays lawful
 
 pub told_lawful : (e : EndState) (p : Packet) → IsLawful e → IsLawful (told e p)
-told_lawful e p l = lawful_with e (after_all_told e.sending (frames_of p)) (all_told_flies e.sending (frames_of p) e.sending refl) l
+told_lawful e p l = lawful_with e (after_all_told e.sending (frames_of p)) (all_told_stays e.sending (frames_of p) e.sending (itself e.sending)) l
 
 pick_address : (b : Bool) (address peer : List ℕ) → is_address address ≡ b → is_address peer ≡ true → is_address (cond b address peer) ≡ true
 pick_address true address peer a p = a
@@ -103,12 +109,17 @@ peer_lawful (StreamMaxData k n ∷ fs) peer h = peer_lawful fs peer h
 peer_lawful (StreamMaxMoney k n m ∷ fs) peer h = peer_lawful fs peer h
 peer_lawful (ConnectionClose code message ∷ fs) peer h = peer_lawful fs peer h
 
-pub fulfilled_lawful : (e : EndState) (p : Packet) (r : Receiving) → IsLawful e → IsLawful (fulfilled e p r)
-fulfilled_lawful e p r l =
+pub fulfilled_lawful : (e : EndState) (p : Packet) (amount : ℕ) → fault_of e.receiving p amount ≡ None → IsLawful e → IsLawful (fulfilled e p (effect e.receiving p amount))
+fulfilled_lawful e p amount none l =
     let fs = frames_of p in
+    let r = effect e.receiving p amount in
     let t = after_all_told e.sending fs in
-    let same = all_marked_flies (reply_frames r fs) fs (opened_too r t) ∙ too_flies r t ∙ all_told_flies e.sending fs e.sending refl in
-    record { own = l.own; peer = peer_lawful fs e.peer l.peer; kept = λ n h. ap (λ ps. is_some (flight_at ps n)) same ∙ l.kept n h }
+    let s = all_marked (reply_frames r fs) (opened_too r t) fs in
+    let told_stay = all_told_stays e.sending fs e.sending (itself e.sending) in
+    let marked_stay = all_marked_stays (reply_frames r fs) fs (opened_too r t) in
+    let same = marked_stay.0 ∙ too_flies r t ∙ told_stay.0 in
+    let j = joined s r (sym (marked_stay.1 ∙ taken_joined e.receiving t p amount none (both_open e l ∙ sym told_stay.1))) in
+    record { own = l.own; peer = peer_lawful fs e.peer l.peer; kept = λ n h. ap (λ ps. is_some (flight_at ps n)) same ∙ l.kept n h; both = j.both; places = j.places }
 
 -- ---- what is answered
 

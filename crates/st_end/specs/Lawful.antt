@@ -1,12 +1,17 @@
 -- What holds of every end that is reached.
-use Rattle.std.specs.Prelude.{◌≡◌, ℕ, true, is_some}
+use Rattle.std.specs.Prelude.{◌≡◌, ℕ, true, length, is_some}
 use Rattle.std.specs.FinMap.{get}
 use Rattle.st_oer.specs.Address.{is_address}
 use Rattle.st_sender.specs.Flights.{flight_at}
+use Rattle.st_receiver.specs.Streams.{is_open}
 use Rattle.st_end.specs.State.{EndState}
+use Rattle.st_end.specs.Calls.{has_stream}
 
 pub record IsLawful (e : EndState) : Type 0 where
   pub own : is_address e.own ≡ true
   pub peer : is_address e.peer ≡ true
   -- a condition is kept of what is in flight
   pub kept : (n : ℕ) → is_some (get e.conditions n) ≡ true → is_some (flight_at e.sending.flights n) ≡ true
+  -- a stream is open for receiving exactly where it is open for sending, and each side has as many places for streams
+  pub both : (k : ℕ) → is_open e.receiving k ≡ has_stream e k
+  pub places : length e.receiving.streams ≡ length e.sending.streams

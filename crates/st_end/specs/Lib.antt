@@ -11,3 +11,4 @@ pub mod Totals
 pub mod Lawful
 pub mod Seen
 pub mod Inside
+pub mod Laws

@@ -136,7 +136,7 @@ abbrev pub reply_iv : List ℕ → List ℕ
 reply_iv [] = []
 reply_iv (b ∷ bs) = bit_xor b 128 ∷ bs
 
--- the frames of a reply take a few thousand bytes at most, so they are always written
+-- none for a refusal, which no reply meets: `replies_are_sealed` is that law
 abbrev pub payload_or_none : Result (List ℕ) KeyError → List ℕ
 payload_or_none (Ok payload) = payload
 payload_or_none (Err fault) = []

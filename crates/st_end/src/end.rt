@@ -1,11 +1,12 @@
 //! The state of an end.
 
-ghost use Rattle.std.specs.Prelude.{◌≡◌, ◌≢◌, ◌≤◌, true, IfOk, IsOkUnless};
+ghost use Rattle.std.specs.Prelude.{◌≡◌, ◌≢◌, ◌≤◌, ℕ, true, is_ok, IfOk, IsOkUnless};
 ghost use Rattle.st_oer.specs.Address.{is_address};
 ghost use Rattle.st_end.specs.State.{new_end};
 ghost use Rattle.st_end.specs.Calls as calls;
 ghost use Rattle.st_end.specs.Calls.{OrWants};
 ghost use Rattle.st_end.specs.Lawful.{IsLawful};
+ghost use Rattle.st_end.specs.Reading as reading;
 ghost use Rattle.st_end.specs.Receiving.{t00_text};
 
 use crate::conditions::Conditions;
@@ -70,6 +71,9 @@ impl<A: Allocator + Copy> EndState<A> {
         ensures only_memory { IsOkUnless result EndError.NoMemory }
         ensures opening { IfOk result (λ e. e ≡ new_end role keys own.now peer.now config) }
     {
+        let t00 = ready_t00(alloc, own)?;
+        let own = String::from_str(alloc, own)?;
+        let peer = String::from_str(alloc, peer)?;
         let Ok(outbox) = Outbox::new(alloc, config) else {
             return Err(EndError::NoMemory);
         };
@@ -81,10 +85,10 @@ impl<A: Allocator + Copy> EndState<A> {
             conditions: Conditions::new(alloc),
             intake,
             keys,
-            own: String::from_str(alloc, own)?,
-            peer: String::from_str(alloc, peer)?,
+            own,
+            peer,
             last: None,
-            t00: ready_t00(alloc, own)?,
+            t00,
             alloc,
         })
     }
@@ -100,6 +104,14 @@ impl<A: Allocator + Copy> EndState<A> {
     /// A law: what holds of every end. The function does nothing, and its contract is the law.
     pub fn is_lawful(&self)
         ensures { IsLawful self.now }
+    {
+        let _own = &self.own;
+    }
+
+    /// A law: `read` refuses a stream exactly where `has_stream` says that it is not open. The function does nothing,
+    /// and its contract is the law.
+    pub fn reads_what_is_open(&self)
+        ensures { (stream limit : ℕ) → is_ok (reading.read self.now stream limit).0 ≡ calls.has_stream self.now stream }
     {
         let _own = &self.own;
     }

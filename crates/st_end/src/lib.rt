@@ -5,6 +5,7 @@
 //!
 //! `specs/State.antt` defines an end, `Calls` and `Reading` the calls, `Receiving` the answer to bytes that arrived,
 //! `Answers` the effect of bytes that came back, `Failed` why a Prepare failed, `Sending` the Prepare that is sent.
+//! `Lawful` says what holds of every end, and `Laws` what holds of every reply.
 #![tactic(auto)]
 
 mod answer;
@@ -17,6 +18,7 @@ mod error;
 mod failed;
 mod flight;
 mod kept;
+mod laws;
 mod receive;
 mod received;
 mod reply;
@@ -28,6 +30,7 @@ pub use end::EndState;
 pub use error::EndError;
 pub use failed::{Failed, FailedKind};
 pub use flight::{Flight, Open};
+pub use laws::replies_are_sealed;
 pub use received::Received;
 pub use role::Role;
 pub use totals::Totals;

@@ -52,7 +52,7 @@ fn reply_iv(payload: &[u8]) -> [u8; 12]
 }
 
 /// The payload of the reply to a request, with these frames.
-#[tactic(auto, unfolding(crate::specs::Receiving::reply_payload))]
+#[tactic(auto, using(crate::proofs::Sealing::reply_seals), unfolding(crate::specs::Receiving::reply_payload))]
 pub(crate) fn reply_payload<A: Allocator + Copy>(
     alloc: A,
     keys: &Keys,
@@ -64,6 +64,7 @@ pub(crate) fn reply_payload<A: Allocator + Copy>(
     requires long { 12 ≤ length prepare.now.payload.now }
     requires from_prepare { 12 ≤ kind }
     requires to_reject { kind ≤ 14 }
+    requires told { (r : Receiving) × (map seen frames.now ≡ reply_frames r (frames_of (packet_of packet.now))) }
     ensures only_memory { IsOkUnless result EndError.NoMemory }
     ensures sealed { (r : Receiving) → map seen frames.now ≡ reply_frames r (frames_of (packet_of packet.now)) → IfOk result (λ v. v.items ≡ receiving.reply_payload keys.now kind (prepare_seen prepare.now) (packet_of packet.now) r) }
     ensures fits { IfOk result (λ v. is_data v.items ≡ true) }
@@ -79,7 +80,7 @@ pub(crate) fn reply_payload<A: Allocator + Copy>(
     ) {
         Ok(payload) => Ok(payload),
         Err(KeyError::NoMemory) => Err(EndError::NoMemory),
-        Err(_) => Ok(Vec::new(alloc)),
+        Err(_) => unreachable!(),
     }
 }
 

@@ -1,7 +1,10 @@
 //! The totals of an end, and the reads of its streams.
 
-ghost use Rattle.std.specs.Prelude.{◌≡◌, ◌≤◌, OnErr};
+ghost use Rattle.std.specs.Prelude.{◌≡◌, ◌≤◌, IfOk, OnErr};
+ghost use Rattle.st_receiver.specs.Decided.{got_seen};
 ghost use Rattle.st_receiver.specs.Limits as limits;
+ghost use Rattle.st_receiver.specs.Reading.{got_count};
+ghost use Rattle.st_sender.specs.Stops.{blocked_at};
 ghost use Rattle.st_end.specs.Calls.{OrWants};
 ghost use Rattle.st_end.specs.Reading as reading;
 ghost use Rattle.st_end.specs.Seen.{read_seen, totals_seen};
@@ -9,7 +12,9 @@ ghost use Rattle.st_end.specs.Totals as totals;
 
 use crate::end::EndState;
 use crate::error::EndError;
+use crate::flight::Flight;
 use st_receiver::Got;
+use st_sender::Blocked;
 use std::alloc::Allocator;
 
 /// The totals of an end. None of them falls, and each is at most 2^64 - 1.
@@ -80,6 +85,14 @@ impl<A: Allocator + Copy> EndState<A> {
         self.outbox.packet_limit()
     }
 
+    /// The limit of the peer at which bytes or money wait, where the Prepare of this flight carries a Blocked frame
+    /// (RFC 0029, section 5.3). `None` where it carries none, and once its outcome was reported. Does not allocate.
+    pub fn blocked_at(&self, flight: &Flight) -> Option<Blocked>
+        ensures { result ≡ blocked_at self.now.sending.flights flight.now.sequence }
+    {
+        self.outbox.blocked_at(flight.read().sequence)
+    }
+
     /// Whether the connection failed. Nothing is sent any more then. Does not allocate.
     pub fn is_failed(&self) -> bool
         ensures { result ≡ self.now.sending.failed }
@@ -89,11 +102,12 @@ impl<A: Allocator + Copy> EndState<A> {
 
     /// Reads the first bytes that can be read on a stream, at most `max` of them, where `max` is at least 1. Where
     /// there are none, it gives `End` once all bytes were read, else `Nothing`. After an abort it gives `Aborted` with
-    /// the code. Fails with `NoStream` where the stream is not open, and with `NoMemory` where memory is refused.
-    /// Nothing has changed then.
+    /// the code. No read gives more than 65,536 bytes, a stream's window. Fails with `NoStream` where the stream is not
+    /// open, and with `NoMemory` where memory is refused. Nothing has changed then.
     pub fn read(&mut self, stream: u8, max: usize) -> Result<Got<A>, EndError>
         requires { 1 ≤ max }
         ensures answers { OrWants self.old (reading.read self.old stream max) (read_seen result, self.new) }
+        ensures few { IfOk result (λ g. got_count (got_seen g) ≤ 65536) }
         ensures unchanged { OnErr result (self.new ≡ self.old) }
     {
         if !self.intake.has_stream(u64::from(stream)) {

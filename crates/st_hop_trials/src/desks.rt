@@ -40,6 +40,9 @@ pub(crate) const T00: &[u8; 17] = b"\x0e\x0fT00\x09example.c\0\0";
 
 pub(crate) const T01: &[u8; 17] = b"\x0e\x0fT01\x09example.c\0\0";
 
+/// The hop's Reject where the Fulfill came too late.
+const R00: &[u8; 17] = b"\x0e\x0fR00\x09example.c\0\0";
+
 /// The hop `example.c` with nothing owed, account 0, and account 1 behind `example.b`. Each may owe 100.
 pub(crate) fn new_hop<A: Allocator + Copy>(alloc: A) -> Result<HopState<A>, HopError> {
     let account = Account {
@@ -61,6 +64,28 @@ pub(crate) fn stopped_clock(rt: &impl Abort) -> Still {
 impl Clock for Still {
     fn now(&mut self) -> Moment {
         self.0
+    }
+}
+
+/// A moment long before the Prepare expires, at which it arrives, and another one from the second reading on.
+#[derive(Drop)]
+struct Moving {
+    now: Moment,
+    then: Moment,
+}
+
+fn moving_clock(rt: &impl Abort, then: i64) -> Moving {
+    Moving {
+        now: Moment::new(0).expect(rt, "a moment"),
+        then: Moment::new(then).expect(rt, "a moment"),
+    }
+}
+
+impl Clock for Moving {
+    fn now(&mut self) -> Moment {
+        let now = self.now;
+        self.now = self.then;
+        now
     }
 }
 
@@ -128,9 +153,9 @@ fn ask<C: Ledger, D: Ledger, R: Wait + Abort>(
     shares: &Mutex<AccountShares<C, D>>,
     links: &mut Vec<Neighbour<'_, Global>>,
     books: &mut Noted,
+    clock: &mut Moving,
 ) -> Vec<u8> {
-    let mut clock = stopped_clock(rt);
-    match serve(rt, desk, shares, 0, PREPARE, links, books, &mut clock) {
+    match serve(rt, desk, shares, 0, PREPARE, links, books, clock) {
         Ok(Served { account, answer }) => {
             assert!(rt; account == 0);
             answer
@@ -157,6 +182,7 @@ fn one_serves<C: Ledger, D: Ledger, R: Wait + Abort>(
     dues: Blank,
     links: &mut Vec<Neighbour<'_, Global>>,
     books: &mut Noted,
+    clock: &mut Moving,
 ) -> (Vec<u8>, Owed)
     requires claims { (claims.name ≡ C.name) × (claims.parts ≡ C.parts) × (claims.parts ≡ 64) }
     requires dues { (dues.name ≡ D.name) × (dues.parts ≡ D.parts) × (dues.parts ≡ 64) }
@@ -164,7 +190,7 @@ fn one_serves<C: Ledger, D: Ledger, R: Wait + Abort>(
     let mut desk = HopDesk::<C, D, Global>::new(alloc, hop, claims, dues);
     let shares = Mutex::new(shares_of(rt, &mut desk));
     let desk = Mutex::new(desk);
-    let told = ask(rt, &desk, &shares, links, books);
+    let told = ask(rt, &desk, &shares, links, books, clock);
     let mut desk = desk.into_inner();
     let owed = gathered(rt, alloc, &mut desk, shares.into_inner());
     assert!(rt; is_booked(&desk, owed.claims));
@@ -211,19 +237,23 @@ const BOOKING: Booking = Booking {
     due: 5,
 };
 
-/// A Fulfill is stored and booked. A Fulfill that could not be stored, a Reject, a neighbour without an answer and a missing
-/// link are not booked.
+/// The last moment at which a Fulfill is in time.
+const LAST: i64 = EXPIRY - 1;
+
+/// A Fulfill is stored and booked, up to the millisecond before the Prepare expires where it was sent on. A later one is not, nor
+/// one that could not be stored, a Reject, a neighbour without an answer and a missing link.
 #[test]
 fn a_thread_serves(rt: HostRuntime) -> Result<(), Fail> {
-    let rows: [(Option<&[u8]>, bool, bool, &[u8], u64, Option<Booking>); 5] = [
-        (Some(FULFILL), true, false, FULFILL, 5, Some(BOOKING)),
-        (Some(FULFILL), true, true, T01, 0, Some(BOOKING)),
-        (Some(REJECT), true, false, REJECT, 0, None),
-        (None, true, false, T01, 0, None),
-        (Some(FULFILL), false, false, T01, 0, None),
+    let rows: [(Option<&[u8]>, bool, bool, i64, &[u8], u64, Option<Booking>); 6] = [
+        (Some(FULFILL), true, false, LAST, FULFILL, 5, Some(BOOKING)),
+        (Some(FULFILL), true, false, EXPIRY, R00, 0, None),
+        (Some(FULFILL), true, true, LAST, T01, 0, Some(BOOKING)),
+        (Some(REJECT), true, false, LAST, REJECT, 0, None),
+        (None, true, false, LAST, T01, 0, None),
+        (Some(FULFILL), false, false, LAST, T01, 0, None),
     ];
     let alloc = rt.alloc();
-    for (answer, has_links, is_full, want, amount, noted) in rows {
+    for (answer, has_links, is_full, then, want, amount, noted) in rows {
         let mut links = if has_links {
             neighbours(&rt, alloc, answer)
         } else {
@@ -241,6 +271,7 @@ fn a_thread_serves(rt: HostRuntime) -> Result<(), Fail> {
             Blank::new(64),
             &mut links,
             &mut books,
+            &mut moving_clock(&rt, then),
         );
         assert!(rt; told.as_slice() == want);
         assert!(rt; (owed.claims, owed.dues) == (amount, amount));

@@ -119,6 +119,7 @@ pub fn respond<S: Write, T: Answerer, A: Allocator + Copy>(
         × Responds (S.contents (device_of stream.old)) (S.contents (device_of stream.new)) text result }
     ensures faults { (tally_of stream.new).faults ≡ faults_told result (tally_of stream.old).faults }
     ensures turns { TakesTurns (tally_of stream.old) (tally_of stream.new) turns.old turns.new }
+    ensures out_of_turns { IfErr result (λ e. e ≡ Turns → turns.new ≡ 0) }
 {
     match answered(alloc, reading, answerer) {
         Ok(text) => write_message(stream, &text, turns),
@@ -139,6 +140,7 @@ pub fn refuse<S: Write, A: Allocator + Copy>(
     ensures written { Responds (S.contents (device_of stream.old)) (S.contents (device_of stream.new)) (spec.refusal_text status) result }
     ensures faults { (tally_of stream.new).faults ≡ faults_told result (tally_of stream.old).faults }
     ensures turns { TakesTurns (tally_of stream.old) (tally_of stream.new) turns.old turns.new }
+    ensures out_of_turns { IfErr result (λ e. e ≡ Turns → turns.new ≡ 0) }
 {
     match refusal_text(alloc, status) {
         Ok(text) => write_message(stream, &text, turns),

@@ -1,5 +1,5 @@
 -- What the end's calls keep, by what they answered.
-use Rattle.std.proofs.Common.{◌≡◌, ℕ, ℤ, List, Option, None, Some, Result, Ok, Err, sym, ap, subst, ⊎_elim, true}
+use Rattle.std.proofs.Common.{◌≡◌, ◌≢◌, ℕ, ℤ, List, Option, None, Some, Result, Ok, Err, sym, ap, subst, ⊎_elim, true}
 use Rattle.std.specs.Prelude.{Vec, is_ok, IfOk, OnErr, MatchOption}
 use Rattle.st_end.specs.State.{EndState}
 use Rattle.st_end.specs.declared.error.EndError.{EndError}
@@ -7,6 +7,7 @@ use Rattle.st_end.specs.declared.error.EndError.TheVariants as end_errors
 use Rattle.st_end.specs.declared.flight.Open as flights
 use Rattle.st_end.specs.declared.received.Received.{Received}
 use Rattle.st_end.specs.Calls.{Answer, OrWants, open_stream, write}
+use Rattle.st_end.specs.Reading.{read}
 use Rattle.st_end.specs.Sending.{Goes, GoesNone}
 use Rattle.st_end.specs.Receiving as receiving
 use Rattle.st_end.specs.Seen.{received_seen}
@@ -42,3 +43,17 @@ write_ok e b k xs u h =
     (λ (is : ◌≡◌ {A = Answer × EndState} (Ok u, b) (write e k xs)). sym is)
     (λ (w : (is_ok (write e k xs).0 ≡ true) × ◌≡◌ {A = Answer × EndState} (Ok u, b) (Err end_errors.NoMemory, e)). absurd (let f : ◌≡◌ {A = Answer} (Ok u) (Err end_errors.NoMemory) = ap (λ p. p.0) w.1 in cc))
     h
+
+-- an error that is no want of memory is the one that is defined
+pub wants_err : {X : Type 0} (e b : EndState) (defined : Result X EndError × EndState) (why : EndError) → why ≢ end_errors.NoMemory → OrWants e defined (Err why, b) → defined ≡ (Err why, b)
+wants_err {X} e b defined why ne h =
+    ⊎_elim
+    (λ (is : ◌≡◌ {A = Result X EndError × EndState} (Err why, b) defined). sym is)
+    (λ (w : (is_ok defined.0 ≡ true) × ◌≡◌ {A = Result X EndError × EndState} (Err why, b) (Err end_errors.NoMemory, e)). absurd (ne (let f : ◌≡◌ {A = Result X EndError} (Err why) (Err end_errors.NoMemory) = ap (λ p. p.0) w.1 in cc)))
+    h
+
+pub refused_still : (e b : EndState) (k : ℕ) (xs : List ℕ) (why : EndError) → why ≢ end_errors.NoMemory → b ≡ e → OrWants e (write e k xs) (Err why, b) → write b k xs ≡ (Err why, b)
+refused_still e b k xs why ne same h = subst (λ (z : EndState). write z k xs ≡ (Err why, b)) (sym same) (wants_err e b (write e k xs) why ne h)
+
+pub unread_still : (e b : EndState) (k n : ℕ) (why : EndError) → why ≢ end_errors.NoMemory → b ≡ e → OrWants e (read e k n) (Err why, b) → read e k n ≡ (Err why, e)
+unread_still e b k n why ne same h = subst (λ (z : EndState). read e k n ≡ (Err why, z)) same (wants_err e b (read e k n) why ne h)

@@ -1,5 +1,5 @@
 -- A hub over rings that nobody used.
-use Rattle.std.proofs.Common.{◌≡◌, ℕ, zero, suc, ◌+◌, ◌*◌, false, not, inl, inr, List, [], ◌∷◌, map, length, replicate, Option, None, Some, slice_get, is_some, refl, sym, ap, subst, ◌∙◌, arith}
+use Rattle.std.proofs.Common.{◌≡◌, ℕ, zero, suc, ◌+◌, ◌*◌, ◌<◌, false, not, inl, inr, List, [], ◌∷◌, map, length, replicate, Option, None, Some, slice_get, is_some, refl, sym, ap, subst, ◌∙◌, arith}
 use Rattle.std.specs.Prelude.{IsSome, slice_index_or, sum}
 use Rattle.std.proofs.lemmas.List.Sums.{sum_by-cons}
 use Rattle.std.specs.Ordering.{nat_cmp}
@@ -20,7 +20,8 @@ use Rattle.st_end.specs.State.{EndState}
 use Rattle.st_hub.specs.Flow.{Flow, Inlet, Outlet, no_inlet, no_outlet, inlet_at, outlet_at, rings_of, has_end, has_last, IsSent, TiedBy}
 use Rattle.st_hub.specs.Handing.{IsKnown}
 use Rattle.st_hub.specs.Hub.{IsNew, shown_of}
-use Rattle.st_hub.specs.Inside.{inlet_of, outlet_of, flow_of, IsSound}
+use Rattle.st_hub.specs.Trying.{known_at, room_at}
+use Rattle.st_hub.specs.Inside.{inlet_of, outlet_of, known_of, room_of, flow_of, IsSound}
 use Rattle.st_hub.proofs.Merges.{merge_none}
 
 no_value : {A : Type 0} (n k : ℕ) → slice_index_or {A = Option A} (replicate n None) k None ≡ None
@@ -60,6 +61,22 @@ module _ {A : Type 0} where
 
   pub all_fresh_outlets : (ring : ℕ → RingId A) (xs : List (ReadLane A)) → AllNamedReads ring xs → (s : ℕ) → outlet_at (map outlet_of xs) s ≡ no_outlet
   all_fresh_outlets ring xs h s = fresh_outlet xs 0 (λ k x e. let m : 0 + k ≡ k = omega arith in subst (λ m. FreshRead m x) (sym m) (h k x e).0) s
+
+  fresh_known : (xs : List (WriteLane A)) (n : ℕ) → ((k : ℕ) (x : WriteLane A) → slice_get xs k ≡ Some x → Fresh (n + k) x) → (r : ℕ) → known_at (map known_of xs) r ≡ []
+  fresh_known [] n h r = refl
+  fresh_known (x ∷ xs) n h zero = (h 0 x refl).2
+  fresh_known (x ∷ xs) n h (suc r) = fresh_known xs (n + 1) (λ k y e. let s : n + suc k ≡ n + 1 + k = omega arith in subst (λ m. Fresh m y) s (h (suc k) y e)) r
+
+  fresh_room : (xs : List (ReadLane A)) (n : ℕ) → ((k : ℕ) (x : ReadLane A) → slice_get xs k ≡ Some x → FreshRead (n + k) x) → (s : ℕ) → s < length xs → room_at (map room_of xs) s ≡ 64
+  fresh_room [] n h s less = absurd (omega (arith, less))
+  fresh_room (x ∷ xs) n h zero less = (h 0 x refl).2
+  fresh_room (x ∷ xs) n h (suc s) less = fresh_room xs (n + 1) (λ k y e. let m : n + suc k ≡ n + 1 + k = omega arith in subst (λ m. FreshRead m y) m (h (suc k) y e)) s (omega (arith, less))
+
+  pub all_fresh_known : (ring : ℕ → RingId A) (xs : List (WriteLane A)) → AllNamed ring xs → (r : ℕ) → known_at (map known_of xs) r ≡ []
+  all_fresh_known ring xs h r = fresh_known xs 0 (λ k x e. let s : 0 + k ≡ k = omega arith in subst (λ m. Fresh m x) (sym s) (h k x e).0) r
+
+  pub all_fresh_room : (ring : ℕ → RingId A) (xs : List (ReadLane A)) → length xs ≡ 64 → AllNamedReads ring xs → (s : ℕ) → s < 64 → room_at (map room_of xs) s ≡ 64
+  all_fresh_room ring xs wide h s less = fresh_room xs 0 (λ k x e. let m : 0 + k ≡ k = omega arith in subst (λ m. FreshRead m x) (sym m) (h k x e).0) s (omega (arith, wide, less))
 
   fresh_tied : (f : Flow A) (s : ℕ) → IsNew f.core → ((r : ℕ) → inlet_at f.inlets r ≡ no_inlet) → ((t : ℕ) → outlet_at f.outlets t ≡ no_outlet) → TiedBy f s []
   fresh_tied f s new ins outs =

@@ -16,3 +16,5 @@ pub mod FreshRings
 pub mod Tries
 pub mod Failing
 pub mod Expiries
+pub mod Working
+pub mod Rings

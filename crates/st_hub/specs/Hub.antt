@@ -1,10 +1,12 @@
 -- A hub as its contracts see it.
-use Rattle.std.specs.Prelude.{◌≡◌, ℕ, ◌<◌, []}
+use Rattle.std.specs.Prelude.{◌≡◌, ℕ, ◌<◌, List, []}
 use Rattle.st_tables.specs.Slots.{no_slots}
+use Rattle.st_queues.specs.declared.items.Item.{Item}
 use Rattle.st_queues.specs.declared.totals.Totals as shown
 use Rattle.st_end.specs.State.{EndState}
 use Rattle.st_end.specs.Totals.{totals}
 use Rattle.st_hub.specs.Flow.{Flow, inlet_at, outlet_at, no_inlet, no_outlet}
+use Rattle.st_hub.specs.Trying.{known_at, room_at}
 
 -- no stream is open, nothing is in flight, and nothing was credited or paid
 pub record IsNew (e : EndState) : Type 0 where
@@ -17,6 +19,8 @@ pub record IsNew (e : EndState) : Type 0 where
 
 pub record Hub (A : Type 0) : Type 0 where
   pub flow : Flow A
+  pub known : List (List (Item A))  -- by ring number: what is known to stand in a writer's ring, oldest first
+  pub room : List ℕ  -- by place: for how many items a reader's ring is known to have room
   pub out : ℕ  -- how many shares are out
   pub kept : ℕ  -- what the shares that came back were credited
 
@@ -29,6 +33,8 @@ pub record IsNewHub {A : Type 0} (e : EndState) (h : Hub A) : Type 0 where
   pub core : h.flow.core ≡ e
   pub inlets : (r : ℕ) → inlet_at h.flow.inlets r ≡ no_inlet
   pub outlets : (s : ℕ) → outlet_at h.flow.outlets s ≡ no_outlet
+  pub known : (r : ℕ) → known_at h.known r ≡ []
+  pub room : (s : ℕ) → s < 64 → room_at h.room s ≡ 64
   pub shares : (h.out ≡ 0) × (h.kept ≡ 0)
 
 module _ {A : Type 0} where

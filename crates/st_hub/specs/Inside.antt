@@ -1,14 +1,17 @@
 -- The hub's parts as they lie in it.
 use Rattle.std.specs.Prelude.{◌≡◌, ℕ, ◌<◌, not, List, length, map, Some, slice_get, is_some}
 use Rattle.st_queues.specs.Names.{RingId}
-use Rattle.st_queues.specs.WriteEnds.{taken}
-use Rattle.st_queues.specs.ReadEnds.{put_in}
+use Rattle.st_queues.specs.WriteEnds.{taken, known}
+use Rattle.st_queues.specs.ReadEnds.{put_in, free_of}
 use Rattle.st_queues.specs.Lanes.{IsOurs, IsOurRead}
+use Rattle.st_queues.specs.declared.items.Item.{Item}
+use Rattle.st_queues.specs.declared.items.Delivery.{Delivery}
 use Rattle.st_queues.specs.declared.lanes.WriteLane.{WriteLane}
 use Rattle.st_queues.specs.declared.lanes.ReadLane.{ReadLane}
 use Rattle.st_end.specs.State.{EndState}
-use Rattle.st_hub.specs.Flow.{Flow, Inlet, Outlet, has_end, has_last, AllTied}
+use Rattle.st_hub.specs.Flow.{Flow, Inlet, Outlet, inlet_at, outlet_at, has_end, has_last, AllTied}
 use Rattle.st_hub.specs.Handing.{AllPaired}
+use Rattle.st_hub.specs.Trying.{Beside, known_at, room_at, Longer, Fuller}
 
 module _ {A : Type 0} where
   abbrev pub inlet_of : WriteLane A → Inlet A
@@ -19,6 +22,36 @@ module _ {A : Type 0} where
 
   abbrev pub flow_of : EndState → List (WriteLane A) → List (ReadLane A) → Flow A
   flow_of core writes reads = record { core = core; inlets = map inlet_of writes; outlets = map outlet_of reads }
+
+  abbrev pub known_of : WriteLane A → List (Item A)
+  known_of x = known x.end
+
+  abbrev pub room_of : ReadLane A → ℕ
+  room_of x = free_of x.end
+
+  abbrev pub beside_of : EndState → List (WriteLane A) → List (ReadLane A) → Beside A
+  beside_of core writes reads = record { flow = flow_of core writes reads; known = map known_of writes; room = map room_of reads }
+
+  -- what was taken of a ring, and what is known to stand in it
+  abbrev pub taken_at : List (WriteLane A) → (ring : ℕ) → List (Item A)
+  taken_at xs r = (inlet_at (map inlet_of xs) r).taken
+
+  abbrev pub stands_at : List (WriteLane A) → (ring : ℕ) → List (Item A)
+  stands_at xs r = known_at (map known_of xs) r
+
+  -- what was put into a ring, and the room that is known there
+  abbrev pub put_at : List (ReadLane A) → (place : ℕ) → List (Delivery A)
+  put_at ys s = (outlet_at (map outlet_of ys) s).put
+
+  abbrev pub free_at : List (ReadLane A) → (place : ℕ) → ℕ
+  free_at ys s = room_at (map room_of ys) s
+
+  -- each ring's own only grow
+  abbrev pub Grow : List (WriteLane A) → List (WriteLane A) → Type 0
+  Grow xs ys = (r : ℕ) → Longer (taken_at xs r) (stands_at xs r) (taken_at ys r) (stands_at ys r)
+
+  abbrev pub Fill : List (ReadLane A) → List (ReadLane A) → Type 0
+  Fill xs ys = (s : ℕ) → Fuller (put_at xs s) (free_at xs s) (put_at ys s) (free_at ys s)
 
   -- the hub's ring of the number k lies at k, and its lane knows whether its end was taken, or its last was put there
   pub record IsLane (ring : ℕ → RingId A) (k : ℕ) (x : WriteLane A) : Type 0 where

@@ -4,6 +4,7 @@ pub mod Flow
 pub mod Handing
 pub mod Steps
 pub mod Moving
+pub mod Trying
 pub mod Keeping
 pub mod Hub
 pub mod Turns
@@ -12,4 +13,5 @@ pub mod Gates
 pub mod Causes
 pub mod Seen
 pub mod Begins
+pub mod Working
 pub mod Inside

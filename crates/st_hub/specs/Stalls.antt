@@ -2,6 +2,7 @@
 use Rattle.std.specs.Prelude.{◌≡◌, ℕ, ℤ, true, List}
 use Rattle.std.specs.declared.option.Option.{Option}
 use Rattle.std.specs.declared.option.Option.TheVariants.{None, Some}
+use Rattle.st_sender.specs.Stops.{blocked_at}
 use Rattle.st_end.specs.State.{EndState}
 use Rattle.st_end.specs.Sending.{Goes, GoesNone}
 use Rattle.st_end.specs.Totals.{in_flight, waits}
@@ -15,9 +16,9 @@ pub record IsStalled (e : EndState) (stream : ℕ) : Type 0 where
   pub alone : in_flight e ≡ 0
   pub waits : waits e stream ≡ true
 
--- a Prepare is sent under the IV in hand, which is in hand no more; else the end and the hand are as they were, and
+-- a Prepare is sent under the IV in hand, which is in hand no more, and the turn tells of its Blocked frame; else the end and the hand are as they were, and
 -- `Stalled` is exactly where the end is
 abbrev pub Does : {A : Type 0} → EndState → (hand : Option (List ℕ)) → (stream : ℕ) → (now : ℤ) → Step A → EndState → (after : Option (List ℕ)) → Type 0
-Does a hand stream now (Sends t) b after = (iv : List ℕ) × (hand ≡ Some iv) × Goes a iv now t.flight t.bytes b × (after ≡ None)
+Does a hand stream now (Sends t) b after = (iv : List ℕ) × (hand ≡ Some iv) × Goes a iv now t.flight t.bytes b × (after ≡ None) × (t.stops ≡ blocked_at b.sending.flights t.flight.sequence)
 Does a hand stream now Idle b after = GoesNone a × (¬ (IsStalled a stream)) × (b ≡ a) × (after ≡ hand)
 Does a hand stream now Stalled b after = IsStalled a stream × (b ≡ a) × (after ≡ hand)

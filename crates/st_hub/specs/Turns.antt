@@ -1,9 +1,10 @@
 -- A turn: a Prepare that goes, and what comes back to it.
-use Rattle.std.specs.Prelude.{◌≡◌, ℕ, ◌+◌, ℤ, List, nat_eq, if◌then◌else◌, Result, Ok, Err}
+use Rattle.std.specs.Prelude.{◌≡◌, ℕ, ◌+◌, ℤ, List, Option, nat_eq, if◌then◌else◌, Result, Ok, Err}
 use Rattle.st_ilp.specs.Moments.{IsMoment}
 use Rattle.st_ilp.specs.Packets.{PreparePacket}
 use Rattle.st_ilp.specs.Spelling.{prepare_text}
 use Rattle.st_ilp.specs.Laws.{IsPrepare}
+use Rattle.st_sender.specs.declared.notice.Blocked.{Blocked}
 use Rattle.st_end.specs.declared.flight.Open.{Open}
 use Rattle.st_end.specs.State.{EndState}
 use Rattle.st_end.specs.Receiving.{Received, received}
@@ -13,6 +14,7 @@ use Rattle.st_desk.specs.declared.link.LinkFault.TheVariants.{NoMemory}
 pub record Sent : Type 0 where
   pub flight : Open
   pub bytes : List ℕ  -- of the Prepare
+  pub stops : Option Blocked  -- the limit of the peer that its Blocked frame tells, where it carries one
 
 -- the bytes spell a Prepare with this expiry (RFC 0027)
 pub record ExpiresAt (bytes : List ℕ) (millis : ℤ) : Type 0 where

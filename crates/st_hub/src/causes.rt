@@ -1,4 +1,4 @@
-//! Why an exchange brought no Fulfill, for whoever watches the workers.
+//! Why an exchange brought no Fulfill, and at which limit an end waits, for whoever watches the workers.
 
 ghost use Rattle.std.specs.Prelude.{◌≡◌};
 ghost use Rattle.st_hop.specs.Seen.{outcome_seen};
@@ -10,14 +10,19 @@ use crate::turns::Turn;
 use st_end::Failed;
 use st_hop::Outcome;
 use st_queues::HubName;
+use st_sender::Blocked;
 use std::alloc::Allocator;
 
-/// Whoever is told of the exchanges of a worker that brought no Fulfill, as a log.
+/// Whoever is told of the exchanges of a worker that brought no Fulfill, and of the limits at which it waits, as a log.
 pub trait Observer {
     /// A Prepare failed, for this cause. `limit` is the end's packet limit after it, in units of its asset: after F08
     /// (RFC 0027) it is a new one. It is called once for each exchange whose Prepare was open and is not fulfilled, in
     /// the worker's thread, while it holds no lock of the hub.
     fn failed(&mut self, failed: &Failed, limit: u64);
+
+    /// A Prepare with a Blocked frame is sent (RFC 0029, section 5.3): bytes or money of this end wait at this limit of
+    /// the peer. It is called before the exchange, in the worker's thread, while it holds no lock of the hub.
+    fn waits(&mut self, blocked: Blocked);
 }
 
 /// An observer that does nothing.
@@ -26,6 +31,8 @@ pub struct Unwatched;
 
 impl Observer for Unwatched {
     fn failed(&mut self, _failed: &Failed, _limit: u64) {}
+
+    fn waits(&mut self, _blocked: Blocked) {}
 }
 
 /// Why a turn failed, and the packet limit after it.

@@ -1,6 +1,6 @@
 //! The state of an end (a hub) that several threads share under one lock.
 
-ghost use Rattle.std.specs.Prelude.{◌≡◌, ℕ, ◌++◌, List, length, OnErr, IfOk, IfErr, IfSome, IfNone, IsOkUnless, ◌<◌};
+ghost use Rattle.std.specs.Prelude.{◌≡◌, ◌≢◌, ℕ, ◌++◌, length, OnOk, OnErr, IfOk, IfErr, IfSome, IfNone, IsOkUnless, ◌<◌};
 ghost use Rattle.st_end.specs.Calls as calls;
 ghost use Rattle.st_end.specs.Calls.{OrWants};
 ghost use Rattle.st_end.specs.Receiving.{t00_text};
@@ -8,10 +8,10 @@ ghost use Rattle.st_end.specs.Seen.{totals_seen};
 ghost use Rattle.st_end.specs.Totals as totals;
 ghost use Rattle.st_queues.specs.Lanes.{ring_at};
 ghost use Rattle.st_queues.specs.Watching.{IsUpTo, nothing_seen};
-ghost use Rattle.st_queues.specs.declared.items.Item.{Item};
 ghost use Rattle.st_hub.specs.Flow.{inlet_at, outlet_at, Tied};
 ghost use Rattle.st_hub.specs.Handing.{IsTaken, number_in, HandsOut, TakesLeft, AddsWriter, RefusesWriter};
 ghost use Rattle.st_hub.specs.Steps.{Flows, Continues};
+ghost use Rattle.st_hub.specs.Trying.{known_at, HadMemory, AllTried};
 ghost use Rattle.st_hub.specs.Hub.{IsNew, IsNewHub, shown_of, with_core};
 ghost use Rattle.st_hub.specs.declared.error.HubError.TheVariants.{NoMemory};
 
@@ -25,7 +25,8 @@ use std::marker::Model;
 use std::sync::ledger::{Blank, Book, Share};
 
 /// An end of a connection with the rings of its streams, a gauge of its totals and the ledger of its credit: the value
-/// of one lock. Contracts see it as the end, the items taken from and put into each ring, and the outstanding shares.
+/// of one lock. Contracts see it as the end, the items taken from and put into each ring, what is known to stand in each
+/// writer's ring, the room that is known in each reader's ring, and the outstanding shares.
 #[derive(Drop)]
 pub struct HubState<N: HubName<A>, A: Allocator + Copy> {
     pub(crate) streams: Streams<N, A>,
@@ -48,9 +49,9 @@ impl<N: HubName<A>, A: Allocator + Copy> Model for HubState<N, A> {
 
     ghost coded = { Prim.hlevel (codes, map.code) };
 
-    ghost view = { λ h. record { flow = h.streams; out = h.out; kept = h.spare.amount } };
+    ghost view = { λ h. record { flow = h.streams.flow; known = h.streams.known; room = h.streams.room; out = h.out; kept = h.spare.amount } };
 
-    ghost invariant = { λ h. (h.seat ≡ shown_of h.streams.core) × (h.credit.total ≡ h.streams.core.receiving.credit) × (h.spare.parts + h.out ≡ 64) × (h.out < 64) × (N.parts ≡ 64) };
+    ghost invariant = { λ h. (h.seat ≡ shown_of h.streams.flow.core) × (h.credit.total ≡ h.streams.flow.core.receiving.credit) × (h.spare.parts + h.out ≡ 64) × (h.out < 64) × (N.parts ≡ 64) };
 }
 
 /// Publishes what the end did by now.
@@ -59,15 +60,16 @@ pub(crate) fn publish<N: HubName<A>, A: Allocator + Copy>(
     seat: &mut HubSeat<N, A>,
     streams: &Streams<N, A>,
 )
-    requires { IsUpTo seat.old (shown_of streams.now.core) }
-    ensures { seat.new ≡ shown_of streams.now.core }
+    requires { IsUpTo seat.old (shown_of streams.now.flow.core) }
+    ensures { seat.new ≡ shown_of streams.now.flow.core }
 {
     gauge.publish(seat, streams.totals());
 }
 
 // Whether all was moved that can be.
 fn told(pumped: Pumped) -> Result<(), HubError>
-    ensures { IsOkUnless result NoMemory }
+    ensures ok { OnOk result (HadMemory pumped) }
+    ensures only_memory { IsOkUnless result NoMemory }
 {
     match pumped {
         Pumped::NoMemory => Err(HubError::NoMemory),
@@ -200,11 +202,17 @@ impl<N: HubName<A>, A: Allocator + Copy> HubState<N, A> {
     /// to the end where the end accepts them; one that it refuses stays in its ring. Bytes that can be read move to the
     /// readers' rings where there is room. A stream is closed when the end of the last of its writers is moved.
     ///
+    /// Each ring of each open stream is tried. All items that this hub knew to stand in a writer's ring are taken. It
+    /// stops before only at the writer's end, at an item that the end refuses, or after 64 items. All room that it knew
+    /// of in a reader's ring is filled. It stops before only where nothing can be read, at the stream's end, or after
+    /// 64 items. `meet_writer` lets the hub know all that stands in a ring, and a pump looks for more too.
+    ///
     /// Fails with `NoMemory` where memory is refused. What was moved before stays moved, and the next item is where it
     /// was.
     pub fn pump(&mut self) -> Result<(), HubError>
         ensures flows { Flows self.old.flow self.new.flow }
         ensures continues { Continues self.old.flow self.new.flow }
+        ensures tried { OnOk result (AllTried self.old.flow self.old.known self.old.room self.new.flow) }
         ensures only_memory { IsOkUnless result NoMemory }
         ensures rest { (self.new.out ≡ self.old.out) × (self.new.kept ≡ self.old.kept) }
     {
@@ -220,12 +228,15 @@ impl<N: HubName<A>, A: Allocator + Copy> HubState<N, A> {
     }
 
     /// Returns the number of items in a writer's ring. Its contract says that the items taken from the ring, followed
-    /// by those in it, are the items that the writer wrote. It also says that the bytes that the end accepted on each
-    /// stream are a merge of the items taken from the stream's rings. Does not allocate.
+    /// by those in it, are the items that the writer wrote. The hub then knows them all. It also says that the bytes
+    /// that the end accepted on each stream are a merge of the items taken from the stream's rings. Does not allocate.
     pub fn meet_writer(&mut self, writer: &mut StreamWriter<N, A>) -> usize
-        ensures same { self.new ≡ self.old }
+        ensures same { (self.new.flow ≡ self.old.flow) × (self.new.room ≡ self.old.room) }
+        ensures rest { (self.new.out ≡ self.old.out) × (self.new.kept ≡ self.old.kept) }
         ensures writer { (writer.new.ring ≡ writer.old.ring) × (writer.new.items ≡ writer.old.items) × (writer.new.ended ≡ writer.old.ended) }
-        ensures whole { (rest : List (Item A)) × (length rest ≡ result) × ((inlet_at self.old.flow.inlets writer.old.ring).taken ++ rest ≡ writer.old.items) }
+        ensures count { result ≡ length (known_at self.new.known writer.old.ring) }
+        ensures others { (r : ℕ) → r ≢ writer.old.ring → known_at self.new.known r ≡ known_at self.old.known r }
+        ensures whole { (inlet_at self.old.flow.inlets writer.old.ring).taken ++ known_at self.new.known writer.old.ring ≡ writer.old.items }
         ensures merged { (s : ℕ) → s < 64 → Tied self.old.flow s }
     {
         self.streams.meet_writer(writer)
@@ -234,7 +245,8 @@ impl<N: HubName<A>, A: Allocator + Copy> HubState<N, A> {
     /// Returns the number of items in a reader's ring. Its contract says that the items that the reader read, followed
     /// by those in its ring, are the items that the hub delivered. Does not allocate.
     pub fn meet_reader(&mut self, reader: &mut StreamReader<N, A>) -> usize
-        ensures same { self.new ≡ self.old }
+        ensures same { (self.new.flow ≡ self.old.flow) × (self.new.known ≡ self.old.known) }
+        ensures rest { (self.new.out ≡ self.old.out) × (self.new.kept ≡ self.old.kept) }
         ensures reader { (reader.new.stream ≡ reader.old.stream) × (reader.new.items ≡ reader.old.items) × (reader.new.over ≡ reader.old.over) }
         ensures count { result ≡ length reader.new.known }
         ensures whole { reader.old.items ++ reader.new.known ≡ (outlet_at self.old.flow.outlets reader.old.stream).put }

@@ -1,11 +1,10 @@
 //! The rings of a hub, by their places.
 
-ghost use Rattle.std.specs.Prelude.{◌≡◌, ◌+◌, ◌*◌, ◌<◌, ℕ, true, false, not, ◌&&◌, List, ◌++◌, length, map, IfSome, IfNone};
+ghost use Rattle.std.specs.Prelude.{◌≡◌, ◌≢◌, ◌+◌, ◌*◌, ◌<◌, ℕ, true, false, not, ◌&&◌, ◌++◌, length, map, IfSome, IfNone};
 ghost use Rattle.st_end.specs.Calls.{has_stream};
-ghost use Rattle.st_queues.specs.declared.items.Item.{Item};
 ghost use Rattle.st_hub.specs.Flow.{inlet_at, outlet_at, writer_out, reader_out};
 ghost use Rattle.st_hub.specs.Handing.{IsFreshWriter, IsFreshReader};
-ghost use Rattle.st_hub.specs.Inside.{inlet_of, outlet_of, AllLanes, AllReadLanes};
+ghost use Rattle.st_hub.specs.Inside.{inlet_of, outlet_of, stands_at, AllLanes, AllReadLanes};
 
 use st_end::EndState;
 use st_queues::{HubName, ReadLane, StreamReader, StreamWriter, WriteLane};
@@ -106,7 +105,9 @@ pub(crate) fn meet_writer<N: HubName<A>, A: Allocator + Copy>(
     requires { AllLanes N.write_ring writes.old.items }
     ensures lanes { AllLanes N.write_ring writes.new.items × (map inlet_of writes.new.items ≡ map inlet_of writes.old.items) }
     ensures writer { (writer.new.ring ≡ writer.old.ring) × (writer.new.items ≡ writer.old.items) × (writer.new.ended ≡ writer.old.ended) }
-    ensures whole { (rest : List (Item A)) × (length rest ≡ result) × ((inlet_at (map inlet_of writes.old.items) writer.old.ring).taken ++ rest ≡ writer.old.items) }
+    ensures count { result ≡ length (stands_at writes.new.items writer.old.ring) }
+    ensures others { (r : ℕ) → r ≢ writer.old.ring → stands_at writes.new.items r ≡ stands_at writes.old.items r }
+    ensures whole { (inlet_at (map inlet_of writes.old.items) writer.old.ring).taken ++ stands_at writes.new.items writer.old.ring ≡ writer.old.items }
 {
     let lane = &mut writes[writer.ring()];
     lane.end.meet(writer)

@@ -1,13 +1,15 @@
 //! What moves between the rings and the end.
 
-ghost use Rattle.std.specs.Prelude.{◌≡◌, ◌+◌, ◌*◌, ◌<◌, not, ◌&&◌, nat_eq, List, map, OnOk, OnErr, MatchBool};
-ghost use Rattle.st_queues.specs.WriteEnds.{taken, SameWriteEnd};
-ghost use Rattle.st_queues.specs.ReadEnds.{put_in, SameReadEnd};
+ghost use Rattle.std.specs.Prelude.{◌≡◌, ℕ, ◌+◌, ◌*◌, ◌<◌, true, not, ◌&&◌, nat_eq, List, map, OnOk, OnErr, IfErr, Err, MatchBool};
+ghost use Rattle.st_end.specs.Calls as calls;
+ghost use Rattle.st_queues.specs.WriteEnds.{taken, known, SameWriteEnd};
+ghost use Rattle.st_queues.specs.ReadEnds.{put_in, free_of, SameReadEnd};
 ghost use Rattle.st_hub.specs.Flow.{Inlet, Outlet, inlet_at, has_end, has_last, is_writing};
 ghost use Rattle.st_hub.specs.Handing.{NoOther, SomeOther};
 ghost use Rattle.st_hub.specs.Steps.{Flows};
 ghost use Rattle.st_hub.specs.Moving.{ClosesIf, AfterTake, AfterGive};
-ghost use Rattle.st_hub.specs.Inside.{inlet_of, outlet_of, flow_of, AllLanes, AllReadLanes};
+ghost use Rattle.st_hub.specs.Trying.{HadMemory, Longer, Stops, Fuller, StopsGiving, Found, Tried, TriedRead, AllTried};
+ghost use Rattle.st_hub.specs.Inside.{inlet_of, outlet_of, known_of, room_of, flow_of, taken_at, stands_at, put_at, free_at, Grow, Fill, AllLanes, AllReadLanes};
 
 use st_end::{EndError, EndState};
 use st_queues::{Delivery, HubName, Item, ROOM, ReadLane, STREAMS, WRITERS, WriteLane};
@@ -46,6 +48,7 @@ fn close_last<A: Allocator + Copy>(
 ) -> Result<(), EndError>
     ensures closed { OnOk result (ClosesIf is_last core.old stream core.new) }
     ensures refused { OnErr result (core.new ≡ core.old) }
+    ensures why { IfErr result (λ e. calls.close core.new stream ≡ (Err e, core.new)) }
 {
     if is_last { core.close(stream) } else { Ok(()) }
 }
@@ -61,6 +64,8 @@ fn take_first<A: Allocator + Copy>(
     ensures same { SameWriteEnd lane.old.end lane.new.end × (lane.new.held ≡ lane.old.held) }
     ensures over { lane.new.over ≡ has_end (taken lane.new.end) }
     ensures after { AfterTake stream is_last core.old (taken lane.old.end) result core.new (taken lane.new.end) }
+    ensures grows { Longer (taken lane.old.end) (known lane.old.end) (taken lane.new.end) (known lane.new.end) }
+    ensures stops { Stops stream result (taken lane.old.end) core.new (taken lane.new.end) (known lane.new.end) }
 {
     let WriteLane { end, held: _, over } = lane;
     if *over || !end.look() {
@@ -72,8 +77,10 @@ fn take_first<A: Allocator + Copy>(
                 end.drop_first();
                 Pumped::Moved
             }
-            Err(EndError::NoMemory) => Pumped::NoMemory,
-            Err(_) => Pumped::Stuck,
+            Err(why) => match why {
+                EndError::NoMemory => Pumped::NoMemory,
+                _ => Pumped::Stuck,
+            },
         },
         Item::End => match close_last(core, stream, is_last) {
             Ok(()) => {
@@ -96,6 +103,8 @@ fn give_first<A: Allocator + Copy>(
     ensures same { SameReadEnd lane.old.end lane.new.end × (lane.new.held ≡ lane.old.held) }
     ensures over { lane.new.over ≡ has_last (put_in lane.new.end) }
     ensures after { AfterGive stream core.old (put_in lane.old.end) result core.new (put_in lane.new.end) }
+    ensures fills { Fuller (put_in lane.old.end) (free_of lane.old.end) (put_in lane.new.end) (free_of lane.new.end) }
+    ensures stops { StopsGiving stream core.old (put_in lane.old.end) result core.new (put_in lane.new.end) (free_of lane.new.end) }
 {
     let ReadLane { end, held: _, over } = lane;
     if *over || end.room() == 0 {
@@ -117,8 +126,10 @@ fn give_first<A: Allocator + Copy>(
             *over = true;
             Pumped::Moved
         }
-        Err(EndError::NoMemory) => Pumped::NoMemory,
-        Err(_) => Pumped::Stuck,
+        Err(why) => match why {
+            EndError::NoMemory => Pumped::NoMemory,
+            _ => Pumped::Stuck,
+        },
     }
 }
 
@@ -166,6 +177,8 @@ fn take_one<N: HubName<A>, A: Allocator + Copy>(
     requires { AllLanes N.write_ring writes.old.items × (place < 64) × (writer < 8) }
     ensures lanes { AllLanes N.write_ring writes.new.items }
     ensures flows { (outlets : List (Outlet A)) → Flows (record { core = core.old; inlets = map inlet_of writes.old.items; outlets = outlets }) (record { core = core.new; inlets = map inlet_of writes.new.items; outlets = outlets }) }
+    ensures grows { Grow writes.old.items writes.new.items }
+    ensures stops { Stops (place + 1) result (taken_at writes.old.items (8 * place + writer)) core.new (taken_at writes.new.items (8 * place + writer)) (stands_at writes.new.items (8 * place + writer)) }
 {
     let last = is_last::<N, A>(writes, place, writer);
     let lane = &mut writes[8 * place + writer];
@@ -181,6 +194,8 @@ fn give_one<N: HubName<A>, A: Allocator + Copy>(
     requires { AllReadLanes N.read_ring reads.old.items × (place < 64) }
     ensures lanes { AllReadLanes N.read_ring reads.new.items }
     ensures flows { (inlets : List (Inlet A)) → Flows (record { core = core.old; inlets = inlets; outlets = map outlet_of reads.old.items }) (record { core = core.new; inlets = inlets; outlets = map outlet_of reads.new.items }) }
+    ensures fills { Fill reads.old.items reads.new.items }
+    ensures stops { StopsGiving (place + 1) core.old (put_at reads.old.items place) result core.new (put_at reads.new.items place) (free_at reads.new.items place) }
 {
     let lane = &mut reads[place];
     give_first(core, lane, place as u8 + 1)
@@ -196,6 +211,8 @@ fn take_ring<N: HubName<A>, A: Allocator + Copy>(
     requires { AllLanes N.write_ring writes.old.items × (place < 64) × (writer < 8) }
     ensures lanes { AllLanes N.write_ring writes.new.items }
     ensures flows { (outlets : List (Outlet A)) → Flows (record { core = core.old; inlets = map inlet_of writes.old.items; outlets = outlets }) (record { core = core.new; inlets = map inlet_of writes.new.items; outlets = outlets }) }
+    ensures grows { Grow writes.old.items writes.new.items }
+    ensures found { HadMemory result → Found core.new (place + 1) (taken_at writes.old.items (8 * place + writer)) (stands_at writes.old.items (8 * place + writer)) (taken_at writes.new.items (8 * place + writer)) }
 {
     for _ in 0..ROOM {
         match take_one::<N, A>(core, writes, place, writer) {
@@ -215,6 +232,8 @@ fn take_stream<N: HubName<A>, A: Allocator + Copy>(
     requires { AllLanes N.write_ring writes.old.items × (place < 64) }
     ensures lanes { AllLanes N.write_ring writes.new.items }
     ensures flows { (outlets : List (Outlet A)) → Flows (record { core = core.old; inlets = map inlet_of writes.old.items; outlets = outlets }) (record { core = core.new; inlets = map inlet_of writes.new.items; outlets = outlets }) }
+    ensures grows { Grow writes.old.items writes.new.items }
+    ensures tried { HadMemory result → (j : ℕ) → j < 8 → (outlets : List (Outlet A)) → Tried (record { core = core.old; inlets = map inlet_of writes.old.items; outlets = outlets }) (map known_of writes.old.items) place j (record { core = core.new; inlets = map inlet_of writes.new.items; outlets = outlets }) }
 {
     for writer in 0..usize::from(WRITERS) {
         if let Pumped::NoMemory = take_ring::<N, A>(core, writes, place, writer) {
@@ -233,6 +252,8 @@ fn give_stream<N: HubName<A>, A: Allocator + Copy>(
     requires { AllReadLanes N.read_ring reads.old.items × (place < 64) }
     ensures lanes { AllReadLanes N.read_ring reads.new.items }
     ensures flows { (inlets : List (Inlet A)) → Flows (record { core = core.old; inlets = inlets; outlets = map outlet_of reads.old.items }) (record { core = core.new; inlets = inlets; outlets = map outlet_of reads.new.items }) }
+    ensures fills { Fill reads.old.items reads.new.items }
+    ensures tried { HadMemory result → (inlets : List (Inlet A)) → TriedRead (record { core = core.old; inlets = inlets; outlets = map outlet_of reads.old.items }) (map room_of reads.old.items) place (record { core = core.new; inlets = inlets; outlets = map outlet_of reads.new.items }) }
 {
     for _ in 0..ROOM {
         match give_one::<N, A>(core, reads, place) {
@@ -254,6 +275,9 @@ fn pump_stream<N: HubName<A>, A: Allocator + Copy>(
     requires { AllLanes N.write_ring writes.old.items × AllReadLanes N.read_ring reads.old.items × (place < 64) }
     ensures lanes { AllLanes N.write_ring writes.new.items × AllReadLanes N.read_ring reads.new.items }
     ensures flows { Flows (flow_of core.old writes.old.items reads.old.items) (flow_of core.new writes.new.items reads.new.items) }
+    ensures grows { Grow writes.old.items writes.new.items × Fill reads.old.items reads.new.items }
+    ensures tried { HadMemory result → calls.has_stream core.old (place + 1) ≡ true → (j : ℕ) → j < 8 → Tried (flow_of core.old writes.old.items reads.old.items) (map known_of writes.old.items) place j (flow_of core.new writes.new.items reads.new.items) }
+    ensures read { HadMemory result → calls.has_stream core.old (place + 1) ≡ true → TriedRead (flow_of core.old writes.old.items reads.old.items) (map room_of reads.old.items) place (flow_of core.new writes.new.items reads.new.items) }
 {
     if !core.has_stream(place as u8 + 1) {
         return Pumped::Nothing;
@@ -273,6 +297,7 @@ pub(crate) fn pump<N: HubName<A>, A: Allocator + Copy>(
     requires { AllLanes N.write_ring writes.old.items × AllReadLanes N.read_ring reads.old.items }
     ensures lanes { AllLanes N.write_ring writes.new.items × AllReadLanes N.read_ring reads.new.items }
     ensures flows { Flows (flow_of core.old writes.old.items reads.old.items) (flow_of core.new writes.new.items reads.new.items) }
+    ensures tried { HadMemory result → AllTried (flow_of core.old writes.old.items reads.old.items) (map known_of writes.old.items) (map room_of reads.old.items) (flow_of core.new writes.new.items reads.new.items) }
 {
     for place in 0..usize::from(STREAMS) {
         if let Pumped::NoMemory = pump_stream::<N, A>(core, writes, reads, place) {

@@ -1,6 +1,6 @@
 //! An end beside the rings of its streams.
 
-ghost use Rattle.std.specs.Prelude.{◌≡◌, ◌<◌, ℕ, true, List, ◌++◌, length, vec_len, OnErr, IfOk, IfErr, IfSome, IfNone, IsOkUnless, MatchOption};
+ghost use Rattle.std.specs.Prelude.{◌≡◌, ◌≢◌, ◌<◌, ℕ, true, List, ◌++◌, length, vec_len, OnErr, IfOk, IfErr, IfSome, IfNone, IsOkUnless, MatchOption};
 ghost use Rattle.st_end.specs.Calls as calls;
 ghost use Rattle.st_end.specs.Calls.{OrWants};
 ghost use Rattle.st_end.specs.Sending as sending;
@@ -10,14 +10,14 @@ ghost use Rattle.st_end.specs.Receiving.{received};
 ghost use Rattle.st_end.specs.Seen.{received_seen};
 ghost use Rattle.st_hop.specs.Seen.{outcome_seen};
 ghost use Rattle.st_queues.specs.Lanes.{AllNamed, AllNamedReads};
-ghost use Rattle.st_queues.specs.declared.items.Item.{Item};
 ghost use Rattle.st_hub.specs.Flow.{inlet_at, outlet_at, Tied};
 ghost use Rattle.st_hub.specs.Handing.{IsTaken, number_in, HandsOut, TakesLeft, AddsWriter, RefusesWriter};
 ghost use Rattle.st_hub.specs.Steps.{Flows, Continues};
 ghost use Rattle.st_hub.specs.Keeping.{Keeps, Rises};
 ghost use Rattle.st_hub.specs.Hub.{IsNew, shown_of};
+ghost use Rattle.st_hub.specs.Trying.{with_end, known_at, HadMemory, AllTried};
 ghost use Rattle.st_hub.specs.Turns.{credited_by};
-ghost use Rattle.st_hub.specs.Inside.{flow_of};
+ghost use Rattle.st_hub.specs.Inside.{beside_of};
 
 use crate::adding::{first_unused, further_writer, is_stream, is_too_late};
 use crate::error::HubError;
@@ -31,7 +31,8 @@ use st_queues::{HubName, ReadLane, StreamReader, StreamWriter, Totals, WriteLane
 use std::alloc::Allocator;
 use std::marker::{Model, PhantomData};
 
-/// An end beside its rings. Contracts see it as the end, what was taken from each ring and what was put there.
+/// An end beside its rings. Contracts see it as the end, what was taken from each ring and what was put there, and what
+/// is known to stand in each ring and to have room there.
 #[derive(Drop)]
 pub(crate) struct Streams<N: HubName<A>, A: Allocator + Copy> {
     core: EndState<A>,
@@ -46,14 +47,14 @@ pub(crate) struct Streams<N: HubName<A>, A: Allocator + Copy> {
 impl<N: HubName<A>, A: Allocator + Copy> Model for Streams<N, A> {
     ghost use Rattle.std.specs.Coded.{codes};
     ghost use Rattle.std.specs.FinMap as map;
-    ghost use Rattle.st_hub.specs.Flow.{Flow};
-    ghost use Rattle.st_hub.specs.Inside.{flow_of, IsSound};
+    ghost use Rattle.st_hub.specs.Trying.{Beside};
+    ghost use Rattle.st_hub.specs.Inside.{beside_of, IsSound};
 
-    ghost Value = { Flow A };
+    ghost Value = { Beside A };
 
     ghost coded = { Prim.hlevel (codes, map.code) };
 
-    ghost view = { λ h. flow_of h.core h.writes.items h.reads.items };
+    ghost view = { λ h. beside_of h.core h.writes.items h.reads.items };
 
     ghost invariant = { λ h. IsSound N.write_ring N.read_ring h.core h.writes.items h.reads.items };
 }
@@ -69,7 +70,7 @@ impl<N: HubName<A>, A: Allocator + Copy> Streams<N, A> {
         requires fresh { IsNew core }
         requires writes { (vec_len writes ≡ 512) × AllNamed N.write_ring writes.items }
         requires reads { (vec_len reads ≡ 64) × AllNamedReads N.read_ring reads.items }
-        ensures { result ≡ flow_of core writes.items reads.items }
+        ensures { result ≡ beside_of core writes.items reads.items }
     {
         Streams {
             core,
@@ -82,7 +83,7 @@ impl<N: HubName<A>, A: Allocator + Copy> Streams<N, A> {
 
     /// What the end did so far.
     pub(crate) fn totals(&self) -> Totals
-        ensures { result ≡ shown_of self.now.core }
+        ensures { result ≡ shown_of self.now.flow.core }
     {
         let told = self.core.totals();
         Totals {
@@ -95,25 +96,25 @@ impl<N: HubName<A>, A: Allocator + Copy> Streams<N, A> {
 
     /// The end.
     pub(crate) fn core(&self) -> &EndState<A>
-        ensures { result.now ≡ self.now.core }
+        ensures { result.now ≡ self.now.flow.core }
     {
         &self.core
     }
 
     /// The end's `offer`.
     pub(crate) fn offer(&mut self, stream: u8, amount: u64) -> Result<(), EndError>
-        ensures answers { calls.offer self.old.core stream amount ≡ (result, self.new.core) }
-        ensures keeps { Keeps 0 self.old.core self.new.core }
-        ensures rest { self.new ≡ record self.old { core = self.new.core } }
+        ensures answers { calls.offer self.old.flow.core stream amount ≡ (result, self.new.flow.core) }
+        ensures keeps { Keeps 0 self.old.flow.core self.new.flow.core }
+        ensures rest { self.new ≡ with_end self.old self.new.flow.core }
     {
         self.core.offer(stream, amount)
     }
 
     /// The end's `set_receive_max`.
     pub(crate) fn set_receive_max(&mut self, stream: u8, amount: u64) -> Result<(), EndError>
-        ensures answers { calls.set_receive_max self.old.core stream amount ≡ (result, self.new.core) }
-        ensures keeps { Keeps 0 self.old.core self.new.core }
-        ensures rest { self.new ≡ record self.old { core = self.new.core } }
+        ensures answers { calls.set_receive_max self.old.flow.core stream amount ≡ (result, self.new.flow.core) }
+        ensures keeps { Keeps 0 self.old.flow.core self.new.flow.core }
+        ensures rest { self.new ≡ with_end self.old self.new.flow.core }
     {
         self.core.set_receive_max(stream, amount)
     }
@@ -125,21 +126,21 @@ impl<N: HubName<A>, A: Allocator + Copy> Streams<N, A> {
         now: Moment,
     ) -> Result<Option<(Flight, Vec<u8, A>)>, EndError>
         ensures only_memory { IsOkUnless result EndError.NoMemory }
-        ensures goes { IfOk result (λ sent. MatchOption sent (GoesNone self.old.core × (self.new.core ≡ self.old.core)) (λ x. Goes self.old.core iv now x.0 x.1.items self.new.core)) }
-        ensures unchanged { OnErr result (self.new.core ≡ self.old.core) }
-        ensures keeps { Keeps 0 self.old.core self.new.core }
-        ensures rest { self.new ≡ record self.old { core = self.new.core } }
+        ensures goes { IfOk result (λ sent. MatchOption sent (GoesNone self.old.flow.core × (self.new.flow.core ≡ self.old.flow.core)) (λ x. Goes self.old.flow.core iv now x.0 x.1.items self.new.flow.core)) }
+        ensures unchanged { OnErr result (self.new.flow.core ≡ self.old.flow.core) }
+        ensures keeps { Keeps 0 self.old.flow.core self.new.flow.core }
+        ensures rest { self.new ≡ with_end self.old self.new.flow.core }
     {
         self.core.send(iv, now)
     }
 
     /// Ends a flight of the end with what came back to it, and tells whether that is a Fulfill that fits.
     pub(crate) fn settle(&mut self, flight: Flight, outcome: Outcome<A>) -> bool
-        requires { sending.is_open self.old.core flight ≡ true }
-        ensures left { self.new.core ≡ ended self.old.core flight (outcome_seen outcome) }
+        requires { sending.is_open self.old.flow.core flight ≡ true }
+        ensures left { self.new.flow.core ≡ ended self.old.flow.core flight (outcome_seen outcome) }
         ensures paid { result ≡ pays flight (outcome_seen outcome) }
-        ensures keeps { Keeps 0 self.old.core self.new.core }
-        ensures rest { self.new ≡ record self.old { core = self.new.core } }
+        ensures keeps { Keeps 0 self.old.flow.core self.new.flow.core }
+        ensures rest { self.new ≡ with_end self.old self.new.flow.core }
     {
         settle_flight(&mut self.core, flight, outcome)
     }
@@ -147,10 +148,10 @@ impl<N: HubName<A>, A: Allocator + Copy> Streams<N, A> {
     /// The end's `receive`.
     pub(crate) fn receive(&mut self, bytes: &[u8], now: Moment) -> Result<Received<A>, EndError>
         ensures only_memory { IsOkUnless result EndError.NoMemory }
-        ensures answers { IfOk result (λ r. received self.old.core bytes.now now ≡ (received_seen r, self.new.core)) }
-        ensures keeps { IfOk result (λ r. Keeps (credited_by (received_seen r)) self.old.core self.new.core) }
-        ensures unchanged { OnErr result (self.new.core ≡ self.old.core) }
-        ensures rest { self.new ≡ record self.old { core = self.new.core } }
+        ensures answers { IfOk result (λ r. received self.old.flow.core bytes.now now ≡ (received_seen r, self.new.flow.core)) }
+        ensures keeps { IfOk result (λ r. Keeps (credited_by (received_seen r)) self.old.flow.core self.new.flow.core) }
+        ensures unchanged { OnErr result (self.new.flow.core ≡ self.old.flow.core) }
+        ensures rest { self.new ≡ with_end self.old self.new.flow.core }
     {
         self.core.receive(bytes, now)
     }
@@ -159,10 +160,10 @@ impl<N: HubName<A>, A: Allocator + Copy> Streams<N, A> {
     pub(crate) fn open_stream(
         &mut self,
     ) -> Result<(u8, StreamWriter<N, A>, StreamReader<N, A>), EndError>
-        ensures answers { OrWants self.old.core (calls.open_stream self.old.core) (number_in result, self.new.core) }
-        ensures handed { IfOk result (λ x. (s : ℕ) × HandsOut self.old self.new x.0 x.1 x.2 s) }
+        ensures answers { OrWants self.old.flow.core (calls.open_stream self.old.flow.core) (number_in result, self.new.flow.core) }
+        ensures handed { IfOk result (λ x. (s : ℕ) × HandsOut self.old.flow self.new.flow x.0 x.1 x.2 s) }
         ensures unchanged { OnErr result (self.new ≡ self.old) }
-        ensures keeps { Keeps 0 self.old.core self.new.core }
+        ensures keeps { Keeps 0 self.old.flow.core self.new.flow.core }
     {
         let Streams {
             core,
@@ -179,8 +180,8 @@ impl<N: HubName<A>, A: Allocator + Copy> Streams<N, A> {
 
     /// Hands out the ends of the lowest stream that is open and whose ends nobody has.
     pub(crate) fn take_stream(&mut self) -> Option<(u8, StreamWriter<N, A>, StreamReader<N, A>)>
-        ensures taken { IfSome result (λ x. (s : ℕ) × TakesLeft self.old self.new x.0 x.1 x.2 s) }
-        ensures none { IfNone result (((s : ℕ) → s < 64 → IsTaken self.old s) × (self.new ≡ self.old)) }
+        ensures taken { IfSome result (λ x. (s : ℕ) × TakesLeft self.old.flow self.new.flow x.0 x.1 x.2 s) }
+        ensures none { IfNone result (((s : ℕ) → s < 64 → IsTaken self.old.flow s) × (self.new ≡ self.old)) }
     {
         let Streams {
             core,
@@ -196,8 +197,8 @@ impl<N: HubName<A>, A: Allocator + Copy> Streams<N, A> {
 
     /// Hands out a further writer of an open stream.
     pub(crate) fn add_writer(&mut self, stream: u8) -> Result<StreamWriter<N, A>, HubError>
-        ensures added { IfOk result (λ w. (j : ℕ) × AddsWriter self.old self.new stream w j) }
-        ensures refused { IfErr result (λ e. (self.new ≡ self.old) × RefusesWriter self.old stream e) }
+        ensures added { IfOk result (λ w. (j : ℕ) × AddsWriter self.old.flow self.new.flow stream w j) }
+        ensures refused { IfErr result (λ e. (self.new ≡ self.old) × RefusesWriter self.old.flow stream e) }
     {
         let Streams {
             core,
@@ -220,30 +221,33 @@ impl<N: HubName<A>, A: Allocator + Copy> Streams<N, A> {
 
     /// The number of items in a writer's ring, with the writer in hand.
     pub(crate) fn meet_writer(&mut self, writer: &mut StreamWriter<N, A>) -> usize
-        ensures same { self.new ≡ self.old }
+        ensures same { (self.new.flow ≡ self.old.flow) × (self.new.room ≡ self.old.room) }
         ensures writer { (writer.new.ring ≡ writer.old.ring) × (writer.new.items ≡ writer.old.items) × (writer.new.ended ≡ writer.old.ended) }
-        ensures whole { (rest : List (Item A)) × (length rest ≡ result) × ((inlet_at self.old.inlets writer.old.ring).taken ++ rest ≡ writer.old.items) }
-        ensures merged { (s : ℕ) → s < 64 → Tied self.old s }
+        ensures count { result ≡ length (known_at self.new.known writer.old.ring) }
+        ensures others { (r : ℕ) → r ≢ writer.old.ring → known_at self.new.known r ≡ known_at self.old.known r }
+        ensures whole { (inlet_at self.old.flow.inlets writer.old.ring).taken ++ known_at self.new.known writer.old.ring ≡ writer.old.items }
+        ensures merged { (s : ℕ) → s < 64 → Tied self.old.flow s }
     {
         lanes::meet_writer(&mut self.writes, writer)
     }
 
     /// The number of items in a reader's ring, with the reader in hand.
     pub(crate) fn meet_reader(&mut self, reader: &mut StreamReader<N, A>) -> usize
-        ensures same { self.new ≡ self.old }
+        ensures same { (self.new.flow ≡ self.old.flow) × (self.new.known ≡ self.old.known) }
         ensures reader { (reader.new.stream ≡ reader.old.stream) × (reader.new.items ≡ reader.old.items) × (reader.new.over ≡ reader.old.over) }
         ensures count { result ≡ length reader.new.known }
-        ensures whole { reader.old.items ++ reader.new.known ≡ (outlet_at self.old.outlets reader.old.stream).put }
+        ensures whole { reader.old.items ++ reader.new.known ≡ (outlet_at self.old.flow.outlets reader.old.stream).put }
     {
         lanes::meet_reader(&mut self.reads, reader)
     }
 
     /// Moves what can be moved between the rings and the end.
     pub(crate) fn pump(&mut self) -> Pumped
-        ensures flows { Flows self.old self.new }
-        ensures rises { Rises self.old.core self.new.core }
-        ensures money { self.new.core.receiving.credit ≡ self.old.core.receiving.credit }
-        ensures continues { Continues self.old self.new }
+        ensures flows { Flows self.old.flow self.new.flow }
+        ensures rises { Rises self.old.flow.core self.new.flow.core }
+        ensures money { self.new.flow.core.receiving.credit ≡ self.old.flow.core.receiving.credit }
+        ensures continues { Continues self.old.flow self.new.flow }
+        ensures tried { HadMemory result → AllTried self.old.flow self.old.known self.old.room self.new.flow }
     {
         let Streams {
             core,

@@ -1,8 +1,9 @@
 //! The calls of a hub for threads that send Prepares, and for those that take Prepares in.
 
-ghost use Rattle.std.specs.Prelude.{◌≡◌, ◌≢◌, ◌+◌, ◌<◌, true, false, not, sum, vec_len, is_some, OnErr, IfOk, IfErr, IsOkUnless, MatchBool, MatchOption, pos, ◌+ℤ◌};
+ghost use Rattle.std.specs.Prelude.{◌≡◌, ◌≢◌, ◌+◌, ◌<◌, true, false, not, sum, vec_len, is_some, OnErr, IfOk, IfErr, IfSome, IsOkUnless, MatchBool, MatchOption, pos, ◌+ℤ◌};
 ghost use Rattle.st_hop.specs.Seen.{outcome_seen};
 ghost use Rattle.st_ilp.specs.Moments.{IsMoment};
+ghost use Rattle.st_sender.specs.Stops.{blocked_at};
 ghost use Rattle.st_end.specs.Sending as sending;
 ghost use Rattle.st_end.specs.Sending.{Goes, GoesNone};
 ghost use Rattle.st_end.specs.Answers.{ended, pays};
@@ -15,10 +16,11 @@ ghost use Rattle.st_hub.specs.declared.error.HubError.TheVariants.{NoShareLeft, 
 
 use crate::error::HubError;
 use crate::hub::{HubState, publish};
-use st_end::{Flight, Received};
+use st_end::{EndError, EndState, Flight, Received};
 use st_hop::Outcome;
 use st_ilp::Moment;
 use st_queues::HubName;
+use st_sender::Blocked;
 use std::alloc::Allocator;
 use std::marker::Model;
 use std::sync::ledger::{Ledger, Share};
@@ -48,6 +50,8 @@ pub struct Turn<A: Allocator + Copy> {
     bytes: Vec<u8, A>,
     // The moment that the bytes say.
     expiry: Moment,
+    // The limit of the peer that its Blocked frame tells.
+    stops: Option<Blocked>,
 }
 
 impl<A: Allocator + Copy> Model for Turn<A> {
@@ -55,20 +59,39 @@ impl<A: Allocator + Copy> Model for Turn<A> {
 
     ghost Value = { Sent };
 
-    ghost view = { λ t. record { flight = t.flight; bytes = t.bytes.items } };
+    ghost view = { λ t. record { flight = t.flight; bytes = t.bytes.items; stops = t.stops } };
 
     ghost invariant = { λ t. IsExpiryOf t.bytes.items t.expiry };
 }
 
+/// The limit of the peer that the Blocked frame of a sent Prepare tells.
+fn limit_of<A: Allocator + Copy>(
+    core: &EndState<A>,
+    sent: &Result<Option<(Flight, Vec<u8, A>)>, EndError>,
+) -> Option<Blocked>
+    ensures { IfOk sent.now (λ s. IfSome s (λ x. result ≡ blocked_at core.now.sending.flights x.0.sequence)) }
+{
+    match sent {
+        Ok(Some((flight, _bytes))) => core.blocked_at(flight),
+        Ok(None) | Err(_) => None,
+    }
+}
+
 /// The turn of a Prepare that was made at this moment.
-fn turn_at<A: Allocator + Copy>(flight: Flight, bytes: Vec<u8, A>, made: Moment) -> Turn<A>
+fn turn_at<A: Allocator + Copy>(
+    flight: Flight,
+    bytes: Vec<u8, A>,
+    stops: Option<Blocked>,
+    made: Moment,
+) -> Turn<A>
     requires { ExpiresAt bytes.items (made +ℤ pos 30000) }
-    ensures { (result.flight ≡ flight) × (result.bytes ≡ bytes.items) }
+    ensures { (result.flight ≡ flight) × (result.bytes ≡ bytes.items) × (result.stops ≡ stops) }
 {
     Turn {
         flight,
         bytes,
         expiry: after(made),
+        stops,
     }
 }
 
@@ -88,12 +111,21 @@ impl<A: Allocator + Copy> Turn<A> {
         self.expiry
     }
 
+    /// The limit of the peer at which bytes or money wait, where the Prepare carries a Blocked frame (RFC 0029, section
+    /// 5.3). Does not allocate.
+    pub fn blocked_at(&self) -> Option<Blocked>
+        ensures { result ≡ self.now.stops }
+    {
+        self.stops
+    }
+
     /// Gives the turn up where no answer will be taken. What the Prepare carries stays in flight. Does not allocate.
     pub fn abandon(self) {
         let Turn {
             flight,
             bytes: _,
             expiry: _,
+            stops: _,
         } = self;
         flight.abandon();
     }
@@ -153,6 +185,7 @@ impl<N: HubName<A>, A: Allocator + Copy> HubState<N, A> {
     pub fn take_turn(&mut self, iv: [u8; 12], now: Moment) -> Result<Option<Turn<A>>, HubError>
         ensures only_memory { IsOkUnless result NoMemory }
         ensures goes { IfOk result (λ sent. MatchOption sent (GoesNone self.old.flow.core × (self.new.flow.core ≡ self.old.flow.core)) (λ t. Goes self.old.flow.core iv now t.flight t.bytes self.new.flow.core)) }
+        ensures stops { IfOk result (λ sent. IfSome sent (λ t. t.stops ≡ blocked_at self.new.flow.core.sending.flights t.flight.sequence)) }
         ensures unchanged { OnErr result (self.new.flow.core ≡ self.old.flow.core) }
         ensures rest { self.new ≡ with_core self.old self.new.flow.core }
     {
@@ -163,9 +196,10 @@ impl<N: HubName<A>, A: Allocator + Copy> HubState<N, A> {
             ..
         } = self;
         let sent = streams.send(iv, now);
+        let stops = limit_of(streams.core(), &sent);
         publish(gauge, seat, streams);
         match sent {
-            Ok(Some((flight, bytes))) => Ok(Some(turn_at(flight, bytes, now))),
+            Ok(Some((flight, bytes))) => Ok(Some(turn_at(flight, bytes, stops, now))),
             Ok(None) => Ok(None),
             Err(_) => Err(HubError::NoMemory),
         }
@@ -233,6 +267,7 @@ impl<N: HubName<A>, A: Allocator + Copy> HubState<N, A> {
             flight,
             bytes: _,
             expiry: _,
+            stops: _,
         } = turn;
         if !self.streams.core().is_open(&flight) {
             flight.abandon();

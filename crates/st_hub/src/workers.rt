@@ -1,9 +1,10 @@
 //! The threads that send for an end.
 
-ghost use Rattle.std.specs.Prelude.{◌≡◌, ℕ, List, true, is_some, IfSome, ⊤};
+ghost use Rattle.std.specs.Prelude.{◌≡◌, ℕ, List, true, is_some, IfSome, MatchBool, None, ⊤};
 ghost use Rattle.st_hop.specs.Seen.{outcome_seen};
 ghost use Rattle.st_hub.specs.Begins.{FindsAt, Finds, Uses, Exchanged};
 ghost use Rattle.st_hub.specs.Hub.{with_core};
+ghost use Rattle.st_hub.specs.Working.{Fills, WorkedTo};
 
 use crate::bench::Bench;
 use crate::causes::{Cause, Observer, close_turn};
@@ -228,6 +229,13 @@ fn tell<W: Observer>(watch: &mut W, cause: Option<Cause>) {
     }
 }
 
+/// Tells of the limit of the peer at which the end waits, where the Prepare of a turn says that it does.
+fn tell_limit<A: Allocator + Copy, W: Observer>(watch: &mut W, turn: &Turn<A>) {
+    if let Some(blocked) = turn.blocked_at() {
+        watch.waits(blocked);
+    }
+}
+
 /// What comes back over a link: a fault where it gives no answer.
 fn exchange<A: Allocator + Copy, L: Link<A>>(link: &mut L, turn: &Turn<A>) -> Outcome<A>
     ensures { Exchanged L.exchanges link.old turn.now.bytes (outcome_seen result) link.new }
@@ -236,6 +244,16 @@ fn exchange<A: Allocator + Copy, L: Link<A>>(link: &mut L, turn: &Turn<A>) -> Ou
         Ok(answer) => Outcome::Answered(answer),
         Err(_) => Outcome::Fault,
     }
+}
+
+/// Takes an IV from the source where none is in hand. Returns whether one is in hand then.
+fn fill<I: Ivs>(ivs: &mut I, hand: &mut Option<[u8; 12]>) -> bool
+    ensures { MatchBool result (Fills I.gives ivs.old hand.old ivs.new hand.new) ((hand.old ≡ None) × (hand.new ≡ None)) }
+{
+    if hand.is_none() {
+        *hand = ivs.next_iv();
+    }
+    hand.is_some()
 }
 
 /// Makes the turns of a worker.
@@ -247,7 +265,9 @@ fn make_turns<
     K: Clock,
     W: Observer,
     R: Wait + std::time::Clock,
->(rt: &R, bench: &Bench<N, A>, worker: Worker<'_, N, A, L, I, K, W>) -> WorkEnd {
+>(rt: &R, bench: &Bench<N, A>, worker: Worker<'_, N, A, L, I, K, W>) -> WorkEnd
+    ensures { WorkedTo I.gives L.exchanges worker.entry.ivs.now worker.entry.link.now result worker.exit.1.0.now worker.exit.0.now }
+{
     let Worker {
         link,
         ivs,
@@ -261,14 +281,12 @@ fn make_turns<
     } = worker;
     let mut hand = None;
     for _ in 0..turns {
-        if hand.is_none() {
-            hand = ivs.next_iv();
-        }
-        if hand.is_none() {
+        if !fill(ivs, &mut hand) {
             return WorkEnd::IvFault;
         }
         match begin(rt, bench, gauge, seat, &mut hand, stream, clock, rest) {
             Begun::Sends(turn) => {
+                tell_limit(watch, &turn);
                 let outcome = exchange(link, &turn);
                 let cause = finish(rt, bench, turn, outcome);
                 tell(watch, cause);
@@ -282,8 +300,10 @@ fn make_turns<
 
 /// Sends for a hub over the worker's link, and returns why it ended. In one turn it calls `pump` and `step` under the
 /// lock, exchanges the Prepare with the lock open, and calls `finish_turn` under the lock again. A `Turn` that is no
-/// longer open then changes nothing. With the lock open again it tells its observer where the Prepare failed. After a turn with nothing to send it sleeps, until somebody wakes it (`Bench`) or its
-/// rest is over.
+/// longer open then changes nothing. With the lock open it tells its observer where the Prepare carries a Blocked frame, and
+/// where it failed. After a turn with nothing to send it sleeps, until somebody wakes it (`Bench`) or its rest is over.
+///
+/// Each packet that it exchanges is sealed under the next IV that its source gave, and no IV serves twice.
 ///
 /// While the last exchange failed for now (no answer came, or a Reject whose code begins with `T`), the workers of a hub
 /// let one try through each 50 ms, whatever their number is.
@@ -298,7 +318,9 @@ pub fn work<
     K: Clock,
     W: Observer,
     R: Wait + std::time::Clock,
->(rt: &R, bench: &Bench<N, A>, worker: Worker<'_, N, A, L, I, K, W>) -> WorkEnd {
+>(rt: &R, bench: &Bench<N, A>, worker: Worker<'_, N, A, L, I, K, W>) -> WorkEnd
+    ensures { WorkedTo I.gives L.exchanges worker.entry.ivs.now worker.entry.link.now result worker.exit.1.0.now worker.exit.0.now }
+{
     let end = make_turns(rt, bench, worker);
     bench.wake_all(rt);
     end

@@ -1,12 +1,13 @@
 //! What a worker reports of its exchanges.
-use crate::ends::Counting;
-use crate::hubs::{Locked, Trial, offer, run, work_watched};
+use crate::ends::{Counting, stopped_clock};
+use crate::hubs::{Locked, Trial, offer, run, share_of, work_watched};
 use st_desk::{Link, LinkFault};
 use st_end::{Failed, FailedKind};
-use st_hub::Observer;
+use st_hub::{HubLink, Observer};
 use st_ilp::Moment;
 use st_oer::Counted;
 use st_queues::{GaugeSeat, HubName};
+use st_sender::Blocked;
 use std::alloc::Global;
 use std::process::Abort;
 use std::sync::Wait;
@@ -60,6 +61,8 @@ impl Observer for Notes {
         self.is_of_hop = failed.by() == b"test.c".as_slice()
             && failed.message() == b"full".as_slice();
     }
+
+    fn waits(&mut self, _blocked: Blocked) {}
 }
 
 /// 10 units go in one Prepare, which fails three times.
@@ -97,6 +100,60 @@ impl<R: Wait + Abort + std::time::Clock> Trial<R> for Fails {
         sure!(rt; notes.count == 3 && notes.kind == FailedKind::Unreadable);
         sure!(rt; notes.code.is_none() && hubs.near.lock(rt).packet_limit() == 5);
     }
+}
+
+/// The limits of the peer that were reported: how many, and the last.
+#[derive(Drop)]
+struct Limits {
+    count: u64,
+    last: Option<Blocked>,
+}
+
+impl Observer for Limits {
+    fn failed(&mut self, _failed: &Failed, _limit: u64) {}
+
+    fn waits(&mut self, blocked: Blocked) {
+        self.count = self.count.saturating_add(1);
+        self.last = Some(blocked);
+    }
+}
+
+/// 110 units are offered on a stream that takes 100: one Prepare is refused, one is fulfilled, and one is a Blocked
+/// frame.
+#[derive(Drop)]
+struct Waits;
+
+impl<R: Wait + Abort + std::time::Clock> Trial<R> for Waits {
+    fn run<N: HubName<Global>, M: HubName<Global>>(
+        &self,
+        rt: &R,
+        _alloc: Global,
+        hubs: &Locked<N, M>,
+        seat: &mut GaugeSeat<N, Global>,
+    ) {
+        offer(rt, hubs, 110);
+        let share = share_of(rt, &mut *hubs.far.lock(rt));
+        let mut link = HubLink::new(rt, &hubs.far, share, stopped_clock(rt));
+        let mut ivs = Counting { first: 1, next: 0 };
+        let mut limits = Limits {
+            count: 0,
+            last: None,
+        };
+        work_watched(rt, hubs, seat, &mut link, &mut ivs, 2, &mut limits);
+        sure!(rt; limits.count == 0);
+        work_watched(rt, hubs, seat, &mut link, &mut ivs, 2, &mut limits);
+        let told = Blocked::Money {
+            stream: 1,
+            receive_max: 100,
+            total: 100,
+        };
+        sure!(rt; limits.count == 1 && limits.last == Some(told));
+    }
+}
+
+#[test]
+fn a_limit_at_which_it_waits_is_reported(rt: HostRuntime) {
+    run(&rt, rt.alloc(), 1_000, &Waits);
 }
 
 #[test]

@@ -1,6 +1,9 @@
 //! A stream of which reads are buffered.
 
-ghost use Rattle.std.specs.Io.Buffered.{reader_inner, reader_remaining};
+ghost use Rattle.std.specs.Prelude.{◌≡◌, [], IfErr, IfOk};
+ghost use Rattle.std.specs.Io.Buffered.{reader_buffer, reader_inner, reader_remaining};
+ghost use Rattle.std.specs.IoError.{error_kind};
+ghost use Rattle.std.specs.declared.io.ErrorKind.TheVariants.{OutOfMemory};
 
 use std::alloc::Allocator;
 use std::io;
@@ -19,7 +22,11 @@ pub struct Buffered<S, A: Allocator> {
 
 impl<S: Read + Drop, A: Allocator> Buffered<S, A> {
     /// The stream with an empty buffer. Fails with an error of kind `OutOfMemory` where memory is refused.
-    pub fn new(alloc: A, stream: S) -> io::Result<Buffered<S, A>> {
+    pub fn new(alloc: A, stream: S) -> io::Result<Buffered<S, A>>
+        ensures stream { IfOk result (λ b. reader_inner b.reader ≡ stream) }
+        ensures empty { IfOk result (λ b. reader_buffer b.reader ≡ []) }
+        ensures only_memory { IfErr result (λ e. error_kind e ≡ OutOfMemory) }
+    {
         let reader = BufReader::with_capacity(alloc, BUFFER, stream)?;
         Ok(Buffered { reader })
     }

@@ -1,6 +1,6 @@
 //! A link to a neighbour by ILP over HTTP.
 
-ghost use Rattle.std.specs.Prelude.{◌≡◌, true, IfErr, IfOk, IsTrue, OnOk, None, Some};
+ghost use Rattle.std.specs.Prelude.{◌≡◌, true, IfErr, IfOk, IsErrOf, IsTrue, OnErr, OnOk, None, Some};
 ghost use Rattle.st_desk.specs.declared.link.LinkFault.TheVariants.{Device};
 ghost use Rattle.st_http.specs.Texts as texts;
 ghost use Rattle.st_link.specs.Links.{caused_fault, fault_of};
@@ -118,6 +118,9 @@ impl<'n, N: Net + Clock, A: Allocator + Copy> HttpLink<'n, N, A> {
     ) -> Result<Self, AllocError>
         requires host { IsTrue (texts.is_field_text host.now) }
         requires token { IsTrue (texts.is_field_text token.now) }
+        ensures neighbour { IfOk result (λ l. l.neighbour ≡ Some (record { host = host.now; token = token.now })) }
+        ensures turns { IfOk result (λ l. l.turns ≡ turns) }
+        ensures fresh { IfOk result (λ l. (l.address ≡ None) × (l.cause ≡ None)) }
     {
         let neighbour = Neighbour {
             host: String::from_str(alloc, host)?,
@@ -136,7 +139,9 @@ impl<'n, N: Net + Clock, A: Allocator + Copy> HttpLink<'n, N, A> {
     }
 
     /// Makes a link that has no neighbour: each of its exchanges fails with `LinkFault::Peer`. Does not allocate.
-    pub fn nowhere(alloc: A, global: Global, net: &'n N) -> Self {
+    pub fn nowhere(alloc: A, global: Global, net: &'n N) -> Self
+        ensures { (result.neighbour ≡ None) × (result.cause ≡ None) }
+    {
         HttpLink {
             net,
             neighbour: None,
@@ -157,12 +162,16 @@ impl<'n, N: Net + Clock, A: Allocator + Copy> HttpLink<'n, N, A> {
     }
 
     /// The address that the host's name was resolved to, if an exchange over it succeeded last.
-    pub fn address(&self) -> Option<SocketAddr> {
+    pub fn address(&self) -> Option<SocketAddr>
+        ensures { result ≡ self.now.address }
+    {
         self.address
     }
 
     /// Has the next exchange connect to this address first, in place of resolving the host's name.
-    pub fn set_address(&mut self, address: Option<SocketAddr>) {
+    pub fn set_address(&mut self, address: Option<SocketAddr>)
+        ensures { self.new ≡ record self.old { address = address } }
+    {
         self.address = address;
     }
 
@@ -192,11 +201,9 @@ impl<'n, N: Net + Clock, A: Allocator + Copy> HttpLink<'n, N, A> {
     }
 
     /// One exchange over a connection of its own, and the address that it was made to.
-    fn exchange_once(
-        &self,
-        bytes: &[u8],
-        by: Moment,
-    ) -> Result<(Vec<u8, A>, SocketAddr), LinkCause> {
+    fn exchange_once(&self, bytes: &[u8], by: Moment) -> Result<(Vec<u8, A>, SocketAddr), LinkCause>
+        ensures nowhere { self.now.neighbour ≡ None → IsErrOf result LinkCause.Unreached }
+    {
         let Some(neighbour) = &self.neighbour else {
             return Err(LinkCause::Unreached);
         };
@@ -218,6 +225,9 @@ impl<'n, N: Net + Clock, A: Allocator + Copy> HttpLink<'n, N, A> {
         ensures answered { OnOk result (self.new.cause ≡ None) }
         ensures told { IfErr result (λ e. (cause : causes.LinkCause) × (self.new.cause ≡ Some cause) × (e ≡ caused_fault cause)) }
         ensures counted { IfErr result (λ e. e ≡ Device → Rose self.old.faults self.new.faults) }
+        ensures nowhere { self.old.neighbour ≡ None → IsErrOf result LinkFault.Peer }
+        ensures forgets { OnErr result (self.new.address ≡ None) }
+        ensures same { (self.new.neighbour ≡ self.old.neighbour) × (self.new.turns ≡ self.old.turns) }
     {
         match self.exchange_once(bytes, by) {
             Ok((answer, address)) => {

@@ -1,6 +1,6 @@
 //! A stream whose calls end by a deadline.
 
-ghost use Rattle.std.specs.Prelude.{◌≡◌};
+ghost use Rattle.std.specs.Prelude.{◌≡◌, None, Some};
 
 use std::io;
 use std::io::{ErrorKind, Read, Write};
@@ -28,7 +28,9 @@ pub fn deadline_in(clock: &impl Clock, time: Duration) -> Option<Instant> {
 }
 
 /// What is left until a deadline: nothing where it has passed or the clock cannot be read.
-pub fn left_until(clock: &impl Clock, deadline: Option<Instant>) -> Option<Duration> {
+pub fn left_until(clock: &impl Clock, deadline: Option<Instant>) -> Option<Duration>
+    ensures { deadline ≡ None → result ≡ None }
+{
     let now = Instant::now(clock).ok()?;
     let left = deadline?.checked_duration_since(now)?;
     if left.is_zero() { None } else { Some(left) }
@@ -36,12 +38,16 @@ pub fn left_until(clock: &impl Clock, deadline: Option<Instant>) -> Option<Durat
 
 impl<'r, S, R: Clock> Timed<'r, S, R> {
     /// The stream, of which all calls together may take `time`.
-    pub fn new(stream: S, clock: &'r R, time: Duration) -> Timed<'r, S, R> {
+    pub fn new(stream: S, clock: &'r R, time: Duration) -> Timed<'r, S, R>
+        ensures { (result.stream ≡ stream) × (result.answer ≡ None) }
+    {
         Timed::until(stream, clock, deadline_in(clock, time))
     }
 
     /// The stream, of which all calls together may take `time`, and the writes at least `answer` from the first of them on.
-    pub fn answering(stream: S, clock: &'r R, time: Duration, answer: Duration) -> Timed<'r, S, R> {
+    pub fn answering(stream: S, clock: &'r R, time: Duration, answer: Duration) -> Timed<'r, S, R>
+        ensures { (result.stream ≡ stream) × (result.answer ≡ Some answer) }
+    {
         Timed {
             stream,
             clock,
@@ -51,7 +57,9 @@ impl<'r, S, R: Clock> Timed<'r, S, R> {
     }
 
     /// The stream with this deadline. Where there is none each call fails.
-    pub(crate) fn until(stream: S, clock: &'r R, deadline: Option<Instant>) -> Timed<'r, S, R> {
+    pub(crate) fn until(stream: S, clock: &'r R, deadline: Option<Instant>) -> Timed<'r, S, R>
+        ensures { (result.stream ≡ stream) × (result.deadline ≡ deadline) × (result.answer ≡ None) }
+    {
         Timed {
             stream,
             clock,
@@ -62,7 +70,8 @@ impl<'r, S, R: Clock> Timed<'r, S, R> {
 
     /// What is left for a write. The first moves the deadline where it is sooner than the time for an answer.
     fn left_to_write(&mut self) -> Option<Duration>
-        ensures { self.new.stream ≡ self.old.stream }
+        ensures stream { self.new.stream ≡ self.old.stream }
+        ensures once { self.new.answer ≡ None }
     {
         if let Some(time) = self.answer.take() {
             self.deadline = self.deadline.max(deadline_in(self.clock, time));

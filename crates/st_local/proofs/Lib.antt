@@ -3,3 +3,4 @@ pub mod Asides
 pub mod Joined
 pub mod Stops
 pub mod Plays
+pub mod Rounds

@@ -13,12 +13,13 @@ use Rattle.st_world.specs.State.{World}
 use Rattle.st_world.specs.Events.{Event, Write, Told, Call}
 use Rattle.st_world.specs.Steps.{Happens}
 use Rattle.st_world.specs.Runs.{Chain, opening}
-use Rattle.st_chain.specs.Left.{Left, left_of, HoldsOf}
+use Rattle.st_world.specs.Holds.{Holds}
+use Rattle.st_chain.specs.Left.{Left, left_of}
 use Rattle.st_chain.proofs.Reached.{run_more}
 use Rattle.st_local.specs.Parts.{part_at, sent_of, stream_at}
 use Rattle.st_local.specs.Playing.{Continues, Fits, HasSent, IsAllRead, Played, Plays, Sends, Writes, local_chain, read_on, written_on}
 use Rattle.st_local.proofs.Asides.{write_called}
-use Rattle.st_local.proofs.Cuts.{all_sent, sent_apart, sent_more}
+use Rattle.st_local.proofs.Cuts.{all_sent, nothing_sent, sent_apart, sent_more}
 
 -- where nothing has happened nothing is written
 pub opened_blank : (c : Chain) (w : World) (k : ℕ) → w ≡ opening c → written_on w k ≡ []
@@ -40,19 +41,27 @@ plays_next asked n w v event told p fits next = record {
 }
 
 -- the law of every run, where the reader of a stream was told its end
-pub ended_whole : (t : Left) (w : World) (k : ℕ) (l : Ledger) (told : Bool) → t ≡ left_of w → HoldsOf t → fmap.get (at t.ledgers Client) k ≡ Some l → told ≡ l.told_end → told ≡ true → read_on w k ≡ written_on w k
+pub ended_whole : (t : Left) (w : World) (k : ℕ) (l : Ledger) (told : Bool) → t ≡ left_of w → Holds w → fmap.get (at t.ledgers Client) k ≡ Some l → told ≡ l.told_end → told ≡ true → read_on w k ≡ written_on w k
 ended_whole t w k l told is holds found same ended =
     let kept : t.ledgers ≡ w.ledgers = ap (λ (x : Left). x.ledgers) is in
     let end : (ledger_or (fmap.get t.ledgers.client k)).told_end ≡ true = ap (λ (o : Option Ledger). (ledger_or o).told_end) found ∙ (sym same ∙ ended) in
-    let whole : (ledger_or (fmap.get t.ledgers.client k)).read ≡ (ledger_or (fmap.get t.ledgers.client k)).written = (holds.1.ends Client k end).1 in
-    subst (λ (m : Both (fmap.FinMap nat_cmp Ledger)). (ledger_or (fmap.get m.client k)).read ≡ (ledger_or (fmap.get m.client k)).written) kept whole
+    (holds.ends Client k (subst (λ (m : Both (fmap.FinMap nat_cmp Ledger)). (ledger_or (fmap.get m.client k)).told_end ≡ true) kept end)).1
 
 -- a write at the client was accepted, or changed nothing
 pub writes_called : (p q : Played) (k : ℕ) (xs : List ℕ) (a : Answer) → q.asked ≡ p.asked → q.events ≡ p.events + 1 → Happens p.world (Write Client k xs) (Call a) q.world → MatchBool (is_ok a) (Writes k xs p q) (Continues p q)
 writes_called p q k xs (Ok done) asked one h = let w = write_called p.world q.world k xs (Ok done) h in record { asked = asked; events = omega (arith, one); here = w.0; apart = w.1 }
 writes_called p q k xs (Err why) asked one h = record { asked = asked; events = omega (arith, one); written = write_called p.world q.world k xs (Err why) h }
 
+pub continues_then : (p q r : Played) → Continues p q → Continues q r → Continues p r
+continues_then p q r a b = record { asked = b.asked ∙ a.asked; events = omega (arith, a.events, b.events); written = λ k. b.written k ∙ a.written k }
+
 -- ---- what of the input is written
+
+pub has_none : (size : ℕ) (input : List ℕ) (p q : Played) → ((k : ℕ) → written_on p.world k ≡ []) → Continues p q → HasSent size input 0 q.world
+has_none size input p q blank c = record {
+  parts = λ place. c.written (stream_at place) ∙ (blank (stream_at place) ∙ sym (nothing_sent size input place));
+  apart = λ k none. c.written k ∙ blank k;
+}
 
 -- a piece of one part, which leaves each other part
 part_sent : (size : ℕ) (input : List ℕ) (sent to place other : ℕ) (piece : List ℕ) (p q : Played) → place * size ≤ sent → sent ≤ to → to ≤ place * size + size → piece ≡ take (to - sent) (drop sent input)

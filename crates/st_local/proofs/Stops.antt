@@ -1,6 +1,6 @@
 -- What was played and written at a fault, and what that says of the devices' counts.
-use Rattle.std.proofs.Common.{◌≡◌, ℕ, ◌-◌, ◌<◌, ◌≤◌, List, length, refl, ap, subst, ◌∙◌, arith, Result, Ok, Err}
-use Rattle.std.specs.Prelude.{Option, Some, None, unwrap_or, OnOk, IfErr, IfSome}
+use Rattle.std.proofs.Common.{◌≡◌, ℕ, ◌-◌, ◌<◌, ◌≤◌, List, length, refl, sym, ap, subst, ◌∙◌, arith, Result, Ok, Err}
+use Rattle.std.specs.Prelude.{Option, Some, None, unwrap_or, OnOk, IfErr, IfSome, IsErrAnd, OnErr}
 use Rattle.std.specs.Io.KnownBytes.{Appends}
 use Rattle.st_oer.specs.Tallies.{TakesTurns}
 use Rattle.st_oer.specs.declared.tally.Tally.{Tally}
@@ -11,7 +11,8 @@ use Rattle.st_settings.specs.declared.settings.LocalSettings.{LocalSettings}
 use Rattle.st_world.specs.State.{World}
 use Rattle.st_local.specs.Parts.{part_at, part_size, stream_at}
 use Rattle.st_local.specs.Playing.{Carries, HasSent, Played, Plays, StopsPlay, read_on}
-use Rattle.st_local.specs.Endings.{Explains, GoesOver, HasEnded, IsInput, SpendsTurns, StaysFlushed, StopsCarry, StopsWrite, WritesPart, most_bytes, most_turns}
+use Rattle.st_local.specs.Schedule.{BreaksOff, FailedRound, LastRound, StopsSending, start}
+use Rattle.st_local.specs.Endings.{ComesBefore, EndsWith, Explains, GoesOver, HasEnded, IsInput, IsRun, SpendsTurns, StaysFlushed, StopsCarry, StopsWrite, WritesPart, most_bytes, most_turns}
 
 -- ---- what was played
 
@@ -24,27 +25,45 @@ carries asked had streams input events w same is plays sent = record {
   written = subst (λ (n : ℕ). HasSent (part_size (length input) n) input sent.0 w) is sent.1;
 }
 
-pub goes_over : (asked : LocalSettings) (streams : ℕ) (input : List ℕ) (p : Played) → p.asked ≡ asked → streams ≡ asked.streams → Plays p.asked p.events p.world
-    → (sent : ℕ) × HasSent (part_size (length input) streams) input sent p.world
+-- and its events are scheduled as they are from where nothing has happened
+is_run : (asked : LocalSettings) (streams : ℕ) (input : List ℕ) (Ends : (size streams : ℕ) → List ℕ → Played → Played → Type 0) (o p : Played) → o ≡ start asked → p.asked ≡ asked → streams ≡ asked.streams
+    → Plays p.asked p.events p.world → (sent : ℕ) × HasSent (part_size (length input) streams) input sent p.world → Ends (part_size (length input) streams) streams input o p → IsRun asked input Ends p
+is_run asked streams input Ends o p opened same is plays sent h = record {
+  carries = carries asked p.asked streams input p.events p.world same is plays sent;
+  schedule =
+      subst (λ (n : ℕ). Ends (part_size (length input) n) n input (start asked) p) is (subst (λ (x : Played). Ends (part_size (length input) streams) streams input x p) opened h);
+}
+
+pub goes_over : (asked : LocalSettings) (streams : ℕ) (input : List ℕ) (o p : Played) → o ≡ start asked → p.asked ≡ asked → streams ≡ asked.streams → Plays p.asked p.events p.world
+    → (sent : ℕ) × HasSent (part_size (length input) streams) input sent p.world → EndsWith LastRound (part_size (length input) streams) streams input o p
     → ((place : ℕ) → place < streams → read_on p.world (stream_at place) ≡ part_at (part_size (length input) streams) input place) → GoesOver asked (Some input)
-goes_over asked streams input p same is plays sent read = (
+goes_over asked streams input o p opened same is plays sent h read = (
   input,
-  p.events,
-  p.world,
+  p,
   refl,
-  carries asked p.asked streams input p.events p.world same is plays sent,
+  is_run asked streams input (EndsWith LastRound) o p opened same is plays sent h,
   subst (λ (n : ℕ). (place : ℕ) → place < n → read_on p.world (stream_at place) ≡ part_at (part_size (length input) n) input place) is read,
 )
 
-pub play_stops : (asked : LocalSettings) (streams : ℕ) (input : List ℕ) (left : ℕ) (p : Played) (e : LocalFault) → p.asked ≡ asked → streams ≡ asked.streams
-    → (sent : ℕ) × HasSent (part_size (length input) streams) input sent p.world → StopsPlay p e → StopsCarry asked (Some input) left e
-play_stops asked streams input left p fault.Failed same is sent h = (input, p.events, p.world, refl, carries asked p.asked streams input p.events p.world same is h.0 sent, h.1)
-play_stops asked streams input left p fault.Events same is sent h = (input, p.world, refl, carries asked p.asked streams input _ p.world same is h sent)
-play_stops asked streams input left p fault.NoMemory same is sent h = tt
-play_stops asked streams input left p fault.TooLong same is sent h = absurd h
-play_stops asked streams input left p fault.Input same is sent h = absurd h
-play_stops asked streams input left p fault.Output same is sent h = absurd h
-play_stops asked streams input left p fault.Turns same is sent h = absurd h
+pub play_stops : (asked : LocalSettings) (streams : ℕ) (input : List ℕ) (left : ℕ) (o p : Played) (e : LocalFault) → o ≡ start asked → p.asked ≡ asked → streams ≡ asked.streams
+    → (sent : ℕ) × HasSent (part_size (length input) streams) input sent p.world → StopsSending (part_size (length input) streams) streams input o p e → StopsCarry asked (Some input) left e
+play_stops asked streams input left o p fault.Failed opened same is sent h = (input, p, refl, is_run asked streams input (EndsWith FailedRound) o p opened same is h.0 sent h.2, h.1)
+play_stops asked streams input left o p fault.Events opened same is sent h = (input, p, refl, is_run asked streams input BreaksOff o p opened same is h.1 sent h.2, h.0)
+play_stops asked streams input left o p fault.NoMemory opened same is sent h = tt
+play_stops asked streams input left o p fault.TooLong opened same is sent h = absurd h
+play_stops asked streams input left o p fault.Input opened same is sent h = absurd h
+play_stops asked streams input left o p fault.Output opened same is sent h = absurd h
+play_stops asked streams input left o p fault.Turns opened same is sent h = absurd h
+
+-- where a play stops in a round, the run is broken off
+pub stops_within : (size streams : ℕ) (input : List ℕ) (o p : Played) (e : LocalFault) → StopsPlay p e → BreaksOff size streams input o p → StopsSending size streams input o p e
+stops_within size streams input o p fault.Events h off = (h.0, h.1, off)
+stops_within size streams input o p fault.NoMemory h off = off
+stops_within size streams input o p fault.Failed h off = absurd h
+stops_within size streams input o p fault.TooLong h off = absurd h
+stops_within size streams input o p fault.Input h off = absurd h
+stops_within size streams input o p fault.Output h off = absurd h
+stops_within size streams input o p fault.Turns h off = absurd h
 
 write_stops : (asked : LocalSettings) (input : Option (List ℕ)) (left : ℕ) (e : LocalFault) → StopsWrite left e → StopsCarry asked input left e
 write_stops asked input left fault.Output h = tt
@@ -58,6 +77,17 @@ write_stops asked input left fault.Events h = absurd h
 pub stops_write : {T : Type 0} (r : Result T LocalFault) (asked : LocalSettings) (input : Option (List ℕ)) (left : ℕ) → IfErr r (StopsWrite left) → IfErr r (StopsCarry asked input left)
 stops_write (Ok x) asked input left h = tt
 stops_write (Err e) asked input left h = write_stops asked input left e h
+
+-- and then the output was begun
+pub writes_late : {T : Type 0} (r : Result T LocalFault) (left : ℕ) (P : Type 0) → IfErr r (StopsWrite left) → IfErr r (λ e. ComesBefore e → P)
+writes_late (Ok x) left P h = tt
+writes_late (Err fault.Output) left P h = λ none. absurd none
+writes_late (Err fault.Turns) left P h = λ none. absurd none
+writes_late (Err fault.TooLong) left P h = absurd h
+writes_late (Err fault.Input) left P h = absurd h
+writes_late (Err fault.NoMemory) left P h = absurd h
+writes_late (Err fault.Failed) left P h = absurd h
+writes_late (Err fault.Events) left P h = absurd h
 
 -- no reader failed
 carry_reader : (asked : LocalSettings) (input : Option (List ℕ)) (left : ℕ) (e : LocalFault) (n : ℕ) → StopsCarry asked input left e → n ≡ reader_faults (Some e) n
@@ -84,11 +114,11 @@ input_known None sent bytes known same = tt
 input_known (Some all) sent bytes known same = same ∙ known
 
 over_known : (asked : LocalSettings) (input : Option (List ℕ)) (sent : List ℕ) → IsInput input sent → GoesOver asked (Some sent) → GoesOver asked input
-over_known asked input sent known h = (h.0, h.1, h.2, input_known input sent h.0 known h.3, h.4, h.5)
+over_known asked input sent known h = (h.0, h.1, input_known input sent h.0 known h.2, h.3, h.4)
 
 carry_explains : (asked : LocalSettings) (input : Option (List ℕ)) (sent : List ℕ) (left : ℕ) (e : LocalFault) → IsInput input sent → StopsCarry asked (Some sent) left e → Explains asked input e
-carry_explains asked input sent left fault.Failed known h = (h.0, h.1, h.2, input_known input sent h.0 known h.3, h.4, h.5)
-carry_explains asked input sent left fault.Events known h = (h.0, h.1, input_known input sent h.0 known h.2, h.3)
+carry_explains asked input sent left fault.Failed known h = (h.0, h.1, input_known input sent h.0 known h.2, h.3, h.4)
+carry_explains asked input sent left fault.Events known h = (h.0, h.1, input_known input sent h.0 known h.2, h.3, h.4)
 carry_explains asked input sent left fault.TooLong known h = absurd h
 carry_explains asked input sent left fault.Input known h = absurd h
 carry_explains asked input sent left fault.Output known h = tt
@@ -125,19 +155,31 @@ same_fault e f h = ap (λ (o : Option LocalFault). unwrap_or o e) h
 
 -- a run that met no fault
 pub ended_well : (r s w v : Tally) (left : ℕ) → s.faults ≡ r.faults → v.faults ≡ w.faults → SpendsTurns r s w v most_turns left → StaysFlushed w v → HasEnded r s w v None
-ended_well r s w v left reader writer turns flushed = record { reader = reader; writer = writer; left = left; turns = turns; used_up = λ wrong. absurd (cc); flushed = λ _. flushed }
+ended_well r s w v left reader writer turns flushed = record { reader = reader; writer = writer; left = left; turns = turns; used_up = λ wrong. absurd (cc); flushed = λ _. flushed; untouched = tt }
 
 -- a run that met one
 pub ended_by : (r s w v : Tally) (e : LocalFault) (left : ℕ) → s.faults ≡ reader_faults (Some e) r.faults → v.faults ≡ writer_faults (Some e) w.faults → SpendsTurns r s w v most_turns left
-    → (e ≡ fault.Turns → left ≡ 0) → HasEnded r s w v (Some e)
-ended_by r s w v e left reader writer turns used_up =
-    record { reader = reader; writer = writer; left = left; turns = turns; used_up = λ is. used_up (same_fault e fault.Turns is); flushed = λ wrong. absurd (cc) }
+    → (e ≡ fault.Turns → left ≡ 0) → (ComesBefore e → v ≡ w) → HasEnded r s w v (Some e)
+ended_by r s w v e left reader writer turns used_up untouched =
+    record { reader = reader; writer = writer; left = left; turns = turns; used_up = λ is. used_up (same_fault e fault.Turns is); flushed = λ wrong. absurd (cc); untouched = untouched }
 
 -- ---- what is written where all was read
 
 pub on_ok : {T E : Type 0} (r : Result T E) (P Q : Type 0) → (P → Q) → OnOk r P → OnOk r Q
 on_ok (Ok x) P Q f h = f h
 on_ok (Err e) P Q f h = tt
+
+pub on_err : {T E : Type 0} (r : Result T E) (P Q : Type 0) → (P → Q) → OnErr r P → OnErr r Q
+on_err (Ok x) P Q f h = tt
+on_err (Err e) P Q f h = f h
+
+pub err_now : {T E : Type 0} (r : Result T E) (P : Type 0) → P → OnErr r P
+err_now (Ok x) P h = tt
+err_now (Err e) P h = h
+
+pub err_end : {T E : Type 0} (P : E → Type 0) (r : Result T E) (e : E) → IsErrAnd r (λ x. x ≡ e) → P e → IfErr r P
+err_end P (Ok x) e is h = tt
+err_end P (Err x) e is h = subst P (sym is) h
 
 pub delivers : (input before after : Option (List ℕ)) (sent read : List ℕ) → IfSome input (λ bytes. sent ≡ bytes) → length sent ≤ most_bytes → read ≡ sent → Appends before after read
     → IfSome input (λ bytes. Appends before after bytes × (length bytes ≤ most_bytes))

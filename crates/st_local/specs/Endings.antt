@@ -10,8 +10,9 @@ use Rattle.st_local.specs.declared.fault.LocalFault.TheVariants as fault
 use Rattle.st_local.specs.Errors.{fault_number, reader_faults, writer_faults}
 use Rattle.st_local.specs.Texts.{fault_text}
 use Rattle.st_settings.specs.declared.settings.LocalSettings.{LocalSettings}
-use Rattle.st_world.specs.State.{World}
-use Rattle.st_local.specs.Playing.{AreRead, Carries, HasFailed, most_events}
+use Rattle.st_local.specs.Playing.{AreRead, Carries, HasFailed, Played, most_events}
+use Rattle.st_local.specs.Parts.{part_size}
+use Rattle.st_local.specs.Schedule.{BreaksOff, FailedRound, LastRound, Reach, Scheduled, start}
 
 -- how many bytes an input has at most
 abbrev pub most_bytes : ℕ
@@ -53,6 +54,12 @@ StaysFlushed w v = w.flushed ≡ true → v.flushed ≡ true
 abbrev pub most_turns : ℕ
 most_turns = 2 ^ 31 - 1
 
+-- a fault before anything is written
+abbrev pub ComesBefore : LocalFault → Type 0
+ComesBefore fault.Output = ⊥
+ComesBefore fault.Turns = ⊥
+ComesBefore e = ⊤
+
 -- how a run ended, with this fault or none: what its reader, r before and s now, and its writer, w before and v now, counted
 pub record HasEnded (r s w v : Tally) (end : Option LocalFault) : Type 0 where
   pub reader : s.faults ≡ reader_faults end r.faults
@@ -61,6 +68,7 @@ pub record HasEnded (r s w v : Tally) (end : Option LocalFault) : Type 0 where
   pub turns : SpendsTurns r s w v most_turns left
   pub used_up : end ≡ Some fault.Turns → left ≡ 0
   pub flushed : end ≡ None → StaysFlushed w v
+  pub untouched : IfSome end (λ x. ComesBefore x → v ≡ w)
 
 -- a text was written whole and flushed, to the writer that was e before and is f now; or the first bytes of it, all of them
 -- or fewer, and the writer counted an error or was called as often as a run may
@@ -77,17 +85,26 @@ TellsFault x said e f status = (status ≡ 1) × Says (fault_text (fault_number 
 abbrev pub IsInput : Option (List ℕ) → List ℕ → Type 0
 IsInput input bytes = IfSome input (λ all. bytes ≡ all)
 
--- a run as it is asked for, in which each part of the input was read
+-- a run as it is asked for, by which some first of the bytes are written, each part on its stream; its events are scheduled so
+pub record IsRun (asked : LocalSettings) (bytes : List ℕ) (Ends : (size streams : ℕ) → List ℕ → Played → Played → Type 0) (p : Played) : Type 0 where
+  pub carries : Carries asked bytes p.events p.world
+  pub schedule : Ends (part_size (length bytes) asked.streams) asked.streams bytes (start asked) p
+
+-- its last round is one of these
+abbrev pub EndsWith : ((size streams : ℕ) → List ℕ → Reach → Played → Played → Type 0) → (size streams : ℕ) → List ℕ → Played → Played → Type 0
+EndsWith Last size streams bytes p q = Scheduled size streams bytes (Last size streams bytes) p q
+
+-- one in which each part of the input was read
 abbrev pub GoesOver : LocalSettings → Option (List ℕ) → Type 0
-GoesOver asked input = (bytes : List ℕ) × (events : ℕ) × (w : World) × IsInput input bytes × Carries asked bytes events w × AreRead asked bytes w
+GoesOver asked input = (bytes : List ℕ) × (p : Played) × IsInput input bytes × IsRun asked bytes (EndsWith LastRound) p × AreRead asked bytes p.world
 
 -- one in which the connection of an end failed
 abbrev pub Fails : LocalSettings → Option (List ℕ) → Type 0
-Fails asked input = (bytes : List ℕ) × (events : ℕ) × (w : World) × IsInput input bytes × Carries asked bytes events w × HasFailed w
+Fails asked input = (bytes : List ℕ) × (p : Played) × IsInput input bytes × IsRun asked bytes (EndsWith FailedRound) p × HasFailed p.world
 
 -- one of as many events as there may be
 abbrev pub TakesTooLong : LocalSettings → Option (List ℕ) → Type 0
-TakesTooLong asked input = (bytes : List ℕ) × (w : World) × IsInput input bytes × Carries asked bytes most_events w
+TakesTooLong asked input = (bytes : List ℕ) × (p : Played) × IsInput input bytes × IsRun asked bytes BreaksOff p × (p.events ≡ most_events)
 
 -- why the input did not go over or was not written: so many turns are left
 abbrev pub StopsCarry : LocalSettings → Option (List ℕ) → (left : ℕ) → LocalFault → Type 0
@@ -109,6 +126,6 @@ Explains asked input e = ⊤
 -- a run: e and f are the writer for errors at the start and now
 pub record RunsLocal {E : Type 0} (asked : LocalSettings) (input before now : Option (List ℕ)) (ended : Option LocalFault → Type 0) (said : E → Option (List ℕ)) (e f : Counting E) (status : ℕ) : Type 0 where
   pub done : status ≡ 0 → (f ≡ e) × ended None × IfSome input (λ bytes. Appends before now bytes × (length bytes ≤ most_bytes)) × GoesOver asked input
-  pub refused : status ≡ 1 → (x : LocalFault) × ended (Some x) × Explains asked input x × TellsFault x said e f status
+  pub refused : status ≡ 1 → (x : LocalFault) × ended (Some x) × Explains asked input x × (ComesBefore x → now ≡ before) × TellsFault x said e f status
   pub part : IfSome input (λ bytes. WritesPart bytes before now)
   pub bound : status ≤ 1

@@ -2,4 +2,5 @@ pub mod Errors
 pub mod Texts
 pub mod Parts
 pub mod Playing
+pub mod Schedule
 pub mod Endings

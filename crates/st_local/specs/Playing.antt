@@ -1,9 +1,9 @@
 -- What is played: a world from its opening on, and what each event leaves of what was written at the client.
-use Rattle.std.specs.Prelude.{◌≡◌, ◌≢◌, ◌⊎◌, ⊤, ℕ, ◌-◌, ◌%◌, ◌^◌, ◌<◌, ◌≤◌, true, List, [], ◌++◌, length, map, replicate, All}
+use Rattle.std.specs.Prelude.{◌≡◌, ◌≢◌, ◌⊎◌, ⊤, ℕ, ◌-◌, ◌%◌, ◌^◌, ◌<◌, ◌≤◌, Bool, true, false, ◌&&◌, nat_lt, nat_eq, List, [], ◌++◌, length, map, replicate, All}
 use Rattle.st_sender.specs.Sending.{Config}
 use Rattle.st_sender.specs.Configs.{config}
 use Rattle.st_settings.specs.declared.settings.LocalSettings.{LocalSettings}
-use Rattle.st_world.specs.Sides.{Client, Server}
+use Rattle.st_world.specs.Sides.{Side, Client, Server}
 use Rattle.st_world.specs.State.{World, end_at, ledger_at}
 use Rattle.st_world.specs.Events.{Event, Write, Arrive, Fault}
 use Rattle.st_world.specs.Runs.{Chain, Run, opening}
@@ -27,8 +27,12 @@ local_chain hops = chain_of (map one_to_one (replicate hops free_account)) local
 -- ---- which Prepares are lost
 
 -- of the client's Prepares, counted from 1, each whose number this one divides; 0 for none
+abbrev pub is_lost : Side → (lose number : ℕ) → Bool
+is_lost Client lose number = nat_lt 0 lose && nat_eq (number % lose) 0
+is_lost Server lose number = false
+
 abbrev pub IsLost : (lose number : ℕ) → Type 0
-IsLost lose number = (0 < lose) × (number % lose ≡ 0)
+IsLost lose number = is_lost Client lose number ≡ true
 
 -- no lost Prepare comes over the client's link, and no other Prepare meets a fault
 abbrev pub Fits : (lose : ℕ) → Event → Type 0
@@ -56,8 +60,7 @@ HasFailed w = ((end_at w Client).sending.failed ≡ true) ⊎ ((end_at w Server)
 
 -- why it goes no further
 abbrev pub StopsPlay : Played → LocalFault → Type 0
-StopsPlay p fault.Failed = Plays p.asked p.events p.world × HasFailed p.world
-StopsPlay p fault.Events = Plays p.asked most_events p.world
+StopsPlay p fault.Events = (p.events ≡ most_events) × Plays p.asked p.events p.world
 StopsPlay p fault.NoMemory = ⊤
 StopsPlay p e = ⊥
 

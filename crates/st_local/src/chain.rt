@@ -1,9 +1,10 @@
 //! Prepares that are sent over a chain, one at a time, and their answers.
 
-ghost use Rattle.std.specs.Prelude.{◌≡◌, ◌<◌, ◌↔◌, IsTrue, OnOk, IfErr};
-ghost use Rattle.st_world.specs.Sides.{Client};
+ghost use Rattle.std.specs.Prelude.{◌≡◌, ◌+◌, ◌≤◌, ◌<◌, ◌∷◌, [], OnOk, OnErr, IfErr};
+ghost use Rattle.st_world.specs.Sides.{Client, Server};
 ghost use Rattle.st_nodes.specs.Seen.{way_seen};
-ghost use Rattle.st_local.specs.Playing.{Continues, IsLost, StopsPlay, most_events};
+ghost use Rattle.st_local.specs.Playing.{Continues, IsLost, StopsPlay, is_lost, most_events};
+ghost use Rattle.st_local.specs.Schedule.{Begins, BeginsCrossing, BeginsEach, BeginsToGo, BeginsTurn, Crosses, Goes, IsCounted, Takes, Turn, answer, arrival, arrived, each, fault_at, link_of, number_on};
 
 use crate::fault::LocalFault;
 use crate::play::Play;
@@ -11,20 +12,23 @@ use st_chain::Event;
 use st_nodes::{Side, Way};
 use std::alloc::Allocator;
 
-/// How many Prepares went so far. Each that is not lost goes over every link, and its answer comes back over every link: so
-/// the numbers of both are the same on all links, but on the client's own, where those that were lost count too.
+/// How many Prepares went so far. Each that is not lost goes over every link, and its answer comes back over every
+/// link: so the numbers of both are the same on all links, but on the client's own, where those that were lost count
+/// too.
 #[derive(Clone, Copy, Drop)]
 pub(crate) struct Counts {
     /// The Prepares that the client sent.
-    sent: usize,
+    pub(crate) sent: usize,
     /// The Prepares of the client that were answered and not lost.
     answered: usize,
     /// The Prepares that the server sent.
-    returned: usize,
+    pub(crate) returned: usize,
 }
 
 impl Counts {
-    pub(crate) fn none() -> Counts {
+    pub(crate) fn none() -> Counts
+        ensures { (result.sent ≡ 0) × (result.answered ≡ 0) × (result.returned ≡ 0) }
+    {
         Counts {
             sent: 0,
             answered: 0,
@@ -32,9 +36,10 @@ impl Counts {
         }
     }
 
-    /// Whether the client's last Prepare is one that is lost: its number is a multiple of this one, where that is not 0.
+    /// Whether the client's last Prepare is one that is lost: its number is a multiple of this one, where that is not
+    /// 0.
     fn is_lost(&self, lose: u64) -> bool
-        ensures { IsTrue result ↔ IsLost lose self.now.sent }
+        ensures { result ≡ is_lost Client lose self.now.sent }
     {
         lose > 0 && (self.sent as u64).is_multiple_of(lose)
     }
@@ -42,7 +47,7 @@ impl Counts {
 
 /// A link of a chain by how many come before it on a way.
 fn link_on(way: Way, hops: usize, before: usize) -> usize
-    ensures { way_seen way ≡ Client → result ≡ before }
+    ensures { result ≡ link_of (way_seen way) hops before }
 {
     match way {
         Way::ToServer => before,
@@ -50,8 +55,35 @@ fn link_on(way: Way, hops: usize, before: usize) -> usize
     }
 }
 
-/// A Prepare that is not lost goes over all links of a way: it has one number on the first of them, and another on those
-/// after it.
+/// The number of a Prepare on the link of its way after which this many others come.
+fn number_at(first: usize, number: usize, before: usize) -> usize
+    ensures { result ≡ number_on first number before }
+{
+    if before == 0 { first } else { number }
+}
+
+/// A Prepare comes over the link of its way that comes after this many others: it has one number on the first of them,
+/// and another on those after it.
+fn arrive<A: Allocator + Copy>(
+    play: &mut Play<A>,
+    way: Way,
+    first: usize,
+    number: usize,
+    before: usize,
+) -> Result<(), LocalFault>
+    requires { way_seen way ≡ Client → IsLost play.old.asked.lose first → ⊥ }
+    ensures kept { Continues play.old play.new }
+    ensures taken { OnOk result (Takes (arrival (way_seen way) play.old.asked.hops first number before ∷ []) play.old play.new) }
+    ensures begun { OnErr result (Begins (arrival (way_seen way) play.old.asked.hops first number before) play.old play.new) }
+    ensures why { IfErr result (StopsPlay play.new) }
+{
+    let link = link_on(way, play.hops(), before);
+    let which = number_at(first, number, before);
+    let _told = play.pass(&Event::Arrive(link, way, which, Play::<A>::now()))?;
+    Ok(())
+}
+
+/// A Prepare that is not lost goes over all links of a way.
 fn go_across<A: Allocator + Copy>(
     play: &mut Play<A>,
     way: Way,
@@ -60,14 +92,32 @@ fn go_across<A: Allocator + Copy>(
 ) -> Result<(), LocalFault>
     requires { way_seen way ≡ Client → IsLost play.old.asked.lose first → ⊥ }
     ensures kept { Continues play.old play.new }
+    ensures taken { OnOk result (Takes (each (arrival (way_seen way) play.old.asked.hops first number) (play.old.asked.hops + 1)) play.old play.new) }
+    ensures begun { OnErr result (BeginsEach (arrival (way_seen way) play.old.asked.hops first number) (play.old.asked.hops + 1) play.old play.new) }
     ensures why { IfErr result (StopsPlay play.new) }
 {
     let hops = play.hops();
     for before in 0..hops + 1 {
-        let which = if before == 0 { first } else { number };
-        let link = link_on(way, hops, before);
-        let _told = play.pass(&Event::Arrive(link, way, which, Play::<A>::now()))?;
+        arrive(play, way, first, number, before)?;
     }
+    Ok(())
+}
+
+/// An answer of this number comes back over the link after which this many others come.
+fn return_on<A: Allocator + Copy>(
+    play: &mut Play<A>,
+    way: Way,
+    number: usize,
+    after: usize,
+) -> Result<(), LocalFault>
+    ensures kept { Continues play.old play.new }
+    ensures taken { OnOk result (Takes (answer (way_seen way) play.old.asked.hops number after ∷ []) play.old play.new) }
+    ensures begun { OnErr result (Begins (answer (way_seen way) play.old.asked.hops number after) play.old play.new) }
+    ensures why { IfErr result (StopsPlay play.new) }
+{
+    let hops = play.hops();
+    let link = link_on(way, hops, hops.saturating_sub(after));
+    let _told = play.pass(&Event::AnswerArrives(link, way, number, Play::<A>::now()))?;
     Ok(())
 }
 
@@ -78,22 +128,79 @@ fn come_back<A: Allocator + Copy>(
     number: usize,
 ) -> Result<(), LocalFault>
     ensures kept { Continues play.old play.new }
+    ensures taken { OnOk result (Takes (each (answer (way_seen way) play.old.asked.hops number) (play.old.asked.hops + 1)) play.old play.new) }
+    ensures begun { OnErr result (BeginsEach (answer (way_seen way) play.old.asked.hops number) (play.old.asked.hops + 1) play.old play.new) }
     ensures why { IfErr result (StopsPlay play.new) }
 {
     let hops = play.hops();
     for after in 0..hops + 1 {
-        let link = link_on(way, hops, hops.saturating_sub(after));
-        let _told = play.pass(&Event::AnswerArrives(link, way, number, Play::<A>::now()))?;
+        return_on(play, way, number, after)?;
     }
     Ok(())
 }
 
-/// The client sends, where there is something to send. The Prepare is lost, where that is asked for; else it goes to the
-/// server, and its answer comes back.
+/// A Prepare that is not lost goes over all links of a way, and its answer comes back over all of them.
+fn cross<A: Allocator + Copy>(
+    play: &mut Play<A>,
+    way: Way,
+    first: usize,
+    number: usize,
+) -> Result<(), LocalFault>
+    requires { way_seen way ≡ Client → IsLost play.old.asked.lose first → ⊥ }
+    ensures kept { Continues play.old play.new }
+    ensures crosses { OnOk result (Crosses (way_seen way) first number play.old play.new) }
+    ensures begun { OnErr result (BeginsCrossing (way_seen way) first number play.old play.new) }
+    ensures why { IfErr result (StopsPlay play.new) }
+{
+    go_across(play, way, first, number)?;
+    come_back(play, way, number)
+}
+
+/// The client learns that no answer to its last Prepare will come: it is one that is lost.
+fn lose<A: Allocator + Copy>(play: &mut Play<A>, number: usize) -> Result<(), LocalFault>
+    requires { IsLost play.old.asked.lose number }
+    ensures kept { Continues play.old play.new }
+    ensures taken { OnOk result (Takes (fault_at Client number ∷ []) play.old play.new) }
+    ensures begun { OnErr result (Begins (fault_at Client number) play.old play.new) }
+    ensures why { IfErr result (StopsPlay play.new) }
+{
+    let event = Event::Fault(0, Way::ToServer, number, Play::<A>::now());
+    let _told = play.pass(&event)?;
+    Ok(())
+}
+
+/// The client sent a Prepare, which is counted. It is lost, where that is asked for; else it goes to the server, and
+/// its answer comes back.
+fn follow<A: Allocator + Copy>(play: &mut Play<A>, counts: &mut Counts) -> Result<(), LocalFault>
+    requires few { counts.old.sent < most_events }
+    requires counted { counts.old.answered ≡ arrived Client play.old.asked.lose counts.old.sent }
+    ensures sent { counts.new.sent ≡ counts.old.sent + 1 }
+    ensures counted { counts.new.answered ≡ arrived Client play.old.asked.lose (counts.old.sent + 1) }
+    ensures returned { counts.new.returned ≡ counts.old.returned }
+    ensures kept { Continues play.old play.new }
+    ensures goes { OnOk result (Goes Client (counts.old.sent + 1) play.old play.new) }
+    ensures begun { OnErr result (BeginsToGo Client (counts.old.sent + 1) play.old play.new) }
+    ensures why { IfErr result (StopsPlay play.new) }
+{
+    counts.sent += 1;
+    if counts.is_lost(play.lose()) {
+        return lose(play, counts.sent);
+    }
+    counts.answered = counts.answered.saturating_add(1);
+    cross(play, Way::ToServer, counts.sent, counts.answered)
+}
+
+/// The client sends, where there is something to send. The Prepare is lost, where that is asked for; else it goes to
+/// the server, and its answer comes back.
 pub(crate) fn send_client<A: Allocator + Copy>(
     play: &mut Play<A>,
     counts: &mut Counts,
 ) -> Result<(), LocalFault>
+    requires counted { IsCounted play.old.asked.lose play.old.events counts.old }
+    ensures counted { OnOk result (IsCounted play.new.asked.lose play.new.events counts.new) }
+    ensures returned { counts.new.returned ≡ counts.old.returned }
+    ensures turn { OnOk result (Turn Client counts.old.sent counts.new.sent play.old play.new) }
+    ensures begun { OnErr result (BeginsTurn Client counts.old.sent play.old play.new) }
     ensures kept { Continues play.old play.new }
     ensures some { OnOk result (play.old.events < play.new.events) }
     ensures room { OnOk result (play.old.events < most_events) }
@@ -102,15 +209,7 @@ pub(crate) fn send_client<A: Allocator + Copy>(
     if !play.send(Side::Client)? {
         return Ok(());
     }
-    counts.sent = counts.sent.saturating_add(1);
-    if counts.is_lost(play.lose()) {
-        let event = Event::Fault(0, Way::ToServer, counts.sent, Play::<A>::now());
-        let _told = play.pass(&event)?;
-        return Ok(());
-    }
-    counts.answered = counts.answered.saturating_add(1);
-    go_across(play, Way::ToServer, counts.sent, counts.answered)?;
-    come_back(play, Way::ToServer, counts.answered)
+    follow(play, counts)
 }
 
 /// The server sends, where there is something to send: the Prepare goes to the client, and its answer comes back.
@@ -118,6 +217,11 @@ pub(crate) fn send_server<A: Allocator + Copy>(
     play: &mut Play<A>,
     counts: &mut Counts,
 ) -> Result<(), LocalFault>
+    requires counted { IsCounted play.old.asked.lose play.old.events counts.old }
+    ensures counted { OnOk result (IsCounted play.new.asked.lose play.new.events counts.new) }
+    ensures sent { counts.new.sent ≡ counts.old.sent }
+    ensures turn { OnOk result (Turn Server counts.old.returned counts.new.returned play.old play.new) }
+    ensures begun { OnErr result (BeginsTurn Server counts.old.returned play.old play.new) }
     ensures kept { Continues play.old play.new }
     ensures why { IfErr result (StopsPlay play.new) }
 {
@@ -125,6 +229,5 @@ pub(crate) fn send_server<A: Allocator + Copy>(
         return Ok(());
     }
     counts.returned = counts.returned.saturating_add(1);
-    go_across(play, Way::ToClient, counts.returned, counts.returned)?;
-    come_back(play, Way::ToClient, counts.returned)
+    cross(play, Way::ToClient, counts.returned, counts.returned)
 }

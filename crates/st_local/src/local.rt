@@ -6,7 +6,8 @@ ghost use Rattle.st_oer.specs.Tallies.{TakesTurns, device_of, tally_of};
 ghost use Rattle.st_local.specs.Errors.{fault_of, reader_faults, writer_faults};
 ghost use Rattle.st_local.specs.Parts.{joined, stream_at};
 ghost use Rattle.st_local.specs.Playing.{read_on, written_on};
-ghost use Rattle.st_local.specs.Endings.{Explains, GoesOver, HasEnded, RunsLocal, SpendsTurns, StaysFlushed, StopsCarry, StopsWrite, WritesPart, most_bytes};
+ghost use Rattle.st_local.specs.Schedule.{start};
+ghost use Rattle.st_local.specs.Endings.{ComesBefore, Explains, GoesOver, HasEnded, RunsLocal, SpendsTurns, StaysFlushed, StopsCarry, StopsWrite, WritesPart, most_bytes};
 
 use crate::fault::LocalFault;
 use crate::input::read_input;
@@ -49,6 +50,7 @@ fn carry_over<A: Allocator + Copy, W: Write>(
 ) -> Result<(), LocalFault>
     requires some { 0 < play.old.asked.streams }
     requires few { play.old.asked.streams ≤ 32 }
+    requires start { play.old ≡ start play.old.asked }
     requires blank { (k : ℕ) → written_on play.old.world k ≡ [] }
     ensures over { OnOk result (GoesOver play.old.asked (Some input.now)) }
     ensures whole { OnOk result (Appends (W.contents (device_of writer.old)) (W.contents (device_of writer.new)) input.now) }
@@ -57,6 +59,7 @@ fn carry_over<A: Allocator + Copy, W: Write>(
     ensures flushed { OnOk result (StaysFlushed (tally_of writer.old) (tally_of writer.new)) }
     ensures turns { TakesTurns (tally_of writer.old) (tally_of writer.new) turns.old turns.new }
     ensures why { IfErr result (StopsCarry play.old.asked (Some input.now) turns.new) }
+    ensures untouched { IfErr result (λ e. ComesBefore e → writer.new ≡ writer.old) }
 {
     let streams = play.streams();
     match send_parts(play, input, streams) {
@@ -83,6 +86,7 @@ fn carry<A: Allocator + Copy, W: Write>(
     ensures flushed { OnOk result (StaysFlushed (tally_of writer.old) (tally_of writer.new)) }
     ensures turns { TakesTurns (tally_of writer.old) (tally_of writer.new) turns.old turns.new }
     ensures why { IfErr result (StopsCarry settings.now (Some input.now) turns.new) }
+    ensures untouched { IfErr result (λ e. ComesBefore e → writer.new ≡ writer.old) }
 {
     let Ok(mut play) = Play::new(alloc, settings) else {
         return Err(LocalFault::NoMemory);
@@ -95,8 +99,9 @@ fn carry<A: Allocator + Copy, W: Write>(
 /// one size, except that the last ones may be shorter; each is sent on its own stream. The settings also say of how
 /// many Prepares of the client one is lost. Each I/O call takes one of `turns`.
 ///
-/// Nothing is written before every stream has ended. Fails with a `LocalFault`: `Input` or `Output` exactly where the
-/// reader or the writer counted an error in this call, and `Turns` only where no I/O call is left.
+/// Nothing is written before every stream has ended: at each fault but `Output` and `Turns` the writer is as it was.
+/// Fails with a `LocalFault`: `Input` or `Output` exactly where the reader or the writer counted an error in this call,
+/// and `Turns` only where no I/O call is left.
 pub fn play_local<A: Allocator + Copy, R: Read, W: Write>(
     alloc: A,
     settings: &LocalSettings,
@@ -111,6 +116,7 @@ pub fn play_local<A: Allocator + Copy, R: Read, W: Write>(
     ensures part { IfSome (R.remaining (device_of reader.old)) (λ bytes. WritesPart bytes (W.contents (device_of writer.old)) (W.contents (device_of writer.new))) }
     ensures over { OnOk result (GoesOver settings.now (R.remaining (device_of reader.old))) }
     ensures why { IfErr result (Explains settings.now (R.remaining (device_of reader.old))) }
+    ensures untouched { IfErr result (λ e. ComesBefore e → writer.new ≡ writer.old) }
     ensures reader_faults { (tally_of reader.new).faults ≡ reader_faults (fault_of result) (tally_of reader.old).faults }
     ensures writer_faults { (tally_of writer.new).faults ≡ writer_faults (fault_of result) (tally_of writer.old).faults }
     ensures flushed { OnOk result (StaysFlushed (tally_of writer.old) (tally_of writer.new)) }

@@ -1,12 +1,14 @@
 //! A world that is played event by event.
 
-ghost use Rattle.std.specs.Prelude.{◌≡◌, ◌≢◌, ◌+◌, ◌<◌, ◌≤◌, ℕ, [], MatchBool, true, length, IfOk, IfErr, IsOkUnless, OnErr, OnOk};
+ghost use Rattle.std.specs.Prelude.{◌≡◌, ◌≢◌, ◌↔◌, ◌+◌, ◌<◌, ◌≤◌, ℕ, [], ◌∷◌, MatchBool, true, length, pos, IfOk, IfErr, IsOkUnless, OnErr, OnOk};
 ghost use Rattle.st_world.specs.Sides.{Client};
-ghost use Rattle.st_world.specs.State.{ledger_at};
+ghost use Rattle.st_world.specs.Events as events;
 ghost use Rattle.st_world.specs.Steps.{Happens};
-ghost use Rattle.st_nodes.specs.Seen.{told_seen};
+ghost use Rattle.st_nodes.specs.Seen.{side_seen, told_seen};
 ghost use Rattle.st_chain.specs.Seen.{event_seen};
+ghost use Rattle.st_chain.specs.Left.{lacks};
 ghost use Rattle.st_local.specs.Playing.{Continues, Fits, HasFailed, IsAside, Plays, StopsPlay, Writes, local_config, most_events, written_on, read_on};
+ghost use Rattle.st_local.specs.Schedule.{Begins, IsIdle, IsSent, Takes, Tells, has_ended, is_sent, iv_of, sending, start};
 
 use crate::fault::LocalFault;
 use st_chain::{Event, World};
@@ -50,11 +52,25 @@ fn config() -> EndConfig
     EndConfig::new(1, MAX_PACKETS, MAX_PACKET_LIMIT).unwrap()
 }
 
+/// Whether the call found no memory.
+fn lacks<A: Allocator + Copy>(told: &Told<A>) -> bool
+    ensures { result ≡ lacks (told_seen told.now) }
+{
+    matches!(told, Told::NoMemory)
+}
+
+/// Whether a Prepare went.
+fn is_sent<A: Allocator + Copy>(told: &Told<A>) -> bool
+    ensures { result ≡ is_sent (told_seen told.now) }
+{
+    matches!(told, Told::Sent)
+}
+
 impl<A: Allocator + Copy> Play<A> {
     /// A world of as many hops as are asked for, where nothing has happened.
     pub(crate) fn new(alloc: A, settings: &LocalSettings) -> Result<Play<A>, LocalFault>
         requires { settings.now.hops ≤ 8 }
-        ensures asked { IfOk result (λ p. p.asked ≡ settings.now) }
+        ensures start { IfOk result (λ p. p ≡ start settings.now) }
         ensures blank { IfOk result (λ p. (k : ℕ) → written_on p.world k ≡ []) }
         ensures only_memory { IsOkUnless result LocalFault.NoMemory }
     {
@@ -91,12 +107,16 @@ impl<A: Allocator + Copy> Play<A> {
     }
 
     /// The one moment at which all happens.
-    pub(crate) fn now() -> Moment {
+    pub(crate) fn now() -> Moment
+        ensures { result ≡ pos 0 }
+    {
         Moment::new(0).unwrap()
     }
 
     /// The number of the next event, as an IV that no other has.
-    fn iv(&self) -> [u8; 12] {
+    fn iv(&self) -> [u8; 12]
+        ensures { result ≡ iv_of self.now.events }
+    {
         let mut iv = [0; 12];
         iv[4..].copy_from_slice(&self.events.to_be_bytes());
         iv
@@ -106,9 +126,9 @@ impl<A: Allocator + Copy> Play<A> {
     pub(crate) fn take(&mut self, event: &Event<'_>) -> Result<Told<A>, LocalFault>
         requires { Fits self.old.asked.lose (event_seen event.now) }
         ensures happens { IfOk result (λ told. Happens self.old.world (event_seen event.now) (told_seen told) self.new.world) }
-        ensures one { OnOk result (self.new.events ≡ self.old.events + 1) }
+        ensures tells { IfOk result (λ told. Tells (event_seen event.now) (told_seen told) self.old self.new) }
+        ensures begun { OnErr result (Begins (event_seen event.now) self.old self.new) }
         ensures room { OnOk result (self.old.events < most_events) }
-        ensures asked { self.new.asked ≡ self.old.asked }
         ensures missed { OnErr result (Continues self.old self.new) }
         ensures why { IfErr result (StopsPlay self.new) }
     {
@@ -119,7 +139,7 @@ impl<A: Allocator + Copy> Play<A> {
             return Err(LocalFault::NoMemory);
         };
         self.events += 1;
-        if matches!(told, Told::NoMemory) {
+        if lacks(&told) {
             return Err(LocalFault::NoMemory);
         }
         Ok(told)
@@ -130,7 +150,9 @@ impl<A: Allocator + Copy> Play<A> {
         requires aside { IsAside (event_seen event.now) }
         requires fits { Fits self.old.asked.lose (event_seen event.now) }
         ensures kept { Continues self.old self.new }
-        ensures one { OnOk result (self.new.events ≡ self.old.events + 1) }
+        ensures tells { IfOk result (λ told. Tells (event_seen event.now) (told_seen told) self.old self.new) }
+        ensures taken { OnOk result (Takes (event_seen event.now ∷ []) self.old self.new) }
+        ensures begun { OnErr result (Begins (event_seen event.now) self.old self.new) }
         ensures room { OnOk result (self.old.events < most_events) }
         ensures why { IfErr result (StopsPlay self.new) }
     {
@@ -141,18 +163,20 @@ impl<A: Allocator + Copy> Play<A> {
     /// An end sends. Whether a Prepare went.
     pub(crate) fn send(&mut self, side: Side) -> Result<bool, LocalFault>
         ensures kept { Continues self.old self.new }
-        ensures one { OnOk result (self.new.events ≡ self.old.events + 1) }
+        ensures sent { IfOk result (λ sent. MatchBool sent (IsSent (side_seen side) self.old self.new) (IsIdle (side_seen side) self.old self.new)) }
+        ensures begun { OnErr result (Begins (sending (side_seen side) self.old.events) self.old self.new) }
         ensures room { OnOk result (self.old.events < most_events) }
         ensures why { IfErr result (StopsPlay self.new) }
     {
         let iv = self.iv();
         let told = self.pass(&Event::Send(side, iv, Play::<A>::now()))?;
-        Ok(matches!(told, Told::Sent))
+        Ok(is_sent(&told))
     }
 
     /// Writes bytes on a stream of the client. Whether it took them.
     pub(crate) fn write(&mut self, stream: u8, bytes: &[u8]) -> Result<bool, LocalFault>
         ensures taken { IfOk result (λ taken. MatchBool taken (Writes stream bytes.now self.old self.new) (Continues self.old self.new)) }
+        ensures event { Begins (events.Write Client stream bytes.now) self.old self.new }
         ensures missed { OnErr result (Continues self.old self.new) }
         ensures why { IfErr result (StopsPlay self.new) }
     {
@@ -175,7 +199,7 @@ impl<A: Allocator + Copy> Play<A> {
 
     /// Whether the server was told the end of a stream of the client: it has read then all that was written.
     pub(crate) fn has_ended(&self, stream: u8) -> bool
-        ensures told { result ≡ (ledger_at self.now.world Client stream).told_end }
+        ensures told { result ≡ has_ended self.now.world stream }
         ensures whole { result ≡ true → read_on self.now.world stream ≡ written_on self.now.world stream }
         ensures run { Plays self.now.asked self.now.events self.now.world }
     {
@@ -187,7 +211,7 @@ impl<A: Allocator + Copy> Play<A> {
 
     /// Whether the connection failed at an end.
     pub(crate) fn has_failed(&self) -> bool
-        ensures failed { result ≡ true → HasFailed self.now.world }
+        ensures failed { result ≡ true ↔ HasFailed self.now.world }
         ensures run { Plays self.now.asked self.now.events self.now.world }
     {
         self.world.is_failed(Side::Client) || self.world.is_failed(Side::Server)

@@ -1,8 +1,9 @@
 //! The input's parts, each on a stream of its own.
 
-ghost use Rattle.std.specs.Prelude.{◌≡◌, ◌<◌, ◌≤◌, ℕ, [], length, true, OnOk, IfOk, IfErr};
+ghost use Rattle.std.specs.Prelude.{◌≡◌, ◌+◌, ◌<◌, ◌≤◌, ◌↔◌, ◌∷◌, ℕ, [], length, true, OnOk, OnErr, IfOk, IfErr};
 ghost use Rattle.st_local.specs.Parts.{part_at, part_size, stream_at};
-ghost use Rattle.st_local.specs.Playing.{Continues, HasSent, IsAllRead, Plays, Sends, StopsPlay, most_events, read_on, written_on};
+ghost use Rattle.st_local.specs.Playing.{Continues, HasFailed, HasSent, IsAllRead, Plays, Sends, StopsPlay, most_events, read_on, written_on};
+ghost use Rattle.st_local.specs.Schedule.{Begins, BeginsEach, BeginsRound, BeginsToClose, BeginsToRead, Closes, HaveEnded, IsCounted, IsOver, IsWhole, LastRound, Reads, ReadsOne, Round, Scheduled, StopsSending, Takes, TakesWrites, closing, each, opens, reach_of, reading};
 
 use crate::chain::{Counts, send_client, send_server};
 use crate::fault::LocalFault;
@@ -21,6 +22,8 @@ const MAX_READ: usize = 65_536;
 /// The client opens a given number of streams.
 fn open_streams<A: Allocator + Copy>(play: &mut Play<A>, streams: usize) -> Result<(), LocalFault>
     ensures kept { Continues play.old play.new }
+    ensures taken { OnOk result (Takes (each opens streams) play.old play.new) }
+    ensures begun { OnErr result (BeginsEach opens streams play.old play.new) }
     ensures why { IfErr result (StopsPlay play.new) }
 {
     for place in 0..streams {
@@ -40,6 +43,7 @@ fn write_piece<A: Allocator + Copy>(
     requires some { 0 < streams }
     requires few { streams ≤ 32 }
     requires left { sent.old < length input.now }
+    ensures writes { TakesWrites play.old play.new }
     ensures sent { Sends (part_size (length input.now) streams) input.now sent.old sent.new play.old play.new }
     ensures within { sent.new ≤ length input.now }
     ensures some { IfOk result (λ taken. taken ≡ true → sent.old < sent.new) }
@@ -64,7 +68,10 @@ fn write_all<A: Allocator + Copy>(
 ) -> Result<(), LocalFault>
     requires some { 0 < streams }
     requires few { streams ≤ 32 }
+    requires within { sent.old ≤ length input.now }
+    ensures writes { TakesWrites play.old play.new }
     ensures sent { Sends (part_size (length input.now) streams) input.now sent.old sent.new play.old play.new }
+    ensures within { sent.new ≤ length input.now }
     ensures why { IfErr result (StopsPlay play.new) }
 {
     while *sent < input.len() {
@@ -73,6 +80,15 @@ fn write_all<A: Allocator + Copy>(
         }
     }
     Ok(())
+}
+
+/// Whether the part at a place is written, where `sent` of `bytes` bytes are.
+fn is_whole(size: usize, bytes: usize, sent: usize, place: usize) -> bool
+    requires few { place < 32 }
+    requires within { sent ≤ bytes }
+    ensures { result ≡ true ↔ IsWhole size bytes sent place }
+{
+    sent == bytes || (place + 1).saturating_mul(size) <= sent
 }
 
 /// Closes the streams whose parts are written: how many are closed by then.
@@ -85,29 +101,63 @@ fn close_written<A: Allocator + Copy>(
 ) -> Result<usize, LocalFault>
     requires some { 0 < streams }
     requires few { streams ≤ 32 }
+    requires within { sent ≤ bytes }
     ensures kept { Continues play.old play.new }
+    ensures closes { IfOk result (λ count. Closes (part_size bytes streams) streams bytes sent closed count play.old play.new) }
+    ensures begun { OnErr result (BeginsToClose (part_size bytes streams) bytes sent closed play.old play.new) }
     ensures why { IfErr result (StopsPlay play.new) }
 {
     let size = part_size(bytes, streams);
     let mut count = closed;
-    while count < streams && (sent == bytes || (count + 1).saturating_mul(size) <= sent) {
-        let _told = play.pass(&Event::Close(Side::Client, stream_at(count)))?;
+    while count < streams && is_whole(size, bytes, sent, count) {
+        close(play, closed, count - closed)?;
         count += 1;
     }
     Ok(count)
+}
+
+/// The client closes the stream of the part at the place that is this many after another.
+fn close<A: Allocator + Copy>(
+    play: &mut Play<A>,
+    from: usize,
+    after: usize,
+) -> Result<(), LocalFault>
+    requires { from + after < 32 }
+    ensures kept { Continues play.old play.new }
+    ensures taken { OnOk result (Takes (closing from after ∷ []) play.old play.new) }
+    ensures begun { OnErr result (Begins (closing from after) play.old play.new) }
+    ensures why { IfErr result (StopsPlay play.new) }
+{
+    let _told = play.pass(&Event::Close(Side::Client, stream_at(from + after)))?;
+    Ok(())
+}
+
+/// Reads at the server what can be read of the stream of the part at this place, where it has not ended.
+fn read_stream<A: Allocator + Copy>(play: &mut Play<A>, place: usize) -> Result<(), LocalFault>
+    requires { place < 32 }
+    ensures kept { Continues play.old play.new }
+    ensures reads { OnOk result (ReadsOne place play.old play.new) }
+    ensures begun { OnErr result (Begins (reading (stream_at place)) play.old play.new) }
+    ensures why { IfErr result (StopsPlay play.new) }
+{
+    let stream = stream_at(place);
+    if play.has_ended(stream) {
+        return Ok(());
+    }
+    let _told = play.pass(&Event::Read(Side::Server, stream, MAX_READ))?;
+    Ok(())
 }
 
 /// Reads at the server what can be read of each stream that has not ended.
 fn read_streams<A: Allocator + Copy>(play: &mut Play<A>, streams: usize) -> Result<(), LocalFault>
     requires { streams ≤ 32 }
     ensures kept { Continues play.old play.new }
+    ensures reads { OnOk result (Reads streams play.old play.new) }
+    ensures begun { OnErr result (BeginsToRead streams play.old play.new) }
     ensures why { IfErr result (StopsPlay play.new) }
 {
     for place in 0..streams {
-        let stream = stream_at(place);
-        if !play.has_ended(stream) {
-            let _told = play.pass(&Event::Read(Side::Server, stream, MAX_READ))?;
-        }
+        read_stream(play, place)?;
     }
     Ok(())
 }
@@ -116,6 +166,7 @@ fn read_streams<A: Allocator + Copy>(play: &mut Play<A>, streams: usize) -> Resu
 fn have_ended<A: Allocator + Copy>(play: &Play<A>, streams: usize) -> bool
     requires some { 0 < streams }
     requires few { streams ≤ 32 }
+    ensures told { result ≡ true ↔ HaveEnded streams play.now.world }
     ensures whole { result ≡ true → IsAllRead streams play.now.world }
     ensures run { Plays play.now.asked play.now.events play.now.world }
 {
@@ -147,6 +198,13 @@ fn take_turns<A: Allocator + Copy>(
 ) -> Result<bool, LocalFault>
     requires some { 0 < streams }
     requires few { streams ≤ 32 }
+    requires within { progress.old.sent ≤ length input.now }
+    requires counted { IsCounted play.old.asked.lose play.old.events progress.old.counts }
+    ensures within { OnOk result (progress.new.sent ≤ length input.now) }
+    ensures counted { OnOk result (IsCounted play.new.asked.lose play.new.events progress.new.counts) }
+    ensures round { OnOk result (Round (part_size (length input.now) streams) streams input.now (reach_of progress.old) (reach_of progress.new) play.old play.new) }
+    ensures begun { OnErr result (BeginsRound (part_size (length input.now) streams) streams input.now (reach_of progress.old) play.old play.new) }
+    ensures over { IfOk result (λ done. done ≡ true ↔ IsOver streams (length input.now) (reach_of progress.new) play.new.world) }
     ensures sent { Sends (part_size (length input.now) streams) input.now progress.old.sent progress.new.sent play.old play.new }
     ensures done { IfOk result (λ done. done ≡ true → (progress.new.sent ≡ length input.now) × IsAllRead streams play.new.world) }
     ensures run { IfOk result (λ done. done ≡ true → Plays play.new.asked play.new.events play.new.world) }
@@ -174,8 +232,9 @@ pub(crate) fn send_parts<A: Allocator + Copy>(
     ensures asked { play.new.asked ≡ play.old.asked }
     ensures sent { (sent : ℕ) × HasSent (part_size (length input.now) streams) input.now sent play.new.world }
     ensures run { OnOk result (Plays play.new.asked play.new.events play.new.world) }
+    ensures scheduled { OnOk result (Scheduled (part_size (length input.now) streams) streams input.now (LastRound (part_size (length input.now) streams) streams input.now) play.old play.new) }
     ensures delivered { OnOk result ((place : ℕ) → place < streams → read_on play.new.world (stream_at place) ≡ part_at (part_size (length input.now) streams) input.now place) }
-    ensures why { IfErr result (StopsPlay play.new) }
+    ensures why { IfErr result (StopsSending (part_size (length input.now) streams) streams input.now play.old play.new) }
 {
     open_streams(play, streams)?;
     let mut progress = Progress {

@@ -7,7 +7,7 @@ use Rattle.std.proofs.lemmas.List.Folds.{list_all-append}
 use Rattle.st_ilp.specs.Calendar.{DateAndTime, date_and_time}
 use Rattle.st_ilp.specs.Expiry.{digit}
 use Rattle.st_log.specs.Quoting.{is_plain, hex_digit, hex_escape, escaped, all_escaped, quoted}
-use Rattle.st_log.specs.Lines.{◌⧺◌, written_date, date_text, word_of, plain_cause_text, reject_front, reject_back, exchange_text, start_text, account_front, account_back, event_text, line_text}
+use Rattle.st_log.specs.Lines.{◌⧺◌, written_date, date_text, word_of, plain_cause_text, reject_front, reject_back, exchange_text, start_text, waits_text, account_front, account_back, event_text, line_text}
 use Rattle.st_log.specs.Laws.{has_no_newline, EndsByItsOneNewline, LineHasOneNewline}
 use Rattle.st_log.specs.declared.event.Event.{Event}
 use Rattle.st_log.specs.declared.event.Event.TheVariants as event
@@ -17,6 +17,8 @@ use Rattle.st_log.specs.declared.event.AccountCounts.{AccountCounts}
 use Rattle.st_log.specs.declared.event.Cause.{Cause}
 use Rattle.st_log.specs.declared.event.Cause.TheVariants as cause
 use Rattle.st_log.specs.declared.event.Lost.TheVariants as lost
+use Rattle.st_log.specs.declared.event.Blocked.{Blocked}
+use Rattle.st_log.specs.declared.event.Blocked.TheVariants as blocked
 use Rattle.st_log.specs.declared.event.Kind.{Kind}
 use Rattle.st_log.specs.declared.event.Kind.TheVariants as kind
 
@@ -155,6 +157,7 @@ word_clean kind.Closed = refl
 word_clean kind.Totals = refl
 word_clean kind.More = refl
 word_clean kind.End = refl
+word_clean kind.Waits = refl
 
 -- a literal, a word, and then a literal and a number
 word_number : (text word next : List ℕ) (n : ℕ) → has_no_newline text ≡ true → has_no_newline word ≡ true → has_no_newline next ≡ true
@@ -197,6 +200,14 @@ start_ends (start.Connector listen own workers requests) =
     said (codes "start command=connector listen=") listen.now _ refl (said (codes " own=") own.now _ refl
     (number (codes " workers=") workers _ refl (number (codes " requests=") requests (10 ∷ []) refl ends)))
 
+waits_ends : (b : Blocked) → EndsByItsOneNewline (waits_text b)
+waits_ends (blocked.ConnectionData limit) = number (codes "waits at=connection-data limit=") limit (10 ∷ []) refl ends
+waits_ends (blocked.StreamData stream limit) =
+    number (codes "waits at=stream-data stream=") stream _ refl (number (codes " limit=") limit (10 ∷ []) refl ends)
+waits_ends (blocked.StreamMoney stream receive_max total) =
+    number (codes "waits at=stream-money stream=") stream _ refl (number (codes " receive_max=") receive_max _ refl
+    (number (codes " total=") total (10 ∷ []) refl ends))
+
 account : (n : ℕ) (t : AccountCounts) → EndsByItsOneNewline (account_front n t ⧺ account_back t)
 account n t =
     more (account_front n t) (account_back t)
@@ -214,6 +225,7 @@ event_ends n (event.Refused code (Some reason)) =
 event_ends n (event.Connection (lost.Status status)) = number (codes "connection status=") status (10 ∷ []) refl ends
 event_ends n (event.Connection lost.Cut) = more (codes "connection cut") (10 ∷ []) (record { is = refl }) ends
 event_ends n (event.Limit most) = number (codes "limit neighbour=") n _ refl (number (codes " most=") most (10 ∷ []) refl ends)
+event_ends n (event.Waits b) = waits_ends b
 event_ends n (event.Table line words) = number (codes "table line=") line _ refl (said (codes " words=") words.now (10 ∷ []) refl ends)
 event_ends n (event.Closed stream None) = number (codes "closed stream=") stream (10 ∷ []) refl ends
 event_ends n (event.Closed stream (Some code)) = number (codes "closed stream=") stream _ refl (number (codes " code=") code (10 ∷ []) refl ends)

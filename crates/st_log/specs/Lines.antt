@@ -11,6 +11,8 @@ use Rattle.st_log.specs.declared.event.Cause.{Cause}
 use Rattle.st_log.specs.declared.event.Cause.TheVariants as cause
 use Rattle.st_log.specs.declared.event.Lost.{Lost}
 use Rattle.st_log.specs.declared.event.Lost.TheVariants as lost
+use Rattle.st_log.specs.declared.event.Blocked.{Blocked}
+use Rattle.st_log.specs.declared.event.Blocked.TheVariants as blocked
 use Rattle.st_log.specs.declared.event.Kind.{Kind}
 use Rattle.st_log.specs.declared.event.Kind.TheVariants as kind
 use Rattle.st_log.specs.declared.event.EndCounts.{EndCounts}
@@ -46,6 +48,7 @@ kind_of (event.Exchange c) = kind.Exchange
 kind_of (event.Refused code reason) = kind.Refused
 kind_of (event.Connection l) = kind.Connection
 kind_of (event.Limit most) = kind.Limit
+kind_of (event.Waits b) = kind.Waits
 kind_of (event.Table line words) = kind.Table
 kind_of (event.Closed stream code) = kind.Closed
 kind_of (event.End t) = kind.Totals
@@ -66,6 +69,7 @@ place_of kind.Closed = 6
 place_of kind.Totals = 7
 place_of kind.More = 8
 place_of kind.End = 9
+place_of kind.Waits = 10
 
 abbrev pub word_of : Kind → List ℕ
 word_of kind.Start = codes "start"
@@ -78,6 +82,7 @@ word_of kind.Closed = codes "closed"
 word_of kind.Totals = codes "totals"
 word_of kind.More = codes "more"
 word_of kind.End = codes "end"
+word_of kind.Waits = codes "waits"
 
 -- ---- what stands behind the date, by the event, with the newline; n is the neighbour's number
 
@@ -140,6 +145,14 @@ connection_text lost.Cut = codes "connection cut\n"
 abbrev pub limit_text : (n most : ℕ) → List ℕ
 limit_text n most = codes "limit neighbour=" ⧺ decimal n ⧺ codes " most=" ⧺ decimal most ⧺ 10 ∷ []
 
+abbrev pub waits_text : Blocked → List ℕ
+waits_text (blocked.ConnectionData limit) = codes "waits at=connection-data limit=" ⧺ decimal limit ⧺ 10 ∷ []
+waits_text (blocked.StreamData stream limit) =
+    codes "waits at=stream-data stream=" ⧺ decimal stream ⧺ codes " limit=" ⧺ decimal limit ⧺ 10 ∷ []
+waits_text (blocked.StreamMoney stream receive_max total) =
+    codes "waits at=stream-money stream=" ⧺ decimal stream ⧺ codes " receive_max=" ⧺ decimal receive_max
+    ⧺ codes " total=" ⧺ decimal total ⧺ 10 ∷ []
+
 abbrev pub table_text : (line : ℕ) → (words : List ℕ) → List ℕ
 table_text line words = codes "table line=" ⧺ decimal line ⧺ codes " words=" ⧺ quoted words ⧺ 10 ∷ []
 
@@ -177,6 +190,7 @@ event_text n (event.Refused code None) = refused_text n code
 event_text n (event.Refused code (Some reason)) = reason_text n code reason
 event_text n (event.Connection l) = connection_text l
 event_text n (event.Limit most) = limit_text n most
+event_text n (event.Waits b) = waits_text b
 event_text n (event.Table line words) = table_text line words.now
 event_text n (event.Closed stream None) = closed_text stream
 event_text n (event.Closed stream (Some code)) = aborted_text stream code

@@ -25,6 +25,8 @@ pub enum Event<'a> {
         /// The new packet limit, in units.
         most: u64,
     },
+    /// An end waits at a limit of its peer.
+    Waits(Blocked),
     /// A line of a connector's table is bad.
     Table {
         /// The number of the line, from 1.
@@ -137,6 +139,32 @@ pub enum Cause<'a> {
     NoMemory,
 }
 
+/// A limit of the peer at which an end waits: what it tells in a Blocked frame (RFC 0029, section 5.3).
+#[derive(Clone, Copy, Debug, PartialEq, Eq)]
+pub enum Blocked {
+    /// The limit on the bytes of all streams together.
+    ConnectionData {
+        /// The most bytes.
+        limit: u64,
+    },
+    /// The limit on the bytes of a stream.
+    StreamData {
+        /// The number of the stream.
+        stream: u64,
+        /// The most bytes.
+        limit: u64,
+    },
+    /// The receive max of a stream.
+    StreamMoney {
+        /// The number of the stream.
+        stream: u64,
+        /// The most units that the peer takes on it.
+        receive_max: u64,
+        /// The units that were paid on it.
+        total: u64,
+    },
+}
+
 /// What became of a connection on which no request was answered.
 #[derive(Clone, Copy, Debug, PartialEq, Eq)]
 pub enum Lost {
@@ -201,10 +229,12 @@ pub enum Kind {
     More,
     /// `end`
     End,
+    /// `waits`
+    Waits,
 }
 
 /// How many kinds there are.
-pub(crate) const KINDS: usize = 10;
+pub(crate) const KINDS: usize = 11;
 
 impl Event<'_> {
     /// The kind of the event: the word with which its line begins.
@@ -217,6 +247,7 @@ impl Event<'_> {
             Event::Refused { .. } => Kind::Refused,
             Event::Connection(_) => Kind::Connection,
             Event::Limit { .. } => Kind::Limit,
+            Event::Waits(_) => Kind::Waits,
             Event::Table { .. } => Kind::Table,
             Event::Closed { .. } => Kind::Closed,
             Event::End(_) | Event::Account(_) | Event::Rejects { .. } => Kind::Totals,
@@ -239,12 +270,13 @@ impl Kind {
         Kind::Totals,
         Kind::More,
         Kind::End,
+        Kind::Waits,
     ];
 
     /// The place of the kind among all kinds.
     pub(crate) fn place(self) -> usize
         ensures place { result ≡ spec.place_of self }
-        ensures few { result < 10 }
+        ensures few { result < 11 }
     {
         match self {
             Kind::Start => 0,
@@ -257,6 +289,7 @@ impl Kind {
             Kind::Totals => 7,
             Kind::More => 8,
             Kind::End => 9,
+            Kind::Waits => 10,
         }
     }
 
@@ -275,6 +308,7 @@ impl Kind {
             Kind::Totals => "totals",
             Kind::More => "more",
             Kind::End => "end",
+            Kind::Waits => "waits",
         }
     }
 }

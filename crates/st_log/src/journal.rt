@@ -18,15 +18,33 @@ const TRIES: u32 = 200;
 /// How many milliseconds pass between two of these looks.
 const PAUSE: u64 = 1;
 
+/// Whether a writer takes a line now.
+pub trait Readiness {
+    /// Whether a write would not wait for whoever reads. True also where the write would fail.
+    fn is_ready(&self) -> bool;
+}
+
+/// A writer that never waits.
+#[derive(Clone, Copy, Debug, PartialEq, Eq)]
+pub struct AlwaysReady;
+
+impl Readiness for AlwaysReady {
+    fn is_ready(&self) -> bool {
+        true
+    }
+}
+
 /// A log: a writer that many threads share, with at most ten lines a second of one kind from one neighbour.
 ///
-/// A line is made while no lock is held, and its writing alone holds one. No thread waits for another here for longer than a
-/// fifth of a second: what cannot be written by then is counted as left out. A write that fails ends the log, and nothing else.
+/// A line is made while no lock is held, and its writing alone holds one. Where the writer does not take it at once, and where
+/// another thread is here for a fifth of a second, it is counted as left out. The last line of a run waits as long for the
+/// writer. A write that fails ends the log, and nothing else.
 #[derive(Drop)]
-pub struct Journal<W> {
+pub struct Journal<W, P> {
     alloc: Global,
     pace: Mutex<Pace>,
     outlet: Mutex<Outlet<W>>,
+    readiness: P,
     has_failed: AtomicBool,
     /// Events that could not be counted by their kind, since the counts were in use for too long.
     missed: AtomicU64,
@@ -50,18 +68,25 @@ fn second_of(moment: Moment) -> u64 {
 
 // Each function here that takes a lock lets it go before it returns.
 
-impl<W: Write> Journal<W> {
-    /// A log that writes to `writer`, behind what stands there. `last` is the greatest number of a neighbour: 0 but for a
-    /// connector. Fails where memory is refused.
-    pub fn new(alloc: Global, writer: W, last: u32) -> Result<Journal<W>, AllocError>
+impl<W: Write, P: Readiness> Journal<W, P> {
+    /// A log that writes to `writer`, behind what stands there, where `readiness` says that it takes a line. `last` is the
+    /// greatest number of a neighbour: 0 but for a connector. Fails where memory is refused.
+    pub fn new(
+        alloc: Global,
+        writer: W,
+        readiness: P,
+        last: u32,
+    ) -> Result<Journal<W, P>, AllocError>
     where
         W: Drop,
+        P: Drop,
     {
         let pace = Pace::new(alloc, last)?;
         Ok(Journal {
             alloc,
             pace: Mutex::new(pace),
             outlet: Mutex::new(Outlet::new(writer)),
+            readiness,
             has_failed: AtomicBool::new(false),
             missed: AtomicU64::new(0),
         })
@@ -179,7 +204,22 @@ impl<W: Write> Journal<W> {
         }
     }
 
-    /// Writes a line. False where it is to be counted as left out: memory is refused, or another thread writes for too long.
+    /// Whether the writer takes the line of an event: of a command's end within a fifth of a second, else at once.
+    fn takes<C: Clock>(&self, clock: &C, kind: Kind) -> bool {
+        if kind != Kind::End {
+            return self.readiness.is_ready();
+        }
+        for _ in 0..TRIES {
+            if self.readiness.is_ready() {
+                return true;
+            }
+            thread::sleep(clock, Duration::from_millis(PAUSE));
+        }
+        false
+    }
+
+    /// Writes a line. False where it is to be counted as left out: memory is refused, another thread writes for too long, or the
+    /// writer does not take it.
     fn write<C: Clock>(&self, clock: &C, now: Moment, neighbour: usize, event: &Event<'_>) -> bool {
         let Ok(text) = line(self.alloc, now, neighbour, event) else {
             return false;
@@ -187,6 +227,9 @@ impl<W: Write> Journal<W> {
         let Some(mut outlet) = within(clock, &self.outlet) else {
             return false;
         };
+        if !self.takes(clock, event.kind()) {
+            return false;
+        }
         if !outlet.put(&text) {
             self.has_failed.store(true, Ordering::SeqCst);
         }

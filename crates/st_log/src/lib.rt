@@ -1,8 +1,9 @@
 //! The log of `send`, `receive` and `connector`: one line for each event.
 //!
 //! `Event` has what can happen, and `line` the text of one. A `Journal` is a writer that many threads share. It writes at
-//! most ten lines a second of one kind from one neighbour, counts the others, and tells their number in a line of its own.
-//! specs/Lines.antt has the text of each line, and specs/Pacing.antt says which are written.
+//! most ten lines a second of one kind from one neighbour, counts the others, and tells their number in a line of its own. So
+//! are those counted for which its writer would wait. specs/Lines.antt has the text of each line, and specs/Pacing.antt says
+//! which are written.
 #![tactic(auto)]
 
 mod date;
@@ -11,11 +12,13 @@ mod journal;
 mod laws;
 mod outlet;
 mod pace;
+mod progress;
 mod quote;
 mod text;
 
-pub use event::{AccountCounts, Cause, EndCounts, Event, Kind, Lost, Start};
-pub use journal::Journal;
+pub use event::{AccountCounts, Blocked, Cause, EndCounts, Event, Kind, Lost, Start};
+pub use journal::{AlwaysReady, Journal, Readiness};
 pub use laws::{events_are_counted, line_has_one_newline, ten_a_second};
 pub use pace::{LINES_A_SECOND, Left, Pace, Verdict};
+pub use progress::{Brief, Progress, shown};
 pub use text::line;

@@ -2,7 +2,8 @@
 
 ghost use Rattle.std.specs.Prelude.{◌≡◌, true, false, not, IsTrue};
 ghost use Rattle.std.specs.Io.KnownBytes.{Appends};
-ghost use Rattle.st_oer.specs.Tallies.{device_of};
+ghost use Rattle.st_log.specs.Failing.{Fails};
+ghost use Rattle.st_oer.specs.Tallies.{device_of, tally_of};
 
 use st_oer::{Counting, put_all};
 use std::io::Write;
@@ -36,6 +37,7 @@ impl<W: Write> Outlet<W> {
         ensures ended { self.old.failed ≡ true → self.new ≡ self.old }
         ensures told { self.new.failed ≡ not result }
         ensures whole { IsTrue result → Appends (W.contents (device_of self.old.stream)) (W.contents (device_of self.new.stream)) text.now }
+        ensures why { self.old.failed ≡ false → self.new.failed ≡ true → Fails (tally_of self.old.stream) (tally_of self.new.stream) }
     {
         if self.failed {
             return false;

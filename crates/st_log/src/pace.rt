@@ -109,7 +109,7 @@ impl Pace {
     /// Nothing was counted. `last` is the greatest number of a neighbour.
     pub fn new(alloc: Global, last: u32) -> Result<Pace, AllocError>
         ensures last { IfOk result (λ pace. pace.last ≡ last) }
-        ensures slots { IfOk result (λ pace. pace.slots.items ≡ replicate ((last + 1) * 10) empty) }
+        ensures slots { IfOk result (λ pace. pace.slots.items ≡ replicate ((last + 1) * 11) empty) }
     {
         let count = (last as usize + 1) * KINDS;
         let slots = Vec::from_elem(alloc, Slot::empty(), count)?;
@@ -127,7 +127,7 @@ impl Pace {
     /// Else it is counted.
     pub fn lets(&mut self, kind: Kind, neighbour: usize, second: u64) -> Verdict
         ensures last { self.new.last ≡ self.old.last }
-        ensures paced { MatchOption (slice_get self.old.slots.items (slot_place self.old.last kind neighbour)) (self.new.slots.items ≡ self.old.slots.items)
+        ensures paced { MatchOption (slice_get self.old.slots.items (slot_place self.old.last kind neighbour)) ((self.new.slots.items ≡ self.old.slots.items) × (result ≡ Verdict.Write 0))
             (λ old. (new : spec.Slot) × Paces old second result new × (self.new.slots.items ≡ slice_set self.old.slots.items (slot_place self.old.last kind neighbour) new)) }
     {
         let place = self.place(kind, neighbour);
@@ -152,7 +152,7 @@ impl Pace {
     /// Tells events that were left out, from one place: those are told then. `None` where none are left out there.
     pub fn tell(&mut self, kind: Kind, neighbour: usize) -> Option<Left>
         ensures last { self.new.last ≡ self.old.last }
-        ensures told { MatchOption (slice_get self.old.slots.items (slot_place self.old.last kind neighbour)) (self.new.slots.items ≡ self.old.slots.items)
+        ensures told { MatchOption (slice_get self.old.slots.items (slot_place self.old.last kind neighbour)) ((self.new.slots.items ≡ self.old.slots.items) × (result ≡ None))
             (λ old. (new : spec.Slot) × Tells old (spec.told_in result) new × (self.new.slots.items ≡ slice_set self.old.slots.items (slot_place self.old.last kind neighbour) new)) }
         ensures whose { IfSome result (λ left. (left.kind ≡ kind) × (left.neighbour ≡ neighbour) × (0 < left.count)) }
     {

@@ -4,7 +4,7 @@ ghost use Rattle.std.specs.Prelude.{◌≡◌, ◌++◌, IfOk, string_bytes};
 ghost use Rattle.st_log.specs.Lines as spec;
 
 use crate::date::date_text;
-use crate::event::{AccountCounts, Cause, EndCounts, Event, Kind, Lost, Start};
+use crate::event::{AccountCounts, Blocked, Cause, EndCounts, Event, Kind, Lost, Start};
 use crate::quote::{code_text, quoted};
 use st_ilp::Moment;
 use std::alloc::{AllocError, Global};
@@ -217,6 +217,29 @@ fn limit_text(alloc: Global, neighbour: usize, most: u64) -> Result<String, Allo
     Ok(text)
 }
 
+fn waits_text(alloc: Global, blocked: Blocked) -> Result<String, AllocError>
+    ensures { IfOk result (λ text. string_bytes text ≡ spec.waits_text blocked) }
+{
+    let text = match blocked {
+        Blocked::ConnectionData { limit } => {
+            format!(in alloc; "waits at=connection-data limit={limit}\n")?
+        }
+        Blocked::StreamData { stream, limit } => {
+            format!(in alloc; "waits at=stream-data stream={stream} limit={limit}\n")?
+        }
+        Blocked::StreamMoney {
+            stream,
+            receive_max,
+            total,
+        } => {
+            format!(in alloc;
+                "waits at=stream-money stream={stream} receive_max={receive_max} total={total}\n"
+            )?
+        }
+    };
+    Ok(text)
+}
+
 fn table_text(alloc: Global, line: usize, words: &str) -> Result<String, AllocError>
     ensures { IfOk result (λ text. string_bytes text ≡ spec.table_text line words.now) }
 {
@@ -343,6 +366,7 @@ fn event_text(alloc: Global, neighbour: usize, event: &Event<'_>) -> Result<Stri
         } => reason_text(alloc, neighbour, &code, reason),
         Event::Connection(lost) => connection_text(alloc, lost),
         Event::Limit { most } => limit_text(alloc, neighbour, most),
+        Event::Waits(blocked) => waits_text(alloc, blocked),
         Event::Table { line, words } => table_text(alloc, line, words),
         Event::Closed { stream, code: None } => closed_text(alloc, stream),
         Event::Closed {

@@ -1,12 +1,13 @@
 -- What is kept beside its owner: values that are to be spent once, and the ledgers of streams by number.
-use Rattle.std.specs.Prelude.{◌≡◌, ◌≢◌, ◌<◌, ℕ, ◌+◌, List, [], ◌∷◌, length, slice_get, slice_index_or}
+use Rattle.std.specs.Prelude.{◌≡◌, ℕ, ◌+◌, List, [], ◌∷◌, nat_eq, slice_get}
 use Rattle.std.specs.List.{remove}
 use Rattle.std.specs.declared.option.Option.{Option}
 use Rattle.std.specs.declared.option.Option.TheVariants.{None, Some}
 use Rattle.std.specs.Ordering.{nat_cmp}
 use Rattle.std.specs.FinMap as fmap
+use Rattle.indexmap.specs.IndexMap.{IndexMap, get}
 use Rattle.st_hop.specs.declared.ticket.Open.{Open}
-use Rattle.st_hop.specs.Tickets.{ticket_at, without}
+use Rattle.st_hop.specs.Tickets.{ticket_at}
 use Rattle.st_end.specs.declared.flight.Open as flights
 use Rattle.st_world.specs.Ledgers.{Ledger}
 
@@ -22,11 +23,9 @@ AreKept conditions kept = (n : ℕ) (condition : List ℕ) → fmap.get conditio
 abbrev pub IsTaken : {A : Type 0} → (xs : List A) → A → (ys : List A) → Type 0
 IsTaken xs x ys = (i : ℕ) × (slice_get xs i ≡ Some x) × (ys ≡ remove xs i)
 
--- the ticket of the number stands there, and the others are the rest
-pub record IsTicketPlace (ts : List Open) (number i : ℕ) : Type 0 where
-  pub in_range : i < length ts
-  pub stands : (d : Open) → ticket_at ts number ≡ Some (slice_index_or ts i d)
-  pub rest : remove ts i ≡ without ts number
+-- the ticket that is open under a number is kept under it, and no other is
+abbrev pub AreByNumber : {S : Type 0} → IndexMap ℕ Open S → List Open → Type 0
+AreByNumber kept tickets = (n : ℕ) → get nat_eq kept n ≡ ticket_at tickets n
 
 -- ledgers in a list by number, as a map of those that there are
 abbrev pub put_if : Option Ledger → ℕ → fmap.FinMap nat_cmp Ledger → fmap.FinMap nat_cmp Ledger

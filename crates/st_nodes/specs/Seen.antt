@@ -8,7 +8,7 @@ use Rattle.st_nodes.specs.declared.side.Side.TheVariants.{Client, Server}
 use Rattle.st_nodes.specs.declared.side.Way.{Way}
 use Rattle.st_nodes.specs.declared.side.Way.TheVariants.{ToServer, ToClient}
 use Rattle.st_nodes.specs.declared.told.Told.{Told}
-use Rattle.st_nodes.specs.declared.told.Told.TheVariants.{Nothing, Call, Opened, Gave, Sent, Answered, Replied, Went, NoMemory}
+use Rattle.st_nodes.specs.declared.told.Told.TheVariants.{Nothing, Call, Took, Opened, Gave, Sent, Answered, Replied, Went, NoMemory}
 
 abbrev pub side_seen : Side → sides.Side
 side_seen Client = sides.Client
@@ -22,6 +22,7 @@ way_seen ToClient = sides.Server
 abbrev pub told_seen : {X : Type 0} → Told X → events.Told
 told_seen Nothing = events.Silent
 told_seen (Call result) = events.Call result
+told_seen (Took taken) = events.Took taken
 told_seen (Opened result) = events.Opened result
 told_seen (Gave got) = events.Gave (read_seen got)
 told_seen Sent = events.Sent

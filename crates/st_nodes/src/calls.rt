@@ -15,6 +15,9 @@ use st_end::{EndError, EndState};
 use st_receiver::Got;
 use std::alloc::{AllocError, Allocator};
 
+/// The most bytes that a read gives: a stream's window.
+const MAX_READ: usize = 65_536;
+
 /// A write, with the place of the stream's ledger.
 fn write_slot<A: Allocator + Copy>(
     state: &mut EndState<A>,
@@ -106,7 +109,8 @@ fn read_slot<A: Allocator + Copy>(
     ensures same_state { OnErr result (state.new ≡ state.old) }
     ensures same_slot { OnErr result (slot.new ≡ slot.old) }
 {
-    slot.ledger.read.reserve(max)?;
+    let room = max.min(MAX_READ);
+    slot.ledger.read.reserve(room)?;
     match state.read(stream, max) {
         Ok(Got::Bytes(bytes)) => {
             slot.ledger.read.extend_from_slice(&bytes).unwrap();
@@ -194,7 +198,7 @@ pub fn offer_at<A: Allocator + Copy>(
 
 /// Calls `EndState::read` at an end, of at most `max` bytes. `ledgers` are those of the streams that its peer writes.
 /// The result is in `Told::Gave`, or `Told::NoMemory` where the call found no memory. Fails where memory for the record
-/// is refused, and then nothing has changed.
+/// is refused, and then nothing has changed. That is room for the lesser of `max` and 65,536 bytes: no read gives more.
 pub fn read_at<A: Allocator + Copy>(
     party: &mut Party<A>,
     ledgers: &mut Ledgers<A>,

@@ -128,6 +128,13 @@ impl<A: Allocator + Copy> Given<A> {
         self.bytes.as_slice()
     }
 
+    /// Whether the one who sent the Prepare booked it as fulfilled by this answer.
+    pub fn is_taken(&self) -> bool
+        ensures { result ≡ self.now.taken }
+    {
+        self.taken
+    }
+
     /// Gives the bytes of the answer away.
     pub fn into_bytes(self) -> Vec<u8, A>
         ensures { result.items ≡ self.bytes }
@@ -166,16 +173,30 @@ impl<A: Allocator + Copy> Lane<A> {
         }
     }
 
-    /// The k-th Prepare that was put there, from 1.
-    fn put(&self, which: usize) -> Option<&Put<A>>
+    /// The Prepares that were sent in it, in order.
+    pub fn prepares(&self) -> &[Put<A>]
+        ensures { result.now ≡ self.now.puts }
+    {
+        self.puts.as_slice()
+    }
+
+    /// The answers that were sent back to them, in order.
+    pub fn answers(&self) -> &[Given<A>]
+        ensures { result.now ≡ self.now.given }
+    {
+        self.given.as_slice()
+    }
+
+    /// The Prepare of this number, from 1. `None` where there is none.
+    pub fn prepare(&self, which: usize) -> Option<&Put<A>>
         ensures { MatchOption result (nth self.now.puts which ≡ None) (λ p. nth self.now.puts which ≡ Some p.now) }
     {
         let place = which.checked_sub(1)?;
         self.puts.get(place)
     }
 
-    /// The j-th answer that was given there, from 1.
-    fn answer(&self, which: usize) -> Option<&Given<A>>
+    /// The answer of this number, from 1. `None` where there is none.
+    pub fn answer(&self, which: usize) -> Option<&Given<A>>
         ensures { MatchOption result (nth self.now.given which ≡ None) (λ g. nth self.now.given which ≡ Some g.now) }
     {
         let place = which.checked_sub(1)?;
@@ -240,7 +261,7 @@ pub fn copy_put<A: Allocator + Copy>(
     let Some(link) = links.get(link) else {
         return Ok(None);
     };
-    let Some(put) = link.lane(way).put(which) else {
+    let Some(put) = link.lane(way).prepare(which) else {
         return Ok(None);
     };
     Ok(Some(Put {

@@ -1,21 +1,22 @@
 //! A hop with its open tickets and its answered Prepares.
 
-ghost use Rattle.std.specs.Prelude.{◌≡◌, [], ◌∷◌, OnErr, IfOk, IfSome, IsNone, None, MatchBool, IsOkUnless, IsErrOf, map, length, nat_lt, slice_index, if◌then◌else◌};
-ghost use Rattle.st_hop.specs.Tickets.{ticket_at, without};
+ghost use Rattle.std.specs.Prelude.{◌≡◌, ◌<◌, ℕ, [], ◌∷◌, OnErr, IfOk, None, Some, MatchBool, IsOkUnless, IsErrOf, map, length, nat_eq, nat_lt, slice_index, if◌then◌else◌};
+ghost use Rattle.indexmap.specs.IndexMap.{get, spare};
 ghost use Rattle.st_hop.specs.Seen.{outcome_seen};
 ghost use Rattle.st_hop.specs.Seen.{way_seen as hop_way_seen};
 ghost use Rattle.st_hop.specs.Table.{is_table, new_hop};
 ghost use Rattle.st_nodes.specs.Seen.{way_seen, told_seen};
-ghost use Rattle.st_nodes.specs.Kept.{IsTicketPlace};
 ghost use Rattle.st_nodes.specs.Parts.{HopMet, HopBack, HopCrashed};
 
 use crate::entry::{HopEntry, amount_in};
 use crate::lane::{Given, Lane, Put, mark_taken};
 use crate::side::Way;
 use crate::told::Told;
+use indexmap::IndexMap;
 use st_hop::{Account, HopError, HopState, Outcome, Route, Ticket, Verdict, settlements_book};
 use st_ilp::Moment;
 use std::alloc::{AllocError, Allocator};
+use std::hash::{BuildHasherDefault, FoldHasher};
 use std::marker::Model;
 
 /// A ticket that waits for its answer. Where its owner ends it is abandoned.
@@ -45,12 +46,6 @@ impl KeptTicket {
         KeptTicket { ticket }
     }
 
-    fn number(&self) -> u64
-        ensures { result ≡ self.now.number }
-    {
-        self.ticket.read().number
-    }
-
     fn spend(self) -> Ticket
         ensures { result ≡ self }
     {
@@ -59,26 +54,24 @@ impl KeptTicket {
     }
 }
 
-/// Where the ticket of a number stands.
-fn place_of(kept: &[KeptTicket], number: u64) -> Option<usize>
-    ensures found { IfSome result (IsTicketPlace kept.now number) }
-    ensures absent { IsNone result → ticket_at kept.now number ≡ None }
+/// Tickets that wait for their answers, each under its number.
+type Tickets<A> = IndexMap<u64, KeptTicket, BuildHasherDefault<FoldHasher>, A>;
+
+/// Keeps a ticket. There is room for it.
+fn keep_ticket<A: Allocator + Copy>(kept: &mut Tickets<A>, ticket: Ticket)
+    requires { 0 < spare kept.old }
+    ensures { (n : ℕ) → get nat_eq kept.new n ≡ (if nat_eq ticket.number n then Some ticket else get nat_eq kept.old n) }
 {
-    for (i, one) in kept.iter().enumerate() {
-        if one.number() == number {
-            return Some(i);
-        }
-    }
-    None
+    let number = ticket.read().number;
+    let _replaced = kept.insert(number, KeptTicket::new(ticket)).unwrap();
 }
 
 /// Takes out the ticket of a number.
-fn take_ticket<A: Allocator>(kept: &mut Vec<KeptTicket, A>, number: u64) -> Option<Ticket>
-    ensures found { result ≡ ticket_at kept.old.items number }
-    ensures rest { kept.new.items ≡ without kept.old.items number }
+fn take_ticket<A: Allocator + Copy>(kept: &mut Tickets<A>, number: u64) -> Option<Ticket>
+    ensures found { result ≡ get nat_eq kept.old number }
+    ensures rest { (n : ℕ) → get nat_eq kept.new n ≡ (if nat_eq number n then None else get nat_eq kept.old n) }
 {
-    let place = place_of(kept, number)?;
-    Some(kept.remove(place).spend())
+    Some(kept.swap_remove(&number)?.spend())
 }
 
 /// A hop (RFC 0027), its open tickets, and the Prepares that it answered. A ticket stands for a Prepare that was
@@ -86,7 +79,7 @@ fn take_ticket<A: Allocator>(kept: &mut Vec<KeptTicket, A>, number: u64) -> Opti
 #[derive(Drop)]
 pub struct Node<A: Allocator + Copy> {
     state: HopState<A>,
-    kept: Vec<KeptTicket, A>,
+    kept: Tickets<A>,
     bag: Vec<HopEntry, A>,
     alloc: A,
 }
@@ -94,6 +87,7 @@ pub struct Node<A: Allocator + Copy> {
 impl<A: Allocator + Copy> Model for Node<A> {
     ghost use Rattle.std.specs.Prelude.{◌≡◌, length};
     ghost use Rattle.st_world.specs.State as world;
+    ghost use Rattle.st_nodes.specs.Kept.{AreByNumber};
     ghost use Rattle.std.specs.Coded.{codes};
 
     ghost Value = { world.Node };
@@ -102,7 +96,7 @@ impl<A: Allocator + Copy> Model for Node<A> {
 
     ghost view = { λ a. record { state = a.state; bag = a.bag.items } };
 
-    ghost invariant = { λ a. (a.kept.items ≡ a.state.tickets) × (length a.state.accounts ≡ 2) };
+    ghost invariant = { λ a. AreByNumber a.kept a.state.tickets × (length a.state.accounts ≡ 2) };
 }
 
 impl<A: Allocator + Copy> Node<A> {
@@ -121,7 +115,7 @@ impl<A: Allocator + Copy> Node<A> {
         let state = HopState::new(alloc, own, &[account, account], routes)?;
         Ok(Node {
             state,
-            kept: Vec::new(alloc),
+            kept: Tickets::with_hasher(alloc, BuildHasherDefault::<FoldHasher>::new()),
             bag: Vec::new(alloc),
             alloc,
         })
@@ -190,6 +184,7 @@ pub fn arrive_at<A: Allocator + Copy>(
         amount_out: amount,
         fulfilled: false,
     };
+    node.state.is_lawful();
     match node.state.arrive(way.account(), bytes, now) {
         Ok(
             Verdict::Forward {
@@ -199,7 +194,7 @@ pub fn arrive_at<A: Allocator + Copy>(
             },
         ) => {
             let put = Put::of_ticket(&ticket.read(), bytes, which);
-            node.kept.push(KeptTicket::new(ticket)).unwrap();
+            keep_ticket(&mut node.kept, ticket);
             next.puts.push(put).unwrap();
             Ok(Told::Went)
         }
@@ -240,6 +235,7 @@ pub fn settle_at<A: Allocator + Copy>(
         return Ok(Told::Nothing);
     };
     settlements_book();
+    node.state.is_lawful();
     let open = ticket.read();
     let booked = outcome.books(&ticket, now);
     let bytes = node.state.settle(ticket, outcome, now);

@@ -1,10 +1,12 @@
 //! An end with its open flights and its answered Prepares.
 
-ghost use Rattle.std.specs.Prelude.{◌≡◌, ◌≢◌, ◌<◌, ℕ, true, false, OnErr, IfOk, IfSome, IsNone, MatchOption, Some, None, slice_get, nat_eq, bytes_eq, ◌&&◌, IsOkUnless};
+ghost use Rattle.std.specs.Prelude.{◌≡◌, ◌≢◌, ◌<◌, ℕ, true, false, OnErr, IfOk, IfSome, IsNone, MatchOption, Some, None, slice_get, nat_eq, bytes_eq, is_ok, ◌&&◌, IsOkUnless};
 ghost use Rattle.std.specs.List.{remove};
 ghost use Rattle.st_hop.specs.Seen.{outcome_seen};
 ghost use Rattle.st_oer.specs.Address.{is_address};
 ghost use Rattle.st_end.specs.State.{new_end};
+ghost use Rattle.st_end.specs.Calls.{has_stream};
+ghost use Rattle.st_end.specs.Reading.{read};
 ghost use Rattle.st_end.specs.Seen.{totals_seen};
 ghost use Rattle.st_end.specs.Totals as totals;
 ghost use Rattle.st_end.specs.Sending.{is_open};
@@ -183,6 +185,15 @@ impl<A: Allocator + Copy> Party<A> {
         self.state.is_failed()
     }
 
+    /// Whether a stream is open. A call on one that is not is refused with `NoStream`. Does not allocate.
+    pub fn has_stream(&self, stream: u8) -> bool
+        ensures has { result ≡ has_stream self.now.state stream }
+        ensures reads { (limit : ℕ) → is_ok (read self.now.state stream limit).0 ≡ result }
+    {
+        self.state.reads_what_is_open();
+        self.state.has_stream(stream)
+    }
+
     /// The end's totals: bytes written and read, amounts credited and paid. Does not allocate.
     pub fn totals(&self) -> Totals
         ensures { totals_seen result ≡ totals.totals self.now.state }
@@ -270,8 +281,9 @@ pub fn arrive_at_end<A: Allocator + Copy>(
     }
 }
 
-/// The outcome of a Prepare that an end sent on the lane. Where its flight is open, the outcome is taken. Where it is
-/// the answer number `which` of the lane and was taken as the Fulfill, that is noted. Does not allocate.
+/// The outcome of a Prepare that an end sent on the lane. Where its flight is open, the outcome is taken, and the
+/// result is `Told::Took`. Where it is the answer number `which` of the lane and was taken as the Fulfill, that is
+/// noted. Does not allocate.
 pub fn settle_at_end<A: Allocator + Copy>(
     party: &mut Party<A>,
     lane: &mut Lane<A>,
@@ -290,12 +302,12 @@ pub fn settle_at_end<A: Allocator + Copy>(
         Outcome::Answered(mut bytes) => {
             let taken = party.state.answer(flight, bytes.as_mut_slice());
             mark_taken(&mut lane.given, which, taken);
-            Told::Call(Ok(()))
+            Told::Took(taken)
         }
         Outcome::Fault => {
             party.state.fault(flight);
             mark_taken(&mut lane.given, which, false);
-            Told::Call(Ok(()))
+            Told::Took(false)
         }
     }
 }

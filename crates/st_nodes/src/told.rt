@@ -4,14 +4,17 @@ use st_end::EndError;
 use st_receiver::Got;
 use std::alloc::Allocator;
 
-/// The result of an event: what the end or the hop answered. The bytes of a Prepare or an answer that was sent are the
-/// last of their list on the link.
+/// The result of an event: what the end or the hop answered. A Prepare or an answer that was sent is the last of its
+/// list on the link.
 #[derive(Drop)]
 pub enum Told<A: Allocator + Copy> {
     /// An end had nothing to send, or there was no call.
     Nothing,
-    /// The result of a call on a stream; or an end took an outcome.
+    /// The result of a call on a stream. A write that is `Ok` took all of its bytes.
     Call(Result<(), EndError>),
+    /// An end learned the outcome of a Prepare: whether it was the Fulfill (RFC 0027) with the fitting fulfillment, by
+    /// which the end booked what the Prepare carried.
+    Took(bool),
     /// The number of the stream that was opened.
     Opened(Result<u8, EndError>),
     /// The result of a read.

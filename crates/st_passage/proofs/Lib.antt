@@ -11,3 +11,4 @@ pub mod Streams
 pub mod Begun
 pub mod Telling
 pub mod Plays
+pub mod Witness

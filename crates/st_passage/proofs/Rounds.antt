@@ -1,5 +1,5 @@
 -- A round of events in a world at rest is a crossing, reads and writes.
-use Rattle.std.proofs.Common.{append_assoc, take, drop, nat_eq, inl, inr, ◌≡◌, ℕ, zero, suc, ◌+◌, ◌-◌, ◌*◌, ◌<◌, ◌≤◌, Bool, true, false, List, [], ◌∷◌, ◌++◌, length, map, get_or, refl, sym, ap, subst, ◌∙◌, arith, ℤ, Option, None, Some, Result, Ok, Err}
+use Rattle.std.proofs.Common.{append_assoc, take, drop, nat_eq, inl, inr, ◌≡◌, ℕ, zero, suc, ◌+◌, ◌-◌, ◌*◌, ◌<◌, ◌≤◌, Bool, true, false, List, [], ◌∷◌, ◌++◌, length, map, get_or, slice_get, refl, sym, ap, subst, ◌∙◌, arith, ℤ, Option, None, Some, Result, Ok, Err}
 use Rattle.std.proofs.Math.Seq.{drop-append_seam}
 use Rattle.std.proofs.lemmas.List.{take-append-drop}
 use Rattle.std.proofs.lemmas.Bool.{cases_eq}
@@ -7,7 +7,7 @@ use Rattle.std.specs.Ordering.{nat_cmp}
 use Rattle.std.specs.FinMap as fmap
 use Rattle.st_receiver.specs.Reading.{Aborted, Bytes, End, Nothing, Got}
 use Rattle.st_world.specs.Sides.{Both, IsPrefixOf, Client, Server, at}
-use Rattle.st_world.specs.State.{with_ledger, ledger_at, World, end_at, no_lanes, with_end}
+use Rattle.st_world.specs.State.{with_ledger, ledger_at, Node, World, end_at, no_lanes, with_end}
 use Rattle.st_world.specs.Ledgers.{got, ledger_or, Ledger}
 use Rattle.st_world.proofs.Maps.{get_apart, get_here}
 use Rattle.st_sender.specs.declared.error.OutboxError.{OutboxError}
@@ -19,9 +19,9 @@ use Rattle.st_receiver.specs.Streams.{incoming_at}
 use Rattle.st_tables.proofs.SlotLemmas.{slot_cases}
 use Rattle.st_end.specs.Calls.{done, refusal, refusal_at, Answer, close, write}
 use Rattle.st_world.specs.Events.{Event, Send, Sent, Close}
-use Rattle.st_world.specs.Runs.{Chain, Run, opening}
+use Rattle.st_world.specs.Runs.{Chain, Run, is_chain, opening}
 use Rattle.st_world.proofs.DataSent.{OutFine}
-use Rattle.st_world.proofs.EveryRun.{reached}
+use Rattle.st_world.proofs.EveryRun.{hops_lawful, reached}
 use Rattle.st_quiet.specs.Exchanges.{IsModest}
 use Rattle.st_quiet.specs.Calls.{lengths, closed_if, fitting, take_each, write_each, written_at, written_on}
 use Rattle.st_quiet.proofs.Replies.{acked_is_sent}
@@ -36,6 +36,7 @@ use Rattle.st_ilp.specs.Spelling.{prepare_text}
 use Rattle.st_ilp.specs.Laws.{IsPrepare}
 use Rattle.st_ilp.proofs.DateFinding.{is_not_le}
 use Rattle.st_hop.specs.Hop.{Hop}
+use Rattle.st_hop.specs.Lawful.{IsLawful}
 use Rattle.st_hop.specs.Tickets.{ticket_at}
 use Rattle.st_hop.specs.Arriving.{hop_time}
 use Rattle.st_hop.proofs.Sums.{same_test}
@@ -177,6 +178,11 @@ reached_met c events w v r run = (r.0 ++ events, run_on r.0 events (opening c) w
 pub reached_first : (c : Chain) → IsReachedBy c (opening c)
 unfolding IsReachedBy
 reached_first c = ([], refl)
+
+-- the hops of a lawful chain stay lawful
+pub reached_lawful : (c : Chain) (w : World) → is_chain c ≡ true → IsReachedBy c w → (i : ℕ) (n : Node) → slice_get w.nodes i ≡ Some n → IsLawful n.state × (length n.state.accounts ≡ 2)
+unfolding IsReachedBy
+reached_lawful c w lawful r = hops_lawful c r.0 w lawful r.1
 
 abbrev pub acked_of : Option Outgoing → ℕ
 acked_of None = 0

@@ -32,11 +32,12 @@ ghost use Rattle.st_world.specs.Steps.{Step};
 ghost use Rattle.st_passage.specs.Chains.{Crossing, Crossings, Stands};
 ghost use Rattle.st_world.specs.Sides.{Server};
 ghost use Rattle.st_world.specs.State.{end_at, lane_at, ledger_at};
-ghost use Rattle.st_world.specs.Runs.{Chain, opening};
+ghost use Rattle.st_oer.specs.Address.{is_address};
+ghost use Rattle.st_world.specs.Runs.{Chain, is_chain, opening};
 ghost use Rattle.st_end.specs.Sending.{GoesNone};
 ghost use Rattle.st_end.specs.Calls.{open_stream};
 ghost use Rattle.st_passage.specs.Rounds.{BeginsEach, MayRun, QuietRun, allows, opening_client, reads};
-ghost use Rattle.st_passage.specs.Worlds.{AllForward, HasCrossed, IsAtRest, Met, passing};
+ghost use Rattle.st_passage.specs.Worlds.{AllForward, HasCrossed, HasPassed, IsAtRest, Met, passing};
 ghost use Rattle.st_passage.specs.Plays.{IsDelivered, MayPlay, are_lawful, input_of, money_of, most_sends, sends_needed};
 
 /// A calm hop forwards a Prepare that arrives in time unchanged, except that it expires a second earlier. It sends the
@@ -88,6 +89,16 @@ pub fn a_prepare_crosses_a_world()
     ensures { (w mid v : World) (e f : EndState) (hops : List Hop) (count : ℕ) (iv : List ℕ) (now : ℤ) → IsAtRest w e hops f count
         → ((flight : flights.Open) (bytes : List ℕ) (gone : EndState) → Goes e iv now flight bytes gone → AllForward hops bytes now)
         → Step w (Send Client iv now) Sent mid → Met mid (passing (length hops) (count + 1) now) v → HasCrossed w e hops f count iv now v }
+{}
+
+/// Runs exist in which a Prepare crosses a chain. Take a lawful chain with room for it (`MayPlay`) whose server has an
+/// ILP address. The client may open its first stream and close it. Its Prepare, which carries the StreamClose, arrives
+/// over all hops, and its answer is sent back. This is a lossless run of one round. Each link has one Prepare towards the
+/// server and one answer, and nothing is left to send: the Prepare was fulfilled. So the laws of lossless runs speak of
+/// runs that there are.
+pub fn a_prepare_may_cross()
+    ensures { (c : Chain) (limit : ℕ) → is_chain c ≡ true → is_address c.server ≡ true → MayPlay c ([] ∷ []) (0 ∷ []) → 32739 ≤ limit
+        → (v : World) × QuietRun c (input_of ([] ∷ [])) (money_of (0 ∷ [])) 1 limit 1 v × ((link : ℕ) → link ≤ length v.nodes → HasPassed 1 (lane_at v link Client)) × (work_left (lengths (input_of ([] ∷ []))) (end_at v Client).sending ≡ 0) }
 {}
 
 /// A lossless run of a world, by its events from where nothing has happened, has no more Sends than the bound. Where

@@ -11,5 +11,6 @@ mod laws;
 
 pub use laws::{
     a_calm_hop_passes_on, a_crossing_is_a_turn, a_new_hop_is_calm, a_played_run_delivers,
-    a_prepare_crosses_a_world, a_quiet_run_of_a_world_is_bounded, a_run_over_hops_is_bounded,
+    a_prepare_crosses_a_world, a_prepare_may_cross, a_quiet_run_of_a_world_is_bounded,
+    a_run_over_hops_is_bounded,
 };

@@ -37,7 +37,7 @@ names_counted i (x ∷ xs) = ap suc (names_counted (suc i) xs)
 pub not_restored : (T : Type 0) (own : List ℕ) (ledger : Option (Bor (List ℕ))) (xs : List AccountLine) (rs : List Route) (x : RunError) → IsSome ledger → is_hop own xs rs ≡ true → WhyNotRestored x
     → Serves {T = T} own ledger xs rs (Err x)
 not_restored T own ledger xs rs (run.Fault x) asked made why = why
-not_restored T own ledger xs rs run.NoHop asked made why = tt
+not_restored T own ledger xs rs run.NoHop asked made why = made
 not_restored T own ledger xs rs (run.Ledger e) asked made why = (asked, made)
 not_restored T own ledger xs rs run.NoRandom asked made why = absurd why
 not_restored T own ledger xs rs run.NoListener asked made why = absurd why

@@ -7,6 +7,7 @@ pub mod Settings
 pub mod Table
 pub mod Restored
 pub mod Totals
+pub mod Progress
 pub mod Ledger
 pub mod Explain
 pub mod Endings

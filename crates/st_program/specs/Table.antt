@@ -1,5 +1,5 @@
 -- The table of a connector, in bytes, and how a connector may end by it.
-use Rattle.std.specs.Prelude.{◌≡◌, ◌⊎◌, ℕ, Bool, true, false, List, map, Option, IfSome, IsSome, Result, Ok, Err, ⊤}
+use Rattle.std.specs.Prelude.{◌≡◌, ◌⊎◌, ℕ, Bool, true, false, List, map, Option, IfSome, IsSome, Result, Ok, Err, IsErrOf}
 use Rattle.std.specs.Borrow.{Bor}
 use Rattle.std.specs.Str.Lines.{lines}
 use Rattle.st_oer.specs.Text.{is_utf8}
@@ -23,10 +23,6 @@ pub record SaysTable (bytes : List ℕ) (xs : List AccountLine) (rs : List Route
 -- a hop of this address may have these accounts and routes
 abbrev pub is_hop : List ℕ → List AccountLine → List Route → Bool
 is_hop own xs rs = is_table own (map (λ x. x.terms) xs) (map way_seen rs)
-
--- the bytes are a table
-abbrev pub SpellsTable : List ℕ → Type 0
-SpellsTable bytes = (xs : List AccountLine) × (rs : List Route) × SaysTable bytes xs rs
 
 -- the bytes are a table for a hop of this address
 abbrev pub HasTable : List ℕ → List ℕ → Type 0
@@ -57,7 +53,7 @@ abbrev pub WhyNoHop : List ℕ → List AccountLine → List Route → RunError 
 WhyNoHop own xs rs (run.Fault x) = x ≡ fault.NoMemory
 WhyNoHop own xs rs run.NoRandom = ⊥
 WhyNoHop own xs rs run.NoListener = ⊥
-WhyNoHop own xs rs run.NoHop = ⊤
+WhyNoHop own xs rs run.NoHop = is_hop own xs rs ≡ true
 WhyNoHop own xs rs run.BadTable = is_hop own xs rs ≡ false
 WhyNoHop own xs rs run.BadOption = ⊥
 WhyNoHop own xs rs (run.Transfer e) = ⊥
@@ -70,7 +66,7 @@ Serves own ledger xs rs (Ok x) = is_hop own xs rs ≡ true
 Serves own ledger xs rs (Err (run.Fault x)) = x ≡ fault.NoMemory
 Serves own ledger xs rs (Err run.NoRandom) = ⊥
 Serves own ledger xs rs (Err run.NoListener) = is_hop own xs rs ≡ true
-Serves own ledger xs rs (Err run.NoHop) = ⊤
+Serves own ledger xs rs (Err run.NoHop) = is_hop own xs rs ≡ true
 Serves own ledger xs rs (Err run.BadTable) = is_hop own xs rs ≡ false
 Serves own ledger xs rs (Err run.BadOption) = ⊥
 Serves own ledger xs rs (Err (run.Transfer e)) = is_hop own xs rs ≡ true
@@ -84,8 +80,18 @@ EndsBy own ledger input r s (Ok x) = IfSome input (HasTable own)
 EndsBy own ledger input r s (Err (run.Fault x)) = FailsToRead x r s ⊎ IfSome input (HasTable own)
 EndsBy own ledger input r s (Err run.NoRandom) = ⊥
 EndsBy own ledger input r s (Err run.NoListener) = IfSome input (HasTable own)
-EndsBy own ledger input r s (Err run.NoHop) = IfSome input SpellsTable
+EndsBy own ledger input r s (Err run.NoHop) = IfSome input (HasTable own)
 EndsBy own ledger input r s (Err run.BadTable) = IfSome input (LacksTable own)
 EndsBy own ledger input r s (Err run.BadOption) = ⊥
 EndsBy own ledger input r s (Err (run.Transfer e)) = IfSome input (HasTable own)
 EndsBy own ledger input r s (Err (run.Ledger e)) = IsSome ledger × IfSome input (HasTable own)
+
+-- what comes before a table is read: memory was refused, or the input's reader, r before and s now, counted why it could not be
+abbrev pub FailsFirst : {T : Type 0} → Result T RunError → (r s : Tally) → Type 0
+FailsFirst (Err (run.Fault x)) r s = FailsToRead x r s
+FailsFirst result r s = ⊥
+
+-- a bad table is told exactly where the input is none for a hop of this address, but for what fails first
+pub record TellsBad {T : Type 0} (own : List ℕ) (input : Option (List ℕ)) (r s : Tally) (result : Result T RunError) : Type 0 where
+  pub only : IsErrOf result run.BadTable → IfSome input (λ bytes. ¬ (HasTable own bytes))
+  pub always : IfSome input (λ bytes. ¬ (HasTable own bytes) → IsErrOf result run.BadTable ⊎ FailsFirst result r s)

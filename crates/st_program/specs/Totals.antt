@@ -5,6 +5,8 @@ use Rattle.st_end.specs.Totals.{Totals}
 use Rattle.st_transfer.specs.declared.accounts.AccountTotals.{AccountTotals}
 use Rattle.st_transfer.specs.declared.counts.AccountCounts.{AccountCounts}
 use Rattle.st_transfer.specs.declared.counts.CodeCount.{CodeCount}
+use Rattle.st_program.specs.declared.counts.Line.{Line}
+use Rattle.st_program.specs.declared.counts.Line.TheVariants as lines
 use Rattle.st_program.specs.declared.error.RunError.{RunError}
 use Rattle.st_program.specs.declared.error.RunError.TheVariants as run
 
@@ -50,6 +52,11 @@ code_text x = codes "code " ++ decimal x.account ++ 32 ∷ x.code ++ 32 ∷ deci
 -- the Rejects of an account whose codes have no line: `code 0 other 1` and a newline, or none where there were none
 unfoldable pub other_text : (number : ℕ) → AccountCounts → List ℕ
 other_text n x = if nat_eq x.other 0 then [] else codes "code " ++ decimal n ++ codes " other " ++ decimal x.other ++ 10 ∷ []
+
+-- a line of an account
+abbrev pub line_text : Line → (number : ℕ) → AccountCounts → List ℕ
+line_text lines.Fates = count_text
+line_text lines.OtherCodes = other_text
 
 -- a line for each account, then one for each code of an account, and then those of other codes
 abbrev pub counts_text : List AccountCounts → List CodeCount → List ℕ

@@ -89,6 +89,7 @@ fn serve_by<
         accounts,
         counts,
         overloaded,
+        ..
     } = connector_on(rt, alloc, listener, hop, terms, till, &mut reports.minutes);
     reports.totals = ConnectorTotals {
         accounts,
@@ -173,13 +174,15 @@ fn serve_input<
     ensures { EndsBy settings.now.own.now settings.now.ledger (R.remaining (device_of reader.old)) (tally_of reader.old) (tally_of reader.new) result }
 {
     let bytes = read_whole(alloc, reader)?;
-    match table_in(alloc, &bytes) {
+    let log = reports.log;
+    let ended = match table_in(alloc, &bytes) {
         Ok(table) => serve(rt, opener, alloc, settings, &table, reports),
-        Err(error) => {
-            tell_table(rt, alloc, reports.log, &bytes);
-            Err(error)
-        }
+        Err(error) => Err(error),
+    };
+    if let Err(RunError::BadTable) = ended {
+        tell_table(rt, alloc, log, &bytes);
     }
+    ended
 }
 
 /// Reads the table, runs a connector by it, over the books of a file where one is asked for, and writes its totals where

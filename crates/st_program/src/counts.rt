@@ -71,14 +71,38 @@ fn other_text(alloc: Global, number: usize, counts: AccountCounts) -> Result<Str
     Ok(text)
 }
 
-/// The lines of accounts, numbered from 0.
-fn counts_lines(alloc: Global, counts: &[AccountCounts]) -> Result<String, AllocError>
-    ensures { IfOk result (λ text. string_bytes text ≡ spec.lines_from spec.count_text 0 counts.now) }
+/// A line of an account.
+#[derive(Clone, Copy, Debug, PartialEq, Eq)]
+enum Line {
+    /// How its Prepares ended.
+    Fates,
+    /// How many of its Rejects have a code without a line. There is none where there are none.
+    OtherCodes,
+}
+
+/// This line of the account of this number.
+fn line_text(
+    alloc: Global,
+    line: Line,
+    number: usize,
+    counts: AccountCounts,
+) -> Result<String, AllocError>
+    ensures { IfOk result (λ text. string_bytes text ≡ spec.line_text line number counts) }
+{
+    match line {
+        Line::Fates => count_text(alloc, number, counts),
+        Line::OtherCodes => other_text(alloc, number, counts),
+    }
+}
+
+/// This line of each account, numbered from 0.
+fn lines_text(alloc: Global, line: Line, counts: &[AccountCounts]) -> Result<String, AllocError>
+    ensures { IfOk result (λ text. string_bytes text ≡ spec.lines_from (spec.line_text line) 0 counts.now) }
 {
     let mut text = String::new(alloc);
     for number in 0..counts.len() {
-        let line = count_text(alloc, number, counts[number])?;
-        text.push_str(line.as_str())?;
+        let one = line_text(alloc, line, number, counts[number])?;
+        text.push_str(one.as_str())?;
     }
     Ok(text)
 }
@@ -95,25 +119,13 @@ fn codes_lines(alloc: Global, codes: &[CodeCount]) -> Result<Vec<u8>, AllocError
     Ok(text)
 }
 
-/// The lines of what has another code, by account.
-fn others_lines(alloc: Global, counts: &[AccountCounts]) -> Result<String, AllocError>
-    ensures { IfOk result (λ text. string_bytes text ≡ spec.lines_from spec.other_text 0 counts.now) }
-{
-    let mut text = String::new(alloc);
-    for number in 0..counts.len() {
-        let line = other_text(alloc, number, counts[number])?;
-        text.push_str(line.as_str())?;
-    }
-    Ok(text)
-}
-
 /// The lines that report how the Prepares of accounts ended.
 pub(crate) fn counts_text(alloc: Global, counts: &Counts) -> Result<Vec<u8>, AllocError>
     ensures { IfOk result (λ text. text.items ≡ spec.counts_text counts.now.accounts.items counts.now.codes.items) }
 {
-    let front = counts_lines(alloc, &counts.accounts)?;
+    let front = lines_text(alloc, Line::Fates, &counts.accounts)?;
     let codes = codes_lines(alloc, &counts.codes)?;
-    let others = others_lines(alloc, &counts.accounts)?;
+    let others = lines_text(alloc, Line::OtherCodes, &counts.accounts)?;
     let mut text = Vec::from_slice(alloc, front.as_bytes())?;
     text.extend_from_slice(&codes)?;
     text.extend_from_slice(others.as_bytes())?;

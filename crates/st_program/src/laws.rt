@@ -1,11 +1,27 @@
-//! A law of the arguments that ask for `frames`.
+//! Laws of the arguments that ask for `frames`, and of a connector's table.
 
-ghost use Rattle.std.specs.Prelude.{List};
+ghost use Rattle.std.specs.Prelude.{ℕ, List, Option, Result};
+ghost use Rattle.std.specs.Borrow.{Bor};
 ghost use Rattle.clap.specs.Words.{Text};
+ghost use Rattle.st_oer.specs.declared.tally.Tally.{Tally};
+ghost use Rattle.st_program.specs.declared.error.RunError.{RunError};
+ghost use Rattle.st_program.specs.Table.{EndsBy, TellsBad};
 ghost use Rattle.st_program.specs.Words.{AsksFrames, NamesFrames, after_name};
+
+use st_settings::{a_bad_text_says_no_table, lines_say_one_table};
 
 /// States a law; it does nothing. No argument behind the program's name asks for `frames`, and so does `frames` alone,
 /// each with or without `--` behind it.
 pub fn frames_needs_no_word()
     ensures { (words : List Text) → NamesFrames (after_name words) → AsksFrames words }
 {}
+
+/// States a law; it does nothing. How a connector may end by its input says both ways when its table is bad. It tells a
+/// bad table, 96, only where the input is no table for a hop of its address; and there always, except where memory was
+/// refused or the input's reader failed.
+pub fn a_bad_table_is_told_exactly()
+    ensures { (own : List ℕ) (ledger : Option (Bor (List ℕ))) (input : Option (List ℕ)) (r s : Tally) (result : Result (Unit {0}) RunError) → EndsBy own ledger input r s result → TellsBad own input r s result }
+{
+    a_bad_text_says_no_table();
+    lines_say_one_table();
+}

@@ -9,15 +9,15 @@ use crate::error::RunError;
 use crate::totals::ended_with;
 use st_commands::Fault;
 use st_ilp::Moment;
-use st_log::{AccountCounts, EndCounts, Event, Journal};
-use st_settings::{TableFault, table_fault};
-use st_transfer::{AccountTotals, Counts, RuntimeClock};
+use st_log::{AccountCounts, EndCounts, Event};
+use st_settings::{TableFault, WholeFault, table_fault, whole_fault};
+use st_transfer::{AccountTotals, Counts, LogFile, RuntimeClock, log_in};
 use std::alloc::Global;
 use std::fs::{File, Files, OpenOptions};
 use std::time::Clock;
 
 /// The log of a run, where it has one.
-pub(crate) type Log<'a> = Option<&'a Journal<File>>;
+pub(crate) type Log<'a> = Option<&'a LogFile>;
 
 /// The greatest number of a neighbour whose lines are counted by themselves.
 const LAST: u32 = 255;
@@ -44,14 +44,14 @@ pub(crate) fn journal<N: Files<File = File>>(
     rt: &N,
     alloc: Global,
     name: Option<&str>,
-) -> Result<Option<Journal<File>>, RunError>
+) -> Result<Option<LogFile>, RunError>
     ensures none { IsNone name.entry → IfOk result (λ log. IsNone log) }
     ensures some { IsSome name.entry → IfOk result (λ log. IsSome log) }
     ensures refused { IfErr result (λ e. (e ≡ BadOption) ⊎ (e ≡ IsFault NoMemory)) }
 {
     match log_file(rt, name) {
         Ok(None) => Ok(None),
-        Ok(Some(file)) => match Journal::new(alloc, file, LAST) {
+        Ok(Some(file)) => match log_in(alloc, file, LAST) {
             Ok(journal) => Ok(Some(journal)),
             Err(_) => Err(RunError::Fault(Fault::NoMemory)),
         },
@@ -82,6 +82,14 @@ pub(crate) fn tell_end<N: Clock>(rt: &N, log: Log<'_>, totals: &st_end::Totals) 
     tell(rt, log, &Event::End(counts));
 }
 
+/// Writes the totals of an end so far, and what was left out before, where there is a log.
+pub(crate) fn tell_minute<N: Clock>(rt: &N, log: Log<'_>, totals: &st_end::Totals) {
+    tell_end(rt, log, totals);
+    if let Some(journal) = log {
+        journal.catch_up(rt, now(rt));
+    }
+}
+
 /// What the log has of an account whose totals and whose Prepares' ends are these.
 fn account_counts(totals: AccountTotals, counts: st_transfer::AccountCounts) -> AccountCounts
     ensures owed { (result.claims ≡ totals.claims) × (result.dues ≡ totals.dues) × (result.held ≡ totals.held) }
@@ -99,12 +107,7 @@ fn account_counts(totals: AccountTotals, counts: st_transfer::AccountCounts) -> 
 }
 
 /// Writes the totals of each account of a connector, and its Rejects by their codes.
-fn note_accounts<N: Clock>(
-    rt: &N,
-    journal: &Journal<File>,
-    totals: &[AccountTotals],
-    counts: &Counts,
-) {
+fn note_accounts<N: Clock>(rt: &N, journal: &LogFile, totals: &[AccountTotals], counts: &Counts) {
     let now = now(rt);
     for (number, account) in totals.iter().enumerate() {
         if let Some(ends) = counts.accounts.get(number) {
@@ -134,20 +137,35 @@ pub(crate) fn tell_accounts<N: Clock>(
     }
 }
 
-/// Writes which line of a connector's table is bad, and the rule that it breaks, where there is a log and such a line.
+/// Writes the line of a bad table's number, and the rule that it breaks.
+fn tell_line<N: Clock>(rt: &N, log: Log<'_>, line: usize, words: &str) {
+    let event = Event::Table { line, words };
+    tell(rt, log, &event);
+}
+
+/// Writes which line of a connector's table is bad, and the rule that it breaks, where there is a log and such a line: one
+/// that is bad by itself, and else one that breaks a rule of the whole table.
 pub(crate) fn tell_table<N: Clock>(rt: &N, alloc: Global, log: Log<'_>, bytes: &[u8]) {
     if log.is_none() {
         return;
     }
-    let Ok(Some(TableFault { line, fault })) = table_fault(alloc, bytes) else {
-        return;
-    };
-    if let Ok(words) = format!(in alloc; "{fault}") {
-        let event = Event::Table {
-            line,
-            words: words.as_str(),
-        };
-        tell(rt, log, &event);
+    match table_fault(alloc, bytes) {
+        Ok(Some(TableFault { line, fault })) => {
+            if let Ok(words) = format!(in alloc; "{fault}") {
+                tell_line(rt, log, line, words.as_str());
+            }
+        }
+        Ok(None) => tell_whole(rt, alloc, log, bytes),
+        Err(_) => {}
+    }
+}
+
+/// Writes which line of a connector's table breaks a rule of the whole table, and the rule, where there is such a line.
+fn tell_whole<N: Clock>(rt: &N, alloc: Global, log: Log<'_>, bytes: &[u8]) {
+    if let Ok(Some(WholeFault { line, fault })) = whole_fault(alloc, bytes) {
+        if let Ok(words) = format!(in alloc; "{fault}") {
+            tell_line(rt, log, line, words.as_str());
+        }
     }
 }
 
@@ -160,7 +178,7 @@ fn words_of(alloc: Global, error: RunError) -> String {
 }
 
 /// Writes how a command ended, behind what was left out before.
-fn note_end<N: Clock>(rt: &N, alloc: Global, journal: &Journal<File>, ended: Result<(), RunError>) {
+fn note_end<N: Clock>(rt: &N, alloc: Global, journal: &LogFile, ended: Result<(), RunError>) {
     let now = now(rt);
     journal.catch_up(rt, now);
     match ended {
@@ -177,7 +195,7 @@ fn note_end<N: Clock>(rt: &N, alloc: Global, journal: &Journal<File>, ended: Res
 }
 
 /// Whether all lines could be written so far.
-fn written(journal: &Journal<File>) -> Result<(), Fault> {
+fn written(journal: &LogFile) -> Result<(), Fault> {
     if journal.has_failed() {
         Err(Fault::Output)
     } else {

@@ -5,14 +5,16 @@ ghost use Rattle.st_program.specs.Credentials.{AreOf};
 ghost use Rattle.st_program.specs.Settings.{IsReceiver};
 ghost use Rattle.st_program.specs.declared.error.RunError.TheVariants.{BadOption};
 
-use crate::credentials::{Credentials, credentials_of};
+use crate::credentials::Credentials;
+use crate::ends::{Asked, begin, end};
 use crate::error::RunError;
-use crate::log::{Log, journal, tell, tell_end, tell_run};
+use crate::log::Log;
+use crate::progress::{Side, Teller};
 use crate::send::widest;
-use crate::totals::{nothing_yet, tell_totals, totals_file};
+use crate::totals::nothing_yet;
 use st_commands::TURNS;
 use st_end::Totals;
-use st_log::{Event, Start};
+use st_log::Start;
 use st_oer::CountWrite;
 use st_settings::ReceiveSettings;
 use st_transfer::{ReceiveTerms, RuntimeClock, TransferError, receive_on, server_end};
@@ -22,7 +24,10 @@ use std::io::Write;
 use std::net::{Net, TcpListener, TcpStream};
 
 /// Receives from one sender, writes the bytes to the output, and sets the totals of its end, if there was one.
-fn transfer<W: Write, N: Net<Listener = TcpListener, Stream = TcpStream> + std::time::Clock>(
+fn transfer<
+    W: Write,
+    N: Net<Listener = TcpListener, Stream = TcpStream> + Files<File = File> + std::time::Clock,
+>(
     rt: &N,
     alloc: Global,
     settings: &ReceiveSettings<'_>,
@@ -54,7 +59,8 @@ fn transfer<W: Write, N: Net<Listener = TcpListener, Stream = TcpStream> + std::
                 log,
             };
             let clock = RuntimeClock::new(rt);
-            let ended = receive_on(rt, alloc, listener, end, writer, clock, terms);
+            let mut watch = Teller::new(rt, alloc, log, Side::Receives);
+            let ended = receive_on(rt, alloc, listener, end, writer, clock, terms, &mut watch);
             *totals = ended.totals;
             ended.result?;
             Ok(())
@@ -63,31 +69,21 @@ fn transfer<W: Write, N: Net<Listener = TcpListener, Stream = TcpStream> + std::
     }
 }
 
-/// Receives from one sender, writes the bytes to the output, and writes the totals of its end where they are asked for.
-/// Where the file for the totals cannot be opened, nothing else is done.
-fn receive_reporting<
-    W: Write,
-    N: Net<Listener = TcpListener, Stream = TcpStream> + Files<File = File> + std::time::Clock,
->(
-    rt: &N,
-    alloc: Global,
-    settings: &ReceiveSettings<'_>,
-    credentials: &Credentials,
-    writer: &mut CountWrite<W>,
-    log: Log<'_>,
-) -> Result<(), RunError>
-    requires settings { IsReceiver settings.now }
-    requires credentials { AreOf settings.now.token settings.now.secret credentials.now }
-    ensures { result ≡ Err BadOption → writer.new ≡ writer.old }
+/// What was asked for, apart from the transfer.
+fn asked_of<'a>(settings: &ReceiveSettings<'a>) -> Asked<'a>
+    ensures { (result.token ≡ settings.now.token) × (result.secret ≡ settings.now.secret) }
 {
-    match totals_file(rt, settings.totals) {
-        Ok(file) => {
-            let mut totals = nothing_yet();
-            let ended = transfer(rt, alloc, settings, credentials, writer, log, &mut totals);
-            tell_end(rt, log, &totals);
-            tell_totals(alloc, file, &totals, ended)
-        }
-        Err(error) => Err(error),
+    Asked {
+        token: settings.token,
+        secret: settings.secret,
+        totals: settings.totals,
+        log: settings.log,
+        start: Start::Receive {
+            listen: settings.listen,
+            address: settings.address,
+            peer: settings.peer,
+            receive_max: settings.receive_max,
+        },
     }
 }
 
@@ -105,22 +101,20 @@ pub(crate) fn receive<
     requires { IsReceiver settings.now }
     ensures { result ≡ Err BadOption → writer.new ≡ writer.old }
 {
-    let credentials = match credentials_of(rt, alloc, settings.token, settings.secret) {
-        Ok(credentials) => credentials,
+    let begun = match begin(rt, alloc, asked_of(settings)) {
+        Ok(begun) => begun,
         Err(error) => return Err(error),
     };
-    let journal = match journal(rt, alloc, settings.log) {
-        Ok(journal) => journal,
-        Err(error) => return Err(error),
-    };
-    let log = journal.as_ref();
-    let start = Start::Receive {
-        listen: settings.listen,
-        address: settings.address,
-        peer: settings.peer,
-        receive_max: settings.receive_max,
-    };
-    tell(rt, log, &Event::Start(start));
-    let ended = receive_reporting(rt, alloc, settings, &credentials, writer, log);
-    tell_run(rt, alloc, log, ended)
+    let mut totals = nothing_yet();
+    let log = begun.journal.as_ref();
+    let ended = transfer(
+        rt,
+        alloc,
+        settings,
+        &begun.credentials,
+        writer,
+        log,
+        &mut totals,
+    );
+    end(rt, alloc, begun, &totals, ended)
 }

@@ -5,13 +5,15 @@ ghost use Rattle.st_program.specs.Credentials.{AreOf};
 ghost use Rattle.st_program.specs.Settings.{IsSender};
 ghost use Rattle.st_program.specs.declared.error.RunError.TheVariants.{BadOption};
 
-use crate::credentials::{Credentials, credentials_of};
+use crate::credentials::Credentials;
+use crate::ends::{Asked, begin, end};
 use crate::error::RunError;
-use crate::log::{Log, journal, tell, tell_end, tell_run};
-use crate::totals::{nothing_yet, tell_totals, totals_file};
+use crate::log::Log;
+use crate::progress::{Side, Teller, has_terminal, input_length};
+use crate::totals::nothing_yet;
 use st_commands::TURNS;
 use st_end::Totals;
-use st_log::{Event, Start};
+use st_log::Start;
 use st_oer::CountRead;
 use st_sender::{EndConfig, MAX_IN_FLIGHT, MAX_PACKET_LIMIT, MAX_PACKETS};
 use st_settings::SendSettings;
@@ -29,6 +31,46 @@ pub(crate) fn widest() -> EndConfig {
         unreachable!();
     };
     config
+}
+
+/// What tells how far the command is. How long its input is matters on a terminal alone.
+fn teller<'a, N: Files<File = File> + std::time::Clock>(
+    rt: &'a N,
+    alloc: Global,
+    log: Log<'a>,
+) -> Teller<'a, N> {
+    let length = if has_terminal() {
+        input_length(rt)
+    } else {
+        None
+    };
+    Teller::new(rt, alloc, log, Side::Sends(length))
+}
+
+/// The configuration of an end of which so much has to arrive as the settings say.
+fn config_of(settings: &SendSettings<'_>) -> EndConfig
+    ensures { result.least ≡ settings.now.least }
+{
+    widest().with_least(settings.least)
+}
+
+/// What a sender is to do by these settings.
+fn terms_of<'a>(
+    settings: &SendSettings<'_>,
+    neighbour: Neighbour<'a>,
+    log: Log<'a>,
+) -> SendTerms<'a>
+    ensures neighbour { result.neighbour ≡ neighbour.entry }
+    ensures settings { (result.money ≡ settings.now.money) × (result.workers ≡ settings.now.workers) }
+{
+    let SendSettings { money, workers, .. } = *settings;
+    SendTerms {
+        neighbour,
+        money,
+        workers,
+        turns: TURNS,
+        log,
+    }
 }
 
 /// Sends the input and money to a receiver, and sets the totals of its end, if there was one.
@@ -59,26 +101,20 @@ fn transfer<
     let Ok(random) = File::open(rt, settings.random) else {
         return Err(RunError::NoRandom);
     };
-    let config = widest().with_least(settings.least);
     match client_end(
         alloc,
         credentials.secret,
         settings.address,
         settings.peer,
-        config,
+        config_of(settings),
     ) {
         Ok(end) => {
-            let terms = SendTerms {
-                neighbour,
-                money: settings.money,
-                workers: settings.workers,
-                turns: TURNS,
-                log,
-            };
+            let terms = terms_of(settings, neighbour, log);
+            let watch = teller(rt, alloc, log);
             let Ended {
                 result,
                 totals: then,
-            } = send_on(rt, alloc, end, reader, random, terms);
+            } = send_on(rt, alloc, end, reader, random, terms, watch);
             *totals = then;
             result?;
             Ok(())
@@ -87,36 +123,22 @@ fn transfer<
     }
 }
 
-/// Sends the input and the money to a receiver, and writes the totals of its end where they are asked for. Where the file
-/// for the totals cannot be opened, nothing else is done.
-fn send_reporting<
-    R: Read,
-    N: Net<Listener = TcpListener, Stream = TcpStream>
-        + Files<File = File>
-        + Threads
-        + Wait
-        + std::time::Clock
-        + Sync,
->(
-    rt: &N,
-    alloc: Global,
-    settings: &SendSettings<'_>,
-    credentials: &Credentials,
-    reader: &mut CountRead<R>,
-    log: Log<'_>,
-) -> Result<(), RunError>
-    requires settings { IsSender settings.now }
-    requires credentials { AreOf settings.now.token settings.now.secret credentials.now }
-    ensures { result ≡ Err BadOption → reader.new ≡ reader.old }
+/// What was asked for, apart from the transfer.
+fn asked_of<'a>(settings: &SendSettings<'a>) -> Asked<'a>
+    ensures { (result.token ≡ settings.now.token) × (result.secret ≡ settings.now.secret) }
 {
-    match totals_file(rt, settings.totals) {
-        Ok(file) => {
-            let mut totals = nothing_yet();
-            let ended = transfer(rt, alloc, settings, credentials, reader, log, &mut totals);
-            tell_end(rt, log, &totals);
-            tell_totals(alloc, file, &totals, ended)
-        }
-        Err(error) => Err(error),
+    Asked {
+        token: settings.token,
+        secret: settings.secret,
+        totals: settings.totals,
+        log: settings.log,
+        start: Start::Send {
+            to: settings.to,
+            address: settings.address,
+            peer: settings.peer,
+            money: settings.money,
+            workers: settings.workers,
+        },
     }
 }
 
@@ -139,23 +161,20 @@ pub(crate) fn send<
     requires { IsSender settings.now }
     ensures { result ≡ Err BadOption → reader.new ≡ reader.old }
 {
-    let credentials = match credentials_of(rt, alloc, settings.token, settings.secret) {
-        Ok(credentials) => credentials,
+    let begun = match begin(rt, alloc, asked_of(settings)) {
+        Ok(begun) => begun,
         Err(error) => return Err(error),
     };
-    let journal = match journal(rt, alloc, settings.log) {
-        Ok(journal) => journal,
-        Err(error) => return Err(error),
-    };
-    let log = journal.as_ref();
-    let start = Start::Send {
-        to: settings.to,
-        address: settings.address,
-        peer: settings.peer,
-        money: settings.money,
-        workers: settings.workers,
-    };
-    tell(rt, log, &Event::Start(start));
-    let ended = send_reporting(rt, alloc, settings, &credentials, reader, log);
-    tell_run(rt, alloc, log, ended)
+    let mut totals = nothing_yet();
+    let log = begun.journal.as_ref();
+    let ended = transfer(
+        rt,
+        alloc,
+        settings,
+        &begun.credentials,
+        reader,
+        log,
+        &mut totals,
+    );
+    end(rt, alloc, begun, &totals, ended)
 }

@@ -101,6 +101,7 @@ impl<A: Allocator + Copy> Inbox<A> {
     pub fn take(&mut self, max: usize) -> Result<Vec<u8, A>, InboxError>
         ensures only_memory { IsOkUnless result InboxError.NoMemory }
         ensures taken { IfOk result (λ v. v.items ≡ take max (run self.old)) }
+        ensures few { IfOk result (λ v. length v.items ≤ 65536) }
         ensures left { OnOk result (self.new ≡ after_take max self.old) }
         ensures unchanged { OnErr result (self.new ≡ self.old) }
     {

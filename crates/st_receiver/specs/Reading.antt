@@ -1,5 +1,5 @@
 -- A read of what was received on a stream.
-use Rattle.std.specs.Prelude.{ℕ, Bool, false, List, [], ◌∷◌, take, nat_eq, if◌then◌else◌}
+use Rattle.std.specs.Prelude.{ℕ, Bool, false, List, [], ◌∷◌, length, take, nat_eq, if◌then◌else◌}
 use Rattle.std.specs.declared.option.Option.{Option}
 use Rattle.std.specs.declared.option.Option.TheVariants.{None, Some}
 use Rattle.st_reassembly.specs.Held.{Held}
@@ -11,6 +11,11 @@ pub data Got : Type 0 where
   Nothing : Got
   End : Got
   Aborted : (code : ℕ) → Got
+
+-- how many bytes it has
+abbrev pub got_count : Got → ℕ
+got_count (Bytes xs) = length xs
+got_count told = 0
 
 -- all bytes before the fixed end were read
 abbrev pub is_read : ℕ → Option ℕ → Bool

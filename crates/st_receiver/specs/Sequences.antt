@@ -20,10 +20,10 @@ numbers r = range_with_len r.first (r.last + 1 - r.first)
 unfoldable pub set_of : List Run → FinSet nat_cmp
 set_of rs = from_list (flat_map numbers rs)
 
--- the runs rise from a number on, and none reaches into the next
+-- the runs rise from a number on, and a number that is in none lies between two of them: so they are as few as can be
 abbrev pub Rise : ℕ → List Run → Type 0
 Rise low [] = Unit {0}
-Rise low (r ∷ rs) = (low ≤ r.first) × (r.first ≤ r.last) × Rise (r.last + 1) rs
+Rise low (r ∷ rs) = (low ≤ r.first) × (r.first ≤ r.last) × Rise (r.last + 2) rs
 
 -- where the run at a place ends
 abbrev pub last_at : List Run → ℕ → ℕ

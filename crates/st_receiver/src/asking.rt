@@ -1,9 +1,9 @@
 //! What an end asks of its receiving side, and the streams that it opens itself.
 
-ghost use Rattle.std.specs.Prelude.{◌≡◌, ◌<◌, ◌*◌, ◌^◌, true, length, map, sum, IfOk, OnOk, OnErr, IsOkUnless};
+ghost use Rattle.std.specs.Prelude.{◌≡◌, ◌<◌, ◌≤◌, ◌*◌, ◌^◌, true, length, map, sum, IfOk, OnOk, OnErr, IsOkUnless};
 ghost use Rattle.st_tables.specs.Slots.{slot};
 ghost use Rattle.st_receiver.specs.Streams.{opened_stream, may_name, is_open, incoming_at, with_incoming, with_max, with_kept, with_receive_max, credited_of, delivered_of, all_delivered};
-ghost use Rattle.st_receiver.specs.Reading.{got, after_got};
+ghost use Rattle.st_receiver.specs.Reading.{got, got_count, after_got};
 ghost use Rattle.st_receiver.specs.Decided.{got_seen};
 
 use crate::apply::drawn;
@@ -141,6 +141,7 @@ impl<A: Allocator + Copy> Intake<A> {
         requires { is_open self.old.state stream ≡ true }
         ensures only_memory { IsOkUnless result Reason.NoMemory }
         ensures got { IfOk result (λ g. got_seen g ≡ got max (incoming_at self.old.state stream).held) }
+        ensures few { IfOk result (λ g. got_count (got_seen g) ≤ 65536) }
         ensures left { OnOk result (self.new.state ≡ after_got self.old.state stream max) }
         ensures unchanged { OnErr result (self.new.state ≡ self.old.state) }
     {

@@ -1,6 +1,6 @@
 //! One stream's incoming direction, and the window that waits for a stream that is not open.
 
-ghost use Rattle.std.specs.Prelude.{◌≡◌, ◌+◌, ◌^◌, ◌<◌, false, length, is_err, max, take, IfOk, OnOk, OnErr, IsOkUnless};
+ghost use Rattle.std.specs.Prelude.{◌≡◌, ◌+◌, ◌^◌, ◌<◌, ◌≤◌, false, length, is_err, max, take, IfOk, OnOk, OnErr, IsOkUnless};
 ghost use Rattle.st_reassembly.specs.Held.{nothing_held, is_over};
 ghost use Rattle.st_reassembly.specs.Inserting.{inserted};
 ghost use Rattle.st_receiver.specs.Streams.{fresh_incoming, read_of};
@@ -9,7 +9,7 @@ ghost use Rattle.st_receiver.specs.Closes.{with_close};
 ghost use Rattle.std.specs.Prelude.{Some};
 ghost use Rattle.st_reassembly.specs.Closing.{after_abort};
 ghost use Rattle.st_reassembly.specs.Run.{run, after_take};
-ghost use Rattle.st_receiver.specs.Reading.{Bytes, is_read, got_none, got, after_get};
+ghost use Rattle.st_receiver.specs.Reading.{Bytes, is_read, got_count, got_none, got, after_get};
 ghost use Rattle.st_receiver.specs.Decided.{got_seen};
 
 use crate::got::Got;
@@ -198,7 +198,8 @@ impl<A: Allocator + Copy> Incoming<A> {
 
     /// What can be told where no byte can be read.
     fn get_none(&self) -> Got<A>
-        ensures { got_seen result ≡ got_none self.now.held }
+        ensures told { got_seen result ≡ got_none self.now.held }
+        ensures none { got_count (got_seen result) ≡ 0 }
     {
         if self.is_read() {
             Got::End
@@ -211,6 +212,7 @@ impl<A: Allocator + Copy> Incoming<A> {
     fn get_some(&mut self, max: usize) -> Result<Got<A>, Reason>
         ensures only_memory { IsOkUnless result Reason.NoMemory }
         ensures got { IfOk result (λ g. got_seen g ≡ Bytes (take max (run self.old.held))) }
+        ensures few { IfOk result (λ g. got_count (got_seen g) ≤ 65536) }
         ensures left { OnOk result (self.new ≡ record self.old { held = after_take max self.old.held }) }
         ensures unchanged { OnErr result (self.new ≡ self.old) }
     {
@@ -224,6 +226,7 @@ impl<A: Allocator + Copy> Incoming<A> {
     pub(crate) fn get(&mut self, max: usize) -> Result<Got<A>, Reason>
         ensures only_memory { IsOkUnless result Reason.NoMemory }
         ensures got { IfOk result (λ g. got_seen g ≡ got max self.old.held) }
+        ensures few { IfOk result (λ g. got_count (got_seen g) ≤ 65536) }
         ensures left { OnOk result (self.new ≡ after_get max self.old) }
         ensures unchanged { OnErr result (self.new ≡ self.old) }
     {

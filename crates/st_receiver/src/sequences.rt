@@ -1,7 +1,7 @@
 //! The sequences of the fulfilled Prepares. They are kept as runs of consecutive numbers, so that a long connection has
 //! few of them, and a search takes a number of steps that is logarithmic in the number of runs.
 
-ghost use Rattle.std.specs.Prelude.{◌≡◌, ◌<◌, ◌≤◌, ◌+◌, ◌-◌, true, false, length, vec_len, vec_capacity, OnOk};
+ghost use Rattle.std.specs.Prelude.{◌≡◌, ◌↔◌, ◌<◌, ◌≤◌, ◌+◌, ◌-◌, true, false, length, vec_len, vec_capacity, OnOk};
 ghost use Rattle.std.specs.FinSet.{empty, contains, insert};
 ghost use Rattle.st_receiver.specs.Sequences.{Rise, IsPlace, IsMore, last_at, first_at, is_among};
 
@@ -66,10 +66,10 @@ fn has<A: Allocator>(runs: &Vec<Run, A>, place: usize, sequence: u64) -> bool
     runs[place].first <= sequence
 }
 
-/// The run before a place ends right before a sequence.
+/// Whether the run before a place ends right before a sequence.
 fn joins_before<A: Allocator>(runs: &Vec<Run, A>, place: usize, sequence: u64) -> bool
     requires place { IsPlace runs.now.items place sequence }
-    ensures { result ≡ true → (0 < place) × (last_at runs.now.items (place - 1) + 1 ≡ sequence) }
+    ensures { (result ≡ true) ↔ ((0 < place) × (last_at runs.now.items (place - 1) + 1 ≡ sequence)) }
 {
     if place == 0 {
         return false;
@@ -77,9 +77,9 @@ fn joins_before<A: Allocator>(runs: &Vec<Run, A>, place: usize, sequence: u64) -
     sequence.saturating_sub(runs[place - 1].last) == 1
 }
 
-/// The run at a place begins right behind a sequence.
+/// Whether the run at a place begins right behind a sequence.
 fn joins_behind<A: Allocator>(runs: &Vec<Run, A>, place: usize, sequence: u64) -> bool
-    ensures { result ≡ true → (place < length runs.now.items) × (sequence + 1 ≡ first_at runs.now.items place) }
+    ensures { (result ≡ true) ↔ ((place < length runs.now.items) × (sequence + 1 ≡ first_at runs.now.items place)) }
 {
     if place >= runs.len() {
         return false;
@@ -94,13 +94,14 @@ fn join<A: Allocator>(runs: &mut Vec<Run, A>, place: usize, sequence: u64)
     requires room { vec_len runs.old + 1 ≤ vec_capacity runs.old }
     ensures { IsMore runs.old.items sequence runs.new.items }
 {
-    let before = joins_before(runs, place, sequence);
     let behind = joins_behind(runs, place, sequence);
-    if before && behind {
-        let next = runs.remove(place);
-        runs[place - 1].last = next.last;
-    } else if before {
-        runs[place - 1].last = sequence;
+    if joins_before(runs, place, sequence) {
+        if behind {
+            let next = runs.remove(place);
+            runs[place - 1].last = next.last;
+        } else {
+            runs[place - 1].last = sequence;
+        }
     } else if behind {
         runs[place].first = sequence;
     } else {

@@ -3,6 +3,7 @@ pub mod Money
 pub mod Rates
 pub mod Paying
 pub mod Planned
+pub mod Stopped
 pub mod Totals
 pub mod Changing
 pub mod Sums

@@ -9,6 +9,7 @@ pub mod Loads
 pub mod Filling
 pub mod Plain
 pub mod Answering
+pub mod Stops
 pub mod Waiting
 pub mod Lanes
 pub mod Shown

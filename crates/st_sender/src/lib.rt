@@ -4,8 +4,8 @@
 //! beside it. Where none of these can be sent, it is one Blocked frame, or one limit of this end.
 //!
 //! `specs/Sending.antt` defines the state, `Accepting` and `Refusals` the calls on a stream, `Due` and `Loads` what may
-//! be sent, `Answering` what an answer changes. `Lanes`, `Landing`, `Allowed`, `Paying` and `Noticed` relate them to
-//! the runs of `st_unacked`.
+//! be sent, `Answering` what an answer changes, `Stops` the limit of the peer that a Blocked frame tells. `Lanes`,
+//! `Landing`, `Allowed`, `Paying` and `Noticed` relate them to the runs of `st_unacked`.
 #![tactic(auto)]
 
 mod blocked;
@@ -28,5 +28,6 @@ pub use config::{EndConfig, MAX_IN_FLIGHT, MAX_PACKET_LIMIT, MAX_PACKETS};
 pub use error::OutboxError;
 pub use failure::MAX_FAILURES;
 pub use load::Load;
-pub use outbox::{FULL_ROOM, Outbox};
+pub use notice::Blocked;
+pub use outbox::Outbox;
 pub use stream::MAX_UNACKED;

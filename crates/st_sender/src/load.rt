@@ -5,11 +5,12 @@ ghost use Rattle.std.specs.List.{list_any};
 ghost use Rattle.st_sender.specs.Flights.{closes, tells, end_of, highest_end, flying_end, any_frame, flight_at, without_flight, part_of};
 ghost use Rattle.st_sender.specs.Shown.{shown, paying, framed, telling};
 ghost use Rattle.st_sender.specs.Landing.{IsNoticeOf};
+ghost use Rattle.st_sender.specs.Stops.{all_stop_at, blocked_at, flown_stops_at};
 ghost use Rattle.st_sender.specs.Paying.{amount_to, total};
 ghost use Rattle.st_frames.specs.Seen.{seen};
 
 use crate::error::OutboxError;
-use crate::notice::Notice;
+use crate::notice::{Blocked, Notice};
 use st_frames::Frame;
 use std::alloc::Allocator;
 use std::marker::Model;
@@ -207,6 +208,16 @@ impl Flown {
         }
     }
 
+    /// The limit of the peer that it tells.
+    fn stops_at(self) -> Option<Blocked>
+        ensures { result ≡ flown_stops_at (shown self) }
+    {
+        match self {
+            Flown::Notice(notice) => notice.stops_at(),
+            Flown::Data { .. } | Flown::Close { .. } => None,
+        }
+    }
+
     /// Where its data of the stream end.
     fn end(self, number: u8) -> u128
         ensures end { result ≡ end_of number (shown self) }
@@ -258,6 +269,16 @@ impl<A: Allocator + Copy> Flight<A> {
         }
     }
 
+    /// The limit of the peer that its Blocked frame tells. `None` where it carries none.
+    fn stops_at(&self) -> Option<Blocked>
+        ensures { result ≡ all_stop_at self.now.frames }
+    {
+        match self.frame {
+            Some(frame) => frame.stops_at(),
+            None => None,
+        }
+    }
+
     fn end(&self, number: u8) -> u128
         ensures end { result ≡ highest_end number self.now.frames }
         ensures small { result < 2 ^ 65 }
@@ -304,6 +325,18 @@ pub fn flights_end<A: Allocator + Copy>(flights: &[Flight<A>], number: u8) -> u1
         top = top.max(flight.end(number));
     }
     top
+}
+
+/// The limit of the peer that the flight of a sequence tells. `None` where it tells none, and where there is none.
+pub fn blocked_at<A: Allocator + Copy>(flights: &[Flight<A>], sequence: u64) -> Option<Blocked>
+    ensures { result ≡ blocked_at flights.now sequence }
+{
+    for flight in flights {
+        if flight.sequence == sequence {
+            return flight.stops_at();
+        }
+    }
+    None
 }
 
 /// Removes the flight of a sequence and gives it. `None` where there is none.

@@ -5,6 +5,7 @@ ghost use Rattle.st_frames.specs.Seen.{seen};
 ghost use Rattle.st_sender.specs.Flights.{same_limit};
 ghost use Rattle.st_sender.specs.Noticed.{is_limit};
 ghost use Rattle.st_sender.specs.Shown.{telling};
+ghost use Rattle.st_sender.specs.Stops.{stops_at};
 
 use st_frames::Frame;
 
@@ -44,7 +45,54 @@ pub enum Notice {
     },
 }
 
+/// A limit of the peer at which bytes or money of this end wait, as a Blocked frame tells it (RFC 0029, section 5.3).
+#[derive(Clone, Copy, Debug, PartialEq, Eq)]
+pub enum Blocked {
+    /// The limit on the sum of the streams' ends: ConnectionDataBlocked.
+    Connection {
+        max_offset: u64,
+    },
+    /// The limit on the offsets of a stream: StreamDataBlocked.
+    Data {
+        stream: u64,
+        max_offset: u64,
+    },
+    /// The receive max of a stream, in units of the peer's asset: StreamMoneyBlocked. `total` is how much of the
+    /// stream's money was fulfilled.
+    Money {
+        stream: u64,
+        receive_max: u64,
+        total: u64,
+    },
+}
+
 impl Notice {
+    /// The limit of the peer that it tells. `None` where it tells one of this end.
+    pub fn stops_at(self) -> Option<Blocked>
+        ensures { result ≡ stops_at (telling self) }
+    {
+        match self {
+            Notice::ConnectionDataBlocked { max_offset } => {
+                Some(Blocked::Connection { max_offset })
+            }
+            Notice::StreamDataBlocked { stream, max_offset } => {
+                Some(Blocked::Data { stream, max_offset })
+            }
+            Notice::StreamMoneyBlocked {
+                stream,
+                receive_max,
+                total,
+            } => Some(Blocked::Money {
+                stream,
+                receive_max,
+                total,
+            }),
+            Notice::ConnectionMaxData { .. }
+            | Notice::StreamMaxData { .. }
+            | Notice::StreamMaxMoney { .. } => None,
+        }
+    }
+
     /// The limit that a frame carries. `None` for a frame that carries no limit.
     pub fn of_limit(frame: &Frame<'_>) -> Option<Notice>
         ensures { MatchOption result (is_limit (seen frame.now) ≡ false) (λ n. telling n ≡ seen frame.now) }

@@ -19,6 +19,7 @@ ghost use Rattle.st_sender.specs.Plain.{IsFilled, IsIdleOf, left_room};
 ghost use Rattle.st_sender.specs.Due.{IsDue};
 ghost use Rattle.st_sender.specs.Noticed.{IsShort, IsUnbarred, IsOfNotice, NoneSaid};
 ghost use Rattle.st_sender.specs.Shown.{telling};
+ghost use Rattle.st_sender.specs.Stops.{blocked_at};
 ghost use Rattle.st_sender.specs.Sending as kept;
 
 use crate::blocked::{connection_blocked, first_blocked};
@@ -28,9 +29,9 @@ use crate::config::EndConfig;
 use crate::error::OutboxError;
 use crate::failure::{Failure, fails};
 use crate::flying::{acknowledge, acknowledge_limits, free};
-use crate::load::{Flight, Flown, Load, take_flight};
+use crate::load::{Flight, Flown, Load, blocked_at, take_flight};
 use crate::marks::Marks;
-use crate::notice::Notice;
+use crate::notice::{Blocked, Notice};
 use crate::stream::Stream;
 use crate::streams::{
     abort, accept, all_accepted, close, is_open, no_streams, offer, open, raise, raise_money,
@@ -39,10 +40,6 @@ use crate::streams::{
 use st_frames::Frame;
 use std::alloc::Allocator;
 use std::marker::Model;
-
-/// A packet's length in bytes, `room`, at which `next` fills the packet. It has 16,000 bytes of data, or all in a row
-/// that may be sent. Where the prepare amount is the whole amount, it has money up to the packet limit.
-pub const FULL_ROOM: usize = 18_432;
 
 /// The sending side of a connection: its streams, the Prepares in flight, and the limits of the peer.
 #[derive(Drop)]
@@ -161,6 +158,15 @@ impl<A: Allocator + Copy> Outbox<A> {
         ensures { result ≡ self.now.packet_limit }
     {
         self.packet_limit
+    }
+
+    /// The limit of the peer at which bytes or money wait, where the Prepare of this sequence carries a Blocked frame
+    /// (RFC 0029, section 5.3). `None` where it carries none, and where no Prepare in flight has this sequence. Does
+    /// not allocate.
+    pub fn blocked_at(&self, sequence: u64) -> Option<Blocked>
+        ensures { result ≡ blocked_at self.now.flights sequence }
+    {
+        blocked_at(&self.flights, sequence)
     }
 
     /// The number of bytes accepted on all streams. Does not allocate.
@@ -356,9 +362,10 @@ impl<A: Allocator + Copy> Outbox<A> {
     /// sent, they are one Blocked frame, or else one of `limits` that is above its mark. `limits` are the limits of
     /// this end.
     ///
-    /// `room` is how many bytes the packet may have; with `FULL_ROOM` or more it is filled. `None` only where a limit,
-    /// `room` among them, stops everything that waits. Fails with `NoMemory` where memory is refused, and then nothing
-    /// has changed.
+    /// `room` is how many bytes the packet may have. With 18,432 or more it is filled: it has 16,000 bytes of data, or
+    /// all in a row that may be sent, and where the prepare amount is the whole amount, money up to the packet limit.
+    /// `None` only where a limit, `room` among them, stops everything that waits. Fails with `NoMemory` where memory is
+    /// refused, and then nothing has changed.
     pub fn next(
         &mut self,
         room: usize,

@@ -64,7 +64,7 @@ some_has (n ∷ names) name rest some = by (bytes_eq name n) refl (some_has name
     }
     by false e found later = later_too (found later)
 
-any_now : (name : Text) (keys : List (Bor Text)) → list_any (λ k. bytes_eq name k.now) keys ≡ list_any (bytes_eq name) (map (λ k. k.now) keys)
+pub any_now : (name : Text) (keys : List (Bor Text)) → list_any (λ k. bytes_eq name k.now) keys ≡ list_any (bytes_eq name) (map (λ k. k.now) keys)
 any_now name [] = refl
 any_now name (k ∷ keys) = ap (λ (b : Bool). bytes_eq name k.now || b) (any_now name keys)
 

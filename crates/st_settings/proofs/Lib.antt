@@ -6,3 +6,6 @@ pub mod AccountNames
 pub mod Visible
 pub mod LineFaults
 pub mod FirstFaults
+pub mod Readings
+pub mod Placing
+pub mod LawfulRoutes

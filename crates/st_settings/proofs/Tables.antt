@@ -57,11 +57,11 @@ heads_differ s t a b e =
 apart : (rest more : List Text) → codes "account" ∷ rest ≢ codes "route" ∷ more
 apart rest more e = heads_differ (codes "account") (codes "route") refl refl (cc)
 
-no_route_there : (words rest : List Text) (r : Route) → words ≡ codes "account" ∷ rest → ¬ (IsRouteLine words r)
+pub no_route_there : (words rest : List Text) (r : Route) → words ≡ codes "account" ∷ rest → ¬ (IsRouteLine words r)
 no_route_there words rest r is (inl plain) = apart rest _ (sym is ∙ plain.words_are)
 no_route_there words rest r is (inr rated) = apart rest _ (sym is ∙ rated.words_are)
 
-no_account_there : (words rest : List Text) (x : AccountLine) → words ≡ codes "route" ∷ rest → ¬ (IsAccountLine words x)
+pub no_account_there : (words rest : List Text) (x : AccountLine) → words ≡ codes "route" ∷ rest → ¬ (IsAccountLine words x)
 no_account_there words rest x is (inl plain) = apart _ rest (sym plain.words_are ∙ is)
 no_account_there words rest x is (inr named) = apart _ rest (sym named.words_are ∙ is)
 

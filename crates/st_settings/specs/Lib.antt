@@ -4,4 +4,5 @@ pub mod Settings
 pub mod Ledger
 pub mod Table
 pub mod Faults
+pub mod Whole
 pub mod Errors

@@ -3,12 +3,14 @@
 //!
 //! The texts of the options are given, and the settings are returned, or `None` where a text is bad. What each text has
 //! to be is in specs/: numbers, HOST:PORT and rates (Numbers), where tokens and secrets come from (Sources), the settings
-//! of each command (Settings, Ledger), and the lines of a table with the names of its accounts (Table). This crate uses no file, no socket and no clock.
+//! of each command (Settings, Ledger), the lines of a table with the names of its accounts (Table), and which rules a bad
+//! table breaks (Faults, Whole). This crate uses no file, no socket and no clock.
 #![tactic(auto)]
 
 mod error;
 mod fault;
 mod first_line;
+mod laws;
 mod ledger;
 mod line;
 mod names;
@@ -18,10 +20,12 @@ mod settings;
 mod source;
 mod table;
 mod text;
+mod whole;
 
 pub use error::TableError;
 pub use fault::{LineFault, TableFault, table_fault};
 pub use first_line::{first_secret, first_token};
+pub use laws::{a_bad_text_says_no_table, lines_say_one_table};
 pub use ledger::{LedgerSettings, Payment, Side};
 pub use line::{AccountLine, Neighbour};
 pub use number::read_number;
@@ -33,3 +37,4 @@ pub use settings::{
 pub use source::{Secret, Token};
 pub use table::{Table, read_table};
 pub use text::{read_rate, read_secret};
+pub use whole::{WholeFault, WholeRule, whole_fault};

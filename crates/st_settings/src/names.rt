@@ -11,7 +11,7 @@ use std::hash::{BuildHasherDefault, FoldHasher};
 
 /// The name of the account of this number: that of its line, or the number in decimal digits. Fails where memory is
 /// refused.
-fn name_of<A: Allocator + Copy>(
+pub(crate) fn name_of<A: Allocator + Copy>(
     alloc: A,
     number: usize,
     account: &AccountLine<'_>,

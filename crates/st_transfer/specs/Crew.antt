@@ -1,23 +1,26 @@
 -- The threads of a connector and the requests that they claim.
-use Rattle.std.specs.Prelude.{◌≡◌, ◌⊎◌, ℕ, ◌+◌, ◌<◌, ◌≤◌, Bool, true, false, Option, Some, IsNone, IsSome}
+use Rattle.std.specs.Prelude.{◌≡◌, ◌⊎◌, ℕ, ◌+◌, ◌<◌, ◌≤◌, Bool, true, false, if◌then◌else◌, Option, Some, IsNone, IsSome}
 use Rattle.std.specs.Option.{option_or}
 use Rattle.st_oer.specs.Faults.{count_after}
+use Rattle.st_transfer.specs.declared.crew.Failed.{Failed}
+use Rattle.st_transfer.specs.declared.crew.Failed.TheVariants as fails
 use Rattle.st_transfer.specs.declared.crew.Leave.{Leave}
 use Rattle.st_transfer.specs.declared.crew.Leave.TheVariants.{Send, Wait, Refuse}
 use Rattle.st_transfer.specs.declared.error.TransferError.{TransferError}
 use Rattle.st_transfer.specs.declared.error.TransferError.TheVariants.{NoMemory}
 
--- how many threads are to accept; the requests that no thread has claimed; the threads that are being made, that accept and
+-- the requests that no thread has claimed; the threads that are being made, that accept and
 -- that have a connection, each with a claim; the requests that are not left to any thread; how often a thread began to accept;
--- whether the last thread could not be made; and the fault that ended all, so that no request is left
+-- how many ended since the last connection because their accepts failed; whether the last thread could not be made; and the fault
+-- that ended all, so that no request is left
 pub record Roster : Type 0 where
-  pub workers : ℕ
   pub left : ℕ
   pub coming : ℕ
   pub accepting : ℕ
   pub busy : ℕ
   pub spent : ℕ
   pub begun : ℕ
+  pub failed : ℕ
   pub refused : Bool
   pub fault : Option TransferError
 
@@ -29,9 +32,9 @@ threads_of r = r.coming + r.accepting + r.busy
 abbrev pub Hires : Roster → Roster → Type 0
 Hires a b = (a.left ≡ b.left + 1) × (b ≡ record a { left = b.left; coming = a.coming + 1; refused = false })
 
--- a request is left, fewer threads than workers accept or are to, and there is room for one more
-abbrev pub Wants : Roster → Type 0
-Wants r = (0 < r.left) × (r.coming + r.accepting < r.workers) × (threads_of r < 1024 + r.workers)
+-- a request is left, fewer threads than workers accept, or are to or could not, and there is room for one more
+abbrev pub Wants : (workers : ℕ) → Roster → Type 0
+Wants workers r = (0 < r.left) × (r.coming + r.accepting + r.failed < workers) × (threads_of r < 1024 + workers)
 
 -- that thread could not be made, and its request is left again
 abbrev pub LeavesAgain : Roster → Roster → Type 0
@@ -45,9 +48,9 @@ Forgoes a b = (a.coming ≡ b.coming + 1) × (b ≡ record a { coming = b.coming
 abbrev pub Begins : Roster → Roster → Type 0
 Begins a b = (a.coming ≡ b.coming + 1) × (b ≡ record a { coming = b.coming; accepting = a.accepting + 1; begun = count_after 1 a.begun })
 
--- it has a connection
+-- it has a connection, so that accepts do not fail any more
 abbrev pub Takes : Roster → Roster → Type 0
-Takes a b = (a.accepting ≡ b.accepting + 1) × (b ≡ record a { accepting = b.accepting; busy = a.busy + 1 })
+Takes a b = (a.accepting ≡ b.accepting + 1) × (b ≡ record a { accepting = b.accepting; busy = a.busy + 1; failed = 0 })
 
 -- where a fault ended all, a thread that accepts takes no connection, and ends
 abbrev pub Leaves : Roster → Roster → Type 0
@@ -66,9 +69,14 @@ IsDone a false b = (a.busy ≡ b.busy + 1) × (b ≡ record a { busy = b.busy; l
 abbrev pub GoesOn : Roster → Roster → Type 0
 GoesOn a b = (a.left ≡ b.left + 1) × (b ≡ record a { left = b.left; accepting = a.accepting + 1; begun = count_after 1 a.begun })
 
+-- how many more threads than workers may accept beside a thread that goes on: none where it did not reach its neighbour, since
+-- those that accept may have the last file descriptors
+abbrev pub spare_of : (reached : Bool) → ℕ
+spare_of reached = if reached then 16 else 0
+
 -- a request is left, not many more threads than workers accept or are to, and there is room for one more
-abbrev pub Stays : Roster → Type 0
-Stays r = (0 < r.left) × (r.coming + r.accepting < r.workers + 16) × (threads_of r < 1024 + r.workers)
+abbrev pub Stays : (workers : ℕ) → (reached : Bool) → Roster → Type 0
+Stays workers reached r = (0 < r.left) × (r.coming + r.accepting < workers + spare_of reached) × (threads_of r < 1024 + workers)
 
 -- no request is left to any thread, and the first fault is why
 abbrev pub LeavesNone : Roster → TransferError → Roster → Type 0
@@ -78,6 +86,15 @@ LeavesNone a e b = b ≡ record a { left = 0; spent = a.spent + a.left; fault = 
 abbrev pub EndsBy : Roster → TransferError → Roster → Type 0
 EndsBy a e b = (a.accepting ≡ b.accepting + 1) × LeavesNone (record a { accepting = b.accepting; spent = a.spent + 1 }) e b
 
+-- a thread fails to accept. Where others accept, it ends, and its request is left again. The last one that accepts tries again
+-- while threads have connections; where none has, or a fault ended all, it ends, and so do all
+abbrev pub IsFailed : Roster → TransferError → Failed → Roster → Type 0
+IsFailed a e fails.Leave b = IsNone a.fault × (1 < a.accepting) × (a.accepting ≡ b.accepting + 1)
+    × (b ≡ record a { left = a.left + 1; accepting = b.accepting; failed = count_after 1 a.failed })
+IsFailed a e fails.Again b = IsNone a.fault × (a.accepting ≤ 1) × (0 < a.busy) × (b ≡ a)
+IsFailed a e fails.End b = (IsSome a.fault ⊎ ((a.accepting ≤ 1) × (a.busy ≡ 0)))
+    × (0 < a.accepting → EndsBy a e b) × (a.accepting ≡ 0 → LeavesNone a e b)
+
 -- the only thread could not be made, so that memory or threads are wanting: no request is left
 abbrev pub GivesUp : Roster → Roster → Type 0
 GivesUp a b = (a.coming ≡ b.coming + 1) × LeavesNone (record a { left = a.left + 1; coming = b.coming; refused = true }) NoMemory b
@@ -85,8 +102,8 @@ GivesUp a b = (a.coming ≡ b.coming + 1) × LeavesNone (record a { left = a.lef
 -- a thread sends where no fault ended all, not too many have a connection, and threads began to accept as often as it needs or no
 -- other can be asked for; it waits where one is being made or may be; and it is refused after a fault, where too many have a
 -- connection, or where no other is being made, since the last one could not be or there is no room for it
-abbrev pub IsLeave : Roster → (needed : ℕ) → Leave → Type 0
-IsLeave r needed Send = IsNone r.fault × (r.busy ≤ 1024) × ((needed ≤ r.begun) ⊎ ((r.left ≡ 0) × (r.coming ≡ 0)))
-IsLeave r needed Wait = IsNone r.fault × (r.begun < needed) × ((0 < r.coming) ⊎ ((0 < r.left) × (r.refused ≡ false) × (threads_of r < 1024 + r.workers)))
-IsLeave r needed Refuse = IsSome r.fault
-    ⊎ ((1024 < r.busy) ⊎ ((r.begun < needed) × (0 < r.left) × (r.coming ≡ 0) × ((r.refused ≡ true) ⊎ (1024 + r.workers ≤ threads_of r))))
+abbrev pub IsLeave : (workers : ℕ) → Roster → (needed : ℕ) → Leave → Type 0
+IsLeave workers r needed Send = IsNone r.fault × (r.busy ≤ 1024) × ((needed ≤ r.begun) ⊎ ((r.left ≡ 0) × (r.coming ≡ 0)))
+IsLeave workers r needed Wait = IsNone r.fault × (r.begun < needed) × ((0 < r.coming) ⊎ ((0 < r.left) × (r.refused ≡ false) × (threads_of r < 1024 + workers)))
+IsLeave workers r needed Refuse = IsSome r.fault
+    ⊎ ((1024 < r.busy) ⊎ ((r.begun < needed) × (0 < r.left) × (r.coming ≡ 0) × ((r.refused ≡ true) ⊎ (1024 + workers ≤ threads_of r))))

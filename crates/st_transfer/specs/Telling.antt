@@ -5,9 +5,12 @@ use Rattle.st_link.specs.Links.{status_of}
 use Rattle.st_link.specs.declared.cause.LinkCause.{LinkCause}
 use Rattle.st_link.specs.declared.cause.LinkCause.TheVariants as link
 use Rattle.st_sender.specs.Answering.{f08}
+use Rattle.st_sender.specs.declared.notice.Blocked as sender
+use Rattle.st_sender.specs.declared.notice.Blocked.TheVariants as stops
 use Rattle.st_end.specs.Failed.{Failed, Lost as NoneCame, Unreadable, Unfit, Rejected}
 use Rattle.st_log.specs.declared.event.Event.{Event}
 use Rattle.st_log.specs.declared.event.Event.TheVariants as event
+use Rattle.st_log.specs.declared.event.Blocked.TheVariants as limit
 use Rattle.st_log.specs.declared.event.Cause.{Cause}
 use Rattle.st_log.specs.declared.event.Cause.TheVariants as cause
 use Rattle.st_log.specs.declared.event.Lost.{Lost}
@@ -31,3 +34,9 @@ end_told NoneCame limit = None
 end_told Unreadable limit = None
 end_told Unfit limit = Some (event.Exchange cause.Unfit)
 end_told (Rejected code by message) limit = if bytes_eq code f08 then Some (event.Limit limit) else None
+
+-- the limit of the peer at which an end waits
+abbrev pub wait_told : sender.Blocked → Event
+wait_told (stops.Connection most) = event.Waits (limit.ConnectionData most)
+wait_told (stops.Data k most) = event.Waits (limit.StreamData k most)
+wait_told (stops.Money k most total) = event.Waits (limit.StreamMoney k most total)

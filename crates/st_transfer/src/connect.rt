@@ -9,7 +9,7 @@ ghost use Rattle.st_transfer.specs.declared.error.TransferError.TheVariants.{NoM
 use crate::accounts::{AccountTotals, note, places};
 use crate::clock::RuntimeClock;
 use crate::counts::{Came, Counts, came_of, count_answer};
-use crate::crew::{Crew, Wanted};
+use crate::crew::{Crew, CrewEnded, Failed, Wanted};
 use crate::error::TransferError;
 use crate::minutes::{Minutes, tell_minute};
 use crate::neighbour::Neighbourhood;
@@ -17,15 +17,17 @@ use crate::serving::{accept_next, serve_on, shut};
 use crate::storing::Storing;
 use crate::telling::{Sent, tell_outcome, tell_served};
 use crate::terms::ConnectTerms;
+use crate::waiting::AwaitListener;
 use st_booking::Keeper;
 use st_desk::{AccountShares, HopDesk, Links, Owed, Served, Till, serve};
 use st_hop::{HopState, Outcome};
 use st_http::Answerer;
 use st_ilp::Moment;
-use st_link::deadline_in;
+use st_link::{LinkCause, deadline_in};
 use std::alloc::Global;
+use std::io::{Read, Write};
 use std::marker::Brand;
-use std::net::{Net, TcpListener, TcpStream};
+use std::net::{Net, OpenStream};
 use std::sync::ledger::{Blank, Ledger};
 use std::sync::{Mutex, Wait};
 use std::thread;
@@ -44,13 +46,15 @@ pub struct ConnectorEnded {
     pub counts: Counts,
     /// How many Prepares were answered with T00 in place of being forwarded, because too many threads were busy.
     pub overloaded: u64,
+    /// How many threads were to wait for a connection at any time.
+    pub workers: u8,
 }
 
 /// What the threads of a connector share.
 #[derive(Drop)]
-struct Common<'a, C: Ledger, D: Ledger> {
+struct Common<'a, C: Ledger, D: Ledger, L> {
     alloc: Global,
-    listener: &'a TcpListener,
+    listener: &'a L,
     desk: Mutex<HopDesk<C, D, Global>>,
     shares: Mutex<AccountShares<C, D>>,
     counts: Mutex<Counts>,
@@ -63,9 +67,9 @@ struct Common<'a, C: Ledger, D: Ledger> {
 
 /// The links of one thread of a connector.
 #[derive(Drop)]
-struct Ways<'a, C: Ledger, D: Ledger, R: Net + Wait + Clock> {
+struct Ways<'a, C: Ledger, D: Ledger, L, R: Net + Wait + Clock> {
     rt: &'a R,
-    common: &'a Common<'a, C, D>,
+    common: &'a Common<'a, C, D, L>,
     /// How often threads are to have begun to accept before this one may send.
     needed: u64,
     /// When an exchange has to be done, so that its answer can still be passed back. `None` where there is no such moment.
@@ -74,6 +78,8 @@ struct Ways<'a, C: Ledger, D: Ledger, R: Net + Wait + Clock> {
     came: Came,
     /// What became of the request's exchange.
     sent: Sent,
+    /// Whether the last exchange could not connect to its neighbour.
+    is_unreached: bool,
 }
 
 /// How many milliseconds after its connection was accepted a thread may wait for a neighbour: a second less than the whole
@@ -97,7 +103,7 @@ fn earlier(latest: Option<Moment>, by: Moment) -> Moment
     }
 }
 
-impl<C: Ledger, D: Ledger, R: Net + Wait + Clock> Links<Global> for Ways<'_, C, D, R> {
+impl<C: Ledger, D: Ledger, L, R: Net + Wait + Clock> Links<Global> for Ways<'_, C, D, L, R> {
     fn exchange(&mut self, account: usize, bytes: &[u8], by: Moment) -> Outcome<Global> {
         let Common {
             alloc,
@@ -111,6 +117,7 @@ impl<C: Ledger, D: Ledger, R: Net + Wait + Clock> Links<Global> for Ways<'_, C, 
             let by = earlier(self.latest, by);
             let (outcome, cause) = neighbourhood.exchange(self.rt, *alloc, account, bytes, by);
             self.came = came_of(&outcome);
+            self.is_unreached = cause == Some(LinkCause::Unreached);
             self.sent = tell_outcome(self.rt, terms.log, account, &outcome, cause);
             return outcome;
         }
@@ -123,20 +130,23 @@ impl<C: Ledger, D: Ledger, R: Net + Wait + Clock> Links<Global> for Ways<'_, C, 
 
 /// What answers the requests that one thread of a connector accepts.
 #[derive(Drop)]
-struct Server<'a, C: Ledger, D: Ledger, K: Keeper, R: Net + Wait + Clock> {
+struct Server<'a, C: Ledger, D: Ledger, K: Keeper, L, R: Net + Wait + Clock> {
     rt: &'a R,
-    common: &'a Common<'a, C, D>,
+    common: &'a Common<'a, C, D, L>,
     /// How often threads are to have begun to accept before this one may send.
     needed: u64,
     /// When an exchange has to be done, so that its answer can still be passed back.
     latest: Option<Moment>,
-    books: Storing<'a, K, R>,
+    books: Storing<'a, K, L, R>,
     clock: RuntimeClock<'a, R>,
     /// The account from which the last request that was answered arrived at the desk.
     account: Option<usize>,
+    /// Whether the exchange of the last request could not connect to its neighbour.
+    is_unreached: bool,
 }
 
-impl<C: Ledger, D: Ledger, K: Keeper, R: Net + Wait + Clock> Answerer for Server<'_, C, D, K, R> {
+impl<C: Ledger, D: Ledger, K: Keeper, L: AwaitListener, R: Net + Wait + Clock> Answerer
+    for Server<'_, C, D, K, L, R> {
     // An answer was given at the desk to this account.
     ghost gives = { λ _ account _ answer new. IsSome answer → new.account ≡ Some account };
 
@@ -149,6 +159,7 @@ impl<C: Ledger, D: Ledger, K: Keeper, R: Net + Wait + Clock> Answerer for Server
             books,
             clock,
             account: at,
+            is_unreached,
         } = self;
         let (rt, common) = (*rt, *common);
         let mut ways = Ways {
@@ -158,6 +169,7 @@ impl<C: Ledger, D: Ledger, K: Keeper, R: Net + Wait + Clock> Answerer for Server
             latest: *latest,
             came: Came::NotSent,
             sent: Sent::No,
+            is_unreached: false,
         };
         match serve(
             rt,
@@ -172,6 +184,7 @@ impl<C: Ledger, D: Ledger, K: Keeper, R: Net + Wait + Clock> Answerer for Server
             Ok(Served { account, answer }) => {
                 count_answer(rt, &common.counts, account, ways.came, &answer);
                 *at = Some(account);
+                *is_unreached = ways.is_unreached;
                 tell_served(rt, common.terms.log, account, &answer, ways.sent);
                 Some(answer)
             }
@@ -180,23 +193,24 @@ impl<C: Ledger, D: Ledger, K: Keeper, R: Net + Wait + Clock> Answerer for Server
     }
 }
 
-impl<C: Ledger, D: Ledger, K: Keeper, R: Net + Wait + Clock> Server<'_, C, D, K, R> {
+impl<C: Ledger, D: Ledger, K: Keeper, L, R: Net + Wait + Clock> Server<'_, C, D, K, L, R> {
     /// Notes that a connection was accepted now, and how often threads are to have begun to accept before its request may
     /// be sent to a neighbour.
     fn note_accepted(&mut self, needed: u64) {
         let now = st_desk::Clock::now(&mut self.clock);
         self.needed = needed;
         self.latest = latest_after(now);
+        self.is_unreached = false;
     }
 }
 
 /// Accepts a connection and serves one request on it. Whether the thread is to accept the next one.
-fn serve_next<
-    C: Ledger,
-    D: Ledger,
-    K: Keeper,
-    R: Net<Listener = TcpListener, Stream = TcpStream> + Wait + Clock,
->(server: &mut Server<'_, C, D, K, R>) -> bool {
+fn serve_next<C: Ledger, D: Ledger, K: Keeper, L: AwaitListener, R: Net + Wait + Clock>(
+    server: &mut Server<'_, C, D, K, L, R>,
+) -> bool
+where
+    L::Stream: Read + Write + OpenStream,
+{
     let (rt, common) = (server.rt, server.common);
     let Common {
         alloc,
@@ -220,26 +234,28 @@ fn serve_next<
                 terms.turns,
                 terms.log,
             );
-            crew.finish(rt, came)
+            crew.finish(rt, came, !server.is_unreached)
         }
-        Err(error) => {
-            let ends = crew.fail(rt, error);
-            if ends {
+        Err(error) => match crew.fail(rt, error) {
+            Failed::Again => true,
+            Failed::Leave => false,
+            Failed::End => {
                 shut(*listener);
+                false
             }
-            !ends
-        }
+        },
     }
 }
 
 /// A thread of a connector: it accepts connections and serves one request on each, until the crew needs it no more.
-fn serve_all<
-    'a,
-    C: Ledger,
-    D: Ledger,
-    K: Keeper,
-    R: Net<Listener = TcpListener, Stream = TcpStream> + Wait + Clock,
->(rt: &'a R, common: &'a Common<'a, C, D>, till: Option<&'a Till<K, Global>>) {
+fn serve_all<'a, C: Ledger, D: Ledger, K: Keeper, L: AwaitListener, R: Net + Wait + Clock>(
+    rt: &'a R,
+    common: &'a Common<'a, C, D, L>,
+    till: Option<&'a Till<K, Global>>,
+)
+where
+    L::Stream: Read + Write + OpenStream,
+{
     let crew = &common.crew;
     let mut server = Server {
         rt,
@@ -254,6 +270,7 @@ fn serve_all<
         },
         clock: RuntimeClock::new(rt),
         account: None,
+        is_unreached: false,
     };
     crew.begin(rt);
     for _ in rt.forever() {
@@ -265,19 +282,19 @@ fn serve_all<
 
 /// What each thread of a connector is given.
 #[derive(Drop)]
-struct Job<'a, C: Ledger, D: Ledger, K: Keeper, R> {
+struct Job<'a, C: Ledger, D: Ledger, K: Keeper, L, R> {
     rt: &'a R,
-    common: &'a Common<'a, C, D>,
+    common: &'a Common<'a, C, D, L>,
     till: Option<&'a Till<K, Global>>,
 }
 
 /// Does the work of a thread.
-fn serve_job<
-    C: Ledger,
-    D: Ledger,
-    K: Keeper,
-    R: Net<Listener = TcpListener, Stream = TcpStream> + Wait + Clock,
->(job: &Job<'_, C, D, K, R>) {
+fn serve_job<C: Ledger, D: Ledger, K: Keeper, L: AwaitListener, R: Net + Wait + Clock>(
+    job: &Job<'_, C, D, K, L, R>,
+)
+where
+    L::Stream: Read + Write + OpenStream,
+{
     serve_all(job.rt, job.common, job.till);
 }
 
@@ -288,8 +305,12 @@ fn spawn_one<
     C: Ledger + Send + Sync,
     D: Ledger + Send + Sync,
     K: Keeper + Send,
-    R: Net<Listener = TcpListener, Stream = TcpStream> + Wait + Clock + Sync,
->(scope: &Scope<'s, E>, job: &'s Job<'s, C, D, K, R>) -> bool {
+    R: Net + Wait + Clock + Sync,
+>(scope: &Scope<'s, E>, job: &'s Job<'s, C, D, K, R::Listener, R>) -> bool
+where
+    R::Stream: Send,
+    R::Listener: AwaitListener + Send + Sync,
+{
     scope.spawn(move || serve_job(job)).is_ok()
 }
 
@@ -302,14 +323,18 @@ fn make_threads<
     D: Ledger + Send + Sync,
     K: Keeper + Send,
     M: Minutes,
-    R: Net<Listener = TcpListener, Stream = TcpStream> + Wait + Clock + Sync,
+    R: Net + Wait + Clock + Sync,
 >(
     rt: &R,
     scope: &Scope<'s, E>,
-    job: &'s Job<'s, C, D, K, R>,
+    job: &'s Job<'s, C, D, K, R::Listener, R>,
     accounts: &mut [AccountTotals],
     minutes: &mut M,
-) {
+)
+where
+    R::Stream: Send,
+    R::Listener: AwaitListener + Send + Sync,
+{
     let Common {
         alloc,
         desk,
@@ -342,8 +367,16 @@ fn manage<
     D: Ledger + Send + Sync,
     K: Keeper + Send,
     M: Minutes,
-    R: Net<Listener = TcpListener, Stream = TcpStream> + Threads + Wait + Clock + Sync,
->(rt: &'a R, job: &'a Job<'a, C, D, K, R>, accounts: &mut [AccountTotals], minutes: &mut M)
+    R: Net + Threads + Wait + Clock + Sync,
+>(
+    rt: &'a R,
+    job: &'a Job<'a, C, D, K, R::Listener, R>,
+    accounts: &mut [AccountTotals],
+    minutes: &mut M,
+)
+where
+    R::Stream: Send,
+    R::Listener: AwaitListener + Send + Sync,
     ensures { length accounts.new ≡ length accounts.old }
 {
     thread::scope(thread::scope_env(), rt, |scope| {
@@ -374,12 +407,14 @@ fn gathered<C: Ledger, D: Ledger>(
 }
 
 /// What the threads of a connector are to share.
-fn common_of<'a, C: Ledger, D: Ledger>(
+fn common_of<'a, C: Ledger, D: Ledger, L>(
     alloc: Global,
-    listener: &'a TcpListener,
+    listener: &'a L,
     mut desk: HopDesk<C, D, Global>,
     terms: ConnectTerms<'a>,
-) -> Result<Common<'a, C, D>, TransferError> {
+) -> Result<Common<'a, C, D, L>, TransferError>
+    ensures { IfOk result (λ common. common.crew.workers ≡ terms.entry.workers) }
+{
     let shares = desk.shares().map_err(TransferError::Desk)?;
     let counts = Counts::new(alloc, terms.tokens.len())?;
     let t00 = Vec::from_slice(alloc, desk.t00())?;
@@ -403,11 +438,11 @@ fn run<
     D: Ledger + Send + Sync,
     K: Keeper + Send,
     M: Minutes,
-    R: Net<Listener = TcpListener, Stream = TcpStream> + Threads + Wait + Clock + Sync,
+    R: Net + Threads + Wait + Clock + Sync,
 >(
     rt: &R,
     alloc: Global,
-    listener: &TcpListener,
+    listener: &R::Listener,
     hop: HopState<Global>,
     claims: Blank,
     dues: Blank,
@@ -416,10 +451,15 @@ fn run<
     minutes: &mut M,
     accounts: Vec<AccountTotals>,
 ) -> ConnectorEnded
+where
+    R::Stream: Send,
+    R::Listener: AwaitListener + Send + Sync,
     requires claims { (claims.name ≡ C.name) × (claims.parts ≡ C.parts) × (claims.parts ≡ 64) }
     requires dues { (dues.name ≡ D.name) × (dues.parts ≡ D.parts) × (dues.parts ≡ 64) }
-    ensures { vec_len result.accounts ≡ vec_len accounts }
+    ensures accounts { vec_len result.accounts ≡ vec_len accounts }
+    ensures workers { result.workers ≡ terms.entry.workers }
 {
+    let workers = terms.workers;
     let desk = HopDesk::<C, D, Global>::new(alloc, hop, claims, dues);
     let common = match common_of(alloc, listener, desk, terms) {
         Ok(common) => common,
@@ -428,6 +468,7 @@ fn run<
             accounts,
             counts: Counts::none(alloc),
             overloaded: 0,
+            workers,
         },
     };
     let mut accounts = accounts;
@@ -444,7 +485,15 @@ fn run<
         crew,
         ..
     } = common;
-    let (overloaded, served) = crew.ended();
+    let CrewEnded {
+        workers,
+        overloaded,
+        fault,
+    } = crew.ended();
+    let served = match fault {
+        Some(fault) => Err(fault),
+        None => Ok(()),
+    };
     let result = gathered(
         alloc,
         &mut desk.into_inner(),
@@ -457,47 +506,54 @@ fn run<
         accounts,
         counts: counts.into_inner(),
         overloaded,
+        workers,
     }
 }
 
 /// Runs a connector: answers requests that arrive at `listener`, over ILP over HTTP (RFC 0035, the synchronous mode), by
-/// the rules of `hop` (RFC 0027), which may have books of an earlier one. `terms` says how many requests are
-/// answered, by how many threads, and where the accounts are reached.
+/// the rules of `hop` (RFC 0027), which may have books of an earlier one. `rt` is the network of the listener and of the
+/// links to neighbours, and has the threads and the time. `terms` says how many requests are answered, by how many threads,
+/// and where the accounts are reached.
 ///
 /// Each thread accepts a connection, serves one request on it, and waits for the answer of the neighbour where the
 /// request is a Prepare that is forwarded. Wherever fewer threads than `terms.workers` wait for a connection, one more
 /// is made, up to 1,024 and `terms.workers` in all. A thread that is done waits for the next connection, unless
-/// `terms.workers` and 16 more threads do. Beyond 1,024 threads with a connection, or where no further thread can be made
-/// and none waits for a connection, a Prepare that would be forwarded is answered with T00 at once, and counted.
+/// `terms.workers` and 16 more threads do, or `terms.workers` where it could not connect to its neighbour. Beyond 1,024
+/// threads with a connection, or where no further thread can be made and none waits for a connection, a Prepare that would
+/// be forwarded is answered with T00 at once, and counted.
 ///
 /// With a `till`, what a Fulfill books is committed there before the Fulfill is passed back, each booking once. A Fulfill
 /// that could not be stored is answered with T01 in its place. The till has to be for `MOST_THREADS`. Without one, what is
 /// booked is in memory alone.
 ///
-/// Fails with `Accept` where the listener gives no connection 100 times in a row and no thread has one; with `NoMemory`
-/// where memory is refused, or not one thread can be made; with `Books` and the number of the books once they refused a
-/// booking. Then no further request is served: the listener is shut, and connections that no thread took are closed. A
-/// Prepare that a thread has by then is answered with T00 where it was not sent on, and else as its exchange ends.
+/// A thread to which the listener gives no connection 100 times in a row ends where others wait for one, and no further
+/// thread is made in its place until one of them has a connection.
 ///
-/// `minutes` is told each period of the terms, by the thread that calls, what the accounts have then. Meanwhile no thread is
-/// made, so that it is to take little time.
+/// Fails with `Accept` where that is the last thread that waits, and none has a connection; with `NoMemory` where memory
+/// is refused, or not one thread can be made; with `Books` and the number of the books once they refused a booking. Then
+/// no further request is served: the listener is shut, and connections that no thread took are closed. A Prepare that a
+/// thread has by then is answered with T00 where it was not sent on, and else as its exchange ends. A listener without a
+/// file descriptor is not shut: each thread that waits at it ends once it gives a connection or an error.
+///
+/// `minutes` is told each period of the terms, by the thread that calls, what the accounts have then. Meanwhile no thread
+/// is made, so that it is to take little time.
 ///
 /// The call ends with its threads. The totals of the accounts, and how their Prepares ended, are given whatever the result
 /// is.
-pub fn connector_on<
-    R: Net<Listener = TcpListener, Stream = TcpStream> + Threads + Wait + Clock + Sync,
-    K: Keeper + Send + Drop,
-    M: Minutes,
->(
+pub fn connector_on<R: Net + Threads + Wait + Clock + Sync, K: Keeper + Send + Drop, M: Minutes>(
     rt: &R,
     alloc: Global,
-    listener: TcpListener,
+    listener: R::Listener,
     hop: HopState<Global>,
     terms: ConnectTerms<'_>,
     till: Option<&Till<K, Global>>,
     minutes: &mut M,
 ) -> ConnectorEnded
-    ensures { (vec_len result.accounts ≡ length terms.entry.tokens.now) ⊎ (result.result ≡ Err NoMemory) }
+where
+    R::Stream: Send,
+    R::Listener: AwaitListener + Send + Sync,
+    ensures accounts { (vec_len result.accounts ≡ length terms.entry.tokens.now) ⊎ (result.result ≡ Err NoMemory) }
+    ensures workers { result.workers ≡ terms.entry.workers }
 {
     match places(alloc, terms.tokens.len()) {
         Ok(accounts) => run::<Brand, Brand, K, M, R>(
@@ -517,6 +573,7 @@ pub fn connector_on<
             accounts: Vec::new(alloc),
             counts: Counts::none(alloc),
             overloaded: 0,
+            workers: terms.workers,
         },
     }
 }

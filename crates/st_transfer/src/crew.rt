@@ -1,8 +1,7 @@
 //! The threads of a connector: how many of them accept, and how many requests they may still take.
 
-ghost use Rattle.std.specs.Prelude.{◌≡◌, ◌⊎◌, ◌+◌, ◌<◌, ◌↔◌, ℕ, false, true, IsNone, IsSome, IsTrue, MatchBool, MatchOption, None, Some};
-ghost use Rattle.std.specs.Option.{option_or};
-ghost use Rattle.st_transfer.specs.Crew.{threads_of, Hires, LeavesAgain, Forgoes, EndsBy, GivesUp, Wants, Begins, Takes, Leaves, IsNeeded, IsDone, GoesOn, Stays, LeavesNone, IsLeave};
+ghost use Rattle.std.specs.Prelude.{◌≡◌, ◌+◌, ◌<◌, ◌↔◌, ℕ, false, true, IsNone, IsSome, IsTrue, MatchBool, MatchOption, None, Some};
+ghost use Rattle.st_transfer.specs.Crew.{threads_of, Hires, LeavesAgain, Forgoes, GivesUp, Wants, Begins, Takes, Leaves, IsNeeded, IsDone, GoesOn, Stays, LeavesNone, IsFailed, IsLeave};
 ghost use Rattle.st_transfer.specs.declared.error.TransferError.TheVariants.{Books};
 
 use crate::error::TransferError;
@@ -35,6 +34,17 @@ enum Leave {
     Refuse,
 }
 
+/// What a thread is to do that met a fault as it accepted.
+#[derive(Clone, Copy, Debug, PartialEq, Eq)]
+pub(crate) enum Failed {
+    /// It is to try again.
+    Again,
+    /// It is to end. Other threads accept.
+    Leave,
+    /// It is to end, and so are all.
+    End,
+}
+
 /// What the manager of a connector's threads is to do.
 #[derive(Clone, Copy, Debug, PartialEq, Eq)]
 pub(crate) enum Wanted {
@@ -50,8 +60,6 @@ pub(crate) enum Wanted {
 /// or spent.
 #[derive(Drop)]
 pub(crate) struct Roster {
-    /// How many threads are to accept at any time.
-    workers: u8,
     requests: u64,
     /// Requests that no thread has claimed.
     left: u64,
@@ -65,6 +73,8 @@ pub(crate) struct Roster {
     spent: u64,
     /// How often a thread began to accept.
     begun: u64,
+    /// Threads that ended because their accepts failed, since the last connection.
+    failed: u64,
     /// Whether the last thread could not be made.
     is_refused: bool,
     /// How many requests were not sent to a neighbour because too many threads were busy.
@@ -79,18 +89,17 @@ impl Model for Roster {
 
     ghost Value = { crew.Roster };
 
-    ghost view = { λ r. record { workers = r.workers; left = r.left; coming = r.coming; accepting = r.accepting; busy = r.busy; spent = r.spent; begun = r.begun; refused = r.is_refused; fault = r.fault } };
+    ghost view = { λ r. record { left = r.left; coming = r.coming; accepting = r.accepting; busy = r.busy; spent = r.spent; begun = r.begun; failed = r.failed; refused = r.is_refused; fault = r.fault } };
 
-    ghost invariant = { λ r. (r.left + r.coming + r.accepting + r.busy + r.spent ≡ r.requests) × (r.coming + r.accepting + r.busy ≤ 1024 + r.workers) × (IsSome r.fault → r.left ≡ 0) };
+    ghost invariant = { λ r. (r.left + r.coming + r.accepting + r.busy + r.spent ≡ r.requests) × (r.coming + r.accepting + r.busy ≤ 1279) × (IsSome r.fault → r.left ≡ 0) };
 }
 
 impl Roster {
     /// No threads, and a given number of requests.
-    fn new(requests: u64, workers: u8) -> Roster
-        ensures { result ≡ record { workers = workers; left = requests; coming = 0; accepting = 0; busy = 0; spent = 0; begun = 0; refused = false; fault = None } }
+    fn new(requests: u64) -> Roster
+        ensures { result ≡ record { left = requests; coming = 0; accepting = 0; busy = 0; spent = 0; begun = 0; failed = 0; refused = false; fault = None } }
     {
         Roster {
-            workers,
             requests,
             left: requests,
             coming: 0,
@@ -98,6 +107,7 @@ impl Roster {
             busy: 0,
             spent: 0,
             begun: 0,
+            failed: 0,
             is_refused: false,
             overloaded: 0,
             fault: None,
@@ -111,27 +121,28 @@ impl Roster {
         self.coming + self.accepting + self.busy
     }
 
-    /// Whether there is room for one more thread.
-    fn has_room(&self) -> bool
-        ensures { IsTrue result ↔ (threads_of self.now < 1024 + self.now.workers) }
+    /// Whether there is room for one more thread, where so many are to accept.
+    fn has_room(&self, workers: u8) -> bool
+        ensures { IsTrue result ↔ (threads_of self.now < 1024 + workers) }
     {
-        self.threads() < MOST_BUSY + u64::from(self.workers)
+        self.threads() < MOST_BUSY + u64::from(workers)
     }
 
-    /// Whether fewer threads than workers accept, or are to.
-    fn lacks_one(&self) -> bool
-        ensures { IsTrue result ↔ (self.now.coming + self.now.accepting < self.now.workers) }
+    /// Whether fewer threads than workers accept, or are to. Those that could not count, until one can again.
+    fn lacks_one(&self, workers: u8) -> bool
+        ensures { IsTrue result ↔ (self.now.coming + self.now.accepting + self.now.failed < workers) }
     {
-        self.coming + self.accepting < u64::from(self.workers)
+        let workers = u64::from(workers);
+        self.failed < workers && self.coming + self.accepting < workers - self.failed
     }
 
     /// Claims a request for one more thread. False where no request is left, enough threads accept, or there is no room
     /// for a thread.
-    fn hire(&mut self) -> bool
+    fn hire(&mut self, workers: u8) -> bool
         ensures hired { MatchBool result (Hires self.old self.new) (self.new ≡ self.old) }
-        ensures wanted { IsTrue result ↔ Wants self.old }
+        ensures wanted { IsTrue result ↔ Wants workers self.old }
     {
-        if self.left == 0 || !self.lacks_one() || !self.has_room() {
+        if self.left == 0 || !self.lacks_one(workers) || !self.has_room(workers) {
             return false;
         }
         self.left -= 1;
@@ -206,6 +217,7 @@ impl Roster {
             return None;
         }
         self.busy += 1;
+        self.failed = 0;
         if self.accepting == 0 {
             Some(self.begun.saturating_add(1))
         } else {
@@ -213,22 +225,27 @@ impl Roster {
         }
     }
 
-    /// A thread meets a fault as it accepts. False where it is to try again: other threads have connections, which take
-    /// file descriptors and memory until they end. Else it ends, and so do all: the first fault is why.
-    fn fail(&mut self, fault: TransferError) -> bool
-        ensures known { MatchBool result ((self.new.left ≡ 0) × (self.new.fault ≡ option_or self.old.fault (Some fault))) ((0 < self.old.busy) × IsNone self.old.fault × (self.new ≡ self.old)) }
-        ensures busy { IsTrue result ↔ ((self.old.busy ≡ 0) ⊎ IsSome self.old.fault) }
-        ensures ended { IsTrue result → 0 < self.old.accepting → EndsBy self.old fault self.new }
+    /// A thread meets a fault as it accepts. Where other threads accept, it ends, and its request is left again. Where none
+    /// does, it is to try again while threads have connections, which take file descriptors and memory until they end. Else
+    /// it ends, and so do all: the first fault is why.
+    fn fail(&mut self, fault: TransferError) -> Failed
+        ensures { IsFailed self.old fault result self.new }
     {
-        if self.busy > 0 && self.fault.is_none() {
-            return false;
+        if self.fault.is_none() && self.accepting > 1 {
+            self.accepting -= 1;
+            self.left += 1;
+            self.failed = self.failed.saturating_add(1);
+            return Failed::Leave;
+        }
+        if self.fault.is_none() && self.busy > 0 {
+            return Failed::Again;
         }
         if self.accepting > 0 {
             self.accepting -= 1;
             self.spent += 1;
         }
         self.end(fault);
-        true
+        Failed::End
     }
 
     /// A thread is done with its connection. Its request is left again where none came whole, but after a fault.
@@ -247,13 +264,15 @@ impl Roster {
     }
 
     /// Claims a request for a thread that is done with its last one. False where it is to end: no request is left, or
-    /// more than enough threads accept.
-    fn go_on(&mut self) -> bool
+    /// more than enough threads accept, which are fewer for a thread that did not reach its neighbour: each that accepts
+    /// takes a file descriptor.
+    fn go_on(&mut self, workers: u8, reached: bool) -> bool
         ensures claimed { MatchBool result (GoesOn self.old self.new) (self.new ≡ self.old) }
-        ensures kept { IsTrue result ↔ Stays self.old }
+        ensures kept { IsTrue result ↔ Stays workers reached self.old }
     {
-        let most = u64::from(self.workers) + SPARE;
-        if self.left == 0 || self.coming + self.accepting >= most || !self.has_room() {
+        let spare = if reached { SPARE } else { 0 };
+        let most = u64::from(workers) + spare;
+        if self.left == 0 || self.coming + self.accepting >= most || !self.has_room(workers) {
             return false;
         }
         self.left -= 1;
@@ -264,8 +283,8 @@ impl Roster {
 
     /// Whether a thread may send to a neighbour that waited until threads began to accept this often. After a fault none
     /// may.
-    fn leave(&self, needed: u64) -> Leave
-        ensures { IsLeave self.now needed result }
+    fn leave(&self, workers: u8, needed: u64) -> Leave
+        ensures { IsLeave workers self.now needed result }
     {
         if self.fault.is_some() || self.busy > MOST_BUSY {
             return Leave::Refuse;
@@ -273,7 +292,7 @@ impl Roster {
         if needed <= self.begun || (self.left == 0 && self.coming == 0) {
             return Leave::Send;
         }
-        if self.coming == 0 && (self.is_refused || !self.has_room()) {
+        if self.coming == 0 && (self.is_refused || !self.has_room(workers)) {
             return Leave::Refuse;
         }
         Leave::Wait
@@ -283,6 +302,8 @@ impl Roster {
 /// The threads of a connector, under a lock, with what wakes those that wait for a change of it.
 #[derive(Drop)]
 pub(crate) struct Crew {
+    /// How many threads are to accept at any time.
+    workers: u8,
     roster: Mutex<Roster>,
     /// Wakes the manager, which makes the threads.
     changed: Condvar,
@@ -290,13 +311,27 @@ pub(crate) struct Crew {
     relieved: Condvar,
 }
 
+/// What the threads of a connector leave.
+#[derive(Clone, Copy, Debug, PartialEq, Eq)]
+pub(crate) struct CrewEnded {
+    /// How many were to accept at any time.
+    pub(crate) workers: u8,
+    /// How many requests were not sent to a neighbour because too many threads were busy.
+    pub(crate) overloaded: u64,
+    /// The fault that ended all.
+    pub(crate) fault: Option<TransferError>,
+}
+
 // Each function here that takes the lock lets it go before it returns.
 
 impl Crew {
     /// No threads yet, for a given number of requests. At any time `workers` threads are to accept.
-    pub(crate) fn new(requests: u64, workers: u8) -> Crew {
+    pub(crate) fn new(requests: u64, workers: u8) -> Crew
+        ensures { result.workers ≡ workers }
+    {
         Crew {
-            roster: Mutex::new(Roster::new(requests, workers)),
+            workers,
+            roster: Mutex::new(Roster::new(requests)),
             changed: Condvar::new(),
             relieved: Condvar::new(),
         }
@@ -307,7 +342,7 @@ impl Crew {
     pub(crate) fn wants<R: Wait + Clock>(&self, rt: &R, period_ends: Option<Instant>) -> Wanted {
         let mut roster = self.roster.lock(rt);
         for _ in rt.forever() {
-            if roster.hire() {
+            if roster.hire(self.workers) {
                 return Wanted::Thread;
             }
             if roster.threads() == 0 {
@@ -363,19 +398,19 @@ impl Crew {
         self.relieved.notify_all();
     }
 
-    /// A thread meets a fault as it accepts. Whether it is to end, and no further request is served: each thread that
-    /// accepts is to be woken. Else it is to try again, since other threads have connections.
-    pub(crate) fn fail(&self, rt: &impl Wait, fault: TransferError) -> bool {
-        let ends = self.roster.lock(rt).fail(fault);
+    /// A thread meets a fault as it accepts. Where all are to end, no further request is served: each thread that accepts is
+    /// to be woken.
+    pub(crate) fn fail(&self, rt: &impl Wait, fault: TransferError) -> Failed {
+        let failed = self.roster.lock(rt).fail(fault);
         self.changed.notify_one();
         self.relieved.notify_all();
-        ends
+        failed
     }
 
-    /// A thread is done with its connection, on which a request came whole or none. Whether the thread is to accept the
-    /// next one.
-    pub(crate) fn finish(&self, rt: &impl Wait, came: bool) -> bool {
-        let goes_on = self.finish_one(rt, came);
+    /// A thread is done with its connection, on which a request came whole or none, and which `reached` its neighbour where
+    /// it was to be sent on. Whether the thread is to accept the next one.
+    pub(crate) fn finish(&self, rt: &impl Wait, came: bool, reached: bool) -> bool {
+        let goes_on = self.finish_one(rt, came, reached);
         self.changed.notify_one();
         if goes_on {
             self.relieved.notify_all();
@@ -383,10 +418,10 @@ impl Crew {
         goes_on
     }
 
-    fn finish_one(&self, rt: &impl Wait, came: bool) -> bool {
+    fn finish_one(&self, rt: &impl Wait, came: bool, reached: bool) -> bool {
         let mut roster = self.roster.lock(rt);
         roster.finish(came);
-        roster.go_on()
+        roster.go_on(self.workers, reached)
     }
 
     /// Whether a thread with a connection may send to a neighbour: at most 1,024 threads are busy, and another thread
@@ -394,7 +429,7 @@ impl Crew {
     pub(crate) fn may_send(&self, rt: &impl Wait, needed: u64) -> bool {
         let mut roster = self.roster.lock(rt);
         for _ in rt.forever() {
-            match roster.leave(needed) {
+            match roster.leave(self.workers, needed) {
                 Leave::Send => return true,
                 Leave::Refuse => {
                     if roster.fault.is_none() {
@@ -408,17 +443,24 @@ impl Crew {
         unreachable!()
     }
 
-    /// How many requests were not sent to a neighbour, and the first fault.
-    pub(crate) fn ended(self) -> (u64, Result<(), TransferError>) {
-        let Crew { roster, .. } = self;
+    /// How many threads were to accept, how many requests were not sent to a neighbour, and the first fault.
+    pub(crate) fn ended(self) -> CrewEnded
+        ensures { result.workers ≡ self.workers }
+    {
+        let Crew {
+            workers,
+            roster,
+            ..
+        } = self;
         let Roster {
             overloaded,
             fault,
             ..
         } = roster.into_inner();
-        match fault {
-            Some(fault) => (overloaded, Err(fault)),
-            None => (overloaded, Ok(())),
+        CrewEnded {
+            workers,
+            overloaded,
+            fault,
         }
     }
 }

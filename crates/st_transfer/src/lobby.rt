@@ -12,6 +12,7 @@ use crate::error::TransferError;
 use crate::serving::{PAUSE, WRITE_SECONDS, accept_next};
 use crate::telling::{Log, tell_connection};
 use crate::waiting::{AwaitListener, Patience, millis_of};
+use crate::watching::{Idle, Watch};
 use libc::net::{POLLIN, poll};
 use libc::types::pollfd;
 use st_http::{Answerer, HttpError, Reading, refuse, respond};
@@ -161,9 +162,17 @@ where
         }
     }
 
-    /// How long to wait at most: until the patience is over, or the time of the first connection. `None` is without end.
-    fn longest_wait(&self, patience: Option<Duration>) -> Option<Duration> {
-        let mut longest = patience;
+    /// How long to wait at most: until the patience is over, or the time of the first connection, and no longer than a period.
+    /// `None` is without end.
+    fn longest_wait(
+        &self,
+        patience: Option<Duration>,
+        period: Option<Duration>,
+    ) -> Option<Duration> {
+        let mut longest = match (patience, period) {
+            (Some(time), Some(period)) => Some(time.min(period)),
+            (time, period) => time.or(period),
+        };
         for guest in &self.guests {
             let left = left_until(self.rt, guest.deadline).unwrap_or(Duration::ZERO);
             longest = Some(longest.map_or(left, |time| time.min(left)));
@@ -211,14 +220,14 @@ where
         }
     }
 
-    /// Waits until a connection can be accepted or read, or its time is over. Fails with `Silent` where the patience is over
-    /// before.
-    fn wait(&self, patience: &Patience) -> Result<Ready, TransferError>
+    /// Waits until a connection can be accepted or read, its time is over, or a period is. Fails with `Silent` where the
+    /// patience is over before.
+    fn wait(&self, patience: &Patience, period: Option<Duration>) -> Result<Ready, TransferError>
         ensures silent { IfErr result (λ e. (e ≡ Silent) × IsSome patience.now.time) }
         ensures guest { IfOk result (λ r. IfSome r.guest (λ i. i < vec_len self.now.guests)) }
         ensures accept { IfOk result (λ r. IsTrue r.accept → 0 < self.now.left) }
     {
-        let time = self.longest_wait(patience.left(self.rt)?);
+        let time = self.longest_wait(patience.left(self.rt)?, period);
         let Some(listener) = self.listener.descriptor() else {
             return Ok(self.unpolled());
         };
@@ -313,13 +322,14 @@ where
     }
 
     /// Waits for the next connection on which a request has come whole. Those whose request is refused are answered by its
-    /// status.
+    /// status. `idle` is told each period meanwhile.
     ///
     /// Fails with `Accept` where the listener gives no connection 100 times in a row; with `Silent` where no request came
     /// for as long as the patience lasts; with `Turns` where no further connection may be accepted and none is left.
-    pub(crate) fn next(
+    pub(crate) fn next<V: Watch>(
         &mut self,
         patience: &Patience,
+        idle: &mut Idle<'_, V>,
     ) -> Result<Guest<'a, L::Stream, R>, TransferError>
         ensures whole { IfOk result (λ g. IsWholeAt g.reading.standing) }
         ensures fewer { IfOk result (λ _. self.new.left + vec_len self.new.guests < self.old.left + vec_len self.old.guests) }
@@ -332,7 +342,8 @@ where
             if self.left == 0 && self.guests.is_empty() {
                 break;
             }
-            let ready = self.wait(patience)?;
+            let ready = self.wait(patience, idle.period())?;
+            idle.look();
             if let Some(place) = ready.guest
                 && let Some(guest) = self.read(place)
             {

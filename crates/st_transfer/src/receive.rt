@@ -16,6 +16,7 @@ use crate::receiver::Receiver;
 use crate::telling::{tell_end, tell_refused};
 use crate::terms::ReceiveTerms;
 use crate::waiting::{AwaitListener, Patience};
+use crate::watching::{Idle, Watch};
 use st_desk::Clock;
 use st_end::EndState;
 use st_oer::Counting;
@@ -35,12 +36,13 @@ fn serve_guest<S: Read + Write + OpenStream + Drop, R: std::time::Clock, K: Cloc
 }
 
 /// Takes requests and writes what arrives, until the stream ended.
-fn receive_all<L: AwaitListener, R: std::time::Clock, W: Write, K: Clock>(
+fn receive_all<L: AwaitListener, R: std::time::Clock, W: Write, K: Clock, V: Watch>(
     rt: &R,
     lobby: &mut Lobby<'_, L, R>,
     receiver: &mut Receiver<K>,
     writer: &mut Counting<W>,
     terms: ReceiveTerms<'_>,
+    watch: &mut V,
 ) -> Result<u64, TransferError>
 where
     L::Stream: Read + Write + OpenStream,
@@ -53,8 +55,14 @@ where
 {
     let mut written = 0;
     let mut patience = Patience::new(rt, terms.patience);
+    let mut last = None;
     'requests: loop {
-        let guest = match lobby.next(&patience) {
+        let mut idle = Idle {
+            watch: &mut *watch,
+            totals: receiver.end.totals(),
+            last,
+        };
+        let guest = match lobby.next(&patience, &mut idle) {
             Ok(guest) => guest,
             Err(TransferError::Silent) => return Err(TransferError::Silent),
             Err(TransferError::Turns) => return Err(TransferError::Turns),
@@ -63,6 +71,9 @@ where
         };
         serve_guest(guest, receiver);
         tell_refused(rt, terms.log, receiver.refused);
+        if let Some(refusal) = &receiver.refused {
+            last = Some(refusal.brief());
+        }
         let mut left = terms.turns;
         match deliver(&mut receiver.end, writer, &mut written, &mut left) {
             Ok(Delivered::More) => patience.renew(rt),
@@ -73,12 +84,13 @@ where
 }
 
 /// Sets the stream's receive maximum, then takes requests and writes what arrives.
-fn receive_from<L: AwaitListener, R: std::time::Clock, W: Write, K: Clock>(
+fn receive_from<L: AwaitListener, R: std::time::Clock, W: Write, K: Clock, V: Watch>(
     rt: &R,
     lobby: &mut Lobby<'_, L, R>,
     receiver: &mut Receiver<K>,
     writer: &mut Counting<W>,
     terms: ReceiveTerms<'_>,
+    watch: &mut V,
 ) -> Result<u64, TransferError>
 where
     L::Stream: Read + Write + OpenStream,
@@ -88,7 +100,7 @@ where
     ensures patient { result ≡ Err Silent → IsSome terms.entry.patience }
 {
     match receiver.end.set_receive_max(STREAM, terms.receive_max) {
-        Ok(()) => receive_all(rt, lobby, receiver, writer, terms),
+        Ok(()) => receive_all(rt, lobby, receiver, writer, terms, watch),
         Err(error) => Err(TransferError::End(error)),
     }
 }
@@ -104,13 +116,20 @@ where
 /// request may take 30 seconds to arrive, and no longer than the receiver's patience; its answer may be written until
 /// then, and for 5 seconds at least. A valid request is one that is answered by the end: the patience begins again once
 /// what it brought is written. After each request, stream 1 and the output together are called at most `terms.turns`
-/// times. A connection that fails, is cut off, is too slow or uses up its I/O calls ends alone.
+/// times. A connection that fails, is cut off, is too slow or uses up its I/O calls ends alone. `watch` is told how far the transfer is each
+/// time that the receiver waited: for what arrives, and for a period at most.
 ///
 /// The result is `Accept` where the listener gives no connection 100 times in a row while none is open; `Silent` where no
 /// valid request arrived for as long as the patience lasts; `Turns` after the last connection; `File` where the output
 /// fails or its calls are used up, and where the peer aborted the stream; `End` where `end` refuses the receive maximum,
 /// or memory to read the stream is refused. What arrived before is written.
-pub fn receive_on<L: AwaitListener + Drop, R: std::time::Clock, W: Write, K: Clock + Drop>(
+pub fn receive_on<
+    L: AwaitListener + Drop,
+    R: std::time::Clock,
+    W: Write,
+    K: Clock + Drop,
+    V: Watch,
+>(
     rt: &R,
     alloc: Global,
     listener: L,
@@ -118,6 +137,7 @@ pub fn receive_on<L: AwaitListener + Drop, R: std::time::Clock, W: Write, K: Clo
     writer: &mut Counting<W>,
     clock: K,
     terms: ReceiveTerms<'_>,
+    watch: &mut V,
 ) -> Ended
 where
     L::Stream: Read + Write + OpenStream,
@@ -134,7 +154,8 @@ where
     };
     let tokens = [terms.token];
     let mut lobby = Lobby::new(rt, alloc, &listener, &tokens, terms.turns, terms.log);
-    let result = receive_from(rt, &mut lobby, &mut receiver, writer, terms);
+    let result = receive_from(rt, &mut lobby, &mut receiver, writer, terms, watch);
+    watch.end();
     tell_end(rt, terms.log, u64::from(STREAM), &result);
     Ended {
         result,

@@ -17,6 +17,8 @@ use crate::error::TransferError;
 use crate::inlet::{Inlet, Until};
 use crate::ivs::ReaderIvs;
 use crate::terms::SendTerms;
+use crate::told_link::Told;
+use crate::watching::{LastFailure, Watch};
 use crate::workers::work_alone;
 use st_end::{EndState, Totals};
 use st_file::{FileError, send_all};
@@ -26,11 +28,12 @@ use st_queues::{Gauge, GaugeSeat, HubName, Rings, StreamWriter};
 use std::alloc::Global;
 use std::io::Read;
 use std::marker::Brand;
-use std::net::{Net, TcpListener, TcpStream};
+use std::net::Net;
 use std::sync::ledger::Blank;
 use std::sync::{Mutex, Wait};
 use std::thread;
-use std::thread::Threads;
+use std::thread::{Parker, Threads};
+use std::time::Duration;
 
 /// The error for why a worker ended, where it is an error.
 fn fault_of(end: WorkEnd) -> Option<TransferError>
@@ -188,11 +191,54 @@ struct Shared<'a, N: HubName<Global>, G> {
     /// Why the workers ended, in the order in which they did.
     ends: Mutex<Vec<WorkEnd>>,
     terms: SendTerms<'a>,
+    /// Whether somebody is told how far the transfer is.
+    is_watched: bool,
+    last: LastFailure,
+    /// Where the thread that tells it sleeps.
+    parker: Parker,
 }
 
 /// Notes why a worker ended, where there is room for that.
 fn note_end<N: HubName<Global>, G>(rt: &impl Wait, shared: &Shared<'_, N, G>, end: WorkEnd) {
     let _ = shared.ends.lock(rt).push(end);
+}
+
+/// What an end has done so far, by its hub's gauge.
+fn totals_so_far<N: HubName<Global>>(
+    gauge: &Gauge<N, Global>,
+    seat: &mut GaugeSeat<N, Global>,
+) -> Totals
+    ensures bytes { (result.accepted ≡ seat.new.totals.accepted) × (result.delivered ≡ seat.new.totals.delivered) }
+    ensures units { (result.credited ≡ seat.new.totals.credited) × (result.paid ≡ seat.new.totals.paid) }
+{
+    let seen = gauge.seen(seat);
+    Totals {
+        accepted: seen.accepted,
+        delivered: seen.delivered,
+        credited: seen.credited,
+        paid: seen.paid,
+    }
+}
+
+/// Tells how far the transfer is, each period, until the workers are asked to stop. It takes no lock of the hub.
+fn watch_beside<N: HubName<Global>, G, V: Watch + Drop, R: Wait>(
+    rt: &R,
+    shared: &Shared<'_, N, G>,
+    seat: GaugeSeat<N, Global>,
+    watch: V,
+    period: Duration,
+) {
+    let mut seat = seat;
+    let mut watch = watch;
+    for _ in rt.forever() {
+        shared.parker.park_timeout(rt, period);
+        if shared.gauge.stopped(&mut seat) {
+            break;
+        }
+        let totals = totals_so_far(&shared.gauge, &mut seat);
+        watch.look(&totals, shared.last.seen());
+    }
+    watch.end();
 }
 
 /// Runs one worker, and notes why it ended.
@@ -207,27 +253,39 @@ fn work_noting<N: HubName<Global>, G: Read, R: Net + Wait + std::time::Clock>(
         seat,
         ivs,
         terms,
+        last,
         ..
     } = shared;
-    let end = work_alone(rt, *alloc, bench, gauge, seat, ivs, *terms);
+    let told = Told {
+        log: terms.log,
+        last: if shared.is_watched { Some(last) } else { None },
+    };
+    let end = work_alone(rt, *alloc, bench, gauge, seat, ivs, *terms, told);
     note_end(rt, shared, end);
+    shared.parker.unpark();
 }
 
-/// Moves the input to the ring while the workers send, each in a thread of its own. Where not as many threads can be made,
-/// fewer workers send; where none can, nothing is sent. Returns how much input was moved.
+/// Moves the input to the ring while the workers send, each in a thread of its own, and one more tells how far they are, where
+/// that is asked for. Where not as many threads can be made, fewer workers send, or nothing is told; where none can, nothing is
+/// sent. Returns how much input was moved.
 fn feed_beside<
     'a,
     N: HubName<Global> + Send + Sync,
     I: Read + Drop,
     G: Read + Drop + Send,
-    R: Net<Listener = TcpListener, Stream = TcpStream> + Threads + Wait + std::time::Clock + Sync,
+    V: Watch + Drop + Send,
+    R: Net + Threads + Wait + std::time::Clock + Sync,
 >(
     rt: &'a R,
     shared: &'a Shared<'a, N, G>,
     writer: StreamWriter<N, Global>,
     seat: GaugeSeat<N, Global>,
     input: I,
+    watch: V,
 ) -> Result<u64, FileError>
+where
+    R::Stream: Send,
+    R::Listener: Send,
     ensures { IfOk result (λ n. IfSome (I.remaining input) (λ bytes. n ≡ counted (length bytes))) }
 {
     thread::scope(
@@ -244,6 +302,11 @@ fn feed_beside<
             if !has_worker {
                 note_end(rt, shared, WorkEnd::NoMemory);
                 shared.gauge.ask_stop(&mut own);
+                shared.parker.unpark();
+            }
+            if let Some(period) = watch.period() {
+                let seat = shared.gauge.split(&mut own);
+                let _ = scope.spawn(move || watch_beside(rt, shared, seat, watch, period));
             }
             let (alloc, turns) = (shared.alloc, shared.terms.turns);
             feed(
@@ -266,8 +329,20 @@ fn transfer<
     N: HubName<Global> + Send + Sync,
     I: Read + Drop,
     G: Read + Drop + Send,
-    R: Net<Listener = TcpListener, Stream = TcpStream> + Threads + Wait + std::time::Clock + Sync,
->(rt: &R, alloc: Global, opened: Opened<N>, input: I, random: G, terms: SendTerms<'_>) -> Ended
+    V: Watch + Drop + Send,
+    R: Net + Threads + Wait + std::time::Clock + Sync,
+>(
+    rt: &R,
+    alloc: Global,
+    opened: Opened<N>,
+    input: I,
+    random: G,
+    terms: SendTerms<'_>,
+    watch: V,
+) -> Ended
+where
+    R::Stream: Send,
+    R::Listener: Send,
     ensures whole { IfOk result.result (λ n. IfSome (I.remaining input) (λ bytes. n ≡ counted (length bytes))) }
     ensures told { IsTold result.result (totals_seen result.totals) }
 {
@@ -286,8 +361,11 @@ fn transfer<
         ivs: Mutex::new(ReaderIvs::new(random)),
         ends: Mutex::new(Vec::new(alloc)),
         terms,
+        is_watched: watch.period().is_some(),
+        last: LastFailure::none(),
+        parker: Parker::new(),
     };
-    let fed = feed_beside(rt, &shared, writer, seat, input);
+    let fed = feed_beside(rt, &shared, writer, seat, input, watch);
     let Shared { bench, ends, .. } = shared;
     let hub = bench.into_hub();
     let result = told(&hub, fed, &ends.into_inner());
@@ -318,7 +396,8 @@ fn run<
     N: HubName<Global> + Send + Sync,
     I: Read + Drop,
     G: Read + Drop + Send,
-    R: Net<Listener = TcpListener, Stream = TcpStream> + Threads + Wait + std::time::Clock + Sync,
+    V: Watch + Drop + Send,
+    R: Net + Threads + Wait + std::time::Clock + Sync,
 >(
     rt: &R,
     alloc: Global,
@@ -328,7 +407,11 @@ fn run<
     input: I,
     random: G,
     terms: SendTerms<'_>,
+    watch: V,
 ) -> Ended
+where
+    R::Stream: Send,
+    R::Listener: Send,
     requires fresh { IsNew end }
     requires gauge { rings.gauge ≡ N.gauge }
     requires writes { (k : ℕ) → N.write_ring k ≡ ring_at rings.writes k }
@@ -338,7 +421,7 @@ fn run<
     ensures told { ComesTo end terms.entry.money result.result (totals_seen result.totals) }
 {
     match open::<N>(end, rings, blank, terms.money) {
-        Ok(opened) => transfer(rt, alloc, opened, input, random, terms),
+        Ok(opened) => transfer(rt, alloc, opened, input, random, terms, watch),
         Err(error) => refused(error),
     }
 }
@@ -362,6 +445,8 @@ fn rings_of(alloc: Global) -> Result<Rings<Global>, TransferError>
 /// - `input`: where it has nothing yet for some time, its read is to fail with `Interrupted`, so that a transfer whose
 ///   connection failed ends: it is read again then, unless the workers ended.
 ///
+/// - `watch`: what is told how far the transfer is, in a thread of its own where it has a period.
+///
 /// Each worker has a thread. Where not as many threads can be made, fewer workers send. The call waits for them.
 ///
 /// Fails with `Failed` where the connection failed; with `Stalled` where the limits of the peer let nothing of the rest be
@@ -372,14 +457,26 @@ fn rings_of(alloc: Global) -> Result<Rings<Global>, TransferError>
 pub fn send_on<
     I: Read + Drop,
     G: Read + Drop + Send,
-    R: Net<Listener = TcpListener, Stream = TcpStream> + Threads + Wait + std::time::Clock + Sync,
->(rt: &R, alloc: Global, end: EndState<Global>, input: I, random: G, terms: SendTerms<'_>) -> Ended
+    V: Watch + Drop + Send,
+    R: Net + Threads + Wait + std::time::Clock + Sync,
+>(
+    rt: &R,
+    alloc: Global,
+    end: EndState<Global>,
+    input: I,
+    random: G,
+    terms: SendTerms<'_>,
+    watch: V,
+) -> Ended
+where
+    R::Stream: Send,
+    R::Listener: Send,
     requires fresh { IsNew end }
     ensures whole { IfOk result.result (λ n. IfSome (I.remaining input) (λ bytes. n ≡ counted (length bytes))) }
     ensures told { ComesTo end terms.entry.money result.result (totals_seen result.totals) }
 {
     match rings_of(alloc) {
-        Ok(rings) => run::<Brand, I, G, R>(
+        Ok(rings) => run::<Brand, I, G, V, R>(
             rt,
             alloc,
             end,
@@ -388,6 +485,7 @@ pub fn send_on<
             input,
             random,
             terms,
+            watch,
         ),
         Err(error) => refused(error),
     }

@@ -6,6 +6,7 @@ ghost use Rattle.st_transfer.specs.declared.error.TransferError.TheVariants.{Acc
 
 use crate::error::TransferError;
 use crate::telling::{Log, tell_connection};
+use crate::waiting::AwaitListener;
 use crate::watched::Watched;
 use libc::net::{SHUT_RDWR, shutdown};
 use st_http::{Answerer, HttpError, serve_one};
@@ -14,7 +15,6 @@ use st_oer::Counting;
 use std::alloc::Global;
 use std::io::{ErrorKind, Read, Write};
 use std::net::{OpenListener, OpenStream};
-use std::os::fd::AsRawFd;
 use std::thread;
 use std::time::{Clock, Duration};
 
@@ -50,9 +50,11 @@ pub(crate) fn accept_next<L: OpenListener>(
 }
 
 /// Shuts a listener: each `accept` of it fails from now on, those that wait among them. Linux resets the connections that
-/// were not accepted yet.
-pub(crate) fn shut(listener: &impl AsRawFd) {
-    let _ = shutdown(listener.as_raw_fd(), SHUT_RDWR);
+/// were not accepted yet. One without a file descriptor stays as it is.
+pub(crate) fn shut(listener: &impl AwaitListener) {
+    if let Some(descriptor) = listener.descriptor() {
+        let _ = shutdown(descriptor, SHUT_RDWR);
+    }
 }
 
 /// Reads one request from a stream, has it answered where it is valid, and writes the response. Returns whether a request

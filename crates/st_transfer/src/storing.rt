@@ -2,24 +2,24 @@
 
 use crate::crew::Crew;
 use crate::serving::shut;
+use crate::waiting::AwaitListener;
 use st_booking::{Booked, Booking, Keeper};
 use st_desk::{Books, NoBooks, Till, deposit, refused_at};
 use std::alloc::Global;
-use std::net::TcpListener;
 use std::sync::Wait;
 
 /// Where one thread of a connector stores what a Fulfill books: at a till of durable books, or in memory alone.
 #[derive(Drop)]
-pub(crate) struct Storing<'a, K: Keeper, R: Wait> {
+pub(crate) struct Storing<'a, K: Keeper, L, R: Wait> {
     pub(crate) rt: &'a R,
     pub(crate) till: Option<&'a Till<K, Global>>,
     /// The threads of the connector, which end once the books refused a booking.
     pub(crate) crew: &'a Crew,
     /// Where they wait for connections.
-    pub(crate) listener: &'a TcpListener,
+    pub(crate) listener: &'a L,
 }
 
-impl<K: Keeper, R: Wait> Storing<'_, K, R> {
+impl<K: Keeper, L: AwaitListener, R: Wait> Storing<'_, K, L, R> {
     /// Ends the threads of the connector where the books of a till refused a booking.
     fn end_if_refused(&self, till: &Till<K, Global>) {
         if let Some(number) = refused_at(self.rt, till) {
@@ -29,7 +29,7 @@ impl<K: Keeper, R: Wait> Storing<'_, K, R> {
     }
 }
 
-impl<K: Keeper, R: Wait> Books for Storing<'_, K, R> {
+impl<K: Keeper, L: AwaitListener, R: Wait> Books for Storing<'_, K, L, R> {
     fn store(&mut self, booking: Booking) -> Option<Booked> {
         let Some(till) = self.till else {
             return NoBooks.store(booking);

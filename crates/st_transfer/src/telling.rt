@@ -1,21 +1,22 @@
 //! What is told to the log.
 
 ghost use Rattle.std.specs.Prelude.{◌≡◌, None};
+ghost use Rattle.st_log.specs.declared.progress.Brief.TheVariants.{Reject};
 ghost use Rattle.st_transfer.specs.Telling.{cause_told, lost_told};
 
 use crate::clock::RuntimeClock;
 use crate::error::TransferError;
+use crate::journal::LogFile;
 use st_file::FileError;
 use st_hop::Outcome;
 use st_ilp::{Answer, read_answer};
 use st_link::LinkCause;
-use st_log::{Cause, Event, Journal, Lost};
+use st_log::{Brief, Cause, Event, Lost};
 use std::alloc::Global;
-use std::fs::File;
 use std::time::Clock;
 
 /// The log of a run, where it has one.
-pub(crate) type Log<'a> = Option<&'a Journal<File>>;
+pub(crate) type Log<'a> = Option<&'a LogFile>;
 
 /// What became of the exchange of a request.
 #[derive(Clone, Copy, Debug, PartialEq, Eq)]
@@ -38,6 +39,13 @@ pub(crate) struct Refusal {
 }
 
 impl Refusal {
+    /// The refusal without its reason.
+    pub(crate) fn brief(&self) -> Brief
+        ensures { result ≡ Reject self.now.code }
+    {
+        Brief::Reject(self.code)
+    }
+
     /// Memory was refused.
     pub(crate) fn without_memory() -> Refusal {
         Refusal {
@@ -64,7 +72,7 @@ pub(crate) fn refusal_of(answer: &[u8], reason: u8) -> Option<Refusal>
 }
 
 /// Why an exchange brought no answer, as the log tells it.
-fn cause_of(cause: Option<LinkCause>) -> Cause<'static>
+pub(crate) fn cause_of(cause: Option<LinkCause>) -> Cause<'static>
     ensures { result ≡ cause_told cause }
 {
     match cause {
@@ -98,19 +106,14 @@ pub(crate) fn tell<R: Clock>(rt: &R, log: Log<'_>, neighbour: usize, event: &Eve
 }
 
 /// Tells why an exchange brought no answer.
-pub(crate) fn tell_fault<R: Clock>(
-    rt: &R,
-    log: Log<'_>,
-    neighbour: usize,
-    cause: Option<LinkCause>,
-) {
+fn tell_fault<R: Clock>(rt: &R, log: Log<'_>, neighbour: usize, cause: Option<LinkCause>) {
     tell(rt, log, neighbour, &Event::Exchange(cause_of(cause)));
 }
 
-/// Tells of an answer that is no Fulfill. Whether it is one.
-pub(crate) fn tell_answer<R: Clock>(rt: &R, log: Log<'_>, neighbour: usize, answer: &[u8]) -> bool {
-    let cause = match read_answer(answer) {
-        Ok(Answer::Fulfill { .. }) => return true,
+/// Why an exchange with this answer brought no Fulfill. `None` where it did.
+pub(crate) fn cause_in(answer: &[u8]) -> Option<Cause<'_>> {
+    match read_answer(answer) {
+        Ok(Answer::Fulfill { .. }) => None,
         Ok(
             Answer::Reject {
                 code,
@@ -118,8 +121,15 @@ pub(crate) fn tell_answer<R: Clock>(rt: &R, log: Log<'_>, neighbour: usize, answ
                 message,
                 ..
             },
-        ) => Cause::Reject { code, by, message },
-        Err(_) => Cause::Unreadable,
+        ) => Some(Cause::Reject { code, by, message }),
+        Err(_) => Some(Cause::Unreadable),
+    }
+}
+
+/// Tells of an answer that is no Fulfill. Whether it is one.
+fn tell_answer<R: Clock>(rt: &R, log: Log<'_>, neighbour: usize, answer: &[u8]) -> bool {
+    let Some(cause) = cause_in(answer) else {
+        return true;
     };
     tell(rt, log, neighbour, &Event::Exchange(cause));
     false

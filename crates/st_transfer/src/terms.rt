@@ -1,8 +1,7 @@
 //! The arguments of a transfer and of a connector.
 
+use crate::journal::LogFile;
 use crate::neighbour::Neighbour;
-use st_log::Journal;
-use std::fs::File;
 use std::time::Duration;
 
 /// What a sender is to do, apart from its input.
@@ -17,7 +16,7 @@ pub struct SendTerms<'a> {
     /// The most turns of each worker, the most I/O calls of one exchange, and the most I/O calls for the input.
     pub turns: u64,
     /// Where it is told what happens. `None` where that is told nowhere.
-    pub log: Option<&'a Journal<File>>,
+    pub log: Option<&'a LogFile>,
 }
 
 /// What `receive` is to do, apart from its output.
@@ -32,7 +31,7 @@ pub struct ReceiveTerms<'a> {
     /// The most connections that are accepted, and the most I/O calls of each.
     pub turns: u64,
     /// Where it is told what happens. `None` where that is told nowhere.
-    pub log: Option<&'a Journal<File>>,
+    pub log: Option<&'a LogFile>,
 }
 
 /// What a connector is to do.
@@ -53,5 +52,5 @@ pub struct ConnectTerms<'a> {
     /// How often it is told, while it runs, what the connector has of its accounts.
     pub period: Duration,
     /// Where it is told what happens, for neighbours up to the last account. `None` where that is told nowhere.
-    pub log: Option<&'a Journal<File>>,
+    pub log: Option<&'a LogFile>,
 }

@@ -1,26 +1,45 @@
 //! What a worker of `send` tells to the log: exchanges without a Fulfill, and what the end alone finds in an answer.
 
 ghost use Rattle.std.specs.Prelude.{◌≡◌};
-ghost use Rattle.st_transfer.specs.Telling.{end_told};
+ghost use Rattle.st_transfer.specs.Telling.{end_told, wait_told};
 
-use crate::telling::{Log, tell, tell_answer, tell_fault};
+use crate::telling::{Log, cause_in, cause_of, tell};
+use crate::watching::LastFailure;
 use st_desk::{Link, LinkFault};
 use st_end::{Failed, FailedKind};
 use st_hub::Observer;
 use st_ilp::Moment;
 use st_link::HttpLink;
-use st_log::{Cause, Event};
+use st_log::{Blocked as At, Cause, Event};
 use st_oer::Counted;
+use st_sender::Blocked;
 use std::alloc::Global;
 use std::net::Net;
 use std::time::Clock;
+
+/// Where a worker of `send` tells what its exchanges brought. It is told nowhere where there is neither of these.
+#[derive(Clone, Copy)]
+pub(crate) struct Told<'a> {
+    pub(crate) log: Log<'a>,
+    pub(crate) last: Option<&'a LastFailure>,
+}
+
+impl Told<'_> {
+    /// Tells why an exchange brought no Fulfill.
+    fn tell<R: Clock>(&self, rt: &R, cause: Cause<'_>) {
+        if let Some(last) = self.last {
+            last.keep(cause.brief());
+        }
+        tell(rt, self.log, 0, &Event::Exchange(cause));
+    }
+}
 
 /// A link of a sender. What each exchange brought is passed on as it is, and told to the log where it is no Fulfill.
 #[derive(Drop)]
 pub(crate) struct ToldLink<'a, R: Net + Clock> {
     pub(crate) link: HttpLink<'a, R, Global>,
     pub(crate) rt: &'a R,
-    pub(crate) log: Log<'a>,
+    pub(crate) told: Told<'a>,
 }
 
 impl<R: Net + Clock> Counted for ToldLink<'_, R> {
@@ -34,14 +53,16 @@ impl<R: Net + Clock> Counted for ToldLink<'_, R> {
 impl<R: Net + Clock> ToldLink<'_, R> {
     /// Tells what an exchange brought.
     fn tell(&self, answer: &Result<Vec<u8>, LinkFault>) {
-        if self.log.is_none() {
+        if self.told.log.is_none() && self.told.last.is_none() {
             return;
         }
         match answer {
             Ok(answer) => {
-                let _ = tell_answer(self.rt, self.log, 0, answer);
+                if let Some(cause) = cause_in(answer) {
+                    self.told.tell(self.rt, cause);
+                }
             }
-            Err(_) => tell_fault(self.rt, self.log, 0, self.link.cause()),
+            Err(_) => self.told.tell(self.rt, cause_of(self.link.cause())),
         }
     }
 }
@@ -71,17 +92,46 @@ fn event_of(failed: &Failed, limit: u64) -> Option<Event<'static>>
     }
 }
 
-/// What tells the log of Prepares that failed, where the link does not.
+/// The event of a limit of the peer at which the end waits.
+fn wait_of(blocked: Blocked) -> Event<'static>
+    ensures { result ≡ wait_told blocked }
+{
+    let at = match blocked {
+        Blocked::Connection { max_offset } => At::ConnectionData { limit: max_offset },
+        Blocked::Data { stream, max_offset } => At::StreamData {
+            stream,
+            limit: max_offset,
+        },
+        Blocked::Money {
+            stream,
+            receive_max,
+            total,
+        } => At::StreamMoney {
+            stream,
+            receive_max,
+            total,
+        },
+    };
+    Event::Waits(at)
+}
+
+/// What tells the log of Prepares that failed, where the link does not, and of limits of the peer.
 #[derive(Drop)]
 pub(crate) struct ToldFlights<'a, R: Clock> {
     pub(crate) rt: &'a R,
-    pub(crate) log: Log<'a>,
+    pub(crate) told: Told<'a>,
 }
 
 impl<R: Clock> Observer for ToldFlights<'_, R> {
     fn failed(&mut self, failed: &Failed, limit: u64) {
-        if let Some(event) = event_of(failed, limit) {
-            tell(self.rt, self.log, 0, &event);
+        match event_of(failed, limit) {
+            Some(Event::Exchange(cause)) => self.told.tell(self.rt, cause),
+            Some(event) => tell(self.rt, self.told.log, 0, &event),
+            None => {}
         }
+    }
+
+    fn waits(&mut self, blocked: Blocked) {
+        tell(self.rt, self.told.log, 0, &wait_of(blocked));
     }
 }

@@ -5,7 +5,7 @@ use crate::delivery::STREAM;
 use crate::ivs::SharedIvs;
 use crate::neighbour::link_to;
 use crate::terms::SendTerms;
-use crate::told_link::{ToldFlights, ToldLink};
+use crate::told_link::{Told, ToldFlights, ToldLink};
 use st_hub::{Bench, Ivs, WorkEnd, Worker, work};
 use st_queues::{Gauge, GaugeSeat, HubName};
 use std::alloc::Global;
@@ -37,18 +37,15 @@ pub(crate) fn work_alone<N: HubName<Global>, I: Ivs, R: Net + Wait + std::time::
     seat: &Mutex<GaugeSeat<N, Global>>,
     ivs: &Mutex<I>,
     terms: SendTerms<'_>,
+    told: Told<'_>,
 ) -> WorkEnd {
     let mut seat = split_seat(rt, gauge, seat);
-    let told = match link_to(alloc, rt, terms.neighbour, terms.turns) {
+    let end = match link_to(alloc, rt, terms.neighbour, terms.turns) {
         Ok(link) => work(
             rt,
             bench,
             Worker {
-                link: &mut ToldLink {
-                    link,
-                    rt,
-                    log: terms.log,
-                },
+                link: &mut ToldLink { link, rt, told },
                 ivs: &mut SharedIvs::new(rt, ivs),
                 clock: &mut RuntimeClock::new(rt),
                 gauge,
@@ -56,12 +53,12 @@ pub(crate) fn work_alone<N: HubName<Global>, I: Ivs, R: Net + Wait + std::time::
                 stream: STREAM,
                 rest: Duration::from_millis(REST),
                 turns: terms.turns,
-                watch: &mut ToldFlights { rt, log: terms.log },
+                watch: &mut ToldFlights { rt, told },
             },
         ),
         Err(_) => WorkEnd::NoMemory,
     };
     gauge.ask_stop(&mut seat);
     bench.wake_all(rt);
-    told
+    end
 }

@@ -12,7 +12,15 @@ mod counts;
 #[cfg(test)]
 mod devices;
 #[cfg(test)]
+mod links;
+#[cfg(test)]
+mod served;
+#[cfg(test)]
 mod sides;
+#[cfg(test)]
+mod spoiled;
+#[cfg(test)]
+mod times;
 #[cfg(test)]
 mod totals;
 #[cfg(test)]

@@ -9,7 +9,7 @@ use st_hop::{Account, HopError, HopState, Route};
 use st_oer::{Counting, Rate, is_address};
 use st_sender::EndConfig;
 use st_transfer::{
-    AwaitListener, ConnectTerms, ConnectorEnded, Ended, Minutes, Neighbour, NoMinutes,
+    AwaitListener, ConnectTerms, ConnectorEnded, Ended, Minutes, Neighbour, NoMinutes, NoWatch,
     ReceiveTerms, RuntimeClock, SendTerms, TransferError, client_end, connector_on, receive_on,
     send_on, server_end,
 };
@@ -137,7 +137,7 @@ where
                 log: None,
             };
             let clock = RuntimeClock::new(rt);
-            receive_on(rt, alloc, listener, end, writer, clock, terms)
+            receive_on(rt, alloc, listener, end, writer, clock, terms, &mut NoWatch)
         }
         Err(error) => no_end(TransferError::End(error)),
     }
@@ -235,6 +235,29 @@ pub(crate) fn connect_telling<
     Ok(connector_on(rt, alloc, listener, hop, terms, till, minutes))
 }
 
+/// A connector of two requests and one worker at a listener of this network, and its neighbour behind it. It tells what is owed.
+pub(crate) fn connect_twice<N: Net + Threads + Wait + std::time::Clock + Sync>(
+    net: &N,
+    alloc: Global,
+    listener: N::Listener,
+) -> Result<Owed, TransferError>
+where
+    N::Stream: Send,
+    N::Listener: AwaitListener + Send + Sync,
+{
+    let Ok(hop) = new_hop(alloc, Rate::new(1, 1).unwrap()) else {
+        return Err(TransferError::NoMemory);
+    };
+    let tokens = [TOKEN, "t1"];
+    let neighbours = [None, Neighbour::new("127.0.0.1:1", TOKEN)];
+    let terms = ConnectTerms {
+        requests: 2,
+        ..terms_of(&tokens, &neighbours, 1, 3_600_000)
+    };
+    let till = None::<&Till<NoBooks, Global>>;
+    connector_on(net, alloc, listener, hop, terms, till, &mut NoMinutes).result
+}
+
 /// The end of the sender `test.a`.
 pub(crate) fn sender(alloc: Global, least: Rate) -> Result<EndState<Global>, TransferError>
     ensures { IfOk result hub.IsNew }
@@ -255,7 +278,7 @@ pub(crate) fn sender(alloc: Global, least: Rate) -> Result<EndState<Global>, Tra
 pub(crate) fn send<
     I: Read + Drop,
     G: Read + Drop + Send,
-    R: Net<Listener = TcpListener, Stream = TcpStream> + Threads + Wait + std::time::Clock + Sync,
+    R: Net + Threads + Wait + std::time::Clock + Sync,
 >(
     rt: &R,
     alloc: Global,
@@ -263,7 +286,11 @@ pub(crate) fn send<
     input: I,
     random: G,
     terms: Terms,
-) -> Result<u64, TransferError> {
+) -> Result<u64, TransferError>
+where
+    R::Stream: Send,
+    R::Listener: Send,
+{
     send_telling(rt, alloc, next, input, random, terms, &mut nothing_yet())
 }
 
@@ -271,7 +298,7 @@ pub(crate) fn send<
 pub(crate) fn send_telling<
     I: Read + Drop,
     G: Read + Drop + Send,
-    R: Net<Listener = TcpListener, Stream = TcpStream> + Threads + Wait + std::time::Clock + Sync,
+    R: Net + Threads + Wait + std::time::Clock + Sync,
 >(
     rt: &R,
     alloc: Global,
@@ -280,7 +307,11 @@ pub(crate) fn send_telling<
     random: G,
     terms: Terms,
     totals: &mut Totals,
-) -> Result<u64, TransferError> {
+) -> Result<u64, TransferError>
+where
+    R::Stream: Send,
+    R::Listener: Send,
+{
     let Terms {
         money,
         least,
@@ -305,6 +336,7 @@ pub(crate) fn send_telling<
             turns,
             log: None,
         },
+        NoWatch,
     );
     *totals = ended.totals;
     ended.result

@@ -47,7 +47,7 @@ acked_status sequence s = if is_by sequence s.flight then record { flight = None
 freed_status : ℕ → Status → Status
 freed_status sequence s = if is_by sequence s.flight then record { flight = None; kept = s.kept } else s
 
-run_end : (b : Bool) (r : Run) (s : Status) → (cond b (record r { status = s }) r).end ≡ r.end
+pub run_end : (b : Bool) (r : Run) (s : Status) → (cond b (record r { status = s }) r).end ≡ r.end
 run_end true r s = refl
 run_end false r s = refl
 

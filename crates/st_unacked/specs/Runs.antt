@@ -1,5 +1,6 @@
 -- Runs of offsets, each up to its end, and what stands about the bytes there.
-use Rattle.std.specs.Prelude.{◌≡◌, ℕ, zero, suc, ◌+◌, ◌-◌, ◌^◌, ◌<◌, ◌≤◌, Bool, false, ◌&&◌, nat_lt, is_none, List, [], ◌∷◌, length, Option, Some, None, IsSome, slice_index, if◌then◌else◌}
+use Rattle.std.specs.Prelude.{◌≡◌, ◌≢◌, ℕ, zero, suc, ◌+◌, ◌-◌, ◌*◌, ◌^◌, ◌<◌, ◌≤◌, Bool, false, ◌&&◌, nat_lt, is_none, List, [], ◌∷◌, length, drop, Option, Some, None, IsSome, slice_index, if◌then◌else◌}
+use Rattle.std.specs.Option.{option_or}
 use Rattle.st_unacked.specs.declared.run.Run.{Run}
 use Rattle.st_unacked.specs.declared.run.Status.{Status}
 use Rattle.st_tables.specs.Table.{is_between, table}
@@ -45,6 +46,60 @@ pub record IsTiled (runs : List Run) (first n : ℕ) : Type 0 where
   pub inside : (q : ℕ) → first ≤ q → q < first + n → IsSome (status_at runs q)
   pub outside : (q : ℕ) → first + n ≤ q → status_at runs q ≡ None
   pub fits : first + n < 2 ^ 64
+
+-- a status differs from that of the run behind it
+abbrev pub Differs : Status → List Run → Type 0
+Differs s [] = Unit {0}
+Differs s (r ∷ rs) = s ≢ r.status
+
+-- no run is empty, and neighbours differ in status: so there are as few runs as can be
+abbrev pub Parted : ℕ → List Run → Type 0
+Parted first [] = Unit {0}
+Parted first (r ∷ rs) = (first < r.end) × Differs r.status rs × Parted r.end rs
+
+-- what stands about a byte that is neither kept nor in flight
+abbrev pub gone_byte : Option Status
+gone_byte = Some (record { flight = None; kept = false })
+
+-- where the bytes from the first on and below an offset are all gone, they are at most half of all
+abbrev pub FewGone : List Run → ℕ → ℕ → Type 0
+FewGone runs first n = (q : ℕ) → first ≤ q → ((p : ℕ) → first ≤ p → p < q → status_at runs p ≡ gone_byte) → 2 * (q - first) ≤ n
+
+-- the runs tell of each byte, are as few as can be, and few bytes are gone in front
+pub record IsTidy (runs : List Run) (first n : ℕ) : Type 0 where
+  pub tiled : IsTiled runs first n
+  pub parted : Parted first runs
+  pub few : FewGone runs first n
+
+-- no run is empty
+abbrev pub Rise : ℕ → List Run → Type 0
+Rise first [] = Unit {0}
+Rise first (r ∷ rs) = (first < r.end) × Rise r.end rs
+
+-- where the last run ends
+abbrev pub end_of : ℕ → List Run → ℕ
+end_of first [] = first
+end_of first (r ∷ rs) = end_of r.end rs
+
+-- runs that say the same, and are as few as can be
+pub record IsJoined (first : ℕ) (rs ts : List Run) : Type 0 where
+  pub parted : Parted first ts
+  pub same : (q : ℕ) → status_at ts q ≡ status_at rs q
+
+-- runs with one more, which is joined with the last where both have the same status
+pub record HasMore (first : ℕ) (rs : List Run) (r : Run) (ts : List Run) : Type 0 where
+  pub parted : Parted first ts
+  pub ends : end_of first ts ≡ r.end
+  pub status : (q : ℕ) → status_at ts q ≡ option_or (status_at rs q) (if nat_lt q r.end then Some r.status else None)
+
+-- so many runs in front have bytes that are gone, up to an end, and the next one has others
+pub record IsGoneFront (runs : List Run) (first count end : ℕ) : Type 0 where
+  pub within : count ≤ length runs
+  pub from : first ≤ end
+  pub gone : (q : ℕ) → first ≤ q → q < end → status_at runs q ≡ gone_byte
+  pub rest : (q : ℕ) → end ≤ q → status_at runs q ≡ status_at (drop count runs) q
+  pub parted : Parted end (drop count runs)
+  pub ends : status_at runs end ≢ gone_byte
 
 -- a status with another flight
 abbrev pub flown : ℕ → Option Status → Option Status

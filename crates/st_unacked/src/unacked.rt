@@ -2,11 +2,12 @@
 ghost use Rattle.std.specs.Prelude.{◌≡◌, ◌≢◌, true, false, ℕ, ◌+◌, ◌-◌, ◌^◌, ◌<◌, ◌≤◌, IfOk, OnErr, OnOk, MatchOption, IsSome, None, Some, drop, length, slice_index};
 ghost use Rattle.std.specs.FinMap.{get, empty, len};
 ghost use Rattle.std.specs.List.{slice_range};
+ghost use Rattle.st_unacked.specs.Runs.{shown_by, IsTiled, IsTidy, Parted, Rise};
 ghost use Rattle.st_unacked.specs.Sent.{nothing_sent, due_at, after_accept, after_claim, after_acknowledged, after_failed, after_drop, carried, IsFlightEnd, IsLowestDue, IsPastDue};
 
 use crate::run::{
     DUE, Run, acknowledge, append, claim, drop_all, due_end, fail, first_due, first_kept,
-    flight_end, gone_front, kept_count, past_due,
+    flight_end, gone_front, join, kept_count, past_due,
 };
 use std::alloc::{AllocError, Allocator};
 use std::marker::Model;
@@ -28,6 +29,36 @@ fn part<A: Allocator>(bytes: &Vec<u8, A>, from: usize, to: usize) -> &[u8]
     ensures { result.now ≡ slice_range bytes.now.items from to }
 {
     &bytes[from..to]
+}
+
+/// Gives up the bytes at the front that are neither kept nor in flight once they are half of all, so that each byte is
+/// moved about once. Gives the offset of the first byte then.
+fn trim<A: Allocator>(bytes: &mut Vec<u8, A>, runs: &mut Vec<Run, A>, first: u64) -> u64
+    requires tiled { IsTiled runs.old.items first (length bytes.old.items) }
+    requires parted { Parted first runs.old.items }
+    ensures same { shown_by runs.new.items bytes.new.items result ≡ shown_by runs.old.items bytes.old.items first }
+    ensures tidy { IsTidy runs.new.items result (length bytes.new.items) }
+{
+    let (count, end) = gone_front(runs, first);
+    let gone = (end - first) as usize;
+    if bytes.len() - gone > gone {
+        return first;
+    }
+    cut_front(runs, count);
+    cut_front(bytes, gone);
+    end
+}
+
+/// Joins neighbouring runs of the same status, and gives up what is gone at the front. Gives the offset of the first
+/// byte then.
+fn tidy<A: Allocator>(bytes: &mut Vec<u8, A>, runs: &mut Vec<Run, A>, first: u64) -> u64
+    requires tiled { IsTiled runs.old.items first (length bytes.old.items) }
+    requires rise { Rise first runs.old.items }
+    ensures same { shown_by runs.new.items bytes.new.items result ≡ shown_by runs.old.items bytes.old.items first }
+    ensures tidy { IsTidy runs.new.items result (length bytes.new.items) }
+{
+    join(runs);
+    trim(bytes, runs, first)
 }
 
 /// The send buffer of one outgoing stream: the accepted bytes from the lowest unacknowledged one on, each queued, in
@@ -53,11 +84,11 @@ impl<A: Allocator + Copy> Model for Unacked<A> {
     ghost coded = { Prim.hlevel (codes, map.code) };
 
     ghost use Rattle.std.specs.Prelude.{length};
-    ghost use Rattle.st_unacked.specs.Runs.{IsTiled, shown_by};
+    ghost use Rattle.st_unacked.specs.Runs.{IsTidy, shown_by};
 
     ghost view = { λ s. shown_by s.runs.items s.bytes.items s.first };
 
-    ghost invariant = { λ s. IsTiled s.runs.items s.first (length s.bytes.items) };
+    ghost invariant = { λ s. IsTidy s.runs.items s.first (length s.bytes.items) };
 }
 
 impl<A: Allocator + Copy> Unacked<A> {
@@ -173,7 +204,7 @@ impl<A: Allocator + Copy> Unacked<A> {
     {
         let end = flight_end(&self.runs, self.first, sequence);
         acknowledge(&mut self.runs, sequence);
-        self.trim();
+        self.first = tidy(&mut self.bytes, &mut self.runs, self.first);
         end
     }
 
@@ -183,6 +214,7 @@ impl<A: Allocator + Copy> Unacked<A> {
         ensures { self.new ≡ after_failed sequence self.old }
     {
         fail(&mut self.runs, sequence);
+        self.first = tidy(&mut self.bytes, &mut self.runs, self.first);
     }
 
     /// Drops all bytes. Those in flight stay in flight until their answer arrives.
@@ -190,19 +222,6 @@ impl<A: Allocator + Copy> Unacked<A> {
         ensures { self.new ≡ after_drop self.old }
     {
         drop_all(&mut self.runs);
-    }
-
-    /// Gives up the acknowledged bytes at the front once they are half of all, so that each byte is moved about once.
-    fn trim(&mut self)
-        ensures { self.new ≡ self.old }
-    {
-        let (count, end) = gone_front(&self.runs, self.first);
-        let gone = (end - self.first) as usize;
-        if self.bytes.len() - gone > gone {
-            return;
-        }
-        cut_front(&mut self.runs, count);
-        cut_front(&mut self.bytes, gone);
-        self.first = end;
+        self.first = tidy(&mut self.bytes, &mut self.runs, self.first);
     }
 }

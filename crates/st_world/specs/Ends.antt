@@ -16,7 +16,7 @@ use Rattle.st_end.specs.Reading.{read}
 use Rattle.st_world.specs.Sides.{Side, other}
 use Rattle.st_world.specs.Ledgers.{Ledger, given_up, got}
 use Rattle.st_world.specs.State.{EndEntry, Put, Given, World, lane_at, with_lane, with_put, with_given, end_at, with_end, with_entry, ledger_at, with_ledger, first_link}
-use Rattle.st_world.specs.Events.{Told, Silent, Call, Gave, Sent, Answered}
+use Rattle.st_world.specs.Events.{Told, Silent, Call, Took, Gave, Sent, Answered}
 
 -- ---- calls on streams, and the ledgers that they change
 
@@ -97,5 +97,5 @@ flight_of p = record { sequence = p.name; condition = p.condition }
 abbrev pub BackAtEnd : World → (link : ℕ) → (way : Side) → ℕ → Put → (outcome : Option (List ℕ)) → Side → Option Flight → Told → World → Type 0
 BackAtEnd w link way j p outcome side None told after = (told ≡ Silent) × (after ≡ w)
 BackAtEnd w link way j p outcome side (Some flown) told after =
-    (told ≡ Call (Ok tt))
+    (told ≡ Took (pays (flight_of p) outcome))
     × (after ≡ taken_if (pays (flight_of p) outcome) (with_end w side (after_outcome (end_at w side) (flight_of p) flown outcome)) link way j)

@@ -1,4 +1,5 @@
-use Rattle.std.proofs.Common.{[], ◌∷◌}
+use Rattle.std.proofs.Common.{◌≡◌, ◌∙◌, [], ◌∷◌, false, sym, arith, rules}
+use Rattle.std.proofs.lemmas.Grind.{common_steps}
 use Rattle.st_world.specs.Sides.{Client}
 use Rattle.st_world.specs.State.{ledger_at}
 use Rattle.st_world.specs.Events.{Close, Write}
@@ -6,7 +7,13 @@ use Rattle.st_passage.specs.Worlds.{Met}
 use Rattle.st_passage.specs.Rounds.{writes}
 use Rattle.st_bounded.proofs.Parts.{wrote_all, wrote_part}
 use Rattle.st_bounded.proofs.Runs.{err_after, met_on, ok_as}
+use Rattle.st_bounded.proofs.Unopened.{unwritten}
 use Rattle.st_bounded.proofs.writes.write_on.Goals as goal
+
+pub returns-then-not-has_stream-clause-met : goal.returns-then-not-has_stream-clause-met
+returns-then-not-has_stream-clause-met g c =
+    let shut : c.has_stream.result ≡ false = first_of (search rules, grind (arith, common_steps)) in
+    unwritten c.args.input.now c.args.world.now c.args.stream (sym c.has_stream.ensures.has ∙ shut)
 
 pub returns-then-written-piece-clause-met : goal.returns-then-written-piece-clause-met
 returns-then-written-piece-clause-met g c =

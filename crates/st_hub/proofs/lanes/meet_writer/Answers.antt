@@ -1,9 +1,11 @@
-use Rattle.std.proofs.Common.{◌<◌, ◌++◌, length, ◌∙◌, ap, sym, refl, arith, length-set}
+use Rattle.std.proofs.Common.{◌<◌, ◌++◌, map, length, ◌∙◌, ap, sym, refl, arith, length-set}
+use Rattle.std.proofs.lemmas.List.{length-map}
 use Rattle.st_queues.specs.WriteEnds.{known}
-use Rattle.st_hub.specs.Flow.{Inlet, no_inlet, has_end}
-use Rattle.st_hub.specs.Inside.{inlet_of, IsLane}
+use Rattle.st_hub.specs.Flow.{Inlet, inlet_at, no_inlet, has_end}
+use Rattle.st_hub.specs.Inside.{inlet_of, known_of, IsLane}
 use Rattle.st_hub.proofs.Lists.{each_set, found_at, at_map}
 use Rattle.st_hub.proofs.Tries.{lane_kept, taken_same}
+use Rattle.st_hub.proofs.Rings.{new_known, other_known}
 use Rattle.st_hub.proofs.lanes.meet_writer.Goals as goal
 
 pub meet-requires : goal.meet-requires
@@ -34,8 +36,18 @@ returns-clause-whole g c =
     let room : r < length xs = omega (arith, c.requires.0, c.ring.ensures.1) in
     let at = found_at xs r x room c.index_mut-lane.ensures.value in
     let m = c.meet.ensures in
-    let rest = known c.meet.new.self in (
-      rest,
-      sym m.count,
-      rw (← c.ring.ensures.0) (ap (λ (z : Inlet _). z.taken ++ rest) (at_map inlet_of xs r x no_inlet at) ∙ ap (λ l. l ++ rest) (sym m.same.1) ∙ m.whole ∙ m.writer.1),
+    let wide : r < length (map known_of xs) = omega (arith, length-map xs known_of, room) in
+    rw (← c.ring.ensures.0) (
+    ap (λ l. (inlet_at (map inlet_of xs) r).taken ++ l) (new_known xs r _ wide) ∙ ap (λ (z : Inlet _). z.taken ++ known c.meet.new.self) (at_map inlet_of xs r x no_inlet at) ∙ ap (λ l. l ++ known c.meet.new.self) (sym m.same.1) ∙ m.whole ∙ m.writer.1
     )
+
+pub returns-clause-count : goal.returns-clause-count
+returns-clause-count g c =
+    let xs = c.args.writes.now.items in
+    let r = c.ring.result in
+    let room : r < length xs = omega (arith, c.requires.0, c.ring.ensures.1) in
+    let wide : r < length (map known_of xs) = omega (arith, length-map xs known_of, room) in
+    rw (← c.ring.ensures.0) (c.meet.ensures.count ∙ ap length (sym (new_known xs r _ wide)))
+
+pub returns-clause-others : goal.returns-clause-others
+returns-clause-others g c r ne = other_known c.args.writes.now.items c.ring.result r _ (λ same. ne (same ∙ c.ring.ensures.0))

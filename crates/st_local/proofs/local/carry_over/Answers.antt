@@ -6,7 +6,7 @@ use Rattle.st_local.specs.Playing.{read_on}
 use Rattle.st_local.specs.Endings.{WritesPart}
 use Rattle.st_local.proofs.Cuts.{parts_whole}
 use Rattle.st_local.proofs.Joined.{joined_same}
-use Rattle.st_local.proofs.Stops.{goes_over, on_ok, play_stops, stops_write}
+use Rattle.st_local.proofs.Stops.{goes_over, on_ok, play_stops, stops_write, writes_late}
 use Rattle.st_local.proofs.local.carry_over.Goals as goal
 
 pub returns-in-Ok-clause-whole : goal.returns-in-Ok-clause-whole
@@ -28,7 +28,8 @@ returns-in-Ok-clause-part g c =
 pub returns-in-Ok-clause-over : goal.returns-in-Ok-clause-over
 returns-in-Ok-clause-over g c =
     on_ok c.put_parts.result _ _
-    (λ done. goes_over c.args.play.now.asked c.streams-streams.result c.args.input.now c.send_parts.new.play c.send_parts.ensures.asked c.streams-streams.ensures c.in-Ok.ensures.run c.send_parts.ensures.sent c.in-Ok.ensures.delivered)
+    (λ done. goes_over c.args.play.now.asked c.streams-streams.result c.args.input.now c.args.play.now c.send_parts.new.play c.requires.start c.send_parts.ensures.asked c.streams-streams.ensures c.in-Ok.ensures.run c.send_parts.ensures.sent
+    c.in-Ok.ensures.scheduled c.in-Ok.ensures.delivered)
     c.put_parts.ensures.whole
 
 pub returns-in-Ok-clause-why : goal.returns-in-Ok-clause-why
@@ -36,4 +37,8 @@ returns-in-Ok-clause-why g c = stops_write c.put_parts.result c.args.play.now.as
 
 pub returns-in-Err-clause-why : goal.returns-in-Err-clause-why
 returns-in-Err-clause-why g c =
-    play_stops c.args.play.now.asked c.streams-streams.result c.args.input.now c.args.turns.now c.send_parts.new.play c.in-Err.fault c.send_parts.ensures.asked c.streams-streams.ensures c.send_parts.ensures.sent c.in-Err.ensures.why
+    play_stops c.args.play.now.asked c.streams-streams.result c.args.input.now c.args.turns.now c.args.play.now c.send_parts.new.play c.in-Err.fault c.requires.start c.send_parts.ensures.asked c.streams-streams.ensures c.send_parts.ensures.sent
+    c.in-Err.ensures.why
+
+pub returns-in-Ok-clause-untouched : goal.returns-in-Ok-clause-untouched
+returns-in-Ok-clause-untouched g c = writes_late c.put_parts.result c.put_parts.new.turns (c.put_parts.new.writer ≡ c.args.writer.now) c.put_parts.ensures.why

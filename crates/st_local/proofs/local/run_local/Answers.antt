@@ -1,5 +1,5 @@
-use Rattle.std.proofs.Common.{refl, arith}
-use Rattle.st_oer.specs.Tallies.{tally_of}
+use Rattle.std.proofs.Common.{refl, ap, arith}
+use Rattle.st_oer.specs.Tallies.{device_of, tally_of}
 use Rattle.st_local.proofs.Stops.{ended_by, ended_well}
 use Rattle.st_local.proofs.local.run_local.Goals as goal
 
@@ -19,10 +19,10 @@ pub returns-in-Err : goal.returns-in-Err
 returns-in-Err g c =
     let ended =
     ended_by (tally_of c.args.reader.now) (tally_of c.play_local.new.reader) (tally_of c.args.writer.now) (tally_of c.play_local.new.writer) c.in-Err.fault c.play_local.new.turns
-    c.in-Err.ensures.reader_faults c.in-Err.ensures.writer_faults c.play_local.ensures.turns c.in-Err.ensures.out_of_turns in
+    c.in-Err.ensures.reader_faults c.in-Err.ensures.writer_faults c.play_local.ensures.turns c.in-Err.ensures.out_of_turns (λ early. ap tally_of (c.in-Err.ensures.untouched early)) in
     record {
       done = λ zero. absurd (omega (arith, zero, c.tell_fault.ensures.0));
-      refused = λ _. (c.in-Err.fault, ended, c.in-Err.ensures.why, c.tell_fault.ensures);
+      refused = λ _. (c.in-Err.fault, ended, c.in-Err.ensures.why, λ early. ap (λ w. g.W.Write.contents (device_of w)) (c.in-Err.ensures.untouched early), c.tell_fault.ensures);
       part = c.play_local.ensures.part;
       bound = omega (arith, c.tell_fault.ensures.0);
     }

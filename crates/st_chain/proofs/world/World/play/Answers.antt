@@ -1,6 +1,8 @@
 use Rattle.std.proofs.Common.{◌≡◌, ◌∙◌, ap, subst, take, List, arith}
 use Rattle.std.proofs.lemmas.List.{take_all}
+use Rattle.st_world.specs.State.{World}
 use Rattle.st_world.specs.Runs.{Run}
+use Rattle.st_world.specs.Holds.{Holds}
 use Rattle.st_nodes.specs.Seen.{told_seen}
 use Rattle.st_chain.specs.declared.event.Event.{Event}
 use Rattle.st_chain.specs.Seen.{events_seen}
@@ -13,9 +15,23 @@ loop-event-preserved g c =
     run_next c.args.events.now c.loop-event.event-index c.event-item.result (told_seen c.in_default.field-0) c.args.self c.loop-event.self c.step.new.self c.loop-event-test.true c.event-item.is c.loop-event.invariant c.in_default.ensures.happens
 
 pub returns-in-Err-clause-part : goal.returns-in-Err-clause-part
-returns-in-Err-clause-part g c = (c.loop-event.event-index, c.loop-event-test.true, c.loop-event.self, c.loop-event.invariant, c.into_trace.ensures.trace ∙ ap left_of c.in-Err.ensures.unchanged)
+returns-in-Err-clause-part g c = (
+  c.loop-event.event-index,
+  c.loop-event-test.true,
+  record {
+    world = c.loop-event.self;
+    run = c.loop-event.invariant;
+    holds = subst (λ (w : World). Holds w) c.in-Err.ensures.unchanged c.into_trace.ensures.holds;
+    left = c.into_trace.ensures.trace ∙ ap left_of c.in-Err.ensures.unchanged;
+  },
+)
 
 pub returns-clause-run : goal.returns-clause-run
 returns-clause-run g c =
     let whole : take c.loop-event.event-index c.args.events.now ≡ c.args.events.now = take_all c.loop-event.event-index c.args.events.now (omega (arith, c.loop-event-test.false)) in
-    (c.loop-event.self, subst (λ (es : List Event). Run c.args.self (events_seen es) c.loop-event.self) whole c.loop-event.invariant, c.into_trace-2.ensures.trace)
+    record {
+      world = c.loop-event.self;
+      run = subst (λ (es : List Event). Run c.args.self (events_seen es) c.loop-event.self) whole c.loop-event.invariant;
+      holds = c.into_trace-2.ensures.holds;
+      left = c.into_trace-2.ensures.trace;
+    }

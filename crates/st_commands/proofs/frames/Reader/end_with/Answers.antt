@@ -11,7 +11,7 @@ returns-then-is_fresh-clause-answered g c =
       a.0,
       a.1,
       answers_whole c.args.self.now c.take_line.new.self c.args.last.now a.0 c.in_ok-take_line.ensures.next.0
-          (λ line stands. c.if-is_fresh.ensures line (subst (λ (x : LineState). StandsFor x line) line_is stands)) c.requires.last a.2,
+          (λ line stands. c.if-is_fresh.ensures.yes line (subst (λ (x : LineState). StandsFor x line) line_is stands)) c.requires.last a.2,
     )
 
 pub returns-clause-answered : goal.returns-clause-answered

@@ -6,7 +6,9 @@ use Rattle.st_hub.proofs.Totals.{totals_rise, keeps_rises}
 use Rattle.st_hub.proofs.hub.HubState.take_turn.Goals as goal
 
 pub publish-requires : goal.publish-requires
-publish-requires g c = subst (λ t. IsUpTo t (shown_of c.send-sent.new.self.core)) (sym c.self.invariant.0) (totals_rise _ _ (keeps_rises 0 _ _ c.send-sent.ensures.keeps))
+publish-requires g c = subst (λ t. IsUpTo t (shown_of c.send-sent.new.self.flow.core)) (sym c.self.invariant.0) (totals_rise _ _ (keeps_rises 0 _ _ c.send-sent.ensures.keeps))
 
 pub turn_at-requires : goal.turn_at-requires
-turn_at-requires g c = goes_expires _ _ _ _ _ _ (rw c.in-Ok-Some.field-0-is at c.in-Ok-Some.ensures.goes)
+turn_at-requires g c =
+    let sent = rw c.in-Ok-Some.is at c.send-sent.ensures.goes in
+    goes_expires _ _ _ _ _ _ (rw c.in-Ok-Some.field-0-is at sent)

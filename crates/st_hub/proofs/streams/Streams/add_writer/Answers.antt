@@ -1,5 +1,6 @@
 use Rattle.std.proofs.Common.{◌≡◌, ◌+◌, ◌*◌, ◌-◌, ◌<◌, ℕ, false, List, map, subst, arith}
-use Rattle.st_hub.specs.Flow.{Flow, Inlet, inlet_at, writer_out}
+use Rattle.st_hub.specs.Trying.{Beside}
+use Rattle.st_hub.specs.Flow.{Inlet, inlet_at, writer_out}
 use Rattle.st_hub.specs.Handing.{AllOut, IsTooLate, IsFreshWriter, AddsWriter, RefusesWriter}
 use Rattle.st_hub.specs.Inside.{inlet_of, outlet_of, flow_of}
 use Rattle.st_hub.specs.declared.error.HubError.TheVariants.{EightWriters, WriterTooLate}
@@ -10,7 +11,7 @@ pub returns-in_default-clause-refused : goal.returns-in_default-clause-refused
 returns-in_default-clause-refused g c =
     let xs = map inlet_of c.self.inside.writes.items in
     let none = subst (λ n. AllOut xs (n - 1)) c.from-place.ensures c.in_default.ensures.none in
-    (c.self.view_is, subst (λ (f : Flow _). RefusesWriter f c.args.stream EightWriters) c.self.view_is (c.if-not-is_stream.ensures, none))
+    (c.self.view_is, subst (λ (f : Beside _). RefusesWriter f.flow c.args.stream EightWriters) c.self.view_is (c.if-not-is_stream.ensures, none))
 
 not_all : {A : Type 0} (xs : List (Inlet A)) (s j : ℕ) → 0 < j → j < 8 → (inlet_at xs (8 * s + j)).out ≡ false → ¬ (AllOut xs s)
 not_all xs s j above below off all = absurd (let on = all j above below in cc)
@@ -22,7 +23,7 @@ returns-then-is_too_late-clause-refused g c =
     let p = c.from-place.result - 1 in
     let all = subst (λ n. ¬ (AllOut xs (n - 1))) c.from-place.ensures (not_all xs p c.in-Some.further f.0 f.1 f.2) in
     let late = subst (λ n. IsTooLate xs (n - 1)) c.from-place.ensures c.if-is_too_late.ensures in
-    (c.self.view_is, subst (λ (f : Flow _). RefusesWriter f c.args.stream WriterTooLate) c.self.view_is (c.if-not-is_stream.ensures, all, late))
+    (c.self.view_is, subst (λ (f : Beside _). RefusesWriter f.flow c.args.stream WriterTooLate) c.self.view_is (c.if-not-is_stream.ensures, all, late))
 
 pub invariant_of-self-2 : goal.invariant_of-self-2
 invariant_of-self-2 g c =
@@ -40,7 +41,7 @@ returns-clause-added g c =
     let j = c.in-Some.further in
     let p = c.from-place.result - 1 in
     let after : b ≡ record a { inlets = writer_out a.inlets (8 * p + j) } = λ k. record { core = i.core; inlets = e.out k; outlets = map outlet_of i.reads.items } in
-    subst (λ (x : Flow _). (j : ℕ) × AddsWriter x b c.args.stream w j) c.self.view_is (
+    subst (λ (x : Beside _). (j : ℕ) × AddsWriter x.flow b c.args.stream w j) c.self.view_is (
       j,
       record {
         is_open = c.if-not-is_stream.ensures;

@@ -1,7 +1,7 @@
-use Rattle.std.proofs.Common.{◌≡◌, ◌<◌, ◌++◌, ℕ, List, length, map, subst, refl, ◌∙◌}
-use Rattle.st_queues.specs.declared.items.Item.{Item}
-use Rattle.st_hub.specs.Flow.{Flow, inlet_at, Tied}
-use Rattle.st_hub.specs.Inside.{outlet_of}
+use Rattle.std.proofs.Common.{◌≡◌, ◌<◌, ◌++◌, ℕ, map, subst, refl, ap, ◌∙◌}
+use Rattle.st_hub.specs.Flow.{inlet_at, Tied}
+use Rattle.st_hub.specs.Trying.{Beside, known_at}
+use Rattle.st_hub.specs.Inside.{outlet_of, stands_at, flow_of}
 use Rattle.st_hub.proofs.Ties.{lanes_sound}
 use Rattle.st_hub.proofs.streams.Streams.meet_writer.Goals as goal
 
@@ -16,9 +16,12 @@ returns g c =
     let v = c.self.invariant in
     let m = c.meet_writer.ensures in
     let i = c.self.inside in
+    let flow : flow_of i.core c.meet_writer.new.writes.items i.reads.items ≡ flow_of i.core i.writes.items i.reads.items = λ k. record { core = i.core; inlets = m.lanes.1 k; outlets = map outlet_of i.reads.items } in
     record {
-      same = (λ k. record { core = i.core; inlets = m.lanes.1 k; outlets = map outlet_of i.reads.items }) ∙ c.self.view_is;
+      same = (flow ∙ ap (λ (a : Beside _). a.flow) c.self.view_is, ap (λ (a : Beside _). a.room) c.self.view_is);
       writer = m.writer;
-      whole = subst (λ (a : Flow _). (rest : List (Item _)) × (length rest ≡ c.meet_writer.result) × ((inlet_at a.inlets c.args.writer.now.ring).taken ++ rest ≡ c.args.writer.now.items)) c.self.view_is m.whole;
-      merged = subst (λ (a : Flow _). (s : ℕ) → s < 64 → Tied a s) c.self.view_is v.tied.each;
+      count = m.count;
+      others = λ r ne. m.others r ne ∙ ap (λ (a : Beside _). known_at a.known r) c.self.view_is;
+      whole = subst (λ (a : Beside _). (inlet_at a.flow.inlets c.args.writer.now.ring).taken ++ stands_at c.meet_writer.new.writes.items c.args.writer.now.ring ≡ c.args.writer.now.items) c.self.view_is m.whole;
+      merged = subst (λ (a : Beside _). (s : ℕ) → s < 64 → Tied a.flow s) c.self.view_is v.tied.each;
     }

@@ -1,5 +1,5 @@
 use Rattle.std.proofs.Common.{subst}
-use Rattle.st_hub.specs.Flow.{Flow}
+use Rattle.st_hub.specs.Trying.{Beside}
 use Rattle.st_hub.specs.Keeping.{Keeps}
 use Rattle.st_hub.proofs.Ties.{core_sound}
 use Rattle.st_hub.proofs.EndEvents.{offer_keeps}
@@ -10,4 +10,4 @@ pub invariant_of-self : goal.invariant_of-self
 invariant_of-self g c = core_sound _ _ 0 _ _ _ _ (offer_keeps _ _ c.args.stream c.args.amount _ c.offer.ensures.answers) (offer_opens _ _ c.args.stream c.args.amount _ c.offer.ensures.answers) c.self.invariant
 
 pub returns-clause-keeps : goal.returns-clause-keeps
-returns-clause-keeps g c = subst (λ (f : Flow _). Keeps 0 f.core c.offer.new.self) c.self.view_is (offer_keeps _ _ c.args.stream c.args.amount _ c.offer.ensures.answers)
+returns-clause-keeps g c = subst (λ (f : Beside _). Keeps 0 f.flow.core c.offer.new.self) c.self.view_is (offer_keeps _ _ c.args.stream c.args.amount _ c.offer.ensures.answers)

@@ -2,7 +2,7 @@ use Rattle.std.proofs.Common.{◌≡◌, ◌≢◌, ◌+◌, ◌-◌, ℕ, subst
 use Rattle.st_sender.specs.Sending.{outgoing_at}
 use Rattle.st_end.specs.Calls as calls
 use Rattle.st_end.specs.Calls.{OrWants, has_stream}
-use Rattle.st_hub.specs.Flow.{Flow}
+use Rattle.st_hub.specs.Trying.{Beside}
 use Rattle.st_hub.specs.Handing.{IsKnown, HandsOut}
 use Rattle.st_hub.specs.Inside.{flow_of, IsSound}
 use Rattle.st_hub.specs.Keeping.{Keeps}
@@ -13,7 +13,7 @@ use Rattle.st_hub.proofs.streams.Streams.open_stream.Goals as goal
 
 pub returns-in_err-stream-clause-keeps : goal.returns-in_err-stream-clause-keeps
 returns-in_err-stream-clause-keeps g c =
-    subst (λ (f : Flow _). Keeps 0 f.core c.open_stream.new.self) c.self.view_is (subst (Keeps 0 c.self.inside.core) (sym c.in_err-stream.ensures.unchanged) (keeps_same c.self.inside.core))
+    subst (λ (f : Beside _). Keeps 0 f.flow.core c.open_stream.new.self) c.self.view_is (subst (Keeps 0 c.self.inside.core) (sym c.in_err-stream.ensures.unchanged) (keeps_same c.self.inside.core))
 
 pub overflow_sub-place : goal.overflow_sub-place
 overflow_sub-place g c =
@@ -54,7 +54,7 @@ returns-clause-handed g c =
     let s = c.from-place.result - 1 in
     let e = c.ends-writer.ensures in
     let b = flow_of c.open_stream.new.self c.ends-writer.new.writes.items c.ends-writer.new.reads.items in
-    subst (λ (a : Flow _). (s : ℕ) × HandsOut a b c.in_ok-stream.stream c.ends-writer.result.0 c.ends-writer.result.1 s) c.self.view_is (
+    subst (λ (a : Beside _). (s : ℕ) × HandsOut a.flow b c.in_ok-stream.stream c.ends-writer.result.0 c.ends-writer.result.1 s) c.self.view_is (
       s,
       record {
         place = omega (arith, n.0, n.1, c.from-place.ensures);
@@ -67,11 +67,11 @@ returns-clause-handed g c =
 
 pub returns-clause-keeps : goal.returns-clause-keeps
 returns-clause-keeps g c =
-    subst (λ (f : Flow _). Keeps 0 f.core c.open_stream.new.self) c.self.view_is (opened_ok _ _ c.in_ok-stream.stream c.in_ok-stream.ensures.answers).keeps
+    subst (λ (f : Beside _). Keeps 0 f.flow.core c.open_stream.new.self) c.self.view_is (opened_ok _ _ c.in_ok-stream.stream c.in_ok-stream.ensures.answers).keeps
 
 pub returns-clause-answers : goal.returns-clause-answers
 returns-clause-answers g c =
-    subst (λ (f : Flow _). OrWants f.core (calls.open_stream f.core) (Ok c.in_ok-stream.stream, c.open_stream.new.self)) c.self.view_is c.in_ok-stream.ensures.answers
+    subst (λ (f : Beside _). OrWants f.flow.core (calls.open_stream f.flow.core) (Ok c.in_ok-stream.stream, c.open_stream.new.self)) c.self.view_is c.in_ok-stream.ensures.answers
 
 pub invariant_of-self : goal.invariant_of-self
 invariant_of-self g c =

@@ -1,5 +1,5 @@
 use Rattle.std.proofs.Common.{◌≡◌, ◌<◌, ◌∙◌, subst, sym}
-use Rattle.st_hub.specs.Flow.{Flow}
+use Rattle.st_hub.specs.Trying.{Beside, AllTried}
 use Rattle.st_hub.specs.Inside.{flow_of}
 use Rattle.st_hub.specs.Steps.{Flows, Continues}
 use Rattle.st_hub.specs.Keeping.{Rises}
@@ -20,8 +20,9 @@ returns g c =
     let k = steps_kept p.flows.0 _ _ v.tied.inlets v.tied.outlets p.flows.1 in
     let b = flow_of c.pump.new.core c.pump.new.writes.items c.pump.new.reads.items in
     record {
-      flows = subst (λ (a : Flow _). Flows a b) c.self.view_is p.flows;
-      rises = subst (λ (a : Flow _). Rises a.core b.core) c.self.view_is k.rises;
-      money = subst (λ (a : Flow _). b.core.receiving.credit ≡ a.core.receiving.credit) c.self.view_is k.credit;
-      continues = subst (λ (a : Flow _). Continues a b) c.self.view_is k.continues;
+      flows = subst (λ (a : Beside _). Flows a.flow b) c.self.view_is p.flows;
+      rises = subst (λ (a : Beside _). Rises a.flow.core b.core) c.self.view_is k.rises;
+      money = subst (λ (a : Beside _). b.core.receiving.credit ≡ a.flow.core.receiving.credit) c.self.view_is k.credit;
+      continues = subst (λ (a : Beside _). Continues a.flow b) c.self.view_is k.continues;
+      tried = λ had. subst (λ (a : Beside _). AllTried a.flow a.known a.room b) c.self.view_is (p.tried had);
     }

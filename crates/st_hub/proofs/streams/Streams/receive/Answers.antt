@@ -1,5 +1,5 @@
 use Rattle.std.proofs.Common.{subst}
-use Rattle.st_hub.specs.Flow.{Flow}
+use Rattle.st_hub.specs.Trying.{Beside}
 use Rattle.st_hub.specs.Keeping.{Keeps}
 use Rattle.st_hub.proofs.Ties.{core_sound}
 use Rattle.std.specs.Prelude.{IfOk}
@@ -18,7 +18,7 @@ pub returns-clause-answers : goal.returns-clause-answers
 returns-clause-answers g c = rw (← c.self.view_is) c.receive.ensures.answers
 
 pub returns-clause-keeps : goal.returns-clause-keeps
-returns-clause-keeps g c = subst (λ (f : Flow _). IfOk c.receive.result (λ r. Keeps (credited_by (received_seen r)) f.core c.receive.new.self)) c.self.view_is (receive_keeps _ _ c.args.bytes.now c.args.now c.receive.result c.receive.ensures.answers)
+returns-clause-keeps g c = subst (λ (f : Beside _). IfOk c.receive.result (λ r. Keeps (credited_by (received_seen r)) f.flow.core c.receive.new.self)) c.self.view_is (receive_keeps _ _ c.args.bytes.now c.args.now c.receive.result c.receive.ensures.answers)
 
 pub returns-clause-unchanged : goal.returns-clause-unchanged
 returns-clause-unchanged g c = rw (← c.self.view_is) c.receive.ensures.unchanged

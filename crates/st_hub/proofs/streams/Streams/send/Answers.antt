@@ -1,5 +1,5 @@
 use Rattle.std.proofs.Common.{subst}
-use Rattle.st_hub.specs.Flow.{Flow}
+use Rattle.st_hub.specs.Trying.{Beside}
 use Rattle.st_hub.specs.Keeping.{Keeps}
 use Rattle.st_hub.proofs.Ties.{core_sound}
 use Rattle.st_hub.proofs.CoreCalls.{send_keeps}
@@ -13,4 +13,4 @@ pub returns-clause-goes : goal.returns-clause-goes
 returns-clause-goes g c = rw (← c.self.view_is) c.send.ensures.goes
 
 pub returns-clause-keeps : goal.returns-clause-keeps
-returns-clause-keeps g c = subst (λ (f : Flow _). Keeps 0 f.core c.send.new.self) c.self.view_is (send_keeps _ _ c.args.iv c.args.now _ c.send.ensures.goes c.send.ensures.unchanged)
+returns-clause-keeps g c = subst (λ (f : Beside _). Keeps 0 f.flow.core c.send.new.self) c.self.view_is (send_keeps _ _ c.args.iv c.args.now _ c.send.ensures.goes c.send.ensures.unchanged)

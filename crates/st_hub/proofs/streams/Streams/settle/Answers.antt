@@ -1,5 +1,5 @@
 use Rattle.std.proofs.Common.{subst, sym}
-use Rattle.st_hub.specs.Flow.{Flow}
+use Rattle.st_hub.specs.Trying.{Beside}
 use Rattle.st_hub.specs.Keeping.{Keeps, OpensNoOwn}
 use Rattle.st_hub.proofs.Ties.{core_sound}
 use Rattle.st_hub.proofs.EndEvents.{ended_keeps}
@@ -10,4 +10,4 @@ pub invariant_of-self : goal.invariant_of-self
 invariant_of-self g c = core_sound _ _ 0 _ _ _ _ (subst (Keeps 0 _) (sym c.settle_flight.ensures.left) (ended_keeps _ _ _)) (subst (OpensNoOwn _) (sym c.settle_flight.ensures.left) (ended_opens _ _ _)) c.self.invariant
 
 pub returns-clause-keeps : goal.returns-clause-keeps
-returns-clause-keeps g c = subst (λ (f : Flow _). Keeps 0 f.core c.settle_flight.new.core) c.self.view_is (subst (Keeps 0 _) (sym c.settle_flight.ensures.left) (ended_keeps _ _ _))
+returns-clause-keeps g c = subst (λ (f : Beside _). Keeps 0 f.flow.core c.settle_flight.new.core) c.self.view_is (subst (Keeps 0 _) (sym c.settle_flight.ensures.left) (ended_keeps _ _ _))

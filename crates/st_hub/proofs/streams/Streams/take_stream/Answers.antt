@@ -1,6 +1,6 @@
 use Rattle.std.proofs.Common.{◌≡◌, ◌+◌, ℕ, Bool, subst, sym, refl, ◌∙◌, arith, true, false, inl}
 use Rattle.st_end.specs.Calls.{has_stream}
-use Rattle.st_hub.specs.Flow.{Flow}
+use Rattle.st_hub.specs.Trying.{Beside}
 use Rattle.st_hub.specs.Handing.{IsLeft, TakesLeft}
 use Rattle.st_hub.specs.Inside.{flow_of}
 use Rattle.st_hub.proofs.EndEvents.{keeps_same}
@@ -31,7 +31,7 @@ returns-clause-taken g c =
     let e = c.ends-writer.ensures in
     let paired = c.self.invariant.paired p f.0 in
     let b = flow_of c.self.inside.core c.ends-writer.new.writes.items c.ends-writer.new.reads.items in
-    subst (λ (a : Flow _). (s : ℕ) × TakesLeft a b (p + 1) c.ends-writer.result.0 c.ends-writer.result.1 s) c.self.view_is (
+    subst (λ (a : Beside _). (s : ℕ) × TakesLeft a.flow b (p + 1) c.ends-writer.result.0 c.ends-writer.result.1 s) c.self.view_is (
       c.from.result,
       record {
         left = subst (λ n. IsLeft (flow_of c.self.inside.core c.self.inside.writes.items c.self.inside.reads.items) n) (sym is) (record { peers = λ own. both_ways _ (paired.own own (inl f.1)) f.2; is_open = f.1; writer = paired.both ∙ f.2; reader = f.2 });

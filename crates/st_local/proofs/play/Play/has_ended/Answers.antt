@@ -1,4 +1,5 @@
-use Rattle.std.proofs.Common.{◌∙◌, ap}
+use Rattle.std.proofs.Common.{◌∙◌, ap, subst}
+use Rattle.st_world.specs.Holds.{Holds}
 use Rattle.st_chain.specs.Left.{left_of}
 use Rattle.st_local.specs.Playing.{Played}
 use Rattle.st_local.proofs.Plays.{ended_whole}
@@ -7,4 +8,4 @@ use Rattle.st_local.proofs.play.Play.has_ended.Goals as goal
 pub returns-in-Some-clause-whole : goal.returns-in-Some-clause-whole
 returns-in-Some-clause-whole g c =
     λ ended. ended_whole c.trace.result.now c.args.self.now.world c.args.stream c.in-Some.ledger.now c.told_end.result (c.trace.ensures.trace ∙ ap (λ (p : Played). left_of p.world) c.self.view_is)
-    c.trace.ensures.holds c.in-Some.ensures c.told_end.ensures ended
+    (subst (λ (p : Played). Holds p.world) c.self.view_is c.trace.ensures.holds) c.in-Some.ensures c.told_end.ensures ended

@@ -6,7 +6,7 @@ use Rattle.st_local.proofs.play.Play.pass.Goals as goal
 
 pub returns-clause-kept : goal.returns-clause-kept
 returns-clause-kept g c = record {
-  asked = c.take.ensures.asked;
-  events = omega (arith, c.in_ok-told.ensures.one);
+  asked = c.in_ok-told.ensures.tells.asked;
+  events = omega (arith, c.in_ok-told.ensures.tells.one);
   written = aside_kept c.args.self.now.world (event_seen c.args.event.now) (told_seen c.in_ok-told.told) c.take.new.self.world c.requires.aside c.in_ok-told.ensures.happens;
 }

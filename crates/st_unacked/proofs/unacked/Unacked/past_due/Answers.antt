@@ -6,4 +6,4 @@ use Rattle.st_unacked.proofs.unacked.Unacked.past_due.Goals as goal
 pub returns : goal.returns
 returns g c =
     subst (λ (s : Sent). IsPastDue s c.past_due.result) c.self.view_is
-    (past_view c.self.inside.runs.items c.self.inside.bytes.items c.self.inside.first c.self.invariant c.past_due.result c.past_due.ensures.past c.past_due.ensures.last)
+    (past_view c.self.inside.runs.items c.self.inside.bytes.items c.self.inside.first c.self.invariant.tiled c.past_due.result c.past_due.ensures.past c.past_due.ensures.last)

@@ -1,0 +1,20 @@
+use Rattle.std.proofs.Common.{length}
+use Rattle.st_local.specs.Parts.{part_size}
+use Rattle.st_local.proofs.Plays.{sends_then}
+use Rattle.st_local.proofs.Rounds.{writes_then}
+use Rattle.st_local.proofs.streams.write_all.Goals as goal
+
+pub returns-in_err-write_piece-clause-writes : goal.returns-in_err-write_piece-clause-writes
+returns-in_err-write_piece-clause-writes g c = writes_then c.args.play.now c.loop-sent.play c.write_piece.new.play c.loop-sent.invariant.writes c.write_piece.ensures.writes
+
+pub returns-then-not-branch-clause-writes : goal.returns-then-not-branch-clause-writes
+returns-then-not-branch-clause-writes g c = writes_then c.args.play.now c.loop-sent.play c.write_piece.new.play c.loop-sent.invariant.writes c.write_piece.ensures.writes
+
+pub loop-sent-preserved : goal.loop-sent-preserved
+loop-sent-preserved g c = record {
+  sends =
+      sends_then (part_size (length c.args.input.now) c.args.streams) c.args.input.now c.args.sent.now c.loop-sent.sent c.write_piece.new.sent c.args.play.now c.loop-sent.play c.write_piece.new.play c.loop-sent.invariant.sends
+      c.write_piece.ensures.sent;
+  writes = writes_then c.args.play.now c.loop-sent.play c.write_piece.new.play c.loop-sent.invariant.writes c.write_piece.ensures.writes;
+  within = c.write_piece.ensures.within;
+}

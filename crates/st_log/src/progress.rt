@@ -1,0 +1,150 @@
+//! The line that shows on a terminal how far a transfer is.
+
+ghost use Rattle.std.specs.Prelude.{◌≡◌, IfOk, Some, string_bytes};
+ghost use Rattle.st_log.specs.Progress as spec;
+ghost use Rattle.st_log.specs.declared.progress.Brief.TheVariants as brief;
+
+use crate::event::Cause;
+use crate::quote::code_text;
+use std::alloc::{AllocError, Global};
+
+/// Why an exchange brought no Fulfill, without the texts of a peer.
+#[derive(Clone, Copy, Debug, PartialEq, Eq)]
+pub enum Brief {
+    /// The link to the neighbour failed.
+    Link {
+        /// The number of its fault.
+        fault: u8,
+        /// The status of the response, where it is not 200.
+        status: Option<u16>,
+    },
+    /// No connection to the neighbour could be made in time, or there is no place where it is reached.
+    Unreached,
+    /// The answer is a Reject of this code.
+    Reject([u8; 3]),
+    /// The answer is a Fulfill that is not passed back.
+    Unfit,
+    /// The answer is neither a Fulfill nor a Reject.
+    Unreadable,
+    /// There was no memory for the exchange.
+    NoMemory,
+}
+
+/// How far a transfer is.
+#[derive(Clone, Copy, Debug, PartialEq, Eq)]
+pub struct Progress {
+    /// The bytes that were sent or received.
+    pub bytes: u64,
+    /// How many bytes the input has, where that is known.
+    pub length: Option<u64>,
+    /// The milliseconds since the transfer began.
+    pub millis: u64,
+    /// The units that were paid or received.
+    pub units: u64,
+    /// Why the last exchange without a Fulfill brought none. `None` where there was no such exchange.
+    pub last: Option<Brief>,
+}
+
+impl Cause<'_> {
+    /// The cause without the texts of a peer.
+    pub fn brief(&self) -> Brief
+        ensures { result ≡ spec.brief_of self.now }
+    {
+        match *self {
+            Cause::Link { fault, status } => Brief::Link { fault, status },
+            Cause::Unreached => Brief::Unreached,
+            Cause::Reject { code, .. } => Brief::Reject(code),
+            Cause::Unfit => Brief::Unfit,
+            Cause::Unreadable => Brief::Unreadable,
+            Cause::NoMemory => Brief::NoMemory,
+        }
+    }
+}
+
+/// How much of an input of this length so many bytes are, in percent.
+fn percent(bytes: u64, length: u64) -> u128
+    ensures { result ≡ spec.percent bytes length }
+{
+    if length == 0 {
+        return 100;
+    }
+    (u128::from(bytes) * 100 / u128::from(length)).min(100)
+}
+
+/// Bytes a second.
+fn rate(bytes: u64, millis: u64) -> u128
+    ensures { result ≡ spec.rate bytes millis }
+{
+    if millis == 0 {
+        return 0;
+    }
+    u128::from(bytes) * 1_000 / u128::from(millis)
+}
+
+fn part_text(alloc: Global, bytes: u64, length: Option<u64>) -> Result<String, AllocError>
+    ensures { IfOk result (λ text. string_bytes text ≡ spec.part_text bytes length) }
+{
+    let Some(length) = length else {
+        return Ok(String::new(alloc));
+    };
+    let percent = percent(bytes, length);
+    let text = format!(in alloc; " ({percent} %)")?;
+    Ok(text)
+}
+
+fn link_text(alloc: Global, fault: u8, status: Option<u16>) -> Result<String, AllocError>
+    ensures { IfOk result (λ text. string_bytes text ≡ spec.failure_text (Some (brief.Link fault status))) }
+{
+    let text = match status {
+        Some(status) => {
+            format!(in alloc; " (last failure: link fault {fault} status {status})")?
+        }
+        None => format!(in alloc; " (last failure: link fault {fault})")?,
+    };
+    Ok(text)
+}
+
+fn reject_text(alloc: Global, code: &[u8; 3]) -> Result<String, AllocError>
+    ensures { IfOk result (λ text. string_bytes text ≡ spec.failure_text (Some (brief.Reject code.now))) }
+{
+    let code = code_text(alloc, code)?;
+    let text = format!(in alloc; " (last failure: reject {code})")?;
+    Ok(text)
+}
+
+fn failure_text(alloc: Global, last: Option<Brief>) -> Result<String, AllocError>
+    ensures { IfOk result (λ text. string_bytes text ≡ spec.failure_text last) }
+{
+    match last {
+        None => Ok(String::new(alloc)),
+        Some(Brief::Link { fault, status }) => link_text(alloc, fault, status),
+        Some(Brief::Unreached) => String::from_str(alloc, " (last failure: unreached)"),
+        Some(Brief::Reject(code)) => reject_text(alloc, &code),
+        Some(Brief::Unfit) => String::from_str(alloc, " (last failure: fulfillment)"),
+        Some(Brief::Unreadable) => String::from_str(alloc, " (last failure: answer)"),
+        Some(Brief::NoMemory) => String::from_str(alloc, " (last failure: memory)"),
+    }
+}
+
+/// The line of a transfer that is so far: from the first column of a terminal, whose line it rewrites, and back to it. It has no
+/// other control character than these carriage returns and the sequence that clears the rest of the line.
+///
+/// Fails where memory is refused.
+pub fn shown(alloc: Global, progress: &Progress) -> Result<String, AllocError>
+    ensures { IfOk result (λ text. string_bytes text ≡ spec.shown_text progress.now) }
+{
+    let Progress {
+        bytes,
+        length,
+        millis,
+        units,
+        last,
+    } = *progress;
+    let part = part_text(alloc, bytes, length)?;
+    let rate = rate(bytes, millis);
+    let failure = failure_text(alloc, last)?;
+    let text = format!(in alloc;
+        "\r{bytes} bytes{part}, {rate} bytes/s, {units} units{failure}\x1b[K\r"
+    )?;
+    Ok(text)
+}

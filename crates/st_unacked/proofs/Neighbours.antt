@@ -1,0 +1,307 @@
+-- Neighbouring runs: what keeps them apart, how they are joined, and what lies in front of them.
+use Rattle.std.proofs.Common.{◌≡◌, ◌≢◌, ℕ, zero, suc, ◌+◌, ◌-◌, ◌*◌, ◌^◌, ◌<◌, ◌≤◌, Bool, true, false, cond, ◌&&◌, eqb, List, [], ◌∷◌, ◌++◌, length, map, take, drop, drop_of_length-le, set, get_or, Option, Some, None, IsSome, refl, ap, ◌∙◌, sym, subst, arith, inl, inr}
+use Rattle.std.specs.Prelude.{nat_lt, slice_index, if◌then◌else◌}
+use Rattle.std.specs.Option.{option_or, option_eq}
+use mathlib.Core.Bool.{beq}
+use Rattle.std.proofs.lemmas.Bool.{cases_lt}
+use Rattle.std.proofs.lemmas.Bool.Decides.{nat_tests}
+use Rattle.std.proofs.lemmas.List.{take_more_set}
+use Rattle.std.proofs.Math.Seq.{drop-cons, take-set-lt, get_or-take, length-take-le}
+use Rattle.st_tables.specs.Table.{is_between, table}
+use Rattle.st_unacked.specs.declared.run.Run.{Run}
+use Rattle.st_unacked.specs.declared.run.Status.{Status}
+use Rattle.st_unacked.specs.Sent.{is_by}
+use Rattle.st_unacked.specs.Runs.{status_at, flight_of, is_kept, shown_by, IsTiled, flown, claimed, Differs, Parted, gone_byte, FewGone, IsTidy, acknowledged_run, failed_run, dropped_run, Rise, end_of, IsJoined, HasMore, IsGoneFront}
+use Rattle.st_unacked.proofs.Steps.{no_more, appended, lengthened}
+use Rattle.st_unacked.proofs.Views.{run_end}
+
+-- statuses whose test for equality fails
+alike : (f : Option ℕ) (k : Bool) → (option_eq eqb f f && beq k k) ≡ true
+alike None true = refl
+alike None false = refl
+alike (Some n) true = grind (arith, nat_tests)
+alike (Some n) false = grind (arith, nat_tests)
+
+pub not_alike : (s t : Status) → false ≡ (option_eq eqb s.flight t.flight && beq s.kept t.kept) → s ≢ t
+not_alike s t h e = absurd (let z : false ≡ true = h ∙ subst (λ (x : Status). (option_eq eqb s.flight x.flight && beq s.kept x.kept) ≡ true) e (alike s.flight s.kept) in cc)
+
+-- ---- no run is empty
+
+pub parted_rise : (first : ℕ) (rs : List Run) → Parted first rs → Rise first rs
+parted_rise first [] h = h
+parted_rise first (r ∷ rs) h = (h.0, parted_rise r.end rs h.2)
+
+pub rise_map : (f : Run → Run) → ((r : Run) → (f r).end ≡ r.end) → (first : ℕ) (rs : List Run) → Rise first rs → Rise first (map f rs)
+rise_map f e first [] h = h
+rise_map f e first (r ∷ rs) h = (subst (λ n. first < n) (sym (e r)) h.0, subst (λ n. Rise n (map f rs)) (sym (e r)) (rise_map f e r.end rs h.1))
+
+pub rise_acked : (sequence first : ℕ) (rs : List Run) → Parted first rs → Rise first (map (acknowledged_run sequence) rs)
+rise_acked sequence first rs h = rise_map (acknowledged_run sequence) (λ r. run_end (is_by sequence r.status.flight) r _) first rs (parted_rise first rs h)
+
+pub rise_freed : (sequence first : ℕ) (rs : List Run) → Parted first rs → Rise first (map (failed_run sequence) rs)
+rise_freed sequence first rs h = rise_map (failed_run sequence) (λ r. run_end (is_by sequence r.status.flight) r _) first rs (parted_rise first rs h)
+
+pub rise_dropped : (first : ℕ) (rs : List Run) → Parted first rs → Rise first (map dropped_run rs)
+rise_dropped first rs h = rise_map dropped_run (λ r. refl) first rs (parted_rise first rs h)
+
+-- ---- where the last run ends
+
+pub end_last : (first : ℕ) (rs : List Run) (n : ℕ) (d : Run) → length rs ≡ suc n → end_of first rs ≡ (get_or rs n d).end
+end_last first [] n d l = absurd cc
+end_last first (x ∷ rs) zero d l = ap (end_of x.end) (no_more rs (omega arith))
+end_last first (x ∷ rs) (suc n) d l = end_last x.end rs n d (omega arith)
+
+end_more : (first : ℕ) (rs : List Run) (r : Run) → end_of first (rs ++ r ∷ []) ≡ r.end
+end_more first [] r = refl
+end_more first (x ∷ rs) r = end_more x.end rs r
+
+end_set : (first : ℕ) (rs : List Run) (n : ℕ) (r : Run) → length rs ≡ suc n → end_of first (set rs n r) ≡ r.end
+end_set first [] n r l = absurd cc
+end_set first (x ∷ rs) zero r l = ap (end_of r.end) (no_more rs (omega arith))
+end_set first (x ∷ rs) (suc n) r l = end_set x.end rs n r (omega arith)
+
+-- ---- one more run, of another status or of the same
+
+pub parted_more : (first : ℕ) (rs : List Run) (n : ℕ) (d r : Run) → length rs ≡ suc n → (get_or rs n d).status ≢ r.status → (get_or rs n d).end < r.end → Parted first rs → Parted first (rs ++ r ∷ [])
+parted_more first [] n d r l o m h = absurd cc
+parted_more first (x ∷ []) zero d r l o m h = (h.0, o, (m, tt, tt))
+parted_more first (x ∷ []) (suc n) d r l o m h = absurd (omega arith)
+parted_more first (x ∷ y ∷ rs) zero d r l o m h = absurd (omega arith)
+parted_more first (x ∷ y ∷ rs) (suc n) d r l o m h = (h.0, h.1, parted_more x.end (y ∷ rs) n d r (omega arith) o m h.2)
+
+still : (s : Status) (rs : List Run) (n : ℕ) (d r : Run) → n < length rs → (get_or rs n d).status ≡ r.status → Differs s rs → Differs s (set rs n r)
+still s [] n d r l e h = h
+still s (y ∷ rs) zero d r l e h = subst (λ t. s ≢ t) e h
+still s (y ∷ rs) (suc n) d r l e h = h
+
+pub parted_longer : (first : ℕ) (rs : List Run) (n : ℕ) (d r : Run) → length rs ≡ suc n → (get_or rs n d).status ≡ r.status → (get_or rs n d).end ≤ r.end → Parted first rs → Parted first (set rs n r)
+parted_longer first [] n d r l e m h = absurd cc
+parted_longer first (x ∷ []) zero d r l e m h = (omega (arith, h.0, m), tt, tt)
+parted_longer first (x ∷ []) (suc n) d r l e m h = absurd (omega arith)
+parted_longer first (x ∷ y ∷ rs) zero d r l e m h = absurd (omega arith)
+parted_longer first (x ∷ y ∷ rs) (suc n) d r l e m h = (h.0, still x.status (y ∷ rs) n d r (omega arith) e h.1, parted_longer x.end (y ∷ rs) n d r (omega arith) e m h.2)
+
+-- ---- a run that is put behind so many
+
+pub put_first : (first : ℕ) (rs : List Run) (count : ℕ) (r : Run) → count ≡ 0 → 0 < length rs → end_of first (take count rs) < r.end → HasMore first (take count rs) r (take 1 (set rs 0 r))
+put_first first rs count r none l m =
+    subst (λ k. HasMore first (take k rs) r (take 1 (set rs 0 r))) (sym none)
+    (subst (HasMore first [] r) (sym (take_more_set rs 0 r l)) (record {
+      parted = (subst (λ k. end_of first (take k rs) < r.end) none m, tt, tt);
+      ends = refl;
+      status = λ q. refl;
+    }))
+
+module _ (first : ℕ) (rs : List Run) (count n : ℕ) (d r : Run) (some : count ≡ suc n) (within : count ≤ length rs) (parted : Parted first (take count rs)) (further : end_of first (take count rs) < r.end) where
+  counts : length (take count rs) ≡ suc n
+  counts = length-take-le count rs within ∙ some
+
+  at : get_or (take count rs) n d ≡ get_or rs n d
+  at = get_or-take count rs n d (omega (arith, some))
+
+  beyond : (get_or (take count rs) n d).end < r.end
+  beyond = subst (λ e. e < r.end) (end_last first (take count rs) n d counts) further
+
+  pub put_more : count < length rs → (get_or rs n d).status ≢ r.status → HasMore first (take count rs) r (take (count + 1) (set rs count r))
+  put_more l o = subst (HasMore first (take count rs) r) (sym (take_more_set rs count r l)) (record {
+    parted = parted_more first (take count rs) n d r counts (λ e. o (ap (λ (x : Run). x.status) (sym at) ∙ e)) beyond parted;
+    ends = end_more first (take count rs) r;
+    status = appended (take count rs) r;
+  })
+
+  pub put_same : (get_or rs n d).status ≡ r.status → HasMore first (take count rs) r (take count (set rs n r))
+  put_same e =
+      let same : (get_or (take count rs) n d).status ≡ r.status = ap (λ (x : Run). x.status) at ∙ e in
+      let most : (get_or (take count rs) n d).end ≤ r.end = omega (arith, beyond) in
+      subst (HasMore first (take count rs) r) (sym (take-set-lt count rs n r (omega (arith, some)))) (record {
+        parted = parted_longer first (take count rs) n d r counts same most parted;
+        ends = end_set first (take count rs) n r counts;
+        status = λ q. lengthened (take count rs) n d r.end r.status q counts same most;
+      })
+
+-- ---- the runs so far, and those that are left
+
+pub record Joining (first : ℕ) (rs ts : List Run) (count i : ℕ) : Type 0 where
+  pub parted : Parted first (take count ts)
+  pub rise : Rise (end_of first (take count ts)) (drop i ts)
+  pub same : (q : ℕ) → option_or (status_at (take count ts) q) (status_at (drop i ts) q) ≡ status_at rs q
+
+pub joining_none : (first : ℕ) (rs : List Run) → Rise first rs → Joining first rs rs 0 0
+joining_none first rs h = record { parted = tt; rise = h; same = λ q. refl }
+
+and_then : (g t : Option Status) (b : Bool) (s : Status) → option_or (option_or g (cond b (Some s) None)) t ≡ option_or g (cond b (Some s) t)
+and_then None t true s = refl
+and_then None t false s = refl
+and_then (Some x) t b s = refl
+
+pub joining_more : (first : ℕ) (rs ts us : List Run) (count next i : ℕ) (d r : Run) → i < length ts → r ≡ get_or ts i d → drop (i + 1) us ≡ drop (i + 1) ts
+    → (Parted first (take count ts) → end_of first (take count ts) < r.end → HasMore first (take count ts) r (take next us)) → Joining first rs ts count i → Joining first rs us next (i + 1)
+joining_more first rs ts us count next i d r l at rest puts j =
+    let goes : drop i ts ≡ r ∷ drop (i + 1) ts = drop-cons ts i d l ∙ ap (λ n. get_or ts i d ∷ drop n ts) (let e : suc i ≡ i + 1 = omega arith in e) ∙ ap (λ (x : Run). x ∷ drop (i + 1) ts) (sym at) in
+    let rise : Rise (end_of first (take count ts)) (r ∷ drop (i + 1) ts) = subst (Rise (end_of first (take count ts))) goes j.rise in
+    let more : HasMore first (take count ts) r (take next us) = puts j.parted rise.0 in
+    record {
+      parted = more.parted;
+      rise = subst (λ e. Rise e (drop (i + 1) us)) (sym more.ends) (subst (Rise r.end) (sym rest) rise.1);
+      same = λ q.
+          ap (λ s. option_or s (status_at (drop (i + 1) us) q)) (more.status q)
+          ∙ ap (λ xs. option_or (option_or (status_at (take count ts) q) (cond (nat_lt q r.end) (Some r.status) None)) (status_at xs q)) rest
+          ∙ and_then (status_at (take count ts) q) (status_at (drop (i + 1) ts) q) (nat_lt q r.end) r.status
+          ∙ ap (λ xs. option_or (status_at (take count ts) q) (status_at xs q)) (sym goes)
+          ∙ j.same q;
+    }
+
+or_none : (g : Option Status) → option_or g None ≡ g
+or_none None = refl
+or_none (Some s) = refl
+
+pub joining_all : (first : ℕ) (rs ts : List Run) (count i : ℕ) → length ts ≤ i → Joining first rs ts count i → IsJoined first rs (take count ts)
+joining_all first rs ts count i l j = record {
+  parted = j.parted;
+  same = λ q. sym (or_none (status_at (take count ts) q)) ∙ ap (λ xs. option_or (status_at (take count ts) q) (status_at xs q)) (sym (drop_of_length-le ts l)) ∙ j.same q;
+}
+
+-- ---- what says the same
+
+pub same_view : (rs ts : List Run) (bytes : List ℕ) (first : ℕ) → ((q : ℕ) → status_at ts q ≡ status_at rs q) → shown_by ts bytes first ≡ shown_by rs bytes first
+same_view rs ts bytes first same = λ i. record {
+  unacked = table (λ q. if is_kept (same q i) then Some (slice_index bytes (q - first)) else None) first (length bytes);
+  flying = table (λ q. flight_of (same q i)) first (length bytes);
+  accepted = first + length bytes;
+}
+
+pub same_tiled : (rs ts : List Run) (first n : ℕ) → ((q : ℕ) → status_at ts q ≡ status_at rs q) → IsTiled rs first n → IsTiled ts first n
+same_tiled rs ts first n same t = record {
+  inside = λ q l m. subst IsSome (sym (same q)) (t.inside q l m);
+  outside = λ q l. same q ∙ t.outside q l;
+  fits = t.fits;
+}
+
+-- ---- what lies in front
+
+not_below : (q e : ℕ) → e ≤ q → nat_lt q e ≡ false
+not_below q e l = grind (arith, nat_tests)
+
+below : (q e : ℕ) → q < e → nat_lt q e ≡ true
+below q e l = grind (arith, nat_tests)
+
+nothing_there : (s : Option Status) → s ≡ None → s ≢ gone_byte
+nothing_there None n e = absurd cc
+nothing_there (Some s) n e = absurd cc
+
+pub front_empty : (rs : List Run) (first : ℕ) → length rs ≤ 0 → IsGoneFront rs first 0 first
+front_empty rs first l = record {
+  within = omega arith;
+  from = omega arith;
+  gone = λ q m b. absurd (omega arith);
+  rest = λ q m. refl;
+  parted = subst (Parted first) (sym (no_more rs l)) tt;
+  ends = nothing_there (status_at rs first) (ap (λ xs. status_at xs first) (no_more rs l));
+}
+
+status_of : (s t : Status) → Some s ≡ Some t → s ≡ t
+status_of s t e = ap (λ (o : Option Status). or_else o) e
+  where
+    or_else : Option Status → Status
+    or_else None = s
+    or_else (Some x) = x
+
+-- the first run's status stands at the first offset
+leads : (r : Run) (rs : List Run) (q : ℕ) → q < r.end → status_at (r ∷ rs) q ≡ Some r.status
+leads r rs q l = ap (λ b. cond b (Some r.status) (status_at rs q)) (below q r.end l)
+
+passes : (r : Run) (rs : List Run) (q : ℕ) → r.end ≤ q → status_at (r ∷ rs) q ≡ status_at rs q
+passes r rs q l = ap (λ b. cond b (Some r.status) (status_at rs q)) (not_below q r.end l)
+
+pub front_other : (rs : List Run) (first : ℕ) (d r : Run) → 0 < length rs → r ≡ get_or rs 0 d → Some r.status ≢ gone_byte → Parted first rs → IsGoneFront rs first 0 first
+front_other [] first d r l at o h = absurd (omega arith)
+front_other (x ∷ rs) first d r l at o h = record {
+  within = omega arith;
+  from = omega arith;
+  gone = λ q m b. absurd (omega arith);
+  rest = λ q m. refl;
+  parted = h;
+  ends = λ e. o (ap (λ (y : Run). Some y.status) at ∙ sym (leads x rs first h.0) ∙ e);
+}
+
+after_front : (s : Status) (e : ℕ) (rs : List Run) → Some s ≡ gone_byte → Differs s rs → Parted e rs → status_at rs e ≢ gone_byte
+after_front s e [] g o h f = absurd cc
+after_front s e (y ∷ rs) g o h f = o (status_of s y.status (g ∙ sym f ∙ leads y rs e h.0))
+
+pub front_gone : (rs : List Run) (first : ℕ) (d r : Run) → 0 < length rs → r ≡ get_or rs 0 d → Some r.status ≡ gone_byte → Parted first rs → IsGoneFront rs first 1 r.end
+front_gone [] first d r l at g h = absurd (omega arith)
+front_gone (x ∷ rs) first d r l at g h =
+    subst (λ (y : Run). IsGoneFront (x ∷ rs) first 1 y.end) (sym at) (record {
+      within = omega arith;
+      from = omega (arith, h.0);
+      gone = λ q m b. leads x rs q b ∙ is;
+      rest = λ q m. passes x rs q m;
+      parted = h.2;
+      ends = λ e. after_front x.status x.end rs is h.1 h.2 (sym (passes x rs x.end (omega arith)) ∙ e);
+    })
+  where
+    is : Some x.status ≡ gone_byte
+    is = ap (λ (y : Run). Some y.status) (sym at) ∙ g
+
+-- ---- few bytes are gone
+
+pub few_front : (rs : List Run) (first n end : ℕ) → status_at rs end ≢ gone_byte → first ≤ end → 2 * (end - first) ≤ n → FewGone rs first n
+few_front rs first n end o l m q a all = elim (cases_lt end q) [
+  | inl b ↦ absurd (o (all end l b))
+  | inr b ↦ omega arith
+]
+
+pub few_less : (rs ts : List Run) (first n m : ℕ) → n ≤ m → ((q : ℕ) → first ≤ q → status_at ts q ≡ gone_byte → status_at rs q ≡ gone_byte) → FewGone rs first n → FewGone ts first m
+few_less rs ts first n m l back few q a all = let f = few q a (λ p b c. back p b (all p b c)) in omega (arith, f, l)
+
+-- ---- a claim
+
+claimed_some : (b : Bool) (sequence : ℕ) (s : Option Status) → IsSome s → IsSome (if b then flown sequence s else s)
+claimed_some true sequence None h = absurd cc
+claimed_some true sequence (Some s) h = refl
+claimed_some false sequence s h = h
+
+claimed_none : (b : Bool) (sequence : ℕ) (s : Option Status) → s ≡ None → (if b then flown sequence s else s) ≡ None
+claimed_none true sequence None h = refl
+claimed_none true sequence (Some s) h = absurd cc
+claimed_none false sequence s h = h
+
+claimed_gone : (b : Bool) (sequence : ℕ) (s : Option Status) → (if b then flown sequence s else s) ≡ gone_byte → s ≡ gone_byte
+claimed_gone true sequence None h = absurd cc
+claimed_gone true sequence (Some s) h = absurd (let z : Some sequence ≡ None = ap flight_of h in cc)
+claimed_gone false sequence s h = h
+
+pub tidy_claimed : (rs ts : List Run) (first n sequence from to : ℕ) → Parted first ts → ((q : ℕ) → first ≤ q → status_at ts q ≡ claimed sequence from to q (status_at rs q)) → IsTidy rs first n → IsTidy ts first n
+tidy_claimed rs ts first n sequence from to parted claims t = record {
+  tiled = record {
+    inside = λ q l m. subst IsSome (sym (claims q l)) (claimed_some (is_between from to q) sequence (status_at rs q) (t.tiled.inside q l m));
+    outside = λ q l. claims q (omega arith) ∙ claimed_none (is_between from to q) sequence (status_at rs q) (t.tiled.outside q l);
+    fits = t.tiled.fits;
+  };
+  parted = parted;
+  few = few_less rs ts first n n (omega arith) (λ q l e. claimed_gone (is_between from to q) sequence (status_at rs q) (sym (claims q l) ∙ e)) t.few;
+}
+
+-- ---- more bytes
+
+more_gone : (b : Bool) (s : Option Status) → option_or s (if b then Some (record { flight = None; kept = true }) else None) ≡ gone_byte → s ≡ gone_byte
+more_gone true None e = absurd (let z : true ≡ false = ap is_kept e in cc)
+more_gone false None e = absurd cc
+more_gone b (Some s) e = e
+
+pub tidy_accepted : (rs ts : List Run) (first n m : ℕ) → first + n + m < 2 ^ 64 → Parted first ts
+    → ((q : ℕ) → first ≤ q → status_at ts q ≡ option_or (status_at rs q) (if nat_lt q (first + n + m) then Some (record { flight = None; kept = true }) else None)) → IsTidy rs first n → IsTidy ts first (n + m)
+tidy_accepted rs ts first n m fits parted appends t = record {
+  tiled = record {
+    inside = λ q l k. subst IsSome (sym (appends q l ∙ ap (λ b. option_or (status_at rs q) (if b then Some (record { flight = None; kept = true }) else None)) (below q (first + n + m) (omega arith)))) (either (status_at rs q));
+    outside = λ q l. appends q (omega arith) ∙ ap (λ b. option_or (status_at rs q) (if b then Some (record { flight = None; kept = true }) else None)) (not_below q (first + n + m) (omega arith))
+        ∙ or_none (status_at rs q) ∙ t.tiled.outside q (omega arith);
+    fits = omega (arith, fits);
+  };
+  parted = parted;
+  few = few_less rs ts first n (n + m) (omega arith) (λ q l e. more_gone (nat_lt q (first + n + m)) (status_at rs q) (sym (appends q l) ∙ e)) t.few;
+}
+  where
+    either : (s : Option Status) → IsSome (option_or s (Some (record { flight = None; kept = true })))
+    either None = refl
+    either (Some s) = refl
