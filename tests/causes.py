@@ -196,7 +196,16 @@ def a_message_forges_no_line(play):
     return fails(play, answering(play, reject(b"F00", b"test.x", text)).port, 58, FAILED, wanted)
 
 
-# The other side's log.
+# The other side's log, of which a line is written once its answer was sent.
+
+
+def comes(process, wanted):
+    """The log of a process that goes on has just these kinds of lines, within ten seconds."""
+    until = time.monotonic() + 10
+    while (seen := kinds(process, "start", "more", "totals")) != wanted and time.monotonic() < until:
+        time.sleep(0.02)
+    want(seen == wanted, f"log {seen}")
+    return " / ".join(seen)
 
 
 @test(waits=True)
@@ -204,18 +213,14 @@ def a_connector_says_what_it_refused_and_what_failed(play):
     hub = play.connector(table_to(free_port()))
     ended(play.send(hub.port, some_bytes(1_000), "--workers=1"), 60)
     asked((HOST, hub.port), request("x", b"\0"), 5)
-    seen = kinds(hub, "start", "more", "totals")
-    want(seen == ["connection status=401", "exchange neighbour=1 cause=unreached"], f"log {seen}")
-    return " / ".join(seen)
+    return comes(hub, ["connection status=401", "exchange neighbour=1 cause=unreached"])
 
 
 @test(waits=True)
 def a_receiver_says_what_it_refused(play):
     receiver = play.receive()
     ended(play.send(receiver.port, some_bytes(1_000), "--workers=1", secret="ff" * 32), 60)
-    seen = kinds(receiver, "start", "more", "totals")
-    want(seen == ["refused neighbour=0 code=F06 reason=31"], f"log {seen}")
-    return " / ".join(seen)
+    return comes(receiver, ["refused neighbour=0 code=F06 reason=31"])
 
 
 @test(waits=True)
