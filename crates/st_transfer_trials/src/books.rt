@@ -9,7 +9,7 @@ use st_desk::{Link, Till};
 use st_http::{Answerer, is_field_text, serve_one};
 use st_ilp::Moment;
 use st_link::HttpLink;
-use st_oer::{Counting, Rate};
+use st_oer::Counting;
 use st_transfer::{ConnectorEnded, MOST_THREADS, TransferError};
 use std::alloc::Global;
 use std::net::{Net, TcpListener, TcpStream};
@@ -188,10 +188,9 @@ fn refuse_the_second<
     } = listen(rt, alloc);
     let Place { listener, host } = listen(rt, alloc);
     let (hub, host) = (hub.as_str(), host.as_str());
-    let same = Rate::new(1, 1).unwrap();
     let (ended, (_, asked)) = thread::join(
         rt,
-        || connect_storing(rt, alloc, hub_listener, host, same, workers, Some(till)),
+        || connect_storing(rt, alloc, hub_listener, host, workers, Some(till)),
         || {
             thread::join(
                 rt,

@@ -3,11 +3,11 @@
 ghost use Rattle.std.specs.Prelude.{⊤};
 
 use crate::books::{FULFILL, PREPARE, ask_with};
-use crate::sides::{TOKEN, TURNS, connect_telling};
+use crate::sides::{Crossing, TOKEN, TURNS, connect_telling, crossing};
 use crate::transfers::{listen, use_up};
 use st_desk::{NoBooks, Till};
 use st_http::{Answerer, serve_one};
-use st_oer::{Counting, Rate};
+use st_oer::Counting;
 use st_transfer::{AccountCounts, AccountTotals, CodeCount, Counts, Minutes};
 use std::alloc::Global;
 use std::net::{Net, TcpListener};
@@ -92,16 +92,19 @@ fn each_prepare_counts_as_it_ended(rt: HostRuntime) {
     let alloc = rt.alloc();
     let (hub, end) = (listen(&rt, alloc), listen(&rt, alloc));
     let (hub_listener, hub_host) = (hub.listener, hub.host.as_str());
-    let (listener, next) = (end.listener, end.host.as_str());
+    let listener = end.listener;
     let none = None::<&Till<NoBooks, Global>>;
-    let same = Rate::new(1, 1).unwrap();
+    let often = Crossing {
+        period: 10,
+        ..crossing(end.host.as_str())
+    };
     let mut told = Told {
         times: 0,
         fulfilled: 0,
     };
     let (ended, _) = thread::join(
         &rt,
-        || connect_telling(&rt, alloc, hub_listener, next, same, 4, none, 10, &mut told),
+        || connect_telling(&rt, alloc, hub_listener, often, none, &mut told),
         || {
             thread::join(
                 &rt,

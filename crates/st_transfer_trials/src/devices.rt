@@ -2,14 +2,14 @@
 
 use crate::sides::{Terms, connect, receive, send, with_money};
 use crate::transfers::{Kept, Place, listen, pattern, transfer, transfer_into};
+use crate::wires::{Door, Seen};
 use st_file::FileError;
-use st_oer::{Counting, FailAt, Rate};
-use st_transfer::{AwaitListener, TransferError};
+use st_oer::{Counting, FailAt};
+use st_transfer::TransferError;
 use std::alloc::Global;
-use std::cell::Cell;
 use std::io;
 use std::io::{ErrorKind, Write};
-use std::net::{Net, OpenListener, SocketAddr, TcpListener, TcpStream};
+use std::net::{Net, TcpListener, TcpStream};
 use std::process::Abort;
 use std::sync::Wait;
 use std::thread::Threads;
@@ -155,23 +155,6 @@ fn an_output_that_is_always_interrupted_uses_up_the_turns(rt: HostRuntime) {
     assert!(rt; sent == Err(TransferError::Failed));
 }
 
-/// A listener of which each accept fails. It counts them.
-#[derive(Drop)]
-struct Failing<'a> {
-    asked: &'a Cell<u64>,
-}
-
-impl OpenListener for Failing<'_> {
-    type Stream = TcpStream;
-
-    fn accept(&self) -> io::Result<(TcpStream, SocketAddr)> {
-        self.asked.set(self.asked.get().saturating_add(1));
-        Err(io::Error::from(ErrorKind::Other))
-    }
-}
-
-impl AwaitListener for Failing<'_> {}
-
 /// A listener gives no connection, since each accept fails, or since it does not wait: a receiver ends after 100 failures in
 /// a row, and so do the workers of a connector.
 #[test]
@@ -181,18 +164,21 @@ fn a_listener_that_gives_no_connection_is_a_fault(rt: HostRuntime) {
     drop(listener);
     let mut writer = Counting::new(Vec::new(alloc));
     let begun = Instant::now(&rt).expect(&rt, "there is a clock");
-    let asked = Cell::new(0);
-    let failing = Failing { asked: &asked };
-    let told = receive(&rt, alloc, failing, &mut writer, with_money(0, 1));
+    let seen = Seen::at(0);
+    let door = Door {
+        seen: &seen,
+        brings: None,
+        k: 0,
+    };
+    let told = receive(&rt, alloc, door, &mut writer, with_money(0, 1));
     assert!(rt; told == Err(TransferError::Accept));
-    assert!(rt; asked.get() == 100);
+    assert!(rt; seen.asked() == 100);
     let took = begun.elapsed(&rt).expect(&rt, "there is a clock");
     assert!(rt; took >= Duration::from_secs(1));
     assert!(rt; told.err().map(|e| e.number()) == Some(80));
     assert!(rt; writer.into_inner().len() == 0);
     let between = listen(&rt, alloc);
     assert!(rt; between.listener.set_nonblocking(true).is_ok());
-    let same = Rate::new(1, 1).unwrap();
-    let owed = connect(&rt, alloc, between.listener, host.as_str(), same);
+    let owed = connect(&rt, alloc, between.listener, host.as_str());
     assert!(rt; owed == Err(TransferError::Accept));
 }

@@ -18,10 +18,10 @@ mod served;
 #[cfg(test)]
 mod sides;
 #[cfg(test)]
-mod spoiled;
-#[cfg(test)]
 mod times;
 #[cfg(test)]
 mod totals;
 #[cfg(test)]
 mod transfers;
+#[cfg(test)]
+mod wires;

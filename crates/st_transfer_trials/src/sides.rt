@@ -143,8 +143,8 @@ where
     }
 }
 
-/// A hop with the sender's side behind account 0, and the receiver's behind account 1 at this rate.
-fn new_hop(alloc: Global, rate: Rate) -> Result<HopState<Global>, HopError> {
+/// A hop with the sender's side behind account 0, and the receiver's behind account 1, which exchanges one for one.
+fn new_hop(alloc: Global) -> Result<HopState<Global>, HopError> {
     let account = Account {
         limit: 1_000_000,
         max_packet: 1_000_000,
@@ -152,24 +152,37 @@ fn new_hop(alloc: Global, rate: Rate) -> Result<HopState<Global>, HopError> {
     let route = Route {
         prefix: RECEIVER,
         account: 1,
-        rate,
+        rate: Rate::new(1, 1).unwrap(),
     };
     HopState::new(alloc, "test.h", &[account, account], &[route])
 }
 
-/// A connector of 1,000 requests and four workers, with the receiver's side at the host `next`, that exchanges amounts at
-/// this rate. It tells what all accounts owe, and what it owes them.
+/// At which host a connector reaches the receiver's side, how many requests it takes by how many workers, and of how many
+/// milliseconds a period is after which it tells its totals.
+#[derive(Clone, Copy)]
+pub(crate) struct Crossing<'a> {
+    pub(crate) next: &'a str,
+    pub(crate) requests: u64,
+    pub(crate) workers: u8,
+    pub(crate) period: u64,
+}
+
+/// By this host, with 1,000 requests, four workers and a period of an hour.
+pub(crate) fn crossing(next: &str) -> Crossing<'_> {
+    Crossing {
+        next,
+        requests: 1_000,
+        workers: 4,
+        period: 3_600_000,
+    }
+}
+
+/// A connector, with the receiver's side at the host `next`. It tells what all accounts owe, and what it owes them.
 pub(crate) fn connect<
     R: Net<Listener = TcpListener, Stream = TcpStream> + Threads + Wait + std::time::Clock + Sync,
->(
-    rt: &R,
-    alloc: Global,
-    listener: TcpListener,
-    next: &str,
-    rate: Rate,
-) -> Result<Owed, TransferError> {
+>(rt: &R, alloc: Global, listener: TcpListener, next: &str) -> Result<Owed, TransferError> {
     let till = None::<&Till<NoBooks, Global>>;
-    connect_storing(rt, alloc, listener, next, rate, 4, till)?.result
+    connect_storing(rt, alloc, listener, next, 4, till)?.result
 }
 
 /// How such a connector ended, with so many workers, and with a till or without; an error where there is no memory for its
@@ -182,80 +195,48 @@ pub(crate) fn connect_storing<
     alloc: Global,
     listener: TcpListener,
     next: &str,
-    rate: Rate,
     workers: u8,
     till: Option<&Till<K, Global>>,
 ) -> Result<ConnectorEnded, TransferError> {
-    let minutes = &mut NoMinutes;
-    connect_telling(
-        rt, alloc, listener, next, rate, workers, till, 3_600_000, minutes,
-    )
-}
-
-/// The terms of such a connector, of whose totals something is told each period of so many milliseconds.
-fn terms_of<'a>(
-    tokens: &'a [&'a str],
-    neighbours: &'a [Option<Neighbour<'a>>],
-    workers: u8,
-    period: u64,
-) -> ConnectTerms<'a> {
-    ConnectTerms {
-        tokens,
-        neighbours,
-        requests: 1_000,
+    let crossing = Crossing {
         workers,
-        turns: TURNS,
-        period: Duration::from_millis(period),
-        log: None,
-    }
+        ..crossing(next)
+    };
+    connect_telling(rt, alloc, listener, crossing, till, &mut NoMinutes)
 }
 
-/// The same, where something is told each period of so many milliseconds.
+/// How a connector at a listener of this network ended, which tells its totals here.
 pub(crate) fn connect_telling<
-    R: Net<Listener = TcpListener, Stream = TcpStream> + Threads + Wait + std::time::Clock + Sync,
+    N: Net + Threads + Wait + std::time::Clock + Sync,
     K: Keeper + Send + Drop,
     M: Minutes,
 >(
-    rt: &R,
-    alloc: Global,
-    listener: TcpListener,
-    next: &str,
-    rate: Rate,
-    workers: u8,
-    till: Option<&Till<K, Global>>,
-    period: u64,
-    minutes: &mut M,
-) -> Result<ConnectorEnded, TransferError> {
-    let Ok(hop) = new_hop(alloc, rate) else {
-        return Err(TransferError::NoMemory);
-    };
-    let tokens = [TOKEN, "t1"];
-    let neighbours = [None, Neighbour::new(next, TOKEN)];
-    let terms = terms_of(&tokens, &neighbours, workers, period);
-    Ok(connector_on(rt, alloc, listener, hop, terms, till, minutes))
-}
-
-/// A connector of two requests and one worker at a listener of this network, and its neighbour behind it. It tells what is owed.
-pub(crate) fn connect_twice<N: Net + Threads + Wait + std::time::Clock + Sync>(
     net: &N,
     alloc: Global,
     listener: N::Listener,
-) -> Result<Owed, TransferError>
+    crossing: Crossing<'_>,
+    till: Option<&Till<K, Global>>,
+    minutes: &mut M,
+) -> Result<ConnectorEnded, TransferError>
 where
     N::Stream: Send,
     N::Listener: AwaitListener + Send + Sync,
 {
-    let Ok(hop) = new_hop(alloc, Rate::new(1, 1).unwrap()) else {
+    let Ok(hop) = new_hop(alloc) else {
         return Err(TransferError::NoMemory);
     };
     let tokens = [TOKEN, "t1"];
-    let neighbours = [None, Neighbour::new("127.0.0.1:1", TOKEN)];
+    let neighbours = [None, Neighbour::new(crossing.next, TOKEN)];
     let terms = ConnectTerms {
-        requests: 2,
-        ..terms_of(&tokens, &neighbours, 1, 3_600_000)
+        tokens: &tokens,
+        neighbours: &neighbours,
+        requests: crossing.requests,
+        workers: crossing.workers,
+        turns: TURNS,
+        period: Duration::from_millis(crossing.period),
+        log: None,
     };
-    let till = None::<&Till<NoBooks, Global>>;
-    connector_on(net, alloc, listener, hop, terms, till, &mut NoMinutes).result
+    Ok(connector_on(net, alloc, listener, hop, terms, till, minutes))
 }
 
 /// The end of the sender `test.a`.

@@ -6,7 +6,7 @@ use crate::sides::{
 };
 use crate::transfers::{Place, listen, pattern, use_up};
 use st_end::Totals;
-use st_oer::{Counting, Rate};
+use st_oer::Counting;
 use st_transfer::{AccountTotals, ConnectorEnded, TransferError};
 use std::alloc::Global;
 use std::net::{Net, TcpListener, TcpStream};
@@ -59,7 +59,6 @@ fn tell<
 >(rt: &R, alloc: Global, bytes: &[u8]) -> Told {
     let hub = listen(rt, alloc);
     let end = listen(rt, alloc);
-    let same = Rate::new(1, 1).unwrap();
     let (mut sender, mut receiver) = (nothing_yet(), nothing_yet());
     let (hub_listener, next) = (hub.listener, hub.host.as_str());
     let (listener, host) = (end.listener, end.host.as_str());
@@ -67,7 +66,7 @@ fn tell<
     let till = till_of(rt, alloc, &count, usize::MAX);
     let (ended, _) = thread::join(
         rt,
-        || connect_storing(rt, alloc, hub_listener, host, same, 4, Some(&till)),
+        || connect_storing(rt, alloc, hub_listener, host, 4, Some(&till)),
         || tell_ends(rt, alloc, listener, next, bytes, &mut sender, &mut receiver),
     );
     let ConnectorEnded {

@@ -56,17 +56,18 @@ pub(crate) fn use_up<R: Net>(rt: &R, host: &str) {
 }
 
 /// Sends this input by the neighbour `next`, and then uses up the connections that each of the hosts still waits for.
-fn send_all<
-    I: Read + Drop,
-    R: Net<Listener = TcpListener, Stream = TcpStream> + Threads + Wait + std::time::Clock + Sync,
->(
+fn send_all<I: Read + Drop, R: Net + Threads + Wait + std::time::Clock + Sync>(
     rt: &R,
     alloc: Global,
     next: &str,
     hosts: &[&str],
     input: I,
     terms: Terms,
-) -> Result<u64, TransferError> {
+) -> Result<u64, TransferError>
+where
+    R::Stream: Send,
+    R::Listener: Send,
+{
     let sent = send(rt, alloc, next, input, Counter { next: 1 }, terms);
     for host in hosts {
         use_up(rt, host);
@@ -87,7 +88,7 @@ pub(crate) struct Kept {
 pub(crate) fn transfer_into<
     I: Read + Drop + Send,
     W: Write + Send,
-    R: Net<Listener = TcpListener, Stream = TcpStream> + Threads + Wait + std::time::Clock + Sync,
+    R: Net + Threads + Wait + std::time::Clock + Sync,
 >(
     rt: &R,
     alloc: Global,
@@ -97,7 +98,11 @@ pub(crate) fn transfer_into<
     input: I,
     writer: &mut Counting<W>,
     terms: Terms,
-) -> (Result<u64, TransferError>, Result<u64, TransferError>) {
+) -> (Result<u64, TransferError>, Result<u64, TransferError>)
+where
+    R::Stream: Send,
+    R::Listener: Send,
+{
     thread::join(
         rt,
         || receive(rt, alloc, listener, writer, terms),
@@ -106,10 +111,7 @@ pub(crate) fn transfer_into<
 }
 
 /// The same, to a receiver whose output takes all.
-pub(crate) fn transfer<
-    I: Read + Drop + Send,
-    R: Net<Listener = TcpListener, Stream = TcpStream> + Threads + Wait + std::time::Clock + Sync,
->(
+pub(crate) fn transfer<I: Read + Drop + Send, R: Net + Threads + Wait + std::time::Clock + Sync>(
     rt: &R,
     alloc: Global,
     listener: TcpListener,
@@ -117,7 +119,11 @@ pub(crate) fn transfer<
     hosts: &[&str],
     input: I,
     terms: Terms,
-) -> Kept {
+) -> Kept
+where
+    R::Stream: Send,
+    R::Listener: Send,
+{
     let mut writer = Counting::new(Vec::new(alloc));
     let (told, sent) = transfer_into(rt, alloc, listener, next, hosts, input, &mut writer, terms);
     Kept {
