@@ -12,6 +12,7 @@ use std::time::Clock;
 
 /// A transfer of these bytes and 500 units by links of which the first fails at its call `k`.
 fn transfer_over<
+    'a,
     R: Net<Listener = TcpListener, Stream = TcpStream> + Abort + Threads + Wait + Clock + Sync,
 >(rt: &R, alloc: Global, bytes: &[u8], seen: &Seen, k: u64) -> Kept {
     let Place { listener, host } = listen(rt, alloc);
@@ -26,6 +27,12 @@ fn transfer_over<
         k,
     };
     transfer(&links, alloc, listener, host.as_str(), &[], bytes, terms)
+}
+
+/// Whether all of these bytes arrived, and both sides told so.
+fn is_whole(came: &Kept, bytes: &[u8]) -> bool {
+    let n = bytes.len() as u64;
+    came.told == Ok(n) && came.sent == Ok(n) && came.bytes.as_slice() == bytes
 }
 
 /// The write of a request fails, or the read of its answer: that exchange is lost, and what it carried is sent again. The

@@ -1,10 +1,14 @@
 //! A network for tests: its connections are over sockets or in memory, one of their calls may fail, and its clock may stand still.
 
+ghost use Rattle.std.specs.Io.{ReadsAtMost, WritesAtMost};
+
 use st_transfer::AwaitListener;
 use std::io;
 use std::io::{ErrorKind, Read, Write};
-use std::net::{Net, OpenListener, OpenStream, SocketAddr, TcpListener, TcpStream};
-use std::os::fd::AsRawFd;
+use std::net::{Net, OpenListener, OpenStream, SocketAddr, TcpListener, TcpStream, UdpSocket};
+use std::os::fd::{AsRawFd, OwnedFd};
+use std::os::unix;
+use std::os::unix::net::UnixStream;
 use std::sync::Wait;
 use std::sync::atomic::{AtomicU64, Ordering};
 use std::thread::Threads;
@@ -120,6 +124,34 @@ enum Device<'a> {
     Memory(&'a [u8]),
 }
 
+/// Reads a piece of bytes in memory.
+fn read_piece(bytes: &mut &[u8], buf: &mut [u8]) -> io::Result<usize>
+    ensures { ReadsAtMost result buf.new }
+{
+    let room = buf.len().min(PIECE);
+    bytes.read(&mut buf[..room])
+}
+
+impl Device<'_> {
+    fn take(&mut self, buf: &mut [u8]) -> io::Result<usize>
+        ensures { ReadsAtMost result buf.new }
+    {
+        match self {
+            Device::Socket(stream) => stream.read(buf),
+            Device::Memory(bytes) => read_piece(bytes, buf),
+        }
+    }
+
+    fn put(&mut self, buf: &[u8]) -> io::Result<usize>
+        ensures { WritesAtMost result buf.now }
+    {
+        match self {
+            Device::Socket(stream) => stream.write(buf),
+            Device::Memory(_) => Ok(buf.len().min(PIECE)),
+        }
+    }
+}
+
 /// A connection of which one call fails, or none. It counts its calls itself, since the prover refuses the drop of a `FailAt` beside
 /// a borrow.
 #[derive(Drop)]
@@ -141,14 +173,10 @@ impl Wire<'_> {
 
 impl Read for Wire<'_> {
     fn read(&mut self, buf: &mut [u8]) -> io::Result<usize> {
-        let is_due = self.fails();
-        let read = match &mut self.device {
-            _ if is_due => Err(io::Error::from(ErrorKind::Other)),
-            Device::Socket(stream) => stream.read(buf),
-            Device::Memory(bytes) => {
-                let room = buf.len().min(PIECE);
-                bytes.read(&mut buf[..room])
-            }
+        let read = if self.fails() {
+            Err(io::Error::from(ErrorKind::Other))
+        } else {
+            self.device.take(buf)
         };
         self.seen.note(&read, false);
         read
@@ -157,11 +185,10 @@ impl Read for Wire<'_> {
 
 impl Write for Wire<'_> {
     fn write(&mut self, buf: &[u8]) -> io::Result<usize> {
-        let is_due = self.fails();
-        let written = match &mut self.device {
-            _ if is_due => Err(io::Error::from(ErrorKind::Other)),
-            Device::Socket(stream) => stream.write(buf),
-            Device::Memory(_) => Ok(buf.len().min(PIECE)),
+        let written = if self.fails() {
+            Err(io::Error::from(ErrorKind::Other))
+        } else {
+            self.device.put(buf)
         };
         self.seen.note(&written, true);
         written
@@ -258,6 +285,20 @@ impl<R: Clock> Clock for Wires<'_, R> {
     }
 }
 
+impl<'a, R: Net<Listener = TcpListener, Stream = TcpStream>> Wires<'a, R> {
+    /// What the next connection is over.
+    fn device(&self, at: SocketAddr, timeout: Duration) -> io::Result<Device<'a>> {
+        match self.brings {
+            Some(bytes) => Ok(Device::Memory(bytes)),
+            None => match self.rt.connect_timeout(at, timeout) {
+                Ok(stream) => Ok(Device::Socket(stream)),
+                Err(error) => Err(error),
+            },
+        }
+    }
+}
+
+/// It has connections with a time-out alone. All else is written out, since the prover takes longer for the trait's own bodies.
 impl<'a, R: Net<Listener = TcpListener, Stream = TcpStream>> Net for Wires<'a, R> {
     type Stream = Wire<'a>;
 
@@ -274,10 +315,29 @@ impl<'a, R: Net<Listener = TcpListener, Stream = TcpStream>> Net for Wires<'a, R
     fn connect_timeout(&self, at: SocketAddr, timeout: Duration) -> io::Result<Wire<'a>> {
         let nanos = nanos_of(Some(timeout));
         self.seen.connect_nanos.store(nanos, Ordering::SeqCst);
-        let device = match self.brings {
-            Some(bytes) => Device::Memory(bytes),
-            None => Device::Socket(self.rt.connect_timeout(at, timeout)?),
-        };
-        Ok(self.seen.wire(device, self.k))
+        match self.device(at, timeout) {
+            Ok(device) => Ok(self.seen.wire(device, self.k)),
+            Err(error) => Err(error),
+        }
+    }
+
+    fn bind_udp(&self, _: SocketAddr) -> io::Result<UdpSocket> {
+        Err(io::Error::from(ErrorKind::Unsupported))
+    }
+
+    fn lookup_host(&self, _: &str, _: u16, _: &mut [SocketAddr]) -> io::Result<usize> {
+        Err(io::Error::from(ErrorKind::Unsupported))
+    }
+
+    fn connect_unix(&self, _: &unix::net::SocketAddr) -> io::Result<UnixStream> {
+        Err(io::Error::from(ErrorKind::Unsupported))
+    }
+
+    fn unix_pair(&self) -> io::Result<(UnixStream, UnixStream)> {
+        Err(io::Error::from(ErrorKind::Unsupported))
+    }
+
+    fn unix_socket(&self) -> io::Result<OwnedFd> {
+        Err(io::Error::from(ErrorKind::Unsupported))
     }
 }
