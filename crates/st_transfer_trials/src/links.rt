@@ -14,7 +14,7 @@ use std::time::Clock;
 fn transfer_over<
     'a,
     R: Net<Listener = TcpListener, Stream = TcpStream> + Abort + Threads + Wait + Clock + Sync,
->(rt: &R, alloc: Global, bytes: &[u8], seen: &Seen, k: u64) -> Kept {
+>(rt: &'a R, alloc: Global, bytes: &[u8], seen: &'a Seen, k: u64) -> Kept {
     let Place { listener, host } = listen(rt, alloc);
     let terms = Terms {
         receive_max: 1_000,
