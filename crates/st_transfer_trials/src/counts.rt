@@ -3,7 +3,7 @@
 ghost use Rattle.std.specs.Prelude.{⊤};
 
 use crate::books::{FULFILL, PREPARE, ask_with};
-use crate::sides::{Crossing, TOKEN, TURNS, connect_telling, crossing};
+use crate::sides::{Crossing, TOKEN, TURNS, connect_telling, crossing_to};
 use crate::transfers::{listen, use_up};
 use st_desk::{NoBooks, Till};
 use st_http::{Answerer, serve_one};
@@ -96,7 +96,7 @@ fn each_prepare_counts_as_it_ended(rt: HostRuntime) {
     let none = None::<&Till<NoBooks, Global>>;
     let often = Crossing {
         period: 10,
-        ..crossing(end.host.as_str())
+        ..crossing_to(end.host.as_str())
     };
     let mut told = Told {
         times: 0,

@@ -1,7 +1,7 @@
 //! A connector in a network in memory, of which one connection fails.
 
 use crate::books::{FULFILL, PREPARE};
-use crate::sides::{Crossing, connect_telling, crossing};
+use crate::sides::{Crossing, connect_telling, crossing_to};
 use crate::wires::{Door, Seen, Wires};
 use st_desk::{NoBooks, Owed, Till};
 use st_transfer::{NoMinutes, TransferError};
@@ -56,7 +56,7 @@ fn serve_two<R: Net<Listener = TcpListener, Stream = TcpStream> + Threads + Wait
     let twice = Crossing {
         workers: 1,
         requests: 2,
-        ..crossing("127.0.0.1:1")
+        ..crossing_to("127.0.0.1:1")
     };
     let till = None::<&Till<NoBooks, Global>>;
     connect_telling(&net, alloc, door, twice, till, &mut NoMinutes)?.result

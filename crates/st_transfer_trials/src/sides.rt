@@ -168,7 +168,7 @@ pub(crate) struct Crossing<'a> {
 }
 
 /// By this host, with 1,000 requests, four workers and a period of an hour.
-pub(crate) fn crossing(next: &str) -> Crossing<'_> {
+pub(crate) fn crossing_to(next: &str) -> Crossing<'_> {
     Crossing {
         next,
         requests: 1_000,
@@ -200,7 +200,7 @@ pub(crate) fn connect_storing<
 ) -> Result<ConnectorEnded, TransferError> {
     let crossing = Crossing {
         workers,
-        ..crossing(next)
+        ..crossing_to(next)
     };
     connect_telling(rt, alloc, listener, crossing, till, &mut NoMinutes)
 }
