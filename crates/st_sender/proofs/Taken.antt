@@ -5,11 +5,12 @@ use Rattle.st_frames.specs.Frames.{Known}
 use Rattle.st_tables.specs.Slots.{Slots}
 use Rattle.st_sender.specs.Sending.{Outgoing, Load, Flown, Flight, Sending}
 use Rattle.st_sender.specs.Flights.{flight_of, flight_at, without_flight}
+use Rattle.st_sender.specs.Answering.{taken_back}
 use Rattle.st_sender.specs.Loads.{Sends, with_flight}
 use Rattle.st_sender.specs.Lanes.{Lane, outs}
 use Rattle.st_sender.specs.Landing.{AreApart, AreOrdered, all_freed}
 use Rattle.st_sender.proofs.Landing.{same_test, other_test, none_else, rest_none, still_none, landed_apart, landed_length}
-use Rattle.st_sender.proofs.Landed.{outs_freed}
+use Rattle.st_sender.proofs.Landed.{named, outs_freed}
 
 some_last : (n : ℕ) (ps : List Flight) (r : Flight) → r.sequence ≡ n → flight_at (ps ++ r ∷ []) n ≢ None
 some_last n [] r same e = let f = same_test r.sequence n (Some r) None same in absurd (cc)
@@ -74,3 +75,11 @@ pub sent_flies : (v s before : Sending) (limits : List Known) (room : ℕ) (load
 sent_flies v s before limits room load e a sends none =
     let flying : v.flights ≡ before.flights ++ flight_of load ∷ [] = ap (λ (t : Sending). t.flights) (e ∙ sends.after) in
     some_last load.sequence before.flights (flight_of load) refl (ap (λ ps. flight_at ps load.sequence) (sym flying) ∙ none)
+
+-- what a flight left is taken back, whatever came after it
+pub back_view : (v s : Sending) (lanes news : Slots Lane) (fl : List Flight) (m : ℕ) (p : Flight) → v ≡ s → v.streams ≡ outs lanes → flight_at v.flights m ≡ Some p → news ≡ all_freed lanes p.sequence p.frames → fl ≡ without_flight v.flights m
+    → ◌≡◌ {A = Sending} (record v { streams = outs news; flights = fl; last = v.last - 1 }) (taken_back s p)
+back_view v s lanes news fl m p e is at n_is fl_is =
+    ap (λ (ps : List Flight). record v { streams = outs news; flights = ps; last = v.last - 1 }) (fl_is ∙ ap (λ i. without_flight v.flights i) (sym (named m v.flights p at)))
+    ∙ ap (λ (xs : Slots Outgoing). record v { streams = xs; flights = without_flight v.flights p.sequence; last = v.last - 1 }) (ap outs n_is ∙ outs_freed lanes p.sequence p.frames ∙ sym is)
+    ∙ ap (λ (t : Sending). taken_back t p) e

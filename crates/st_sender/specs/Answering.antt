@@ -1,6 +1,6 @@
 -- What the answer to a load leaves, and what the peer tells of its limits. Frames are those of RFC 0029, section 5.3, and
 -- codes those of RFC 0027; what they do to the sender is this profile's own.
-use Rattle.std.specs.Prelude.{ℕ, ◌+◌, ◌*◌, ◌/◌, Bool, true, false, ◌||◌, not, List, [], ◌∷◌, max, min, nat_lt, nat_le, nat_eq, slice_set, if◌then◌else◌, bytes_eq}
+use Rattle.std.specs.Prelude.{ℕ, ◌+◌, ◌-◌, ◌*◌, ◌/◌, Bool, true, false, ◌||◌, not, List, [], ◌∷◌, max, min, nat_lt, nat_le, nat_eq, slice_set, if◌then◌else◌, bytes_eq}
 use Rattle.std.specs.declared.option.Option.{Option}
 use Rattle.std.specs.declared.option.Option.TheVariants.{None, Some}
 use Rattle.std.specs.Ordering.{nat_cmp}
@@ -123,6 +123,11 @@ after_failed s p why =
       failures = s.failures + 1;
       failed = s.failed || is_final why || nat_le 200 (s.failures + 1);
     }
+
+-- ---- a load that is taken back: its flight is gone, and its sequence is the next one again
+
+abbrev pub taken_back : Sending → Flight → Sending
+taken_back s p = record (landed s p.sequence) { last = s.last - 1 }
 
 -- ---- limits that the peer tells: they only rise, and those of a stream that is not open are ignored
 

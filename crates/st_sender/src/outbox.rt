@@ -6,7 +6,7 @@ ghost use Rattle.st_frames.specs.Frames.{Known};
 ghost use Rattle.st_frames.specs.Seen.{seen};
 ghost use Rattle.st_sender.specs.Sending.{Sending, new_sending, new_outgoing, outgoing_at, with_outgoing, changed};
 ghost use Rattle.st_sender.specs.Accepting.{after_write, after_clean, after_stream_abort, after_offer};
-ghost use Rattle.st_sender.specs.Answering.{after_told, after_marked, told_data, told_receive_max, after_fulfilled, after_failed, failure_of, is_settled, TooLarge};
+ghost use Rattle.st_sender.specs.Answering.{after_told, after_marked, told_data, told_receive_max, after_fulfilled, after_failed, taken_back, failure_of, is_settled, TooLarge};
 ghost use Rattle.st_sender.specs.Flights.{flight_at};
 ghost use Rattle.st_sender.specs.Shown.{why};
 ghost use Rattle.st_sender.specs.Refusals.{write_refusal, close_refusal, abort_refusal, offer_refusal, Answers, AnswersOrWants};
@@ -454,10 +454,12 @@ impl<A: Allocator + Copy> Outbox<A> {
     }
 
     /// Undoes the call of `next` that gave this load, where that was the last call: its sequence is used again. Where
-    /// the last sequence is another one, nothing changes. Does not allocate.
+    /// other calls came in between, what they changed stays. Where the last sequence is another one, or its Prepare is
+    /// no longer in flight, nothing changes. Does not allocate.
     pub fn take_back(&mut self, load: Load<A>)
         ensures stale { load.sequence ≢ self.old.last → self.new ≡ self.old }
         ensures undoes { (before : Sending) (limits : List Known) (room : ℕ) → Sends before limits room load self.old → self.new ≡ before }
+        ensures exact { load.sequence ≡ self.old.last → MatchOption (flight_at self.old.flights load.sequence) (self.new ≡ self.old) (λ p. self.new ≡ taken_back self.old p) }
     {
         let sequence = load.sequence();
         if sequence != self.last {

@@ -2,8 +2,8 @@ use Rattle.std.proofs.Common.{◌≡◌, ◌-◌, List, Some, length, sym, ap, r
 use Rattle.st_sender.specs.Sending.{Flight, Sending}
 use Rattle.st_sender.specs.Flights.{flight_at, without_flight}
 use Rattle.st_sender.specs.Landing.{AreTied, AreOrdered}
-use Rattle.st_sender.proofs.Landed.{freed_length, freed_tied}
-use Rattle.st_sender.proofs.Taken.{some_before, back_ordered, taken_view, sent_last, sent_flies}
+use Rattle.st_sender.proofs.Landed.{freed_length, freed_tied, some_lands}
+use Rattle.st_sender.proofs.Taken.{some_before, back_ordered, back_view, taken_view, sent_last, sent_flies}
 use Rattle.st_sender.proofs.outbox.Outbox.take_back.Goals as goal
 
 pub invariant_of-self : goal.invariant_of-self
@@ -53,3 +53,10 @@ pub returns-clause-stale : goal.returns-clause-stale
 returns-clause-stale g c = λ other.
     let last : c.sequence-sequence.result ≡ c.self.inside.last = omega (arith, c.if-sequence-self.false) in
     absurd (other (sym c.sequence-sequence.ensures ∙ last ∙ ap (λ (s : Sending). s.last) c.self.view_is))
+
+pub returns-clause-exact : goal.returns-clause-exact
+returns-clause-exact g c = λ same.
+    let found = sym c.in-Some.ensures.found in
+    let at : flight_at c.args.self.now.flights c.args.load.sequence ≡ Some c.in-Some.flight = ap (λ (s : Sending). flight_at s.flights c.args.load.sequence) (sym c.self.view_is) ∙ ap (λ n. flight_at c.self.inside.flights.items n) (sym c.sequence-sequence.ensures) ∙ found in
+    some_lands _ _ _ c.in-Some.flight at
+    (back_view _ _ c.self.inside.streams.items c.free.new.streams.items c.take_flight.new.flights.items c.sequence-sequence.result c.in-Some.flight c.self.view_is refl found c.free.ensures.frees c.take_flight.ensures.rest)
