@@ -1,5 +1,7 @@
 //! What waits for a commit of the books.
 
+ghost use Rattle.std.specs.Prelude.{◌≡◌, ◌∷◌, ◌++◌, [], true, false, None};
+
 use st_booking::{Booked, Booking};
 use std::alloc::{AllocError, Allocator};
 use std::mem;
@@ -21,7 +23,14 @@ enum Slot {
 pub(crate) struct Batch<A: Allocator> {
     pub(crate) bookings: Vec<Booking, A>,
     pub(crate) tokens: Vec<Option<Booked>, A>,
-    places: Vec<usize, A>,
+    pub(crate) places: Vec<usize, A>,
+}
+
+/// What a commit made of a batch: the tokens of its bookings, and the places of these.
+#[derive(Drop)]
+pub(crate) struct Ended<A: Allocator> {
+    pub(crate) tokens: Vec<Option<Booked>, A>,
+    pub(crate) places: Vec<usize, A>,
 }
 
 /// What a thread that waited for a commit is to do.
@@ -42,7 +51,12 @@ pub(crate) struct Board<A: Allocator> {
 
 impl<A: Allocator + Copy> Batch<A> {
     /// Adds a booking. Returns whether there was memory for it.
-    fn add(&mut self, place: usize, booking: Booking) -> bool {
+    fn add(&mut self, place: usize, booking: Booking) -> bool
+        ensures places { result ≡ true → self.new.places.items ≡ self.old.places.items ++ place ∷ [] }
+        ensures bookings { result ≡ true → self.new.bookings.items ≡ self.old.bookings.items ++ booking ∷ [] }
+        ensures tokens { result ≡ true → self.new.tokens.items ≡ self.old.tokens.items ++ None ∷ [] }
+        ensures unchanged { result ≡ false → (self.new.places.items ≡ self.old.places.items) × (self.new.bookings.items ≡ self.old.bookings.items) × (self.new.tokens.items ≡ self.old.tokens.items) }
+    {
         if self.places.push(place).is_err() {
             return false;
         }
@@ -133,12 +147,11 @@ impl<A: Allocator + Copy> Board<A> {
     }
 
     /// Puts the tokens of a commit at the places of their bookings, and ends it.
-    pub(crate) fn finish(&mut self, batch: Batch<A>) {
-        let Batch {
-            bookings: _,
+    pub(crate) fn finish(&mut self, ended: Ended<A>) {
+        let Ended {
             mut tokens,
             mut places,
-        } = batch;
+        } = ended;
         while let Some(place) = places.pop() {
             let token = match tokens.pop() {
                 Some(token) => token,

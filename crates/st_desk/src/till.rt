@@ -1,8 +1,8 @@
 //! Books that threads share: one commit serves all bookings that wait.
 
-ghost use Rattle.std.specs.Prelude.{◌≡◌, IfSome, length};
+ghost use Rattle.std.specs.Prelude.{◌≡◌, ◌≢◌, ℕ, None, Some, IfSome, length, map};
 
-use crate::board::{Batch, Board, Turn};
+use crate::board::{Batch, Board, Ended, Turn};
 use crate::stored::{Books, is_same};
 use st_booking::{Booked, Booking, Keeper, commit_all};
 use std::alloc::{AllocError, Allocator};
@@ -79,33 +79,48 @@ fn turn<K: Keeper, A: Allocator + Copy, R: Wait>(
     board.turn(till.alloc, place)
 }
 
-/// Commits the bookings of a batch, unless the books refused before.
-fn commit_batch<K: Keeper, A: Allocator + Copy>(drawer: &mut Drawer<K>, batch: &mut Batch<A>) {
-    if drawer.refused.is_some() || batch.tokens.len() != batch.bookings.len() {
-        return;
-    }
+/// Commits the bookings of a batch, once, unless the books refused before.
+fn commit_batch<K: Keeper, A: Allocator + Copy>(
+    drawer: &mut Drawer<K>,
+    batch: Batch<A>,
+) -> Ended<A>
+    ensures shut { drawer.old.refused ≢ None → (drawer.new ≡ drawer.old) × (result.tokens.items ≡ batch.tokens.items) }
+    ensures uneven { length batch.tokens.items ≢ length batch.bookings.items → (drawer.new ≡ drawer.old) × (result.tokens.items ≡ batch.tokens.items) }
+    ensures once { drawer.old.refused ≡ None → length batch.tokens.items ≡ length batch.bookings.items → drawer.new.refused ≡ None
+        → K.commits drawer.old.books batch.bookings.items drawer.new.books × (result.tokens.items ≡ map Some batch.bookings.items) }
+    ensures kept { drawer.old.refused ≡ None → length batch.tokens.items ≡ length batch.bookings.items → (number : ℕ) → drawer.new.refused ≡ Some number
+        → K.keeps drawer.old.books batch.bookings.items drawer.new.books number × (result.tokens.items ≡ batch.tokens.items) }
+    ensures places { result.places.items ≡ batch.places.items }
+{
     let Batch {
         bookings,
-        tokens,
-        ..
+        mut tokens,
+        places,
     } = batch;
-    match commit_all(
-        &mut drawer.books,
-        bookings.as_slice(),
-        tokens.as_mut_slice(),
-    ) {
-        Ok(()) => {}
-        Err(number) => drawer.refused = Some(number),
+    if drawer.refused.is_none() && tokens.len() == bookings.len() {
+        match commit_all(
+            &mut drawer.books,
+            bookings.as_slice(),
+            tokens.as_mut_slice(),
+        ) {
+            Ok(()) => {}
+            Err(number) => drawer.refused = Some(number),
+        }
     }
+    Ended { tokens, places }
 }
 
 /// Commits a batch under the lock of the books alone, so that bookings can be put meanwhile.
-fn commit<K: Keeper, A: Allocator + Copy>(rt: &impl Wait, till: &Till<K, A>, batch: &mut Batch<A>) {
-    commit_batch(&mut *till.drawer.lock(rt), batch);
+fn commit<K: Keeper, A: Allocator + Copy>(
+    rt: &impl Wait,
+    till: &Till<K, A>,
+    batch: Batch<A>,
+) -> Ended<A> {
+    commit_batch(&mut *till.drawer.lock(rt), batch)
 }
 
-fn finish<K: Keeper, A: Allocator + Copy>(rt: &impl Wait, till: &Till<K, A>, batch: Batch<A>) {
-    till.board.lock(rt).finish(batch);
+fn finish<K: Keeper, A: Allocator + Copy>(rt: &impl Wait, till: &Till<K, A>, ended: Ended<A>) {
+    till.board.lock(rt).finish(ended);
     till.turned.notify_all();
 }
 
@@ -133,10 +148,7 @@ pub fn deposit<K: Keeper, A: Allocator + Copy, R: Wait>(
     for _ in rt.forever() {
         match turn(rt, till, place) {
             Turn::Told(token) => return own_token(token, booking),
-            Turn::Leads(mut batch) => {
-                commit(rt, till, &mut batch);
-                finish(rt, till, batch);
-            }
+            Turn::Leads(batch) => finish(rt, till, commit(rt, till, batch)),
         }
     }
     None
