@@ -3,6 +3,7 @@
 ghost use Rattle.std.specs.Prelude.{◌≡◌, ◌≢◌, ◌≤◌, OnErr, IfOk};
 ghost use Rattle.st_end.specs.Calls as calls;
 ghost use Rattle.st_end.specs.Reading as reading;
+ghost use Rattle.st_world.specs.Events as events;
 ghost use Rattle.st_world.specs.Ledgers.{ledger_or, written, cleanly_closed, given_up};
 ghost use Rattle.std.specs.FinMap as fmap;
 ghost use Rattle.st_nodes.specs.Seen.{told_seen};
@@ -47,7 +48,8 @@ fn close_slot<A: Allocator + Copy>(
     slot: &mut Slot<A>,
     stream: u8,
 ) -> Told<A>
-    ensures { SlotMet (calls.close state.old stream) (cleanly_closed (ledger_or slot.old)) (told_seen result) state.old state.new slot.old slot.new }
+    ensures met { SlotMet (calls.close state.old stream) (cleanly_closed (ledger_or slot.old)) (told_seen result) state.old state.new slot.old slot.new }
+    ensures called { told_seen result ≡ events.Call (calls.close state.old stream).0 }
 {
     match state.close(stream) {
         Ok(()) => {
@@ -67,7 +69,8 @@ fn abort_slot<A: Allocator + Copy>(
     code: u8,
 ) -> Told<A>
     requires { code ≢ 1 }
-    ensures { SlotMet (calls.abort state.old stream code) (given_up (ledger_or slot.old)) (told_seen result) state.old state.new slot.old slot.new }
+    ensures met { SlotMet (calls.abort state.old stream code) (given_up (ledger_or slot.old)) (told_seen result) state.old state.new slot.old slot.new }
+    ensures called { told_seen result ≡ events.Call (calls.abort state.old stream code).0 }
 {
     match state.abort(stream, code) {
         Ok(()) => {
@@ -86,7 +89,8 @@ fn offer_slot<A: Allocator + Copy>(
     stream: u8,
     amount: u64,
 ) -> Told<A>
-    ensures { SlotMet (calls.offer state.old stream amount) (ledger_or slot.old) (told_seen result) state.old state.new slot.old slot.new }
+    ensures met { SlotMet (calls.offer state.old stream amount) (ledger_or slot.old) (told_seen result) state.old state.new slot.old slot.new }
+    ensures called { told_seen result ≡ events.Call (calls.offer state.old stream amount).0 }
 {
     match state.offer(stream, amount) {
         Ok(()) => {
@@ -161,7 +165,8 @@ pub fn close_at<A: Allocator + Copy>(
     ledgers: &mut Ledgers<A>,
     stream: u8,
 ) -> Told<A>
-    ensures { CallMet (calls.close party.old.state stream) stream (cleanly_closed (ledger_or (fmap.get ledgers.old stream))) (told_seen result) party.old party.new ledgers.old ledgers.new }
+    ensures met { CallMet (calls.close party.old.state stream) stream (cleanly_closed (ledger_or (fmap.get ledgers.old stream))) (told_seen result) party.old party.new ledgers.old ledgers.new }
+    ensures called { told_seen result ≡ events.Call (calls.close party.old.state stream).0 }
 {
     let slot = &mut ledgers.slots[usize::from(stream)];
     close_slot(&mut party.state, slot, stream)
@@ -176,7 +181,8 @@ pub fn abort_at<A: Allocator + Copy>(
     code: u8,
 ) -> Told<A>
     requires { code ≢ 1 }
-    ensures { CallMet (calls.abort party.old.state stream code) stream (given_up (ledger_or (fmap.get ledgers.old stream))) (told_seen result) party.old party.new ledgers.old ledgers.new }
+    ensures met { CallMet (calls.abort party.old.state stream code) stream (given_up (ledger_or (fmap.get ledgers.old stream))) (told_seen result) party.old party.new ledgers.old ledgers.new }
+    ensures called { told_seen result ≡ events.Call (calls.abort party.old.state stream code).0 }
 {
     let slot = &mut ledgers.slots[usize::from(stream)];
     abort_slot(&mut party.state, slot, stream, code)
@@ -190,7 +196,8 @@ pub fn offer_at<A: Allocator + Copy>(
     stream: u8,
     amount: u64,
 ) -> Told<A>
-    ensures { CallMet (calls.offer party.old.state stream amount) stream (ledger_or (fmap.get ledgers.old stream)) (told_seen result) party.old party.new ledgers.old ledgers.new }
+    ensures met { CallMet (calls.offer party.old.state stream amount) stream (ledger_or (fmap.get ledgers.old stream)) (told_seen result) party.old party.new ledgers.old ledgers.new }
+    ensures called { told_seen result ≡ events.Call (calls.offer party.old.state stream amount).0 }
 {
     let slot = &mut ledgers.slots[usize::from(stream)];
     offer_slot(&mut party.state, slot, stream, amount)
