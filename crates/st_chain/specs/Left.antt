@@ -5,7 +5,7 @@ use Rattle.std.specs.FinMap as fmap
 use Rattle.st_world.specs.Sides.{Side, Both}
 use Rattle.st_world.specs.Ledgers.{Ledger}
 use Rattle.st_world.specs.State.{World, Party, Node, Lane, Put, Place}
-use Rattle.st_world.specs.Events.{Event, Told, NoMemory}
+use Rattle.st_world.specs.Events.{Event, OpenStream, Write, Read, Close, Abort, Offer, ReceiveMax, Send, Arrive, AnswerArrives, Fault, Crash, Refused, Told, NoMemory}
 use Rattle.st_world.specs.Steps.{ArrivesAt, RefusesAt, noted}
 use Rattle.st_world.specs.Runs.{Chain, Run, opening}
 use Rattle.st_world.specs.Holds.{Holds}
@@ -26,6 +26,23 @@ left_of w = record { ends = w.ends; nodes = w.nodes; ledgers = w.ledgers; refuse
 abbrev pub lacks : Told → Bool
 lacks NoMemory = true
 lacks told = false
+
+-- the event wants memory of an end or a hop: a close, an abort, an offer and a receive max want none. What comes back, a crash and a
+-- refused call have no refusal for want of memory in the rule of an event
+abbrev pub MayLack : Event → Type 0
+MayLack (OpenStream side) = Unit {0}
+MayLack (Write side k xs) = Unit {0}
+MayLack (Read side k limit) = Unit {0}
+MayLack (Close side k) = ⊥
+MayLack (Abort side k code) = ⊥
+MayLack (Offer side k amount) = ⊥
+MayLack (ReceiveMax side k amount) = ⊥
+MayLack (Send side iv now) = Unit {0}
+MayLack (Arrive link way which now) = Unit {0}
+MayLack (AnswerArrives link way j now) = Unit {0}
+MayLack (Fault link way which now) = Unit {0}
+MayLack (Crash i) = Unit {0}
+MayLack Refused = Unit {0}
 
 -- a Prepare that is there comes to this place
 abbrev pub MeetsAt : World → (link : ℕ) → (way : Side) → (which : ℕ) → (now : ℤ) → Put → Place → Told → World → Type 0

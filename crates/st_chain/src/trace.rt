@@ -1,6 +1,6 @@
 //! The result of a run: both ends and the hops, what was written and read, and which Prepares were answered.
 
-ghost use Rattle.std.specs.Prelude.{◌≡◌, ◌≢◌, ◌≤◌, ◌<◌, ◌+◌, ◌||◌, length, OnErr, IfOk};
+ghost use Rattle.std.specs.Prelude.{◌≡◌, ◌≢◌, ◌≤◌, ◌<◌, ◌+◌, ◌||◌, false, length, OnErr, IfOk};
 ghost use Rattle.st_hop.specs.Seen.{outcome_seen};
 ghost use Rattle.st_world.specs.Sides as sides;
 ghost use Rattle.st_world.specs.State.{AtEnd, AtHop};
@@ -124,6 +124,7 @@ impl<A: Allocator + Copy> Trace<A> {
     pub(crate) fn close(&mut self, side: Side, stream: u8) -> Told<A>
         ensures met { (ls : Links) → Meets (in_world self.old ls) (events.Close (side_seen side) stream) (told_seen result) (in_world self.new ls) }
         ensures nodes { length self.new.nodes ≡ length self.old.nodes }
+        ensures memory { lacks (told_seen result) ≡ false }
     {
         match side {
             Side::Client => {
@@ -142,6 +143,7 @@ impl<A: Allocator + Copy> Trace<A> {
         requires { code ≢ 1 }
         ensures met { (ls : Links) → Meets (in_world self.old ls) (events.Abort (side_seen side) stream code) (told_seen result) (in_world self.new ls) }
         ensures nodes { length self.new.nodes ≡ length self.old.nodes }
+        ensures memory { lacks (told_seen result) ≡ false }
     {
         match side {
             Side::Client => {
@@ -159,6 +161,7 @@ impl<A: Allocator + Copy> Trace<A> {
     pub(crate) fn offer(&mut self, side: Side, stream: u8, amount: u64) -> Told<A>
         ensures met { (ls : Links) → Meets (in_world self.old ls) (events.Offer (side_seen side) stream amount) (told_seen result) (in_world self.new ls) }
         ensures nodes { length self.new.nodes ≡ length self.old.nodes }
+        ensures memory { lacks (told_seen result) ≡ false }
     {
         match side {
             Side::Client => {
@@ -176,6 +179,7 @@ impl<A: Allocator + Copy> Trace<A> {
     pub(crate) fn raise(&mut self, side: Side, stream: u8, amount: u64) -> Told<A>
         ensures met { (ls : Links) → Meets (in_world self.old ls) (events.ReceiveMax (side_seen side) stream amount) (told_seen result) (in_world self.new ls) }
         ensures nodes { length self.new.nodes ≡ length self.old.nodes }
+        ensures memory { lacks (told_seen result) ≡ false }
     {
         match side {
             Side::Client => raise_at(&mut self.client, stream, amount),

@@ -1,6 +1,6 @@
 //! A world: the result of a run so far, and the links over which it continues.
 
-ghost use Rattle.std.specs.Prelude.{◌≡◌, ◌<◌, ℕ, length, take, is_ok, OnErr, IfOk, IfErr, IsOkUnless};
+ghost use Rattle.std.specs.Prelude.{◌≡◌, ◌<◌, ℕ, true, length, take, is_ok, OnErr, IfOk, IfErr, IsOkUnless};
 ghost use Rattle.st_end.specs.Calls.{has_stream};
 ghost use Rattle.st_end.specs.Reading.{read};
 ghost use Rattle.st_world.specs.Steps.{Happens};
@@ -9,7 +9,7 @@ ghost use Rattle.st_world.specs.Sides.{at};
 ghost use Rattle.st_world.specs.State.{end_at};
 ghost use Rattle.st_nodes.specs.Seen.{side_seen, told_seen};
 ghost use Rattle.st_chain.specs.Seen.{event_seen, events_seen};
-ghost use Rattle.st_chain.specs.Left.{left_of, LeftBy};
+ghost use Rattle.st_chain.specs.Left.{left_of, lacks, LeftBy, MayLack};
 
 use crate::event::Event;
 use crate::fault::Fault;
@@ -70,12 +70,14 @@ impl<A: Allocator + Copy> World<A> {
     }
 
     /// Plays one event, and gives the result of its call. It is `Told::NoMemory` where the call of the end or the hop
-    /// found no memory. The end or hop is then as before, except that the limits of an end may have risen. Fails with
-    /// `NoMemory` where memory for the world's own record of the event is refused, and then nothing has happened.
+    /// found no memory. The end or hop is then as before, except that the limits of an end may have risen. A close, an
+    /// abort, an offer and a receive max want no memory. Fails with `NoMemory` where memory for the world's own record of
+    /// the event is refused, and then nothing has happened.
     pub fn step(&mut self, event: &Event<'_>) -> Result<Told<A>, Fault>
         ensures happens { IfOk result (λ told. Happens self.old (event_seen event.now) (told_seen told) self.new) }
         ensures only_memory { IsOkUnless result Fault.NoMemory }
         ensures unchanged { OnErr result (self.new ≡ self.old) }
+        ensures memory { IfOk result (λ told. lacks (told_seen told) ≡ true → MayLack (event_seen event.now)) }
     {
         let told = self.trace.take_event(&mut self.links, event)?;
         Ok(told)
