@@ -80,10 +80,7 @@ fn turn<K: Keeper, A: Allocator + Copy, R: Wait>(
 }
 
 /// Commits the bookings of a batch, once, unless the books refused before.
-fn commit_batch<K: Keeper, A: Allocator + Copy>(
-    drawer: &mut Drawer<K>,
-    batch: Batch<A>,
-) -> Ended<A>
+fn commit_batch<K: Keeper, A: Allocator + Copy>(drawer: &mut Drawer<K>, batch: Batch<A>) -> Ended<A>
     ensures shut { drawer.old.refused ≢ None → (drawer.new ≡ drawer.old) × (result.tokens.items ≡ batch.tokens.items) }
     ensures uneven { length batch.tokens.items ≢ length batch.bookings.items → (drawer.new ≡ drawer.old) × (result.tokens.items ≡ batch.tokens.items) }
     ensures once { drawer.old.refused ≡ None → length batch.tokens.items ≡ length batch.bookings.items → drawer.new.refused ≡ None
