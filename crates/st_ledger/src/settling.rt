@@ -3,7 +3,7 @@
 ghost use Rattle.std.specs.Prelude.{◌≡◌, IfErr, IfOk, OnErr, OnOk};
 ghost use Rattle.st_ledger.specs.Names.{amounts_of};
 ghost use Rattle.st_ledger.specs.Placing.{IsLate};
-ghost use Rattle.st_ledger.specs.Settling.{IsSettled, IsUnsettled};
+ghost use Rattle.st_ledger.specs.Settling.{IsSettled, IsUnsettled, WhyUnsettled};
 
 use crate::error::LedgerError;
 use crate::owed;
@@ -26,6 +26,7 @@ pub fn settle<S: Alter>(
     ensures told { IfOk result (λ amounts. amounts ≡ amounts_of books.new.names books.new.amounts name.now) }
     ensures unsettled { OnErr result (IsUnsettled S.Store books.old books.new) }
     ensures late { IfErr result IsLate }
+    ensures why { IfErr result (WhyUnsettled S.Store books.old name.now side amount moment books.new) }
 {
     let Some(at) = books.place_of(name) else {
         return Err(LedgerError::Books(BooksError::NoAccount));
