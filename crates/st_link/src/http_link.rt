@@ -3,7 +3,7 @@
 ghost use Rattle.std.specs.Prelude.{◌≡◌, true, IfErr, IfOk, IsErrOf, IsTrue, OnErr, OnOk, None, Some};
 ghost use Rattle.st_desk.specs.declared.link.LinkFault.TheVariants.{Device};
 ghost use Rattle.st_http.specs.Texts as texts;
-ghost use Rattle.st_link.specs.Links.{caused_fault, fault_of};
+ghost use Rattle.st_link.specs.Links.{IsTimeUntil, caused_fault, fault_of};
 ghost use Rattle.st_link.specs.declared.cause.LinkCause as causes;
 ghost use Rattle.st_oer.specs.Faults.{Rose};
 
@@ -79,6 +79,16 @@ fn caused_fault(cause: LinkCause) -> LinkFault
         LinkCause::NoMemory => LinkFault::NoMemory,
         LinkCause::Http(error) => fault_of(error),
     }
+}
+
+/// How long an exchange may take that begins this long after the start of 1970: until `by`, and 30 seconds at most. `None`
+/// where `by` has passed.
+fn time_until(now: Duration, by: Moment) -> Option<Duration>
+    ensures { IsTimeUntil now by result }
+{
+    let end = Duration::from_millis(by.ms() as u64);
+    let left = end.checked_sub(now)?;
+    Some(left.min(Duration::from_secs(ANSWER_SECONDS)))
 }
 
 impl<A: Allocator + Copy> Neighbour<A> {
@@ -195,9 +205,7 @@ impl<'n, N: Net + Clock, A: Allocator + Copy> HttpLink<'n, N, A> {
     /// When an exchange has to be done: 30 seconds from now, or at `by` where that is sooner.
     fn deadline(&self, by: Moment) -> Option<Instant> {
         let now = self.net.since_1970().ok()?;
-        let end = Duration::from_millis(by.ms() as u64);
-        let left = end.checked_sub(now)?;
-        deadline_in(self.net, left.min(Duration::from_secs(ANSWER_SECONDS)))
+        deadline_in(self.net, time_until(now, by)?)
     }
 
     /// One exchange over a connection of its own, and the address that it was made to.

@@ -1,6 +1,7 @@
 //! A stream whose calls end by a deadline.
 
-ghost use Rattle.std.specs.Prelude.{◌≡◌, None, Some};
+ghost use Rattle.std.specs.Prelude.{◌≡◌, ◌<◌, None, Some, IfSome};
+ghost use Rattle.std.specs.Duration.{as_nanos};
 
 use std::io;
 use std::io::{ErrorKind, Read, Write};
@@ -29,7 +30,8 @@ pub fn deadline_in(clock: &impl Clock, time: Duration) -> Option<Instant> {
 
 /// What is left until a deadline: nothing where it has passed or the clock cannot be read.
 pub fn left_until(clock: &impl Clock, deadline: Option<Instant>) -> Option<Duration>
-    ensures { deadline ≡ None → result ≡ None }
+    ensures none { deadline ≡ None → result ≡ None }
+    ensures some { IfSome result (λ left. 0 < as_nanos left) }
 {
     let now = Instant::now(clock).ok()?;
     let left = deadline?.checked_duration_since(now)?;
@@ -72,6 +74,7 @@ impl<'r, S, R: Clock> Timed<'r, S, R> {
     fn left_to_write(&mut self) -> Option<Duration>
         ensures stream { self.new.stream ≡ self.old.stream }
         ensures once { self.new.answer ≡ None }
+        ensures kept { self.old.answer ≡ None → self.new.deadline ≡ self.old.deadline }
     {
         if let Some(time) = self.answer.take() {
             self.deadline = self.deadline.max(deadline_in(self.clock, time));
