@@ -1,13 +1,13 @@
 -- The schedule: which events are played, and in which order. Everything happens at moment 0, and the IV of a Send is the
 -- number of events before it.
-use Rattle.std.specs.Prelude.{◌≡◌, ◌⊎◌, ⊤, ℕ, zero, suc, ◌+◌, ◌-◌, ◌*◌, ◌<◌, ◌≤◌, pos, Bool, true, false, nat_eq, if◌then◌else◌, List, [], ◌∷◌, ◌++◌, length, min, MatchBool}
+use Rattle.std.specs.Prelude.{◌≡◌, ◌≢◌, ◌⊎◌, ⊤, ℕ, zero, suc, ◌+◌, ◌-◌, ◌*◌, ◌/◌, ◌%◌, ◌<◌, ◌≤◌, pos, Bool, true, false, nat_eq, if◌then◌else◌, List, [], ◌∷◌, ◌++◌, length, take, drop, min, MatchBool, Ok}
 use Rattle.std.specs.List.{AllByRecursion}
 use Rattle.std.specs.Int.{w64, to_be_bytes}
 use Rattle.st_settings.specs.declared.settings.LocalSettings.{LocalSettings}
 use Rattle.st_end.specs.Sending.{GoesNone}
 use Rattle.st_world.specs.Sides.{Side, Client, Server}
 use Rattle.st_world.specs.State.{World, end_at, ledger_at}
-use Rattle.st_world.specs.Events.{Event, OpenStream, Write, Read, Close, Send, Arrive, AnswerArrives, Fault, IsEvent, Told, Silent, Sent}
+use Rattle.st_world.specs.Events.{Event, OpenStream, Write, Read, Close, Send, Arrive, AnswerArrives, Fault, IsEvent, Told, Silent, Sent, Call}
 use Rattle.st_world.specs.Steps.{Step}
 use Rattle.st_world.specs.Runs.{Run, opening}
 use Rattle.st_local.specs.declared.chain.Counts.{Counts}
@@ -139,10 +139,26 @@ IsWrite event = ⊥
 abbrev pub TakesWrites : Played → Played → Type 0
 TakesWrites p q = (events : List Event) × AllByRecursion IsWrite events × Takes events p q
 
+-- the next bytes of the input, where so many are written: of one part, and at most 16,384
+abbrev pub next_piece : (size : ℕ) (input : List ℕ) (sent : ℕ) → List ℕ
+next_piece size input sent = take (min (min 16384 (size - sent % size)) (length input - sent)) (drop sent input)
+
+abbrev pub next_write : (size : ℕ) (input : List ℕ) (sent : ℕ) → Event
+next_write size input sent = Write Client (stream_at (sent / size)) (next_piece size input sent)
+
+-- a write that the client does not take
+abbrev pub IsDenied : Event → Played → Played → Type 0
+IsDenied event p q = (told : Told) × Tells event told p q × (told ≢ Call (Ok tt))
+
+-- the client writes until all of the input is written, or it does not take the next bytes
+abbrev pub WritesAll : (size : ℕ) (input : List ℕ) (there : ℕ) → Played → Played → Type 0
+WritesAll size input there p q = (there ≡ length input) ⊎ ((was : Played) × TakesWrites p was × IsDenied (next_write size input there) was q)
+
 -- the bytes of the input are written up to there, where they were up to here
 pub record WritesOn (size : ℕ) (input : List ℕ) (here there : ℕ) (p q : Played) : Type 0 where
   pub writes : TakesWrites p q
   pub sent : Sends size input here there p q
+  pub all : WritesAll size input there p q
 
 -- of so many bytes the part at this place is among the first so many
 abbrev pub IsWhole : (size bytes sent place : ℕ) → Type 0

@@ -1,6 +1,6 @@
 //! A world that is played event by event.
 
-ghost use Rattle.std.specs.Prelude.{◌≡◌, ◌≢◌, ◌↔◌, ◌+◌, ◌<◌, ◌≤◌, ℕ, [], ◌∷◌, MatchBool, true, length, pos, IfOk, IfErr, IsOkUnless, OnErr, OnOk};
+ghost use Rattle.std.specs.Prelude.{◌≡◌, ◌≢◌, ◌↔◌, ◌+◌, ◌<◌, ◌≤◌, ℕ, [], ◌∷◌, MatchBool, true, false, length, pos, IfOk, IfErr, IsOkUnless, OnErr, OnOk};
 ghost use Rattle.st_world.specs.Sides.{Client};
 ghost use Rattle.st_world.specs.Events as events;
 ghost use Rattle.st_world.specs.Steps.{Happens};
@@ -8,7 +8,7 @@ ghost use Rattle.st_nodes.specs.Seen.{side_seen, told_seen};
 ghost use Rattle.st_chain.specs.Seen.{event_seen};
 ghost use Rattle.st_chain.specs.Left.{lacks};
 ghost use Rattle.st_local.specs.Playing.{Continues, Fits, HasFailed, IsAside, Plays, StopsPlay, Writes, local_config, most_events, written_on, read_on};
-ghost use Rattle.st_local.specs.Schedule.{Begins, IsIdle, IsSent, Takes, Tells, has_ended, is_sent, iv_of, sending, start};
+ghost use Rattle.st_local.specs.Schedule.{Begins, IsDenied, IsIdle, IsSent, Takes, Tells, has_ended, is_sent, iv_of, sending, start};
 
 use crate::fault::LocalFault;
 use st_chain::{Event, World};
@@ -179,6 +179,7 @@ impl<A: Allocator + Copy> Play<A> {
         ensures event { Begins (events.Write Client stream bytes.now) self.old self.new }
         ensures missed { OnErr result (Continues self.old self.new) }
         ensures why { IfErr result (StopsPlay self.new) }
+        ensures denied { IfOk result (λ taken. taken ≡ false → IsDenied (events.Write Client stream bytes.now) self.old self.new) }
     {
         let told = self.take(&Event::Write(Side::Client, stream, bytes))?;
         let Told::Call(answer) = told else {

@@ -1,9 +1,9 @@
 //! The input's parts, each on a stream of its own.
 
-ghost use Rattle.std.specs.Prelude.{◌≡◌, ◌+◌, ◌<◌, ◌≤◌, ◌↔◌, ◌∷◌, ℕ, [], length, true, OnOk, OnErr, IfOk, IfErr};
+ghost use Rattle.std.specs.Prelude.{◌≡◌, ◌+◌, ◌<◌, ◌≤◌, ◌↔◌, ◌∷◌, ℕ, [], length, true, false, OnOk, OnErr, IfOk, IfErr};
 ghost use Rattle.st_local.specs.Parts.{part_at, part_size, stream_at};
 ghost use Rattle.st_local.specs.Playing.{Continues, HasFailed, HasSent, IsAllRead, Plays, Sends, StopsPlay, most_events, read_on, written_on};
-ghost use Rattle.st_local.specs.Schedule.{Begins, BeginsEach, BeginsRound, BeginsToClose, BeginsToRead, Closes, HaveEnded, IsCounted, IsOver, IsWhole, LastRound, Reads, ReadsOne, Round, Scheduled, StopsSending, Takes, TakesWrites, closing, each, opens, reach_of, reading};
+ghost use Rattle.st_local.specs.Schedule.{Begins, BeginsEach, BeginsRound, BeginsToClose, BeginsToRead, Closes, HaveEnded, IsCounted, IsDenied, IsOver, IsWhole, LastRound, Reads, ReadsOne, Round, Scheduled, StopsSending, Takes, TakesWrites, WritesAll, closing, each, next_write, opens, reach_of, reading};
 
 use crate::chain::{Counts, send_client, send_server};
 use crate::fault::LocalFault;
@@ -48,6 +48,7 @@ fn write_piece<A: Allocator + Copy>(
     ensures within { sent.new ≤ length input.now }
     ensures some { IfOk result (λ taken. taken ≡ true → sent.old < sent.new) }
     ensures why { IfErr result (StopsPlay play.new) }
+    ensures denied { IfOk result (λ taken. taken ≡ false → (sent.new ≡ sent.old) × IsDenied (next_write (part_size (length input.now) streams) input.now sent.old) play.old play.new) }
 {
     let size = part_size(input.len(), streams);
     let place = *sent / size;
@@ -73,6 +74,7 @@ fn write_all<A: Allocator + Copy>(
     ensures sent { Sends (part_size (length input.now) streams) input.now sent.old sent.new play.old play.new }
     ensures within { sent.new ≤ length input.now }
     ensures why { IfErr result (StopsPlay play.new) }
+    ensures all { OnOk result (WritesAll (part_size (length input.now) streams) input.now sent.new play.old play.new) }
 {
     while *sent < input.len() {
         if !write_piece(play, input, streams, sent)? {

@@ -66,33 +66,33 @@ returns-else-progress-input-clause-sent g c =
 pub returns-in_err-progress-clause-begun : goal.returns-in_err-progress-clause-begun
 returns-in_err-progress-clause-begun g c =
     let writes : WritesOn (part_size (length c.args.input.now) c.args.streams) c.args.input.now c.args.progress.now.sent c.write_all.new.sent c.args.play.now c.write_all.new.play =
-    record { writes = c.write_all.ensures.writes; sent = c.write_all.ensures.sent } in
+    record { writes = c.write_all.ensures.writes; sent = c.write_all.ensures.sent; all = c.in_ok-write_all.ensures.all } in
     err_now _ _ (BeginsRound.at_closes c.write_all.new.sent c.write_all.new.play writes c.in_err-progress.ensures.begun)
 
 pub returns-in_err-send_client-clause-begun : goal.returns-in_err-send_client-clause-begun
 returns-in_err-send_client-clause-begun g c =
     let writes : WritesOn (part_size (length c.args.input.now) c.args.streams) c.args.input.now c.args.progress.now.sent c.write_all.new.sent c.args.play.now c.write_all.new.play =
-    record { writes = c.write_all.ensures.writes; sent = c.write_all.ensures.sent } in
+    record { writes = c.write_all.ensures.writes; sent = c.write_all.ensures.sent; all = c.in_ok-write_all.ensures.all } in
     err_now _ _ (BeginsRound.at_client c.write_all.new.sent c.in_ok-progress.field-0 c.write_all.new.play c.close_written.new.play writes c.in_ok-progress.ensures.closes c.in_err-send_client.ensures.begun)
 
 pub returns-in_err-read_streams-clause-begun : goal.returns-in_err-read_streams-clause-begun
 returns-in_err-read_streams-clause-begun g c =
     let writes : WritesOn (part_size (length c.args.input.now) c.args.streams) c.args.input.now c.args.progress.now.sent c.write_all.new.sent c.args.play.now c.write_all.new.play =
-    record { writes = c.write_all.ensures.writes; sent = c.write_all.ensures.sent } in
+    record { writes = c.write_all.ensures.writes; sent = c.write_all.ensures.sent; all = c.in_ok-write_all.ensures.all } in
     err_now _ _ (BeginsRound.at_reads c.write_all.new.sent c.in_ok-progress.field-0 c.send_client.new.counts.sent c.write_all.new.play c.close_written.new.play c.send_client.new.play writes c.in_ok-progress.ensures.closes
     c.in_ok-send_client.ensures.turn c.in_err-read_streams.ensures.begun)
 
 pub returns-in_err-send_server-clause-begun : goal.returns-in_err-send_server-clause-begun
 returns-in_err-send_server-clause-begun g c =
     let writes : WritesOn (part_size (length c.args.input.now) c.args.streams) c.args.input.now c.args.progress.now.sent c.write_all.new.sent c.args.play.now c.write_all.new.play =
-    record { writes = c.write_all.ensures.writes; sent = c.write_all.ensures.sent } in
+    record { writes = c.write_all.ensures.writes; sent = c.write_all.ensures.sent; all = c.in_ok-write_all.ensures.all } in
     err_now _ _ (BeginsRound.at_server c.write_all.new.sent c.in_ok-progress.field-0 c.send_client.new.counts.sent c.write_all.new.play c.close_written.new.play c.send_client.new.play c.read_streams.new.play writes
     c.in_ok-progress.ensures.closes c.in_ok-send_client.ensures.turn c.in_ok-read_streams.ensures.reads (subst (λ (n : ℕ). BeginsTurn Server n c.read_streams.new.play c.send_server.new.play) c.send_client.ensures.returned c.in_err-send_server.ensures.begun))
 
 pub returns-then-progress-input-clause-round : goal.returns-then-progress-input-clause-round
 returns-then-progress-input-clause-round g c =
     let writes : WritesOn (part_size (length c.args.input.now) c.args.streams) c.args.input.now c.args.progress.now.sent c.write_all.new.sent c.args.play.now c.write_all.new.play =
-    record { writes = c.write_all.ensures.writes; sent = c.write_all.ensures.sent } in
+    record { writes = c.write_all.ensures.writes; sent = c.write_all.ensures.sent; all = c.in_ok-write_all.ensures.all } in
     record {
       wrote = c.write_all.new.play;
       closed = c.close_written.new.play;
@@ -108,7 +108,7 @@ returns-then-progress-input-clause-round g c =
 pub returns-else-progress-input-clause-round : goal.returns-else-progress-input-clause-round
 returns-else-progress-input-clause-round g c =
     let writes : WritesOn (part_size (length c.args.input.now) c.args.streams) c.args.input.now c.args.progress.now.sent c.write_all.new.sent c.args.play.now c.write_all.new.play =
-    record { writes = c.write_all.ensures.writes; sent = c.write_all.ensures.sent } in
+    record { writes = c.write_all.ensures.writes; sent = c.write_all.ensures.sent; all = c.in_ok-write_all.ensures.all } in
     record {
       wrote = c.write_all.new.play;
       closed = c.close_written.new.play;

@@ -1,8 +1,8 @@
 use Rattle.std.proofs.Common.{◌<◌, ◌≤◌, ◌+◌, ◌-◌, ◌/◌, ◌%◌, ℕ, length, take, drop, refl, sym, subst, arith, div-mul-le_self}
-use Rattle.st_local.specs.Parts.{stream_at}
+use Rattle.st_local.specs.Parts.{part_size, stream_at}
 use Rattle.st_local.specs.Playing.{Sends, Writes}
 use Rattle.st_local.proofs.Cuts.{has_size, stays_within}
-use Rattle.st_local.proofs.Plays.{sends_piece}
+use Rattle.st_local.proofs.Plays.{sends_none, sends_piece}
 use Rattle.st_local.proofs.streams.write_piece.Goals as goal
 
 pub returns-then-taken-clause-sent : goal.returns-then-taken-clause-sent
@@ -18,3 +18,7 @@ returns-then-taken-clause-sent g c =
     subst (λ (k : ℕ). Writes k (take (to - sent) (drop sent input)) c.args.play.now c.write.new.self) c.stream_at.ensures taken in
     subst (λ (n : ℕ). Sends n input sent to c.args.play.now c.write.new.self) c.part_size-size.ensures
     (sends_piece size input sent to (sent / size) (take (to - sent) (drop sent input)) c.args.play.now c.write.new.self (div-mul-le_self sent size) (omega arith) (stays_within sent size c.min-count.result some few) refl wrote)
+
+pub returns-else-taken-clause-sent : goal.returns-else-taken-clause-sent
+returns-else-taken-clause-sent g c =
+    sends_none (part_size (length c.args.input.now) c.args.streams) c.args.input.now c.args.sent.now c.args.play.now c.write.new.self (rw c.if-taken.false at c.in_ok-taken.ensures.taken)
