@@ -3,7 +3,7 @@
 ghost use Rattle.std.specs.Prelude.{⊤};
 
 use crate::books::{FULFILL, PREPARE, ask_with};
-use crate::sides::{Crossing, TOKEN, TURNS, connect_telling, crossing_to};
+use crate::sides::{Crossing, TOKEN, TURNS, connect_telling, usual};
 use crate::transfers::{listen, use_up};
 use st_desk::{NoBooks, Till};
 use st_http::{Answerer, serve_one};
@@ -92,11 +92,11 @@ fn each_prepare_counts_as_it_ended(rt: HostRuntime) {
     let alloc = rt.alloc();
     let (hub, end) = (listen(&rt, alloc), listen(&rt, alloc));
     let (hub_listener, hub_host) = (hub.listener, hub.host.as_str());
-    let listener = end.listener;
+    let (listener, next) = (end.listener, end.host.as_str());
     let none = None::<&Till<NoBooks, Global>>;
     let often = Crossing {
         period: 10,
-        ..crossing_to(end.host.as_str())
+        ..usual()
     };
     let mut told = Told {
         times: 0,
@@ -104,7 +104,7 @@ fn each_prepare_counts_as_it_ended(rt: HostRuntime) {
     };
     let (ended, _) = thread::join(
         &rt,
-        || connect_telling(&rt, alloc, hub_listener, often, none, &mut told),
+        || connect_telling(&rt, alloc, hub_listener, next, often, none, &mut told),
         || {
             thread::join(
                 &rt,

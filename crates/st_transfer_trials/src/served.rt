@@ -1,7 +1,7 @@
 //! A connector in a network in memory, of which one connection fails.
 
 use crate::books::{FULFILL, PREPARE};
-use crate::sides::{Crossing, connect_telling, crossing_to};
+use crate::sides::{Crossing, connect_telling, usual};
 use crate::wires::{Door, Seen, Wires};
 use st_desk::{NoBooks, Owed, Till};
 use st_transfer::{NoMinutes, TransferError};
@@ -56,10 +56,11 @@ fn serve_two<R: Net<Listener = TcpListener, Stream = TcpStream> + Threads + Wait
     let twice = Crossing {
         workers: 1,
         requests: 2,
-        ..crossing_to("127.0.0.1:1")
+        ..usual()
     };
     let till = None::<&Till<NoBooks, Global>>;
-    connect_telling(&net, alloc, door, twice, till, &mut NoMinutes)?.result
+    let next = "127.0.0.1:1";
+    connect_telling(&net, alloc, door, next, twice, till, &mut NoMinutes)?.result
 }
 
 /// Whether two Prepares were booked, over so many connections on which so many bytes were written and so many calls failed.

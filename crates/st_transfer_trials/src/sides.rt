@@ -157,23 +157,38 @@ fn new_hop(alloc: Global) -> Result<HopState<Global>, HopError> {
     HopState::new(alloc, "test.h", &[account, account], &[route])
 }
 
-/// At which host a connector reaches the receiver's side, how many requests it takes by how many workers, and of how many
-/// milliseconds a period is after which it tells its totals.
+/// How many requests a connector takes, by how many workers, and of how many milliseconds a period is after which it tells its
+/// totals.
 #[derive(Clone, Copy)]
-pub(crate) struct Crossing<'a> {
-    pub(crate) next: &'a str,
+pub(crate) struct Crossing {
     pub(crate) requests: u64,
     pub(crate) workers: u8,
     pub(crate) period: u64,
 }
 
-/// By this host, with 1,000 requests, four workers and a period of an hour.
-pub(crate) fn crossing_to(next: &str) -> Crossing<'_> {
+/// 1,000 requests, four workers and a period of an hour.
+pub(crate) fn usual() -> Crossing {
     Crossing {
-        next,
         requests: 1_000,
         workers: 4,
         period: 3_600_000,
+    }
+}
+
+/// The terms of a connector with these tokens and neighbours.
+fn terms_of<'a>(
+    tokens: &'a [&'a str],
+    neighbours: &'a [Option<Neighbour<'a>>],
+    crossing: Crossing,
+) -> ConnectTerms<'a> {
+    ConnectTerms {
+        tokens,
+        neighbours,
+        requests: crossing.requests,
+        workers: crossing.workers,
+        turns: TURNS,
+        period: Duration::from_millis(crossing.period),
+        log: None,
     }
 }
 
@@ -198,14 +213,11 @@ pub(crate) fn connect_storing<
     workers: u8,
     till: Option<&Till<K, Global>>,
 ) -> Result<ConnectorEnded, TransferError> {
-    let crossing = Crossing {
-        workers,
-        ..crossing_to(next)
-    };
-    connect_telling(rt, alloc, listener, crossing, till, &mut NoMinutes)
+    let crossing = Crossing { workers, ..usual() };
+    connect_telling(rt, alloc, listener, next, crossing, till, &mut NoMinutes)
 }
 
-/// How a connector at a listener of this network ended, which tells its totals here.
+/// How a connector at a listener of this network ended, which tells its totals here and has the receiver's side at the host `next`.
 pub(crate) fn connect_telling<
     N: Net + Threads + Wait + std::time::Clock + Sync,
     K: Keeper + Send + Drop,
@@ -214,7 +226,8 @@ pub(crate) fn connect_telling<
     net: &N,
     alloc: Global,
     listener: N::Listener,
-    crossing: Crossing<'_>,
+    next: &str,
+    crossing: Crossing,
     till: Option<&Till<K, Global>>,
     minutes: &mut M,
 ) -> Result<ConnectorEnded, TransferError>
@@ -226,16 +239,8 @@ where
         return Err(TransferError::NoMemory);
     };
     let tokens = [TOKEN, "t1"];
-    let neighbours = [None, Neighbour::new(crossing.next, TOKEN)];
-    let terms = ConnectTerms {
-        tokens: &tokens,
-        neighbours: &neighbours,
-        requests: crossing.requests,
-        workers: crossing.workers,
-        turns: TURNS,
-        period: Duration::from_millis(crossing.period),
-        log: None,
-    };
+    let neighbours = [None, Neighbour::new(next, TOKEN)];
+    let terms = terms_of(&tokens, &neighbours, crossing);
     Ok(connector_on(net, alloc, listener, hop, terms, till, minutes))
 }
 
