@@ -69,14 +69,18 @@ impl<N: HubName<A>, A: Allocator + Copy> Bench<N, A> {
         self.room.notify_all();
     }
 
-    /// Waits until there is room in a ring that was full, for at most `longest`. It moves what can be moved by itself,
-    /// and sleeps only where that is nothing, until a worker moves something. It may return where there is no room.
-    pub fn await_room<R: Wait + Clock>(&self, rt: &R, longest: Duration) {
+    /// Waits until there may be room in a ring that was full, for at most `longest`. `known` is what the end had accepted
+    /// before the ring was found full, as an earlier call returned it, or any lesser number. It moves what can be moved by
+    /// itself, and sleeps only where the end accepted nothing since: else room was made after the ring was found full, and
+    /// nobody would wake this thread again. Returns what the end has accepted. It may return where there is no room.
+    pub fn await_room<R: Wait + Clock>(&self, rt: &R, longest: Duration, known: u64) -> u64 {
         let mut state = self.hub.lock(rt);
-        let before = state.totals().accepted;
         let pumped = state.pump();
-        if pumped.is_ok() && state.totals().accepted == before {
-            let _held = self.room.wait_timeout(rt, state, longest);
+        let accepted = state.totals().accepted;
+        if pumped.is_ok() && accepted == known {
+            let (state, _) = self.room.wait_timeout(rt, state, longest);
+            return state.totals().accepted;
         }
+        accepted
     }
 }

@@ -1,5 +1,7 @@
 //! How the input of `send` is moved to the ring of its stream, until the workers are asked to stop.
 
+ghost use Rattle.std.specs.Prelude.{◌≡◌};
+
 use st_file::{Put, Sink};
 use st_hub::Bench;
 use st_queues::{Gauge, GaugeSeat, HubName, StreamWriter};
@@ -40,12 +42,17 @@ pub(crate) struct Inlet<'a, N: HubName<Global>, R: Wait + std::time::Clock> {
     pub(crate) writer: StreamWriter<N, Global>,
     pub(crate) gauge: &'a Gauge<N, Global>,
     pub(crate) seat: GaugeSeat<N, Global>,
+    /// What the end had accepted when this last waited for room.
+    pub(crate) accepted: u64,
 }
 
 impl<N: HubName<Global>, R: Wait + std::time::Clock> Inlet<'_, N, R> {
     /// Waits until there may be room in the ring.
-    fn rest(&self) {
-        self.bench.await_room(self.rt, Duration::from_millis(REST));
+    fn rest(&mut self)
+        ensures { self.new.writer ≡ self.old.writer }
+    {
+        let longest = Duration::from_millis(REST);
+        self.accepted = self.bench.await_room(self.rt, longest, self.accepted);
     }
 }
 

@@ -116,6 +116,7 @@ fn feed<I: Read + Drop, N: HubName<Global>, R: Wait + std::time::Clock>(
         writer,
         gauge,
         seat: gauge.split(seat),
+        accepted: 0,
     };
     let fed = send_all(alloc, &mut reader, &mut inlet, turns);
     if fed.is_err() {
