@@ -27,7 +27,7 @@ file_stream = 1
 
 -- the most bytes of a read of it
 abbrev pub piece_limit : ℕ
-piece_limit = 4096
+piece_limit = 65536
 
 -- one read of the stream
 abbrev pub Reads : EndState → reading.Got → EndState → Type 0

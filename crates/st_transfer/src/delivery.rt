@@ -19,7 +19,7 @@ use std::io::Write;
 pub(crate) const STREAM: u8 = 1;
 
 /// The most bytes of one read.
-const PIECE: usize = 4_096;
+const PIECE: usize = 65_536;
 
 /// Whether more is to arrive on the stream.
 #[derive(Clone, Copy, Debug, PartialEq, Eq)]
