@@ -54,8 +54,12 @@ impl<N: HubName<A>, A: Allocator + Copy> Bench<N, A> {
 
     /// Wakes one worker that sleeps, where there is one. A thread calls it after it wrote to a ring or read from one.
     /// It waits for the hub's lock where a worker sleeps.
+    ///
+    /// It adds 0 to the count of idle workers, and does not just read it: a plain read could come before the caller's
+    /// write to the ring, also on x86-64. Of this addition and that of a worker which counts itself idle one is the
+    /// first. So either the worker is seen here, or it sees what was written.
     pub fn wake_one(&self, rt: &impl Wait) {
-        if self.idle.load(Ordering::SeqCst) > 0 {
+        if self.idle.fetch_add(0, Ordering::SeqCst) > 0 {
             self.settle(rt);
             self.woken.notify_one();
         }
