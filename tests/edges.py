@@ -861,6 +861,28 @@ def a_file_of_totals_is_replaced_each_minute(play):
     return f"after {time.monotonic() - begun:.0f} s"
 
 
+# Transfers of which none stands for a second.
+
+
+@test((2,), (4,))
+def transfers_that_stand_by_workers(play, workers):
+    """A hundred transfers of 4 MiB. Where the thread that reads the file sleeps beside an empty ring, it looks again after a second:
+    of 100 transfers 3 or 4 stood so while a wake-up could be lost. One that is late may be the machine's fault."""
+    content, taken = some_bytes(4 << 20), []
+    given = play.file(content)
+    for _ in range(100):
+        receiver = play.receive()
+        given.seek(0)
+        begun = time.monotonic()
+        ends_well(play.send(receiver.port, given, f"--workers={workers}"), 20)
+        taken.append(time.monotonic() - begun)
+        whole(receiver, content, 10)
+        os.unlink(receiver.path)
+    median = sorted(taken)[len(taken) // 2]
+    late = sorted(it for it in taken if it > median + 0.9)
+    want(len(late) < 2, f"median {median:.2f} s, and {', '.join(f'{it:.2f}' for it in late)} s")
+    return f"median {median:.2f} s, longest {max(taken):.2f} s"
+
 
 if __name__ == "__main__":
     sys.exit(main())

@@ -1,6 +1,6 @@
 //! Tests of what holds, moves and seals bytes: fields, a stream's bytes on either side, the rings and the gauge, `send_all`,
-//! `store_all` and HTTP over devices that move few bytes a call, fail or interrupt, the cipher, keys and sealed packets by the
-//! standards' vectors; and requests for memory refused in turn. No contract can say that turns or memory suffice, or how many
+//! `store_all` and HTTP over devices that move few bytes a call, fail or interrupt, the cipher, the hash of eight texts, keys and sealed
+//! packets by the standards' vectors; and requests for memory refused in turn. No contract can say that turns or memory suffice, or how many
 //! bytes there are before a fault: these tests do. Packets, keys and readings of HTTP are tested in bind/rust/tests too.
 #![tactic(auto)]
 
@@ -45,6 +45,8 @@ mod http;
 mod inbox;
 #[cfg(test)]
 mod keys;
+#[cfg(test)]
+mod lanes;
 #[cfg(test)]
 mod memory;
 #[cfg(test)]

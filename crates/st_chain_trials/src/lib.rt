@@ -1,4 +1,4 @@
-//! Tests of a world: worked schedules read by their traces, each of their requests for memory refused in turn; lossless runs; the
+//! Tests of a world: worked schedules read by their traces, each of their requests for memory refused in turn; lossless runs, and runs with losses; the
 //! command `local` over devices that fail and while memory is refused; and the example of two ends. What `local` writes is
 //! tested by runs of the program, and ends over hops by a seed in bind/rust/tests.
 #![tactic(auto)]
@@ -36,6 +36,10 @@ mod examples;
 mod local;
 #[cfg(test)]
 mod local_memory;
+#[cfg(test)]
+mod losses;
+#[cfg(test)]
+mod lossy;
 #[cfg(test)]
 mod memory;
 #[cfg(test)]
