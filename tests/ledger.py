@@ -781,6 +781,196 @@ def a_file_with_a_changed_byte(play):
     return damaged.told()
 
 
+class Log:
+    """The log of books, as SQLite's file format has it: where its frames of this life begin, and which of them end a commit."""
+
+    def __init__(self, path):
+        with open(path, "rb") as file:
+            self.bytes = file.read()
+        self.page = int.from_bytes(self.bytes[8:12], "big")
+        self.frames, self.ends = [], []
+        for at in range(32, len(self.bytes) - self.page - 23, 24 + self.page):
+            if self.bytes[at + 8 : at + 16] != self.bytes[16:24]:
+                break
+            self.frames.append(at)
+            if int.from_bytes(self.bytes[at + 4 : at + 8], "big"):
+                self.ends.append(at + 24 + self.page)
+
+
+def flipped(path, place, bit):
+    """Changes one bit of a file."""
+    with open(path, "r+b") as file:
+        file.seek(place)
+        byte = file.read(1)[0]
+        file.seek(place)
+        file.write(bytes([byte ^ 1 << bit]))
+
+
+def contents(path):
+    """What the files of books have, by name."""
+    found = {}
+    for it in files_of(path):
+        with open(it, "rb") as file:
+            found[it[len(path) :]] = file.read()
+    return found
+
+
+def refuses(hub, path, what, starts=False, wanted=("110",)):
+    """`ledger`, or a connector too, refuses books with one of these numbers, and writes nothing."""
+    before = contents(path)
+    told = [books_of(path)[0]]
+    if starts:
+        hub.path, kept = path, hub.path
+        told.append(told_by(hub, port=free_port()))
+        hub.path = kept
+    want(len(set(told)) == 1 and told[0] in wanted, f"{what}: {told}")
+    want(contents(path) == before, f"{what}: the books were changed")
+
+
+def lived(hub, seconds=1.0):
+    """Books after a life that a kill ended, in which something was booked: their log has the bookings of that life."""
+    hub.some_sums()
+    hub.served(seconds)
+    log = Log(f"{hub.path}-wal")
+    want(len(log.ends) > 20, f"a log of {len(log.ends)} commits")
+    return log
+
+
+@test()
+def a_log_with_a_changed_bit(play):
+    hub = Hub(play, f"{play.room}/books")
+    log, rng = lived(hub), random.Random(SEED)
+    # A change in one of the last commits looks as if that had been torn by a crash.
+    certain, late = log.ends[-5], 0
+    for at in range(50):
+        place, bit = rng.randrange(32 if at < 5 else certain), rng.randrange(8)
+        copy = copied(hub.path, f"{play.room}/damaged")
+        flipped(f"{copy}-wal", place, bit)
+        refuses(hub, copy, f"seed {SEED}: bit {bit} at {place} of {log.ends[-1]}", starts=at % 10 == 0)
+    for _ in range(20):
+        place = rng.randrange(certain, log.ends[-1])
+        copy = copied(hub.path, f"{play.room}/damaged")
+        flipped(f"{copy}-wal", place, rng.randrange(8))
+        told, found = books_of(copy)
+        is_so = told == "110" or (found and all(found.claims(it) <= hub.books.claims(it) for it in NAMES))
+        want(is_so, f"seed {SEED}: a bit at {place} of {log.ends[-1]}: {told} {found}")
+        late += told == "110"
+    same_books(hub.path, hub.books)
+    return f"seed {SEED}: 110 for each of 50 in {len(log.ends) - 5} commits, and for {late} of 20 in the last five"
+
+
+@test()
+def a_torn_commit_is_no_damage(play):
+    hub = Hub(play, f"{play.room}/books")
+    log, rng, found = lived(hub), random.Random(SEED), collections.Counter()
+    for _ in range(50):
+        last = rng.randrange(3, len(log.ends))
+        begin, end = log.ends[last - 1], log.ends[last]
+        sums = []
+        # As a crash leaves it: of the last commit, each sector is there or not. With none or all of them it is the commit before, or
+        # this one.
+        for kept in (0.0, 1.0, rng.random()):
+            torn = bytearray(log.bytes[:end]) + bytes(len(log.bytes) - end)
+            for sector in range(begin // 512, end // 512 + 1):
+                if rng.random() >= kept:
+                    low, high = max(begin, sector * 512), min(end, sector * 512 + 512)
+                    torn[low:high] = bytes(high - low)
+            copy = copied(hub.path, f"{play.room}/torn")
+            with open(f"{copy}-wal", "wb") as file:
+                file.write(torn)
+            told, books = books_of(copy)
+            want(told == "0", f"seed {SEED}: commit {last} with {kept:.2f} of its sectors: {told}")
+            sums.append(books)
+        want(sums[2] in sums[:2], f"seed {SEED}: part of commit {last} gives {sums[2]}, beside {sums[:2]}")
+        found["before" if sums[2] == sums[0] else "after"] += 1
+    same_books(hub.path, hub.books)
+    return f"seed {SEED}: {dict(found)}"
+
+
+def alone(path, to):
+    """A copy of the database file, without its log."""
+    for old in files_of(to):
+        os.remove(old)
+    shutil.copyfile(path, to)
+    return to
+
+
+@test()
+def the_log_is_folded_into_the_file(play):
+    hub = Hub(play, f"{play.room}/books")
+    before = hub.some_sums()
+    it = hub.serve()
+    told, found = books_of(alone(hub.path, f"{play.room}/alone"))
+    hub.stop(it)
+    want(found == before, f"the file alone, after a start: {told} {found}, and there was {before}")
+    it = hub.start(requests=3)
+    use_up(it, it.port, "alice-at-hub")
+    told = ended(it, 20)
+    hub.account(True)
+    want(told == "0", f"connector {told} after three requests")
+    same_books(alone(hub.path, f"{play.room}/alone"), hub.books)
+    same_books(hub.path, hub.books)
+    return "the file alone has what there was at a start, and all at an end"
+
+
+@test()
+def no_new_books_beside_a_log(play):
+    hub = Hub(play, f"{play.room}/books")
+    lived(hub, 0.3)
+    it = hub.start(requests=3)
+    use_up(it, it.port, "alice-at-hub")
+    want(ended(it, 20) == "0", "a connector does not end after three requests")
+    ended_well = copied(hub.path, f"{play.room}/ended")
+    hub.account(True)
+    hub.served(0.3)
+    ways = {"missing": None, "empty": b"", "of one byte": b"S", "of a zero": b"\0", "of zeros": bytes(4_096)}
+    for kind, path in ("killed", hub.path), ("ended", ended_well):
+        for what, content in ways.items():
+            copy = copied(path, f"{play.room}/lone")
+            os.remove(copy)
+            if content is not None:
+                with open(copy, "wb") as file:
+                    file.write(content)
+            wanted = ("110", "114") if what == "of zeros" else ("110",)
+            refuses(hub, copy, f"{kind}, and the file is {what}", starts=True, wanted=wanted)
+    # The first page of a database that has no tables, which earlier connectors left beside a log with all that there was.
+    hub.path, hub.books = f"{play.room}/first", Books(0, {})
+    with_sqlite(hub.path, "PRAGMA journal_mode = WAL", "PRAGMA user_version = 0", "VACUUM")
+    stays_as_it_is(hub, "a database with no tables, and no log")
+    return f"110 for each of {2 * len(ways)}, and for a database with no tables"
+
+
+def away(path, again=False):
+    """Moves a file away, or back."""
+    here, there = (f"{path}.away", path) if again else (path, f"{path}.away")
+    os.replace(here, there)
+
+
+@test(("", "moved"), ("-wal", "moved"), ("", "replaced"), ("-wal", "replaced"), ("", "cut"), ("-wal", "cut"))
+def a_file_of_a_connector_that_runs_is(play, file, what):
+    hub = Hub(play, f"{play.room}/books")
+    hub.some_sums()
+    it, path = hub.serve(), f"{hub.path}{file}"
+    time.sleep(0.3)
+    if what == "cut":
+        os.truncate(path, os.path.getsize(path) - 1)
+    else:
+        away(path)
+    if what == "replaced":
+        shutil.copyfile(f"{path}.away", path)
+    told = ended(it, 20)
+    hub.gate.shut()
+    hub.gate.empty()
+    want(told == "112", f"connector {told} once {path} is {what}")
+    if what != "cut":
+        away(path, again=True)
+        # Each Fulfill that was passed on is in the files that were moved. What was refused may be there too.
+        hub.account(True, refused_too=True)
+        hub.served()
+        hub.laws()
+    return "112, and each Fulfill that was passed on is booked"
+
+
 def other_files(rng):
     """Files that hold no books."""
     yield "a text", b"account alice claims 500 dues 0\nstarts 3\n"

@@ -5,6 +5,8 @@ mod Steps
 mod Causes
 mod Calls
 mod Listed
+mod DamageLemmas
+mod Folding
 mod MadeLemmas
 mod Sound
 mod Restart

@@ -9,6 +9,7 @@ use Rattle.sqlite.specs.Held.{Held}
 use Rattle.sqlite.specs.Files.{file_state, over_files, IsNothing}
 use Rattle.sqlite.specs.Start.{FindsIn}
 use Rattle.sqlite_trees.specs.Objects.{catalog_tree}
+use Rattle.st_books.specs.Damage.{IsDamaged, IsUnmade}
 use Rattle.st_books.specs.Table.{ListsTables}
 use Rattle.st_books.specs.Standing.{Kept, Sums, AreSums, sums_of, Takes}
 
@@ -18,9 +19,17 @@ pub record FindsBooks {D : Type 0} {g : Ghosts D} (image : Image) (books : Kept 
   pub found : FindsIn image (file_state opened)
   pub takes : Takes over_files (file_state opened).committed.trees books
 
+-- The log is not damaged. The tables were listed, or the books were still to be made; so where there is no database beside the log
+-- of one, none are found.
+pub record FindsWhole {D : Type 0} {g : Ghosts D} (image : Image) (books : Kept (FileStore D g)) : Type 0 where
+  pub finds : FindsBooks image books
+  pub whole : ¬ IsDamaged image.log
+  pub nothing_lost : ¬ IsUnmade image → (¬ IsNothing image) × ListsTables ((file_state finds.opened).committed.trees catalog_tree)
+
 -- and they were made before: there was a database, and it listed the two tables
 pub record FindsOld {D : Type 0} {g : Ghosts D} (image : Image) (books : Kept (FileStore D g)) : Type 0 where
   pub finds : FindsBooks image books
+  pub whole : ¬ IsDamaged image.log
   pub something : ¬ IsNothing image
   pub listed : ListsTables ((file_state finds.opened).committed.trees catalog_tree)
 

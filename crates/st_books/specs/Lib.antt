@@ -6,4 +6,5 @@ pub mod Made
 pub mod Errors
 pub mod Reasons
 pub mod Commits
+pub mod Damage
 pub mod Found

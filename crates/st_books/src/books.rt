@@ -1,7 +1,10 @@
 //! Books that are open.
 
-ghost use Rattle.std.specs.Prelude.{◌≡◌, ◌≢◌, ◌+◌, ◌≤◌, None, length, slice_get, IfOk, IfErr, IfSome, OnOk, OnErr};
+ghost use Rattle.std.specs.Prelude.{◌≡◌, ◌≢◌, ◌+◌, ◌≤◌, None, length, slice_get, IfOk, IfErr, IfSome, IsTrue, OnOk, OnErr};
 ghost use Rattle.std.specs.List.{AllByRecursion};
+ghost use Rattle.sqlite_trees.specs.Tree.{Trees};
+ghost use Rattle.sqlite_trees.specs.View.{IsClean};
+ghost use Rattle.sqlite_store.specs.FileStore.{view, recovers, log_frames, HasSpilled};
 ghost use Rattle.st_books.specs.Errors.{number};
 ghost use Rattle.st_books.specs.Table.{AreDistinct};
 ghost use Rattle.st_books.specs.Payments.{paying, IsCovered};
@@ -13,6 +16,8 @@ use crate::error::BooksError;
 use crate::names::{place_of, with_name};
 use crate::paying::commit_payment;
 use crate::table::{commit_account, commit_bookings, commit_starts};
+use sqlite_disk::Disk;
+use sqlite_store::FileStore;
 use sqlite_trees::store::Alter;
 use sqlite_value::row::Row;
 use sqlite_value::value::Bytes;
@@ -266,6 +271,30 @@ impl<S: Alter> Books<S> {
         *names = longer;
         *amounts = draft;
         Ok(at)
+    }
+}
+
+impl<D: Disk + Drop> Books<FileStore<D>> {
+    /// Copies the log into the database file, and empties it. A crash in it leaves these books. Where it fails, the books are
+    /// shut, and have to be opened again.
+    pub fn folded(self) -> Result<Books<FileStore<D>>, BooksError>
+        ensures sums { IfOk result (λ b. (b.starts ≡ self.starts) × (b.names ≡ self.names) × (b.amounts ≡ self.amounts)) }
+        ensures clean { IfOk result (λ b. IsClean (view b.store) → IsClean (view self.store)) }
+        ensures same { IfOk result (λ b. IsClean (view b.store) → IsTrue (view b.store).is_open × (view b.store ≡ view self.store)) }
+        ensures crash { IfOk result (λ b. (db : Trees) → recovers b.store db → recovers self.store db) }
+        ensures empty { IfOk result (λ b. ¬ HasSpilled self.store → log_frames b.store ≡ 0) }
+    {
+        let Books {
+            mut store,
+            starts,
+            names,
+            amounts,
+            paid,
+            row,
+            alloc,
+        } = self;
+        store.checkpoint()?;
+        Ok(Books::over(alloc, store, row, starts, names, amounts, paid))
     }
 }
 

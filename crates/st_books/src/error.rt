@@ -2,10 +2,11 @@
 
 ghost use Rattle.std.specs.Prelude.{◌≡◌};
 ghost use Rattle.st_books.specs.Errors as errors;
-ghost use Rattle.st_books.specs.declared.error.BooksError.TheVariants.{NoMemory};
+ghost use Rattle.st_books.specs.declared.error.BooksError.TheVariants.{NoMemory, Device};
 
 use sqlite_trees::error::StoreError;
 use std::alloc::{AllocError, AllocFailed};
+use std::io;
 use thiserror::Error;
 
 /// Why a call was refused. The books are as they were before the call.
@@ -90,6 +91,14 @@ impl From<StoreError> for BooksError {
             StoreError::Broken => BooksError::Shut,
             StoreError::Unstorable => BooksError::BadName,
         }
+    }
+}
+
+impl From<io::Error> for BooksError {
+    ghost from_gives = { λ _ e. e ≡ Device };
+
+    fn from(_error: io::Error) -> BooksError {
+        BooksError::Device
     }
 }
 

@@ -7,11 +7,14 @@
 
 mod balance;
 mod books;
+mod damage;
 mod error;
 mod existing;
+mod frames;
 mod laws;
 mod laying;
 mod lines;
+mod making;
 mod names;
 mod opening;
 mod paying;

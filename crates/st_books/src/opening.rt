@@ -13,13 +13,15 @@ ghost use Rattle.sqlite.specs.Held.{state};
 ghost use Rattle.st_books.specs.Payments.{ArePayments};
 ghost use Rattle.st_books.specs.Table.{payment_tree, lines, AreDistinct, ListsTables};
 ghost use Rattle.st_books.specs.Standing.{IsReady, ReadsOnly, Takes};
-ghost use Rattle.st_books.specs.Found.{FindsBooks, FindsOld};
+ghost use Rattle.st_books.specs.Found.{FindsWhole};
 
 use crate::balance::Amounts;
 use crate::books::Books;
 use crate::error::BooksError;
+use crate::existing::{files_at, options_of, refuse_lone_log};
 use crate::laying::{is_absent, is_unlaid, lists_books, make};
 use crate::lines::{line_in, payment_in};
+use crate::making::may_make;
 use crate::names::place_of;
 use sqlite::{Connection, Error, ErrorCode, FileFrom, FileStore, Files, Options, Start};
 use sqlite_disk::Disk;
@@ -170,35 +172,38 @@ pub(crate) fn refusal_of(error: Error) -> BooksError {
 /// Opens the books of a database file and its log on any disk, as `open` does.
 pub fn open_files<D: Disk + Drop>(
     alloc: Global,
-    files: Files<D>,
+    mut files: Files<D>,
     options: Options,
 ) -> Result<Books<FileStore<D>>, BooksError>
     requires log { IsTrue (D.Disk.is_usable files.log) }
     requires db { IsTrue (D.Disk.is_usable files.db) }
-    ensures { IfOk result (λ b. IsClean (view b.store) → FindsBooks (image_of D.Disk files) b) }
+    ensures { IfOk result (λ b. IsClean (view b.store) → FindsWhole (image_of D.Disk files) b) }
 {
-    match Connection::open_files_with(alloc, files, options, true) {
-        Ok(conn) => books_of(alloc, conn, true),
-        Err((error, _)) => Err(refusal_of(error)),
-    }
+    let may_make = may_make(alloc, &mut files)?;
+    let books = match Connection::open_files_with(alloc, files, options, true) {
+        Ok(conn) => books_of(alloc, conn, may_make)?,
+        Err((error, _)) => return Err(refusal_of(error)),
+    };
+    books.folded()
 }
 
-/// Opens the books of a file, or makes them where there is no file or it holds nothing.
+/// Opens the books of a file, or makes them where neither the file nor its log is there, or the file is empty.
 ///
 /// Each page of a new file ends in a sum of its bytes, so that a changed byte is found: `Damaged`. An sqlite3 without the
 /// extension cksumvfs may read such a file, and must not write it.
 ///
-/// After a crash it finds the books that the crash left. Refuses with `NoBooks` where the file holds something else, and
-/// leaves it; with `Taken` where another process has it.
+/// After a crash it finds the books that the crash left. The log is then folded into the file. Refuses with `NoBooks` where the
+/// file holds something else, where the log is damaged, and where the log is there without its file, and leaves them; with
+/// `Taken` where another process has the file.
 pub fn open<S: Start>(
     rt: &HostRuntime,
     path: &str,
     start: S,
 ) -> Result<Books<FileStore<FileFrom<S>>>, BooksError>
-    ensures { IfOk result (λ b. IsClean (view b.store) → FindsBooks (image_at S.Start) b) }
+    ensures { IfOk result (λ b. IsClean (view b.store) → FindsWhole (image_at S.Start) b) }
 {
-    match Connection::open_from(rt, path, true, start) {
-        Ok(conn) => books_of(rt.alloc(), conn, true),
-        Err((error, _)) => Err(refusal_of(error)),
-    }
+    refuse_lone_log(rt, path)?;
+    let options = options_of(rt)?;
+    let files = files_at(rt, path, start)?;
+    open_files(rt.alloc(), files, options)
 }

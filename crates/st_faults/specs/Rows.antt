@@ -1030,11 +1030,12 @@ rows =
           codes "ledger" ∷
           [];
       cause = codes "The file holds no books: it is no database, has other tables, a row that is no line of its" ∷
-          codes "table, or a name twice. The file is left as it is. Where books have to be there already: no" ∷
-          codes "file, or an empty one. None is made." ∷
+          codes "table, or a name twice. Or its log is damaged, or the log is there without the file. Both are" ∷
+          codes "left as they are. Where books have to be there already: no file, or an empty one. None is made." ∷
           [];
-      advice = codes "What to do: Name the right file. A table, an index or a trigger that was added by hand has to be" ∷
-          codes "dropped." ∷
+      advice = codes "What to do: Name the right file. Where the log is damaged or the file is gone, put the last copy" ∷
+          codes "of both files back, and compare the sums with each neighbour. A table, an index or a trigger" ∷
+          codes "that was added by hand has to be dropped." ∷
           [];
     } ∷
     record {
@@ -1055,7 +1056,8 @@ rows =
           codes "ledger" ∷
           [];
       cause = codes "The disk failed. The books in memory are as before the call; open the file again to see what it" ∷
-          codes "has." ∷
+          codes "has. Or, in `connector --ledger`, the file or its log does not stand at its name as the last" ∷
+          codes "booking left it." ∷
           [];
       advice = codes "What to do: Look at the disk, then start again." ∷ [];
     } ∷

@@ -606,10 +606,11 @@ Numbers of the library:
 
 const FAULT_110: &str = "110  st_books BooksError::NoBooks, in connector, ledger
     The file holds no books: it is no database, has other tables, a row that is no line of its
-    table, or a name twice. The file is left as it is. Where books have to be there already: no
-    file, or an empty one. None is made.
-    What to do: Name the right file. A table, an index or a trigger that was added by hand has to be
-    dropped.
+    table, or a name twice. Or its log is damaged, or the log is there without the file. Both are
+    left as they are. Where books have to be there already: no file, or an empty one. None is made.
+    What to do: Name the right file. Where the log is damaged or the file is gone, put the last copy
+    of both files back, and compare the sums with each neighbour. A table, an index or a trigger
+    that was added by hand has to be dropped.
 ";
 
 const FAULT_111: &str = "111  st_books BooksError::Taken, in connector, ledger
@@ -619,7 +620,8 @@ const FAULT_111: &str = "111  st_books BooksError::Taken, in connector, ledger
 
 const FAULT_112: &str = "112  st_books BooksError::Device, in connector, ledger
     The disk failed. The books in memory are as before the call; open the file again to see what it
-    has.
+    has. Or, in `connector --ledger`, the file or its log does not stand at its name as the last
+    booking left it.
     What to do: Look at the disk, then start again.
 ";
 

@@ -17,7 +17,7 @@ use st_books::Books;
 use st_commands::{Fault, TURNS};
 use st_desk::{NoBooks, Till};
 use st_hop::HopState;
-use st_ledger::{LedgerError, OpensBooks, Placed};
+use st_ledger::{LedgerError, OpensBooks, Placed, Watched};
 use st_log::{Event, Start};
 use st_oer::{CountRead, utf8};
 use st_settings::{ConnectorSettings, Table, TableError, read_table};
@@ -102,9 +102,14 @@ fn serve_by<
     }
 }
 
-/// Runs a connector that goes on with books, and stores there what it books. The books are closed at its end.
+/// Runs a connector that goes on with the books of a file, and stores there what it books. The books are closed at its end.
 fn serve_with<
-    N: Net<Listener = TcpListener, Stream = TcpStream> + Threads + Wait + std::time::Clock + Sync,
+    N: Net<Listener = TcpListener, Stream = TcpStream>
+        + Files<File = File>
+        + Threads
+        + Wait
+        + std::time::Clock
+        + Sync,
     S: Alter + Send + Drop,
     M: Minutes,
 >(
@@ -112,6 +117,7 @@ fn serve_with<
     alloc: Global,
     settings: &ConnectorSettings<'_>,
     table: &Table<'_, Global>,
+    file: &str,
     mut books: Books<S>,
     reports: &mut Reports<'_, M>,
 ) -> Result<(), RunError>
@@ -123,14 +129,25 @@ fn serve_with<
         Ok(going) => going,
         Err(error) => return Err(error),
     };
-    let till = Till::new(alloc, Placed::new(alloc, books, places), MOST_THREADS)?;
+    let books = Watched::new(rt, alloc, file, Placed::new(alloc, books, places))?;
+    let till = Till::new(alloc, books, MOST_THREADS)?;
     serve_by(rt, alloc, settings, table, hop, Some(&till), reports)
+}
+
+/// Folds the log of books into their file, at an end: an open does so. Where it fails, the next start does it, or says why not.
+fn fold<O: OpensBooks>(opener: &O, file: &str) {
+    drop(opener.open_existing(file));
 }
 
 /// Runs a connector by a table, over the books of a file where one is asked for. The books are opened only for a table that
 /// a hop may have.
 fn serve<
-    N: Net<Listener = TcpListener, Stream = TcpStream> + Threads + Wait + std::time::Clock + Sync,
+    N: Net<Listener = TcpListener, Stream = TcpStream>
+        + Files<File = File>
+        + Threads
+        + Wait
+        + std::time::Clock
+        + Sync,
     O: OpensBooks,
     M: Minutes,
 >(
@@ -152,7 +169,13 @@ fn serve<
         return serve_by(rt, alloc, settings, table, hop, none, reports);
     };
     match opener.open(file) {
-        Ok(books) => serve_with(rt, alloc, settings, table, books, reports),
+        Ok(books) => {
+            let ended = serve_with(rt, alloc, settings, table, file, books, reports);
+            if ended.is_ok() {
+                fold(opener, file);
+            }
+            ended
+        }
         Err(error) => Err(RunError::Ledger(LedgerError::Books(error))),
     }
 }
@@ -160,7 +183,12 @@ fn serve<
 /// Reads the table, and runs a connector by it.
 fn serve_input<
     R: Read,
-    N: Net<Listener = TcpListener, Stream = TcpStream> + Threads + Wait + std::time::Clock + Sync,
+    N: Net<Listener = TcpListener, Stream = TcpStream>
+        + Files<File = File>
+        + Threads
+        + Wait
+        + std::time::Clock
+        + Sync,
     O: OpensBooks,
     M: Minutes,
 >(

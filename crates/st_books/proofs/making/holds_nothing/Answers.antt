@@ -5,7 +5,7 @@ use Rattle.sqlite_wal.specs.Reads.{AreClean}
 use Rattle.sqlite.specs.Files.{image_of, IsBlankAs}
 use Rattle.sqlite.proofs.FileLemmas.{same_image}
 use Rattle.st_books.proofs.Steps.{ok_then}
-use Rattle.st_books.proofs.existing.holds_nothing.Goals as goal
+use Rattle.st_books.proofs.making.holds_nothing.Goals as goal
 
 pub returns-clause-found : goal.returns-clause-found
 returns-clause-found g c =
