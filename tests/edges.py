@@ -546,19 +546,28 @@ def a_receiver_with_more_connections_than_files(play):
     return transfer(play.send(receiver.port, content), receiver, content, 20)
 
 
-@test()
-def connections_that_send_nothing_use_up_no_request(play):
-    hub = play.connector(table_to(1), requests=2)
-    for _ in range(8):
-        play.knock(hub.port)
-    time.sleep(1)
+def is_taken(port):
+    """Whether a connection is taken. It is closed at once."""
+    try:
+        socket.create_connection((HOST, port), timeout=10).close()
+        return True
+    except OSError:
+        return False
+
+
+@test((1,), (4,))
+def connections_that_send_nothing_use_up_requests_with_workers(play, workers):
+    hub = play.connector(table_to(1), f"--workers={workers}", requests=20)
+    until = time.monotonic() + 10
+    for _ in range(19):
+        want(is_taken(hub.port), "a connection was refused before the last")
+    time.sleep(0.5)
     stands(hub, "connector")
-    for _ in range(2):
-        head, _ = asked((HOST, hub.port), request("t", prepare(0, 5, "test.x")))
-        want(head.startswith(b"HTTP/1.1 200 "), f"answer {head[:30]!r}")
-    told = ended(hub, 10)
+    while time.monotonic() < until and is_taken(hub.port):
+        time.sleep(0.01)
+    told = ended(hub, 5)
     want(told == "0", f"connector {told} behind its requests")
-    return "none"
+    return "20"
 
 
 def reset(stream):
@@ -580,6 +589,7 @@ def a_connection_to_a_connector_is_cut_behind_bytes(play, count, how):
             time.sleep(0.2)
         stream.sendall(answer(fulfill()))
 
+    # (the connection that is cut counts, so that one more is accepted)
     hub = play.before(play.peer(handle), requests=2)
     whole = request("t", prepare(10, 30, "test.b"))
     stream = play.connect(hub.port, whole[: count or None])
@@ -589,14 +599,13 @@ def a_connection_to_a_connector_is_cut_behind_bytes(play, count, how):
         time.sleep(0.2)
     stream.close() if how == "closed" else reset(stream)
     cut.set()
-    for _ in range(1 if count == 0 else 2):
-        _, body = asked((HOST, hub.port), request("t", prepare(10, 30, "test.b")), 20)
-        want(body[:1] == b"\x0d", f"answer {body[:20]!r}")
+    _, body = asked((HOST, hub.port), request("t", prepare(10, 30, "test.b")), 20)
+    want(body[:1] == b"\x0d", f"answer {body[:20]!r}")
     want(ended(hub, 10) == "0", "the connector does not end")
-    found = totals(hub.totals)
+    found, sum_of = totals(hub.totals), 20 if count == 0 else 10
     booked = [found.get("account 0 claims"), found.get("account 1 dues"), found.get("account 0 held")]
-    want(booked == [20, 20, 0], f"totals {found}")
-    return "two booked"
+    want(booked == [sum_of, sum_of, 0], f"totals {found}")
+    return f"{sum_of} units booked"
 
 
 # Clocks that advance.

@@ -607,11 +607,10 @@ run send --to=127.0.0.1:1 --token=t "$secret" --address=test.a --peer=test.b <"$
 same 'a silent input and a failed connection' $'\n--\nfault 58\n--\n1' "$(told)"
 exec 8>&-
 
-# A connector that is asked for one request and gets one that it refuses, and cannot tell its totals.
+# A connector that is asked for one request and gets a connection without one, and cannot tell its totals.
 "$program" connector --listen=127.0.0.1:17772 --own=test.hub --requests=1 --totals=/dev/full <<<"$table" 2>"$room/err" &
 asked=$!
 reach 17772
-printf 'GET / HTTP/1.1\r\n\r\n' >&3
 exec 3>&-
 wait $asked
 same 'a full file for totals' $'1\nfault 91' "$?"$'\n'"$(cat "$room/err")"

@@ -75,7 +75,7 @@ def is_up(port, ran):
 
 def ask(port, ran):
     """Sends requests that hold no packet until a connector ends, for some seconds: one that has no memory for a request may leave
-    it without an answer, and does not count it."""
+    it without an answer."""
     until = time.monotonic() + ASKED
     while ran.poll() is None and time.monotonic() < until:
         asked((HOST, port), request("alice", b"\0"), ASKED)

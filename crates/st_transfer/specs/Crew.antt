@@ -2,15 +2,15 @@
 use Rattle.std.specs.Prelude.{◌≡◌, ◌⊎◌, ℕ, ◌+◌, ◌<◌, ◌≤◌, Bool, true, false, if◌then◌else◌, Option, Some, IsNone, IsSome}
 use Rattle.std.specs.Option.{option_or}
 use Rattle.st_oer.specs.Faults.{count_after}
-use Rattle.st_transfer.specs.declared.crew.Failed.{Failed}
-use Rattle.st_transfer.specs.declared.crew.Failed.TheVariants as fails
-use Rattle.st_transfer.specs.declared.crew.Leave.{Leave}
-use Rattle.st_transfer.specs.declared.crew.Leave.TheVariants.{Send, Wait, Refuse}
+use Rattle.st_transfer.specs.declared.roster.Failed.{Failed}
+use Rattle.st_transfer.specs.declared.roster.Failed.TheVariants as fails
+use Rattle.st_transfer.specs.declared.roster.Leave.{Leave}
+use Rattle.st_transfer.specs.declared.roster.Leave.TheVariants.{Send, Wait, Refuse}
 use Rattle.st_transfer.specs.declared.error.TransferError.{TransferError}
 use Rattle.st_transfer.specs.declared.error.TransferError.TheVariants.{NoMemory}
 
 -- the requests that no thread has claimed; the threads that are being made, that accept and
--- that have a connection, each with a claim; the requests that are not left to any thread; how often a thread began to accept;
+-- that have a connection, each with a claim; the requests whose connections are done, or that are left to no thread; how often a thread began to accept;
 -- how many ended since the last connection because their accepts failed; whether the last thread could not be made; and the fault
 -- that ended all, so that no request is left
 pub record Roster : Type 0 where
@@ -40,10 +40,6 @@ Wants workers r = (0 < r.left) × (r.coming + r.accepting + r.failed < workers) 
 abbrev pub LeavesAgain : Roster → Roster → Type 0
 LeavesAgain a b = (a.coming ≡ b.coming + 1) × (b ≡ record a { left = a.left + 1; coming = b.coming; refused = true })
 
--- where a fault ended all, a thread that could not be made leaves its request to no other
-abbrev pub Forgoes : Roster → Roster → Type 0
-Forgoes a b = (a.coming ≡ b.coming + 1) × (b ≡ record a { coming = b.coming; spent = a.spent + 1; refused = true })
-
 -- that thread is made, and accepts
 abbrev pub Begins : Roster → Roster → Type 0
 Begins a b = (a.coming ≡ b.coming + 1) × (b ≡ record a { coming = b.coming; accepting = a.accepting + 1; begun = count_after 1 a.begun })
@@ -60,10 +56,9 @@ Leaves a b = (a.accepting ≡ b.accepting + 1) × (b ≡ record a { accepting = 
 abbrev pub IsNeeded : Roster → ℕ → Type 0
 IsNeeded r n = ((0 < r.accepting) × (n ≡ r.begun)) ⊎ ((r.accepting ≡ 0) × (n ≡ count_after 1 r.begun))
 
--- it is done: its request is served, or did not come and is left again
-abbrev pub IsDone : Roster → (came : Bool) → Roster → Type 0
-IsDone a true b = (a.busy ≡ b.busy + 1) × (b ≡ record a { busy = b.busy; spent = a.spent + 1 })
-IsDone a false b = (a.busy ≡ b.busy + 1) × (b ≡ record a { busy = b.busy; left = a.left + 1 })
+-- it is done with its connection, which counts as a request whatever it brought
+abbrev pub IsDone : Roster → Roster → Type 0
+IsDone a b = (a.busy ≡ b.busy + 1) × (b ≡ record a { busy = b.busy; spent = a.spent + 1 })
 
 -- it accepts again, for one request more
 abbrev pub GoesOn : Roster → Roster → Type 0
@@ -95,7 +90,7 @@ IsFailed a e fails.Again b = IsNone a.fault × (a.accepting ≤ 1) × (0 < a.bus
 IsFailed a e fails.End b = (IsSome a.fault ⊎ ((a.accepting ≤ 1) × (a.busy ≡ 0)))
     × (0 < a.accepting → EndsBy a e b) × (a.accepting ≡ 0 → LeavesNone a e b)
 
--- the only thread could not be made, so that memory or threads are wanting: no request is left
+-- the only thread could not be made, so that memory or threads are wanting, or a fault ended all before: no request is left
 abbrev pub GivesUp : Roster → Roster → Type 0
 GivesUp a b = (a.coming ≡ b.coming + 1) × LeavesNone (record a { left = a.left + 1; coming = b.coming; refused = true }) NoMemory b
 

@@ -9,10 +9,11 @@ ghost use Rattle.st_transfer.specs.declared.error.TransferError.TheVariants.{NoM
 use crate::accounts::{AccountTotals, note, places};
 use crate::clock::RuntimeClock;
 use crate::counts::{Came, Counts, came_of, count_answer};
-use crate::crew::{Crew, CrewEnded, Failed, Wanted};
+use crate::crew::{Crew, CrewEnded, Wanted};
 use crate::error::TransferError;
 use crate::minutes::{Minutes, tell_minute};
 use crate::neighbour::Neighbourhood;
+use crate::roster::Failed;
 use crate::serving::{accept_next, serve_on, shut};
 use crate::storing::Storing;
 use crate::telling::{Sent, tell_outcome, tell_served};
@@ -225,7 +226,7 @@ where
                 return false;
             };
             server.note_accepted(needed);
-            let came = serve_on(
+            serve_on(
                 rt,
                 *alloc,
                 stream,
@@ -234,7 +235,7 @@ where
                 terms.turns,
                 terms.log,
             );
-            crew.finish(rt, came, !server.is_unreached)
+            crew.finish(rt, !server.is_unreached)
         }
         Err(error) => match crew.fail(rt, error) {
             Failed::Again => true,

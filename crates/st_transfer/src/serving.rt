@@ -1,6 +1,6 @@
 //! How connections are accepted, and how the request of one connection is served.
 
-ghost use Rattle.std.specs.Prelude.{◌≡◌, ⊤, IsOkUnless, MatchBool};
+ghost use Rattle.std.specs.Prelude.{IsOkUnless};
 ghost use Rattle.st_transfer.specs.Answering.{AskedOnce};
 ghost use Rattle.st_transfer.specs.declared.error.TransferError.TheVariants.{Accept};
 
@@ -9,7 +9,7 @@ use crate::telling::{Log, tell_connection};
 use crate::waiting::AwaitListener;
 use crate::watched::Watched;
 use libc::net::{SHUT_RDWR, shutdown};
-use st_http::{Answerer, HttpError, serve_one};
+use st_http::{Answerer, serve_one};
 use st_link::{ANSWER_SECONDS, Buffered, Timed};
 use st_oer::Counting;
 use std::alloc::Global;
@@ -57,8 +57,7 @@ pub(crate) fn shut(listener: &impl AwaitListener) {
     }
 }
 
-/// Reads one request from a stream, has it answered where it is valid, and writes the response. Returns whether a request
-/// came whole.
+/// Reads one request from a stream, has it answered where it is valid, and writes the response.
 #[tactic(auto, using(crate::proofs::Unanswered::asked_served))]
 fn serve_stream<S: Read + Write, T: Answerer>(
     alloc: Global,
@@ -66,24 +65,20 @@ fn serve_stream<S: Read + Write, T: Answerer>(
     tokens: &[&str],
     answerer: &mut T,
     turns: u64,
-) -> bool
-    ensures asked { AskedOnce T.gives answerer.old answerer.new }
-    ensures unasked { MatchBool result ⊤ (answerer.new ≡ answerer.old) }
+)
+    ensures { AskedOnce T.gives answerer.old answerer.new }
 {
     match serve_one(alloc, alloc, stream, tokens, answerer, turns) {
-        Ok(()) => true,
-        Err(HttpError::ReadFault | HttpError::Cut) => false,
-        Err(_) => true,
+        Ok(()) => {}
+        // What fails on the connection ends it alone.
+        Err(_) => {}
     }
 }
 
 /// Reads one request from a connection, has it answered where it is valid, and writes the response (RFC 0035, the
 /// synchronous mode). The request may take 30 seconds, the response as long as is left of them and 5 seconds at least, and
-/// both together `turns` I/O calls. What fails on the connection ends it alone.
-///
-/// Returns whether a request came whole, be it answered or refused. False where the connection ended, failed or was
-/// silent before that, and where memory for its buffer is refused. A connection on which no request was answered is told to
-/// `log`.
+/// both together `turns` I/O calls. What fails on the connection ends it alone, and so does a refusal of memory for its
+/// buffer. A connection on which no request was answered is reported to `log`.
 pub(crate) fn serve_on<S: Read + Write + OpenStream + Drop, T: Answerer>(
     rt: &impl Clock,
     alloc: Global,
@@ -92,18 +87,16 @@ pub(crate) fn serve_on<S: Read + Write + OpenStream + Drop, T: Answerer>(
     answerer: &mut T,
     turns: u64,
     log: Log<'_>,
-) -> bool
-    ensures asked { AskedOnce T.gives answerer.old answerer.new }
-    ensures unasked { MatchBool result ⊤ (answerer.new ≡ answerer.old) }
+)
+    ensures { AskedOnce T.gives answerer.old answerer.new }
 {
     let _ = stream.set_nodelay(true);
     let time = Duration::from_secs(ANSWER_SECONDS);
     let timed = Timed::answering(stream, rt, time, Duration::from_secs(WRITE_SECONDS));
     let Ok(buffered) = Buffered::new(alloc, timed) else {
-        return false;
+        return;
     };
     let mut stream = Counting::new(Watched::new(buffered));
-    let came = serve_stream(alloc, &mut stream, tokens, answerer, turns);
+    serve_stream(alloc, &mut stream, tokens, answerer, turns);
     tell_connection(rt, log, stream.into_inner().status());
-    came
 }

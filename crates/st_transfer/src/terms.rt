@@ -42,8 +42,7 @@ pub struct ConnectTerms<'a> {
     /// Where each account is reached, by the account's place. A Prepare that is forwarded to an account without a
     /// neighbour is answered with a Reject of code T01 (RFC 0027).
     pub neighbours: &'a [Option<Neighbour<'a>>],
-    /// How many requests are answered before the connector ends. A connection on which no request came whole is not
-    /// counted.
+    /// How many connections are accepted before the connector ends, each for one request, whatever it brings.
     pub requests: u64,
     /// How many threads wait for a connection at any time, while requests are left.
     pub workers: u8,

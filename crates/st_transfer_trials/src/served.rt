@@ -18,11 +18,13 @@ const POST: &[u8] = b"POST /ilp HTTP/1.1\r\nAuthorization: Bearer t0\r\nContent-
 /// The head of a response with 35 bytes.
 const OK: &[u8] = b"HTTP/1.1 200 OK\r\nContent-Length: 35\r\n\r\n";
 
-/// What two Prepares book.
-const BOTH: Owed = Owed {
-    claims: 20,
-    dues: 20,
-};
+/// What is owed where so many units were booked.
+fn booked(units: u64) -> Owed {
+    Owed {
+        claims: units,
+        dues: units,
+    }
+}
 
 /// A head and its body.
 fn message(rt: &impl Abort, alloc: Global, head: &[u8], body: &[u8]) -> Vec<u8> {
@@ -63,36 +65,30 @@ fn serve_two<R: Net<Listener = TcpListener, Stream = TcpStream> + Threads + Wait
     connect_telling(&net, alloc, door, next, twice, till, &mut NoMinutes)?.result
 }
 
-/// Whether two Prepares were booked, over so many connections on which so many bytes were written and so many calls failed.
-fn booked_both(
-    owed: &Result<Owed, TransferError>,
-    seen: &Seen,
-    made: u64,
-    written: u64,
-    failed: u64,
-) -> bool {
-    *owed == Ok(BOTH) && seen.moved() == (made, written) && seen.failed() == failed
-}
-
-/// Each call of a connection fails in turn: its request comes by three reads, and its answer of 133 bytes goes by three
-/// writes. Where no request came, the next connection takes its place. What two Prepares book is booked, each time.
+/// Each call of a connection fails in turn: its request comes by three reads, and its answer of 133 bytes is sent by three
+/// writes. That connection counts as the next one does. Where no request came, one Prepare of ten units is booked,
+/// and else two.
 #[test]
 fn each_call_of_a_served_connection_fails_in_turn(rt: HostRuntime) {
     let alloc = rt.alloc();
     let request = message(&rt, alloc, POST, PREPARE);
     let response = message(&rt, alloc, OK, FULFILL);
-    for (k, made, written, failed) in [
-        (1, 3, 266, 1),
-        (2, 3, 266, 1),
-        (3, 3, 266, 1),
-        (4, 2, 133, 1),
-        (5, 2, 197, 1),
-        (6, 2, 261, 1),
-        (7, 2, 266, 0),
+    for (k, units, written, failed) in [
+        (1, 10, 133, 1),
+        (2, 10, 133, 1),
+        (3, 10, 133, 1),
+        (4, 20, 133, 1),
+        (5, 20, 197, 1),
+        (6, 20, 261, 1),
+        (7, 20, 266, 0),
     ] {
         let seen = Seen::at(0);
         let owed = serve_two(&rt, alloc, &request, &response, &seen, k);
-        assert!(rt; booked_both(&owed, &seen, made, written, failed), "at {k}");
+        assert!(rt; owed == Ok(booked(units)), "at {k}");
+        assert!(rt;
+            seen.moved() == (2, written) && seen.failed() == failed,
+            "at {k}"
+        );
     }
 }
 
