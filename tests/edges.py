@@ -2,10 +2,10 @@
 """Runs `send`, `receive` and `connector` at their edges: edges.py [PROGRAM [WORD]]. Links that fail and come back, peers that stop,
 many connections, too few threads and files. With a WORD, only the tests whose names have it. A line for each test says how long
 it took or what was measured, or what is wrong; the last line counts them. Tests that wait for a time-out run side by side."""
-import os, pty, re, resource, shutil, socket, struct, sys, threading, time
+import os, pty, re, resource, select, shutil, socket, struct, sys, threading, time
 
 from peers import HOST, Peer, answer, asked, ended, free_port, free_ports, fulfill, message, prepare, request, totals, use_up
-from play import PROGRAM, Wrong, main, some_bytes, stands, table_to, test, want
+from play import PROGRAM, Skipped, Wrong, main, some_bytes, stands, table_to, test, want
 
 MANY = 200  # transfers at once
 
@@ -769,6 +769,61 @@ def transfers_at_once(play):
         money = totals(sender.totals).get("paid"), totals(receiver.totals).get("credited")
         want(money == (10, 10), f"paid and credited {money} of 10")
     return f"{MANY} in {taken:.1f} s"
+
+
+HOGS = [1_300, 600, 300]  # the packets that accounts send at once which take all the places that they can
+FILES = 4_000  # that a connector and this script need
+
+
+def hog(port, token, count):
+    """Sends packets at once whose way on is silent: the connections of those that are not answered while others are."""
+    waiting = []
+    for _ in range(count):
+        stream = socket.create_connection((HOST, port), timeout=60)
+        stream.sendall(request(token, prepare(0, 28, "test.silent")))
+        waiting.append(stream)
+    answered, until = True, time.monotonic() + 5
+    while answered and time.monotonic() < until:
+        look = select.poll()
+        for stream in waiting:
+            look.register(stream, select.POLLIN)
+        answered = {at for at, _ in look.poll(700)}
+        for stream in waiting:
+            if stream.fileno() in answered:
+                stream.close()
+        waiting = [it for it in waiting if it.fileno() >= 0]
+    return waiting
+
+
+@test()
+def an_account_beside_others_that_take_all_that_they_can(play):
+    low, high = resource.getrlimit(resource.RLIMIT_NOFILE)
+    if high != resource.RLIM_INFINITY and high < FILES:
+        raise Skipped(f"{high} files")
+    content = some_bytes(50_000)
+    receiver = play.receive()
+    silent = socket.create_server((HOST, 0), backlog=4_096)
+    play.open.append(silent)
+    table = table_to(receiver.port) + f"account 0 0 none {HOST}:{silent.getsockname()[1]} t\nroute test.silent 2\n"
+    table += "".join(f"account 0 0 hog{n} - -\n" for n in range(len(HOGS)))
+    resource.setrlimit(resource.RLIMIT_NOFILE, (max(low, FILES), high))
+    begun = time.monotonic()
+    try:
+        hub = play.connector(table)
+        held = []
+        for n, count in enumerate(HOGS):
+            held.append(hog(hub.port, f"hog{n}", count))
+            play.open += held[-1]
+        told = transfer(play.send(hub.port, content, "--money=500"), receiver, content, 15)
+    finally:
+        resource.setrlimit(resource.RLIMIT_NOFILE, (low, high))
+    # (no exchange has ended)
+    want(time.monotonic() - begun < 27, "it took too long")
+    # Each takes at most half of the places, of 1,024, that it finds, and the first one nearly that.
+    counts = [len(it) for it in held]
+    found = [1_024 - sum(counts[:n]) for n in range(len(HOGS))]
+    want(all(2 * count <= places for count, places in zip(counts, found)) and counts[0] > 256, f"held {counts}")
+    return f"{told} beside {counts}"
 
 
 @test()

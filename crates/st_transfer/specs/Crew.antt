@@ -1,5 +1,5 @@
 -- The threads of a connector and the requests that they claim.
-use Rattle.std.specs.Prelude.{◌≡◌, ◌⊎◌, ℕ, ◌+◌, ◌<◌, ◌≤◌, Bool, true, false, if◌then◌else◌, Option, Some, IsNone, IsSome}
+use Rattle.std.specs.Prelude.{◌≡◌, ◌⊎◌, ℕ, ◌+◌, ◌-◌, ◌<◌, ◌≤◌, Bool, true, false, if◌then◌else◌, List, slice_index, slice_set, Option, Some, None, IsNone, IsSome}
 use Rattle.std.specs.Option.{option_or}
 use Rattle.st_oer.specs.Faults.{count_after}
 use Rattle.st_transfer.specs.declared.roster.Failed.{Failed}
@@ -10,7 +10,7 @@ use Rattle.st_transfer.specs.declared.error.TransferError.{TransferError}
 use Rattle.st_transfer.specs.declared.error.TransferError.TheVariants.{NoMemory}
 
 -- the requests that no thread has claimed; the threads that are being made, that accept and
--- that have a connection, each with a claim; the requests whose connections are done, or that are left to no thread; how often a thread began to accept;
+-- that have a connection, each with a claim; how many of these last were to send to a neighbour for each account; the requests whose connections are done, or that are left to no thread; how often a thread began to accept;
 -- how many ended since the last connection because their accepts failed; whether the last thread could not be made; and the fault
 -- that ended all, so that no request is left
 pub record Roster : Type 0 where
@@ -18,6 +18,7 @@ pub record Roster : Type 0 where
   pub coming : ℕ
   pub accepting : ℕ
   pub busy : ℕ
+  pub sending : List ℕ
   pub spent : ℕ
   pub begun : ℕ
   pub failed : ℕ
@@ -56,9 +57,14 @@ Leaves a b = (a.accepting ≡ b.accepting + 1) × (b ≡ record a { accepting = 
 abbrev pub IsNeeded : Roster → ℕ → Type 0
 IsNeeded r n = ((0 < r.accepting) × (n ≡ r.begun)) ⊎ ((r.accepting ≡ 0) × (n ≡ count_after 1 r.begun))
 
--- it is done with its connection, which counts as a request whatever it brought
-abbrev pub IsDone : Roster → Roster → Type 0
-IsDone a b = (a.busy ≡ b.busy + 1) × (b ≡ record a { busy = b.busy; spent = a.spent + 1 })
+-- one thread fewer sends for an account, where there is one
+abbrev pub without : (account : Option ℕ) → (sending : List ℕ) → List ℕ
+without None sending = sending
+without (Some account) sending = slice_set sending account (slice_index sending account - 1)
+
+-- it is done with its connection, which counts as a request whatever it brought, and sends for its account no more
+abbrev pub IsDone : Roster → (sent_for : Option ℕ) → Roster → Type 0
+IsDone a sent_for b = (a.busy ≡ b.busy + 1) × (b ≡ record a { busy = b.busy; sending = without sent_for a.sending; spent = a.spent + 1 })
 
 -- it accepts again, for one request more
 abbrev pub GoesOn : Roster → Roster → Type 0
@@ -94,11 +100,21 @@ IsFailed a e fails.End b = (IsSome a.fault ⊎ ((a.accepting ≤ 1) × (a.busy �
 abbrev pub GivesUp : Roster → Roster → Type 0
 GivesUp a b = (a.coming ≡ b.coming + 1) × LeavesNone (record a { left = a.left + 1; coming = b.coming; refused = true }) NoMemory b
 
--- a thread sends where no fault ended all, not too many have a connection, and threads began to accept as often as it needs or no
--- other can be asked for; it waits where one is being made or may be; and it is refused after a fault, where too many have a
--- connection, or where no other is being made, since the last one could not be or there is no room for it
-abbrev pub IsLeave : (workers : ℕ) → Roster → (needed : ℕ) → Leave → Type 0
-IsLeave workers r needed Send = IsNone r.fault × (r.busy ≤ 1024) × ((needed ≤ r.begun) ⊎ ((r.left ≡ 0) × (r.coming ≡ 0)))
-IsLeave workers r needed Wait = IsNone r.fault × (r.begun < needed) × ((0 < r.coming) ⊎ ((0 < r.left) × (r.refused ≡ false) × (threads_of r < 1024 + workers)))
-IsLeave workers r needed Refuse = IsSome r.fault
-    ⊎ ((1024 < r.busy) ⊎ ((r.begun < needed) × (0 < r.left) × (r.coming ≡ 0) × ((r.refused ≡ true) ⊎ (1024 + workers ≤ threads_of r))))
+-- an account may have one exchange more: fewer threads send for it than places are free of 1,024. So it leaves at least half of
+-- those that it found: the first that takes all that it can has half of the places, the next a quarter
+abbrev pub HasPlace : Roster → (account : ℕ) → Type 0
+HasPlace r account = slice_index r.sending account < 1024 - r.busy
+
+-- a thread more sends for an account
+abbrev pub Sends : Roster → (account : ℕ) → Roster → Type 0
+Sends a account b = b ≡ record a { sending = slice_set a.sending account (count_after 1 (slice_index a.sending account)) }
+
+-- a thread sends for an account where no fault ended all, the account has a place, and threads began to accept as often as it needs
+-- or no other can be asked for; it waits where one is being made or may be; and it is refused after a fault, where its account has
+-- no place, or where no other is being made, since the last one could not be or there is no room for it
+abbrev pub IsLeave : (workers : ℕ) → Roster → (account needed : ℕ) → Leave → Type 0
+IsLeave workers r account needed Send = IsNone r.fault × HasPlace r account × ((needed ≤ r.begun) ⊎ ((r.left ≡ 0) × (r.coming ≡ 0)))
+IsLeave workers r account needed Wait = IsNone r.fault × HasPlace r account × (r.begun < needed)
+    × ((0 < r.coming) ⊎ ((0 < r.left) × (r.refused ≡ false) × (threads_of r < 1024 + workers)))
+IsLeave workers r account needed Refuse = IsSome r.fault
+    ⊎ ((1024 - r.busy ≤ slice_index r.sending account) ⊎ ((r.begun < needed) × (0 < r.left) × (r.coming ≡ 0) × ((r.refused ≡ true) ⊎ (1024 + workers ≤ threads_of r))))

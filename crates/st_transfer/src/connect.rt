@@ -45,7 +45,8 @@ pub struct ConnectorEnded {
     pub accounts: Vec<AccountTotals>,
     /// How the Prepares of these accounts ended. Empty where the totals are.
     pub counts: Counts,
-    /// How many Prepares were answered with T00 in place of being forwarded, because too many threads were busy.
+    /// How many Prepares were answered with T00 in place of being forwarded, because too many threads were busy, or too many
+    /// for their account.
     pub overloaded: u64,
     /// How many threads were to wait for a connection at any time.
     pub workers: u8,
@@ -71,6 +72,8 @@ struct Common<'a, C: Ledger, D: Ledger, L> {
 struct Ways<'a, C: Ledger, D: Ledger, L, R: Net + Wait + Clock> {
     rt: &'a R,
     common: &'a Common<'a, C, D, L>,
+    /// The account from which the request arrived.
+    from: usize,
     /// How often threads are to have begun to accept before this one may send.
     needed: u64,
     /// When an exchange has to be done, so that its answer can still be passed back. `None` where there is no such moment.
@@ -79,6 +82,8 @@ struct Ways<'a, C: Ledger, D: Ledger, L, R: Net + Wait + Clock> {
     came: Came,
     /// What became of the request's exchange.
     sent: Sent,
+    /// Whether the request was to be sent to a neighbour, for which its account has a place.
+    has_place: bool,
     /// Whether the last exchange could not connect to its neighbour.
     is_unreached: bool,
 }
@@ -114,7 +119,8 @@ impl<C: Ledger, D: Ledger, L, R: Net + Wait + Clock> Links<Global> for Ways<'_, 
             terms,
             ..
         } = self.common;
-        if crew.may_send(self.rt, self.needed) {
+        if crew.may_send(self.rt, self.from, self.needed) {
+            self.has_place = true;
             let by = earlier(self.latest, by);
             let (outcome, cause) = neighbourhood.exchange(self.rt, *alloc, account, bytes, by);
             self.came = came_of(&outcome);
@@ -142,6 +148,8 @@ struct Server<'a, C: Ledger, D: Ledger, K: Keeper, L, R: Net + Wait + Clock> {
     clock: RuntimeClock<'a, R>,
     /// The account from which the last request that was answered arrived at the desk.
     account: Option<usize>,
+    /// The account of which the thread has a place, for an exchange, until it is done with its connection.
+    sent_for: Option<usize>,
     /// Whether the exchange of the last request could not connect to its neighbour.
     is_unreached: bool,
 }
@@ -160,19 +168,22 @@ impl<C: Ledger, D: Ledger, K: Keeper, L: AwaitListener, R: Net + Wait + Clock> A
             books,
             clock,
             account: at,
+            sent_for,
             is_unreached,
         } = self;
         let (rt, common) = (*rt, *common);
         let mut ways = Ways {
             rt,
             common,
+            from: account,
             needed: *needed,
             latest: *latest,
             came: Came::NotSent,
             sent: Sent::No,
+            has_place: false,
             is_unreached: false,
         };
-        match serve(
+        let served = serve(
             rt,
             &common.desk,
             &common.shares,
@@ -181,7 +192,11 @@ impl<C: Ledger, D: Ledger, K: Keeper, L: AwaitListener, R: Net + Wait + Clock> A
             &mut ways,
             books,
             clock,
-        ) {
+        );
+        if ways.has_place {
+            *sent_for = Some(account);
+        }
+        match served {
             Ok(Served { account, answer }) => {
                 count_answer(rt, &common.counts, account, ways.came, &answer);
                 *at = Some(account);
@@ -201,6 +216,7 @@ impl<C: Ledger, D: Ledger, K: Keeper, L, R: Net + Wait + Clock> Server<'_, C, D,
         let now = st_desk::Clock::now(&mut self.clock);
         self.needed = needed;
         self.latest = latest_after(now);
+        self.sent_for = None;
         self.is_unreached = false;
     }
 }
@@ -235,7 +251,7 @@ where
                 terms.turns,
                 terms.log,
             );
-            crew.finish(rt, !server.is_unreached)
+            crew.finish(rt, server.sent_for, !server.is_unreached)
         }
         Err(error) => match crew.fail(rt, error) {
             Failed::Again => true,
@@ -271,6 +287,7 @@ where
         },
         clock: RuntimeClock::new(rt),
         account: None,
+        sent_for: None,
         is_unreached: false,
     };
     crew.begin(rt);
@@ -420,13 +437,14 @@ fn common_of<'a, C: Ledger, D: Ledger, L>(
     let counts = Counts::new(alloc, terms.tokens.len())?;
     let t00 = Vec::from_slice(alloc, desk.t00())?;
     let neighbourhood = Neighbourhood::new(alloc, terms.neighbours, terms.turns)?;
+    let crew = Crew::new(alloc, terms.requests, terms.workers, terms.tokens.len())?;
     Ok(Common {
         alloc,
         listener,
         desk: Mutex::new(desk),
         shares: Mutex::new(shares),
         counts: Mutex::new(counts),
-        crew: Crew::new(terms.requests, terms.workers),
+        crew,
         neighbourhood,
         t00,
         terms,
@@ -519,9 +537,10 @@ where
 /// Each thread accepts a connection, serves one request on it, and waits for the answer of the neighbour where the
 /// request is a Prepare that is forwarded. Wherever fewer threads than `terms.workers` wait for a connection, one more
 /// is made, up to 1,024 and `terms.workers` in all. A thread that is done waits for the next connection, unless
-/// `terms.workers` and 16 more threads do, or `terms.workers` where it could not connect to its neighbour. Beyond 1,024
-/// threads with a connection, or where no further thread can be made and none waits for a connection, a Prepare that would
-/// be forwarded is answered with T00 at once, and counted.
+/// `terms.workers` and 16 more threads do, or `terms.workers` where it could not connect to its neighbour. An account may
+/// have as many exchanges at once as are left of 1,024 threads with a connection. A Prepare beyond them that would be
+/// forwarded is answered with T00 at once, and counted; so is one where no further thread can be made and none waits for a
+/// connection.
 ///
 /// With a `till`, what a Fulfill books is committed there before the Fulfill is passed back, each booking once. A Fulfill
 /// that could not be stored is answered with T01 in its place. The till has to be for `MOST_THREADS`. Without one, what is

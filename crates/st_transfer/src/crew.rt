@@ -1,10 +1,11 @@
 //! The threads of a connector: a lock on their roster, and what wakes those that wait for a change of it.
 
-ghost use Rattle.std.specs.Prelude.{◌≡◌};
+ghost use Rattle.std.specs.Prelude.{◌≡◌, IfOk};
 
 use crate::error::TransferError;
 use crate::roster::{Failed, Leave, Roster};
 use st_link::left_until;
+use std::alloc::{AllocError, Global};
 use std::sync::{Condvar, Mutex, Wait};
 use std::time::{Clock, Duration, Instant};
 
@@ -39,7 +40,7 @@ pub(crate) struct Crew {
 pub(crate) struct CrewEnded {
     /// How many were to accept at any time.
     pub(crate) workers: u8,
-    /// How many requests were not sent to a neighbour because too many threads were busy.
+    /// How many requests were not sent to a neighbour because too many threads were busy, or too many for their account.
     pub(crate) overloaded: u64,
     /// The fault that ended all.
     pub(crate) fault: Option<TransferError>,
@@ -48,16 +49,22 @@ pub(crate) struct CrewEnded {
 // Each function here that takes the lock lets it go before it returns.
 
 impl Crew {
-    /// No threads yet, for a given number of requests. At any time `workers` threads are to accept.
-    pub(crate) fn new(requests: u64, workers: u8) -> Crew
-        ensures { result.workers ≡ workers }
+    /// No threads yet, for a given number of requests, and so many accounts. At any time `workers` threads are to accept.
+    pub(crate) fn new(
+        alloc: Global,
+        requests: u64,
+        workers: u8,
+        accounts: usize,
+    ) -> Result<Crew, AllocError>
+        ensures { IfOk result (λ crew. crew.workers ≡ workers) }
     {
-        Crew {
+        let roster = Roster::new(alloc, requests, accounts)?;
+        Ok(Crew {
             workers,
-            roster: Mutex::new(Roster::new(requests)),
+            roster: Mutex::new(roster),
             changed: Condvar::new(),
             relieved: Condvar::new(),
-        }
+        })
     }
 
     /// Waits until one more thread is to be made, for which a request is claimed, until no thread is left, or for the end of
@@ -130,10 +137,10 @@ impl Crew {
         failed
     }
 
-    /// A thread is done with its connection, of which the request `reached` its neighbour where it was to be sent on. Whether
-    /// the thread is to accept the next one.
-    pub(crate) fn finish(&self, rt: &impl Wait, reached: bool) -> bool {
-        let goes_on = self.finish_one(rt, reached);
+    /// A thread is done with its connection, of which the request `reached` its neighbour where it was to be sent on, for the
+    /// account `sent_for`. Whether the thread is to accept the next one.
+    pub(crate) fn finish(&self, rt: &impl Wait, sent_for: Option<usize>, reached: bool) -> bool {
+        let goes_on = self.finish_one(rt, sent_for, reached);
         self.changed.notify_one();
         if goes_on {
             self.relieved.notify_all();
@@ -141,19 +148,23 @@ impl Crew {
         goes_on
     }
 
-    fn finish_one(&self, rt: &impl Wait, reached: bool) -> bool {
+    fn finish_one(&self, rt: &impl Wait, sent_for: Option<usize>, reached: bool) -> bool {
         let mut roster = self.roster.lock(rt);
-        roster.finish();
+        roster.finish(sent_for);
         roster.go_on(self.workers, reached)
     }
 
-    /// Whether a thread with a connection may send to a neighbour: at most 1,024 threads are busy, and another thread
-    /// accepts meanwhile. It waits until one does, or none can be made. Each refusal is counted. After a fault none may send.
-    pub(crate) fn may_send(&self, rt: &impl Wait, needed: u64) -> bool {
+    /// Whether a thread with a connection may send to a neighbour for an account: the account has fewer exchanges than places
+    /// are free, and another thread accepts meanwhile. It waits until one does, or none can be made. Each refusal is counted.
+    /// After a fault none may send. One that may has a place of its account until it is done.
+    pub(crate) fn may_send(&self, rt: &impl Wait, account: usize, needed: u64) -> bool {
         let mut roster = self.roster.lock(rt);
         for _ in rt.forever() {
-            match roster.leave(self.workers, needed) {
-                Leave::Send => return true,
+            match roster.leave(self.workers, account, needed) {
+                Leave::Send => {
+                    roster.send_for(account);
+                    return true;
+                }
                 Leave::Refuse => {
                     if roster.fault.is_none() {
                         roster.overloaded = roster.overloaded.saturating_add(1);

@@ -1,13 +1,16 @@
 //! How many threads of a connector accept, how many requests they may still take, and which of them may send.
 
-ghost use Rattle.std.specs.Prelude.{◌≡◌, ◌⊎◌, ◌+◌, ◌<◌, ◌↔◌, ℕ, false, IsNone, IsSome, IsTrue, MatchBool, None, Some};
-ghost use Rattle.st_transfer.specs.Crew.{threads_of, Hires, LeavesAgain, GivesUp, Wants, Begins, Takes, Leaves, IsNeeded, IsDone, GoesOn, Stays, LeavesNone, IsFailed, IsLeave};
+ghost use Rattle.std.specs.Prelude.{◌≡◌, ◌⊎◌, ◌+◌, ◌-◌, ◌<◌, ◌↔◌, ℕ, false, replicate, slice_index, slice_set, IfOk, IsNone, IsSome, IsTrue, MatchBool, None, Some};
+ghost use Rattle.st_oer.specs.Faults.{count_after};
+ghost use Rattle.st_transfer.specs.Crew.{threads_of, Hires, LeavesAgain, GivesUp, Wants, Begins, Takes, Leaves, IsNeeded, IsDone, GoesOn, Stays, LeavesNone, IsFailed, HasPlace, Sends, IsLeave};
 ghost use Rattle.st_transfer.specs.declared.error.TransferError.TheVariants.{Books};
 
 use crate::error::TransferError;
+use std::alloc::{AllocError, Global};
 use std::marker::Model;
 
-/// The largest number of threads with a connection of which each may still send to a neighbour.
+/// How many threads with a connection there may be while further ones send to a neighbour. An account may have as many
+/// exchanges as are left of them, so that it leaves at least half of those that it found to others.
 pub(crate) const MOST_BUSY: u64 = 1_024;
 
 /// For how many threads a till of a connector has to be: so many may send to a neighbour at once, and store what its
@@ -39,6 +42,38 @@ pub(crate) enum Failed {
     End,
 }
 
+/// How many threads send for an account, by the account's place: none for one that is not there.
+#[tactic(auto, using(std::proofs::lemmas::List::get_or_past))]
+fn sending_for(sending: &[u64], account: usize) -> u64
+    ensures { result ≡ slice_index sending.now account }
+{
+    if account < sending.len() {
+        sending[account]
+    } else {
+        0
+    }
+}
+
+/// One thread more sends for an account.
+#[tactic(auto, using(std::proofs::lemmas::List::set_past))]
+fn one_more(sending: &mut [u64], account: usize)
+    ensures { sending.new ≡ slice_set sending.old account (count_after 1 (slice_index sending.old account)) }
+{
+    if account < sending.len() {
+        sending[account] = sending[account].saturating_add(1);
+    }
+}
+
+/// One thread fewer sends for an account.
+#[tactic(auto, using(std::proofs::lemmas::List::set_past))]
+fn one_less(sending: &mut [u64], account: usize)
+    ensures { sending.new ≡ slice_set sending.old account (slice_index sending.old account - 1) }
+{
+    if account < sending.len() {
+        sending[account] = sending[account].saturating_sub(1);
+    }
+}
+
 /// The threads of a connector, and its requests: the value of one lock. Each request is left, or claimed by one thread, or
 /// spent. A thread that accepted a connection keeps its claim until it is done with it.
 #[derive(Drop)]
@@ -52,6 +87,9 @@ pub(crate) struct Roster {
     accepting: u64,
     /// Threads with a connection.
     busy: u64,
+    /// How many of these were to send to a neighbour for each account, by the place of the account that the request arrived
+    /// from.
+    sending: Vec<u64>,
     /// Requests whose connections are done, and those for which none is accepted any more.
     spent: u64,
     /// How often a thread began to accept.
@@ -72,29 +110,30 @@ impl Model for Roster {
 
     ghost Value = { crew.Roster };
 
-    ghost view = { λ r. record { left = r.left; coming = r.coming; accepting = r.accepting; busy = r.busy; spent = r.spent; begun = r.begun; failed = r.failed; refused = r.is_refused; fault = r.fault } };
+    ghost view = { λ r. record { left = r.left; coming = r.coming; accepting = r.accepting; busy = r.busy; sending = r.sending.items; spent = r.spent; begun = r.begun; failed = r.failed; refused = r.is_refused; fault = r.fault } };
 
     ghost invariant = { λ r. (r.left + r.coming + r.accepting + r.busy + r.spent ≡ r.requests) × (r.coming + r.accepting + r.busy ≤ 1279) × (IsSome r.fault → r.left ≡ 0) };
 }
 
 impl Roster {
-    /// No threads, and a given number of requests.
-    pub(crate) fn new(requests: u64) -> Roster
-        ensures { result ≡ record { left = requests; coming = 0; accepting = 0; busy = 0; spent = 0; begun = 0; failed = 0; refused = false; fault = None } }
+    /// No threads, a given number of requests, and so many accounts.
+    pub(crate) fn new(alloc: Global, requests: u64, accounts: usize) -> Result<Roster, AllocError>
+        ensures { IfOk result (λ roster. roster ≡ record { left = requests; coming = 0; accepting = 0; busy = 0; sending = replicate accounts 0; spent = 0; begun = 0; failed = 0; refused = false; fault = None }) }
     {
-        Roster {
+        Ok(Roster {
             requests,
             left: requests,
             coming: 0,
             accepting: 0,
             busy: 0,
+            sending: Vec::from_elem(alloc, 0, accounts)?,
             spent: 0,
             begun: 0,
             failed: 0,
             is_refused: false,
             overloaded: 0,
             fault: None,
-        }
+        })
     }
 
     /// How many threads there are, those that are being made among them.
@@ -231,15 +270,20 @@ impl Roster {
         Failed::End
     }
 
-    /// A thread is done with its connection, which counts as a request whatever it brought.
-    pub(crate) fn finish(&mut self)
-        ensures { 0 < self.old.busy → IsDone self.old self.new }
+    /// A thread is done with its connection, which counts as a request whatever it brought. `sent_for` is the account for
+    /// which it was to send to a neighbour, where it was.
+    pub(crate) fn finish(&mut self, sent_for: Option<usize>)
+        ensures { 0 < self.old.busy → IsDone self.old sent_for self.new }
     {
         if self.busy == 0 {
             return;
         }
         self.busy -= 1;
         self.spent += 1;
+        let Some(account) = sent_for else {
+            return;
+        };
+        one_less(self.sending.as_mut_slice(), account);
     }
 
     /// Claims a request for a thread that is done with its last one. False where it is to end: no request is left, or
@@ -260,12 +304,26 @@ impl Roster {
         true
     }
 
-    /// Whether a thread may send to a neighbour that waited until threads began to accept this often. After a fault none
-    /// may.
-    pub(crate) fn leave(&self, workers: u8, needed: u64) -> Leave
-        ensures { IsLeave workers self.now needed result }
+    /// Whether an account may have one exchange more: where it has fewer than places are free.
+    fn has_place(&self, account: usize) -> bool
+        ensures { IsTrue result ↔ HasPlace self.now account }
     {
-        if self.fault.is_some() || self.busy > MOST_BUSY {
+        sending_for(&self.sending, account) < MOST_BUSY.saturating_sub(self.busy)
+    }
+
+    /// A thread is to send to a neighbour for an account.
+    pub(crate) fn send_for(&mut self, account: usize)
+        ensures { Sends self.old account self.new }
+    {
+        one_more(self.sending.as_mut_slice(), account);
+    }
+
+    /// Whether a thread may send to a neighbour for an account that waited until threads began to accept this often. After a
+    /// fault none may.
+    pub(crate) fn leave(&self, workers: u8, account: usize, needed: u64) -> Leave
+        ensures { IsLeave workers self.now account needed result }
+    {
+        if self.fault.is_some() || !self.has_place(account) {
             return Leave::Refuse;
         }
         if needed <= self.begun || (self.left == 0 && self.coming == 0) {
