@@ -5,7 +5,7 @@ it took or what was measured, or what is wrong; the last line counts them. Tests
 import os, pty, re, resource, select, shutil, socket, struct, sys, threading, time
 
 from peers import HOST, Peer, answer, asked, ended, free_port, free_ports, fulfill, message, prepare, request, totals, use_up
-from play import PROGRAM, Skipped, Wrong, main, some_bytes, stands, table_to, test, want
+from play import PROGRAM, Skipped, Wrong, main, shared_object, some_bytes, stands, table_to, test, want
 
 MANY = 200  # transfers at once
 
@@ -640,6 +640,66 @@ def a_connector_whose_clock_advances(play):
     late = codes(hub.port, 8, -1)
     want(found == [b""] * 8 and all(code[:1] == b"R" for code in late), f"answers {found}, and later {late}")
     return late[0].decode()
+
+
+# Clocks that are set back.
+
+HOUR = 3_600_000  # milliseconds
+
+
+def set_clock(play, lead):
+    """Sets the clock of the programs that were started with `ahead`: by so many milliseconds it is ahead."""
+    with open(f"{play.room}/lead.new", "w", encoding="ascii") as file:
+        file.write(str(lead))
+    os.replace(f"{play.room}/lead.new", f"{play.room}/lead")
+
+
+def ahead(play, lead):
+    """The environment of a program whose clock is ahead by so many milliseconds, until it is set."""
+    set_clock(play, lead)
+    return {**os.environ, "LD_PRELOAD": shared_object(play, "clock"), "CLOCK_FILE": f"{play.room}/lead"}
+
+
+def steps_back(path):
+    """The milliseconds by which the clock was set back, by a log."""
+    with open(path, encoding="ascii") as file:
+        return [int(it) for it in re.findall(r"(?m)^\S+ clock set_back_ms=(\d+)$", file.read())]
+
+
+@test(("connector",), ("receive",))
+def a_clock_that_is_set_back_is_followed_by(play, command):
+    def handle(_, stream):
+        message(stream)
+        stream.sendall(answer(fulfill()))
+
+    env = ahead(play, HOUR)
+    # (a receiver cannot open the Prepares)
+    late, timely = (b"R02", b"") if command == "connector" else (b"R00", b"F06")
+    it = play.before(play.peer(handle), "--workers=1", env=env) if command == "connector" else play.receive(env=env)
+    found = [codes(it.port, 8, 20)]
+    for lead in (0, -4_000):
+        set_clock(play, lead)
+        found.append(codes(it.port, 8, 20))
+    want(found == [[late] * 8, [timely] * 8, [timely] * 8], f"answers {found}")
+    # (a step of four seconds is none)
+    steps = steps_back(it.log)
+    want(len(steps) == 1 and HOUR - 30_000 < steps[0] <= HOUR, f"steps {steps} in the log")
+    return f"one step of {steps[0]} ms"
+
+
+@test()
+def a_sender_whose_clock_is_set_back(play):
+    content = some_bytes(400_000)
+    receiver = play.receive()
+    given, writer = play.pipe()
+    sender = play.send(receiver.port, given, env=ahead(play, HOUR))
+    threading.Thread(target=feed, args=(writer, content, 2), daemon=True).start()
+    time.sleep(1)
+    set_clock(play, 0)
+    told = transfer(sender, receiver, content, 20)
+    steps = steps_back(sender.log)
+    want(len(steps) == 1 and HOUR - 30_000 < steps[0] <= HOUR, f"steps {steps} in the log")
+    return told
 
 
 # What an idle sender takes, and the workers that there are.

@@ -7,7 +7,7 @@ import collections, contextlib, itertools, os, random, re, shlex, shutil, socket
 
 from peers import HOST, Peer, answer, ended, fields_at, free_port, fulfill, is_whole, listens, message, octets, prepare
 from peers import request, totals, use_up
-from play import PROGRAM, STAY, TOP, Skipped, Wrong, main, option, some_bytes, stands, test, until_it_listens, want
+from play import PROGRAM, STAY, Skipped, Wrong, main, option, shared_object, some_bytes, stands, test, until_it_listens, want
 
 KILLS = int(option("kills", "12"))
 SEED = option("seed", str(int(time.time())))
@@ -542,16 +542,6 @@ def a_payment_is_killed(play):
 # Disks and files.
 
 
-def failing(play):
-    """The library that has calls on the books fail."""
-    library = f"{play.room}/failing.so"
-    try:
-        subprocess.run(["cc", "-O", "-shared", "-fPIC", "-o", library, f"{TOP}/tests/failing.c", "-ldl"], check=True, capture_output=True)
-    except (OSError, subprocess.CalledProcessError) as error:
-        raise Skipped(f"no cc: {error}") from None
-    return library
-
-
 def is_no_database(path, room):
     """Whether sqlite3 reads no database in a copy of the books."""
     try:
@@ -591,7 +581,7 @@ def life_with(hub, library, way, call):
 
 @test(("kill", "killed"), ("error", "112"), ("full", "113"))
 def a_call_on_the_books_meets(play, way, wanted):
-    hub, library, found = Hub(play, ""), failing(play), collections.Counter()
+    hub, library, found = Hub(play, ""), shared_object(play, "failing"), collections.Counter()
     drawn = [hub.rng.randrange(1_000) for _ in range(KILLS // 4)]
     for at, call in enumerate([*range(1, 2 * KILLS + 1), *drawn]):
         hub.path, hub.books = f"{play.room}/books{at}", Books(0, {})
@@ -607,7 +597,7 @@ def a_call_on_the_books_meets(play, way, wanted):
 
 @test()
 def a_read_of_the_books_fails(play):
-    hub, library = Hub(play, f"{play.room}/books"), failing(play)
+    hub, library = Hub(play, f"{play.room}/books"), shared_object(play, "failing")
     found, sums = [], hub.some_sums()
     # (each of the first eight, and then fewer and fewer)
     for call in itertools.accumulate(itertools.repeat(1), lambda call, one: call + one + call // 8):

@@ -69,6 +69,16 @@ def listening(start):
     return begun
 
 
+def shared_object(play, name):
+    """A library for LD_PRELOAD, made of a source of these tests."""
+    path = f"{play.room}/{name}.so"
+    try:
+        subprocess.run(["cc", "-O", "-shared", "-fPIC", "-o", path, f"{TOP}/tests/{name}.c", "-ldl"], check=True, capture_output=True)
+    except (OSError, subprocess.CalledProcessError) as error:
+        raise Skipped(f"no cc: {error}") from None
+    return path
+
+
 def stands(process, command):
     """A command has not ended."""
     if process.poll() is not None:

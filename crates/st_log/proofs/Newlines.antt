@@ -158,6 +158,7 @@ word_clean kind.Totals = refl
 word_clean kind.More = refl
 word_clean kind.End = refl
 word_clean kind.Waits = refl
+word_clean kind.Clock = refl
 
 -- a literal, a word, and then a literal and a number
 word_number : (text word next : List ℕ) (n : ℕ) → has_no_newline text ≡ true → has_no_newline word ≡ true → has_no_newline next ≡ true
@@ -226,6 +227,7 @@ event_ends n (event.Connection (lost.Status status)) = number (codes "connection
 event_ends n (event.Connection lost.Cut) = more (codes "connection cut") (10 ∷ []) (record { is = refl }) ends
 event_ends n (event.Limit most) = number (codes "limit neighbour=") n _ refl (number (codes " most=") most (10 ∷ []) refl ends)
 event_ends n (event.Waits b) = waits_ends b
+event_ends n (event.Clock back) = number (codes "clock set_back_ms=") back (10 ∷ []) refl ends
 event_ends n (event.Table line words) = number (codes "table line=") line _ refl (said (codes " words=") words.now (10 ∷ []) refl ends)
 event_ends n (event.Closed stream None) = number (codes "closed stream=") stream (10 ∷ []) refl ends
 event_ends n (event.Closed stream (Some code)) = number (codes "closed stream=") stream _ refl (number (codes " code=") code (10 ∷ []) refl ends)

@@ -49,6 +49,7 @@ kind_of (event.Refused code reason) = kind.Refused
 kind_of (event.Connection l) = kind.Connection
 kind_of (event.Limit most) = kind.Limit
 kind_of (event.Waits b) = kind.Waits
+kind_of (event.Clock back) = kind.Clock
 kind_of (event.Table line words) = kind.Table
 kind_of (event.Closed stream code) = kind.Closed
 kind_of (event.End t) = kind.Totals
@@ -70,6 +71,7 @@ place_of kind.Totals = 7
 place_of kind.More = 8
 place_of kind.End = 9
 place_of kind.Waits = 10
+place_of kind.Clock = 11
 
 abbrev pub word_of : Kind → List ℕ
 word_of kind.Start = codes "start"
@@ -83,6 +85,7 @@ word_of kind.Totals = codes "totals"
 word_of kind.More = codes "more"
 word_of kind.End = codes "end"
 word_of kind.Waits = codes "waits"
+word_of kind.Clock = codes "clock"
 
 -- ---- what stands behind the date, by the event, with the newline; n is the neighbour's number
 
@@ -153,6 +156,9 @@ waits_text (blocked.StreamMoney stream receive_max total) =
     codes "waits at=stream-money stream=" ⧺ decimal stream ⧺ codes " receive_max=" ⧺ decimal receive_max
     ⧺ codes " total=" ⧺ decimal total ⧺ 10 ∷ []
 
+abbrev pub clock_text : (back : ℕ) → List ℕ
+clock_text back = codes "clock set_back_ms=" ⧺ decimal back ⧺ 10 ∷ []
+
 abbrev pub table_text : (line : ℕ) → (words : List ℕ) → List ℕ
 table_text line words = codes "table line=" ⧺ decimal line ⧺ codes " words=" ⧺ quoted words ⧺ 10 ∷ []
 
@@ -191,6 +197,7 @@ event_text n (event.Refused code (Some reason)) = reason_text n code reason
 event_text n (event.Connection l) = connection_text l
 event_text n (event.Limit most) = limit_text n most
 event_text n (event.Waits b) = waits_text b
+event_text n (event.Clock back) = clock_text back
 event_text n (event.Table line words) = table_text line words.now
 event_text n (event.Closed stream None) = closed_text stream
 event_text n (event.Closed stream (Some code)) = aborted_text stream code

@@ -27,6 +27,11 @@ pub enum Event<'a> {
     },
     /// An end waits at a limit of its peer.
     Waits(Blocked),
+    /// The clock was set back, and is followed.
+    Clock {
+        /// By how many milliseconds.
+        set_back: u64,
+    },
     /// A line of a connector's table is bad.
     Table {
         /// The number of the line, from 1.
@@ -231,10 +236,12 @@ pub enum Kind {
     End,
     /// `waits`
     Waits,
+    /// `clock`
+    Clock,
 }
 
 /// How many kinds there are.
-pub(crate) const KINDS: usize = 11;
+pub(crate) const KINDS: usize = 12;
 
 impl Event<'_> {
     /// The kind of the event: the word with which its line begins.
@@ -248,6 +255,7 @@ impl Event<'_> {
             Event::Connection(_) => Kind::Connection,
             Event::Limit { .. } => Kind::Limit,
             Event::Waits(_) => Kind::Waits,
+            Event::Clock { .. } => Kind::Clock,
             Event::Table { .. } => Kind::Table,
             Event::Closed { .. } => Kind::Closed,
             Event::End(_) | Event::Account(_) | Event::Rejects { .. } => Kind::Totals,
@@ -271,12 +279,13 @@ impl Kind {
         Kind::More,
         Kind::End,
         Kind::Waits,
+        Kind::Clock,
     ];
 
     /// The place of the kind among all kinds.
     pub(crate) fn place(self) -> usize
         ensures place { result ≡ spec.place_of self }
-        ensures few { result < 11 }
+        ensures few { result < 12 }
     {
         match self {
             Kind::Start => 0,
@@ -290,6 +299,7 @@ impl Kind {
             Kind::More => 8,
             Kind::End => 9,
             Kind::Waits => 10,
+            Kind::Clock => 11,
         }
     }
 
@@ -309,6 +319,7 @@ impl Kind {
             Kind::More => "more",
             Kind::End => "end",
             Kind::Waits => "waits",
+            Kind::Clock => "clock",
         }
     }
 }

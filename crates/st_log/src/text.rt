@@ -240,6 +240,13 @@ fn waits_text(alloc: Global, blocked: Blocked) -> Result<String, AllocError>
     Ok(text)
 }
 
+fn clock_text(alloc: Global, set_back: u64) -> Result<String, AllocError>
+    ensures { IfOk result (λ text. string_bytes text ≡ spec.clock_text set_back) }
+{
+    let text = format!(in alloc; "clock set_back_ms={set_back}\n")?;
+    Ok(text)
+}
+
 fn table_text(alloc: Global, line: usize, words: &str) -> Result<String, AllocError>
     ensures { IfOk result (λ text. string_bytes text ≡ spec.table_text line words.now) }
 {
@@ -367,6 +374,7 @@ fn event_text(alloc: Global, neighbour: usize, event: &Event<'_>) -> Result<Stri
         Event::Connection(lost) => connection_text(alloc, lost),
         Event::Limit { most } => limit_text(alloc, neighbour, most),
         Event::Waits(blocked) => waits_text(alloc, blocked),
+        Event::Clock { set_back } => clock_text(alloc, set_back),
         Event::Table { line, words } => table_text(alloc, line, words),
         Event::Closed { stream, code: None } => closed_text(alloc, stream),
         Event::Closed {

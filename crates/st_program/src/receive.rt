@@ -58,7 +58,7 @@ fn transfer<
                 turns: TURNS,
                 log,
             };
-            let clock = RuntimeClock::new(rt);
+            let clock = RuntimeClock::with_log(rt, log);
             let mut watch = Teller::new(rt, alloc, log, Side::Receives);
             let ended = receive_on(rt, alloc, listener, end, writer, clock, terms, &mut watch);
             *totals = ended.totals;

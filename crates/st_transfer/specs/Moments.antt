@@ -1,5 +1,5 @@
 -- Moments of a clock that tells how long ago 1970 began.
-use Rattle.std.specs.Prelude.{◌≡◌, ◌⊎◌, ℕ, ◌+◌, ◌*◌, ◌≤◌, ◌<◌, ◌/◌, ℤ, pos, ◌≤ℤ◌, int_le, if◌then◌else◌, Option, Some, None, Result, Ok, Err, IfSome}
+use Rattle.std.specs.Prelude.{◌≡◌, ◌⊎◌, ℕ, ◌+◌, ◌*◌, ◌≤◌, ◌<◌, ◌/◌, ℤ, pos, ◌-ℤ◌, ◌≤ℤ◌, int_le, int_lt, unsigned_abs, Bool, if◌then◌else◌, Option, Some, None, Result, Ok, Err, IfSome}
 use Rattle.std.specs.Duration.{as_nanos}
 use Rattle.std.specs.declared.time.Duration.{Duration}
 use Rattle.st_transfer.specs.declared.clock.RuntimeClock.{RuntimeClock}
@@ -11,17 +11,30 @@ pub record IsMomentOf (since : Duration) (ms : ℕ) : Type 0 where
 
 -- the moment that a clock told last
 abbrev pub last_told : {R : Type 0} → RuntimeClock R → ℤ
-last_told c = c.last
+last_told c = c.last.moment
 
 -- the later one of two moments
 abbrev pub later : ℤ → ℤ → ℤ
 later a b = if int_le a b then b else a
 
--- what a clock that told `before` tells once it was read: what it read, and never less than before; where it could not be
--- read, or is past the last moment, what it told before
-abbrev pub Tells : {E : Type 0} → (before : ℤ) → Result Duration E → (now : ℤ) → Type 0
-Tells before (Ok since) now = ((ms : ℕ) × IsMomentOf since ms × (now ≡ later before (pos ms))) ⊎ (((ms : ℕ) → ¬ (IsMomentOf since ms)) × (now ≡ before))
-Tells before (Err e) now = now ≡ before
+-- a clock that told `last` was set back so far, by what was read of it, that it is followed: by more than 5,000 milliseconds
+abbrev pub is_far_back : (last read : ℤ) → Bool
+is_far_back last read = int_lt (pos 5000) (last -ℤ read)
+
+-- the moment that it tells then: what was read; and else the later one of both
+abbrev pub followed : (last read : ℤ) → ℤ
+followed last read = if is_far_back last read then read else later last read
+
+-- by how many milliseconds it was set back, where it is followed
+abbrev pub step_back : (last read : ℤ) → Option ℕ
+step_back last read = if is_far_back last read then Some (unsigned_abs (last -ℤ read)) else None
+
+-- what a clock that told `last` tells once it was read; where it could not be read, or is past the last moment, what it told last
+abbrev pub Tells : {E : Type 0} → (last : ℤ) → Result Duration E → (now : ℤ) → (set_back : Option ℕ) → Type 0
+Tells last (Ok since) now set_back =
+    ((ms : ℕ) × IsMomentOf since ms × (now ≡ followed last (pos ms)) × (set_back ≡ step_back last (pos ms)))
+    ⊎ (((ms : ℕ) → ¬ (IsMomentOf since ms)) × (now ≡ last) × (set_back ≡ None))
+Tells last (Err e) now set_back = (now ≡ last) × (set_back ≡ None)
 
 -- the earlier one of two moments, of which the first may be missing
 pub record IsEarlier (first : Option ℤ) (second earlier : ℤ) : Type 0 where

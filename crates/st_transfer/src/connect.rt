@@ -7,7 +7,7 @@ ghost use Rattle.st_transfer.specs.Moments.{IsEarlier};
 ghost use Rattle.st_transfer.specs.declared.error.TransferError.TheVariants.{NoMemory};
 
 use crate::accounts::{AccountTotals, note, places};
-use crate::clock::RuntimeClock;
+use crate::clock::{LastMoment, SharedClock};
 use crate::counts::{Came, Counts, came_of, count_answer};
 use crate::crew::{Crew, CrewEnded, Wanted};
 use crate::error::TransferError;
@@ -60,6 +60,8 @@ struct Common<'a, C: Ledger, D: Ledger, L> {
     desk: Mutex<HopDesk<C, D, Global>>,
     shares: Mutex<AccountShares<C, D>>,
     counts: Mutex<Counts>,
+    /// The moment that the clock gave last, to any thread.
+    last: Mutex<LastMoment>,
     crew: Crew,
     neighbourhood: Neighbourhood<'a>,
     /// A Reject of the hop with code T00.
@@ -145,7 +147,7 @@ struct Server<'a, C: Ledger, D: Ledger, K: Keeper, L, R: Net + Wait + Clock> {
     /// When an exchange has to be done, so that its answer can still be passed back.
     latest: Option<Moment>,
     books: Storing<'a, K, L, R>,
-    clock: RuntimeClock<'a, R>,
+    clock: SharedClock<'a, R>,
     /// The account from which the last request that was answered arrived at the desk.
     account: Option<usize>,
     /// The account of which the thread has a place, for an exchange, until it is done with its connection.
@@ -285,7 +287,11 @@ where
             crew,
             listener: common.listener,
         },
-        clock: RuntimeClock::new(rt),
+        clock: SharedClock {
+            rt,
+            last: &common.last,
+            log: common.terms.log,
+        },
         account: None,
         sent_for: None,
         is_unreached: false,
@@ -444,6 +450,7 @@ fn common_of<'a, C: Ledger, D: Ledger, L>(
         desk: Mutex::new(desk),
         shares: Mutex::new(shares),
         counts: Mutex::new(counts),
+        last: Mutex::new(LastMoment::none()),
         crew,
         neighbourhood,
         t00,

@@ -11,6 +11,7 @@ ghost use Rattle.st_transfer.specs.Outcomes as outcomes;
 ghost use Rattle.st_transfer.specs.Outcomes.{ComesTo, IsTold, OpensWith, WhyNotBegun, no_totals};
 ghost use Rattle.st_transfer.specs.declared.error.TransferError.TheVariants.{Rings as NoRings};
 
+use crate::clock::LastMoment;
 use crate::delivery::STREAM;
 use crate::ended::Ended;
 use crate::error::TransferError;
@@ -189,6 +190,8 @@ struct Shared<'a, N: HubName<Global>, G> {
     /// The seat at the gauge from which each worker gets its own.
     seat: Mutex<GaugeSeat<N, Global>>,
     ivs: Mutex<ReaderIvs<G>>,
+    /// The moment that the clock gave last, to any worker.
+    moment: Mutex<LastMoment>,
     /// Why the workers ended, in the order in which they did.
     ends: Mutex<Vec<WorkEnd>>,
     terms: SendTerms<'a>,
@@ -253,6 +256,7 @@ fn work_noting<N: HubName<Global>, G: Read, R: Net + Wait + std::time::Clock>(
         gauge,
         seat,
         ivs,
+        moment,
         terms,
         last,
         ..
@@ -261,7 +265,7 @@ fn work_noting<N: HubName<Global>, G: Read, R: Net + Wait + std::time::Clock>(
         log: terms.log,
         last: if shared.is_watched { Some(last) } else { None },
     };
-    let end = work_alone(rt, *alloc, bench, gauge, seat, ivs, *terms, told);
+    let end = work_alone(rt, *alloc, bench, gauge, seat, ivs, moment, *terms, told);
     note_end(rt, shared, end);
     shared.parker.unpark();
 }
@@ -360,6 +364,7 @@ where
         gauge,
         seat: Mutex::new(theirs),
         ivs: Mutex::new(ReaderIvs::new(random)),
+        moment: Mutex::new(LastMoment::none()),
         ends: Mutex::new(Vec::new(alloc)),
         terms,
         is_watched: watch.period().is_some(),

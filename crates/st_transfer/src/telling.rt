@@ -4,7 +4,7 @@ ghost use Rattle.std.specs.Prelude.{◌≡◌, None};
 ghost use Rattle.st_log.specs.declared.progress.Brief.TheVariants.{Reject};
 ghost use Rattle.st_transfer.specs.Telling.{cause_told, lost_told};
 
-use crate::clock::RuntimeClock;
+use crate::clock::moment_now;
 use crate::error::TransferError;
 use crate::journal::LogFile;
 use st_file::FileError;
@@ -100,8 +100,7 @@ pub(crate) fn lost_by(status: Option<u16>) -> Option<Lost>
 /// Writes the line of an event that happens now, where there is a log. No lock of a hub or a desk is held then.
 pub(crate) fn tell<R: Clock>(rt: &R, log: Log<'_>, neighbour: usize, event: &Event<'_>) {
     if let Some(journal) = log {
-        let now = st_desk::Clock::now(&mut RuntimeClock::new(rt));
-        journal.note(rt, now, neighbour, event);
+        journal.note(rt, moment_now(rt), neighbour, event);
     }
 }
 
@@ -189,6 +188,13 @@ pub(crate) fn tell_served<R: Clock>(
             }
         }
         Sent::Unfulfilled => {}
+    }
+}
+
+/// Reports that the clock was set back by so many milliseconds, where it was.
+pub(crate) fn tell_set_back<R: Clock>(rt: &R, log: Log<'_>, set_back: Option<u64>) {
+    if let Some(set_back) = set_back {
+        tell(rt, log, 0, &Event::Clock { set_back });
     }
 }
 

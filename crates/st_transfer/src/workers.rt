@@ -1,6 +1,6 @@
 //! The worker threads of `send`.
 
-use crate::clock::RuntimeClock;
+use crate::clock::{LastMoment, SharedClock};
 use crate::delivery::STREAM;
 use crate::ivs::SharedIvs;
 use crate::neighbour::link_to;
@@ -36,6 +36,7 @@ pub(crate) fn work_alone<N: HubName<Global>, I: Ivs, R: Net + Wait + std::time::
     gauge: &Gauge<N, Global>,
     seat: &Mutex<GaugeSeat<N, Global>>,
     ivs: &Mutex<I>,
+    last: &Mutex<LastMoment>,
     terms: SendTerms<'_>,
     told: Told<'_>,
 ) -> WorkEnd {
@@ -47,7 +48,11 @@ pub(crate) fn work_alone<N: HubName<Global>, I: Ivs, R: Net + Wait + std::time::
             Worker {
                 link: &mut ToldLink { link, rt, told },
                 ivs: &mut SharedIvs::new(rt, ivs),
-                clock: &mut RuntimeClock::new(rt),
+                clock: &mut SharedClock {
+                    rt,
+                    last,
+                    log: terms.log,
+                },
                 gauge,
                 seat: &mut seat,
                 stream: STREAM,

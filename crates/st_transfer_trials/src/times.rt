@@ -19,7 +19,7 @@ fn silent<'a, R>(rt: &'a R, seen: &'a Seen) -> Wires<'a, R> {
     }
 }
 
-/// A clock tells what was read at the runtime's, and never less than before.
+/// A clock tells what was read at the runtime's, and what it told before where that was set back by at most five seconds.
 #[test]
 fn a_clock_tells_what_was_read(rt: HostRuntime) {
     let seen = Seen::at(5_000);
@@ -28,8 +28,15 @@ fn a_clock_tells_what_was_read(rt: HostRuntime) {
     assert!(rt; clock.now().ms() == 5_000);
     seen.set_millis(7_001);
     assert!(rt; clock.now().ms() == 7_001);
-    seen.set_millis(6_000);
-    assert!(rt; clock.now().ms() == 7_001);
+    for (millis, told) in [
+        (6_000, 7_001),
+        (2_001, 7_001),
+        (2_000, 2_000),
+        (1_999, 2_000),
+    ] {
+        seen.set_millis(millis);
+        assert!(rt; clock.now().ms() == told, "{millis}");
+    }
 }
 
 const HOST: &str = "127.0.0.1:7770";
