@@ -2,7 +2,7 @@
 """Runs `send`, `receive` and `connector` at their edges: edges.py [PROGRAM [WORD]]. Links that fail and come back, peers that stop,
 many connections, too few threads and files. With a WORD, only the tests whose names have it. A line for each test says how long
 it took or what was measured, or what is wrong; the last line counts them. Tests that wait for a time-out run side by side."""
-import os, pty, re, resource, select, shutil, socket, struct, sys, threading, time
+import glob, os, pty, re, resource, select, shutil, socket, struct, sys, threading, time
 
 from peers import HOST, Peer, answer, asked, ended, free_port, free_ports, fulfill, message, prepare, request, totals, use_up
 from play import PROGRAM, Skipped, Wrong, main, shared_object, some_bytes, stands, table_to, test, want
@@ -962,7 +962,7 @@ def a_file_of_totals_is_replaced_at_the_end(play):
     counts = "count 0 fulfilled 0 rejected 0 lost 1 refused 1\ncount 1 fulfilled 0 rejected 0 lost 0 refused 0\n"
     told = told_by(hub.totals)
     want(told == NOTHING + counts + "code 0 F02 1\ncode 0 T01 1\n", f"it says {told!r}")
-    want(not os.path.exists(hub.totals + ".new"), "the file beside it is still there")
+    want(not glob.glob(hub.totals + ".new*"), "a file beside it is still there")
     return "F02 and T01"
 
 

@@ -47,6 +47,7 @@ program() {
     if [ -x crates/ilpstream/out/ilpstream ]; then
         step 30 tests/program.sh
         step 15 tests/edges.py
+        step 5 tests/opens.py
         step 10 tests/causes.py
         step 10 tests/ledger.py --kills=12
     else

@@ -240,7 +240,7 @@ while read -r number row; do
     has "explain $number" "$out" 'What to do: '
     same "explain $number" $'\n0' "$err"$'\n'"$status"
 done <<'ROWS'
-90 st_commands Fault::Input, in frames, connector
+90 st_commands Fault::Input, in frames, send, connector
 58 st_local LocalFault::Failed, in local
 58 st_transfer TransferError::Failed, in send
 88 st_transfer TransferError::Silent, in receive
@@ -544,7 +544,7 @@ same 'totals: no listener' $'fault 80\n'"$nothing" "$(totals_of "${receive[@]}")
 zeros=$'account 0 claims 0 dues 0 held 0\naccount 1 claims 0 dues 0 held 0\ncount 0 fulfilled 0 rejected 0 lost 0 refused 0
 count 1 fulfilled 0 rejected 0 lost 0 refused 0'
 same 'totals: no listener for a connector' $'fault 80\n'"$zeros" "$(totals_of "${connector[@]}")"
-same 'totals: no file beside them is left' '' "$(find "$room" -name '*.new')"
+same 'totals: no file beside them is left' '' "$(find "$room" -name '*.new*')"
 # (what is no regular file is written as it is, and nothing takes its place)
 run "${connector[@]}" --totals=/dev/stdout <<<"$table"
 same 'totals: at the output' "$zeros"$'\n--\nfault 80\n--\n1' "$(told)"

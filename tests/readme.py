@@ -5,11 +5,12 @@ Each block ```rust of README, COMMANDS, OPERATING and LIBRARY stands, line for l
 reader pastes is what the gate proved and ran. Each block ```c, ```rust and ```python of EMBEDDING stands so in a source of
 bind/; its commands are run by tests/bindings.py.
 
-Each block ```console of them is run, by one bash in a directory that has nothing but `ilpstream`, the built program (which is
-on the PATH too), and the repository's `examples`, `bind` and `README.md`. A line that begins with `$ ` is a command; where it ends with
-a backslash the next line goes on with it. All other lines are the output, standard output and standard error together, which
-is compared with that of the whole block. A line `...` stands for any lines, and a word `...` in a line for any text. A block
-has 60 seconds; what it left in the background is ended with it. Blocks ```sh and ```text are not run.
+Each block ```console of them is run. Those of a document are run one after another by one bash, as by a reader who pastes them
+in order, in a directory that at first has nothing but `ilpstream`, the built program (which is on the PATH too), and the
+repository's `examples`, `bind` and `README.md`. A line that begins with `$ ` is a command; where it ends with a backslash the next
+line goes on with it. All other lines are the output, standard output and standard error together, which is compared with that of
+the whole block. A line `...` stands for any lines, and a word `...` in a line for any text. A block has to end what it began: no
+process may run in the background behind it. A document has 120 seconds. Blocks ```sh and ```text are not run.
 
 Each link from a document of the repository to another leads to a file, and to a heading of it where it names one.
 
@@ -18,6 +19,7 @@ and what is not so."""
 import glob
 import os
 import re
+import secrets
 import shutil
 import signal
 import subprocess
@@ -28,7 +30,7 @@ TOP = os.path.realpath(os.path.join(os.path.dirname(os.path.realpath(__file__)),
 PROGRAM = f"{TOP}/crates/ilpstream/out/ilpstream"
 SHOWING = ["README.md", "docs/COMMANDS.md", "docs/OPERATING.md", "docs/LIBRARY.md"]
 EMBEDDING = "docs/EMBEDDING.md"
-SECONDS = 60
+SECONDS = 120
 FENCE = re.compile(r"^(\s*)```(\w*)\s*$")
 
 
@@ -153,18 +155,36 @@ def run(script, seconds=SECONDS):
         shutil.rmtree(room, ignore_errors=True)
 
 
+def run_in_order(scripts, seconds):
+    """What each of some scripts prints that one shell runs, and which processes run behind it: None of those that had not ended
+    after so many seconds, and of those behind them."""
+    mark = secrets.token_hex(16)
+    shows = f"printf '\\n%s\\n' {mark}"
+    came, _ = run("".join(f"{script}{shows}; jobs -pr; {shows}\n" for script in scripts), seconds)
+    parts = [part.splitlines() for part in ("\n".join(came) + "\n").split(f"\n{mark}\n")]
+    # (a part that no mark ends is that of a script that has not ended)
+    found = [(parts[at], parts[at + 1]) for at in range(0, len(parts) - 2, 2)]
+    return found + [None] * (len(scripts) - len(found))
+
+
 def look_at_commands(paths, seconds=SECONDS):
-    """Whether each block of commands prints what stands below them."""
+    """Whether each block of commands prints what stands below them, where the blocks of a document are run in order, and leaves
+    nothing running."""
     for path in paths:
-        for number, lines in blocks(path, "console"):
-            if path != EMBEDDING and not os.access(PROGRAM, os.X_OK):
-                yield False, f"{path}:{number}: the program was not built, so this block was not run"
+        found = blocks(path, "console")
+        if found and path != EMBEDDING and not os.access(PROGRAM, os.X_OK):
+            yield False, f"{path}: the program was not built, so its blocks were not run"
+            continue
+        said = [commands_and_output(lines) for _, lines in found]
+        ended = run_in_order([script for script, _ in said], seconds)
+        for (number, lines), (script, wanted), result in zip(found, said, ended):
+            if result is None:
+                yield False, f"{path}:{number}: this block, or one before it, did not end: the page has {seconds} seconds"
                 continue
-            script, wanted = commands_and_output(lines)
-            came, why = run(script, seconds)
-            good = bool(script.strip()) and not why and is_output(wanted, came)
-            shown = "\n".join(came)
-            yield good, f"{path}:{number}: this block has another output{': ' if why else ''}{why}:\n" + "\n".join(lines) + f"\n-- it printed:\n{shown}"
+            came, left = result
+            good = bool(script.strip()) and not left and is_output(wanted, came)
+            wrong = f"leaves {len(left)} processes in the background" if left else "has another output"
+            yield good, f"{path}:{number}: this block {wrong}:\n" + "\n".join([*lines, "-- it printed:", *came])
 
 
 # ---- links

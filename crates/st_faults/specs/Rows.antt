@@ -783,9 +783,12 @@ rows =
       home = codes "st_commands";
       variant = codes "Fault::Input";
       places = codes "frames" ∷
+          codes "send" ∷
           codes "connector" ∷
           [];
-      cause = codes "In `frames` and `connector`: standard input cannot be read." ∷ [];
+      cause = codes "In `frames` and `connector`: standard input cannot be read. In `send` and `connector`: it is" ∷
+          codes "closed; nothing was opened or sent." ∷
+          [];
       advice = codes "What to do: Look at the file behind `<`." ∷ [];
     } ∷
     record {
@@ -831,9 +834,9 @@ rows =
           codes "ledger" ∷
           codes "explain" ∷
           [];
-      cause = codes "In `frames`, `ledger` and `explain`: the output cannot be written. In `send`, `receive` and" ∷
-          codes "`connector`: the totals cannot be written to the file of `--totals`, and there was no other" ∷
-          codes "fault." ∷
+      cause = codes "In `frames`, `ledger` and `explain`: the output cannot be written. In `receive` and `ledger`:" ∷
+          codes "standard output is closed; nothing else was done. In `send`, `receive` and `connector`: the" ∷
+          codes "totals cannot be written to the file of `--totals`, and there was no other fault." ∷
           [];
       advice = codes "What to do: Make room. Totals that were not written are lost; all else was done." ∷ [];
     } ∷

@@ -492,8 +492,9 @@ const FAULT_89: &str = "89  st_file FileError::Closed, in send
     What to do: Give the process more memory, and begin again.
 ";
 
-const FAULT_90: &str = "90  st_commands Fault::Input, in frames, connector
-    In `frames` and `connector`: standard input cannot be read.
+const FAULT_90: &str = "90  st_commands Fault::Input, in frames, send, connector
+    In `frames` and `connector`: standard input cannot be read. In `send` and `connector`: it is
+    closed; nothing was opened or sent.
     What to do: Look at the file behind `<`.
 90  st_file FileError::ReadFault, in send
     In `send`: standard input cannot be read.
@@ -511,9 +512,9 @@ const FAULT_90: &str = "90  st_commands Fault::Input, in frames, connector
 
 const FAULT_91: &str =
     "91  st_commands Fault::Output, in frames, send, receive, connector, ledger, explain
-    In `frames`, `ledger` and `explain`: the output cannot be written. In `send`, `receive` and
-    `connector`: the totals cannot be written to the file of `--totals`, and there was no other
-    fault.
+    In `frames`, `ledger` and `explain`: the output cannot be written. In `receive` and `ledger`:
+    standard output is closed; nothing else was done. In `send`, `receive` and `connector`: the
+    totals cannot be written to the file of `--totals`, and there was no other fault.
     What to do: Make room. Totals that were not written are lost; all else was done.
 91  st_file FileError::WriteFault, in receive
     In `receive`: the output cannot be written, for example on a full disk or to a closed pipe.

@@ -6,6 +6,7 @@ use Rattle.st_oer.specs.declared.counted.Counting.{Counting}
 use Rattle.st_commands.specs.declared.error.Fault.{Fault}
 use Rattle.st_commands.specs.declared.error.Fault.TheVariants as fault
 use Rattle.st_commands.specs.Endings.{RunsFrames, Says, TellsFault}
+use Rattle.st_commands.specs.Errors.{fault_number}
 use Rattle.st_commands.specs.Texts.{fault_text}
 use Rattle.st_local.specs.Endings as local
 use Rattle.st_words.specs.declared.request.Request.{Request}
@@ -56,6 +57,12 @@ Does (request.Connector x) remaining contents said ended r s w v e f status =
 Does (request.Ledger x) remaining contents said ended r s w v e f status =
     (s ≡ r) × ((end : Result (Unit {0}) RunError) × EndsLedger contents x.payment w v end × TellsEnd end said e f status)
 Does (request.Explain n) remaining contents said ended r s w v e f status = (s ≡ r) × Explains n contents said ended w v e f status
+
+-- a command that needs a closed stream reads and writes nothing and reports that; any other is done
+abbrev pub DoesUnless : {R W E : Type 0} → (missing : Option Fault) → Request → (R → Option (List ℕ)) → (W → Option (List ℕ)) → (E → Option (List ℕ)) → (Option Fault → Type 0)
+    → Counting R → Counting R → Counting W → Counting W → Counting E → Counting E → ℕ → Type 0
+DoesUnless None q remaining contents said ended r s w v e f status = Does q remaining contents said ended r s w v e f status
+DoesUnless (Some x) q remaining contents said ended r s w v e f status = (s ≡ r) × (v ≡ w) × TellsNumber (fault_number x) said e f status
 
 -- an option's text was told to be bad, or there was no memory for the words; nothing else was done
 abbrev pub TellsBadOption : {R W E : Type 0} → R → R → W → W → (E → Option (List ℕ)) → Counting E → Counting E → ℕ → Type 0

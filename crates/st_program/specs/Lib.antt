@@ -10,5 +10,7 @@ pub mod Totals
 pub mod Progress
 pub mod Ledger
 pub mod Explain
+pub mod Streams
+pub mod Obstacle
 pub mod Endings
 pub mod Process

@@ -8,18 +8,20 @@ use Rattle.st_commands.specs.declared.error.Fault.TheVariants.{NoMemory}
 use Rattle.st_commands.specs.Endings.{RunsFrames, Says, TellsFault}
 use Rattle.st_words.specs.declared.request.Request.{Request}
 use Rattle.st_words.specs.Words.{refusals}
-use Rattle.st_program.specs.Endings.{Does, LacksMemory, TellsAnswer, TellsBadOption}
+use Rattle.st_program.specs.Endings.{DoesUnless, LacksMemory, TellsAnswer, TellsBadOption}
+use Rattle.st_program.specs.Streams.{missing}
 use Rattle.st_program.specs.Texts.{not_utf8_text, waits_text}
+use Rattle.st_program.specs.declared.streams.Streams.{Streams}
 use Rattle.st_program.specs.Words.{AsksFor, AsksFrames, AsksToShow, HasBadOption, after_name}
 
 -- what the words ask for was done: r, w and e are the reader, the writer and the writer for errors at the start, s, v and f
 -- now
-pub record Obeys {R W E : Type 0} (words : List Text) (remaining : R → Option (List ℕ)) (contents : W → Option (List ℕ)) (said : E → Option (List ℕ))
+pub record Obeys {R W E : Type 0} (streams : Streams) (words : List Text) (remaining : R → Option (List ℕ)) (contents : W → Option (List ℕ)) (said : E → Option (List ℕ))
     (ended : Option Fault → Type 0) (r s : Counting R) (w v : Counting W) (e f : Counting E) (status : ℕ) : Type 0 where
   pub frames : AsksFrames words
       → RunsFrames (remaining (device_of r)) (contents (device_of w)) (contents (device_of v)) ended said e f status ⊎ ((s ≡ r) × LacksMemory w v said e f status)
   pub asked : refusals words ≡ []
-      → ((q : Request) × AsksFor words q × Does q remaining contents said ended r s w v e f status)
+      → ((q : Request) × AsksFor words q × DoesUnless (missing q streams) q remaining contents said ended r s w v e f status)
       ⊎ (HasBadOption words × TellsBadOption r s w v said e f status)
       ⊎ ((s ≡ r) × LacksMemory w v said e f status)
   pub told : refusals words ≢ [] → (s ≡ r) × TellsAnswer (refusals words) ended said w v e f status
@@ -38,7 +40,7 @@ LacksWords r s w v said e f status = (s ≡ r) × (v ≡ w)
     × (((status ≡ 2) × Says not_utf8_text said e f) ⊎ TellsFault NoMemory said e f status)
 
 -- what some words ask for was done, after the terminal was told
-abbrev pub ObeysSome : {R W E : Type 0} → Bool → (R → Option (List ℕ)) → (W → Option (List ℕ)) → (E → Option (List ℕ)) → (Option Fault → Type 0)
+abbrev pub ObeysSome : {R W E : Type 0} → Streams → Bool → (R → Option (List ℕ)) → (W → Option (List ℕ)) → (E → Option (List ℕ)) → (Option Fault → Type 0)
     → Counting R → Counting R → Counting W → Counting W → Counting E → Counting E → ℕ → Type 0
-ObeysSome {E = E} is_terminal remaining contents said ended r s w v e f status =
-    (words : List Text) × (m : Counting E) × TellsTerminal is_terminal words said e m × Obeys words remaining contents said ended r s w v m f status
+ObeysSome {E = E} streams is_terminal remaining contents said ended r s w v e f status =
+    (words : List Text) × (m : Counting E) × TellsTerminal is_terminal words said e m × Obeys streams words remaining contents said ended r s w v m f status

@@ -4,12 +4,15 @@ ghost use Rattle.std.specs.Prelude.{◌≡◌, ℕ, List, Option, None, MatchBoo
 ghost use Rattle.st_oer.specs.Tallies.{device_of};
 ghost use Rattle.st_program.specs.Totals.{IsEmptyBeside, Replaced, TakesPlace};
 
+use crate::obstacle::{Cause, cause_of};
+use libc::getpid;
 use st_commands::{Fault, TURNS, put};
 use st_oer::CountWrite;
-use std::alloc::{AllocError, Global};
-use std::fs;
-use std::fs::{File, Files};
-use std::io::Write;
+use std::alloc::Global;
+use std::fs::{File, Files, Metadata, OpenOptions};
+use std::io::{ErrorKind, Write};
+use std::os::unix::fs::{MetadataExt, OpenOptionsExt, fchown};
+use std::{fs, io};
 
 /// A place that holds a text. A further text is written to a file of its own, and takes the place whole.
 pub(crate) trait Place<W: Write> {
@@ -24,6 +27,10 @@ pub(crate) trait Place<W: Write> {
     /// Puts the file in its place, with what was written to it so far. False where that fails.
     fn finish(&mut self, file: &CountWrite<W>) -> bool
         ensures { MatchBool result (TakesPlace (held self.old) (W.contents (device_of file.now)) (held self.new)) (held self.new ≡ held self.old) };
+
+    /// Removes the file that was begun and is not in its place, if there is one.
+    fn give_up(&mut self)
+        ensures { held self.new ≡ held self.old };
 }
 
 /// Puts a text in its place whole. Where that fails, the place is as it was.
@@ -37,38 +44,119 @@ pub(crate) fn replace<W: Write + Drop, P: Place<W>>(place: &mut P, text: &[u8]) 
     };
     let mut turns = TURNS;
     if let Err(fault) = put(&mut file, text, &mut turns) {
+        place.give_up();
         return Err(fault);
     }
     if place.finish(&file) {
         Ok(())
     } else {
+        place.give_up();
         Err(Fault::Output)
     }
 }
 
-/// A file of this name, and one beside it.
+/// How many names of files beside another are tried.
+const NAMES: u32 = 100;
+
+/// Why no file was made.
+#[derive(Clone, Copy, Debug, PartialEq, Eq)]
+pub(crate) enum Unmade {
+    /// There is no memory for its name.
+    NoMemory,
+    /// The system refuses it.
+    Refused(Cause),
+}
+
+/// A file of this name, and one beside it that takes its place.
 #[derive(Drop)]
 pub(crate) struct Beside<'a, N> {
     rt: &'a N,
+    alloc: Global,
     name: &'a str,
-    beside: String,
+    /// The name of the file that was made beside it, and is not in its place yet.
+    made: Option<String>,
 }
 
 impl<'a, N: Files<File = File>> Beside<'a, N> {
-    /// The file of this name, beside which is one that has `.new` behind the name.
-    pub(crate) fn new(
-        rt: &'a N,
-        alloc: Global,
-        name: &'a str,
-    ) -> Result<Beside<'a, N>, AllocError> {
-        let beside = format!(in alloc; "{name}.new")?;
-        Ok(Beside { rt, name, beside })
+    /// The file of this name, beside which there is none yet.
+    pub(crate) fn new(rt: &'a N, alloc: Global, name: &'a str) -> Beside<'a, N> {
+        Beside {
+            rt,
+            alloc,
+            name,
+            made: None,
+        }
     }
 
     /// Whether a file can be made beside this one. It is removed again.
-    pub(crate) fn can_begin(&mut self) -> bool {
-        let began = self.begin().is_some();
-        began && fs::remove_file(self.rt, self.beside.as_str()).is_ok()
+    pub(crate) fn can_begin(&mut self) -> Result<(), Unmade> {
+        let made = self.make();
+        self.remove();
+        match made {
+            Ok(_) => Ok(()),
+            Err(error) => Err(error),
+        }
+    }
+
+    /// Makes the file beside this one, with the mode of this one where it is there. No file that is there is opened: where
+    /// one has the name, another name is taken.
+    fn make(&mut self) -> Result<File, Unmade> {
+        let found = regular(self.rt, self.name);
+        let name = self.name;
+        let process = getpid();
+        for number in 0..NAMES {
+            let Ok(beside) = format!(in self.alloc; "{name}.new.{process}.{number}") else {
+                return Err(Unmade::NoMemory);
+            };
+            match created(self.rt, beside.as_str(), found.is_some()) {
+                Ok(file) => {
+                    self.made = Some(beside);
+                    return if is_like(&file, &found) {
+                        Ok(file)
+                    } else {
+                        Err(Unmade::Refused(Cause::Other))
+                    };
+                }
+                Err(error) if error.kind() == ErrorKind::AlreadyExists => {}
+                Err(error) => return Err(Unmade::Refused(cause_of(&error))),
+            }
+        }
+        Err(Unmade::Refused(Cause::Taken))
+    }
+
+    /// Removes the file that was made beside this one, if there is one.
+    fn remove(&mut self) {
+        if let Some(beside) = self.made.take() {
+            let _ = fs::remove_file(self.rt, beside.as_str());
+        }
+    }
+}
+
+/// Creates a file of this name, where there is none. Its mode is that of any new file, or lets its owner alone read and write.
+fn created(files: &impl Files<File = File>, name: &str, is_own: bool) -> io::Result<File> {
+    let mut options = OpenOptions::new();
+    options.write(true).create_new(true);
+    if is_own {
+        options.mode(0o600);
+    }
+    options.open(files, name)
+}
+
+/// Gives a new file the mode of the one whose place it takes, where there is one, and its owner and group where the process
+/// may. False where the mode cannot be given.
+fn is_like(file: &File, found: &Option<Metadata>) -> bool {
+    let Some(found) = found else {
+        return true;
+    };
+    let _ = fchown(file, Some(found.uid()), Some(found.gid()));
+    file.set_permissions(found.permissions()).is_ok()
+}
+
+/// What is known of the regular file of this name, where there is one. A symbolic link is none.
+fn regular(files: &impl Files, name: &str) -> Option<Metadata> {
+    match fs::symlink_metadata(files, name) {
+        Ok(found) if found.is_file() => Some(found),
+        _ => None,
     }
 }
 
@@ -86,15 +174,26 @@ impl<N: Files<File = File>> Place<File> for Beside<'_, N> {
     ghost held = { λ _. None };
 
     fn begin(&mut self) -> Option<CountWrite<File>> {
-        let beside = self.beside.as_str();
-        let _ = fs::remove_file(self.rt, beside);
-        match File::create_new(self.rt, beside) {
-            Ok(file) => Some(CountWrite::new(file)),
-            Err(_) => None,
+        self.remove();
+        if let Ok(file) = self.make() {
+            return Some(CountWrite::new(file));
         }
+        self.remove();
+        None
     }
 
     fn finish(&mut self, _file: &CountWrite<File>) -> bool {
-        fs::rename(self.rt, self.beside.as_str(), self.name).is_ok()
+        let Some(beside) = &self.made else {
+            return false;
+        };
+        let is_done = fs::rename(self.rt, beside.as_str(), self.name).is_ok();
+        if is_done {
+            self.made = None;
+        }
+        is_done
+    }
+
+    fn give_up(&mut self) {
+        self.remove();
     }
 }

@@ -9,6 +9,7 @@ use crate::error::RunError;
 use crate::hop::{Going, hop_of, neighbours_of, restored};
 use crate::input::read_whole;
 use crate::log::{Log, journal, tell, tell_run, tell_table};
+use crate::obstacle::Obstacle;
 use crate::reports::{EachMinute, Reports};
 use crate::totals::{ConnectorTotals, place_for, places, tell_accounts};
 use sqlite_trees::store::Alter;
@@ -51,17 +52,18 @@ fn table_in<'a>(alloc: Global, bytes: &'a [u8]) -> Result<Table<'a, Global>, Run
 
 /// Runs a connector over a hop of the table's accounts, and sets its totals. With a till, what it books is stored there.
 fn serve_by<
+    'a,
     N: Net<Listener = TcpListener, Stream = TcpStream> + Threads + Wait + std::time::Clock + Sync,
     K: Keeper + Send + Drop,
     M: Minutes,
 >(
     rt: &N,
     alloc: Global,
-    settings: &ConnectorSettings<'_>,
+    settings: &ConnectorSettings<'a>,
     table: &Table<'_, Global>,
     hop: HopState<Global>,
     till: Option<&Till<K, Global>>,
-    reports: &mut Reports<'_, M>,
+    reports: &mut Reports<'_, 'a, M>,
 ) -> Result<(), RunError>
     requires made { is_hop settings.now.own.now table.now.accounts.items table.now.routes.items ≡ true }
     ensures { Serves settings.now.own.now settings.now.ledger table.now.accounts.items table.now.routes.items result }
@@ -72,8 +74,12 @@ fn serve_by<
         reports.totals.accounts = places(alloc, table.accounts.len())?;
         reports.totals.counts = Counts::new(alloc, table.accounts.len())?;
     }
-    let Ok(listener) = TcpListener::bind(rt, settings.listen) else {
-        return Err(RunError::NoListener);
+    let listener = match TcpListener::bind(rt, settings.listen) {
+        Ok(listener) => listener,
+        Err(error) => {
+            reports.obstacle = Some(Obstacle::of_address(settings.listen, &error));
+            return Err(RunError::NoListener);
+        }
     };
     let terms = ConnectTerms {
         tokens: &tokens,
@@ -104,6 +110,7 @@ fn serve_by<
 
 /// Runs a connector that goes on with the books of a file, and stores there what it books. The books are closed at its end.
 fn serve_with<
+    'a,
     N: Net<Listener = TcpListener, Stream = TcpStream>
         + Files<File = File>
         + Threads
@@ -115,11 +122,11 @@ fn serve_with<
 >(
     rt: &N,
     alloc: Global,
-    settings: &ConnectorSettings<'_>,
+    settings: &ConnectorSettings<'a>,
     table: &Table<'_, Global>,
     file: &str,
     mut books: Books<S>,
-    reports: &mut Reports<'_, M>,
+    reports: &mut Reports<'_, 'a, M>,
 ) -> Result<(), RunError>
     requires made { is_hop settings.now.own.now table.now.accounts.items table.now.routes.items ≡ true }
     requires asked { IsSome settings.now.ledger }
@@ -142,6 +149,7 @@ fn fold<O: OpensBooks>(opener: &O, file: &str) {
 /// Runs a connector by a table, over the books of a file where one is asked for. The books are opened only for a table that
 /// a hop may have.
 fn serve<
+    'a,
     N: Net<Listener = TcpListener, Stream = TcpStream>
         + Files<File = File>
         + Threads
@@ -154,9 +162,9 @@ fn serve<
     rt: &N,
     opener: &O,
     alloc: Global,
-    settings: &ConnectorSettings<'_>,
+    settings: &ConnectorSettings<'a>,
     table: &Table<'_, Global>,
-    reports: &mut Reports<'_, M>,
+    reports: &mut Reports<'_, 'a, M>,
 ) -> Result<(), RunError>
     ensures { Serves settings.now.own.now settings.now.ledger table.now.accounts.items table.now.routes.items result }
 {
@@ -182,6 +190,7 @@ fn serve<
 
 /// Reads the table, and runs a connector by it.
 fn serve_input<
+    'a,
     R: Read,
     N: Net<Listener = TcpListener, Stream = TcpStream>
         + Files<File = File>
@@ -195,9 +204,9 @@ fn serve_input<
     rt: &N,
     opener: &O,
     alloc: Global,
-    settings: &ConnectorSettings<'_>,
+    settings: &ConnectorSettings<'a>,
     reader: &mut CountRead<R>,
-    reports: &mut Reports<'_, M>,
+    reports: &mut Reports<'_, 'a, M>,
 ) -> Result<(), RunError>
     ensures { EndsBy settings.now.own.now settings.now.ledger (R.remaining (device_of reader.old)) (tally_of reader.old) (tally_of reader.new) result }
 {
@@ -216,6 +225,7 @@ fn serve_input<
 /// Reads the table, runs a connector by it, over the books of a file where one is asked for, and writes its totals where
 /// they are, each minute and at the end. Where none for the totals can be made, nothing else is done.
 fn serve_reporting<
+    'a,
     R: Read,
     N: Net<Listener = TcpListener, Stream = TcpStream>
         + Files<File = File>
@@ -228,13 +238,14 @@ fn serve_reporting<
     rt: &N,
     opener: &O,
     alloc: Global,
-    settings: &ConnectorSettings<'_>,
+    settings: &ConnectorSettings<'a>,
     reader: &mut CountRead<R>,
     log: Log<'_>,
+    obstacle: &mut Option<Obstacle<'a>>,
 ) -> Result<(), RunError>
     ensures { EndsBy settings.now.own.now settings.now.ledger (R.remaining (device_of reader.old)) (tally_of reader.old) (tally_of reader.new) result ⊎ ((result ≡ Err BadOption) × (reader.new ≡ reader.old)) }
 {
-    match place_for(rt, alloc, settings.totals) {
+    match place_for(rt, alloc, settings.totals, obstacle) {
         Ok(telling) => {
             let mut reports = Reports {
                 totals: ConnectorTotals {
@@ -244,13 +255,16 @@ fn serve_reporting<
                 },
                 minutes: EachMinute { rt, telling, log },
                 log,
+                obstacle: None,
             };
             let ended = serve_input(rt, opener, alloc, settings, reader, &mut reports);
             let Reports {
                 totals,
                 minutes,
+                obstacle: found,
                 ..
             } = reports;
+            *obstacle = found;
             tell_accounts(minutes.telling, &totals, ended)
         }
         Err(RunError::BadOption) => Err(RunError::BadOption),
@@ -259,8 +273,9 @@ fn serve_reporting<
 }
 
 /// Reads the table, and runs a connector by it, as the settings say. Where the file for events cannot be opened or none for
-/// the totals can be made, nothing else is done.
+/// the totals can be made, nothing else is done. Sets what stood in its way.
 pub(crate) fn connector<
+    'a,
     R: Read,
     N: Net<Listener = TcpListener, Stream = TcpStream>
         + Files<File = File>
@@ -273,12 +288,13 @@ pub(crate) fn connector<
     rt: &N,
     opener: &O,
     alloc: Global,
-    settings: &ConnectorSettings<'_>,
+    settings: &ConnectorSettings<'a>,
     reader: &mut CountRead<R>,
+    obstacle: &mut Option<Obstacle<'a>>,
 ) -> Result<(), RunError>
     ensures { EndsBy settings.now.own.now settings.now.ledger (R.remaining (device_of reader.old)) (tally_of reader.old) (tally_of reader.new) result ⊎ ((result ≡ Err BadOption) × (reader.new ≡ reader.old)) }
 {
-    let journal = match journal(rt, alloc, settings.log) {
+    let journal = match journal(rt, alloc, settings.log, obstacle) {
         Ok(journal) => journal,
         Err(RunError::BadOption) => return Err(RunError::BadOption),
         Err(_) => return Err(RunError::Fault(Fault::NoMemory)),
@@ -291,6 +307,6 @@ pub(crate) fn connector<
         requests: settings.requests,
     };
     tell(rt, log, &Event::Start(start));
-    let ended = serve_reporting(rt, opener, alloc, settings, reader, log);
-    tell_run(rt, alloc, log, ended)
+    let ended = serve_reporting(rt, opener, alloc, settings, reader, log, obstacle);
+    tell_run(rt, alloc, log, obstacle, ended)
 }

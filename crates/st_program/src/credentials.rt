@@ -11,6 +11,7 @@ ghost use Rattle.st_program.specs.declared.error.RunError.TheVariants.{Fault as 
 
 use crate::error::RunError;
 use crate::input::read_whole;
+use crate::obstacle::{Cause, Obstacle, Step};
 use st_commands::Fault;
 use st_oer::CountRead;
 use st_settings::{Secret, Token, first_secret, first_token};
@@ -79,11 +80,18 @@ fn secret_from<R: Read>(alloc: Global, reader: &mut CountRead<R>) -> Result<[u8;
     }
 }
 
-/// The token that is given, or that in the first line of its file.
-fn token_of<N: Files<File = File>>(
+/// What stands in the way where the first line of a file is bad.
+fn bad_line<'a>(step: Step, name: &'a str) -> Obstacle<'a> {
+    let cause = Cause::BadLine;
+    Obstacle { step, name, cause }
+}
+
+/// The token that is given, or that in the first line of its file. Sets what stands in the way of it, if anything does.
+fn token_of<'a, N: Files<File = File>>(
     rt: &N,
     alloc: Global,
-    token: Token<'_>,
+    token: Token<'a>,
+    obstacle: &mut Option<Obstacle<'a>>,
 ) -> Result<String, RunError>
     requires { IsLawfulToken token }
     ensures same { IfOk result (λ text. HasToken token.entry (string_bytes text)) }
@@ -94,18 +102,25 @@ fn token_of<N: Files<File = File>>(
         Token::Given(token) => return owned(alloc, token),
         Token::InFile(name) => name,
     };
-    let Ok(file) = File::open(rt, name) else {
-        return Err(RunError::BadOption);
-    };
-    let mut reader = CountRead::new(file.take(MOST));
-    token_from(alloc, &mut reader)
+    match File::open(rt, name) {
+        Ok(file) => {
+            *obstacle = Some(bad_line(Step::TokenFile, name));
+            let mut reader = CountRead::new(file.take(MOST));
+            token_from(alloc, &mut reader)
+        }
+        Err(error) => {
+            *obstacle = Some(Obstacle::of_file(Step::TokenFile, name, &error));
+            Err(RunError::BadOption)
+        }
+    }
 }
 
-/// The secret that is given, or that in the first line of its file.
-fn secret_of<N: Files<File = File>>(
+/// The secret that is given, or that in the first line of its file. Sets what stands in the way of it, if anything does.
+fn secret_of<'a, N: Files<File = File>>(
     rt: &N,
     alloc: Global,
-    secret: Secret<'_>,
+    secret: Secret<'a>,
+    obstacle: &mut Option<Obstacle<'a>>,
 ) -> Result<[u8; 32], RunError>
     ensures same { IfOk result (HasSecret secret.entry) }
     ensures refused { IfErr result WhyNotOpened }
@@ -114,29 +129,39 @@ fn secret_of<N: Files<File = File>>(
         Secret::Given(secret) => return Ok(secret),
         Secret::InFile(name) => name,
     };
-    let Ok(file) = File::open(rt, name) else {
-        return Err(RunError::BadOption);
-    };
-    let mut reader = CountRead::new(file.take(MOST));
-    secret_from(alloc, &mut reader)
+    match File::open(rt, name) {
+        Ok(file) => {
+            *obstacle = Some(bad_line(Step::SecretFile, name));
+            let mut reader = CountRead::new(file.take(MOST));
+            secret_from(alloc, &mut reader)
+        }
+        Err(error) => {
+            *obstacle = Some(Obstacle::of_file(Step::SecretFile, name, &error));
+            Err(RunError::BadOption)
+        }
+    }
 }
 
 /// The token and the secret of an end. Of a file that has one of them, the first 4,096 bytes are read.
 ///
 /// Fails with `BadOption` where a file cannot be read, or its first line is bad; and where memory is refused.
-pub(crate) fn credentials_of<N: Files<File = File>>(
+pub(crate) fn credentials_of<'a, N: Files<File = File>>(
     rt: &N,
     alloc: Global,
-    token: Token<'_>,
-    secret: Secret<'_>,
+    token: Token<'a>,
+    secret: Secret<'a>,
+    obstacle: &mut Option<Obstacle<'a>>,
 ) -> Result<Credentials, RunError>
     requires { IsLawfulToken token }
     ensures same { IfOk result (AreOf token.entry secret.entry) }
     ensures refused { IfErr result WhyNotOpened }
 {
-    let secret = secret_of(rt, alloc, secret)?;
-    match token_of(rt, alloc, token) {
-        Ok(token) => Ok(Credentials { token, secret }),
+    let secret = secret_of(rt, alloc, secret, obstacle)?;
+    match token_of(rt, alloc, token, obstacle) {
+        Ok(token) => {
+            *obstacle = None;
+            Ok(Credentials { token, secret })
+        }
         Err(error) => Err(error),
     }
 }

@@ -7,6 +7,7 @@ ghost use Rattle.st_program.specs.declared.error.RunError.TheVariants.{BadOption
 use crate::credentials::{Credentials, credentials_of};
 use crate::error::RunError;
 use crate::log::{journal, tell, tell_end, tell_run};
+use crate::obstacle::Obstacle;
 use crate::totals::{tell_totals, totals_file};
 use st_end::Totals;
 use st_log::{Event, Start};
@@ -38,34 +39,35 @@ pub(crate) struct Begun {
     totals: Option<CountWrite<File>>,
 }
 
-/// Begins a command of one end: reads the files of its token and its secret, and opens those for events and totals. Where one of
+/// Begins a command of one end, and sets what stands in its way: reads the files of its token and its secret, and opens those for events and totals. Where one of
 /// them cannot be, nothing else is to be done.
-pub(crate) fn begin<N: Files<File = File> + Clock>(
+pub(crate) fn begin<'a, N: Files<File = File> + Clock>(
     rt: &N,
     alloc: Global,
-    asked: Asked<'_>,
+    asked: Asked<'a>,
+    obstacle: &mut Option<Obstacle<'a>>,
 ) -> Result<Begun, RunError>
     requires { IsLawfulToken asked.token }
     ensures { IfOk result (λ begun. AreOf asked.entry.token asked.entry.secret begun.credentials) }
 {
-    let credentials = match credentials_of(rt, alloc, asked.token, asked.secret) {
+    let credentials = match credentials_of(rt, alloc, asked.token, asked.secret, obstacle) {
         Ok(credentials) => credentials,
         Err(error) => return Err(error),
     };
-    let journal = match journal(rt, alloc, asked.log) {
+    let journal = match journal(rt, alloc, asked.log, obstacle) {
         Ok(journal) => journal,
         Err(error) => return Err(error),
     };
     let log = journal.as_ref();
     tell(rt, log, &Event::Start(asked.start));
-    match totals_file(rt, asked.totals) {
+    match totals_file(rt, asked.totals, obstacle) {
         Ok(totals) => Ok(Begun {
             credentials,
             journal,
             totals,
         }),
         Err(error) => {
-            let _ = tell_run(rt, alloc, log, Err(error));
+            let _ = tell_run(rt, alloc, log, obstacle, Err(error));
             Err(error)
         }
     }
@@ -78,6 +80,7 @@ pub(crate) fn end<N: Clock>(
     alloc: Global,
     begun: Begun,
     totals: &Totals,
+    obstacle: &Option<Obstacle<'_>>,
     ended: Result<(), RunError>,
 ) -> Result<(), RunError>
     ensures { ended ≢ Err BadOption → result ≢ Err BadOption }
@@ -90,5 +93,5 @@ pub(crate) fn end<N: Clock>(
     let log = journal.as_ref();
     tell_end(rt, log, totals);
     let told = tell_totals(alloc, file, totals, ended);
-    tell_run(rt, alloc, log, told)
+    tell_run(rt, alloc, log, obstacle, told)
 }

@@ -6,6 +6,7 @@ ghost use Rattle.st_program.specs.Totals as spec;
 ghost use Rattle.st_program.specs.declared.error.RunError.TheVariants.{BadOption, Fault as IsFault};
 
 use crate::error::RunError;
+use crate::obstacle::{Obstacle, Step, words_of};
 use crate::totals::ended_with;
 use st_commands::Fault;
 use st_ilp::Moment;
@@ -24,7 +25,11 @@ const LAST: u32 = 255;
 
 /// Opens the file of this name at its end, where one was asked for, and makes it where there is none. It is never emptied.
 /// Fails with `BadOption` where it cannot be opened.
-fn log_file<N: Files<File = File>>(rt: &N, name: Option<&str>) -> Result<Option<File>, RunError>
+fn log_file<'a, N: Files<File = File>>(
+    rt: &N,
+    name: Option<&'a str>,
+    obstacle: &mut Option<Obstacle<'a>>,
+) -> Result<Option<File>, RunError>
     ensures none { IsNone name.entry → IfOk result (λ file. IsNone file) }
     ensures some { IsSome name.entry → IfOk result (λ file. IsSome file) }
     ensures refused { IfErr result (λ e. e ≡ BadOption) }
@@ -34,22 +39,26 @@ fn log_file<N: Files<File = File>>(rt: &N, name: Option<&str>) -> Result<Option<
     };
     match OpenOptions::new().append(true).create(true).open(rt, name) {
         Ok(file) => Ok(Some(file)),
-        Err(_) => Err(RunError::BadOption),
+        Err(error) => {
+            *obstacle = Some(Obstacle::of_file(Step::Log, name, &error));
+            Err(RunError::BadOption)
+        }
     }
 }
 
 /// The log in the file of this name, behind what stands there, where one was asked for. Fails with `BadOption` where the
 /// file cannot be opened, and else where memory is refused.
-pub(crate) fn journal<N: Files<File = File>>(
+pub(crate) fn journal<'a, N: Files<File = File>>(
     rt: &N,
     alloc: Global,
-    name: Option<&str>,
+    name: Option<&'a str>,
+    obstacle: &mut Option<Obstacle<'a>>,
 ) -> Result<Option<LogFile>, RunError>
     ensures none { IsNone name.entry → IfOk result (λ log. IsNone log) }
     ensures some { IsSome name.entry → IfOk result (λ log. IsSome log) }
     ensures refused { IfErr result (λ e. (e ≡ BadOption) ⊎ (e ≡ IsFault NoMemory)) }
 {
-    match log_file(rt, name) {
+    match log_file(rt, name, obstacle) {
         Ok(None) => Ok(None),
         Ok(Some(file)) => match log_in(alloc, file, LAST) {
             Ok(journal) => Ok(Some(journal)),
@@ -169,22 +178,21 @@ fn tell_whole<N: Clock>(rt: &N, alloc: Global, log: Log<'_>, bytes: &[u8]) {
     }
 }
 
-/// An error in words. Empty where memory is refused.
-fn words_of(alloc: Global, error: RunError) -> String {
-    match format!(in alloc; "{error}") {
-        Ok(words) => words,
-        Err(_) => String::new(alloc),
-    }
-}
-
 /// Writes how a command ended, behind what was left out before.
-fn note_end<N: Clock>(rt: &N, alloc: Global, journal: &LogFile, ended: Result<(), RunError>) {
+fn note_end<N: Clock>(
+    rt: &N,
+    alloc: Global,
+    journal: &LogFile,
+    obstacle: &Option<Obstacle<'_>>,
+    ended: Result<(), RunError>,
+) {
     let now = now(rt);
     journal.catch_up(rt, now);
     match ended {
         Ok(()) => journal.note(rt, now, 0, &Event::Done),
         Err(error) => {
-            let words = words_of(alloc, error);
+            // (no words where memory is refused)
+            let words = words_of(alloc, error, obstacle).unwrap_or(String::new(alloc));
             let event = Event::Failed {
                 fault: error.number(),
                 words: words.as_str(),
@@ -203,12 +211,13 @@ fn written(journal: &LogFile) -> Result<(), Fault> {
     }
 }
 
-/// Writes how a command ended, where there is a log. Returns the result of the command: that the log failed is told where
+/// Writes how a command ended, and what stood in its way, where there is a log. Returns the result of the command: that the log failed is told where
 /// there is no other error.
 pub(crate) fn tell_run<N: Clock>(
     rt: &N,
     alloc: Global,
     log: Log<'_>,
+    obstacle: &Option<Obstacle<'_>>,
     ended: Result<(), RunError>,
 ) -> Result<(), RunError>
     ensures none { IsNone log.entry → result ≡ ended }
@@ -216,7 +225,7 @@ pub(crate) fn tell_run<N: Clock>(
 {
     match log {
         Some(journal) => {
-            note_end(rt, alloc, journal, ended);
+            note_end(rt, alloc, journal, obstacle, ended);
             ended_with(ended, written(journal))
         }
         None => ended,

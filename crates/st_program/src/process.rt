@@ -8,6 +8,7 @@ ghost use Rattle.st_program.specs.Texts.{not_utf8_text};
 
 use crate::program::run;
 use crate::stdin::{Interruptible, STDIN};
+use crate::streams::{Held, Streams};
 use st_commands::{Fault, say, tell_fault};
 use st_ledger::OpensBooks;
 use st_oer::{CountRead, CountWrite};
@@ -79,22 +80,24 @@ fn obey<
     rt: &N,
     opener: &O,
     alloc: Global,
+    streams: Streams,
     is_terminal: bool,
     words: &[S],
     reader: &mut CountRead<R>,
     writer: &mut CountWrite<W>,
     errors: &mut CountWrite<E>,
 ) -> u8
-    ensures obeys { ObeysSome is_terminal R.remaining W.contents E.contents
+    ensures obeys { ObeysSome streams is_terminal R.remaining W.contents E.contents
         (HasEnded (tally_of reader.old) (tally_of reader.new) (tally_of writer.old) (tally_of writer.new))
         reader.old reader.new writer.old writer.new errors.old errors.new result }
     ensures status { result ≤ 2 }
 {
     tell_terminal(alloc, is_terminal, words, errors);
-    run(rt, opener, alloc, words, reader, writer, errors)
+    run(rt, opener, alloc, streams, words, reader, writer, errors)
 }
 
-/// Runs the program with the arguments of `host`, as `run` does, and returns its exit status. Where they ask for
+/// Runs the program with the arguments of `host`, as `run` does, and returns its exit status. `streams` says which standard
+/// streams are open. Where they ask for
 /// `frames` and the reader is a terminal (`is_terminal`), it first writes to `errors` what it waits for. Arguments that
 /// are not UTF-8 give status 2; where memory for the arguments is refused it reports fault 99.
 pub fn start<
@@ -114,12 +117,13 @@ pub fn start<
     opener: &O,
     alloc: Global,
     host: &H,
+    streams: Streams,
     is_terminal: bool,
     reader: &mut CountRead<R>,
     writer: &mut CountWrite<W>,
     errors: &mut CountWrite<E>,
 ) -> u8
-    ensures does { ObeysSome is_terminal R.remaining W.contents E.contents
+    ensures does { ObeysSome streams is_terminal R.remaining W.contents E.contents
         (HasEnded (tally_of reader.old) (tally_of reader.new) (tally_of writer.old) (tally_of writer.new))
         reader.old reader.new writer.old writer.new errors.old errors.new result
         ⊎ LacksWords reader.old reader.new writer.old writer.new E.contents errors.old errors.new result }
@@ -130,6 +134,7 @@ pub fn start<
             rt,
             opener,
             alloc,
+            streams,
             is_terminal,
             words.as_slice(),
             reader,
@@ -142,7 +147,8 @@ pub fn start<
 
 /// Runs the program `ilpstream` and returns its exit code. `host` gives the arguments and the standard streams of the
 /// process; `rt`, the same runtime, gives files, sockets, threads and the time, and `opener`, again the same, opens books. A read of standard input for which
-/// nothing comes within 200 milliseconds is interrupted, and made again.
+/// nothing comes within 200 milliseconds is interrupted, and made again. Before anything is opened, each standard stream that is
+/// closed is held, so that no file takes its number.
 pub fn ilpstream<
     N: Net<Listener = TcpListener, Stream = TcpStream>
         + Files<File = File>
@@ -152,6 +158,8 @@ pub fn ilpstream<
         + Sync,
     O: OpensBooks,
 >(host: &HostRuntime, rt: &N, opener: &O) -> ExitCode {
+    let held = Held::new(rt);
+    let streams = held.streams();
     let input = host.stdin();
     let is_terminal = input.is_terminal();
     let mut reader = CountRead::new(Interruptible::new(input, STDIN));
@@ -162,6 +170,7 @@ pub fn ilpstream<
         opener,
         host.alloc(),
         host,
+        streams,
         is_terminal,
         &mut reader,
         &mut writer,

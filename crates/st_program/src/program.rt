@@ -5,7 +5,8 @@ ghost use Rattle.st_oer.specs.Tallies.{tally_of};
 ghost use Rattle.clap.specs.Words.{HasKind, Kinds, kind_of};
 ghost use Rattle.st_commands.specs.Endings.{HasEnded, TellsFault};
 ghost use Rattle.st_program.specs.Settings.{IsLawful};
-ghost use Rattle.st_program.specs.Endings.{Does, LacksMemory, TellsAnswer};
+ghost use Rattle.st_program.specs.Endings.{Does, DoesUnless, LacksMemory, TellsAnswer};
+ghost use Rattle.st_program.specs.Streams as closed;
 ghost use Rattle.st_program.specs.Process.{Obeys};
 
 use crate::connector::connector;
@@ -13,14 +14,15 @@ use crate::explain::explain;
 use crate::ledger::ledger;
 use crate::receive::receive;
 use crate::send::send;
-use crate::tell::{tell_end, tell_number};
+use crate::streams::{Streams, missing};
+use crate::tell::{tell_end, tell_number, tell_terminal};
 use clap::Error;
 use clap::error::ErrorKind;
 use st_commands::{Fault, TURNS, put, run_frames, say, tell_fault};
 use st_ledger::OpensBooks;
 use st_local::run_local;
 use st_oer::{CountRead, CountWrite, Tally};
-use st_words::{Request, WordsError, read_words};
+use st_words::{Request, WordsError, broken_rule, read_words};
 use std::alloc::Global;
 use std::convert::AsStr;
 use std::fs::{File, Files};
@@ -82,7 +84,7 @@ fn tell<W: Write, E: Write>(
 
 /// Does what was asked for. The status: 0 is done, 1 a run that refused a line or met a fault, 2 a number that `explain`
 /// does not know.
-fn obey<
+fn done<
     R: Read,
     W: Write,
     E: Write,
@@ -111,28 +113,73 @@ fn obey<
     match request {
         Request::Frames => run_frames(alloc, reader, writer, errors),
         Request::Local(settings) => run_local(alloc, settings, reader, writer, errors),
-        Request::Send(settings) => tell_end(alloc, errors, send(rt, alloc, settings, reader)),
+        Request::Send(settings) => {
+            let mut obstacle = None;
+            let ended = send(rt, alloc, settings, reader, &mut obstacle);
+            tell_end(alloc, errors, &obstacle, ended)
+        }
         Request::Receive(settings) => {
-            tell_end(alloc, errors, receive(rt, alloc, settings, writer))
+            let mut obstacle = None;
+            let ended = receive(rt, alloc, settings, writer, &mut obstacle);
+            tell_end(alloc, errors, &obstacle, ended)
         }
         Request::Connector(settings) => {
-            tell_end(
-                alloc,
-                errors,
-                connector(rt, opener, alloc, settings, reader),
-            )
+            let mut obstacle = None;
+            let ended = connector(rt, opener, alloc, settings, reader, &mut obstacle);
+            tell_end(alloc, errors, &obstacle, ended)
         }
         Request::Ledger(settings) => {
-            tell_end(alloc, errors, ledger(rt, opener, alloc, settings, writer))
+            let ended = ledger(rt, opener, alloc, settings, writer);
+            tell_end(alloc, errors, &None, ended)
         }
         Request::Explain(number) => explain(*number, writer, errors),
+    }
+}
+
+/// Does what was asked for, or reports that a standard stream is closed which that needs: then nothing is read, written or
+/// opened. The status is as for `done`.
+fn obey<
+    R: Read,
+    W: Write,
+    E: Write,
+    N: Net<Listener = TcpListener, Stream = TcpStream>
+        + Files<File = File>
+        + Threads
+        + Wait
+        + std::time::Clock
+        + Sync,
+    O: OpensBooks,
+>(
+    rt: &N,
+    opener: &O,
+    alloc: Global,
+    streams: Streams,
+    request: &Request<'_>,
+    reader: &mut CountRead<R>,
+    writer: &mut CountWrite<W>,
+    errors: &mut CountWrite<E>,
+) -> u8
+    requires { IsLawful request.now }
+    ensures does { DoesUnless (closed.missing request.now streams) request.now R.remaining W.contents E.contents
+        (HasEnded (tally_of reader.old) (tally_of reader.new) (tally_of writer.old) (tally_of writer.new))
+        reader.old reader.new writer.old writer.new errors.old errors.new result }
+    ensures status { result ≤ 2 }
+{
+    match missing(request, streams) {
+        Some(fault) => {
+            let status = tell_number(alloc, errors, fault.number());
+            tell_terminal(alloc, "a standard stream that the command needs is closed");
+            status
+        }
+        None => done(rt, opener, alloc, request, reader, writer, errors),
     }
 }
 
 /// Runs the command that the arguments name and returns the exit status: 0 where it did its work, or printed help or
 /// the version; 1 where a line was refused or a fault ended the run; 2 where the arguments are refused, or `explain` is given
 /// a number that it does not know. The first argument is the program's name. With no further argument it runs `frames`. `opener` opens the books of `connector` and
-/// `ledger`.
+/// `ledger`. `streams` says which standard streams are open: a command that needs one which is closed ends with fault 90 or 91
+/// before it opens anything.
 ///
 /// Help and the version are written to `writer`, a mistake in the arguments to `errors`. Fault 98 reports an option
 /// whose text is bad, and fault 99 that memory was refused.
@@ -152,19 +199,26 @@ pub fn run<
     rt: &N,
     opener: &O,
     alloc: Global,
+    streams: Streams,
     words: &[S],
     reader: &mut CountRead<R>,
     writer: &mut CountWrite<W>,
     errors: &mut CountWrite<E>,
 ) -> u8
-    ensures obeys { Obeys (map S.text words.now) R.remaining W.contents E.contents
+    ensures obeys { Obeys streams (map S.text words.now) R.remaining W.contents E.contents
         (HasEnded (tally_of reader.old) (tally_of reader.new) (tally_of writer.old) (tally_of writer.new))
         reader.old reader.new writer.old writer.new errors.old errors.new result }
     ensures status { result ≤ 2 }
 {
     match read_words(alloc, words) {
-        Ok(request) => obey(rt, opener, alloc, &request, reader, writer, errors),
+        Ok(request) => obey(rt, opener, alloc, streams, &request, reader, writer, errors),
         Err(WordsError::Refused(error)) => tell(alloc, writer, errors, &error),
-        Err(WordsError::BadOption) => tell_number(alloc, errors, 98),
+        Err(WordsError::BadOption) => {
+            let status = tell_number(alloc, errors, 98);
+            if let Some(rule) = broken_rule(alloc, words) {
+                tell_terminal(alloc, rule);
+            }
+            status
+        }
     }
 }

@@ -98,7 +98,7 @@ pub(crate) fn has_terminal() -> bool {
 }
 
 /// Writes to the terminal, where it takes a text at once: one that was stopped (Ctrl-S) holds nothing up.
-fn put_terminal(text: &[u8]) {
+pub(crate) fn put_terminal(text: &[u8]) {
     let mut fds = [pollfd {
         fd: STDERR,
         events: POLLOUT,

@@ -9,6 +9,7 @@ use crate::credentials::Credentials;
 use crate::ends::{Asked, begin, end};
 use crate::error::RunError;
 use crate::log::Log;
+use crate::obstacle::Obstacle;
 use crate::progress::{Side, Teller};
 use crate::send::widest;
 use crate::totals::nothing_yet;
@@ -25,23 +26,29 @@ use std::net::{Net, TcpListener, TcpStream};
 
 /// Receives from one sender, writes the bytes to the output, and sets the totals of its end, if there was one.
 fn transfer<
+    'a,
     W: Write,
     N: Net<Listener = TcpListener, Stream = TcpStream> + Files<File = File> + std::time::Clock,
 >(
     rt: &N,
     alloc: Global,
-    settings: &ReceiveSettings<'_>,
+    settings: &ReceiveSettings<'a>,
     credentials: &Credentials,
     writer: &mut CountWrite<W>,
     log: Log<'_>,
     totals: &mut Totals,
+    obstacle: &mut Option<Obstacle<'a>>,
 ) -> Result<(), RunError>
     requires settings { IsReceiver settings.now }
     requires credentials { AreOf settings.now.token settings.now.secret credentials.now }
     ensures { result ≢ Err BadOption }
 {
-    let Ok(listener) = TcpListener::bind(rt, settings.listen) else {
-        return Err(RunError::NoListener);
+    let listener = match TcpListener::bind(rt, settings.listen) {
+        Ok(listener) => listener,
+        Err(error) => {
+            *obstacle = Some(Obstacle::of_address(settings.listen, &error));
+            return Err(RunError::NoListener);
+        }
     };
     match server_end(
         alloc,
@@ -88,20 +95,22 @@ fn asked_of<'a>(settings: &ReceiveSettings<'a>) -> Asked<'a>
 }
 
 /// Receives from one sender and writes the bytes to the output, as the settings say. Where a file that has the token or the
-/// secret, or one for events or totals, cannot be opened, nothing else is done.
+/// secret, or one for events or totals, cannot be opened, nothing else is done. Sets what stood in its way.
 pub(crate) fn receive<
+    'a,
     W: Write,
     N: Net<Listener = TcpListener, Stream = TcpStream> + Files<File = File> + std::time::Clock,
 >(
     rt: &N,
     alloc: Global,
-    settings: &ReceiveSettings<'_>,
+    settings: &ReceiveSettings<'a>,
     writer: &mut CountWrite<W>,
+    obstacle: &mut Option<Obstacle<'a>>,
 ) -> Result<(), RunError>
     requires { IsReceiver settings.now }
     ensures { result ≡ Err BadOption → writer.new ≡ writer.old }
 {
-    let begun = match begin(rt, alloc, asked_of(settings)) {
+    let begun = match begin(rt, alloc, asked_of(settings), obstacle) {
         Ok(begun) => begun,
         Err(error) => return Err(error),
     };
@@ -115,6 +124,7 @@ pub(crate) fn receive<
         writer,
         log,
         &mut totals,
+        obstacle,
     );
-    end(rt, alloc, begun, &totals, ended)
+    end(rt, alloc, begun, &totals, obstacle, ended)
 }

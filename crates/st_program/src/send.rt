@@ -9,6 +9,7 @@ use crate::credentials::Credentials;
 use crate::ends::{Asked, begin, end};
 use crate::error::RunError;
 use crate::log::Log;
+use crate::obstacle::{Obstacle, Step};
 use crate::progress::{Side, Teller, has_terminal, input_length};
 use crate::totals::nothing_yet;
 use st_commands::TURNS;
@@ -75,6 +76,7 @@ fn terms_of<'a>(
 
 /// Sends the input and money to a receiver, and sets the totals of its end, if there was one.
 fn transfer<
+    'a,
     R: Read,
     N: Net<Listener = TcpListener, Stream = TcpStream>
         + Files<File = File>
@@ -85,11 +87,12 @@ fn transfer<
 >(
     rt: &N,
     alloc: Global,
-    settings: &SendSettings<'_>,
+    settings: &SendSettings<'a>,
     credentials: &Credentials,
     reader: &mut CountRead<R>,
     log: Log<'_>,
     totals: &mut Totals,
+    obstacle: &mut Option<Obstacle<'a>>,
 ) -> Result<(), RunError>
     requires settings { IsSender settings.now }
     requires credentials { AreOf settings.now.token settings.now.secret credentials.now }
@@ -98,8 +101,12 @@ fn transfer<
     let Some(neighbour) = Neighbour::new(settings.to, credentials.token.as_str()) else {
         unreachable!();
     };
-    let Ok(random) = File::open(rt, settings.random) else {
-        return Err(RunError::NoRandom);
+    let random = match File::open(rt, settings.random) {
+        Ok(random) => random,
+        Err(error) => {
+            *obstacle = Some(Obstacle::of_file(Step::Random, settings.random, &error));
+            return Err(RunError::NoRandom);
+        }
     };
     match client_end(
         alloc,
@@ -143,8 +150,9 @@ fn asked_of<'a>(settings: &SendSettings<'a>) -> Asked<'a>
 }
 
 /// Sends the input and the money to a receiver, as the settings say. Where a file that has the token or the secret, or one
-/// for events or totals, cannot be opened, nothing else is done.
+/// for events or totals, cannot be opened, nothing else is done. Sets what stood in its way.
 pub(crate) fn send<
+    'a,
     R: Read,
     N: Net<Listener = TcpListener, Stream = TcpStream>
         + Files<File = File>
@@ -155,13 +163,14 @@ pub(crate) fn send<
 >(
     rt: &N,
     alloc: Global,
-    settings: &SendSettings<'_>,
+    settings: &SendSettings<'a>,
     reader: &mut CountRead<R>,
+    obstacle: &mut Option<Obstacle<'a>>,
 ) -> Result<(), RunError>
     requires { IsSender settings.now }
     ensures { result ≡ Err BadOption → reader.new ≡ reader.old }
 {
-    let begun = match begin(rt, alloc, asked_of(settings)) {
+    let begun = match begin(rt, alloc, asked_of(settings), obstacle) {
         Ok(begun) => begun,
         Err(error) => return Err(error),
     };
@@ -175,6 +184,7 @@ pub(crate) fn send<
         reader,
         log,
         &mut totals,
+        obstacle,
     );
-    end(rt, alloc, begun, &totals, ended)
+    end(rt, alloc, begun, &totals, obstacle, ended)
 }

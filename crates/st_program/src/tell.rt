@@ -5,6 +5,8 @@ ghost use Rattle.st_commands.specs.Texts.{fault_text};
 ghost use Rattle.st_program.specs.Endings.{TellsEnd, TellsNumber};
 
 use crate::error::RunError;
+use crate::obstacle::{Obstacle, words_of};
+use crate::progress::{has_terminal, put_terminal};
 use st_commands::{Fault, say, tell_fault};
 use st_oer::CountWrite;
 use std::alloc::{AllocError, Global};
@@ -31,10 +33,21 @@ pub(crate) fn tell_number<E: Write>(alloc: Global, errors: &mut CountWrite<E>, n
     1
 }
 
-/// Reports the error with which a command ended, where there is one. Returns the exit status.
+/// Writes a line to standard error, where that is a terminal.
+pub(crate) fn tell_terminal(alloc: Global, words: &str) {
+    if !has_terminal() {
+        return;
+    }
+    if let Ok(line) = format!(in alloc; "{words}\n") {
+        put_terminal(line.as_bytes());
+    }
+}
+
+/// Reports the error with which a command ended, where there is one, and on a terminal what stood in its way. Returns the exit status.
 pub(crate) fn tell_end<E: Write>(
     alloc: Global,
     errors: &mut CountWrite<E>,
+    obstacle: &Option<Obstacle<'_>>,
     ended: Result<(), RunError>,
 ) -> u8
     ensures told { TellsEnd ended E.contents errors.old errors.new result }
@@ -42,6 +55,12 @@ pub(crate) fn tell_end<E: Write>(
 {
     match ended {
         Ok(()) => 0,
-        Err(error) => tell_number(alloc, errors, error.number()),
+        Err(error) => {
+            let status = tell_number(alloc, errors, error.number());
+            if let Ok(words) = words_of(alloc, error, obstacle) {
+                tell_terminal(alloc, words.as_str());
+            }
+            status
+        }
     }
 }

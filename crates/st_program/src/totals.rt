@@ -8,9 +8,10 @@ ghost use Rattle.st_program.specs.Totals as spec;
 ghost use Rattle.st_program.specs.declared.error.RunError.TheVariants.{BadOption, Fault as IsFault};
 ghost use Rattle.st_commands.specs.declared.error.Fault.TheVariants.{NoMemory};
 
-use crate::beside::{Beside, Place, is_replaced, replace};
+use crate::beside::{Beside, Place, Unmade, is_replaced, replace};
 use crate::counts::counts_text;
 use crate::error::RunError;
+use crate::obstacle::{Obstacle, Step};
 use st_commands::{Fault, TURNS, put};
 use st_end::Totals;
 use st_oer::CountWrite;
@@ -55,9 +56,10 @@ pub(crate) struct Telling<'a, N> {
 }
 
 /// Creates or empties the file of this name, where one was asked for. Fails with `BadOption` where it cannot be opened.
-pub(crate) fn totals_file<N: Files<File = File>>(
+pub(crate) fn totals_file<'a, N: Files<File = File>>(
     rt: &N,
-    name: Option<&str>,
+    name: Option<&'a str>,
+    obstacle: &mut Option<Obstacle<'a>>,
 ) -> Result<Option<CountWrite<File>>, RunError>
     ensures none { IsNone name.entry → IfOk result (λ file. IsNone file) }
     ensures some { IsSome name.entry → IfOk result (λ file. IsSome file) }
@@ -68,7 +70,10 @@ pub(crate) fn totals_file<N: Files<File = File>>(
     };
     match File::create(rt, name) {
         Ok(file) => Ok(Some(CountWrite::new(file))),
-        Err(_) => Err(RunError::BadOption),
+        Err(error) => {
+            *obstacle = Some(Obstacle::of_file(Step::Totals, name, &error));
+            Err(RunError::BadOption)
+        }
     }
 }
 
@@ -240,10 +245,11 @@ pub(crate) fn tell_totals<W: Write + Drop>(
 
 /// Finds out where a connector is to write its totals. A file of that name that is no regular one is opened, and emptied
 /// where it can be. Else a file is made beside it and removed. Fails with `BadOption` where that cannot be done.
-pub(crate) fn place_for<'a, N: Files<File = File>>(
+pub(crate) fn place_for<'a, 'n: 'a, N: Files<File = File>>(
     rt: &'a N,
     alloc: Global,
-    name: Option<&'a str>,
+    name: Option<&'n str>,
+    obstacle: &mut Option<Obstacle<'n>>,
 ) -> Result<Telling<'a, N>, RunError>
     ensures refused { IfErr result (λ e. (e ≡ BadOption) ⊎ (e ≡ IsFault NoMemory)) }
 {
@@ -256,17 +262,25 @@ pub(crate) fn place_for<'a, N: Files<File = File>>(
                 let place = Some(TotalsPlace::Open(CountWrite::new(file)));
                 Ok(Telling { alloc, place })
             }
-            Err(_) => Err(RunError::BadOption),
+            Err(error) => {
+                *obstacle = Some(Obstacle::of_file(Step::Totals, name, &error));
+                Err(RunError::BadOption)
+            }
         };
     }
-    let Ok(mut beside) = Beside::new(rt, alloc, name) else {
-        return Err(RunError::Fault(Fault::NoMemory));
-    };
-    if !beside.can_begin() {
-        return Err(RunError::BadOption);
+    let mut beside = Beside::new(rt, alloc, name);
+    match beside.can_begin() {
+        Ok(()) => {
+            let place = Some(TotalsPlace::Beside(beside));
+            Ok(Telling { alloc, place })
+        }
+        Err(Unmade::Refused(cause)) => {
+            let step = Step::Beside;
+            *obstacle = Some(Obstacle { step, name, cause });
+            Err(RunError::BadOption)
+        }
+        Err(Unmade::NoMemory) => Err(RunError::Fault(Fault::NoMemory)),
     }
-    let place = Some(TotalsPlace::Beside(beside));
-    Ok(Telling { alloc, place })
 }
 
 /// Writes the totals of a connector at its end.

@@ -12,8 +12,10 @@ mod options;
 mod pairs;
 mod program;
 mod request;
+mod rules;
 mod texts;
 
 pub use error::WordsError;
 pub use laws::plain_words_say_their_texts;
 pub use request::{Request, read_words};
+pub use rules::broken_rule;

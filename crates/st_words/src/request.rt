@@ -64,7 +64,7 @@ fn local<'a>(matches: &ArgMatches<'a>) -> LocalOptions<'a>
     }
 }
 
-fn send<'a>(matches: &ArgMatches<'a>) -> SendOptions<'a>
+pub(crate) fn send<'a>(matches: &ArgMatches<'a>) -> SendOptions<'a>
     ensures { settings.send_texts result ≡ spec.send_texts (rows_of (found_of matches.now)) }
 {
     SendOptions {
@@ -84,7 +84,7 @@ fn send<'a>(matches: &ArgMatches<'a>) -> SendOptions<'a>
     }
 }
 
-fn receive<'a>(matches: &ArgMatches<'a>) -> ReceiveOptions<'a>
+pub(crate) fn receive<'a>(matches: &ArgMatches<'a>) -> ReceiveOptions<'a>
     ensures { settings.receive_texts result ≡ spec.receive_texts (rows_of (found_of matches.now)) }
 {
     ReceiveOptions {
@@ -102,7 +102,7 @@ fn receive<'a>(matches: &ArgMatches<'a>) -> ReceiveOptions<'a>
     }
 }
 
-fn connector<'a>(matches: &ArgMatches<'a>) -> ConnectorOptions<'a>
+pub(crate) fn connector<'a>(matches: &ArgMatches<'a>) -> ConnectorOptions<'a>
     ensures { settings.connector_texts result ≡ spec.connector_texts (rows_of (found_of matches.now)) }
 {
     ConnectorOptions {
@@ -155,7 +155,7 @@ fn request_of<'a>(name: &str, matches: &ArgMatches<'a>) -> Option<Request<'a>>
 }
 
 /// What clap makes of the arguments; the first is the program's name.
-fn parse<'a, S: AsStr>(alloc: Global, words: &'a [S]) -> Result<ArgMatches<'a>, Error>
+pub(crate) fn parse<'a, S: AsStr>(alloc: Global, words: &'a [S]) -> Result<ArgMatches<'a>, Error>
     ensures kinds { FailsBy (fault_of grammar.program (map S.text words.now)) result }
     ensures command { IfOk result (λ m. subcommand_rows_of m ≡ command_of (map S.text words.now)) }
 {

@@ -5,7 +5,8 @@ use Rattle.st_oer.specs.Tallies.{tally_of}
 use Rattle.st_words.specs.declared.request.Request.{Request}
 use Rattle.st_words.specs.Words.{command_of, refusals}
 use Rattle.st_commands.specs.Endings.{HasEnded}
-use Rattle.st_program.specs.Endings.{Does}
+use Rattle.st_program.specs.Endings.{DoesUnless}
+use Rattle.st_program.specs.Streams.{missing}
 use Rattle.st_program.proofs.Asked.{asked_lawful, frames_alone}
 use Rattle.st_program.proofs.WordsTaken.{shown_is_no_mistake, shown_is_not_taken}
 use Rattle.st_program.proofs.program.run.Goals as goal
@@ -14,7 +15,7 @@ pub returns-in-Ok-clause-obeys : goal.returns-in-Ok-clause-obeys
 returns-in-Ok-clause-obeys g c =
     let words : List Text = map g.S.AsStr.text c.args.words.now in
     record {
-      frames = λ asks. inl (subst (λ (q : Request). Does q g.R.Read.remaining g.W.Write.contents g.E.Write.contents
+      frames = λ asks. inl (subst (λ (q : Request). DoesUnless (missing q c.args.streams) q g.R.Read.remaining g.W.Write.contents g.E.Write.contents
           (HasEnded (tally_of c.args.reader.now) (tally_of c.obey.new.reader) (tally_of c.args.writer.now) (tally_of c.obey.new.writer))
           c.args.reader.now c.obey.new.reader c.args.writer.now c.obey.new.writer c.args.errors.now c.obey.new.errors c.obey.result)
           (frames_alone words c.in-Ok.request asks c.in-Ok.ensures) c.obey.ensures.does);

@@ -1,0 +1,115 @@
+//! The standard streams that the process was started with.
+//!
+//! Where one of the descriptors 0 to 2 is closed, the next file that is opened takes its number: it is then read as the
+//! input, or what the program prints is written to it. So each of them is held before anything else is opened.
+
+ghost use Rattle.std.specs.Prelude.{◌≡◌};
+ghost use Rattle.st_program.specs.Streams as spec;
+
+use libc::net::{POLLNVAL, poll};
+use libc::types::pollfd;
+use st_commands::Fault;
+use st_words::Request;
+use std::fs::{File, Files};
+use std::os::fd::RawFd;
+
+/// What is opened under the number of a closed stream: a folder, of which no read and no write succeeds.
+const FOLDER: &str = "/";
+
+/// Which standard streams are open.
+#[derive(Clone, Copy, Debug, PartialEq, Eq)]
+pub struct Streams {
+    /// Whether standard input is open.
+    pub input: bool,
+    /// Whether standard output is open.
+    pub output: bool,
+}
+
+/// The fault of a stream that is needed, where it is closed.
+fn unless(is_open: bool, fault: Fault) -> Option<Fault>
+    ensures { result ≡ spec.unless is_open fault }
+{
+    if is_open { None } else { Some(fault) }
+}
+
+/// The fault of a command that needs a standard stream which is closed: of the input for `send` and `connector`, of the
+/// output for `receive` and `ledger`. `frames`, `local` and `explain` open nothing: their first read or write fails.
+pub(crate) fn missing(request: &Request<'_>, streams: Streams) -> Option<Fault>
+    ensures { result ≡ spec.missing request.now streams }
+{
+    match request {
+        Request::Frames | Request::Local(_) | Request::Explain(_) => None,
+        Request::Send(_) | Request::Connector(_) => unless(streams.input, Fault::Input),
+        Request::Receive(_) | Request::Ledger(_) => unless(streams.output, Fault::Output),
+    }
+}
+
+/// Whether the process has this descriptor.
+fn is_open(fd: RawFd) -> bool {
+    let mut fds = [pollfd {
+        fd,
+        events: 0,
+        revents: 0,
+    }];
+    poll(&mut fds, 0);
+    fds[0].revents & POLLNVAL == 0
+}
+
+/// A standard stream.
+#[derive(Drop)]
+enum Stream {
+    Open,
+    /// It is closed, and a file has its number, where one could be opened.
+    Closed(Option<File>),
+}
+
+impl Stream {
+    /// The stream of this descriptor. Where it is closed, it is the lowest number that is free.
+    fn held<N: Files<File = File>>(rt: &N, fd: RawFd) -> Stream {
+        if is_open(fd) {
+            Stream::Open
+        } else {
+            Stream::Closed(File::open(rt, FOLDER).ok())
+        }
+    }
+
+    fn is_open(&self) -> bool {
+        matches!(self, Stream::Open)
+    }
+
+    /// Whether no further file can have its number.
+    fn is_held(&self) -> bool {
+        !matches!(self, Stream::Closed(None))
+    }
+}
+
+/// The three standard streams, whose numbers no other file has while this is there.
+#[derive(Drop)]
+pub(crate) struct Held {
+    input: Stream,
+    output: Stream,
+    errors: Stream,
+}
+
+impl Held {
+    /// Holds the standard streams of the process. Nothing may have been opened before.
+    pub(crate) fn new<N: Files<File = File>>(rt: &N) -> Held {
+        let input = Stream::held(rt, 0);
+        let output = Stream::held(rt, 1);
+        let errors = Stream::held(rt, 2);
+        Held {
+            input,
+            output,
+            errors,
+        }
+    }
+
+    /// Which of them are open. Where one cannot be held, none counts as open.
+    pub(crate) fn streams(&self) -> Streams {
+        let is_held = self.input.is_held() && self.output.is_held() && self.errors.is_held();
+        Streams {
+            input: is_held && self.input.is_open(),
+            output: is_held && self.output.is_open(),
+        }
+    }
+}
