@@ -3,9 +3,9 @@
 cause after another, and each is told apart by the sender's log alone. Each event is seen once with its whole line. A bad table is told by
 its line, for each rule of the whole table. No secret and no token stands in any output, and what a peer sends forges no line. The last
 line counts the tests."""
-import fcntl, os, re, select, signal, sys, threading, time
+import fcntl, os, re, resource, select, signal, sys, threading, time
 
-from peers import HOST, SECRET, answer, ended, free_port, fulfill, message, octets, request, asked
+from peers import HOST, SECRET, Full, answer, ended, free_port, fulfill, message, octets, prepare, request, asked
 from play import Wrong, main, some_bytes, table_to, test, want
 
 DATE = r"\d{4}-\d\d-\d\dT\d\d:\d\d:\d\d\.\d{3}Z "
@@ -75,7 +75,13 @@ FAILED = "the connection failed"
 
 @test(waits=True)
 def nobody_listens(play):
-    return fails(play, free_port(), 58, FAILED, "exchange neighbour=0 cause=unreached")
+    return fails(play, free_port(), 58, FAILED, "exchange neighbour=0 cause=refused")
+
+
+@test(waits=True)
+def a_name_that_does_not_resolve(play):
+    # (no resolver is asked for a name with an empty part)
+    return fails(play, free_port(), 58, FAILED, "exchange neighbour=0 cause=name", host="no..name")
 
 
 @test(waits=True)
@@ -199,28 +205,76 @@ def a_message_forges_no_line(play):
 # The other side's log, of which a line is written once its answer was sent.
 
 
-def comes(process, wanted):
-    """The log of a process that goes on has just these kinds of lines, within ten seconds."""
+def comes(process, wanted, *left_out):
+    """The log of a process that goes on has just these kinds of lines, within ten seconds, but for these events."""
     until = time.monotonic() + 10
-    while (seen := kinds(process, "start", "more", "totals")) != wanted and time.monotonic() < until:
+    while (seen := kinds(process, "start", "more", "totals", *left_out)) != wanted and time.monotonic() < until:
         time.sleep(0.02)
     want(seen == wanted, f"log {seen}")
     return " / ".join(seen)
+
+
+def refusal(play, port):
+    """Makes a connection whose token is not known, and waits for its answer. Its address."""
+    stream = play.connect(port, request("x", b"\0"))
+    message(stream)
+    return "{}:{}".format(*stream.getsockname())
 
 
 @test(waits=True)
 def a_connector_says_what_it_refused_and_what_failed(play):
     hub = play.connector(table_to(free_port()))
     ended(play.send(hub.port, some_bytes(1_000), "--workers=1"), 60)
-    asked((HOST, hub.port), request("x", b"\0"), 5)
-    return comes(hub, ["connection status=401", "exchange neighbour=1 cause=unreached"])
+    refused = refusal(play, hub.port)
+    return comes(hub, [f'connection status=401 from="{refused}"', "exchange neighbour=1 cause=refused"])
 
 
 @test(waits=True)
 def a_receiver_says_what_it_refused(play):
     receiver = play.receive()
     ended(play.send(receiver.port, some_bytes(1_000), "--workers=1", secret="ff" * 32), 60)
-    return comes(receiver, ["refused neighbour=0 code=F06 reason=31"])
+    refused, cut = refusal(play, receiver.port), play.connect(receiver.port, b"POST")
+    name = "{}:{}".format(*cut.getsockname())
+    cut.close()
+    return comes(receiver, [f'connection cut from="{name}"', f'connection status=401 from="{refused}"', "refused neighbour=0 code=F06 reason=31"])
+
+
+@test(waits=True)
+def connections_that_are_left_out_are_of_no_neighbour(play):
+    hub, found = play.connector(table_to(free_port())), []
+    until = time.monotonic() + 20
+    # (each second has ten lines at most)
+    while not found and time.monotonic() < until:
+        refusal(play, hub.port)
+        found = kinds(hub, "start", "connection", "totals")
+    want(found and all(re.fullmatch(r"more event=connection count=\d+", it) for it in found), f"log {found}")
+    return " / ".join(found)
+
+
+def asked_once(play, hub, seconds):
+    """A connector is given a Prepare that expires after so many seconds, and answers T01."""
+    _, body = asked((HOST, hub.port), request("t", prepare(0, seconds, "test.b")), 20)
+    want(body[2:5] == b"T01", f"answer {body[:20]!r}")
+
+
+@test(waits=True)
+def a_connector_whose_neighbour_takes_no_connection(play):
+    full = Full(lambda _, stream: message(stream))
+    play.peers.append(full)
+    hub = play.before(full)
+    asked_once(play, hub, 3)
+    return comes(hub, ["exchange neighbour=1 cause=timeout"])
+
+
+@test((HOST,), ("localhost",), waits=True)
+def a_connector_without_descriptors_before(play, host):
+    hub = play.connector(table_to(free_port()).replace(HOST, host), "--workers=1")
+    time.sleep(0.5)
+    # No file can be opened any more. A blocked accept has its number already, so that the next connection is still taken.
+    resource.prlimit(hub.pid, resource.RLIMIT_NOFILE, (3, resource.prlimit(hub.pid, resource.RLIMIT_NOFILE)[1]))
+    asked_once(play, hub, 5)
+    # (it ends once it cannot accept for a second)
+    return comes(hub, ["exchange neighbour=1 cause=descriptors"], "end")
 
 
 @test(waits=True)

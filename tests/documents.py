@@ -39,6 +39,7 @@ OTHERS = {
         "st_nodes": "NUMBERS",
         "st_queues": "WRITE_RINGS",
     },
+    "numbers of errors of Linux": {"st_link": "EMFILE ENFILE"},
     "numbers that calls return": {"st_embed": "DONE IDLE MISUSE ARGUMENT ROOM UNKNOWN ENDED ABORTED ONWARD"},
     "the number of the one stream that `send` and `receive` use": {"st_transfer": "STREAM"},
 }

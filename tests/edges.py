@@ -2,9 +2,10 @@
 """Runs `send`, `receive` and `connector` at their edges: edges.py [PROGRAM [WORD]]. Links that fail and come back, peers that stop,
 many connections, too few threads and files. With a WORD, only the tests whose names have it. A line for each test says how long
 it took or what was measured, or what is wrong; the last line counts them. Tests that wait for a time-out run side by side."""
-import glob, os, pty, re, resource, select, shutil, socket, struct, sys, threading, time
+import glob, os, pty, re, resource, select, shlex, shutil, socket, struct, subprocess, sys, threading, time
 
-from peers import HOST, Peer, answer, asked, ended, free_port, free_ports, fulfill, message, prepare, request, totals, use_up
+from peers import HOST, Full, Peer, answer, asked, ended, fields_at, free_port, free_ports, fulfill, message, prepare, request
+from peers import totals, use_up
 from play import PROGRAM, Skipped, Wrong, main, shared_object, some_bytes, stands, table_to, test, want
 
 MANY = 200  # transfers at once
@@ -239,37 +240,6 @@ def a_receiver_that_nothing_comes_to(play):
 # Neighbours that do not take a connection, or stop in the middle of an answer.
 
 
-class Full(Peer):
-    """A peer whose queue of connections is full, so that the kernel drops further ones, until it begins to accept."""
-
-    def __init__(self, handle):
-        self.accepts, self.queued = threading.Event(), []
-        super().__init__(handle)
-        self.listener.listen(0)
-        while self.fills():
-            pass
-
-    def fills(self):
-        """Whether one more connection was taken."""
-        stream = socket.socket()
-        stream.settimeout(0.3)
-        self.queued.append(stream)
-        return stream.connect_ex((HOST, self.port)) == 0
-
-    def serve(self):
-        self.accepts.wait()
-        super().serve()
-
-    def begin(self):
-        for stream in self.queued:
-            stream.close()
-        self.accepts.set()
-
-    def close(self):
-        self.begin()
-        super().close()
-
-
 @test(waits=True)
 def a_sender_before_a_neighbour_that_takes_no_connection(play):
     content = some_bytes(50_000)
@@ -289,6 +259,74 @@ def rejected(play, peer, seconds):
     begun = time.monotonic()
     _, body = asked((HOST, hub.port), request("t", prepare(0, seconds, "test.b")), 20)
     return time.monotonic() - begun, body
+
+
+SECOND = "127.0.0.2"
+
+
+def with_hosts(play, *hosts):
+    """A program that is the tested one where the name twice.test has these addresses, by its own /etc/hosts in a mount namespace."""
+    table, path = f"{play.room}/hosts", f"{play.room}/with-hosts"
+    with open(table, "w", encoding="ascii") as file:
+        file.writelines(f"{host} twice.test\n" for host in hosts)
+    own = [] if os.getuid() == 0 else ["--user", "--map-root-user"]
+    ways = ["unshare", "--mount", *own, "sh", "-c", f'mount --bind {shlex.quote(table)} /etc/hosts && exec "$@"', "sh"]
+    try:
+        subprocess.run([*ways, "true"], check=True, capture_output=True, timeout=20)
+    except (OSError, subprocess.SubprocessError) as error:
+        raise Skipped(f"no /etc/hosts of its own: {error}") from None
+    with open(path, "w", encoding="ascii") as script:
+        script.write(f'#!/bin/sh\nexec {shlex.join([*ways, PROGRAM])} "$@"\n')
+    os.chmod(path, 0o700)
+    return path
+
+
+def two_addresses(play, handle):
+    """A host of two addresses: a peer at the first that takes no connection until it begins, and one at the second, at one port."""
+    first = Full(handle)
+    play.peers.append(first)
+    second = Peer(handle, first.port, SECOND)
+    play.peers.append(second)
+    return first, second
+
+
+@test(waits=True)
+def a_sender_before_a_host_whose_first_address_takes_no_connection(play):
+    content = some_bytes(50_000)
+    receiver = play.receive()
+    first, _ = two_addresses(play, lambda _, stream: pass_on(receiver.port, stream))
+    program = with_hosts(play, HOST, SECOND)
+    sender = play.send(first.port, content, "--workers=1", host="twice.test", program=program)
+    # (three seconds for the first address, once: the second is kept)
+    return transfer(sender, receiver, content, 8)
+
+
+@test(waits=True)
+def a_connector_before_a_host_whose_first_address_takes_no_connection(play):
+    def handle(_, stream):
+        message(stream)
+        stream.sendall(answer(fulfill()))
+
+    first, second = two_addresses(play, handle)
+    table = table_to(first.port).replace(HOST, "twice.test")
+    hub, taken = play.connector(table, "--workers=1", program=with_hosts(play, HOST, SECOND)), []
+
+    def fulfilled(seconds):
+        begun = time.monotonic()
+        _, body = asked((HOST, hub.port), request("t", prepare(0, seconds, "test.b")), 20)
+        taken.append(time.monotonic() - begun)
+        want(body == fulfill(), f"answer {body[:20]!r} after {taken[-1]:.1f} s")
+
+    # (of five seconds the connector keeps one, and the first address has half of the others)
+    fulfilled(5)
+    fulfilled(5)
+    # (the address that was kept is gone, so that the name is resolved in the same exchange)
+    first.begin()
+    time.sleep(0.5)
+    second.close()
+    fulfilled(5)
+    want(1 < taken[0] < 3.5 and taken[1] < 1 and taken[2] < 3, f"answers after {taken} s")
+    return ", ".join(f"{it:.2f} s" for it in taken)
 
 
 @test(waits=True)
@@ -700,6 +738,29 @@ def a_sender_whose_clock_is_set_back(play):
     steps = steps_back(sender.log)
     want(len(steps) == 1 and HOUR - 30_000 < steps[0] <= HOUR, f"steps {steps} in the log")
     return told
+
+
+def expiring(packet, text):
+    """The same Prepare with this expiry."""
+    at = fields_at(packet) + 8
+    return packet[:at] + text + packet[at + 17 :]
+
+
+# "Never" to many, and a millisecond past the last moment that the program has, one second after what is sent on.
+@test(("99991231235959999", "99991231235958999"), ("99991231234641001", "99991231234640001"))
+def a_prepare_that_never_expires(play, expiry, onward):
+    came = []
+
+    def handle(_, stream):
+        came.append(message(stream)[1])
+        stream.sendall(answer(fulfill()))
+
+    hub = play.before(play.peer(handle))
+    packet = expiring(prepare(10, 30, "test.b"), expiry.encode())
+    _, body = asked((HOST, hub.port), request("t", packet), 20)
+    want(body == fulfill(), f"answer {body[:20]!r}, {len(came)} sent on")
+    want(came == [expiring(packet, onward.encode())], f"sent on {came}")
+    return "fulfilled"
 
 
 # What an idle sender takes, and the workers that there are.

@@ -132,12 +132,12 @@ class Peer:
     """Listens at a port, of its own where none is given, and has `handle(number, stream)` handle each connection in a thread,
     numbered from 1."""
 
-    def __init__(self, handle, port=0):
-        self.handle, self.number = handle, 0
+    def __init__(self, handle, port=0, host=HOST):
+        self.handle, self.number, self.bound_to = handle, 0, host
         self.listen(port)
 
     def listen(self, port):
-        self.listener = socket.create_server((HOST, port), backlog=128)
+        self.listener = socket.create_server((self.bound_to, port), backlog=128)
         self.port = self.listener.getsockname()[1]
         threading.Thread(target=self.serve, daemon=True).start()
 
@@ -166,6 +166,37 @@ class Peer:
         except OSError:
             pass
         self.listener.close()
+
+
+class Full(Peer):
+    """A peer whose queue of connections is full, so that the kernel drops further ones, until it begins to accept."""
+
+    def __init__(self, handle):
+        self.accepts, self.queued = threading.Event(), []
+        super().__init__(handle)
+        self.listener.listen(0)
+        while self.fills():
+            pass
+
+    def fills(self):
+        """Whether one more connection was taken."""
+        stream = socket.socket()
+        stream.settimeout(0.3)
+        self.queued.append(stream)
+        return stream.connect_ex((HOST, self.port)) == 0
+
+    def serve(self):
+        self.accepts.wait()
+        super().serve()
+
+    def begin(self):
+        for stream in self.queued:
+            stream.close()
+        self.accepts.set()
+
+    def close(self):
+        self.begin()
+        super().close()
 
 
 def ended(process, bound):

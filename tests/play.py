@@ -149,10 +149,10 @@ class Play:
         """A connector of two accounts: the sender's, and the receiver's or a peer's. It takes any money."""
         return self.connector(table_to(receiver.port), *words, **how)
 
-    def send(self, port, given, *words, token="t", address="test.a", peer="test.b", secret=None, **how):
+    def send(self, port, given, *words, token="t", address="test.a", peer="test.b", secret=None, host=HOST, **how):
         if isinstance(given, bytes):
             given = self.file(given)
-        ways = [f"--to={HOST}:{port}", f"--token={token}", f"--address={address}", f"--peer={peer}", f"--secret={secret or self.secret}"]
+        ways = [f"--to={host}:{port}", f"--token={token}", f"--address={address}", f"--peer={peer}", f"--secret={secret or self.secret}"]
         return self.start("send", [*ways, *words], given=given, **how)
 
     def peer(self, handle):

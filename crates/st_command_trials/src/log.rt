@@ -13,6 +13,14 @@ use std::process::Abort;
 /// The moment of 2026-01-02 03:04:05.006 UTC.
 const MOMENT: i64 = 1_767_323_045_006;
 
+/// A connection that was cut.
+fn cut() -> Event<'static> {
+    Event::Connection {
+        lost: Lost::Cut,
+        from: "192.0.2.1:5",
+    }
+}
+
 /// Whether the line of an event at a moment is this text.
 fn is_line(alloc: Global, millis: i64, event: &Event<'_>, text: &str) -> bool {
     let Some(moment) = Moment::new(millis) else {
@@ -87,15 +95,19 @@ fn what_is_left_out_is_told(rt: HostRuntime) {
     let later = Moment::new(MOMENT + 1_000).unwrap();
     if let Ok(journal) = Journal::new(alloc, Faulty::sound(&mut text), AlwaysReady, 3) {
         for _ in 0..13u32 {
-            journal.note(&rt, moment, 3, &Event::Connection(Lost::Cut));
+            journal.note(&rt, moment, 3, &cut());
         }
-        journal.note(&rt, moment, 2, &Event::Connection(Lost::Status(401)));
+        let refused = Event::Connection {
+            lost: Lost::Status(401),
+            from: "192.0.2.1:5",
+        };
+        journal.note(&rt, moment, 2, &refused);
         journal.catch_up(&rt, later);
         sure!(&rt; !journal.has_failed());
     }
     let lines = text.iter().filter(|byte| **byte == b'\n').count();
     sure!(&rt; lines == 12);
-    let last = b"2026-01-02T03:04:06.006Z more neighbour=3 event=connection count=3\n";
+    let last = b"2026-01-02T03:04:06.006Z more event=connection count=3\n";
     sure!(&rt; text.ends_with(last.as_slice()));
 }
 
@@ -139,12 +151,12 @@ fn a_line_that_would_wait_is_left_out(rt: HostRuntime) {
     let busy = Busy { left: Cell::new(3) };
     if let Ok(journal) = Journal::new(alloc, Faulty::sound(&mut text), busy, 0) {
         for _ in 0..3u32 {
-            journal.note(&rt, moment, 0, &Event::Connection(Lost::Cut));
+            journal.note(&rt, moment, 0, &cut());
         }
         sure!(&rt; !journal.has_failed());
     }
     let lines =
-        b"2026-01-02T03:04:05.006Z more neighbour=0 event=connection count=2\n2026-01-02T03:04:05.006Z connection cut\n";
+        b"2026-01-02T03:04:05.006Z more event=connection count=2\n2026-01-02T03:04:05.006Z connection cut from=\"192.0.2.1:5\"\n";
     sure!(&rt; text.as_slice() == lines.as_slice());
 }
 

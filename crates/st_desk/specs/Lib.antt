@@ -3,3 +3,4 @@ pub mod Desk
 pub mod Stored
 pub mod Answers
 pub mod Links
+pub mod Deadlines

@@ -1,6 +1,7 @@
 //! How one thread serves a hop.
 
-ghost use Rattle.std.specs.Prelude.{◌≡◌, IfOk};
+ghost use Rattle.std.specs.Prelude.{◌≡◌, ◌≤ℤ◌, ◌<ℤ◌, pos, IfOk};
+ghost use Rattle.st_desk.specs.Deadlines.{deadline};
 
 use crate::desk::{AccountShares, Arrived, HopDesk};
 use crate::error::DeskError;
@@ -48,9 +49,21 @@ fn t00<C: Ledger, D: Ledger, A: Allocator + Copy>(
     desk.lock(rt).copy_of_t00()
 }
 
-/// The moment from which on an answer to this ticket's Prepare is too late; `now` where the ticket says none.
-fn deadline_of(ticket: &Ticket, now: Moment) -> Moment {
-    Moment::new(ticket.read().expiry).unwrap_or(now)
+/// The last `Moment`, in milliseconds since the start of 1970.
+const LAST: i64 = 253_402_300_000_000;
+
+/// The moment from which on an answer to this ticket's Prepare is too late: its expiry, and the last `Moment` where the expiry
+/// is later than that. `now` where the expiry is before 1970.
+fn deadline_of(ticket: &Ticket, now: Moment) -> Moment
+    ensures lesser { pos 0 ≤ℤ ticket.now.expiry → result ≡ deadline ticket.now.expiry }
+    ensures before_1970 { ticket.now.expiry <ℤ pos 0 → result ≡ now }
+{
+    let expiry = ticket.read().expiry;
+    let by = if expiry <= LAST { expiry } else { LAST };
+    match Moment::new(by) {
+        Some(by) => by,
+        None => now,
+    }
 }
 
 /// How a Prepare was answered.

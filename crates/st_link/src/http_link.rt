@@ -2,19 +2,22 @@
 
 ghost use Rattle.std.specs.Prelude.{◌≡◌, true, IfErr, IfOk, IsErrOf, IsTrue, OnErr, OnOk, None, Some};
 ghost use Rattle.st_desk.specs.declared.link.LinkFault.TheVariants.{Device};
+ghost use Rattle.std.specs.Duration.{as_nanos};
 ghost use Rattle.st_http.specs.Texts as texts;
-ghost use Rattle.st_link.specs.Links.{IsTimeUntil, caused_fault, fault_of};
+ghost use Rattle.st_link.specs.Links.{IsTimeUntil, caused_fault, fault_of, share};
 ghost use Rattle.st_link.specs.declared.cause.LinkCause as causes;
+ghost use Rattle.st_link.specs.declared.cause.Unreached.TheVariants.{Other};
 ghost use Rattle.st_oer.specs.Faults.{Rose};
 
 use crate::buffered::Buffered;
-use crate::cause::LinkCause;
+use crate::cause::{LinkCause, Unreached, is_out_of_descriptors};
 use crate::timed::{Timed, deadline_in, left_until};
 use st_desk::{Link, LinkFault};
 use st_http::{HttpError, exchange};
 use st_ilp::Moment;
 use st_oer::{Counted, Counting};
 use std::alloc::{AllocError, Allocator, Global};
+use std::io;
 use std::io::{Read, Write};
 use std::marker::Model;
 use std::net::{Net, OpenStream, SocketAddr, TcpStream, ToSocketAddrs};
@@ -22,6 +25,9 @@ use std::time::{Clock, Duration, Instant};
 
 /// How many seconds an exchange or a served request may take as a whole: as long as a Prepare of an end may take.
 pub const ANSWER_SECONDS: u64 = 30;
+
+/// How many seconds an address of a host may take to take a connection, where another one is left.
+pub const ADDRESS_SECONDS: u64 = 3;
 
 /// Where a neighbour is reached, and the token that it knows this side by.
 #[derive(Drop)]
@@ -75,7 +81,7 @@ fn caused_fault(cause: LinkCause) -> LinkFault
     ensures { result ≡ caused_fault cause }
 {
     match cause {
-        LinkCause::Unreached => LinkFault::Peer,
+        LinkCause::Unreached(_) => LinkFault::Peer,
         LinkCause::NoMemory => LinkFault::NoMemory,
         LinkCause::Http(error) => fault_of(error),
     }
@@ -89,6 +95,20 @@ fn time_until(now: Duration, by: Moment) -> Option<Duration>
     let end = Duration::from_millis(by.ms() as u64);
     let left = end.checked_sub(now)?;
     Some(left.min(Duration::from_secs(ANSWER_SECONDS)))
+}
+
+/// How long one address of a host may take to take a connection, of the time that is left, where it is the first of so many
+/// that are not tried yet: the last all of that time, each other its share, and 3 seconds at most.
+fn share_of(left: Duration, addresses: u32) -> Duration
+    ensures { as_nanos result ≡ share (as_nanos left) addresses }
+{
+    if addresses <= 1 {
+        return left;
+    }
+    match left.checked_div(addresses) {
+        Some(share) => share.min(Duration::from_secs(ADDRESS_SECONDS)),
+        None => left,
+    }
 }
 
 impl<A: Allocator + Copy> Neighbour<A> {
@@ -178,28 +198,69 @@ impl<'n, N: Net + Clock, A: Allocator + Copy> HttpLink<'n, N, A> {
         self.address
     }
 
-    /// Has the next exchange connect to this address first, in place of resolving the host's name.
+    /// Has the next exchange try this address first, before the host's name is resolved.
     pub fn set_address(&mut self, address: Option<SocketAddr>)
         ensures { self.new ≡ record self.old { address = address } }
     {
         self.address = address;
     }
 
-    /// A connection to the neighbour before the deadline, and its address: the one that was kept, or else the first of those
-    /// that the host's name is resolved to that takes a connection.
-    fn connect(&self, host: &str, deadline: Option<Instant>) -> Option<(N::Stream, SocketAddr)> {
-        if let Some(address) = self.address {
-            let left = left_until(self.net, deadline)?;
-            let stream = TcpStream::connect_timeout(self.net, &address, left).ok()?;
-            return Some((stream, address));
+    /// A connection to an address before the deadline, where it is the first of so many that are not tried yet.
+    fn connect_to(
+        &self,
+        address: SocketAddr,
+        deadline: Option<Instant>,
+        addresses: u32,
+    ) -> Result<(N::Stream, SocketAddr), Unreached> {
+        let Some(left) = left_until(self.net, deadline) else {
+            return Err(Unreached::Timeout);
+        };
+        match TcpStream::connect_timeout(self.net, &address, share_of(left, addresses)) {
+            Ok(stream) => Ok((stream, address)),
+            Err(error) => Err(Unreached::by(&error)),
         }
-        for address in host.to_socket_addrs(self.net).ok()? {
-            let left = left_until(self.net, deadline)?;
-            if let Ok(stream) = TcpStream::connect_timeout(self.net, &address, left) {
-                return Some((stream, address));
+    }
+
+    /// Why a name did not resolve. The resolver takes a file descriptor, and does not always say that there was none.
+    fn unresolved_by(&self, error: &io::Error) -> Unreached {
+        let is_short = is_out_of_descriptors(error)
+            || match self.net.unix_socket() {
+                Ok(_) => false,
+                Err(error) => is_out_of_descriptors(&error),
+            };
+        if is_short {
+            Unreached::Descriptors
+        } else {
+            Unreached::Name
+        }
+    }
+
+    /// A connection to the neighbour before the deadline, and its address: the one that was kept where it takes a connection,
+    /// or else the first that does of those that the host's name is resolved to.
+    fn connect(
+        &self,
+        host: &str,
+        deadline: Option<Instant>,
+    ) -> Result<(N::Stream, SocketAddr), Unreached> {
+        if let Some(address) = self.address
+            && let Ok(made) = self.connect_to(address, deadline, 2)
+        {
+            return Ok(made);
+        }
+        let found = match host.to_socket_addrs(self.net) {
+            Ok(found) => found,
+            Err(error) => return Err(self.unresolved_by(&error)),
+        };
+        let mut addresses = u32::try_from(found.len()).unwrap_or(u32::MAX);
+        let mut why = Unreached::Name;
+        for address in found {
+            match self.connect_to(address, deadline, addresses) {
+                Ok(made) => return Ok(made),
+                Err(one) => why = one,
             }
+            addresses = addresses.saturating_sub(1);
         }
-        None
+        Err(why)
     }
 
     /// When an exchange has to be done: 30 seconds from now, or at `by` where that is sooner.
@@ -210,14 +271,15 @@ impl<'n, N: Net + Clock, A: Allocator + Copy> HttpLink<'n, N, A> {
 
     /// One exchange over a connection of its own, and the address that it was made to.
     fn exchange_once(&self, bytes: &[u8], by: Moment) -> Result<(Vec<u8, A>, SocketAddr), LinkCause>
-        ensures nowhere { self.now.neighbour ≡ None → IsErrOf result LinkCause.Unreached }
+        ensures nowhere { self.now.neighbour ≡ None → IsErrOf result (LinkCause.Unreached Other) }
     {
         let Some(neighbour) = &self.neighbour else {
-            return Err(LinkCause::Unreached);
+            return Err(LinkCause::Unreached(Unreached::Other));
         };
         let deadline = self.deadline(by);
-        let Some((stream, address)) = self.connect(neighbour.host.as_str(), deadline) else {
-            return Err(LinkCause::Unreached);
+        let (stream, address) = match self.connect(neighbour.host.as_str(), deadline) {
+            Ok(made) => made,
+            Err(why) => return Err(LinkCause::Unreached(why)),
         };
         let _ = stream.set_nodelay(true);
         let timed = Timed::until(stream, self.net, deadline);

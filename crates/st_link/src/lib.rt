@@ -8,6 +8,6 @@ mod http_link;
 mod timed;
 
 pub use buffered::Buffered;
-pub use cause::LinkCause;
-pub use http_link::{ANSWER_SECONDS, HttpLink};
+pub use cause::{LinkCause, Unreached};
+pub use http_link::{ADDRESS_SECONDS, ANSWER_SECONDS, HttpLink};
 pub use timed::{Timed, deadline_in, left_until};

@@ -7,7 +7,7 @@ use Rattle.std.proofs.lemmas.List.Folds.{list_all-append}
 use Rattle.st_ilp.specs.Calendar.{DateAndTime, date_and_time}
 use Rattle.st_ilp.specs.Expiry.{digit}
 use Rattle.st_log.specs.Quoting.{is_plain, hex_digit, hex_escape, escaped, all_escaped, quoted}
-use Rattle.st_log.specs.Lines.{◌⧺◌, written_date, date_text, word_of, plain_cause_text, reject_front, reject_back, exchange_text, start_text, waits_text, account_front, account_back, event_text, line_text}
+use Rattle.st_log.specs.Lines.{◌⧺◌, written_date, date_text, word_of, unreached_word, plain_cause_text, reject_front, reject_back, exchange_text, start_text, waits_text, connection_text, account_front, account_back, is_of_neighbour, neighbours_more_text, nobodys_more_text, more_text, event_text, line_text}
 use Rattle.st_log.specs.Laws.{has_no_newline, EndsByItsOneNewline, LineHasOneNewline}
 use Rattle.st_log.specs.declared.event.Event.{Event}
 use Rattle.st_log.specs.declared.event.Event.TheVariants as event
@@ -16,6 +16,9 @@ use Rattle.st_log.specs.declared.event.Start.TheVariants as start
 use Rattle.st_log.specs.declared.event.AccountCounts.{AccountCounts}
 use Rattle.st_log.specs.declared.event.Cause.{Cause}
 use Rattle.st_log.specs.declared.event.Cause.TheVariants as cause
+use Rattle.st_log.specs.declared.event.Unreached.{Unreached}
+use Rattle.st_log.specs.declared.event.Unreached.TheVariants as unreached
+use Rattle.st_log.specs.declared.event.Lost.{Lost}
 use Rattle.st_log.specs.declared.event.Lost.TheVariants as lost
 use Rattle.st_log.specs.declared.event.Blocked.{Blocked}
 use Rattle.st_log.specs.declared.event.Blocked.TheVariants as blocked
@@ -166,6 +169,13 @@ word_number : (text word next : List ℕ) (n : ℕ) → has_no_newline text ≡ 
 word_number text word next n h i j =
     more text (word ⧺ next ⧺ decimal n ⧺ 10 ∷ []) (record { is = h }) (more word (next ⧺ decimal n ⧺ 10 ∷ []) (record { is = i }) (number next n (10 ∷ []) j ends))
 
+unreached_clean : (why : Unreached) → has_no_newline (unreached_word why) ≡ true
+unreached_clean unreached.Other = refl
+unreached_clean unreached.Descriptors = refl
+unreached_clean unreached.Name = refl
+unreached_clean unreached.Refused = refl
+unreached_clean unreached.Timeout = refl
+
 plain : (n : ℕ) (word : List ℕ) → has_no_newline word ≡ true → EndsByItsOneNewline (plain_cause_text n word)
 plain n word h =
     number (codes "exchange neighbour=") n (codes " cause=" ⧺ word ⧺ 10 ∷ []) refl
@@ -184,7 +194,7 @@ reject n code by message =
 exchange_ends : (n : ℕ) (c : Cause) → EndsByItsOneNewline (exchange_text n c)
 exchange_ends n (cause.Link fault None) = link n fault (10 ∷ []) ends
 exchange_ends n (cause.Link fault (Some status)) = link n fault _ (number (codes " status=") status (10 ∷ []) refl ends)
-exchange_ends n cause.Unreached = plain n (codes "unreached") refl
+exchange_ends n (cause.Unreached why) = plain n (unreached_word why) (unreached_clean why)
 exchange_ends n (cause.Reject code by message) = reject n code by.now message.now
 exchange_ends n cause.Unfit = plain n (codes "fulfillment") refl
 exchange_ends n cause.Unreadable = plain n (codes "answer") refl
@@ -209,6 +219,21 @@ waits_ends (blocked.StreamMoney stream receive_max total) =
     number (codes "waits at=stream-money stream=") stream _ refl (number (codes " receive_max=") receive_max _ refl
     (number (codes " total=") total (10 ∷ []) refl ends))
 
+connection_ends : (l : Lost) (from : List ℕ) → EndsByItsOneNewline (connection_text l from)
+connection_ends (lost.Status status) from = number (codes "connection status=") status _ refl (said (codes " from=") from (10 ∷ []) refl ends)
+connection_ends lost.Cut from = said (codes "connection cut from=") from (10 ∷ []) refl ends
+
+either_ends : (t : Bool) (a b : List ℕ) → EndsByItsOneNewline a → EndsByItsOneNewline b → EndsByItsOneNewline (cond t a b)
+either_ends true a b x y = x
+either_ends false a b x y = y
+
+more_ends : (n : ℕ) (k : Kind) (count : ℕ) → EndsByItsOneNewline (more_text n k count)
+more_ends n k count =
+    let told = word_number (codes " event=") (word_of k) (codes " count=") count refl (word_clean k) refl in
+    let one = number (codes "more neighbour=") n _ refl told in
+    let other = word_number (codes "more event=") (word_of k) (codes " count=") count refl (word_clean k) refl in
+    either_ends (is_of_neighbour k) (neighbours_more_text n k count) (nobodys_more_text k count) one other
+
 account : (n : ℕ) (t : AccountCounts) → EndsByItsOneNewline (account_front n t ⧺ account_back t)
 account n t =
     more (account_front n t) (account_back t)
@@ -223,8 +248,7 @@ event_ends n (event.Exchange c) = exchange_ends n c
 event_ends n (event.Refused code None) = number (codes "refused neighbour=") n _ refl (coded (codes " code=") code (10 ∷ []) refl ends)
 event_ends n (event.Refused code (Some reason)) =
     number (codes "refused neighbour=") n _ refl (coded (codes " code=") code _ refl (number (codes " reason=") reason (10 ∷ []) refl ends))
-event_ends n (event.Connection (lost.Status status)) = number (codes "connection status=") status (10 ∷ []) refl ends
-event_ends n (event.Connection lost.Cut) = more (codes "connection cut") (10 ∷ []) (record { is = refl }) ends
+event_ends n (event.Connection l from) = connection_ends l from.now
 event_ends n (event.Limit most) = number (codes "limit neighbour=") n _ refl (number (codes " most=") most (10 ∷ []) refl ends)
 event_ends n (event.Waits b) = waits_ends b
 event_ends n (event.Clock back) = number (codes "clock set_back_ms=") back (10 ∷ []) refl ends
@@ -237,8 +261,7 @@ event_ends n (event.End t) =
 event_ends n (event.Account t) = account n t
 event_ends n (event.Rejects code count) =
     number (codes "totals neighbour=") n _ refl (coded (codes " code=") code _ refl (number (codes " rejected=") count (10 ∷ []) refl ends))
-event_ends n (event.More k count) =
-    number (codes "more neighbour=") n _ refl (word_number (codes " event=") (word_of k) (codes " count=") count refl (word_clean k) refl)
+event_ends n (event.More k count) = more_ends n k count
 event_ends n event.Done = more (codes "end ok") (10 ∷ []) (record { is = refl }) ends
 event_ends n (event.Failed fault words) = number (codes "end fault=") fault _ refl (said (codes " words=") words.now (10 ∷ []) refl ends)
 

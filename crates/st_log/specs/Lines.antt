@@ -1,5 +1,5 @@
 -- The line of each event.
-use Rattle.std.specs.Prelude.{ℕ, ℤ, ◌/◌, List, [], ◌∷◌, ◌++◌, codes, decimal, Some, None}
+use Rattle.std.specs.Prelude.{ℕ, ℤ, ◌/◌, Bool, true, false, if◌then◌else◌, List, [], ◌∷◌, ◌++◌, codes, decimal, Some, None}
 use Rattle.st_ilp.specs.Calendar.{DateAndTime, date_and_time}
 use Rattle.st_ilp.specs.Expiry.{digit}
 use Rattle.st_log.specs.Quoting.{all_escaped, quoted}
@@ -9,6 +9,8 @@ use Rattle.st_log.specs.declared.event.Start.{Start}
 use Rattle.st_log.specs.declared.event.Start.TheVariants as start
 use Rattle.st_log.specs.declared.event.Cause.{Cause}
 use Rattle.st_log.specs.declared.event.Cause.TheVariants as cause
+use Rattle.st_log.specs.declared.event.Unreached.{Unreached}
+use Rattle.st_log.specs.declared.event.Unreached.TheVariants as unreached
 use Rattle.st_log.specs.declared.event.Lost.{Lost}
 use Rattle.st_log.specs.declared.event.Lost.TheVariants as lost
 use Rattle.st_log.specs.declared.event.Blocked.{Blocked}
@@ -46,7 +48,7 @@ abbrev pub kind_of : Event → Kind
 kind_of (event.Start s) = kind.Start
 kind_of (event.Exchange c) = kind.Exchange
 kind_of (event.Refused code reason) = kind.Refused
-kind_of (event.Connection l) = kind.Connection
+kind_of (event.Connection l from) = kind.Connection
 kind_of (event.Limit most) = kind.Limit
 kind_of (event.Waits b) = kind.Waits
 kind_of (event.Clock back) = kind.Clock
@@ -125,10 +127,18 @@ reject_back by message = codes "triggered_by=" ⧺ quoted by ⧺ codes " message
 abbrev pub plain_cause_text : (n : ℕ) → (word : List ℕ) → List ℕ
 plain_cause_text n word = codes "exchange neighbour=" ⧺ decimal n ⧺ codes " cause=" ⧺ word ⧺ 10 ∷ []
 
+-- why no connection was made, in a word
+abbrev pub unreached_word : Unreached → List ℕ
+unreached_word unreached.Other = codes "unreached"
+unreached_word unreached.Descriptors = codes "descriptors"
+unreached_word unreached.Name = codes "name"
+unreached_word unreached.Refused = codes "refused"
+unreached_word unreached.Timeout = codes "timeout"
+
 abbrev pub exchange_text : (n : ℕ) → Cause → List ℕ
 exchange_text n (cause.Link fault None) = link_text n fault
 exchange_text n (cause.Link fault (Some status)) = status_text n fault status
-exchange_text n cause.Unreached = plain_cause_text n (codes "unreached")
+exchange_text n (cause.Unreached why) = plain_cause_text n (unreached_word why)
 exchange_text n (cause.Reject code by message) = reject_front n code ⧺ reject_back by.now message.now
 exchange_text n cause.Unfit = plain_cause_text n (codes "fulfillment")
 exchange_text n cause.Unreadable = plain_cause_text n (codes "answer")
@@ -141,9 +151,10 @@ abbrev pub reason_text : (n : ℕ) → (code : List ℕ) → (reason : ℕ) → 
 reason_text n code reason =
     codes "refused neighbour=" ⧺ decimal n ⧺ codes " code=" ⧺ all_escaped code ⧺ codes " reason=" ⧺ decimal reason ⧺ 10 ∷ []
 
-abbrev pub connection_text : Lost → List ℕ
-connection_text (lost.Status status) = codes "connection status=" ⧺ decimal status ⧺ 10 ∷ []
-connection_text lost.Cut = codes "connection cut\n"
+-- from is the address of the other side
+abbrev pub connection_text : Lost → (from : List ℕ) → List ℕ
+connection_text (lost.Status status) from = codes "connection status=" ⧺ decimal status ⧺ codes " from=" ⧺ quoted from ⧺ 10 ∷ []
+connection_text lost.Cut from = codes "connection cut from=" ⧺ quoted from ⧺ 10 ∷ []
 
 abbrev pub limit_text : (n most : ℕ) → List ℕ
 limit_text n most = codes "limit neighbour=" ⧺ decimal n ⧺ codes " most=" ⧺ decimal most ⧺ 10 ∷ []
@@ -183,8 +194,23 @@ account_back t = codes "fulfilled=" ⧺ decimal t.fulfilled ⧺ codes " rejected
 abbrev pub rejects_text : (n : ℕ) → (code : List ℕ) → (count : ℕ) → List ℕ
 rejects_text n code count = codes "totals neighbour=" ⧺ decimal n ⧺ codes " code=" ⧺ all_escaped code ⧺ codes " rejected=" ⧺ decimal count ⧺ 10 ∷ []
 
+-- whether an event of this kind is about a neighbour: anybody may connect
+abbrev pub is_of_neighbour : Kind → Bool
+is_of_neighbour kind.Exchange = true
+is_of_neighbour kind.Refused = true
+is_of_neighbour kind.Limit = true
+is_of_neighbour kind.Totals = true
+is_of_neighbour k = false
+
+abbrev pub neighbours_more_text : (n : ℕ) → Kind → (count : ℕ) → List ℕ
+neighbours_more_text n k count =
+    codes "more neighbour=" ⧺ decimal n ⧺ codes " event=" ⧺ word_of k ⧺ codes " count=" ⧺ decimal count ⧺ 10 ∷ []
+
+abbrev pub nobodys_more_text : Kind → (count : ℕ) → List ℕ
+nobodys_more_text k count = codes "more event=" ⧺ word_of k ⧺ codes " count=" ⧺ decimal count ⧺ 10 ∷ []
+
 abbrev pub more_text : (n : ℕ) → Kind → (count : ℕ) → List ℕ
-more_text n k count = codes "more neighbour=" ⧺ decimal n ⧺ codes " event=" ⧺ word_of k ⧺ codes " count=" ⧺ decimal count ⧺ 10 ∷ []
+more_text n k count = if is_of_neighbour k then neighbours_more_text n k count else nobodys_more_text k count
 
 abbrev pub failed_text : (fault : ℕ) → (words : List ℕ) → List ℕ
 failed_text fault words = codes "end fault=" ⧺ decimal fault ⧺ codes " words=" ⧺ quoted words ⧺ 10 ∷ []
@@ -194,7 +220,7 @@ event_text n (event.Start s) = start_text s
 event_text n (event.Exchange c) = exchange_text n c
 event_text n (event.Refused code None) = refused_text n code
 event_text n (event.Refused code (Some reason)) = reason_text n code reason
-event_text n (event.Connection l) = connection_text l
+event_text n (event.Connection l from) = connection_text l from.now
 event_text n (event.Limit most) = limit_text n most
 event_text n (event.Waits b) = waits_text b
 event_text n (event.Clock back) = clock_text back

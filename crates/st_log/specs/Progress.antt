@@ -1,7 +1,7 @@
 -- The line that shows on a terminal how far a transfer is.
 use Rattle.std.specs.Prelude.{ℕ, ◌*◌, ◌/◌, ◌==◌, min, if◌then◌else◌, List, [], ◌∷◌, codes, decimal, Option, Some, None}
 use Rattle.st_log.specs.Quoting.{all_escaped}
-use Rattle.st_log.specs.Lines.{◌⧺◌}
+use Rattle.st_log.specs.Lines.{◌⧺◌, unreached_word}
 use Rattle.st_log.specs.declared.event.Cause.{Cause}
 use Rattle.st_log.specs.declared.event.Cause.TheVariants as cause
 use Rattle.st_log.specs.declared.progress.Brief.{Brief}
@@ -19,7 +19,7 @@ rate bytes millis = if millis == 0 then 0 else bytes * 1000 / millis
 -- a cause without the texts of a peer
 abbrev pub brief_of : Cause → Brief
 brief_of (cause.Link fault status) = brief.Link fault status
-brief_of cause.Unreached = brief.Unreached
+brief_of (cause.Unreached why) = brief.Unreached why
 brief_of (cause.Reject code by message) = brief.Reject code
 brief_of cause.Unfit = brief.Unfit
 brief_of cause.Unreadable = brief.Unreadable
@@ -35,7 +35,7 @@ failure_text None = []
 failure_text (Some (brief.Link fault None)) = codes " (last failure: link fault " ⧺ decimal fault ⧺ codes ")"
 failure_text (Some (brief.Link fault (Some status))) =
     codes " (last failure: link fault " ⧺ decimal fault ⧺ codes " status " ⧺ decimal status ⧺ codes ")"
-failure_text (Some brief.Unreached) = codes " (last failure: unreached)"
+failure_text (Some (brief.Unreached why)) = codes " (last failure: " ⧺ unreached_word why ⧺ codes ")"
 failure_text (Some (brief.Reject code)) = codes " (last failure: reject " ⧺ all_escaped code ⧺ codes ")"
 failure_text (Some brief.Unfit) = codes " (last failure: fulfillment)"
 failure_text (Some brief.Unreadable) = codes " (last failure: answer)"

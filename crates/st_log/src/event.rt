@@ -19,7 +19,12 @@ pub enum Event<'a> {
         reason: Option<u8>,
     },
     /// A connection brought no request that is answered.
-    Connection(Lost),
+    Connection {
+        /// What became of it.
+        lost: Lost,
+        /// The address of its other side, as IP:PORT. Empty where it is not known.
+        from: &'a str,
+    },
     /// The neighbour found a packet too large (F08).
     Limit {
         /// The new packet limit, in units.
@@ -125,8 +130,8 @@ pub enum Cause<'a> {
         /// The status of the response, where it is not 200.
         status: Option<u16>,
     },
-    /// No connection to the neighbour could be made in time, or there is no place where it is reached.
-    Unreached,
+    /// No connection to the neighbour was made.
+    Unreached(Unreached),
     /// The answer is a Reject.
     Reject {
         /// Its code.
@@ -142,6 +147,21 @@ pub enum Cause<'a> {
     Unreadable,
     /// There was no memory for the exchange.
     NoMemory,
+}
+
+/// Why no connection to a neighbour was made.
+#[derive(Clone, Copy, Debug, PartialEq, Eq)]
+pub enum Unreached {
+    /// There is no place where the neighbour is reached, or the connection failed in another way.
+    Other,
+    /// The process has no free file descriptor.
+    Descriptors,
+    /// The name of the neighbour's host does not resolve.
+    Name,
+    /// The neighbour's host refused the connection: nothing listens there.
+    Refused,
+    /// No connection was made in time.
+    Timeout,
 }
 
 /// A limit of the peer at which an end waits: what it tells in a Blocked frame (RFC 0029, section 5.3).
@@ -252,7 +272,7 @@ impl Event<'_> {
             Event::Start(_) => Kind::Start,
             Event::Exchange(_) => Kind::Exchange,
             Event::Refused { .. } => Kind::Refused,
-            Event::Connection(_) => Kind::Connection,
+            Event::Connection { .. } => Kind::Connection,
             Event::Limit { .. } => Kind::Limit,
             Event::Waits(_) => Kind::Waits,
             Event::Clock { .. } => Kind::Clock,
@@ -261,6 +281,21 @@ impl Event<'_> {
             Event::End(_) | Event::Account(_) | Event::Rejects { .. } => Kind::Totals,
             Event::More { .. } => Kind::More,
             Event::Done | Event::Failed { .. } => Kind::End,
+        }
+    }
+}
+
+impl Unreached {
+    /// The word that the log has for it.
+    pub fn word(self) -> &'static str
+        ensures { result.now ≡ spec.unreached_word self }
+    {
+        match self {
+            Unreached::Other => "unreached",
+            Unreached::Descriptors => "descriptors",
+            Unreached::Name => "name",
+            Unreached::Refused => "refused",
+            Unreached::Timeout => "timeout",
         }
     }
 }
@@ -301,6 +336,16 @@ impl Kind {
             Kind::Waits => 10,
             Kind::Clock => 11,
         }
+    }
+
+    /// Whether such an event is about a neighbour: a connection is not, since anybody may connect.
+    pub(crate) fn is_of_neighbour(self) -> bool
+        ensures { result ≡ spec.is_of_neighbour self }
+    {
+        matches!(
+            self,
+            Kind::Exchange | Kind::Refused | Kind::Limit | Kind::Totals
+        )
     }
 
     /// The word with which the line of such an event begins.

@@ -16,7 +16,7 @@ mod progress;
 mod quote;
 mod text;
 
-pub use event::{AccountCounts, Blocked, Cause, EndCounts, Event, Kind, Lost, Start};
+pub use event::{AccountCounts, Blocked, Cause, EndCounts, Event, Kind, Lost, Start, Unreached};
 pub use journal::{AlwaysReady, Journal, Readiness};
 pub use laws::{events_are_counted, line_has_one_newline, ten_a_second};
 pub use pace::{LINES_A_SECOND, Left, Pace, Verdict};

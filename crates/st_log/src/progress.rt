@@ -4,7 +4,7 @@ ghost use Rattle.std.specs.Prelude.{◌≡◌, IfOk, Some, string_bytes};
 ghost use Rattle.st_log.specs.Progress as spec;
 ghost use Rattle.st_log.specs.declared.progress.Brief.TheVariants as brief;
 
-use crate::event::Cause;
+use crate::event::{Cause, Unreached};
 use crate::quote::code_text;
 use std::alloc::{AllocError, Global};
 
@@ -18,8 +18,8 @@ pub enum Brief {
         /// The status of the response, where it is not 200.
         status: Option<u16>,
     },
-    /// No connection to the neighbour could be made in time, or there is no place where it is reached.
-    Unreached,
+    /// No connection to the neighbour was made.
+    Unreached(Unreached),
     /// The answer is a Reject of this code.
     Reject([u8; 3]),
     /// The answer is a Fulfill that is not passed back.
@@ -52,7 +52,7 @@ impl Cause<'_> {
     {
         match *self {
             Cause::Link { fault, status } => Brief::Link { fault, status },
-            Cause::Unreached => Brief::Unreached,
+            Cause::Unreached(why) => Brief::Unreached(why),
             Cause::Reject { code, .. } => Brief::Reject(code),
             Cause::Unfit => Brief::Unfit,
             Cause::Unreadable => Brief::Unreadable,
@@ -104,6 +104,14 @@ fn link_text(alloc: Global, fault: u8, status: Option<u16>) -> Result<String, Al
     Ok(text)
 }
 
+fn unreached_text(alloc: Global, why: Unreached) -> Result<String, AllocError>
+    ensures { IfOk result (λ text. string_bytes text ≡ spec.failure_text (Some (brief.Unreached why))) }
+{
+    let word = why.word();
+    let text = format!(in alloc; " (last failure: {word})")?;
+    Ok(text)
+}
+
 fn reject_text(alloc: Global, code: &[u8; 3]) -> Result<String, AllocError>
     ensures { IfOk result (λ text. string_bytes text ≡ spec.failure_text (Some (brief.Reject code.now))) }
 {
@@ -118,7 +126,7 @@ fn failure_text(alloc: Global, last: Option<Brief>) -> Result<String, AllocError
     match last {
         None => Ok(String::new(alloc)),
         Some(Brief::Link { fault, status }) => link_text(alloc, fault, status),
-        Some(Brief::Unreached) => String::from_str(alloc, " (last failure: unreached)"),
+        Some(Brief::Unreached(why)) => unreached_text(alloc, why),
         Some(Brief::Reject(code)) => reject_text(alloc, &code),
         Some(Brief::Unfit) => String::from_str(alloc, " (last failure: fulfillment)"),
         Some(Brief::Unreadable) => String::from_str(alloc, " (last failure: answer)"),

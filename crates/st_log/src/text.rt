@@ -169,7 +169,7 @@ fn exchange_text(alloc: Global, neighbour: usize, cause: Cause<'_>) -> Result<St
             fault,
             status: Some(status),
         } => status_text(alloc, neighbour, fault, status),
-        Cause::Unreached => plain_cause_text(alloc, neighbour, "unreached"),
+        Cause::Unreached(why) => plain_cause_text(alloc, neighbour, why.word()),
         Cause::Reject { code, by, message } => reject_text(alloc, neighbour, &code, by, message),
         Cause::Unfit => plain_cause_text(alloc, neighbour, "fulfillment"),
         Cause::Unreadable => plain_cause_text(alloc, neighbour, "answer"),
@@ -198,16 +198,15 @@ fn reason_text(
     Ok(text)
 }
 
-fn connection_text(alloc: Global, lost: Lost) -> Result<String, AllocError>
-    ensures { IfOk result (λ text. string_bytes text ≡ spec.connection_text lost) }
+fn connection_text(alloc: Global, lost: Lost, from: &str) -> Result<String, AllocError>
+    ensures { IfOk result (λ text. string_bytes text ≡ spec.connection_text lost from.now) }
 {
-    match lost {
-        Lost::Status(status) => {
-            let text = format!(in alloc; "connection status={status}\n")?;
-            Ok(text)
-        }
-        Lost::Cut => String::from_str(alloc, "connection cut\n"),
-    }
+    let from = quoted(alloc, from.as_bytes())?;
+    let text = match lost {
+        Lost::Status(status) => { format!(in alloc; "connection status={status} from={from}\n")? }
+        Lost::Cut => format!(in alloc; "connection cut from={from}\n")?,
+    };
+    Ok(text)
 }
 
 fn limit_text(alloc: Global, neighbour: usize, most: u64) -> Result<String, AllocError>
@@ -347,7 +346,11 @@ fn more_text(alloc: Global, neighbour: usize, kind: Kind, count: u64) -> Result<
     ensures { IfOk result (λ text. string_bytes text ≡ spec.more_text neighbour kind count) }
 {
     let word = kind.word();
-    let text = format!(in alloc; "more neighbour={neighbour} event={word} count={count}\n")?;
+    let text = if kind.is_of_neighbour() {
+        format!(in alloc; "more neighbour={neighbour} event={word} count={count}\n")?
+    } else {
+        format!(in alloc; "more event={word} count={count}\n")?
+    };
     Ok(text)
 }
 
@@ -371,7 +374,7 @@ fn event_text(alloc: Global, neighbour: usize, event: &Event<'_>) -> Result<Stri
             code,
             reason: Some(reason),
         } => reason_text(alloc, neighbour, &code, reason),
-        Event::Connection(lost) => connection_text(alloc, lost),
+        Event::Connection { lost, from } => connection_text(alloc, lost, from),
         Event::Limit { most } => limit_text(alloc, neighbour, most),
         Event::Waits(blocked) => waits_text(alloc, blocked),
         Event::Clock { set_back } => clock_text(alloc, set_back),

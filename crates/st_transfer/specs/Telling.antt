@@ -4,6 +4,8 @@ use Rattle.st_http.specs.Errors.{number}
 use Rattle.st_link.specs.Links.{status_of}
 use Rattle.st_link.specs.declared.cause.LinkCause.{LinkCause}
 use Rattle.st_link.specs.declared.cause.LinkCause.TheVariants as link
+use Rattle.st_link.specs.declared.cause.Unreached as links
+use Rattle.st_link.specs.declared.cause.Unreached.TheVariants as from
 use Rattle.st_sender.specs.Answering.{f08}
 use Rattle.st_sender.specs.declared.notice.Blocked as sender
 use Rattle.st_sender.specs.declared.notice.Blocked.TheVariants as stops
@@ -13,13 +15,23 @@ use Rattle.st_log.specs.declared.event.Event.TheVariants as event
 use Rattle.st_log.specs.declared.event.Blocked.TheVariants as limit
 use Rattle.st_log.specs.declared.event.Cause.{Cause}
 use Rattle.st_log.specs.declared.event.Cause.TheVariants as cause
+use Rattle.st_log.specs.declared.event.Unreached.{Unreached}
+use Rattle.st_log.specs.declared.event.Unreached.TheVariants as unreached
 use Rattle.st_log.specs.declared.event.Lost.{Lost}
 use Rattle.st_log.specs.declared.event.Lost.TheVariants as lost
 
+-- why no connection was made
+abbrev pub unreached_told : links.Unreached → Unreached
+unreached_told from.Other = unreached.Other
+unreached_told from.Descriptors = unreached.Descriptors
+unreached_told from.Name = unreached.Name
+unreached_told from.Refused = unreached.Refused
+unreached_told from.Timeout = unreached.Timeout
+
 -- why an exchange brought no answer: the number of what HTTP refused, with the status where there is one
 abbrev pub cause_told : Option LinkCause → Cause
-cause_told None = cause.Unreached
-cause_told (Some link.Unreached) = cause.Unreached
+cause_told None = cause.Unreached unreached.Other
+cause_told (Some (link.Unreached why)) = cause.Unreached (unreached_told why)
 cause_told (Some link.NoMemory) = cause.NoMemory
 cause_told (Some (link.Http e)) = cause.Link (number e) (status_of (link.Http e))
 

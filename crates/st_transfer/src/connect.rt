@@ -126,7 +126,7 @@ impl<C: Ledger, D: Ledger, L, R: Net + Wait + Clock> Links<Global> for Ways<'_, 
             let by = earlier(self.latest, by);
             let (outcome, cause) = neighbourhood.exchange(self.rt, *alloc, account, bytes, by);
             self.came = came_of(&outcome);
-            self.is_unreached = cause == Some(LinkCause::Unreached);
+            self.is_unreached = matches!(cause, Some(LinkCause::Unreached(_)));
             self.sent = tell_outcome(self.rt, terms.log, account, &outcome, cause);
             return outcome;
         }
@@ -239,7 +239,7 @@ where
         ..
     } = common;
     match accept_next(rt, *listener) {
-        Ok(stream) => {
+        Ok((stream, from)) => {
             let Some(needed) = crew.take(rt) else {
                 return false;
             };
@@ -248,6 +248,7 @@ where
                 rt,
                 *alloc,
                 stream,
+                from,
                 terms.tokens,
                 server,
                 terms.turns,

@@ -20,7 +20,7 @@ use st_link::{ANSWER_SECONDS, Timed, deadline_in, left_until};
 use st_oer::{Counting, ReadTurn, read_turn};
 use std::alloc::Global;
 use std::io::{Read, Write};
-use std::net::OpenStream;
+use std::net::{OpenStream, SocketAddr};
 use std::thread;
 use std::time::{Clock, Duration, Instant};
 
@@ -47,6 +47,8 @@ enum Step {
 pub(crate) struct Guest<'a, S, R: Clock> {
     /// By which `poll` waits for it, where it can.
     descriptor: Option<i32>,
+    /// The address of its other side.
+    from: SocketAddr,
     stream: Counting<Timed<'a, S, R>>,
     reading: Reading<'a, Global>,
     deadline: Option<Instant>,
@@ -262,11 +264,11 @@ where
         ensures fewer { self.new.left + vec_len self.new.guests ≤ self.old.left + vec_len self.old.guests }
     {
         let time = patience.left(self.rt).ok().flatten();
-        let stream = if self.guests.is_empty() {
+        let (stream, from) = if self.guests.is_empty() {
             accept_next(self.rt, self.listener)?
         } else {
             match self.listener.accept() {
-                Ok((stream, _)) => stream,
+                Ok(accepted) => accepted,
                 Err(_) => {
                     drop(self.guests.remove(0));
                     return Ok(());
@@ -277,19 +279,25 @@ where
         if self.guests.len() >= MOST_GUESTS {
             drop(self.guests.remove(0));
         }
-        let guest = self.guest_of(stream, time);
+        let guest = self.guest_of(stream, from, time);
         let _ = self.guests.push(guest);
         Ok(())
     }
 
     /// A connection of which nothing was read. Its request may take 30 seconds to arrive, and no longer than `time`.
-    fn guest_of(&self, stream: L::Stream, time: Option<Duration>) -> Guest<'a, L::Stream, R> {
+    fn guest_of(
+        &self,
+        stream: L::Stream,
+        from: SocketAddr,
+        time: Option<Duration>,
+    ) -> Guest<'a, L::Stream, R> {
         let _ = stream.set_nodelay(true);
         let most = Duration::from_secs(ANSWER_SECONDS);
         let time = time.map_or(most, |left| left.min(most));
         let answer = Duration::from_secs(WRITE_SECONDS);
         Guest {
             descriptor: L::descriptor_of(&stream),
+            from,
             stream: Counting::new(Timed::answering(stream, self.rt, time, answer)),
             reading: Reading::request(self.alloc, self.alloc, self.tokens),
             deadline: deadline_in(self.rt, time),
@@ -309,13 +317,15 @@ where
             Step::More => None,
             Step::Whole => Some(self.guests.remove(place)),
             Step::Refused(status) => {
-                self.guests.remove(place).refuse(self.alloc, status);
-                tell_connection(self.rt, self.log, Some(status));
+                let guest = self.guests.remove(place);
+                let from = guest.from;
+                guest.refuse(self.alloc, status);
+                tell_connection(self.rt, self.alloc, self.log, from, Some(status));
                 None
             }
             Step::Gone => {
-                drop(self.guests.remove(place));
-                tell_connection(self.rt, self.log, None);
+                let from = self.guests.remove(place).from;
+                tell_connection(self.rt, self.alloc, self.log, from, None);
                 None
             }
         }

@@ -7,7 +7,7 @@ use st_desk::Link;
 use st_hop::Outcome;
 use st_http::is_field_text;
 use st_ilp::Moment;
-use st_link::{HttpLink, LinkCause};
+use st_link::{HttpLink, LinkCause, Unreached};
 use std::alloc::{AllocError, Global};
 use std::net::{Net, SocketAddr};
 use std::sync::{Mutex, Wait};
@@ -101,7 +101,7 @@ impl<'a> Neighbourhood<'a> {
         by: Moment,
     ) -> (Outcome<Global>, Option<LinkCause>) {
         let Some(Some(neighbour)) = self.neighbours.get(account) else {
-            return (Outcome::Fault, Some(LinkCause::Unreached));
+            return (Outcome::Fault, Some(LinkCause::Unreached(Unreached::Other)));
         };
         let Ok(mut link) = link_to(alloc, rt, *neighbour, self.turns) else {
             return (Outcome::Fault, Some(LinkCause::NoMemory));

@@ -14,7 +14,7 @@ use st_link::{ANSWER_SECONDS, Buffered, Timed};
 use st_oer::Counting;
 use std::alloc::Global;
 use std::io::{ErrorKind, Read, Write};
-use std::net::{OpenListener, OpenStream};
+use std::net::{OpenListener, OpenStream, SocketAddr};
 use std::thread;
 use std::time::{Clock, Duration};
 
@@ -27,18 +27,18 @@ pub(crate) const PAUSE: u64 = 10;
 /// How many seconds there are at least to write an answer.
 pub(crate) const WRITE_SECONDS: u64 = 5;
 
-/// Accepts the next connection of a listener. Where that fails, for example because the process has no file descriptor
+/// Accepts the next connection of a listener, and gives the address of its other side. Where that fails, for example because the process has no file descriptor
 /// left, it tries again after 10 milliseconds. Fails with `Accept` after 100 failures in a row, or 10 milliseconds after the
 /// listener was found shut.
 pub(crate) fn accept_next<L: OpenListener>(
     rt: &impl Clock,
     listener: &L,
-) -> Result<L::Stream, TransferError>
+) -> Result<(L::Stream, SocketAddr), TransferError>
     ensures refused { IsOkUnless result Accept }
 {
     for _ in 0..TRIES {
         let is_shut = match listener.accept() {
-            Ok((stream, _)) => return Ok(stream),
+            Ok(accepted) => return Ok(accepted),
             Err(error) => error.kind() == ErrorKind::InvalidInput,
         };
         thread::sleep(rt, Duration::from_millis(PAUSE));
@@ -83,6 +83,7 @@ pub(crate) fn serve_on<S: Read + Write + OpenStream + Drop, T: Answerer>(
     rt: &impl Clock,
     alloc: Global,
     stream: S,
+    from: SocketAddr,
     tokens: &[&str],
     answerer: &mut T,
     turns: u64,
@@ -98,5 +99,5 @@ pub(crate) fn serve_on<S: Read + Write + OpenStream + Drop, T: Answerer>(
     };
     let mut stream = Counting::new(Watched::new(buffered));
     serve_stream(alloc, &mut stream, tokens, answerer, turns);
-    tell_connection(rt, log, stream.into_inner().status());
+    tell_connection(rt, alloc, log, from, stream.into_inner().status());
 }

@@ -1,8 +1,9 @@
 //! What is told to the log.
 
-ghost use Rattle.std.specs.Prelude.{◌≡◌, None};
+ghost use Rattle.std.specs.Prelude.{◌≡◌, IfOk, None, string_bytes};
+ghost use Rattle.std.specs.Net.Text.{socket_text};
 ghost use Rattle.st_log.specs.declared.progress.Brief.TheVariants.{Reject};
-ghost use Rattle.st_transfer.specs.Telling.{cause_told, lost_told};
+ghost use Rattle.st_transfer.specs.Telling.{cause_told, lost_told, unreached_told};
 
 use crate::clock::moment_now;
 use crate::error::TransferError;
@@ -10,9 +11,10 @@ use crate::journal::LogFile;
 use st_file::FileError;
 use st_hop::Outcome;
 use st_ilp::{Answer, read_answer};
-use st_link::LinkCause;
-use st_log::{Brief, Cause, Event, Lost};
-use std::alloc::Global;
+use st_link::{LinkCause, Unreached};
+use st_log::{Brief, Cause, Event, Lost, Unreached as Why};
+use std::alloc::{AllocError, Global};
+use std::net::SocketAddr;
 use std::time::Clock;
 
 /// The log of a run, where it has one.
@@ -71,6 +73,19 @@ pub(crate) fn refusal_of(answer: &[u8], reason: u8) -> Option<Refusal>
     }
 }
 
+/// Why no connection was made, as the log tells it.
+fn why_of(unreached: Unreached) -> Why
+    ensures { result ≡ unreached_told unreached }
+{
+    match unreached {
+        Unreached::Other => Why::Other,
+        Unreached::Descriptors => Why::Descriptors,
+        Unreached::Name => Why::Name,
+        Unreached::Refused => Why::Refused,
+        Unreached::Timeout => Why::Timeout,
+    }
+}
+
 /// Why an exchange brought no answer, as the log tells it.
 pub(crate) fn cause_of(cause: Option<LinkCause>) -> Cause<'static>
     ensures { result ≡ cause_told cause }
@@ -81,7 +96,8 @@ pub(crate) fn cause_of(cause: Option<LinkCause>) -> Cause<'static>
             status: LinkCause::Http(error).status(),
         },
         Some(LinkCause::NoMemory) => Cause::NoMemory,
-        Some(LinkCause::Unreached) | None => Cause::Unreached,
+        Some(LinkCause::Unreached(unreached)) => Cause::Unreached(why_of(unreached)),
+        None => Cause::Unreached(Why::Other),
     }
 }
 
@@ -198,10 +214,32 @@ pub(crate) fn tell_set_back<R: Clock>(rt: &R, log: Log<'_>, set_back: Option<u64
     }
 }
 
-/// Tells of a connection on which no request was answered.
-pub(crate) fn tell_connection<R: Clock>(rt: &R, log: Log<'_>, status: Option<u16>) {
+/// An address as IP:PORT. Fails where memory is refused.
+fn address_text(alloc: Global, address: SocketAddr) -> Result<String, AllocError>
+    ensures { IfOk result (λ text. string_bytes text ≡ socket_text address) }
+{
+    let text = format!(in alloc; "{address}")?;
+    Ok(text)
+}
+
+/// Reports a connection from this address on which no request was answered.
+pub(crate) fn tell_connection<R: Clock>(
+    rt: &R,
+    alloc: Global,
+    log: Log<'_>,
+    from: SocketAddr,
+    status: Option<u16>,
+) {
+    if log.is_none() {
+        return;
+    }
     if let Some(lost) = lost_by(status) {
-        tell(rt, log, 0, &Event::Connection(lost));
+        let text = address_text(alloc, from);
+        let from = match &text {
+            Ok(text) => text.as_str(),
+            Err(_) => "",
+        };
+        tell(rt, log, 0, &Event::Connection { lost, from });
     }
 }
 
