@@ -6,7 +6,7 @@ line counts the tests."""
 import fcntl, os, re, resource, select, signal, sys, threading, time
 
 from peers import HOST, SECRET, Full, answer, ended, free_port, fulfill, message, octets, prepare, request, asked
-from play import Wrong, main, some_bytes, table_to, test, want
+from play import Wrong, disk, main, some_bytes, stands, table_to, test, want
 
 DATE = r"\d{4}-\d\d-\d\dT\d\d:\d\d:\d\d\.\d{3}Z "
 
@@ -202,6 +202,28 @@ def a_message_forges_no_line(play):
     return fails(play, answering(play, reject(b"F00", b"test.x", text)).port, 58, FAILED, wanted)
 
 
+# A character, how it stands in a line, and how often it has room in 256 characters of the line.
+CHARACTERS = {"plain": ("x", "x", 256), "newline": ("\n", r"\x0a", 64), "accent": ("\u00e9", r"\xc3\xa9", 32), "face": ("\U0001f600", r"\xf0\x9f\x98\x80", 16)}
+
+
+@test(*[(name,) for name in CHARACTERS], waits=True)
+def a_message_of_65_kb_is_cut(play, name):
+    """As much as a body holds. Uncut it would be a line of up to 260 kB."""
+    character, escaped, count = CHARACTERS[name]
+    text = (character * 65_000).encode()[:65_000]
+    wanted = f'exchange neighbour=0 cause=reject code=F00 triggered_by="test.x" message="{escaped * count}.."'
+    peer = answering(play, reject(b"F00", b"test.x", text))
+    sender = play.send(peer.port, some_bytes(10_000), "--workers=2")
+    told = ended(sender, 60)
+    want(told == "58", f"send {told}")
+    with open(sender.log, "rb") as file:
+        longest = max(map(len, file))
+    want(longest < 1_200, f"a line of {longest} bytes")
+    seen = causes(sender)
+    want(wanted in seen and len(seen) == 2, f"log {seen}")
+    return f"the longest line has {longest} bytes"
+
+
 # The other side's log, of which a line is written once its answer was sent.
 
 
@@ -375,6 +397,134 @@ def a_reader_of_a_log_holds_nothing_up(play):
     told = f"{seconds[0]:.1f} seconds with a file, {seconds[1]:.1f} with a slow reader, {seconds[2]:.1f} with one that reads nothing"
     want(max(seconds[1:]) < 1.2 * seconds[0] + 2, told)
     return told
+
+
+@test(waits=True)
+def a_pipe_without_a_reader_stops_no_transfer(play):
+    """Nobody opens the pipe of the sender's log, nor that of the receiver's, nor the connector's."""
+    paths = [f"{play.room}/{name}" for name in ("sender", "hub", "receiver")]
+    for it in paths:
+        os.mkfifo(it)
+    content = some_bytes(50_000)
+    receiver = play.receive(log=paths[2])
+    hub = play.before(receiver, log=paths[1])
+    begun = time.monotonic()
+    sender = play.send(hub.port, content, log=paths[0])
+    told = ended(sender, 20), ended(receiver, 20)
+    want(told == ("0", "0"), f"send {told[0]}, receive {told[1]}")
+    with open(receiver.path, "rb") as file:
+        want(file.read() == content, "not all came")
+    stands(hub, "connector")
+    return f"{time.monotonic() - begun:.1f} seconds"
+
+
+@test(waits=True)
+def a_reader_that_comes_late_has_all_lines(play):
+    path = f"{play.room}/pipe"
+    os.mkfifo(path)
+    given, writer = play.pipe()
+    receiver = play.receive()
+    sender = play.send(receiver.port, given, log=path)
+    writer.write(bytes(1_000))
+    time.sleep(1)
+    with open(path, "rb") as log:
+        writer.close()
+        text = log.read()
+    told = ended(sender, 30), ended(receiver, 30)
+    want(told == ("0", "0"), f"send {told[0]}, receive {told[1]}")
+    want(re.fullmatch(rb"(?:%b[^\n]+\n)+" % DATE.encode(), text), f"log {text!r}")
+    seen = [it.split(b" ")[1] for it in text.splitlines()]
+    want(seen[0] == b"start" and text.endswith(b" end ok\n"), f"log {text!r}")
+    return f"{len(seen)} lines"
+
+
+@test(waits=True)
+def long_messages_and_a_silent_reader_stop_no_connector(play):
+    """The connector's log is a pipe of one page that nobody reads, and each answer on its way on has a message of 65 kB."""
+    path, _ = a_page(play, "page")
+    peer = answering(play, reject(b"T00", b"test.x", b"x" * 65_000))
+    hub = play.connector(table_to(peer.port), log=path)
+    begun = time.monotonic()
+    for number in range(40):
+        head, _ = asked((HOST, hub.port), request("t", prepare(1, 10, "test.b")), 5)
+        want(head.startswith(b"HTTP/1.1 200 "), f"answer {number}: {head!r}")
+    seconds = time.monotonic() - begun
+    want(seconds < 10, f"{seconds:.1f} seconds for 40 answers")
+    return f"40 answers in {seconds:.1f} seconds"
+
+
+def reads_on(file, found, over):
+    """Reads a pipe to a list until nobody has it open any more, or it is over."""
+    while not over.is_set():
+        if select.select([file], [], [], 0.05)[0]:
+            found.append(file.read(65_536) or b"")
+
+
+@test(waits=True)
+def what_finds_no_room_is_counted(play):
+    """130 accounts have ten packets refused each, and nobody reads: a page of the pipe is full, 1,024 lines wait, and the others are
+    lost. Once the pipe is read, whole lines come, and one that tells of those that were lost."""
+    path, file = a_page(play, "log")
+    hub = play.connector("".join(f"account 1 1 t{number} - -\n" for number in range(130)), log=path)
+    packet = prepare(1, 60, "test.nowhere")
+    for number in range(1_300):
+        head, _ = asked((HOST, hub.port), request(f"t{number % 130}", packet), 5)
+        want(head.startswith(b"HTTP/1.1 200 "), f"answer {number}: {head!r}")
+    found, over = [], threading.Event()
+    reader = threading.Thread(target=reads_on, args=[file, found, over])
+    reader.start()
+    until = time.monotonic() + 30
+    try:
+        while b"connection" not in b"".join(found) and time.monotonic() < until:
+            asked((HOST, hub.port), request("x", packet), 5)
+            time.sleep(0.1)
+    finally:
+        over.set()
+        reader.join()
+    text = b"".join(found).decode()
+    text = text[: text.rindex("\n") + 1]
+    want(re.fullmatch(rf"(?:{DATE}[^\n]+\n)+", text), "a line is not whole")
+    seen = [it.partition(" ")[2] for it in text.splitlines()]
+    lost = [int(it.removeprefix("more lost=")) for it in seen if it.startswith("more lost=")]
+    refused = sum(it.startswith("refused ") for it in seen)
+    at = next(place for place, it in enumerate(seen) if it.startswith("more lost="))
+    want(at >= 1_024, f"lost are told in line {at}")
+    others = sum(not it.startswith(("refused ", "more lost=", "start ", "totals ")) for it in seen[:at])
+    want(others == 0 and len(lost) == 1 and refused + lost[0] >= 1_300, f"{refused} lines, {lost} lost, {others} others")
+    return f"{refused} lines, {lost[0]} lost"
+
+
+@test(waits=True)
+def a_log_whose_disk_was_full_goes_on(play):
+    """The first line is cut where the disk is full. Once there is room, it is completed, and all lines since are written."""
+    place, within, seen = disk(play, "64k")
+    before = ("x" * 99 + "\n") * 40 + "y" * 65 + "\n"  # 30 bytes less than a page
+    with open(f"{seen}/log", "w", encoding="ascii") as file:
+        file.write(before)
+    with open(f"{seen}/filler", "wb", buffering=0) as file:
+        try:
+            while file.write(bytes(4_096)):
+                pass
+        except OSError:
+            pass
+    hub = play.connector(table_to(free_port()), program=within, log=f"{place}/log")
+    for _ in range(5):
+        asked((HOST, hub.port), request("x", b"\0"), 5)
+    with open(f"{seen}/log", encoding="ascii") as file:
+        full = file.read()
+    want(len(full) == 4_096 and full.startswith(before), f"the log has {len(full)} bytes on a full disk")
+    os.remove(f"{seen}/filler")
+    hub.log = f"{seen}/log"
+    asked((HOST, hub.port), request("x", b"\0"), 5)
+    until = time.monotonic() + 10
+    while time.monotonic() < until:
+        with open(hub.log, encoding="ascii") as file:
+            text = file.read().removeprefix(before)
+        if text.count("connection status=401\n") == 6:
+            break
+        time.sleep(0.05)
+    want(re.fullmatch(rf"{DATE}start [^\n]+\n(?:{DATE}connection status=401\n){{6}}", text), f"log {text!r}")
+    return "each line is whole"
 
 
 # What a terminal shows while a transfer runs.

@@ -3,11 +3,11 @@
 ledger.py [PROGRAM [WORD]] [--kills=N] [--seed=N]. With a WORD, only the tests whose names have it. Two neighbours in Python send
 each other Prepares through the connector and note which Fulfills they gave and took. Python's sqlite3 reads the books, from copies
 of both files. A line for each test says what was seen, or what is wrong; the last line counts them."""
-import collections, contextlib, itertools, os, random, re, shlex, shutil, socket, sqlite3, subprocess, threading, time
+import collections, contextlib, itertools, os, random, re, shutil, socket, sqlite3, subprocess, threading, time
 
 from peers import HOST, Peer, answer, ended, fields_at, free_port, fulfill, is_whole, listens, message, octets, prepare
 from peers import request, totals, use_up
-from play import PROGRAM, STAY, Skipped, Wrong, main, option, shared_object, some_bytes, stands, test, until_it_listens, want
+from play import PROGRAM, STAY, TOP, Skipped, Wrong, disk, main, option, shared_object, some_bytes, stands, test, until_it_listens, want
 
 KILLS = int(option("kills", "12"))
 SEED = option("seed", str(int(time.time())))
@@ -610,30 +610,6 @@ def a_read_of_the_books_fails(play):
     want(found, "no read was seen")
     hub.stop(it, listened=True)
     return f"112 for each of {len(found)}"
-
-
-def disk(play, size):
-    """A folder on a disk of its own, of this size, in a mount namespace that ends with the test: the folder's path there, a program
-    that is the tested one within it, and the path by which this process sees the folder."""
-    place = f"{play.room}/disk"
-    os.mkdir(place)
-    shell = f'mount -t tmpfs -o size={size} none "$1" && echo mounted && exec sleep 1000'
-    own = [] if os.getuid() == 0 else ["--user"]
-    ways = ["unshare", "--mount", *own, *["--map-root-user"] * len(own)]
-    try:
-        it = subprocess.Popen([*ways, "sh", "-c", shell, "sh", place], stdout=subprocess.PIPE, stderr=subprocess.PIPE)
-    except OSError as error:
-        raise Skipped(f"no unshare: {error}") from None
-    play.started.append(it)
-    with it.stdout as told:
-        if told.readline() != b"mounted\n":
-            raise Skipped(f"no disk of its own: {it.stderr.read().decode().strip()}")
-    within = f"{play.room}/within"
-    with open(within, "w", encoding="ascii") as script:
-        words = ["nsenter", f"--target={it.pid}", "--mount", *own, *["--preserve-credentials"] * len(own), PROGRAM]
-        script.write(f'#!/bin/sh\nexec {shlex.join(words)} "$@"\n')
-    os.chmod(within, 0o700)
-    return place, within, f"/proc/{it.pid}/root{place}"
 
 
 @test()

@@ -1,6 +1,6 @@
 """What tests of the real program start and share: a test's processes, with a folder of their own, that end with it; the list of
 the tests of a file; and how they are run and counted. A file of tests is called FILE.py [PROGRAM [WORD]]."""
-import os, pty, socket, subprocess, sys, tempfile, time
+import os, pty, shlex, socket, subprocess, sys, tempfile, time
 from concurrent.futures import ThreadPoolExecutor
 from itertools import chain
 
@@ -187,6 +187,30 @@ class Play:
             self.connect(port).close()
         except OSError:
             pass
+
+
+def disk(play, size):
+    """A folder on a disk of its own, of this size, in a mount namespace that ends with the test: the folder's path there, a program
+    that is the tested one within it, and the path by which this process sees the folder."""
+    place = f"{play.room}/disk"
+    os.mkdir(place)
+    shell = f'mount -t tmpfs -o size={size} none "$1" && echo mounted && exec sleep 1000'
+    own = [] if os.getuid() == 0 else ["--user"]
+    ways = ["unshare", "--mount", *own, *["--map-root-user"] * len(own)]
+    try:
+        it = subprocess.Popen([*ways, "sh", "-c", shell, "sh", place], stdout=subprocess.PIPE, stderr=subprocess.PIPE)
+    except OSError as error:
+        raise Skipped(f"no unshare: {error}") from None
+    play.started.append(it)
+    with it.stdout as told:
+        if told.readline() != b"mounted\n":
+            raise Skipped(f"no disk of its own: {it.stderr.read().decode().strip()}")
+    within = f"{play.room}/within"
+    with open(within, "w", encoding="ascii") as script:
+        words = ["nsenter", f"--target={it.pid}", "--mount", *own, *["--preserve-credentials"] * len(own), PROGRAM]
+        script.write(f'#!/bin/sh\nexec {shlex.join(words)} "$@"\n')
+    os.chmod(within, 0o700)
+    return place, within, f"/proc/{it.pid}/root{place}"
 
 
 def table_to(port):

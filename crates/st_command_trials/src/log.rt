@@ -2,12 +2,10 @@
 
 use crate::devices::Faulty;
 use st_ilp::Moment;
-use st_log::{
-    AlwaysReady, Blocked, Brief, Cause, Event, Journal, Lost, Progress, Readiness, line, shown,
-};
-use std::alloc::Global;
-use std::cell::Cell;
-use std::io::ErrorKind;
+use st_log::{Blocked, Brief, Cause, Event, Journal, Lost, Progress, line, shown};
+use std::alloc::{AllocError, Global};
+use std::io;
+use std::io::{ErrorKind, Write};
 use std::process::Abort;
 
 /// The moment of 2026-01-02 03:04:05.006 UTC.
@@ -17,6 +15,14 @@ const MOMENT: i64 = 1_767_323_045_006;
 fn cut() -> Event<'static> {
     Event::Connection {
         lost: Lost::Cut,
+        from: "192.0.2.1:5",
+    }
+}
+
+/// A connection whose request was refused.
+fn refused() -> Event<'static> {
+    Event::Connection {
+        lost: Lost::Status(401),
         from: "192.0.2.1:5",
     }
 }
@@ -93,15 +99,11 @@ fn what_is_left_out_is_told(rt: HostRuntime) {
     let mut text = Vec::new(alloc);
     let moment = Moment::new(MOMENT).unwrap();
     let later = Moment::new(MOMENT + 1_000).unwrap();
-    if let Ok(journal) = Journal::new(alloc, Faulty::sound(&mut text), AlwaysReady, 3) {
+    if let Ok(journal) = Journal::new(alloc, Faulty::sound(&mut text), 3) {
         for _ in 0..13u32 {
             journal.note(&rt, moment, 3, &cut());
         }
-        let refused = Event::Connection {
-            lost: Lost::Status(401),
-            from: "192.0.2.1:5",
-        };
-        journal.note(&rt, moment, 2, &refused);
+        journal.note(&rt, moment, 2, &refused());
         journal.catch_up(&rt, later);
         sure!(&rt; !journal.has_failed());
     }
@@ -111,64 +113,160 @@ fn what_is_left_out_is_told(rt: HostRuntime) {
     sure!(&rt; text.ends_with(last.as_slice()));
 }
 
-/// A write that fails ends the log.
+/// A write that fails in the second line, of which it wrote 40 bytes, is made again with the third: each line is whole.
 #[test]
-fn a_failed_write_ends_the_log(rt: HostRuntime) {
+fn a_failed_write_is_made_again(rt: HostRuntime) {
     let alloc = rt.alloc();
     let mut text = Vec::new(alloc);
     let moment = Moment::new(MOMENT).unwrap();
-    let writer = Faulty::new(&mut text, 4096, 2, ErrorKind::Other);
-    if let Ok(journal) = Journal::new(alloc, writer, AlwaysReady, 0) {
-        for _ in 0..3u32 {
-            journal.note(&rt, moment, 0, &Event::Done);
-        }
+    if let Ok(journal) = Journal::new(alloc, Faulty::new(&mut text, 40, 3, ErrorKind::Other), 0) {
+        journal.note(&rt, moment, 0, &Event::Done);
+        sure!(&rt; !journal.has_failed());
+        journal.note(
+            &rt,
+            moment,
+            0,
+            &Event::Waits(Blocked::ConnectionData { limit: 7 }),
+        );
         sure!(&rt; journal.has_failed());
-    }
-    sure!(&rt; text.as_slice() == b"2026-01-02T03:04:05.006Z end ok\n".as_slice());
-}
-
-/// Says that its writer takes no line, for so many times.
-#[derive(Drop)]
-struct Busy {
-    left: Cell<u32>,
-}
-
-impl Readiness for Busy {
-    fn is_ready(&self) -> bool {
-        let left = self.left.get();
-        self.left.set(left.saturating_sub(1));
-        left == 0
-    }
-}
-
-/// Two lines for which the writer would wait are left out, and told before the third. The writer is asked once for the first
-/// of them, and twice for the second, which would stand behind the number of those before.
-#[test]
-fn a_line_that_would_wait_is_left_out(rt: HostRuntime) {
-    let alloc = rt.alloc();
-    let mut text = Vec::new(alloc);
-    let moment = Moment::new(MOMENT).unwrap();
-    let busy = Busy { left: Cell::new(3) };
-    if let Ok(journal) = Journal::new(alloc, Faulty::sound(&mut text), busy, 0) {
-        for _ in 0..3u32 {
-            journal.note(&rt, moment, 0, &cut());
-        }
+        journal.note(&rt, moment, 0, &cut());
         sure!(&rt; !journal.has_failed());
     }
-    let lines =
-        b"2026-01-02T03:04:05.006Z more event=connection count=2\n2026-01-02T03:04:05.006Z connection cut from=\"192.0.2.1:5\"\n";
+    let lines = b"2026-01-02T03:04:05.006Z end ok
+2026-01-02T03:04:05.006Z waits at=connection-data limit=7
+2026-01-02T03:04:05.006Z connection cut from=\"192.0.2.1:5\"
+";
     sure!(&rt; text.as_slice() == lines.as_slice());
 }
 
-/// The line of the end waits for a writer that is not ready at first.
+/// Takes nothing for so many calls, as a pipe whose reader is behind.
+#[derive(Drop)]
+struct Full<T> {
+    inner: T,
+    left: u32,
+}
+
+impl<T: Write> Write for Full<T> {
+    fn write(&mut self, buf: &[u8]) -> io::Result<usize> {
+        if self.left > 0 {
+            self.left -= 1;
+            return Err(io::Error::from(ErrorKind::WouldBlock));
+        }
+        self.inner.write(buf)
+    }
+
+    fn flush(&mut self) -> io::Result<()> {
+        self.inner.flush()
+    }
+}
+
+/// Lines for which the writer would wait are written before the first one for which it would not.
+#[test]
+fn a_line_that_would_wait_is_written_later(rt: HostRuntime) {
+    let alloc = rt.alloc();
+    let mut text = Vec::new(alloc);
+    let moment = Moment::new(MOMENT).unwrap();
+    let writer = Full {
+        inner: &mut text,
+        left: 3,
+    };
+    if let Ok(journal) = Journal::new(alloc, writer, 0) {
+        journal.note(&rt, moment, 0, &refused());
+        journal.note(&rt, moment, 0, &cut());
+        sure!(&rt; !journal.has_failed());
+        journal.note(&rt, moment, 0, &Event::Limit { most: 5 });
+    }
+    let lines = b"2026-01-02T03:04:05.006Z connection status=401 from=\"192.0.2.1:5\"
+2026-01-02T03:04:05.006Z connection cut from=\"192.0.2.1:5\"
+2026-01-02T03:04:05.006Z limit neighbour=0 most=5
+";
+    sure!(&rt; text.as_slice() == lines.as_slice());
+}
+
+/// The line of the end waits for a writer that takes nothing at first.
 #[test]
 fn the_end_waits_for_its_writer(rt: HostRuntime) {
     let alloc = rt.alloc();
     let mut text = Vec::new(alloc);
     let moment = Moment::new(MOMENT).unwrap();
-    let busy = Busy { left: Cell::new(5) };
-    if let Ok(journal) = Journal::new(alloc, Faulty::sound(&mut text), busy, 0) {
-        journal.note(&rt, moment, 0, &Event::Done);
+    let writer = Full {
+        inner: &mut text,
+        left: 9,
+    };
+    if let Ok(journal) = Journal::new(alloc, writer, 0) {
+        journal.finish(&rt, moment, &Event::Done);
     }
     sure!(&rt; text.as_slice() == b"2026-01-02T03:04:05.006Z end ok\n".as_slice());
+}
+
+/// Of 1,030 lines for a writer that takes nothing, 1,024 wait. The next one tells of the other six.
+#[test]
+fn what_finds_no_room_is_told(rt: HostRuntime) {
+    let alloc = rt.alloc();
+    let mut text = Vec::new(alloc);
+    let moment = Moment::new(MOMENT).unwrap();
+    let writer = Full {
+        inner: &mut text,
+        left: 2_059,
+    };
+    if let Ok(journal) = Journal::new(alloc, writer, 1_100) {
+        for neighbour in 0..1_030usize {
+            journal.note(&rt, moment, neighbour, &Event::Limit { most: 5 });
+        }
+        journal.note(&rt, moment, 0, &cut());
+    }
+    let lines = text.iter().filter(|byte| **byte == b'\n').count();
+    sure!(&rt; lines == 1_026);
+    let last = b"limit neighbour=1023 most=5
+2026-01-02T03:04:05.006Z more lost=6
+2026-01-02T03:04:05.006Z connection cut from=\"192.0.2.1:5\"
+";
+    sure!(&rt; text.ends_with(last.as_slice()));
+}
+
+/// A text of a peer is cut at 256 characters of the line, and no character of it is cut in two: 127 newlines would take 508.
+#[test]
+fn a_text_of_a_peer_is_cut(rt: HostRuntime) {
+    sure!(&rt; is_cut(rt.alloc(), "a", "a", 256));
+    sure!(&rt; is_cut(rt.alloc(), "\"", "\\\"", 128));
+    sure!(&rt; is_cut(rt.alloc(), "\n", "\\x0a", 64));
+    sure!(&rt; is_cut(rt.alloc(), "\u{e9}", "\\xc3\\xa9", 32));
+    sure!(&rt; is_cut(rt.alloc(), "\u{20ac}", "\\xe2\\x82\\xac", 21));
+    sure!(&rt; is_cut(rt.alloc(), "\u{1f600}", "\\xf0\\x9f\\x98\\x80", 16));
+}
+
+/// Whether of a message that has one character as often as fits, and once more, so many are in the line.
+fn is_cut(alloc: Global, character: &str, written: &str, most: usize) -> bool {
+    let (Ok(whole), Ok(more), Ok(kept)) = (
+        repeated(alloc, character, most),
+        repeated(alloc, character, most + 1),
+        repeated(alloc, written, most),
+    ) else {
+        return false;
+    };
+    has_message(alloc, &whole, &kept, "") && has_message(alloc, &more, &kept, "..")
+}
+
+/// A text, so many times.
+fn repeated(alloc: Global, text: &str, count: usize) -> Result<String, AllocError> {
+    let mut all = String::new(alloc);
+    for _ in 0..count {
+        all.push_str(text)?;
+    }
+    Ok(all)
+}
+
+/// Whether the line of a Reject with this message ends so.
+fn has_message(alloc: Global, message: &str, kept: &str, dots: &str) -> bool {
+    let event = Event::Exchange(Cause::Reject {
+        code: *b"F00",
+        by: "test.c",
+        message,
+    });
+    match format!(in alloc;
+        "2026-01-02T03:04:05.006Z exchange neighbour=3 cause=reject code=F00 triggered_by=\"test.c\" message=\"{kept}{dots}\"\n"
+    ) {
+        Ok(text) => is_line(alloc, MOMENT, &event, text.as_str()),
+        Err(_) => false,
+    }
 }

@@ -1,12 +1,12 @@
 -- Each line ends with its one newline.
-use Rattle.std.proofs.Common.{◌≡◌, ◌≢◌, ℕ, zero, suc, ◌+◌, ◌/◌, ◌%◌, ◌<◌, ◌==◌, Bool, true, false, cond, not, List, [], ◌∷◌, ◌++◌, Some, None, refl, sym, ap, ◌∙◌, append_assoc, arith}
+use Rattle.std.proofs.Common.{◌≡◌, ◌≢◌, ℕ, zero, suc, ◌+◌, ◌/◌, ◌%◌, ◌<◌, ◌==◌, Bool, true, false, cond, not, List, [], ◌∷◌, ◌++◌, length, Some, None, refl, sym, ap, ◌∙◌, append_assoc, arith}
 use Rattle.std.specs.Prelude.{codes, decimal, nat_lt}
 use Rattle.std.specs.Fmt.{digits, digits_onto, digit_glyph}
 use Rattle.std.proofs.lemmas.Bool.Decides.{nat_tests}
 use Rattle.std.proofs.lemmas.List.Folds.{list_all-append}
 use Rattle.st_ilp.specs.Calendar.{DateAndTime, date_and_time}
 use Rattle.st_ilp.specs.Expiry.{digit}
-use Rattle.st_log.specs.Quoting.{is_plain, hex_digit, hex_escape, escaped, all_escaped, quoted}
+use Rattle.st_log.specs.Quoting.{is_plain, hex_digit, hex_escape, escaped, all_escaped, quoted, most_quoted, fitting, dots, quoted_short}
 use Rattle.st_log.specs.Lines.{◌⧺◌, written_date, date_text, word_of, unreached_word, plain_cause_text, reject_front, reject_back, exchange_text, start_text, waits_text, connection_text, account_front, account_back, is_of_neighbour, neighbours_more_text, nobodys_more_text, more_text, event_text, line_text}
 use Rattle.st_log.specs.Laws.{has_no_newline, EndsByItsOneNewline, LineHasOneNewline}
 use Rattle.st_log.specs.declared.event.Event.{Event}
@@ -105,6 +105,16 @@ quoted_clean : (bytes : List ℕ) → Clean (quoted bytes)
 unfolding quoted
 quoted_clean bytes = cons 34 (all_escaped bytes ++ 34 ∷ []) refl (both (all_escaped bytes) (34 ∷ []) (all_escaped_clean bytes) (cons 34 [] refl none))
 
+dots_clean : (kept text : List ℕ) → Clean (dots kept text)
+dots_clean kept text = either (nat_lt (length kept) (length text)) (46 ∷ 46 ∷ []) [] (record { is = refl }) none
+
+short_clean : (bytes : List ℕ) → Clean (quoted_short bytes)
+unfolding quoted_short
+short_clean bytes =
+    let kept = fitting most_quoted bytes in
+    cons 34 (all_escaped kept ++ (dots kept bytes ++ 34 ∷ [])) refl (both (all_escaped kept) (dots kept bytes ++ 34 ∷ []) (all_escaped_clean kept)
+    (both (dots kept bytes) (34 ∷ []) (dots_clean kept bytes) (cons 34 [] refl none)))
+
 -- ---- dates
 
 digit_above : (n : ℕ) → 10 < digit n
@@ -138,6 +148,9 @@ number text n rest h e = more text (decimal n ⧺ rest) (record { is = h }) (mor
 
 said : (text bytes rest : List ℕ) → has_no_newline text ≡ true → EndsByItsOneNewline rest → EndsByItsOneNewline (text ⧺ quoted bytes ⧺ rest)
 said text bytes rest h e = more text (quoted bytes ⧺ rest) (record { is = h }) (more (quoted bytes) rest (quoted_clean bytes) e)
+
+said_short : (text bytes rest : List ℕ) → has_no_newline text ≡ true → EndsByItsOneNewline rest → EndsByItsOneNewline (text ⧺ quoted_short bytes ⧺ rest)
+said_short text bytes rest h e = more text (quoted_short bytes ⧺ rest) (record { is = h }) (more (quoted_short bytes) rest (short_clean bytes) e)
 
 coded : (text bytes rest : List ℕ) → has_no_newline text ≡ true → EndsByItsOneNewline rest → EndsByItsOneNewline (text ⧺ all_escaped bytes ⧺ rest)
 coded text bytes rest h e = more text (all_escaped bytes ⧺ rest) (record { is = h }) (more (all_escaped bytes) rest (all_escaped_clean bytes) e)
@@ -189,7 +202,7 @@ reject : (n : ℕ) (code by message : List ℕ) → EndsByItsOneNewline (reject_
 reject n code by message =
     more (reject_front n code) (reject_back by message)
     (number_on (codes "exchange neighbour=") n _ refl (coded_on (codes " cause=reject code=") code (codes " ") refl (record { is = refl })))
-    (said (codes "triggered_by=") by _ refl (said (codes " message=") message (10 ∷ []) refl ends))
+    (said_short (codes "triggered_by=") by _ refl (said_short (codes " message=") message (10 ∷ []) refl ends))
 
 exchange_ends : (n : ℕ) (c : Cause) → EndsByItsOneNewline (exchange_text n c)
 exchange_ends n (cause.Link fault None) = link n fault (10 ∷ []) ends
@@ -262,6 +275,7 @@ event_ends n (event.Account t) = account n t
 event_ends n (event.Rejects code count) =
     number (codes "totals neighbour=") n _ refl (coded (codes " code=") code _ refl (number (codes " rejected=") count (10 ∷ []) refl ends))
 event_ends n (event.More k count) = more_ends n k count
+event_ends n (event.NoRoom count) = number (codes "more lost=") count (10 ∷ []) refl ends
 event_ends n event.Done = more (codes "end ok") (10 ∷ []) (record { is = refl }) ends
 event_ends n (event.Failed fault words) = number (codes "end fault=") fault _ refl (said (codes " words=") words.now (10 ∷ []) refl ends)
 

@@ -1,6 +1,7 @@
 -- What holds of all lines, and of all runs of events.
 use Rattle.std.specs.Prelude.{◌≡◌, ℕ, ℤ, ◌+◌, ◌^◌, ◌<◌, ◌≤◌, ◌==◌, Bool, true, not, List, [], ◌∷◌, ◌++◌, length, replicate}
 use Rattle.std.specs.List.{list_all}
+use Rattle.st_log.specs.Quoting.{quoted_short}
 use Rattle.st_log.specs.Lines.{line_text}
 use Rattle.st_log.specs.Pacing.{Slot, Run, lines_in, told_left, written_in}
 use Rattle.st_log.specs.declared.event.Event.{Event}
@@ -19,6 +20,10 @@ pub record EndsByItsOneNewline (text : List ℕ) : Type 0 where
 -- so it is with each line, whatever the texts of the event are
 abbrev pub LineHasOneNewline : Type 0
 LineHasOneNewline = (moment : ℤ) (n : ℕ) (e : Event) → EndsByItsOneNewline (line_text moment n e)
+
+-- A text of a peer takes at most 256 characters of a line, with two dots where it is cut, and two quotes
+abbrev pub TextsOfPeersAreShort : Type 0
+TextsOfPeersAreShort = (text : List ℕ) → length (quoted_short text) ≤ 260
 
 -- Each event has a line, or is told to be left out, or is counted to be told: those that were left out before, too. The count
 -- stops at 2^64 - 1

@@ -2,7 +2,7 @@
 use Rattle.std.specs.Prelude.{ℕ, ℤ, ◌/◌, Bool, true, false, if◌then◌else◌, List, [], ◌∷◌, ◌++◌, codes, decimal, Some, None}
 use Rattle.st_ilp.specs.Calendar.{DateAndTime, date_and_time}
 use Rattle.st_ilp.specs.Expiry.{digit}
-use Rattle.st_log.specs.Quoting.{all_escaped, quoted}
+use Rattle.st_log.specs.Quoting.{all_escaped, quoted, quoted_short}
 use Rattle.st_log.specs.declared.event.Event.{Event}
 use Rattle.st_log.specs.declared.event.Event.TheVariants as event
 use Rattle.st_log.specs.declared.event.Start.{Start}
@@ -58,6 +58,7 @@ kind_of (event.End t) = kind.Totals
 kind_of (event.Account t) = kind.Totals
 kind_of (event.Rejects code count) = kind.Totals
 kind_of (event.More k count) = kind.More
+kind_of (event.NoRoom count) = kind.More
 kind_of event.Done = kind.End
 kind_of (event.Failed fault words) = kind.End
 
@@ -122,7 +123,7 @@ abbrev pub reject_front : (n : ℕ) → (code : List ℕ) → List ℕ
 reject_front n code = codes "exchange neighbour=" ⧺ decimal n ⧺ codes " cause=reject code=" ⧺ all_escaped code ⧺ codes " "
 
 abbrev pub reject_back : (by message : List ℕ) → List ℕ
-reject_back by message = codes "triggered_by=" ⧺ quoted by ⧺ codes " message=" ⧺ quoted message ⧺ 10 ∷ []
+reject_back by message = codes "triggered_by=" ⧺ quoted_short by ⧺ codes " message=" ⧺ quoted_short message ⧺ 10 ∷ []
 
 abbrev pub plain_cause_text : (n : ℕ) → (word : List ℕ) → List ℕ
 plain_cause_text n word = codes "exchange neighbour=" ⧺ decimal n ⧺ codes " cause=" ⧺ word ⧺ 10 ∷ []
@@ -212,6 +213,9 @@ nobodys_more_text k count = codes "more event=" ⧺ word_of k ⧺ codes " count=
 abbrev pub more_text : (n : ℕ) → Kind → (count : ℕ) → List ℕ
 more_text n k count = if is_of_neighbour k then neighbours_more_text n k count else nobodys_more_text k count
 
+abbrev pub no_room_text : (count : ℕ) → List ℕ
+no_room_text count = codes "more lost=" ⧺ decimal count ⧺ 10 ∷ []
+
 abbrev pub failed_text : (fault : ℕ) → (words : List ℕ) → List ℕ
 failed_text fault words = codes "end fault=" ⧺ decimal fault ⧺ codes " words=" ⧺ quoted words ⧺ 10 ∷ []
 
@@ -231,6 +235,7 @@ event_text n (event.End t) = end_text t
 event_text n (event.Account t) = account_front n t ⧺ account_back t
 event_text n (event.Rejects code count) = rejects_text n code count
 event_text n (event.More k count) = more_text n k count
+event_text n (event.NoRoom count) = no_room_text count
 event_text n event.Done = codes "end ok\n"
 event_text n (event.Failed fault words) = failed_text fault words.now
 

@@ -27,10 +27,6 @@ Paces old second (Write more) new =
     (written_in old second < 10) × (more ≡ old.left) × (new ≡ record { second = second; written = written_in old second + 1; left = 0 })
 Paces old second LeaveOut new = (10 ≤ written_in old second) × (new ≡ record old { left = count_after 1 old.left })
 
--- so many events more are left out
-abbrev pub Leaves : Slot → (count : ℕ) → Slot → Type 0
-Leaves old count new = new ≡ record old { left = count_after count old.left }
-
 -- those that were left out are told
 abbrev pub Tells : Slot → (count : ℕ) → Slot → Type 0
 Tells old count new = (count ≡ old.left) × (new ≡ record old { left = 0 })

@@ -1,5 +1,5 @@
 -- Texts of others, as they stand in a line.
-use Rattle.std.specs.Prelude.{ℕ, ◌+◌, ◌/◌, ◌%◌, ◌==◌, nat_le, nat_lt, Bool, not, ◌&&◌, if◌then◌else◌, List, [], ◌∷◌, ◌++◌}
+use Rattle.std.specs.Prelude.{ℕ, ◌+◌, ◌-◌, ◌/◌, ◌%◌, ◌==◌, nat_le, nat_lt, Bool, not, ◌&&◌, if◌then◌else◌, List, [], ◌∷◌, ◌++◌, length}
 use Rattle.std.specs.List.{flat_map}
 
 -- from the space to the tilde, and neither the quote nor the backslash
@@ -24,3 +24,27 @@ all_escaped bytes = flat_map escaped bytes
 -- in double quotes
 unfoldable pub quoted : List ℕ → List ℕ
 quoted bytes = 34 ∷ all_escaped bytes ++ 34 ∷ []
+
+-- ---- texts of peers, which are cut
+
+-- how many characters of a line such a text takes at most
+abbrev pub most_quoted : ℕ
+most_quoted = 256
+
+-- The characters of a line that have to be left for a byte to stand in it. For one that begins a character of two, three or four
+-- bytes (RFC 3629, section 3) these are the escapes of all of them, so that no character is cut in two
+abbrev pub needed : ℕ → ℕ
+needed b = if nat_lt b 192 then length (escaped b) else (if nat_lt b 224 then 8 else (if nat_lt b 240 then 12 else 16))
+
+-- the bytes at the front of a text that stand in a line where so many characters are left
+abbrev pub fitting : (left : ℕ) → List ℕ → List ℕ
+fitting left [] = []
+fitting left (b ∷ text) = if nat_le (needed b) left then b ∷ fitting (left - length (escaped b)) text else []
+
+-- two dots, where not all of a text stands in the line
+abbrev pub dots : (kept text : List ℕ) → List ℕ
+dots kept text = if nat_lt (length kept) (length text) then 46 ∷ 46 ∷ [] else []
+
+-- in double quotes, and cut
+unfoldable pub quoted_short : List ℕ → List ℕ
+quoted_short text = 34 ∷ all_escaped (fitting most_quoted text) ++ (dots (fitting most_quoted text) text ++ 34 ∷ [])

@@ -69,6 +69,12 @@ pub enum Event<'a> {
         /// Their number.
         count: u64,
     },
+    /// Further events of any kind, whose lines found no room in the log: what was written before it is not read, or cannot be
+    /// written.
+    NoRoom {
+        /// Their number.
+        count: u64,
+    },
     /// The command ended, its work done.
     Done,
     /// The command ended early.
@@ -279,7 +285,7 @@ impl Event<'_> {
             Event::Table { .. } => Kind::Table,
             Event::Closed { .. } => Kind::Closed,
             Event::End(_) | Event::Account(_) | Event::Rejects { .. } => Kind::Totals,
-            Event::More { .. } => Kind::More,
+            Event::More { .. } | Event::NoRoom { .. } => Kind::More,
             Event::Done | Event::Failed { .. } => Kind::End,
         }
     }

@@ -1,9 +1,10 @@
 //! A log that threads share.
 
 use crate::event::{Event, KINDS, Kind};
-use crate::outlet::Outlet;
+use crate::outlet::{Outlet, Round};
 use crate::pace::{Left, Pace, Verdict};
 use crate::text::line;
+use crate::waiting::{Line, MOST_LINES};
 use st_ilp::Moment;
 use std::alloc::{AllocError, Global};
 use std::io::Write;
@@ -15,38 +16,24 @@ use std::time::{Clock, Duration};
 /// How often a lock is looked at before it is given up.
 const TRIES: u32 = 200;
 
-/// How many milliseconds pass between two of these looks.
+/// How often a writer that takes nothing is tried at the end of a run, before the lines that wait are given up.
+const LAST_TRIES: u32 = 500;
+
+/// How many milliseconds pass between two of these looks, or tries.
 const PAUSE: u64 = 1;
-
-/// Whether a writer takes a line now.
-pub trait Readiness {
-    /// Whether a write would not wait for whoever reads. True also where the write would fail.
-    fn is_ready(&self) -> bool;
-}
-
-/// A writer that never waits.
-#[derive(Clone, Copy, Debug, PartialEq, Eq)]
-pub struct AlwaysReady;
-
-impl Readiness for AlwaysReady {
-    fn is_ready(&self) -> bool {
-        true
-    }
-}
 
 /// A log: a writer that many threads share, with at most ten lines a second of one kind from one neighbour.
 ///
-/// A line is made while no lock is held, and its writing alone holds one. Where the writer does not take it at once, and where
-/// another thread is here for a fifth of a second, it is counted as left out. The last line of a run waits as long for the
-/// writer. A write that fails ends the log, and nothing else.
+/// A line is made while no lock is held. Lines wait in a queue of 1,024, and whoever adds one writes what the writer takes. The
+/// writer is to be one that does not wait for its reader. What finds no room, or is held up by another thread for a fifth of a
+/// second, is counted as lost, and told before a later line. A write that fails is tried again with the next line.
 #[derive(Drop)]
-pub struct Journal<W, P> {
+pub struct Journal<W> {
     alloc: Global,
     pace: Mutex<Pace>,
     outlet: Mutex<Outlet<W>>,
-    readiness: P,
     has_failed: AtomicBool,
-    /// Events that could not be counted by their kind, since the counts were in use for too long.
+    /// Events without a line that are not counted in the queue yet.
     missed: AtomicU64,
 }
 
@@ -66,33 +53,35 @@ fn second_of(moment: Moment) -> u64 {
     moment.ms().unsigned_abs() / 1_000
 }
 
+/// For how many events a line stands.
+fn events_of(event: &Event<'_>) -> u64 {
+    match event {
+        Event::More { count, .. } | Event::NoRoom { count } => *count,
+        _ => 1,
+    }
+}
+
 // Each function here that takes a lock lets it go before it returns.
 
-impl<W: Write, P: Readiness> Journal<W, P> {
-    /// A log that writes to `writer`, behind what stands there, where `readiness` says that it takes a line. `last` is the
-    /// greatest number of a neighbour: 0 but for a connector. Fails where memory is refused.
-    pub fn new(
-        alloc: Global,
-        writer: W,
-        readiness: P,
-        last: u32,
-    ) -> Result<Journal<W, P>, AllocError>
+impl<W: Write> Journal<W> {
+    /// A log that writes to `writer`, behind what stands there. `last` is the greatest number of a neighbour: 0 but for a
+    /// connector. Fails where memory is refused.
+    pub fn new(alloc: Global, writer: W, last: u32) -> Result<Journal<W>, AllocError>
     where
         W: Drop,
-        P: Drop,
     {
         let pace = Pace::new(alloc, last)?;
+        let outlet = Outlet::new(alloc, writer)?;
         Ok(Journal {
             alloc,
             pace: Mutex::new(pace),
-            outlet: Mutex::new(Outlet::new(writer)),
-            readiness,
+            outlet: Mutex::new(outlet),
             has_failed: AtomicBool::new(false),
             missed: AtomicU64::new(0),
         })
     }
 
-    /// Whether a write failed. Nothing is written from then on.
+    /// Whether the last write failed. The lines that it was to write wait.
     pub fn has_failed(&self) -> bool {
         self.has_failed.load(Ordering::SeqCst)
     }
@@ -100,26 +89,13 @@ impl<W: Write, P: Readiness> Journal<W, P> {
     /// Writes the line of an event that happened now, about the neighbour of this number. Not to be called while a lock of a
     /// hub or a desk is held.
     pub fn note<C: Clock>(&self, clock: &C, now: Moment, neighbour: usize, event: &Event<'_>) {
-        if self.has_failed() {
-            return;
-        }
         let kind = event.kind();
         match self.verdict(clock, now, kind, neighbour) {
             Some(Verdict::Write { more }) => {
                 if more > 0 {
-                    self.tell(
-                        clock,
-                        now,
-                        Left {
-                            kind,
-                            neighbour,
-                            count: more,
-                        },
-                    );
+                    self.write(clock, now, neighbour, &Event::More { kind, count: more });
                 }
-                if !self.write(clock, now, neighbour, event) {
-                    self.leave(clock, kind, neighbour, 1);
-                }
+                self.write(clock, now, neighbour, event);
             }
             Some(Verdict::LeaveOut) => {}
             None => self.miss(1),
@@ -128,9 +104,6 @@ impl<W: Write, P: Readiness> Journal<W, P> {
 
     /// Tells how many events were left out and are not told yet. To be called now and then, as each minute, and at the end.
     pub fn catch_up<C: Clock>(&self, clock: &C, now: Moment) {
-        if self.has_failed() {
-            return;
-        }
         let last = match within(clock, &self.pace) {
             Some(pace) => pace.last(),
             None => return,
@@ -139,11 +112,39 @@ impl<W: Write, P: Readiness> Journal<W, P> {
             for place in 0..KINDS {
                 let kind = Kind::ALL[place];
                 if let Some(left) = self.left(clock, kind, neighbour as usize) {
-                    self.tell(clock, now, left);
+                    let Left {
+                        kind,
+                        neighbour,
+                        count,
+                    } = left;
+                    self.write(clock, now, neighbour, &Event::More { kind, count });
                 }
             }
         }
-        self.tell_missed(clock, now);
+    }
+
+    /// Writes the line of the command's end, and what waits before it. Where the writer takes nothing, it is waited for: half a
+    /// second for room for the line, and half a second for all lines to be taken.
+    pub fn finish<C: Clock>(&self, clock: &C, now: Moment, event: &Event<'_>) {
+        // (so many, since one that tells what was lost may stand before it)
+        self.settle(clock, MOST_LINES - 2);
+        self.note(clock, now, 0, event);
+        self.settle(clock, 0);
+    }
+
+    /// Waits until no more than so many lines wait, for half a second at most, and not where a write fails.
+    fn settle<C: Clock>(&self, clock: &C, most: usize) {
+        for _ in 0..LAST_TRIES {
+            let Some(mut outlet) = within(clock, &self.outlet) else {
+                return;
+            };
+            let is_over = self.round(&mut outlet) != Round::Later || outlet.queue.len() <= most;
+            drop(outlet);
+            if is_over {
+                return;
+            }
+            thread::sleep(clock, Duration::from_millis(PAUSE));
+        }
     }
 
     /// What is to be done with an event. `None` where that is not known in time.
@@ -164,75 +165,33 @@ impl<W: Write, P: Readiness> Journal<W, P> {
         pace.tell(kind, neighbour)
     }
 
-    /// Counts events as left out.
-    fn leave<C: Clock>(&self, clock: &C, kind: Kind, neighbour: usize, count: u64) {
-        match within(clock, &self.pace) {
-            Some(mut pace) => pace.leave(kind, neighbour, count),
-            None => self.miss(count),
-        }
-    }
-
-    /// Counts events whose kind cannot be counted.
+    /// Counts events as lost.
     fn miss(&self, count: u64) {
         self.missed.fetch_add(count, Ordering::SeqCst);
     }
 
-    /// Writes the line of events that were left out; where that cannot be, they are left out still.
-    fn tell<C: Clock>(&self, clock: &C, now: Moment, left: Left) {
-        let Left {
-            kind,
-            neighbour,
-            count,
-        } = left;
-        if !self.write(clock, now, neighbour, &Event::More { kind, count }) {
-            self.leave(clock, kind, neighbour, count);
-        }
+    /// A round of writing.
+    fn round(&self, outlet: &mut Outlet<W>) -> Round {
+        let round = outlet.round();
+        self.has_failed
+            .store(round == Round::Failed, Ordering::SeqCst);
+        round
     }
 
-    /// The same of events whose kind was not counted.
-    fn tell_missed<C: Clock>(&self, clock: &C, now: Moment) {
-        let count = self.missed.swap(0, Ordering::SeqCst);
-        if count == 0 {
-            return;
-        }
-        let event = Event::More {
-            kind: Kind::More,
-            count,
-        };
-        if !self.write(clock, now, 0, &event) {
-            self.miss(count);
-        }
-    }
-
-    /// Whether the writer takes the line of an event: of a command's end within a fifth of a second, else at once.
-    fn takes<C: Clock>(&self, clock: &C, kind: Kind) -> bool {
-        if kind != Kind::End {
-            return self.readiness.is_ready();
-        }
-        for _ in 0..TRIES {
-            if self.readiness.is_ready() {
-                return true;
-            }
-            thread::sleep(clock, Duration::from_millis(PAUSE));
-        }
-        false
-    }
-
-    /// Writes a line. False where it is to be counted as left out: memory is refused, another thread writes for too long, or the
-    /// writer does not take it.
-    fn write<C: Clock>(&self, clock: &C, now: Moment, neighbour: usize, event: &Event<'_>) -> bool {
+    /// Writes the line of an event behind those that wait, or lets it wait. Its events are counted as lost where memory is
+    /// refused, another thread writes for too long, or it finds no room.
+    fn write<C: Clock>(&self, clock: &C, now: Moment, neighbour: usize, event: &Event<'_>) {
+        let count = events_of(event);
         let Ok(text) = line(self.alloc, now, neighbour, event) else {
-            return false;
+            return self.miss(count);
         };
         let Some(mut outlet) = within(clock, &self.outlet) else {
-            return false;
+            return self.miss(count);
         };
-        if !self.takes(clock, event.kind()) {
-            return false;
-        }
-        if !outlet.put(&text) {
-            self.has_failed.store(true, Ordering::SeqCst);
-        }
-        true
+        outlet.queue.lose(self.missed.swap(0, Ordering::SeqCst));
+        self.round(&mut outlet);
+        // Where memory for the line of what was lost is refused, the events of this one are lost, too.
+        let _ = outlet.queue.add(self.alloc, now, Line { text }, count);
+        self.round(&mut outlet);
     }
 }

@@ -1,10 +1,16 @@
 //! Laws of the log: where a line ends, and that nothing is left out without being counted.
 
-ghost use Rattle.st_log.specs.Laws.{EventsAreCounted, LineHasOneNewline, TenASecond};
+ghost use Rattle.st_log.specs.Laws.{EventsAreCounted, LineHasOneNewline, TenASecond, TextsOfPeersAreShort};
 
 /// States a law; it does nothing. A line ends with a newline and has no other, whatever the texts of its event are.
 pub fn line_has_one_newline()
     ensures { LineHasOneNewline }
+{}
+
+/// States a law; it does nothing. A text of a peer takes at most 260 characters of a line, with its quotes and with two dots
+/// where it is cut.
+pub fn texts_of_peers_are_short()
+    ensures { TextsOfPeersAreShort }
 {}
 
 /// States a law; it does nothing. Each event of a kind from a neighbour has a line, or is in the number that a later line

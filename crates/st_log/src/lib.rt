@@ -1,9 +1,9 @@
 //! The log of `send`, `receive` and `connector`: one line for each event.
 //!
 //! `Event` has what can happen, and `line` the text of one. A `Journal` is a writer that many threads share. It writes at
-//! most ten lines a second of one kind from one neighbour, counts the others, and tells their number in a line of its own. So
-//! are those counted for which its writer would wait. specs/Lines.antt has the text of each line, and specs/Pacing.antt says
-//! which are written.
+//! most ten lines a second of one kind from one neighbour, counts the others, and tells their number in a line of its own.
+//! Lines that its writer does not take wait in a queue, and what finds no room there is counted, too. specs/Lines.antt has the
+//! text of each line, specs/Pacing.antt says which are written, and specs/Queue.antt which wait.
 #![tactic(auto)]
 
 mod date;
@@ -13,12 +13,14 @@ mod laws;
 mod outlet;
 mod pace;
 mod progress;
+mod queue;
 mod quote;
 mod text;
+mod waiting;
 
 pub use event::{AccountCounts, Blocked, Cause, EndCounts, Event, Kind, Lost, Start, Unreached};
-pub use journal::{AlwaysReady, Journal, Readiness};
-pub use laws::{events_are_counted, line_has_one_newline, ten_a_second};
+pub use journal::Journal;
+pub use laws::{events_are_counted, line_has_one_newline, ten_a_second, texts_of_peers_are_short};
 pub use pace::{LINES_A_SECOND, Left, Pace, Verdict};
 pub use progress::{Brief, Progress, shown};
 pub use text::line;

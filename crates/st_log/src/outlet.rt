@@ -1,49 +1,89 @@
-//! The writer of a log.
+//! The writer of a log, and the lines that wait for it.
 
-ghost use Rattle.std.specs.Prelude.{◌≡◌, true, false, not, IsTrue};
-ghost use Rattle.std.specs.Io.KnownBytes.{Appends};
-ghost use Rattle.st_log.specs.Failing.{Fails};
-ghost use Rattle.st_oer.specs.Tallies.{device_of, tally_of};
+ghost use Rattle.std.specs.Prelude.{◌≡◌, [], IfOk};
+ghost use Rattle.st_log.specs.Writing.{Writes};
 
-use st_oer::{Counting, put_all};
-use std::io::Write;
+use crate::waiting::Queue;
+use std::alloc::{AllocError, Global};
+use std::io::{ErrorKind, Write};
 
-/// How many calls of the writer one text may take.
-const CALLS: u64 = 1_048_576;
+/// How many calls of the writer one round may take.
+const CALLS: u32 = 65_536;
 
-/// A writer, and whether it failed. It is not called again then.
+/// How a round of writing ended.
+#[derive(Clone, Copy, Debug, PartialEq, Eq)]
+pub(crate) enum Round {
+    /// All lines are written.
+    All,
+    /// The writer takes no more now: nobody reads, or the reader is behind.
+    Later,
+    /// The writer failed.
+    Failed,
+}
+
+/// How one call of the writer ended.
+#[derive(Clone, Copy, Debug, PartialEq, Eq)]
+enum Call {
+    More,
+    Later,
+    Failed,
+}
+
+/// A writer that does not wait for whoever reads, and the lines that wait for it.
 #[derive(Drop)]
 pub(crate) struct Outlet<W> {
-    stream: Counting<W>,
-    failed: bool,
+    writer: W,
+    pub(crate) queue: Queue,
 }
 
 impl<W> Outlet<W> {
-    /// A writer that did not fail yet.
-    pub(crate) fn new(writer: W) -> Outlet<W>
-        ensures stream { device_of result.stream ≡ writer }
-        ensures failed { result.failed ≡ false }
+    /// A writer for which no line waits.
+    pub(crate) fn new(alloc: Global, writer: W) -> Result<Outlet<W>, AllocError>
+    where
+        W: Drop,
+        ensures writer { IfOk result (λ outlet. outlet.writer ≡ writer) }
+        ensures empty { IfOk result (λ outlet. outlet.queue.lines.items ≡ []) }
     {
-        Outlet {
-            stream: Counting::new(writer),
-            failed: false,
-        }
+        let queue = Queue::new(alloc)?;
+        Ok(Outlet { writer, queue })
     }
 }
 
 impl<W: Write> Outlet<W> {
-    /// Writes a text, unless the writer failed before. Whether all of it is written.
-    pub(crate) fn put(&mut self, text: &[u8]) -> bool
-        ensures ended { self.old.failed ≡ true → self.new ≡ self.old }
-        ensures told { self.new.failed ≡ not result }
-        ensures whole { IsTrue result → Appends (W.contents (device_of self.old.stream)) (W.contents (device_of self.new.stream)) text.now }
-        ensures why { self.old.failed ≡ false → self.new.failed ≡ true → Fails (tally_of self.old.stream) (tally_of self.new.stream) }
+    /// Writes what it can of the first line, with one call of the writer.
+    fn call(&mut self) -> Call
+        ensures { Writes W.contents self.old self.new }
     {
-        if self.failed {
-            return false;
+        match self.writer.write(self.queue.first()) {
+            Ok(0) => Call::Later,
+            Ok(n) => {
+                self.queue.written(n);
+                Call::More
+            }
+            Err(e) => match e.kind() {
+                ErrorKind::Interrupted => Call::More,
+                ErrorKind::WouldBlock | ErrorKind::BrokenPipe => Call::Later,
+                _ => Call::Failed,
+            },
         }
-        let mut left = CALLS;
-        self.failed = put_all(&mut self.stream, text, &mut left).is_err();
-        !self.failed
+    }
+
+    /// Writes the lines that wait, as far as the writer takes them. Each byte is written once, in its order, so a line that is
+    /// written in part is completed by a later round.
+    pub(crate) fn round(&mut self) -> Round
+        ensures written { Writes W.contents self.old self.new }
+        ensures all { result ≡ Round.All → self.new.queue.lines.items ≡ [] }
+    {
+        for _ in 0..CALLS {
+            if self.queue.is_empty() {
+                return Round::All;
+            }
+            match self.call() {
+                Call::More => {}
+                Call::Later => return Round::Later,
+                Call::Failed => return Round::Failed,
+            }
+        }
+        Round::Later
     }
 }

@@ -3,7 +3,7 @@
 ghost use Rattle.std.specs.Prelude.{◌≡◌, ◌<◌, ◌+◌, ◌*◌, IfNone, IfOk, IfSome, MatchOption, None, Some, min, replicate, slice_get, slice_set};
 ghost use Rattle.st_log.specs.Lines.{place_of};
 ghost use Rattle.st_log.specs.Pacing as spec;
-ghost use Rattle.st_log.specs.Pacing.{Leaves, Paces, Tells, empty, slot_place};
+ghost use Rattle.st_log.specs.Pacing.{Paces, Tells, empty, slot_place};
 
 use crate::event::{KINDS, Kind};
 use std::alloc::{AllocError, Global};
@@ -79,13 +79,6 @@ impl Slot {
         Verdict::Write { more }
     }
 
-    /// So many events more were left out.
-    fn leave(&mut self, count: u64)
-        ensures { Leaves self.old count self.new }
-    {
-        self.left = self.left.saturating_add(count);
-    }
-
     /// The number of those that were left out and not told yet. They are told now.
     fn tell(&mut self) -> u64
         ensures { Tells self.old result self.new }
@@ -134,18 +127,6 @@ impl Pace {
         match self.slots.get_mut(place) {
             Some(slot) => slot.lets(second),
             None => Verdict::Write { more: 0 },
-        }
-    }
-
-    /// Counts so many events as left out.
-    pub fn leave(&mut self, kind: Kind, neighbour: usize, count: u64)
-        ensures last { self.new.last ≡ self.old.last }
-        ensures counted { MatchOption (slice_get self.old.slots.items (slot_place self.old.last kind neighbour)) (self.new.slots.items ≡ self.old.slots.items)
-            (λ old. (new : spec.Slot) × Leaves old count new × (self.new.slots.items ≡ slice_set self.old.slots.items (slot_place self.old.last kind neighbour) new)) }
-    {
-        let place = self.place(kind, neighbour);
-        if let Some(slot) = self.slots.get_mut(place) {
-            slot.leave(count);
         }
     }
 

@@ -1,9 +1,12 @@
 //! Texts of others, as they stand in a line.
 
-ghost use Rattle.std.specs.Prelude.{◌≡◌, ◌++◌, ◌<◌, IfOk, OnOk, string_bytes};
+ghost use Rattle.std.specs.Prelude.{◌≡◌, ◌++◌, ◌<◌, ◌≤◌, IfOk, OnOk, length, string_bytes, take};
 ghost use Rattle.st_log.specs.Quoting as spec;
 
 use std::alloc::{AllocError, Global};
+
+/// How many characters of a line a text of a peer takes at most.
+const MOST_QUOTED: usize = 256;
 
 /// The character of a hexadecimal digit.
 fn hex_digit(n: u8) -> u8
@@ -75,5 +78,64 @@ pub(crate) fn code_text(alloc: Global, code: &[u8; 3]) -> Result<String, AllocEr
 {
     let mut text = String::new(alloc);
     put_all_escaped(&mut text, code)?;
+    Ok(text)
+}
+
+/// How many characters of a line a byte takes.
+#[tactic(auto, unfolding(crate::specs::Quoting::escaped))]
+fn escaped_len(byte: u8) -> usize
+    ensures { result ≡ length (spec.escaped byte) }
+{
+    match byte {
+        b'"' | b'\\' => 2,
+        _ if is_plain(byte) => 1,
+        _ => 4,
+    }
+}
+
+/// How many characters of a line have to be left for a byte to stand in it: where it begins a character of several bytes, as
+/// many as all of these take.
+fn needed(byte: u8) -> usize
+    ensures { result ≡ spec.needed byte }
+{
+    match byte {
+        0..192 => escaped_len(byte),
+        192..224 => 8,
+        224..240 => 12,
+        _ => 16,
+    }
+}
+
+/// How many bytes at the front of a text of a peer stand in a line.
+fn fitting(text: &[u8]) -> usize
+    ensures within { result ≤ length text.now }
+    ensures front { take result text.now ≡ spec.fitting spec.most_quoted text.now }
+{
+    let mut left = MOST_QUOTED;
+    let mut kept = 0;
+    for byte in text {
+        if needed(*byte) > left {
+            return kept;
+        }
+        left = left.saturating_sub(escaped_len(*byte));
+        kept += 1;
+    }
+    kept
+}
+
+/// A text of a peer as it stands in a line, in double quotes: cut at 256 characters, where `..` stands for the rest. No
+/// character of the text is cut in two.
+#[tactic(auto, using(crate::proofs::Pieces::pieces), unfolding(crate::specs::Quoting::quoted_short))]
+pub(crate) fn quoted_short(alloc: Global, bytes: &[u8]) -> Result<String, AllocError>
+    ensures { IfOk result (λ text. string_bytes text ≡ spec.quoted_short bytes.now) }
+{
+    let kept = fitting(bytes);
+    let mut text = String::new(alloc);
+    text.push('"')?;
+    put_all_escaped(&mut text, &bytes[..kept])?;
+    if kept < bytes.len() {
+        text.push_str("..")?;
+    }
+    text.push('"')?;
     Ok(text)
 }

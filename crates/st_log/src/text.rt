@@ -5,7 +5,7 @@ ghost use Rattle.st_log.specs.Lines as spec;
 
 use crate::date::date_text;
 use crate::event::{AccountCounts, Blocked, Cause, EndCounts, Event, Kind, Lost, Start};
-use crate::quote::{code_text, quoted};
+use crate::quote::{code_text, quoted, quoted_short};
 use st_ilp::Moment;
 use std::alloc::{AllocError, Global};
 
@@ -121,8 +121,8 @@ fn reject_front(alloc: Global, neighbour: usize, code: &[u8; 3]) -> Result<Strin
 fn reject_back(alloc: Global, by: &str, message: &str) -> Result<String, AllocError>
     ensures { IfOk result (λ text. string_bytes text ≡ spec.reject_back by.now message.now) }
 {
-    let by = quoted(alloc, by.as_bytes())?;
-    let message = quoted(alloc, message.as_bytes())?;
+    let by = quoted_short(alloc, by.as_bytes())?;
+    let message = quoted_short(alloc, message.as_bytes())?;
     let text = format!(in alloc; "triggered_by={by} message={message}\n")?;
     Ok(text)
 }
@@ -354,6 +354,13 @@ fn more_text(alloc: Global, neighbour: usize, kind: Kind, count: u64) -> Result<
     Ok(text)
 }
 
+fn no_room_text(alloc: Global, count: u64) -> Result<String, AllocError>
+    ensures { IfOk result (λ text. string_bytes text ≡ spec.no_room_text count) }
+{
+    let text = format!(in alloc; "more lost={count}\n")?;
+    Ok(text)
+}
+
 fn failed_text(alloc: Global, fault: u8, words: &str) -> Result<String, AllocError>
     ensures { IfOk result (λ text. string_bytes text ≡ spec.failed_text fault words.now) }
 {
@@ -388,6 +395,7 @@ fn event_text(alloc: Global, neighbour: usize, event: &Event<'_>) -> Result<Stri
         Event::Account(totals) => account_text(alloc, neighbour, totals),
         Event::Rejects { code, count } => rejects_text(alloc, neighbour, &code, count),
         Event::More { kind, count } => more_text(alloc, neighbour, kind, count),
+        Event::NoRoom { count } => no_room_text(alloc, count),
         Event::Done => String::from_str(alloc, "end ok\n"),
         Event::Failed { fault, words } => failed_text(alloc, fault, words),
     }
@@ -396,7 +404,7 @@ fn event_text(alloc: Global, neighbour: usize, event: &Event<'_>) -> Result<Stri
 /// The line of an event that happened at a moment, about the neighbour of this number:
 /// `2026-01-02T03:04:05.006Z EVENT key=value ..` and a newline. Dates are in UTC. Numbers and codes stand bare. Texts stand in
 /// double quotes: bytes from 32 to 126 as they are, but `"` as `\"` and `\` as `\\`, and each other byte as `\xHH`. So a line has
-/// one newline, at its end, whatever a peer sent.
+/// one newline, at its end, whatever a peer sent. A text of a peer is cut at 256 characters of the line.
 ///
 /// Fails where memory is refused.
 #[tactic(auto, using(crate::proofs::Pieces::pieces), unfolding(crate::specs::Lines::line_text))]

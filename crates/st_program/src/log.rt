@@ -15,6 +15,8 @@ use st_settings::{TableFault, WholeFault, table_fault, whole_fault};
 use st_transfer::{AccountTotals, Counts, LogFile, RuntimeClock, log_in};
 use std::alloc::Global;
 use std::fs::{File, Files, OpenOptions};
+use std::io;
+use std::os::unix::fs::FileTypeExt;
 use std::time::Clock;
 
 /// The log of a run, where it has one.
@@ -23,8 +25,25 @@ pub(crate) type Log<'a> = Option<&'a LogFile>;
 /// The greatest number of a neighbour whose lines are counted by themselves.
 const LAST: u32 = 255;
 
-/// Opens the file of this name at its end, where one was asked for, and makes it where there is none. It is never emptied.
-/// Fails with `BadOption` where it cannot be opened.
+/// Opens the file of this name at its end, and makes it where there is none. It is never emptied. Of a pipe that nobody has open
+/// to read, a writer would wait for a reader here. So such a pipe is first opened to read and to write, which never waits.
+fn at_end<N: Files<File = File>>(rt: &N, name: &str) -> io::Result<File> {
+    let is_pipe = match rt.metadata(name) {
+        Ok(found) => found.file_type().is_fifo(),
+        Err(_) => false,
+    };
+    let reader = if is_pipe {
+        Some(OpenOptions::new().read(true).append(true).open(rt, name)?)
+    } else {
+        None
+    };
+    let file = OpenOptions::new().append(true).create(true).open(rt, name)?;
+    drop(reader);
+    Ok(file)
+}
+
+/// Opens the file of this name at its end, where one was asked for, and makes it where there is none. Fails with `BadOption`
+/// where it cannot be opened.
 fn log_file<'a, N: Files<File = File>>(
     rt: &N,
     name: Option<&'a str>,
@@ -37,7 +56,7 @@ fn log_file<'a, N: Files<File = File>>(
     let Some(name) = name else {
         return Ok(None);
     };
-    match OpenOptions::new().append(true).create(true).open(rt, name) {
+    match at_end(rt, name) {
         Ok(file) => Ok(Some(file)),
         Err(error) => {
             *obstacle = Some(Obstacle::of_file(Step::Log, name, &error));
@@ -178,7 +197,7 @@ fn tell_whole<N: Clock>(rt: &N, alloc: Global, log: Log<'_>, bytes: &[u8]) {
     }
 }
 
-/// Writes how a command ended, behind what was left out before.
+/// Writes how a command ended, behind what was left out before. It waits a second at most for whoever reads the log.
 fn note_end<N: Clock>(
     rt: &N,
     alloc: Global,
@@ -189,7 +208,7 @@ fn note_end<N: Clock>(
     let now = now(rt);
     journal.catch_up(rt, now);
     match ended {
-        Ok(()) => journal.note(rt, now, 0, &Event::Done),
+        Ok(()) => journal.finish(rt, now, &Event::Done),
         Err(error) => {
             // (no words where memory is refused)
             let words = words_of(alloc, error, obstacle).unwrap_or(String::new(alloc));
@@ -197,12 +216,12 @@ fn note_end<N: Clock>(
                 fault: error.number(),
                 words: words.as_str(),
             };
-            journal.note(rt, now, 0, &event);
+            journal.finish(rt, now, &event);
         }
     }
 }
 
-/// Whether all lines could be written so far.
+/// Whether no line waits that could not be written.
 fn written(journal: &LogFile) -> Result<(), Fault> {
     if journal.has_failed() {
         Err(Fault::Output)

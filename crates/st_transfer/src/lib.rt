@@ -44,7 +44,7 @@ pub use ended::Ended;
 pub use ends::{client_end, server_end};
 pub use error::TransferError;
 pub use ivs::{ReaderIvs, SharedIvs};
-pub use journal::{LogFile, PollOut, log_in};
+pub use journal::{LogFile, log_in};
 pub use minutes::{Minutes, NoMinutes};
 pub use neighbour::Neighbour;
 pub use receive::receive_on;

@@ -6,5 +6,5 @@ use Rattle.st_transfer.proofs.serving.serve_stream.Goals as goal
 
 pub returns-in-Err : goal.returns-in-Err
 returns-in-Err g c =
-  asked_why (known g.S.Write.contents g.S.Read.remaining) g.T.Answerer.gives (map (λ t. t.now) c.args.tokens.now) (device_of c.args.stream.now) (device_of c.serve_one.new.stream)
-      c.args.answerer.now c.serve_one.new.answerer c.in-Err.field-0 c.in-Err.ensures.why
+    asked_why (known g.S.Write.contents g.S.Read.remaining) g.T.Answerer.gives (map (λ t. t.now) c.args.tokens.now) (device_of c.args.stream.now) (device_of c.serve_one.new.stream)
+    c.args.answerer.now c.serve_one.new.answerer c.in-Err.field-0 c.in-Err.ensures.why
