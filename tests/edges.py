@@ -975,6 +975,25 @@ def least_with_a_rate_of_one_for_two(play, least, wanted):
     return f"send {told}"
 
 
+@test((0, 0, 0), (5, 5_999, 5), waits=True)
+def a_receive_max_stops_money_of_which_one_unit_arrives_for_a_thousand(play, most, paid, credited):
+    """With a receive max of 5, 5,999 units are sent, which count for 5. Then 999 units would count for nothing, again and again."""
+    content = some_bytes(10_000)
+    receiver = play.receive("--patience=5", most=most)
+    hub = play.connector(table_to(receiver.port).replace("route test.b 1", "route test.b 1 1 1000"))
+    sender = play.send(hub.port, content, "--money=1000000", "--least=1:1000")
+    sent, received = ended(sender, 60), ended(receiver, 20)
+    money = totals(sender.totals).get("paid"), totals(receiver.totals).get("credited")
+    with open(receiver.path, "rb") as file:
+        came = file.read()
+    want((sent, received) == ("59", "88") and money == (paid, credited), f"send {sent}, receive {received}, paid and credited {money}")
+    want(came == content, f"{len(came)} bytes came")
+    with open(sender.log, encoding="ascii") as file:
+        waits = [line for line in file if " waits " in line]
+    want(len(waits) == 1 and waits[0].endswith(f" waits at=stream-money stream=1 receive_max={most} total={paid}\n"), f"log {waits}")
+    return f"{paid} paid, {credited} credited, 59 and 88"
+
+
 @test((0, 10), (3, 0), waits=True)
 def a_fulfill_after_seconds_of_two_is_booked_as(play, seconds, wanted):
     def handle(_, stream):

@@ -8,7 +8,7 @@ use Rattle.std.proofs.lemmas.Bool.Decides.{nat_tests}
 use Rattle.st_frames.specs.Frames.{Known, ConnectionClose, ConnectionNewAddress, ConnectionMaxData, ConnectionDataBlocked, StreamClose, StreamMoney, StreamMaxMoney, StreamMoneyBlocked, StreamData, StreamMaxData, StreamDataBlocked}
 use Rattle.st_tables.specs.Slots.{Slots, slot}
 use Rattle.st_sender.specs.Sending.{Outgoing, Data, Whole, Flown, Flight, Sending, outgoing_at}
-use Rattle.st_sender.specs.Flights.{any_frame, carries, due_at, sent_end, flying_end, highest_end, all_ends, flying_least, due_money}
+use Rattle.st_sender.specs.Flights.{any_frame, carries, due_at, sent_end, flying_end, highest_end, all_ends, flying_least, room_for, due_money}
 use Rattle.st_sender.specs.Due.{IsDueData, IsDueMoney, IsDueClose}
 use Rattle.st_sender.specs.Loads.{Fits, MoneyFits, least_of, load_with}
 use Rattle.st_sender.specs.Plain.{IsFilled, IsIdleOf}
@@ -75,8 +75,12 @@ pub none_more : (t : Option (ℕ × ℕ)) (flying more : ℕ) → more ≡ 0 →
 none_more None flying more e = tt
 none_more (Some t) flying more e = omega arith
 
-no_money : (s : Sending) (t : Option (ℕ × ℕ)) (flying : ℕ) → MoneyFits t flying (exchanged s.config.least 0)
-no_money s t flying = none_more t flying (exchanged s.config.least 0) (none_exchanged s.config.least)
+-- and nothing needs no room
+pub none_needed : (r : Ratio) → room_for r 0 ≡ 0
+none_needed r = omega (arith, none_exchanged r)
+
+no_money : (s : Sending) (t : Option (ℕ × ℕ)) (flying : ℕ) → MoneyFits t flying (room_for s.config.least 0)
+no_money s t flying = none_more t flying (room_for s.config.least 0) (none_needed s.config.least)
 
 pub opened : (o : Option Lane) (x : Outgoing) → out_of o ≡ Some x → (l : Lane) × (o ≡ Some l) × (l.out ≡ x)
 opened None x e = absurd (cc)
@@ -178,7 +182,7 @@ module _ (s : Sending) (lanes : Slots Lane) (room : ℕ) (is : s.streams ≡ out
       let x = due.stream in
       let shares : sum_by shares_of (StreamMoney k n ∷ []) ≡ n = omega (arith, sum_by-cons shares_of (StreamMoney k n) []) in
       let own : money_in k (StreamMoney k n ∷ []) ≡ n = omega (arith, sum_by-cons (money_of k) (StreamMoney k n) [], own_amount k n) in
-      let money : MoneyFits x.told_money (flying_least s k) (exchanged r n) = subst (λ m. MoneyFits x.told_money (flying_least s k) (exchanged r m)) own (fits.money k x due.is_open) in
+      let money : MoneyFits x.told_money (flying_least s k) (room_for r n) = subst (λ m. MoneyFits x.told_money (flying_least s k) (room_for r m)) own (fits.money k x due.is_open) in
       let most = fits_allowed r ratio x.told_money (flying_least s k) (due_money s k x) n due.due money in
       let here : payable_at lanes r s.flights k ≡ allowed_money r x.told_money (flying_least s k) (due_money s k x) =
       ap (λ o. payable r s.flights k o) found.1 ∙ ap (λ (y : Outgoing). allowed_money r y.told_money (flying_least s k) (due_money s k y)) found.2 in

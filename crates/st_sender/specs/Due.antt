@@ -3,11 +3,10 @@ use Rattle.std.specs.Prelude.{◌≡◌, ℕ, ◌+◌, ◌-◌, ◌<◌, ◌≤�
 use Rattle.std.specs.declared.option.Option.{Option}
 use Rattle.std.specs.declared.option.Option.TheVariants.{None, Some}
 use Rattle.std.specs.FinMap.{empty}
-use Rattle.st_oer.specs.Ratios.{exchanged}
 use Rattle.st_tables.specs.Slots.{slot}
 use Rattle.st_frames.specs.Frames.{Known, ConnectionClose, ConnectionNewAddress, ConnectionMaxData, ConnectionDataBlocked, StreamClose, StreamMoney, StreamMaxMoney, StreamMoneyBlocked, StreamData, StreamMaxData, StreamDataBlocked}
 use Rattle.st_sender.specs.Sending.{Outgoing, Data, Sending, outgoing_at}
-use Rattle.st_sender.specs.Flights.{any_frame, closes, tells, due_at, all_ends, due_money}
+use Rattle.st_sender.specs.Flights.{any_frame, closes, tells, due_at, all_ends, room_for, due_money}
 
 -- Frames are those of RFC 0029, section 5.3; when each is due is this profile's own rule.
 
@@ -74,7 +73,7 @@ pub record IsDueMoneyBlocked (s : Sending) (k limit total : ℕ) : Type 0 where
   pub total_is : total ≡ stream.fulfilled
   pub alone : s.flights ≡ []
   pub first : was_blocked stream.blocked_money limit ≡ false
-  pub waits : limit - received < exchanged s.config.least (due_money s k stream)
+  pub waits : limit - received < room_for s.config.least (due_money s k stream)
 
 -- a limit of this end goes as it stands, where it is above the peer's mark
 pub record IsDueLimit (s : Sending) (limits : List Known) (mark : Option ℕ) (value : ℕ) (f : Known) : Type 0 where

@@ -1,10 +1,10 @@
 -- What is in flight, and how far its data and its money reach.
-use Rattle.std.specs.Prelude.{ℕ, ◌+◌, ◌-◌, Bool, true, false, ◌&&◌, List, [], ◌∷◌, length, map, max, sum, nat_lt, nat_le, nat_eq, is_some, if◌then◌else◌}
+use Rattle.std.specs.Prelude.{ℕ, ◌+◌, ◌-◌, Bool, true, false, ◌&&◌, List, [], ◌∷◌, length, map, max, min, sum, nat_lt, nat_le, nat_eq, is_some, if◌then◌else◌}
 use Rattle.std.specs.List.{sum_by, list_any, range_with_len}
 use Rattle.std.specs.declared.option.Option.{Option}
 use Rattle.std.specs.declared.option.Option.TheVariants.{None, Some}
 use Rattle.std.specs.FinMap.{get}
-use Rattle.st_oer.specs.Ratios.{exchanged}
+use Rattle.st_oer.specs.Ratios.{Ratio, exchanged}
 use Rattle.st_frames.specs.Frames.{Known, ConnectionMaxData, StreamClose, StreamMaxMoney, StreamData, StreamMaxData}
 use Rattle.st_frames.specs.Told.{money_of}
 use Rattle.st_sender.specs.Sending.{Outgoing, Load, Flown, Data, Whole, Flight, Sending, outgoing_at}
@@ -98,6 +98,11 @@ least_part s k p = exchanged s.config.least (part_of k p)
 
 abbrev pub flying_least : Sending → ℕ → ℕ
 flying_least s k = sum_by (least_part s k) s.flights
+
+-- what has to be left of the peer's receive max for an amount to go: what of it should arrive at least, and a unit where
+-- there is any
+abbrev pub room_for : Ratio → (amount : ℕ) → ℕ
+room_for r n = max (exchanged r n) (min 1 n)
 
 -- money of a stream that is due: offered, and neither fulfilled nor in flight
 abbrev pub due_money : Sending → ℕ → Outgoing → ℕ

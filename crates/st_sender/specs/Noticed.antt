@@ -4,14 +4,14 @@ use Rattle.std.specs.Prelude.{◌≡◌, ℕ, ◌+◌, ◌-◌, ◌^◌, ◌<◌
 use Rattle.std.specs.List.{AllByRecursion}
 use Rattle.std.specs.declared.option.Option.{Option}
 use Rattle.std.specs.declared.option.Option.TheVariants.{None, Some}
-use Rattle.st_oer.specs.Ratios.{Ratio, exchanged}
+use Rattle.st_oer.specs.Ratios.{Ratio}
 use Rattle.st_tables.specs.Slots.{Slots, slot}
 use Rattle.st_frames.specs.Frames.{Known, ConnectionMaxData, ConnectionDataBlocked, StreamMaxMoney, StreamMoneyBlocked, StreamMaxData, StreamDataBlocked}
 use Rattle.st_frames.specs.Written.{packet_length}
 use Rattle.st_sender.specs.declared.bounds.Bounds.{Bounds}
 use Rattle.st_sender.specs.declared.notice.Notice.{Notice}
 use Rattle.st_sender.specs.Sending.{Data, Whole, Flown, Flight, Load, Marks, Sending}
-use Rattle.st_sender.specs.Flights.{any_frame, tells, flying_end, all_ends}
+use Rattle.st_sender.specs.Flights.{any_frame, tells, flying_end, all_ends, room_for}
 use Rattle.st_sender.specs.Answering.{mark_after, marks_after, higher}
 use Rattle.st_sender.specs.Lanes.{Lane, due_in}
 use Rattle.st_sender.specs.Due.{was_blocked, IsDue}
@@ -38,7 +38,7 @@ pub record IsMoneyBlocked (r : Ratio) (flights : List Flight) (b : Bounds) (k : 
   pub told : l.out.told_money ≡ Some (limit, received)
   pub total_is : total ≡ l.out.fulfilled
   pub first : was_blocked l.out.blocked_money limit ≡ false
-  pub waits : limit - received < exchanged r (open_money flights k l.out)
+  pub waits : limit - received < room_for r (open_money flights k l.out)
   pub short : IsShort b (StreamMoneyBlocked k limit total)
 
 -- a Blocked of a stream goes

@@ -1,5 +1,5 @@
 -- Money that rides along: how much may go on each stream, and what goes.
-use Rattle.std.specs.Prelude.{◌≡◌, ℕ, ◌+◌, ◌-◌, ◌*◌, ◌/◌, ◌<◌, ◌≤◌, List, [], length, map, min, sum, is_some, nat_eq, if◌then◌else◌}
+use Rattle.std.specs.Prelude.{◌≡◌, ℕ, ◌+◌, ◌-◌, ◌*◌, ◌/◌, ◌<◌, ◌≤◌, List, length, map, min, sum, is_some, nat_eq, if◌then◌else◌}
 use Rattle.std.specs.List.{sum_by, range_with_len, AllByRecursion}
 use Rattle.std.specs.declared.option.Option.{Option}
 use Rattle.std.specs.declared.option.Option.TheVariants.{None, Some}
@@ -32,9 +32,10 @@ flown_least r k ps = sum_by (λ (p : Flight). exchanged r (part_of k p)) ps
 abbrev pub open_money : List Flight → ℕ → Outgoing → ℕ
 open_money ps k x = if is_some x.abort then 0 else x.offered - x.fulfilled - flown_money k ps
 
--- the greatest amount of which at most this much should arrive
+-- the greatest amount that may go where this much is left of the receive max: at most this much of it should arrive, and
+-- nothing goes where nothing is left
 abbrev pub most_for : Ratio → ℕ → ℕ
-most_for r left = (left * r.den + (r.den - 1)) / r.num
+most_for r left = if nat_eq left 0 then 0 else (left * r.den + (r.den - 1)) / r.num
 
 -- and what of it may go: no limit before the peer told one
 abbrev pub allowed_money : Ratio → Option (ℕ × ℕ) → (flying due : ℕ) → ℕ

@@ -2,6 +2,7 @@
 
 ghost use Rattle.std.specs.Prelude.{[], ◌∷◌, ◌≡◌, ◌<◌, ◌≤◌, ◌^◌, ◌-◌, ◌*◌, length, IfOk, MatchOption};
 ghost use Rattle.st_sender.specs.Allowed.{IsUnit, NoneUnit, least_for};
+ghost use Rattle.st_sender.specs.Flights.{room_for};
 ghost use Rattle.st_sender.specs.Paying.{Pays, flown_money, flown_least, most_for, payable};
 
 use crate::bounds::Bounds;
@@ -45,12 +46,24 @@ pub fn without_least<A: Allocator + Copy>(
     rest as u64
 }
 
-/// The greatest amount whose prepare amount is at most `left`. `least` is the rate of the prepare amount.
+/// The greatest amount that may be sent where `left` units are left of the peer's receive max: its prepare amount is at
+/// most `left`, and where nothing is left it is 0. `least` is the rate of the prepare amount.
 pub fn most_for(least: Rate, left: u64) -> u128
     ensures { result ≡ most_for least left }
 {
+    if left == 0 {
+        return 0;
+    }
     (u128::from(left) * u128::from(least.den()) + u128::from(least.den() - 1))
         / u128::from(least.num())
+}
+
+/// What has to be left of the peer's receive max for an amount to be sent: its prepare amount, and a unit where the
+/// amount is above 0. `least` is the rate of the prepare amount.
+pub fn room_for(least: Rate, amount: u64) -> u128
+    ensures { result ≡ room_for least amount }
+{
+    least.of(amount).max(u128::from(amount.min(1)))
 }
 
 /// The prepare amount of an amount that is sent (RFC 0029, section 5.2). `least` is its rate.

@@ -366,6 +366,31 @@ fn money_is_sent_up_to_the_receive_max() {
     assert!(send(&mut client).is_none());
 }
 
+/// One unit has to arrive of a thousand. Once the receive max is used up no money is sent, though 999 units would count for
+/// nothing of it.
+#[test]
+fn no_money_is_sent_once_the_receive_max_is_used_up() {
+    let of = EndConfig {
+        least_num: 1,
+        least_den: 1_000,
+        ..config(16, 1_000, 1_000_000)
+    };
+    let mut client = client(&[1], of);
+    client.write(1, b"a").unwrap();
+    let first = sent(&mut client);
+    fulfill(&mut client, &first, &[frame(0x12, [1, 5, 0])]);
+    client.offer(1, 6_998).unwrap();
+    let five = sent(&mut client);
+    assert_eq!((five.amount, five.least), (5_999, 5));
+    assert!(send(&mut client).is_none());
+    fulfill(&mut client, &five, &[frame(0x12, [1, 5, 5])]);
+    // (999 units are left)
+    let blocked = sent(&mut client);
+    assert_eq!(blocked.frames, [frame(0x13, [1, 5, 5_999])]);
+    fulfill(&mut client, &blocked, &[frame(0x12, [1, 6, 5])]);
+    assert_eq!(sent(&mut client).amount, 999);
+}
+
 /// The packet limit is shared by the streams in their order, and what failed is sent again.
 #[test]
 fn the_packet_limit_is_shared_among_streams() {
