@@ -113,12 +113,12 @@ pub fulfilled_lawful : (e : EndState) (p : Packet) (amount : ℕ) → fault_of e
 fulfilled_lawful e p amount none l =
     let fs = frames_of p in
     let r = effect e.receiving p amount in
-    let t = after_all_told e.sending fs in
-    let s = all_marked (reply_frames r fs) (opened_too r t) fs in
-    let told_stay = all_told_stays e.sending fs e.sending (itself e.sending) in
-    let marked_stay = all_marked_stays (reply_frames r fs) fs (opened_too r t) in
-    let same = marked_stay.0 ∙ too_flies r t ∙ told_stay.0 in
-    let j = joined s r (sym (marked_stay.1 ∙ taken_joined e.receiving t p amount none (both_open e l ∙ sym told_stay.1))) in
+    let t = opened_too r e.sending in
+    let s = all_marked (reply_frames r fs) (after_all_told t fs) fs in
+    let told_stay = all_told_stays t fs t (itself t) in
+    let marked_stay = all_marked_stays (reply_frames r fs) fs (after_all_told t fs) in
+    let same = marked_stay.0 ∙ told_stay.0 ∙ too_flies r e.sending in
+    let j = joined s r (sym (marked_stay.1 ∙ told_stay.1 ∙ taken_joined e.receiving e.sending p amount none (both_open e l))) in
     record { own = l.own; peer = peer_lawful fs e.peer l.peer; kept = λ n h. ap (λ ps. is_some (flight_at ps n)) same ∙ l.kept n h; both = j.both; places = j.places }
 
 -- ---- what is answered

@@ -36,7 +36,7 @@ IsBack bytes Unreadable = (fault : IlpError) × (answer_at bytes ≡ Err fault)
 
 -- what the sending side has once a packet took effect that leaves r
 abbrev pub taken_by : Sending → Receiving → Packet → Sending
-taken_by s r p = all_marked (reply_frames r (frames_of p)) (opened_too r (after_all_told s (frames_of p))) (frames_of p)
+taken_by s r p = all_marked (reply_frames r (frames_of p)) (after_all_told (opened_too r s) (frames_of p)) (frames_of p)
 
 -- what became of a packet, and what it left of both sides
 abbrev pub IsJudged : {X : Type 0} → DerivedKeys → PreparePacket → Packet → Sending → Receiving → Sending → Receiving → Judged X → Type 0

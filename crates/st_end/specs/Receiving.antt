@@ -116,10 +116,11 @@ new_peer peer (f ∷ fs) = new_peer peer fs
 abbrev pub told : EndState → Packet → EndState
 told e p = record e { sending = after_all_told e.sending (frames_of p) }
 
--- before streams are opened; the Blocked frames and a new address count where the packet is fulfilled
+-- where the packet is fulfilled its streams are opened before its limits are looked at. The Blocked frames and a new address
+-- count there alone
 abbrev pub fulfilled : EndState → Packet → Receiving → EndState
 fulfilled e p r = record e {
-  sending = all_marked (reply_frames r (frames_of p)) (opened_too r (after_all_told e.sending (frames_of p))) (frames_of p);
+  sending = all_marked (reply_frames r (frames_of p)) (after_all_told (opened_too r e.sending) (frames_of p)) (frames_of p);
   receiving = r;
   peer = new_peer e.peer (frames_of p);
 }

@@ -116,7 +116,8 @@ pub(crate) fn last_address<'f>(mut frames: Frames<'f>) -> Option<&'f str>
     last
 }
 
-/// Makes a packet take effect by the plan that was made for it, whose reply has these frames. Does not allocate.
+/// Makes a packet take effect by the plan that was made for it, whose reply has these frames. Its streams are opened before
+/// its limits are taken. Does not allocate.
 pub(crate) fn take_effect<A: Allocator + Copy>(
     outbox: &mut Outbox<A>,
     intake: &mut Intake<A>,
@@ -126,10 +127,10 @@ pub(crate) fn take_effect<A: Allocator + Copy>(
 )
     requires plan { IsPlanFor intake.old (packet_of packet.now) plan }
     ensures received { intake.new.state ≡ effect intake.old.state (packet_of packet.now) plan.amount }
-    ensures sends { outbox.new ≡ receiving.all_marked (map seen reply.now) (receiving.opened_too (effect intake.old.state (packet_of packet.now) plan.amount) (after_all_told outbox.old (frames_of (packet_of packet.now)))) (frames_of (packet_of packet.now)) }
+    ensures sends { outbox.new ≡ receiving.all_marked (map seen reply.now) (after_all_told (receiving.opened_too (effect intake.old.state (packet_of packet.now) plan.amount) outbox.old) (frames_of (packet_of packet.now))) (frames_of (packet_of packet.now)) }
 {
-    raise_all(outbox, packet.frames.again());
     intake.commit(packet, plan);
     open_too(outbox, intake);
+    raise_all(outbox, packet.frames.again());
     mark_all(outbox, reply, packet.frames.again());
 }

@@ -256,7 +256,8 @@ impl<A: Allocator + Copy> EndState<A> {
 
     /// Takes bytes that arrived at this end, at the moment `now`, and gives the Fulfill or Reject that answers them
     /// (RFC 0027, RFC 0029). A Prepare that breaks no rule is fulfilled: its data are taken first, then its money, then
-    /// its closes. The limits in a packet that decrypts are taken even where the Prepare is rejected.
+    /// its closes. The limits in a packet that decrypts are taken even where the Prepare is rejected. Those of a stream that
+    /// the packet opens are taken where it is fulfilled.
     ///
     /// `reason` is 0 where the Prepare was fulfilled. Otherwise it is the number of the first rule that applies. 10 to
     /// 17: the bytes are no Prepare. 56: it has another destination. 57: it expired. 30 to 32: its payload does not

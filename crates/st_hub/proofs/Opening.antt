@@ -358,8 +358,8 @@ fulfilled_opens : (e : EndState) (p : Packet) (amount : ℕ) (r : Receiving) →
 fulfilled_opens e p amount r is none =
     let P : Receiving → Type 0 = AllRead (Was e) in
     let reads : AllRead (Was e) r = subst P (sym is) (effect_in (Was e) e.receiving.parity (λ k ne own. absurd (ne own)) e.receiving p amount none refl (was_read e)) in
-    let s = after_all_told e.sending (frames_of p) in
-    opens_by e (fulfilled e p r) (marking (Was e) (reply_frames r (frames_of p)) (frames_of p) (opened_too r s) (opening (Was e) r s reads (all_told (Was e) (frames_of p) e.sending (was_sent e)))) reads
+    let s = opened_too r e.sending in
+    opens_by e (fulfilled e p r) (marking (Was e) (reply_frames r (frames_of p)) (frames_of p) (after_all_told s (frames_of p)) (all_told (Was e) (frames_of p) s (opening (Was e) r e.sending reads (was_sent e)))) reads
 
 verdict_opens : (e : EndState) (q : PreparePacket) (v : Verdict) → Tells e q v → OpensNoOwn e (after_verdict e v)
 verdict_opens e q (Unread code reason) t = same_opens e

@@ -23,7 +23,7 @@ use Rattle.st_end.specs.State.{EndState}
 use Rattle.st_end.specs.Receiving.{Verdict, Unread, Rejects, Fulfills, f02, r00, judged_as, is_own_condition, opened_as, verdict_on, opened_too, told, fulfilled, after_verdict, reason_of, prepare_or_none, received}
 use Rattle.st_hub.specs.Turns.{credited_by}
 use Rattle.st_hub.specs.Keeping.{KeepsRead, Keeps}
-use Rattle.st_hub.proofs.SentKeeping.{all_told, opened_too_keeps, all_marked_keeps}
+use Rattle.st_hub.proofs.SentKeeping.{sent_same, sent_join, all_told, opened_too_keeps, all_marked_keeps}
 use Rattle.st_hub.proofs.ReadKeeping.{read_same, effect_read}
 use Rattle.st_hub.proofs.EndEvents.{keeps_same}
 
@@ -89,9 +89,10 @@ told_keeps n b e p off = subst (λ m. Keeps m e (told e p)) (none_by b n off) (r
 
 fulfilled_keeps : (n : ℕ) (e : EndState) (p : Packet) (r : Receiving) → r ≡ effect e.receiving p n → Keeps n e (fulfilled e p r)
 fulfilled_keeps n e p r is =
-    let told = after_all_told e.sending (frames_of p) in
+    let s = opened_too r e.sending in
+    let told = after_all_told s (frames_of p) in
     record {
-      sent = all_marked_keeps (reply_frames r (frames_of p)) (frames_of p) e.sending (opened_too r told) (opened_too_keeps r e.sending told (all_told (frames_of p) e.sending));
+      sent = all_marked_keeps (reply_frames r (frames_of p)) (frames_of p) e.sending told (sent_join e.sending s told (opened_too_keeps r e.sending e.sending (sent_same e.sending)) (all_told (frames_of p) s));
       read = subst (KeepsRead n e.receiving) (sym is) (effect_read e.receiving p n);
     }
 

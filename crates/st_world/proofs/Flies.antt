@@ -89,9 +89,9 @@ pub replied_flies : (e f : EndState) (bytes answer : List ℕ) (x : EndEntry) �
 replied_flies e f bytes answer x (rejected r y i j) = same_flies e.sending
 replied_flies e f bytes answer x (risen r y q i j) = all_told_flies e.sending (frames_of q) e.sending (same_flies e.sending)
 replied_flies e f bytes answer x (accepted r q v i o j z) =
-    let told' = all_told_flies e.sending (frames_of q) e.sending (same_flies e.sending) in
-    let opened' = opened_keeps (λ s. Flies e.sending s) (λ s k none h. with_flies e.sending s k new_outgoing h) v (after_all_told e.sending (frames_of q)) told' in
-    marked_keeps (λ s. Flies e.sending s) (λ s m h. record { flights = h.flights; last = h.last; paid = h.paid }) (reply_frames v (frames_of q)) (frames_of q) (opened_too v (after_all_told e.sending (frames_of q))) opened'
+    let opened' = opened_keeps (λ s. Flies e.sending s) (λ s k none h. with_flies e.sending s k new_outgoing h) v e.sending (same_flies e.sending) in
+    let told' = all_told_flies e.sending (frames_of q) (opened_too v e.sending) opened' in
+    marked_keeps (λ s. Flies e.sending s) (λ s m h. record { flights = h.flights; last = h.last; paid = h.paid }) (reply_frames v (frames_of q)) (frames_of q) (after_all_told (opened_too v e.sending) (frames_of q)) told'
 
 turned_flies : {A : Type 0} (e : EndState) (b : Bool) (x y : A × EndState) → Flies e.sending x.1.sending → Flies e.sending y.1.sending → Flies e.sending (cond b x y).1.sending
 turned_flies e true x y f g = f

@@ -255,7 +255,7 @@ replied_good own peer t e f bytes answer x wide (accepted y q v i o j z) sound s
     let both = sound q o in
     let g : Good peer e.receiving (frames_of q) v = subst P (sym z) (effect_good peer e.receiving q (prepare_in bytes).amount wide (faultless e.receiving q (prepare_in bytes).amount j).frames r both.0 both.1) in
     record {
-      good = record { send = out_marked own t (reply_frames v (frames_of q)) (frames_of q) (opened_too v (after_all_told e.sending (frames_of q))) (out_opened own t v (after_all_told e.sending (frames_of q)) (out_all_told own t (frames_of q) e.sending s)); recv = g.recv; rise = g.rise };
+      good = record { send = out_marked own t (reply_frames v (frames_of q)) (frames_of q) (after_all_told (opened_too v e.sending) (frames_of q)) (out_all_told own t (frames_of q) (opened_too v e.sending) (out_opened own t v e.sending s)); recv = g.recv; rise = g.rise };
       taken = λ is p again. (let Q : Packet → Type 0 = λ u. FramesTaken v (frames_of u) in let same : q ≡ p = let w : ◌≡◌ {A = Result Packet KeyError} (Ok q) (Ok p) = sym o ∙ again in cc in subst Q same g.taken);
     }
 

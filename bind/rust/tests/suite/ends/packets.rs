@@ -194,6 +194,30 @@ fn limits_at_which_the_peer_waits_are_told() {
     assert!(send(&mut server).is_none());
 }
 
+/// Limits count for the stream that their packet opens, where it is fulfilled. A packet that is rejected opens none.
+#[test]
+fn limits_count_in_the_packet_that_opens_their_stream() {
+    let mut server = server(&[]);
+    let limits = |offset, receive_max| {
+        [
+            frame(0x15, [1, offset, 0]),
+            frame(0x12, [1, receive_max, 0]),
+        ]
+    };
+    let too_much = [&limits(20_000, 9)[..], &[frame(0x11, [1, 1, 0])]].concat();
+    assert_eq!(reason(&mut server, 1, 1, 0, &too_much), 65);
+    assert_eq!(server.has_stream(1), Ok(false));
+    let opens = [&limits(16_390, 7)[..], &[data(1, 0, b"a")]].concat();
+    assert_eq!(reason(&mut server, 2, 0, 0, &opens), 0);
+    server.write(1, &[7; 20_000]).unwrap();
+    server.offer(1, 10).unwrap();
+    let first = sent(&mut server);
+    assert_eq!((first.amount, first.data()), (7, vec![(0, 16_000)]));
+    let second = sent(&mut server);
+    assert_eq!((second.amount, second.data()), (0, vec![(16_000, 390)]));
+    assert!(send(&mut server).is_none());
+}
+
 // ---- sending
 
 /// An end's next Prepare, as its peer reads it.
