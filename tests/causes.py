@@ -440,8 +440,10 @@ def a_reader_that_comes_late_has_all_lines(play):
 
 @test(waits=True)
 def long_messages_and_a_silent_reader_stop_no_connector(play):
-    """The connector's log is a pipe of one page that nobody reads, and each answer on its way on has a message of 65 kB."""
-    path, _ = a_page(play, "page")
+    """The connector's log is a pipe of 64 kB that nobody reads, and each answer on its way on has a message of 65 kB."""
+    path = f"{play.room}/pipe"
+    os.mkfifo(path)
+    play.open.append(os.fdopen(os.open(path, os.O_RDONLY | os.O_NONBLOCK), "rb", buffering=0))
     peer = answering(play, reject(b"T00", b"test.x", b"x" * 65_000))
     hub = play.connector(table_to(peer.port), log=path)
     begun = time.monotonic()
@@ -520,10 +522,11 @@ def a_log_whose_disk_was_full_goes_on(play):
     while time.monotonic() < until:
         with open(hub.log, encoding="ascii") as file:
             text = file.read().removeprefix(before)
-        if text.count("connection status=401\n") == 6:
+        if text.count(" connection status=401 ") == 6 and text.endswith("\n"):
             break
         time.sleep(0.05)
-    want(re.fullmatch(rf"{DATE}start [^\n]+\n(?:{DATE}connection status=401\n){{6}}", text), f"log {text!r}")
+    refused = rf'{DATE}connection status=401 from="127\.0\.0\.1:\d+"\n'
+    want(re.fullmatch(rf"{DATE}start [^\n]+\n(?:{refused}){{6}}", text), f"log {text!r}")
     return "each line is whole"
 
 

@@ -76,6 +76,17 @@ def a_sender_started_without(play, closed):
     return told
 
 
+@test(waits=True)
+def a_sender_without_an_input_or_files(play):
+    receiver = play.receive()
+    ways = [f"--to={HOST}:{receiver.port}", "--token=t", f"--secret={play.secret}", "--address=test.a", "--peer=test.b", "--money=500"]
+    ran = subprocess.run([without(play, "0"), "send", *ways], capture_output=True, timeout=10, check=False)
+    want((ran.returncode, ran.stderr) == (1, b"fault 90\n"), f"{ran}")
+    stands(receiver, "receive")
+    want(os.path.getsize(receiver.path) == 0, "something came")
+    return "90"
+
+
 @test(*CLOSED, waits=True)
 def a_receiver_started_without(play, closed):
     if "1" in closed:

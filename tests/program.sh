@@ -583,11 +583,14 @@ silent() { # what is done meanwhile, in words that are evaluated
     same "$1" $'1\n\nfault 88' "$?"$'\n'"$(cat "$room/out")"$'\n'"$(cat "$room/err")"
     same "the time of $1" 'in time' "$( ((SECONDS - began >= 2 && SECONDS - began < 5)) && echo in time)"
 }
-reach() { # a connection as descriptor 3, once somebody listens
+knock() { # a connection that is closed at once, once somebody listens
     for _ in {1..50}; do
-        if (exec 3<>"/dev/tcp/127.0.0.1/$1") 2>/dev/null; then break; fi
+        if (exec 3<>"/dev/tcp/127.0.0.1/$1") 2>/dev/null; then return; fi
         sleep 0.02
     done
+}
+reach() { # a connection as descriptor 3, after one that knocks
+    knock "$1"
     exec 3<>"/dev/tcp/127.0.0.1/$1"
 }
 silent 'a receiver that hears nothing' :
@@ -610,8 +613,7 @@ exec 8>&-
 # A connector that is asked for one request and gets a connection without one, and cannot tell its totals.
 "$program" connector --listen=127.0.0.1:17772 --own=test.hub --requests=1 --totals=/dev/full <<<"$table" 2>"$room/err" &
 asked=$!
-reach 17772
-exec 3>&-
+knock 17772
 wait $asked
 same 'a full file for totals' $'1\nfault 91' "$?"$'\n'"$(cat "$room/err")"
 

@@ -1,9 +1,9 @@
 -- What a call of books leaves, by what its transaction left.
-use Rattle.std.proofs.Common.{◌≡◌, ◌⊎◌, inl, inr, ℕ, List, IsTrue, refl, sym, ap, subst, ◌∙◌}
+use Rattle.std.proofs.Common.{◌≡◌, inl, ℕ, IsTrue, refl, sym, subst}
 use Rattle.sqlite_trees.specs.Tree.{Trees}
-use Rattle.sqlite_trees.specs.View.{View, IsClean}
+use Rattle.sqlite_trees.specs.View.{IsClean}
 use Rattle.sqlite_trees.specs.declared.store.Store.{Ghosts}
-use Rattle.st_books.specs.Standing.{Kept, Sums, AreSums, sums_of, Tells, Holds, LeavesOnly, Remains, IsReady, payments_in}
+use Rattle.st_books.specs.Standing.{Kept, Sums, AreSums, sums_of, Tells, Holds, Remains, IsReady, payments_in}
 use Rattle.st_books.specs.Commits.{BeforeOrAfter, Makes, Refuses}
 
 module _ {S : Type 0} (g : Ghosts S) (settled : (s : S) (db : Trees) → IsTrue (g.view s).is_open → g.recovers s db → db ≡ (g.view s).committed) where

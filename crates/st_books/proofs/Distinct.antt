@@ -1,5 +1,5 @@
 -- Names that stand once.
-use Rattle.std.proofs.Common.{◌≡◌, ◌≢◌, ℕ, ◌++◌, List, [], ◌∷◌, sym}
+use Rattle.std.proofs.Common.{◌≢◌, ℕ, ◌++◌, List, [], ◌∷◌, sym}
 use Rattle.std.specs.List.{AllByRecursion}
 use Rattle.st_books.specs.Table.{AreDistinct}
 

@@ -6,6 +6,7 @@ mod Causes
 mod Calls
 mod Listed
 mod DamageLemmas
+mod HeadLemmas
 mod Folding
 mod MadeLemmas
 mod Sound

@@ -1,10 +1,10 @@
 -- The list of objects of books.
-use Rattle.std.proofs.Common.{◌≡◌, ◌≢◌, ℕ, ◌+◌, ◌^◌, ◌<◌, pos, true, List, [], ◌∷◌, length, map, take, get_or-take, refl, sym, ap, subst, ◌∙◌, arith}
+use Rattle.std.proofs.Common.{◌≡◌, ℕ, ◌^◌, ◌<◌, pos, true, List, [], ◌∷◌, map, take, get_or-take, refl, sym, ap, subst, ◌∙◌, arith}
 use Rattle.sqlite_value.specs.declared.value.Value.TheVariants.{Null, Int}
 use Rattle.sqlite_value.specs.Order.{Row, column}
 use Rattle.sqlite_trees.specs.declared.store.Shape.{Shape}
 use Rattle.sqlite_trees.specs.declared.store.Shape.TheVariants.{Table}
-use Rattle.sqlite_trees.specs.Objects.{catalog_tree, version_tree, number_in, shape_code, row_for, IsListed as AllListed}
+use Rattle.sqlite_trees.specs.Objects.{number_in, shape_code, row_for, IsListed as AllListed}
 use Rattle.sqlite_trees.specs.Sound.{is_sound_list}
 use Rattle.st_books.specs.Payments.{payment_text}
 use Rattle.st_books.specs.Table.{table_text, payment_tree, IsTableRow, IsAccountRow, IsPaymentRow, IsListed, ListsTables}

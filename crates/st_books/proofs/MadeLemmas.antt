@@ -1,15 +1,15 @@
 -- The two tables, as they are made.
-use Rattle.std.proofs.Common.{◌≡◌, ℕ, ◌+◌, pos, true, false, map, is_eq, int_cmp, List, [], ◌∷◌, codes, refl, sym, ap, subst, ◌∙◌, arith}
-use Rattle.sqlite_value.specs.declared.value.Value.TheVariants.{Int, Text}
-use Rattle.sqlite_value.specs.Order.{Row, column, value_cmp}
+use Rattle.std.proofs.Common.{◌≡◌, ℕ, pos, true, false, map, is_eq, int_cmp, List, [], ◌∷◌, codes, refl, sym, ap, ◌∙◌, arith}
+use Rattle.sqlite_value.specs.declared.value.Value.TheVariants.{Text}
+use Rattle.sqlite_value.specs.Order.{Row, column}
 use Rattle.sqlite_value.proofs.OrderLemmas.{value_cmp-Int, value_cmp-Text}
-use Rattle.sqlite_trees.specs.Tree.{Trees, put_row, with_tree}
-use Rattle.sqlite_trees.specs.Objects.{catalog_tree, version_tree, version_rows, SetsObject}
+use Rattle.sqlite_trees.specs.Tree.{put_row, with_tree}
+use Rattle.sqlite_trees.specs.Objects.{catalog_tree, version_tree, SetsObject}
 use Rattle.sqlite_trees.specs.Sound.{is_sound_list, is_sound_object, has_code, is_word, is_virtual, head_at, are_in_order, fits_kind, begins, same_name, is_free_name, may_follow}
 use Rattle.sqlite_trees.specs.View.{View, Commits}
 use Rattle.sqlite_trees.specs.declared.store.Shape.TheVariants.{Table}
 use Rattle.st_books.specs.Payments.{payment_text}
-use Rattle.st_books.specs.Table.{table_text, payment_tree, AreBooks, ListsTables}
+use Rattle.st_books.specs.Table.{table_text, payment_tree, ListsTables}
 use Rattle.st_books.specs.Standing.{IsReady}
 use Rattle.st_books.specs.Made.{table_row, IsUnlaid, Lays}
 use Rattle.st_books.proofs.LineLemmas.{lower_id}

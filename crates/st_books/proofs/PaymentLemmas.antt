@@ -1,11 +1,11 @@
 -- Lines of the second table, and one of them written at its end.
-use Rattle.std.proofs.Common.{◌≡◌, ℕ, zero, suc, ◌+◌, ◌<◌, ◌++◌, pos, List, [], ◌∷◌, length, refl, sym, ap, subst, ◌∙◌, arith}
-use Rattle.sqlite_value.specs.declared.value.Value.TheVariants.{Null, Int, Text}
+use Rattle.std.proofs.Common.{◌≡◌, ℕ, suc, ◌+◌, ◌<◌, ◌++◌, pos, List, [], ◌∷◌, length, refl, sym, ap, subst, ◌∙◌, arith}
+use Rattle.sqlite_value.specs.declared.value.Value.TheVariants.{Int}
 use Rattle.sqlite_value.specs.Order.{Row, column}
 use Rattle.sqlite_trees.specs.Tree.{put_row}
 use Rattle.st_books.specs.declared.balance.Side.{Side}
 use Rattle.st_books.specs.declared.balance.Payment.{Payment}
-use Rattle.st_books.specs.Payments.{side_text, payment_line, IsPaymentLine, ArePaymentsFrom, ArePayments, name_at, payment_row, with_payment}
+use Rattle.st_books.specs.Payments.{payment_line, IsPaymentLine, ArePaymentsFrom, ArePayments, name_at, payment_row, with_payment}
 use Rattle.st_books.proofs.LineLemmas.{lower_id}
 
 module _ (name : List ℕ) (side : Side) (amount moment : ℕ) where

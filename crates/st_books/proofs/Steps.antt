@@ -1,5 +1,5 @@
 -- Steps of a store one after another.
-use Rattle.std.proofs.Common.{Result, Ok, Err, IfOk, OnOk, OnErr, IsOk, ◌≡◌, ◌≢◌, ◌⊎◌, inl, inr, ℕ, ◌+◌, ◌^◌, true, false, List, length, length-append, ◌++◌, ◌∷◌, IsTrue, [], if◌then◌else◌, refl, sym, ap, subst, ◌∙◌, arith, ne_eqb, eq-eqb}
+use Rattle.std.proofs.Common.{Result, Ok, Err, IfOk, OnOk, OnErr, IsOk, ◌≡◌, ◌≢◌, ◌⊎◌, inl, inr, ℕ, ◌+◌, true, false, List, length, length-append, ◌++◌, ◌∷◌, IsTrue, [], if◌then◌else◌, refl, sym, ap, subst, ◌∙◌, arith, ne_eqb, eq-eqb}
 use Rattle.std.proofs.lemmas.Bool.{cases_Bool}
 use Rattle.sqlite_trees.specs.Tree.{Trees, with_tree, put_row}
 use Rattle.sqlite_trees.specs.Objects.{catalog_tree, version_tree, version_rows}
@@ -167,6 +167,10 @@ ok_both (Err e) P Q R both p q = tt
 pub ok_three : {T E : Type 0} (r : Result T E) (P Q R Z : T → Type 0) → ((x : T) → P x → Q x → R x → Z x) → IfOk r P → IfOk r Q → IfOk r R → IfOk r Z
 ok_three (Ok x) P Q R Z all p q s = all x p q s
 ok_three (Err e) P Q R Z all p q s = tt
+
+pub ok_four : {T E : Type 0} (r : Result T E) (P Q R S Z : T → Type 0) → ((x : T) → P x → Q x → R x → S x → Z x) → IfOk r P → IfOk r Q → IfOk r R → IfOk r S → IfOk r Z
+ok_four (Ok x) P Q R S Z all p q s u = all x p q s u
+ok_four (Err e) P Q R S Z all p q s u = tt
 
 pub on_err : {T E P : Type 0} (r : Result T E) → P → OnErr r P
 on_err (Ok x) h = tt

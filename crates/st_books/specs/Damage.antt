@@ -1,5 +1,5 @@
 -- Damage in the log, told apart from what a crash leaves of it. SQLite's file format, section 4, is the log's.
-use Rattle.std.specs.Prelude.{◌≡◌, ◌≢◌, ◌⊎◌, ℕ, ◌+◌, ◌<◌, ◌≤◌, List, length, slice_index, Bool, IsTrue}
+use Rattle.std.specs.Prelude.{◌≡◌, ◌≢◌, ◌⊎◌, ℕ, ◌+◌, ◌<◌, ◌≤◌, List, length, slice_index, Bool, true, false, not, IsTrue}
 use Rattle.sqlite_wal.specs.Format.{be32, commit_size, IsSigned}
 use Rattle.sqlite_wal.specs.Recovery.{Image, frame_at, frame, header, Passes, IsBegun}
 use Rattle.sqlite.specs.Files.{IsNothing}
@@ -46,6 +46,13 @@ IsFit page_size log i Last = Ends page_size log i
 -- a frame that fits and, if that is asked for, ends a commit
 abbrev pub IsWanted : (ends : Bool) → ℕ → List ℕ → ℕ → Type 0
 IsWanted ends page_size log i = Passes page_size log i × (IsTrue ends → commit_size (frame page_size log i) ≢ 0)
+
+-- the same, of how a frame fits
+abbrev pub wants : Fit → (ends : Bool) → Bool
+wants Absent ends = false
+wants Broken ends = false
+wants Inner ends = not ends
+wants Last ends = true
 
 -- it is the first one of them from a place on
 pub record IsNext (ends : Bool) (page_size : ℕ) (log : List ℕ) (from n : ℕ) : Type 0 where

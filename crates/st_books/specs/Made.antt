@@ -1,13 +1,11 @@
 -- How the two tables are made.
-use Rattle.std.specs.Prelude.{◌≡◌, ℕ, ◌+◌, pos, false, true, List, [], ◌∷◌, codes, IsTrue}
+use Rattle.std.specs.Prelude.{◌≡◌, ℕ, ◌+◌, pos, List, [], ◌∷◌, codes, IsTrue}
 use Rattle.sqlite_value.specs.declared.value.Value.TheVariants.{Int, Text}
 use Rattle.sqlite_value.specs.Order.{Row}
-use Rattle.sqlite_trees.specs.Tree.{Trees}
 use Rattle.sqlite_trees.specs.Objects.{catalog_tree, version_tree, version_rows}
 use Rattle.sqlite_trees.specs.View.{View}
 use Rattle.sqlite_trees.specs.declared.store.Shape.TheVariants.{Absent, Table}
-use Rattle.st_books.specs.Payments.{payment_text}
-use Rattle.st_books.specs.Table.{table_text, payment_tree, AreBooks}
+use Rattle.st_books.specs.Table.{payment_tree, AreBooks}
 
 -- the row of a table in the list of objects: its number there, type, name, table, text, that it is a table, and no REAL column
 abbrev pub table_row : (tree : ℕ) (name text : List ℕ) → Row

@@ -6,7 +6,7 @@ ghost use Rattle.sqlite_wal.specs.Format.{be32, IsSigned};
 ghost use Rattle.sqlite_wal.specs.Recovery.{frame_at, frame, header};
 ghost use Rattle.sqlite_wal.specs.Recovery as recovery;
 ghost use Rattle.sqlite_wal.specs.Reads.{IsClean, OnlyReads};
-ghost use Rattle.st_books.specs.Damage.{IsBroken, IsDamaged, IsFit, IsFirstBroken, IsNext, HasNoNext};
+ghost use Rattle.st_books.specs.Damage.{IsBroken, IsDamaged, IsFit, IsFirstBroken, IsNext, HasNoNext, wants};
 
 use crate::error::BooksError;
 use crate::frames::{
@@ -110,7 +110,9 @@ fn first_broken<D: Disk>(
 }
 
 /// Whether a frame that fits so is one that fits and, if that is asked for, ends a commit.
-fn is_wanted(fit: Fit, ends: bool) -> bool {
+fn is_wanted(fit: Fit, ends: bool) -> bool
+    ensures { result ≡ wants fit ends }
+{
     match fit {
         Fit::Absent | Fit::Broken => false,
         Fit::Inner => !ends,
@@ -143,7 +145,7 @@ fn next_frame<D: Disk>(
         if is_wanted(fit, ends) {
             return Ok(Some(i));
         }
-        if fit == Fit::Absent {
+        if let Fit::Absent = fit {
             return Ok(None);
         }
     }

@@ -5,6 +5,7 @@ use crate::lossy::{
     Fate, Input, Met, Numbers, PACKET_LIMIT, Passage, begin, read_all, step, world,
 };
 use st_chain::{Event, World};
+use st_ilp::Moment;
 use st_nodes::{Side, Way};
 use std::alloc::Global;
 use std::process::Abort;
@@ -35,9 +36,11 @@ impl Seen {
     };
 
     fn note(&mut self, fate: Fate) {
-        self.sends += 1;
-        self.losses += u64::from(fate != Fate::Delivered);
-        self.lost_answers += u64::from(matches!(fate, Fate::AnswerLost(_)));
+        let is_lost = !matches!(fate, Fate::Delivered);
+        let is_answered = matches!(fate, Fate::AnswerLost(_));
+        self.sends = self.sends.saturating_add(1);
+        self.losses = self.losses.saturating_add(u64::from(is_lost));
+        self.lost_answers = self.lost_answers.saturating_add(u64::from(is_answered));
     }
 }
 
@@ -57,38 +60,39 @@ impl Plan {
     fn draw(numbers: &mut Numbers) -> Plan {
         let mut plan = Plan {
             hops: numbers.below(4) as usize,
-            streams: 1 + numbers.below(3) as usize,
+            streams: (numbers.below(3) as usize).saturating_add(1),
             sizes: [0; 3],
             money: [0; 3],
             most_losses: numbers.below(8),
-            often: 1 + numbers.below(4),
+            often: numbers.below(4).saturating_add(1),
         };
         for at in 0..plan.streams.min(3) {
             plan.sizes[at] = SIZES[numbers.below(6) as usize % 6];
-            plan.money[at] = numbers.below(3).min(1) * numbers.below(600);
+            plan.money[at] = numbers.below(3).min(1).saturating_mul(numbers.below(600));
         }
         plan
     }
 
     /// All units that are offered.
     fn offered(&self) -> u64 {
-        self.money.iter().sum()
+        let [first, second, third] = self.money;
+        first.saturating_add(second).saturating_add(third)
     }
 
     /// How many Sends a run without losses may take.
     fn bound(&self) -> u64 {
-        let frames: u64 = self
-            .sizes
-            .iter()
-            .map(|size| (*size as u64).div_ceil(16_000))
-            .sum();
-        frames.max(self.offered().div_ceil(PACKET_LIMIT)) + self.streams as u64
+        let mut frames = 0u64;
+        for size in &self.sizes {
+            frames = frames.saturating_add((*size as u64).div_ceil(16_000));
+        }
+        let payments = self.offered().div_ceil(PACKET_LIMIT);
+        frames.max(payments).saturating_add(self.streams as u64)
     }
 
     /// The fate of the next Send.
     fn fate(&self, numbers: &mut Numbers, losses: u64) -> Fate {
         let (is_lost, kind) = (numbers.below(self.often) == 0, numbers.below(2));
-        let link = numbers.below(self.hops as u64 + 1) as usize;
+        let link = numbers.below((self.hops as u64).saturating_add(1)) as usize;
         match (is_lost && losses < self.most_losses, kind) {
             (false, _) => Fate::Delivered,
             (true, 0) => Fate::PrepareLost(link),
@@ -105,6 +109,14 @@ fn is_whole(world: &World<Global>, side: Side, stream: u8, input: &[u8]) -> bool
     ledger.read() == input && ledger.told_end()
 }
 
+/// The first bytes of a text, as many as that.
+fn front(bytes: &[u8], count: usize) -> &[u8] {
+    match bytes.get(0..count) {
+        Some(front) => front,
+        None => bytes,
+    }
+}
+
 /// The client sends until it has nothing more to send.
 fn send_all(
     rt: &impl Abort,
@@ -112,29 +124,57 @@ fn send_all(
     plan: &Plan,
     numbers: &mut Numbers,
 ) -> Seen {
-    let (mut seen, mut passage) = (Seen::NOTHING, Passage::new(rt, Way::ToServer, plan.hops));
-    while passage.sends(rt, world, Side::Client) {
+    let mut seen = Seen::NOTHING;
+    let mut passage = Passage::new(rt, Way::ToServer, plan.hops);
+    for _ in 0..1_000 {
+        if !passage.sends(rt, world, Side::Client) {
+            return seen;
+        }
         let fate = plan.fate(numbers, seen.losses);
         passage.meets(rt, world, fate);
         seen.note(fate);
         read_all(rt, world, Side::Server);
-        sure!(rt; seen.sends < 1_000);
     }
-    seen
+    panic!(rt; "it sends on and on")
+}
+
+/// The number of the client's stream at this place.
+fn stream_at(at: usize) -> u8 {
+    match at {
+        0 => 1,
+        1 => 3,
+        _ => 5,
+    }
 }
 
 /// Opens each stream of a plan, with just the room for its money and for what lost answers may carry.
 fn begin_all(rt: &impl Abort, world: &mut World<Global>, plan: &Plan, bytes: &[u8]) {
     for at in 0..plan.streams.min(3) {
         let money = plan.money[at];
+        let spare = plan.most_losses.saturating_mul(money.min(PACKET_LIMIT));
         let input = Input {
-            stream: 2 * at as u8 + 1,
-            bytes: &bytes[..plan.sizes[at]],
+            stream: stream_at(at),
+            bytes: front(bytes, plan.sizes[at]),
             money,
-            receive_max: money + plan.most_losses * money.min(PACKET_LIMIT),
+            receive_max: money.saturating_add(spare),
         };
         begin(rt, world, Side::Client, &input);
     }
+}
+
+/// How many streams of a plan came whole.
+fn whole_of(world: &World<Global>, plan: &Plan, bytes: &[u8]) -> usize {
+    let mut whole = 0usize;
+    for at in 0..plan.streams.min(3) {
+        let is_one = is_whole(
+            world,
+            Side::Client,
+            stream_at(at),
+            front(bytes, plan.sizes[at]),
+        );
+        whole = whole.saturating_add(usize::from(is_one));
+    }
+    whole
 }
 
 /// A run. Its world ends in this function alone, since the prover takes long for each that drops one.
@@ -142,15 +182,10 @@ fn play(rt: &impl Abort, alloc: Global, plan: &Plan, numbers: &mut Numbers, byte
     let mut world = world(rt, alloc, plan.hops);
     begin_all(rt, &mut world, plan, bytes);
     let seen = send_all(rt, &mut world, plan, numbers);
-    let mut whole = 0;
-    for at in 0..plan.streams.min(3) {
-        let input = &bytes[..plan.sizes[at]];
-        whole += usize::from(is_whole(&world, Side::Client, 2 * at as u8 + 1, input));
-    }
     Seen {
         paid: world.trace().end(Side::Client).totals().paid,
         credited: world.trace().end(Side::Server).totals().credited,
-        whole,
+        whole: whole_of(&world, plan, bytes),
         ..seen
     }
 }
@@ -163,22 +198,38 @@ fn bytes(rt: &impl Abort, alloc: Global) -> Vec<u8> {
     bytes
 }
 
+impl Seen {
+    /// Whether a run took at most its bound and one Send more for each that was lost, brought all bytes and all money, and
+    /// beside it at most what lost answers carried.
+    fn is_lawful(&self, plan: &Plan) -> bool {
+        let most = self.lost_answers.saturating_mul(PACKET_LIMIT);
+        self.whole == plan.streams
+            && self.paid == plan.offered()
+            && self.sends <= plan.bound().saturating_add(self.losses)
+            && self.credited >= self.paid
+            && self.credited.saturating_sub(self.paid) <= most
+    }
+
+    /// Whether it took just as many, of which some were lost.
+    fn is_at_bound(&self, plan: &Plan) -> bool {
+        self.losses > 0 && self.sends == plan.bound().saturating_add(self.losses)
+    }
+}
+
 /// Each lost Send costs at most one more. All bytes come, and beside all money at most what lost answers carried.
 #[test]
 fn a_lost_send_costs_itself(rt: HostRuntime) {
-    let (bytes, mut numbers) = (bytes(&rt, rt.alloc()), Numbers::of(1));
-    let (mut reached, mut more) = (0_u64, 0_u64);
+    let bytes = bytes(&rt, rt.alloc());
+    let mut numbers = Numbers::of(1);
+    let (mut reached, mut more) = (false, false);
     for n in 0..12 {
         let plan = Plan::draw(&mut numbers);
         let seen = play(&rt, rt.alloc(), &plan, &mut numbers, &bytes);
-        sure!(&rt; seen.whole == plan.streams && seen.paid == plan.offered(), n);
-        sure!(&rt; seen.sends <= plan.bound() + seen.losses, n);
-        sure!(&rt; seen.credited >= seen.paid, n);
-        sure!(&rt; seen.credited - seen.paid <= seen.lost_answers * PACKET_LIMIT, n);
-        reached += u64::from(seen.losses > 0 && seen.sends == plan.bound() + seen.losses);
-        more += u64::from(seen.credited > seen.paid);
+        sure!(&rt; seen.is_lawful(&plan), n);
+        reached = reached || seen.is_at_bound(&plan);
+        more = more || seen.credited > seen.paid;
     }
-    sure!(&rt; reached > 0 && more > 0);
+    sure!(&rt; reached && more);
 }
 
 /// 40 bytes and 100 units on one stream, of which the first answer is lost.
@@ -191,30 +242,28 @@ fn lose_the_first(rt: &impl Abort, alloc: Global, receive_max: u64) -> Seen {
         receive_max,
     };
     begin(rt, &mut world, Side::Client, &input);
-    let mut seen = Seen::NOTHING;
-    let now = st_ilp::Moment::new(0).expect(rt, "it is not below 0");
-    while seen.sends < 50
-        && step(rt, &mut world, &Event::Send(Side::Client, [7; 12], now)) == Met::Sent
-    {
-        seen.sends += 1;
-        let which = seen.sends as usize;
+    let now = Moment::new(0).expect(rt, "it is not below 0");
+    let mut sends = 0u64;
+    for which in 1..51 {
+        if step(rt, &mut world, &Event::Send(Side::Client, [7; 12], now)) != Met::Sent {
+            break;
+        }
+        sends = which as u64;
         let _answered = step(rt, &mut world, &Event::Arrive(0, Way::ToServer, which, now));
-        let _learned = if which == 1 {
-            step(rt, &mut world, &Event::Fault(0, Way::ToServer, which, now))
+        let outcome = if which == 1 {
+            Event::Fault(0, Way::ToServer, which, now)
         } else {
-            step(
-                rt,
-                &mut world,
-                &Event::AnswerArrives(0, Way::ToServer, which, now),
-            )
+            Event::AnswerArrives(0, Way::ToServer, which, now)
         };
+        let _learned = step(rt, &mut world, &outcome);
         read_all(rt, &mut world, Side::Server);
     }
     Seen {
         paid: world.trace().end(Side::Client).totals().paid,
         credited: world.trace().end(Side::Server).totals().credited,
         whole: usize::from(is_whole(&world, Side::Client, 1, &bytes)),
-        ..seen
+        sends,
+        ..Seen::NOTHING
     }
 }
 
@@ -257,9 +306,9 @@ impl Sender {
         };
         let input = Input {
             stream,
-            bytes: &bytes[..size],
+            bytes: front(bytes, size),
             money,
-            receive_max: money + 1_000,
+            receive_max: money.saturating_add(1_000),
         };
         begin(rt, world, side, &input);
         Sender {
@@ -270,7 +319,7 @@ impl Sender {
             work: (size as u64)
                 .div_ceil(16_000)
                 .max(money.div_ceil(PACKET_LIMIT))
-                + 1,
+                .saturating_add(1),
             is_flying: false,
             is_done: false,
         }
@@ -295,7 +344,7 @@ impl Sender {
     }
 
     fn is_bounded(&self) -> bool {
-        self.seen.sends <= self.work + self.seen.losses
+        self.seen.sends <= self.work.saturating_add(self.seen.losses)
     }
 }
 
@@ -305,7 +354,10 @@ fn both_send(rt: &impl Abort, alloc: Global, numbers: &mut Numbers, bytes: &[u8]
     let mut world = world(rt, alloc, 0);
     let mut client = Sender::begin(rt, &mut world, Side::Client, numbers, bytes);
     let mut server = Sender::begin(rt, &mut world, Side::Server, numbers, bytes);
-    while !(client.is_done && server.is_done) {
+    for _ in 0..10_000 {
+        if client.is_done && server.is_done {
+            break;
+        }
         if numbers.below(2) == 0 {
             client.goes_on(rt, &mut world, numbers);
         } else {

@@ -131,7 +131,7 @@ impl Passage {
     pub(crate) fn sends(&mut self, rt: &impl Abort, world: &mut World<Global>, side: Side) -> bool {
         let is_sent = step(rt, world, &Event::Send(side, [7; 12], self.now)) == Met::Sent;
         if is_sent {
-            self.prepares[0] += 1;
+            self.prepares[0] = self.prepares[0].saturating_add(1);
         }
         is_sent
     }
@@ -142,10 +142,11 @@ impl Passage {
             let event = Event::Arrive(link, self.way, self.prepares[link], self.now);
             if link == self.hops {
                 sure!(rt; step(rt, world, &event) == Met::Fulfilled, link as u64);
-                self.answers[link] += 1;
+                self.answers[link] = self.answers[link].saturating_add(1);
             } else {
                 sure!(rt; step(rt, world, &event) == Met::Forwarded, link as u64);
-                self.prepares[(link + 1) % LINKS] += 1;
+                let next = link.saturating_add(1) % LINKS;
+                self.prepares[next] = self.prepares[next].saturating_add(1);
             }
         }
     }
@@ -163,13 +164,15 @@ impl Passage {
             sure!(rt; step(rt, world, event) == last);
         } else {
             sure!(rt; step(rt, world, event) == Met::Replied, link as u64);
-            self.answers[(link - 1) % LINKS] += 1;
+            let before = link.saturating_sub(1) % LINKS;
+            self.answers[before] = self.answers[before].saturating_add(1);
         }
     }
 
     /// The answer comes back over the links from the last down to this one.
     fn come_back(&mut self, rt: &impl Abort, world: &mut World<Global>, first: usize) {
-        for link in (first..self.hops + 1).rev() {
+        for back in 0..self.hops.saturating_add(1).saturating_sub(first) {
+            let link = self.hops.saturating_sub(back);
             let event = Event::AnswerArrives(link, self.way, self.answers[link % LINKS], self.now);
             self.comes(rt, world, link, &event, Met::Booked);
         }
@@ -177,7 +180,8 @@ impl Passage {
 
     /// Who waits on a link up to this one learns that no answer will arrive.
     fn fail(&mut self, rt: &impl Abort, world: &mut World<Global>, last: usize) {
-        for link in (0..last + 1).rev() {
+        for back in 0..last.saturating_add(1) {
+            let link = last.saturating_sub(back);
             let event = Event::Fault(link, self.way, self.prepares[link % LINKS], self.now);
             self.comes(rt, world, link, &event, Met::Failed);
         }
@@ -185,7 +189,7 @@ impl Passage {
 
     /// What becomes of the Prepare that was sent last.
     pub(crate) fn meets(&mut self, rt: &impl Abort, world: &mut World<Global>, fate: Fate) {
-        let links = self.hops + 1;
+        let links = self.hops.saturating_add(1);
         match fate {
             Fate::Delivered => {
                 self.go(rt, world, links);
@@ -197,7 +201,7 @@ impl Passage {
             }
             Fate::AnswerLost(link) => {
                 self.go(rt, world, links);
-                self.come_back(rt, world, link + 1);
+                self.come_back(rt, world, link.saturating_add(1));
                 self.fail(rt, world, link);
             }
         }

@@ -239,7 +239,7 @@ fn a_text_of_a_peer_is_cut(rt: HostRuntime) {
 fn is_cut(alloc: Global, character: &str, written: &str, most: usize) -> bool {
     let (Ok(whole), Ok(more), Ok(kept)) = (
         repeated(alloc, character, most),
-        repeated(alloc, character, most + 1),
+        repeated(alloc, character, most.saturating_add(1)),
         repeated(alloc, written, most),
     ) else {
         return false;

@@ -836,9 +836,10 @@ rows =
           [];
       cause = codes "In `frames`, `ledger` and `explain`: the output cannot be written. In `receive` and `ledger`:" ∷
           codes "standard output is closed; nothing else was done. In `send`, `receive` and `connector`: the" ∷
-          codes "totals cannot be written to the file of `--totals`, and there was no other fault." ∷
+          codes "totals cannot be written to the file of `--totals`, or lines wait at the end that could not be" ∷
+          codes "written to that of `--log`, and there was no other fault." ∷
           [];
-      advice = codes "What to do: Make room. Totals that were not written are lost; all else was done." ∷ [];
+      advice = codes "What to do: Make room. Totals and lines that were not written are lost; all else was done." ∷ [];
     } ∷
     record {
       number = 91;
@@ -1059,8 +1060,7 @@ rows =
           codes "ledger" ∷
           [];
       cause = codes "The disk failed. The books in memory are as before the call; open the file again to see what it" ∷
-          codes "has. Or, in `connector --ledger`, the file or its log does not stand at its name as the last" ∷
-          codes "booking left it." ∷
+          codes "has." ∷
           [];
       advice = codes "What to do: Look at the disk, then start again." ∷ [];
     } ∷

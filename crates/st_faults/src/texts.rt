@@ -514,8 +514,9 @@ const FAULT_91: &str =
     "91  st_commands Fault::Output, in frames, send, receive, connector, ledger, explain
     In `frames`, `ledger` and `explain`: the output cannot be written. In `receive` and `ledger`:
     standard output is closed; nothing else was done. In `send`, `receive` and `connector`: the
-    totals cannot be written to the file of `--totals`, and there was no other fault.
-    What to do: Make room. Totals that were not written are lost; all else was done.
+    totals cannot be written to the file of `--totals`, or lines wait at the end that could not be
+    written to that of `--log`, and there was no other fault.
+    What to do: Make room. Totals and lines that were not written are lost; all else was done.
 91  st_file FileError::WriteFault, in receive
     In `receive`: the output cannot be written, for example on a full disk or to a closed pipe.
     What to do: Make room. What is written is a beginning of the file. Begin again.
@@ -621,8 +622,7 @@ const FAULT_111: &str = "111  st_books BooksError::Taken, in connector, ledger
 
 const FAULT_112: &str = "112  st_books BooksError::Device, in connector, ledger
     The disk failed. The books in memory are as before the call; open the file again to see what it
-    has. Or, in `connector --ledger`, the file or its log does not stand at its name as the last
-    booking left it.
+    has.
     What to do: Look at the disk, then start again.
 ";
 

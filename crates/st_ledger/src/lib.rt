@@ -3,7 +3,6 @@
 //!
 //! `place` compares the books with the table, by names, before anything is written, adds the names that the books lack, and
 //! counts the start. `Placed` is the `Keeper` of a till: it books the accounts of the table at their places in the books.
-//! `Watched` looks at the files of books before each commit.
 //! `OpensBooks` opens the books of a file, so that a program over it needs no runtime of a process.
 #![tactic(auto)]
 
@@ -14,7 +13,6 @@ mod placed;
 mod placing;
 mod settling;
 mod text;
-mod watched;
 
 pub use error::LedgerError;
 pub use opening::OpensBooks;
@@ -22,4 +20,3 @@ pub use placed::Placed;
 pub use placing::{Life, place};
 pub use settling::settle;
 pub use text::{account_text, ledger_text};
-pub use watched::Watched;

@@ -18,7 +18,7 @@ use st_books::Books;
 use st_commands::{Fault, TURNS};
 use st_desk::{NoBooks, Till};
 use st_hop::HopState;
-use st_ledger::{LedgerError, OpensBooks, Placed, Watched};
+use st_ledger::{LedgerError, OpensBooks, Placed};
 use st_log::{Event, Start};
 use st_oer::{CountRead, utf8};
 use st_settings::{ConnectorSettings, Table, TableError, read_table};
@@ -108,15 +108,10 @@ fn serve_by<
     }
 }
 
-/// Runs a connector that goes on with the books of a file, and stores there what it books. The books are closed at its end.
+/// Runs a connector that goes on with books, and stores there what it books. The books are closed at its end.
 fn serve_with<
     'a,
-    N: Net<Listener = TcpListener, Stream = TcpStream>
-        + Files<File = File>
-        + Threads
-        + Wait
-        + std::time::Clock
-        + Sync,
+    N: Net<Listener = TcpListener, Stream = TcpStream> + Threads + Wait + std::time::Clock + Sync,
     S: Alter + Send + Drop,
     M: Minutes,
 >(
@@ -124,7 +119,6 @@ fn serve_with<
     alloc: Global,
     settings: &ConnectorSettings<'a>,
     table: &Table<'_, Global>,
-    file: &str,
     mut books: Books<S>,
     reports: &mut Reports<'_, 'a, M>,
 ) -> Result<(), RunError>
@@ -136,8 +130,7 @@ fn serve_with<
         Ok(going) => going,
         Err(error) => return Err(error),
     };
-    let books = Watched::new(rt, alloc, file, Placed::new(alloc, books, places))?;
-    let till = Till::new(alloc, books, MOST_THREADS)?;
+    let till = Till::new(alloc, Placed::new(alloc, books, places), MOST_THREADS)?;
     serve_by(rt, alloc, settings, table, hop, Some(&till), reports)
 }
 
@@ -150,12 +143,7 @@ fn fold<O: OpensBooks>(opener: &O, file: &str) {
 /// a hop may have.
 fn serve<
     'a,
-    N: Net<Listener = TcpListener, Stream = TcpStream>
-        + Files<File = File>
-        + Threads
-        + Wait
-        + std::time::Clock
-        + Sync,
+    N: Net<Listener = TcpListener, Stream = TcpStream> + Threads + Wait + std::time::Clock + Sync,
     O: OpensBooks,
     M: Minutes,
 >(
@@ -178,7 +166,7 @@ fn serve<
     };
     match opener.open(file) {
         Ok(books) => {
-            let ended = serve_with(rt, alloc, settings, table, file, books, reports);
+            let ended = serve_with(rt, alloc, settings, table, books, reports);
             if ended.is_ok() {
                 fold(opener, file);
             }
@@ -192,12 +180,7 @@ fn serve<
 fn serve_input<
     'a,
     R: Read,
-    N: Net<Listener = TcpListener, Stream = TcpStream>
-        + Files<File = File>
-        + Threads
-        + Wait
-        + std::time::Clock
-        + Sync,
+    N: Net<Listener = TcpListener, Stream = TcpStream> + Threads + Wait + std::time::Clock + Sync,
     O: OpensBooks,
     M: Minutes,
 >(

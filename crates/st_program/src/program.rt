@@ -5,7 +5,7 @@ ghost use Rattle.st_oer.specs.Tallies.{tally_of};
 ghost use Rattle.clap.specs.Words.{HasKind, Kinds, kind_of};
 ghost use Rattle.st_commands.specs.Endings.{HasEnded, TellsFault};
 ghost use Rattle.st_program.specs.Settings.{IsLawful};
-ghost use Rattle.st_program.specs.Endings.{Does, DoesUnless, LacksMemory, TellsAnswer};
+ghost use Rattle.st_program.specs.Endings.{Does, DoesUnless, LacksMemory, TellsAnswer, TellsNumber};
 ghost use Rattle.st_program.specs.Streams as closed;
 ghost use Rattle.st_program.specs.Process.{Obeys};
 
@@ -175,6 +175,17 @@ fn obey<
     }
 }
 
+/// Reports that the text of an option is bad; on a terminal also the rule that it breaks.
+fn tell_bad_option<S: AsStr, E: Write>(alloc: Global, words: &[S], errors: &mut CountWrite<E>) -> u8
+    ensures { TellsNumber 98 E.contents errors.old errors.new result }
+{
+    let status = tell_number(alloc, errors, 98);
+    if let Some(rule) = broken_rule(alloc, words) {
+        tell_terminal(alloc, rule);
+    }
+    status
+}
+
 /// Runs the command that the arguments name and returns the exit status: 0 where it did its work, or printed help or
 /// the version; 1 where a line was refused or a fault ended the run; 2 where the arguments are refused, or `explain` is given
 /// a number that it does not know. The first argument is the program's name. With no further argument it runs `frames`. `opener` opens the books of `connector` and
@@ -213,12 +224,6 @@ pub fn run<
     match read_words(alloc, words) {
         Ok(request) => obey(rt, opener, alloc, streams, &request, reader, writer, errors),
         Err(WordsError::Refused(error)) => tell(alloc, writer, errors, &error),
-        Err(WordsError::BadOption) => {
-            let status = tell_number(alloc, errors, 98);
-            if let Some(rule) = broken_rule(alloc, words) {
-                tell_terminal(alloc, rule);
-            }
-            status
-        }
+        Err(WordsError::BadOption) => tell_bad_option(alloc, words, errors),
     }
 }

@@ -1,5 +1,5 @@
 -- Whether an answerer was asked by a request.
-use Rattle.std.proofs.Common.{◌≡◌, ◌⊎◌, ℕ, List, Option, inl, inr}
+use Rattle.std.proofs.Common.{ℕ, List, Option, inl, inr}
 use Rattle.st_http.specs.Exchanges.{Known}
 use Rattle.st_http.specs.Reads.{Reads}
 use Rattle.st_http.specs.Serves.{ExplainsServe, IsDue, IsServed}

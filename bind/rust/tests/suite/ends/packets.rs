@@ -347,6 +347,7 @@ fn a_blocked_stream_is_told_once() {
     assert!(send(&mut client).is_none());
 }
 
+/// Streams send in round robin: the byte of stream 9 is sent in the first round, and the last byte of stream 7 waits.
 #[test]
 fn a_blocked_connection_is_told_once() {
     let mut client = client(&[1, 3, 5, 7, 9], config(16, 1_000, 1_000));
@@ -367,7 +368,7 @@ fn a_blocked_connection_is_told_once() {
     let blocked = sent(&mut client);
     assert_eq!(blocked.frames, [frame(0x04, [65_536, 0, 0])]);
     fulfill(&mut client, &blocked, &[frame(0x03, [65_537, 0, 0])]);
-    assert_eq!(sent(&mut client).data(), [(0, 1)]);
+    assert_eq!(sent(&mut client).data(), [(16_383, 1)]);
 }
 
 #[test]

@@ -1,7 +1,6 @@
-use Rattle.std.proofs.Common.{◌≡◌, [], inl, inr, subst, sym, arith, ap}
-use Rattle.std.proofs.lemmas.Result.{on_ok_weaker}
+use Rattle.std.proofs.Common.{[], inl, inr, subst, sym, ap}
 use Rattle.sqlite_trees.specs.Tree.{Trees}
-use Rattle.sqlite_trees.specs.View.{View, IsClean}
+use Rattle.sqlite_trees.specs.View.{View}
 use Rattle.st_books.specs.Table.{AreBooks}
 use Rattle.st_books.proofs.Steps.{at_ok, on_ok_both}
 use Rattle.st_books.proofs.MadeLemmas.{laid_ready}

@@ -1,4 +1,4 @@
-use Rattle.std.proofs.Common.{◌≡◌, false, IsTrue, ◌∙◌, sym, subst}
+use Rattle.std.proofs.Common.{◌≡◌, false, ◌∙◌, sym, subst}
 use Rattle.sqlite_trees.specs.Tree.{Trees}
 use Rattle.sqlite_trees.specs.View.{IsClean}
 use Rattle.sqlite.specs.Held.{state}

@@ -1,5 +1,5 @@
 use Rattle.std.proofs.lemmas.Option.{same_Some}
-use Rattle.std.proofs.Common.{◌≡◌, ◌+◌, ◌++◌, ◌∷◌, [], length, length-append, rules, arith, refl, sym, ap, ◌∙◌}
+use Rattle.std.proofs.Common.{◌≡◌, ◌+◌, ◌++◌, ◌∷◌, [], length-append, rules, arith, refl, sym, ap, ◌∙◌}
 use Rattle.sqlite_trees.specs.View.{View}
 use Rattle.st_books.specs.Payments.{IsPaymentLine}
 use Rattle.st_books.specs.Table.{payment_tree}

@@ -1,4 +1,4 @@
-use Rattle.std.proofs.Common.{◌≡◌, [], IsTrue, sym, ◌∙◌}
+use Rattle.std.proofs.Common.{IsTrue, sym, ◌∙◌}
 use Rattle.sqlite_trees.specs.View.{IsClean}
 use Rattle.st_books.specs.Table.{payment_tree}
 use Rattle.st_books.specs.Standing.{Kept, Takes}

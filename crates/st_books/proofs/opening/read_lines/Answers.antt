@@ -2,7 +2,7 @@ use Rattle.std.proofs.lemmas.Option.{same_Some}
 use Rattle.std.specs.List.{AllByRecursion}
 use Rattle.std.proofs.Common.{◌≡◌, ◌≢◌, subst, ◌+◌, ◌∷◌, [], length, length-append, rules, arith, refl, sym, ap, ◌∙◌}
 use Rattle.sqlite_trees.specs.View.{View}
-use Rattle.st_books.specs.Table.{line, AreDistinct}
+use Rattle.st_books.specs.Table.{line}
 use Rattle.st_books.proofs.LineLemmas.{from_no_key, read_more}
 use Rattle.st_books.proofs.Distinct.{distinct_push}
 use Rattle.st_books.proofs.opening.read_lines.Goals as goal

@@ -38,11 +38,11 @@ returns-in-Err-Refused-clause-obeys g c =
       | inr wrong ↦ absurd wrong
     ] in
     record {
-      frames = λ asks. inr (refl, c.tell.ensures.memory (memory asks.0));
-      asked = λ none. inr (inr (refl, c.tell.ensures.memory (memory none)));
-      told = λ _. (refl, c.tell.ensures.told (tally_of c.args.reader.now) (refusals words) kind);
-      bad = λ has. let m = c.tell.ensures.memory (memory has.0) in (refl, m.0, (m.1.0, inr m.1.1));
-      shown = λ asks. elim (c.tell.ensures.told (tally_of c.args.reader.now) (refusals words) kind) [
+      frames = λ asks. inr (refl, c.tell.ensures.memory (rw c.in-Err-Refused.field-0-is (memory asks.0)));
+      asked = λ none. inr (inr (refl, c.tell.ensures.memory (rw c.in-Err-Refused.field-0-is (memory none))));
+      told = λ _. (refl, c.tell.ensures.told (tally_of c.args.reader.now) (refusals words) (rw c.in-Err-Refused.field-0-is kind));
+      bad = λ has. let m = c.tell.ensures.memory (rw c.in-Err-Refused.field-0-is (memory has.0)) in (refl, m.0, (m.1.0, inr m.1.1));
+      shown = λ asks. elim (c.tell.ensures.told (tally_of c.args.reader.now) (refusals words) (rw c.in-Err-Refused.field-0-is kind)) [
         | inl mistake ↦ absurd (shown_is_no_mistake words asks mistake.1)
         | inr other ↦ elim other [
           | inl done ↦ rw done.0 (omega arith)

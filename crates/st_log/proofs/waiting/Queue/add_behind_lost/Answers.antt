@@ -4,4 +4,4 @@ use Rattle.st_log.proofs.waiting.Queue.add_behind_lost.Goals as goal
 
 pub returns-in-Ok-clause-added : goal.returns-in-Ok-clause-added
 returns-in-Ok-clause-added c =
-    behind_lost c.args.self.now _ c.args.now c.in-Ok.told c.args.line _ c.requires.lost c.in-Ok.ensures c.push_back_reserved.ensures.items c.push_back_reserved-2.ensures.items refl refl
+    behind_lost c.args.self.now _ c.args.now c.in-Ok.told c.args.line _ c.requires.lost c.in-Ok.ensures c.push_back_reserved.ensures.items c.push_back_reserved-in-Ok.ensures.items refl refl
