@@ -1,31 +1,30 @@
-/* The three functions by which the archive asks for memory, by the C library's. A program may define them itself, and then
- * links libilpstream_bare.a. A block of no bytes is one of as many as its alignment. What malloc gives has to be aligned to 16,
- * as it is wherever the archive runs. */
-#include <stdint.h>
+/* The functions of ilpstream_memory.h, over those of the C library. A block is overwritten before it is given back: keys, plain
+ * text and what was put out do not stand in memory that is free. */
+#include "ilpstream_memory.h"
+#include "wipe.h"
+#include <malloc.h>
 #include <stdlib.h>
+#include <string.h>
 
-/* A block, or that there is none: `at` is then not null all the same, and is not read. */
-struct taken {
-    uint64_t is_taken;
-    void *at;
-};
-
-struct taken rattle_alloc(size_t size, size_t align);
-struct taken rattle_realloc(void *at, size_t before, size_t size, size_t align);
-void rattle_dealloc(void *at, size_t size, size_t align);
-
+/* What `at` is where there is no block. */
 static char nothing[16];
 
-static struct taken taken(void *at) { return (struct taken){at != NULL, at != NULL ? at : nothing}; }
+static rattle_tried tried(void *at) { return (rattle_tried){at != NULL, at != NULL ? at : nothing}; }
 
-struct taken rattle_alloc(size_t size, size_t align) { return taken(malloc(size ? size : align)); }
+/* (malloc aligns to 16 wherever the archive runs; a block of no bytes is one of some) */
+rattle_tried rattle_alloc(size_t size, size_t align) { return tried(malloc(size ? size : align)); }
 
-struct taken rattle_realloc(void *at, size_t before, size_t size, size_t align) {
-    (void)before;
-    return taken(realloc(at, size ? size : align));
+/* (realloc would leave the old block as it is where it moves, and the end of one that shrinks) */
+rattle_tried rattle_realloc(void *at, size_t kept, size_t size, size_t align) {
+    rattle_tried moved = rattle_alloc(size, align);
+    if (moved.is_taken) {
+        memcpy(moved.at, at, kept);
+        rattle_dealloc(at);
+    }
+    return moved;
 }
 
-void rattle_dealloc(void *at, size_t size, size_t align) {
-    (void)size, (void)align;
+void rattle_dealloc(void *at) {
+    wipe(at, malloc_usable_size(at));
     free(at);
 }

@@ -1,4 +1,6 @@
-//! The three functions by which the archive asks for memory.
+//! For tests: the functions by which the archive takes memory, of which some requests are refused. They are those of
+//! `ilpstream_memory.h`, over malloc and free. (Without the feature `refusing` the archive has its own, which also overwrite a
+//! block before they give it back.)
 
 use std::ffi::c_void;
 use std::ptr::null_mut;
@@ -11,56 +13,46 @@ unsafe extern "C" {
 
 /// A block, or that there is none.
 #[repr(C)]
-struct Taken {
-    is_taken: u64,
+struct Tried {
+    is_taken: bool,
     at: *mut c_void,
 }
 
 /// What the archive is given where there is no block: never read.
 static NOTHING: [u64; 2] = [0; 2];
 
-fn taken(at: *mut c_void) -> Taken {
+fn tried(at: *mut c_void) -> Tried {
     if at.is_null() {
-        Taken {
-            is_taken: 0,
+        Tried {
+            is_taken: false,
             at: NOTHING.as_ptr().cast_mut().cast(),
         }
     } else {
-        Taken { is_taken: 1, at }
+        Tried { is_taken: true, at }
     }
 }
 
 /// A block of no bytes is one of as many as its alignment.
 #[unsafe(no_mangle)]
-extern "C" fn rattle_alloc(size: usize, align: usize) -> Taken {
-    if !admits() {
-        return taken(null_mut());
+extern "C" fn rattle_alloc(size: usize, align: usize) -> Tried {
+    if !crate::refusing::admits() {
+        return tried(null_mut());
     }
     // SAFETY: any size may be asked for.
-    taken(unsafe { malloc(if size == 0 { align } else { size }) })
+    tried(unsafe { malloc(if size == 0 { align } else { size }) })
 }
 
 #[unsafe(no_mangle)]
-extern "C" fn rattle_realloc(at: *mut c_void, _before: usize, size: usize, align: usize) -> Taken {
-    if !admits() {
-        return taken(null_mut());
+extern "C" fn rattle_realloc(at: *mut c_void, _kept: usize, size: usize, align: usize) -> Tried {
+    if !crate::refusing::admits() {
+        return tried(null_mut());
     }
     // SAFETY: the archive passes a block that it took and did not give back.
-    taken(unsafe { realloc(at, if size == 0 { align } else { size }) })
+    tried(unsafe { realloc(at, if size == 0 { align } else { size }) })
 }
 
 #[unsafe(no_mangle)]
-extern "C" fn rattle_dealloc(at: *mut c_void, _size: usize, _align: usize) {
+extern "C" fn rattle_dealloc(at: *mut c_void) {
     // SAFETY: the archive passes a block that it took and did not give back.
     unsafe { free(at) }
-}
-
-#[cfg(not(feature = "refusing"))]
-fn admits() -> bool {
-    true
-}
-
-#[cfg(feature = "refusing")]
-fn admits() -> bool {
-    crate::refusing::admits()
 }
