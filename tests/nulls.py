@@ -26,6 +26,9 @@ def lawful(kind):
     """A pointer to memory of this kind, or a number."""
     if kind is ctypes.c_char_p:
         return ROOM.raw
+    for sized in (_declared.Config, _declared.Failure):
+        if kind is ctypes.POINTER(sized):
+            return ctypes.pointer(sized(ctypes.sizeof(sized)))
     return ctypes.cast(ROOM, kind) if is_pointer(kind) else 1
 
 

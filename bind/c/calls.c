@@ -9,13 +9,14 @@ ilp_code ilp_free(void *handle) {
     struct call call = begin_call(handle);
     if (!call.slot) return call.code;
     proved_ilp_free(&call.slot->object);
+    wipe_stack();
     return end_freeing(call, handle);
 }
 
 ilp_code proved_ilp_output(void **handle, uint8_t *out, size_t room, size_t *len);
 
-ilp_code ilp_output(void *handle, uint8_t *out, size_t room, size_t *len) {
-    if (is_missing(out, room) || !len) return ILP_NULL;
+ilp_code ilp_output(const void *handle, uint8_t *out, size_t room, size_t *len) {
+    if (is_missing(out, room, sizeof *out) || !len) return ILP_NULL;
     struct call call = begin_call(handle);
     if (!call.slot) return call.code;
     ilp_code result = proved_ilp_output(&call.slot->object, somewhere(out), room, len);
@@ -23,15 +24,18 @@ ilp_code ilp_output(void *handle, uint8_t *out, size_t room, size_t *len) {
 }
 
 ilp_code proved_ilp_end_new(void **handle, uint32_t role, const uint8_t secret[32], const uint8_t *own, size_t own_len,
-        const uint8_t *peer, size_t peer_len, const ilp_end_config *config);
+        const uint8_t *peer, size_t peer_len, const void *config);
 
 ilp_code ilp_end_new(ilp_end *end, uint32_t role, const uint8_t secret[32], const uint8_t *own, size_t own_len,
         const uint8_t *peer, size_t peer_len, const ilp_end_config *config) {
-    if (!secret || is_missing(own, own_len) || is_missing(peer, peer_len) || !config) return ILP_NULL;
+    if (!secret || is_missing(own, own_len, sizeof *own) || is_missing(peer, peer_len, sizeof *peer) ||
+        !config) return ILP_NULL;
+    if (!is_read(config, config->size, sizeof *config)) return ILP_ARGUMENT;
     struct call call = begin_making(end, ILP_NO_MEMORY);
     if (!call.slot) return call.code;
     ilp_code result = proved_ilp_end_new(&call.slot->object, role, secret, somewhere(own), own_len, somewhere(peer),
-        peer_len, config);
+        peer_len, &config->in_flight);
+    wipe_making();
     return end_making(call, end, result);
 }
 
@@ -48,7 +52,7 @@ ilp_code ilp_end_open_stream(ilp_end *end, uint32_t *stream) {
 ilp_code proved_ilp_end_write(void **handle, uint32_t stream, const uint8_t *bytes, size_t len);
 
 ilp_code ilp_end_write(ilp_end *end, uint32_t stream, const uint8_t *bytes, size_t len) {
-    if (is_missing(bytes, len)) return ILP_NULL;
+    if (is_missing(bytes, len, sizeof *bytes)) return ILP_NULL;
     struct call call = begin_call(end);
     if (!call.slot) return call.code;
     ilp_code result = proved_ilp_end_write(&call.slot->object, stream, somewhere(bytes), len);
@@ -108,16 +112,18 @@ ilp_code ilp_end_send(ilp_end *end, const uint8_t iv[12], int64_t now, uint64_t 
     struct call call = begin_call(end);
     if (!call.slot) return call.code;
     ilp_code result = proved_ilp_end_send(&call.slot->object, iv, now, flight, len);
+    wipe_stack();
     return end_call(call, result);
 }
 
 ilp_code proved_ilp_end_answer(void **handle, uint64_t flight, uint8_t *bytes, size_t len, uint32_t *fulfilled);
 
 ilp_code ilp_end_answer(ilp_end *end, uint64_t flight, uint8_t *bytes, size_t len, uint32_t *fulfilled) {
-    if (is_missing(bytes, len) || !fulfilled) return ILP_NULL;
+    if (is_missing(bytes, len, sizeof *bytes) || !fulfilled) return ILP_NULL;
     struct call call = begin_call(end);
     if (!call.slot) return call.code;
     ilp_code result = proved_ilp_end_answer(&call.slot->object, flight, somewhere(bytes), len, fulfilled);
+    wipe_stack();
     return end_call(call, result);
 }
 
@@ -133,17 +139,18 @@ ilp_code ilp_end_fault(ilp_end *end, uint64_t flight) {
 ilp_code proved_ilp_end_receive(void **handle, const uint8_t *bytes, size_t len, int64_t now, ilp_received *received);
 
 ilp_code ilp_end_receive(ilp_end *end, const uint8_t *bytes, size_t len, int64_t now, ilp_received *received) {
-    if (is_missing(bytes, len) || !received) return ILP_NULL;
+    if (is_missing(bytes, len, sizeof *bytes) || !received) return ILP_NULL;
     struct call call = begin_call(end);
     if (!call.slot) return call.code;
     ilp_code result = proved_ilp_end_receive(&call.slot->object, somewhere(bytes), len, now, received);
+    wipe_stack();
     return end_call(call, result);
 }
 
 ilp_code proved_ilp_end_t00(void **handle, uint8_t *out, size_t room, size_t *len);
 
-ilp_code ilp_end_t00(ilp_end *end, uint8_t *out, size_t room, size_t *len) {
-    if (is_missing(out, room) || !len) return ILP_NULL;
+ilp_code ilp_end_t00(const ilp_end *end, uint8_t *out, size_t room, size_t *len) {
+    if (is_missing(out, room, sizeof *out) || !len) return ILP_NULL;
     struct call call = begin_call(end);
     if (!call.slot) return call.code;
     ilp_code result = proved_ilp_end_t00(&call.slot->object, somewhere(out), room, len);
@@ -152,7 +159,7 @@ ilp_code ilp_end_t00(ilp_end *end, uint8_t *out, size_t room, size_t *len) {
 
 ilp_code proved_ilp_end_totals(void **handle, ilp_totals *totals);
 
-ilp_code ilp_end_totals(ilp_end *end, ilp_totals *totals) {
+ilp_code ilp_end_totals(const ilp_end *end, ilp_totals *totals) {
     if (!totals) return ILP_NULL;
     struct call call = begin_call(end);
     if (!call.slot) return call.code;
@@ -162,7 +169,7 @@ ilp_code ilp_end_totals(ilp_end *end, ilp_totals *totals) {
 
 ilp_code proved_ilp_end_has_stream(void **handle, uint32_t stream, uint32_t *answer);
 
-ilp_code ilp_end_has_stream(ilp_end *end, uint32_t stream, uint32_t *answer) {
+ilp_code ilp_end_has_stream(const ilp_end *end, uint32_t stream, uint32_t *answer) {
     if (!answer) return ILP_NULL;
     struct call call = begin_call(end);
     if (!call.slot) return call.code;
@@ -172,7 +179,7 @@ ilp_code ilp_end_has_stream(ilp_end *end, uint32_t stream, uint32_t *answer) {
 
 ilp_code proved_ilp_end_settled(void **handle, uint32_t stream, uint32_t *answer);
 
-ilp_code ilp_end_settled(ilp_end *end, uint32_t stream, uint32_t *answer) {
+ilp_code ilp_end_settled(const ilp_end *end, uint32_t stream, uint32_t *answer) {
     if (!answer) return ILP_NULL;
     struct call call = begin_call(end);
     if (!call.slot) return call.code;
@@ -182,7 +189,7 @@ ilp_code ilp_end_settled(ilp_end *end, uint32_t stream, uint32_t *answer) {
 
 ilp_code proved_ilp_end_is_failed(void **handle, uint32_t *answer);
 
-ilp_code ilp_end_is_failed(ilp_end *end, uint32_t *answer) {
+ilp_code ilp_end_is_failed(const ilp_end *end, uint32_t *answer) {
     if (!answer) return ILP_NULL;
     struct call call = begin_call(end);
     if (!call.slot) return call.code;
@@ -190,13 +197,15 @@ ilp_code ilp_end_is_failed(ilp_end *end, uint32_t *answer) {
     return end_call(call, result);
 }
 
-ilp_code proved_ilp_end_last_failure(void **handle, ilp_failure *failure);
+ilp_code proved_ilp_end_last_failure(void **handle, void *failure);
 
-ilp_code ilp_end_last_failure(ilp_end *end, ilp_failure *failure) {
+ilp_code ilp_end_last_failure(const ilp_end *end, ilp_failure *failure) {
     if (!failure) return ILP_NULL;
+    if (!is_filled(failure, failure->size, sizeof *failure)) return ILP_ARGUMENT;
     struct call call = begin_call(end);
     if (!call.slot) return call.code;
-    ilp_code result = proved_ilp_end_last_failure(&call.slot->object, failure);
+    ilp_code result = proved_ilp_end_last_failure(&call.slot->object, &failure->kind);
+    if (result == ILP_DONE) failure->size = sizeof *failure;
     return end_call(call, result);
 }
 
@@ -205,8 +214,9 @@ ilp_code proved_ilp_hop_new(void **handle, const uint8_t *own, size_t own_len, c
 
 ilp_code ilp_hop_new(ilp_hop *hop, const uint8_t *own, size_t own_len, const ilp_account *accounts, size_t accounts_len,
         const uint8_t *prefixes, size_t prefixes_len, const ilp_route *routes, size_t routes_len) {
-    if (is_missing(own, own_len) || is_missing(accounts, accounts_len) || is_missing(prefixes, prefixes_len) ||
-        is_missing(routes, routes_len)) return ILP_NULL;
+    if (is_missing(own, own_len, sizeof *own) || is_missing(accounts, accounts_len, sizeof *accounts) ||
+        is_missing(prefixes, prefixes_len, sizeof *prefixes) ||
+        is_missing(routes, routes_len, sizeof *routes)) return ILP_NULL;
     struct call call = begin_making(hop, ILP_HOP_NO_MEMORY);
     if (!call.slot) return call.code;
     ilp_code result = proved_ilp_hop_new(&call.slot->object, somewhere(own), own_len, somewhere(accounts), accounts_len,
@@ -221,8 +231,9 @@ ilp_code proved_ilp_hop_restored(void **handle, const uint8_t *own, size_t own_l
 ilp_code ilp_hop_restored(ilp_hop *hop, const uint8_t *own, size_t own_len, const ilp_account *accounts,
         size_t accounts_len, const uint8_t *prefixes, size_t prefixes_len, const ilp_route *routes, size_t routes_len,
         const uint64_t *claims, size_t claims_len, const uint64_t *dues, size_t dues_len, uint64_t next) {
-    if (is_missing(own, own_len) || is_missing(accounts, accounts_len) || is_missing(prefixes, prefixes_len) ||
-        is_missing(routes, routes_len) || is_missing(claims, claims_len) || is_missing(dues, dues_len)) return ILP_NULL;
+    if (is_missing(own, own_len, sizeof *own) || is_missing(accounts, accounts_len, sizeof *accounts) ||
+        is_missing(prefixes, prefixes_len, sizeof *prefixes) || is_missing(routes, routes_len, sizeof *routes) ||
+        is_missing(claims, claims_len, sizeof *claims) || is_missing(dues, dues_len, sizeof *dues)) return ILP_NULL;
     struct call call = begin_making(hop, ILP_HOP_NO_MEMORY);
     if (!call.slot) return call.code;
     ilp_code result = proved_ilp_hop_restored(&call.slot->object, somewhere(own), own_len, somewhere(accounts),
@@ -245,7 +256,7 @@ ilp_code proved_ilp_hop_arrive(void **handle, size_t account, const uint8_t *byt
 
 ilp_code ilp_hop_arrive(ilp_hop *hop, size_t account, const uint8_t *bytes, size_t len, int64_t now,
         ilp_arrived *arrived) {
-    if (is_missing(bytes, len) || !arrived) return ILP_NULL;
+    if (is_missing(bytes, len, sizeof *bytes) || !arrived) return ILP_NULL;
     struct call call = begin_call(hop);
     if (!call.slot) return call.code;
     ilp_code result = proved_ilp_hop_arrive(&call.slot->object, account, somewhere(bytes), len, now, arrived);
@@ -255,9 +266,9 @@ ilp_code ilp_hop_arrive(ilp_hop *hop, size_t account, const uint8_t *bytes, size
 ilp_code proved_ilp_hop_books(void **handle, uint64_t ticket, const uint8_t *bytes, size_t len, int64_t now,
         ilp_booking *booking);
 
-ilp_code ilp_hop_books(ilp_hop *hop, uint64_t ticket, const uint8_t *bytes, size_t len, int64_t now,
+ilp_code ilp_hop_books(const ilp_hop *hop, uint64_t ticket, const uint8_t *bytes, size_t len, int64_t now,
         ilp_booking *booking) {
-    if (is_missing(bytes, len) || !booking) return ILP_NULL;
+    if (is_missing(bytes, len, sizeof *bytes) || !booking) return ILP_NULL;
     struct call call = begin_call(hop);
     if (!call.slot) return call.code;
     ilp_code result = proved_ilp_hop_books(&call.slot->object, ticket, somewhere(bytes), len, now, booking);
@@ -269,7 +280,7 @@ ilp_code proved_ilp_hop_settle(void **handle, uint64_t ticket, const uint8_t *by
 
 ilp_code ilp_hop_settle(ilp_hop *hop, uint64_t ticket, const uint8_t *bytes, size_t len, int64_t now,
         size_t *answer_len) {
-    if (is_missing(bytes, len) || !answer_len) return ILP_NULL;
+    if (is_missing(bytes, len, sizeof *bytes) || !answer_len) return ILP_NULL;
     struct call call = begin_call(hop);
     if (!call.slot) return call.code;
     ilp_code result = proved_ilp_hop_settle(&call.slot->object, ticket, somewhere(bytes), len, now, answer_len);
@@ -297,8 +308,8 @@ ilp_code ilp_hop_abandon(ilp_hop *hop, uint64_t ticket) {
 
 ilp_code proved_ilp_hop_t00(void **handle, uint8_t *out, size_t room, size_t *len);
 
-ilp_code ilp_hop_t00(ilp_hop *hop, uint8_t *out, size_t room, size_t *len) {
-    if (is_missing(out, room) || !len) return ILP_NULL;
+ilp_code ilp_hop_t00(const ilp_hop *hop, uint8_t *out, size_t room, size_t *len) {
+    if (is_missing(out, room, sizeof *out) || !len) return ILP_NULL;
     struct call call = begin_call(hop);
     if (!call.slot) return call.code;
     ilp_code result = proved_ilp_hop_t00(&call.slot->object, somewhere(out), room, len);
@@ -307,7 +318,7 @@ ilp_code ilp_hop_t00(ilp_hop *hop, uint8_t *out, size_t room, size_t *len) {
 
 ilp_code proved_ilp_hop_balances(void **handle, size_t account, ilp_balances *balances);
 
-ilp_code ilp_hop_balances(ilp_hop *hop, size_t account, ilp_balances *balances) {
+ilp_code ilp_hop_balances(const ilp_hop *hop, size_t account, ilp_balances *balances) {
     if (!balances) return ILP_NULL;
     struct call call = begin_call(hop);
     if (!call.slot) return call.code;
@@ -322,6 +333,7 @@ ilp_code ilp_keys_new(ilp_keys *keys, const uint8_t secret[32]) {
     struct call call = begin_making(keys, ILP_KEYS_NO_MEMORY);
     if (!call.slot) return call.code;
     ilp_code result = proved_ilp_keys_new(&call.slot->object, secret);
+    wipe_making();
     return end_making(call, keys, result);
 }
 
@@ -329,30 +341,33 @@ ilp_code proved_ilp_keys_seal(void **handle, const uint8_t iv[12], const uint8_t
         size_t *payload_len);
 
 ilp_code ilp_keys_seal(ilp_keys *keys, const uint8_t iv[12], const uint8_t *text, size_t len, size_t *payload_len) {
-    if (!iv || is_missing(text, len) || !payload_len) return ILP_NULL;
+    if (!iv || is_missing(text, len, sizeof *text) || !payload_len) return ILP_NULL;
     struct call call = begin_call(keys);
     if (!call.slot) return call.code;
     ilp_code result = proved_ilp_keys_seal(&call.slot->object, iv, somewhere(text), len, payload_len);
+    wipe_stack();
     return end_call(call, result);
 }
 
 ilp_code proved_ilp_keys_open(void **handle, const uint8_t *payload, size_t len, size_t *text_len);
 
 ilp_code ilp_keys_open(ilp_keys *keys, const uint8_t *payload, size_t len, size_t *text_len) {
-    if (is_missing(payload, len) || !text_len) return ILP_NULL;
+    if (is_missing(payload, len, sizeof *payload) || !text_len) return ILP_NULL;
     struct call call = begin_call(keys);
     if (!call.slot) return call.code;
     ilp_code result = proved_ilp_keys_open(&call.slot->object, somewhere(payload), len, text_len);
+    wipe_stack();
     return end_call(call, result);
 }
 
 ilp_code proved_ilp_keys_fulfillment(void **handle, const uint8_t *payload, size_t len, uint8_t fulfillment[32]);
 
-ilp_code ilp_keys_fulfillment(ilp_keys *keys, const uint8_t *payload, size_t len, uint8_t fulfillment[32]) {
-    if (is_missing(payload, len) || !fulfillment) return ILP_NULL;
+ilp_code ilp_keys_fulfillment(const ilp_keys *keys, const uint8_t *payload, size_t len, uint8_t fulfillment[32]) {
+    if (is_missing(payload, len, sizeof *payload) || !fulfillment) return ILP_NULL;
     struct call call = begin_call(keys);
     if (!call.slot) return call.code;
     ilp_code result = proved_ilp_keys_fulfillment(&call.slot->object, somewhere(payload), len, fulfillment);
+    wipe_stack();
     return end_call(call, result);
 }
 
@@ -376,7 +391,7 @@ ilp_code ilp_packet_new(ilp_packet *packet, uint32_t kind, uint64_t sequence, ui
 ilp_code proved_ilp_packet_read(void **handle, uint32_t kind, const uint8_t *bytes, size_t len);
 
 ilp_code ilp_packet_read(ilp_packet *packet, uint32_t kind, const uint8_t *bytes, size_t len) {
-    if (is_missing(bytes, len)) return ILP_NULL;
+    if (is_missing(bytes, len, sizeof *bytes)) return ILP_NULL;
     struct call call = begin_making(packet, ILP_STREAM_NO_MEMORY);
     if (!call.slot) return call.code;
     ilp_code result = proved_ilp_packet_read(&call.slot->object, kind, somewhere(bytes), len);
@@ -385,7 +400,7 @@ ilp_code ilp_packet_read(ilp_packet *packet, uint32_t kind, const uint8_t *bytes
 
 ilp_code proved_ilp_packet_header(void **handle, ilp_header *header);
 
-ilp_code ilp_packet_header(ilp_packet *packet, ilp_header *header) {
+ilp_code ilp_packet_header(const ilp_packet *packet, ilp_header *header) {
     if (!header) return ILP_NULL;
     struct call call = begin_call(packet);
     if (!call.slot) return call.code;
@@ -396,7 +411,7 @@ ilp_code ilp_packet_header(ilp_packet *packet, ilp_header *header) {
 ilp_code proved_ilp_packet_push(void **handle, const ilp_frame *frame, const uint8_t *data, size_t len);
 
 ilp_code ilp_packet_push(ilp_packet *packet, const ilp_frame *frame, const uint8_t *data, size_t len) {
-    if (!frame || is_missing(data, len)) return ILP_NULL;
+    if (!frame || is_missing(data, len, sizeof *data)) return ILP_NULL;
     struct call call = begin_call(packet);
     if (!call.slot) return call.code;
     ilp_code result = proved_ilp_packet_push(&call.slot->object, frame, somewhere(data), len);
@@ -426,14 +441,14 @@ ilp_code ilp_packet_write(ilp_packet *packet, size_t *len) {
 ilp_code proved_ilp_prepare_read(const uint8_t *bytes, size_t len, ilp_prepare *prepare);
 
 ilp_code ilp_prepare_read(const uint8_t *bytes, size_t len, ilp_prepare *prepare) {
-    if (is_missing(bytes, len) || !prepare) return ILP_NULL;
+    if (is_missing(bytes, len, sizeof *bytes) || !prepare) return ILP_NULL;
     return proved_ilp_prepare_read(somewhere(bytes), len, prepare);
 }
 
 ilp_code proved_ilp_answer_read(const uint8_t *bytes, size_t len, ilp_answer *answer);
 
 ilp_code ilp_answer_read(const uint8_t *bytes, size_t len, ilp_answer *answer) {
-    if (is_missing(bytes, len) || !answer) return ILP_NULL;
+    if (is_missing(bytes, len, sizeof *bytes) || !answer) return ILP_NULL;
     return proved_ilp_answer_read(somewhere(bytes), len, answer);
 }
 
@@ -443,8 +458,9 @@ ilp_code proved_ilp_prepare_write(uint64_t amount, int64_t expiry, const uint8_t
 
 ilp_code ilp_prepare_write(uint64_t amount, int64_t expiry, const uint8_t condition[32], const uint8_t *destination,
         size_t destination_len, const uint8_t *payload, size_t payload_len, uint8_t *out, size_t room, size_t *len) {
-    if (!condition || is_missing(destination, destination_len) || is_missing(payload, payload_len) ||
-        is_missing(out, room) || !len) return ILP_NULL;
+    if (!condition || is_missing(destination, destination_len, sizeof *destination) ||
+        is_missing(payload, payload_len, sizeof *payload) || is_missing(out, room, sizeof *out) ||
+        !len) return ILP_NULL;
     return proved_ilp_prepare_write(amount, expiry, condition, somewhere(destination), destination_len,
         somewhere(payload), payload_len, somewhere(out), room, len);
 }
@@ -454,7 +470,8 @@ ilp_code proved_ilp_fulfill_write(const uint8_t fulfillment[32], const uint8_t *
 
 ilp_code ilp_fulfill_write(const uint8_t fulfillment[32], const uint8_t *payload, size_t payload_len, uint8_t *out,
         size_t room, size_t *len) {
-    if (!fulfillment || is_missing(payload, payload_len) || is_missing(out, room) || !len) return ILP_NULL;
+    if (!fulfillment || is_missing(payload, payload_len, sizeof *payload) || is_missing(out, room, sizeof *out) ||
+        !len) return ILP_NULL;
     return proved_ilp_fulfill_write(fulfillment, somewhere(payload), payload_len, somewhere(out), room, len);
 }
 
@@ -463,8 +480,9 @@ ilp_code proved_ilp_reject_write(const uint8_t code[3], const uint8_t *by, size_
 
 ilp_code ilp_reject_write(const uint8_t code[3], const uint8_t *by, size_t by_len, const uint8_t *message,
         size_t message_len, const uint8_t *payload, size_t payload_len, uint8_t *out, size_t room, size_t *len) {
-    if (!code || is_missing(by, by_len) || is_missing(message, message_len) || is_missing(payload, payload_len) ||
-        is_missing(out, room) || !len) return ILP_NULL;
+    if (!code || is_missing(by, by_len, sizeof *by) || is_missing(message, message_len, sizeof *message) ||
+        is_missing(payload, payload_len, sizeof *payload) || is_missing(out, room, sizeof *out) ||
+        !len) return ILP_NULL;
     return proved_ilp_reject_write(code, somewhere(by), by_len, somewhere(message), message_len, somewhere(payload),
         payload_len, somewhere(out), room, len);
 }
@@ -474,7 +492,8 @@ ilp_code proved_ilp_request_new(void **handle, const uint8_t *tokens, size_t tok
 
 ilp_code ilp_request_new(ilp_message *request, const uint8_t *tokens, size_t tokens_len, const size_t *lengths,
         size_t lengths_len) {
-    if (is_missing(tokens, tokens_len) || is_missing(lengths, lengths_len)) return ILP_NULL;
+    if (is_missing(tokens, tokens_len, sizeof *tokens) ||
+        is_missing(lengths, lengths_len, sizeof *lengths)) return ILP_NULL;
     struct call call = begin_making(request, ILP_HTTP_NO_MEMORY);
     if (!call.slot) return call.code;
     ilp_code result = proved_ilp_request_new(&call.slot->object, somewhere(tokens), tokens_len, somewhere(lengths),
@@ -494,7 +513,7 @@ ilp_code ilp_response_new(ilp_message *response) {
 ilp_code proved_ilp_message_feed(void **handle, const uint8_t *bytes, size_t len, ilp_reading *reading);
 
 ilp_code ilp_message_feed(ilp_message *message, const uint8_t *bytes, size_t len, ilp_reading *reading) {
-    if (is_missing(bytes, len) || !reading) return ILP_NULL;
+    if (is_missing(bytes, len, sizeof *bytes) || !reading) return ILP_NULL;
     struct call call = begin_call(message);
     if (!call.slot) return call.code;
     ilp_code result = proved_ilp_message_feed(&call.slot->object, somewhere(bytes), len, reading);
@@ -506,8 +525,8 @@ ilp_code proved_ilp_request_text(const uint8_t *host, size_t host_len, const uin
 
 ilp_code ilp_request_text(const uint8_t *host, size_t host_len, const uint8_t *token, size_t token_len,
         const uint8_t *body, size_t body_len, uint8_t *out, size_t room, size_t *len) {
-    if (is_missing(host, host_len) || is_missing(token, token_len) || is_missing(body, body_len) ||
-        is_missing(out, room) || !len) return ILP_NULL;
+    if (is_missing(host, host_len, sizeof *host) || is_missing(token, token_len, sizeof *token) ||
+        is_missing(body, body_len, sizeof *body) || is_missing(out, room, sizeof *out) || !len) return ILP_NULL;
     return proved_ilp_request_text(somewhere(host), host_len, somewhere(token), token_len, somewhere(body), body_len,
         somewhere(out), room, len);
 }
@@ -515,13 +534,13 @@ ilp_code ilp_request_text(const uint8_t *host, size_t host_len, const uint8_t *t
 ilp_code proved_ilp_answer_text(const uint8_t *body, size_t body_len, uint8_t *out, size_t room, size_t *len);
 
 ilp_code ilp_answer_text(const uint8_t *body, size_t body_len, uint8_t *out, size_t room, size_t *len) {
-    if (is_missing(body, body_len) || is_missing(out, room) || !len) return ILP_NULL;
+    if (is_missing(body, body_len, sizeof *body) || is_missing(out, room, sizeof *out) || !len) return ILP_NULL;
     return proved_ilp_answer_text(somewhere(body), body_len, somewhere(out), room, len);
 }
 
 ilp_code proved_ilp_refusal_text(uint32_t status, uint8_t *out, size_t room, size_t *len);
 
 ilp_code ilp_refusal_text(uint32_t status, uint8_t *out, size_t room, size_t *len) {
-    if (is_missing(out, room) || !len) return ILP_NULL;
+    if (is_missing(out, room, sizeof *out) || !len) return ILP_NULL;
     return proved_ilp_refusal_text(status, somewhere(out), room, len);
 }

@@ -1,4 +1,4 @@
-/* Why a Prepare failed, as ilp_end_last_failure tells it in C: of an answer that never came, of one that cannot be read, of a
+/* Why a Prepare failed, as ilp_end_last_failure reports it in C: of an answer that never came, of one that cannot be read, of a
  * Fulfill that does not fit, and of a Reject. tests/bindings.py runs it. */
 #include "ilpstream.h"
 #include <stdio.h>
@@ -34,9 +34,9 @@ int main(void) {
     static uint8_t unfit[35] = {13, 33};
     uint8_t unread[] = {14};
     uint8_t reject[] = "\x0e\x13T04\x09" "example.c\x04" "full\0";
-    ilp_end_config config = {.in_flight = 1, .packets = 9, .packet_limit = 9, .least_num = 1, .least_den = 1};
+    ilp_end_config config = {.size = sizeof config, .in_flight = 1, .packets = 9, .packet_limit = 9, .least_num = 1, .least_den = 1};
     ilp_end end = {0};
-    ilp_failure failure;
+    ilp_failure failure = {.size = sizeof failure};
     uint32_t stream;
 
     const uint8_t *own = (const uint8_t *)"test.a", *peer = (const uint8_t *)"test.b";
@@ -57,6 +57,6 @@ int main(void) {
     fails(&end, unfit, sizeof unfit, &failure);
     sure(failure.kind == ILP_UNFIT && !failure.message_len, "a Fulfill that does not fit");
     sure(ilp_free(&end) == ILP_DONE, "ilp_free");
-    puts("4 causes were told");
+    puts("4 causes were reported");
     return 0;
 }

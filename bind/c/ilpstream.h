@@ -1,19 +1,26 @@
 /* Interledger STREAM (RFC 0029) and the connector between its ends (RFC 0027): ends of a connection and hops, proved in
  * Rattle, for hosts in C. There is no I/O here, no clock, no thread and no random number: bytes, times and IVs are arguments.
+ * docs/EMBEDDING.md says how to build it, and docs/COMPARED.md compares the calls with those of other libraries.
  *
  * Handles. A handle is a struct of one number. It begins as {0}, which is the handle of nothing, and *_new fills it. It may be
  * moved and copied: copies are handles of one object. ilp_free frees the object and makes its own copy {0}; for the others, and
  * for any number that no call gave, each call is ILP_MISUSE from then on, also when new objects were made since. So are a call
  * on {0}, on a handle of another kind, and on a null pointer. An object may be used by any thread, and has one call at a time: a
- * second one meanwhile is ILP_BUSY, and can be repeated.
+ * second one meanwhile is ILP_BUSY, and can be repeated. A call whose handle is `const` only asks: it leaves the object as it is,
+ * but it is one call at a time as well.
  *
  * Codes. Each call returns ILP_DONE or another number. ILP_IDLE, ILP_ENDED, ILP_ABORTED and ILP_ONWARD are answers. All others
- * are refusals: what the handle is of is then as before the call. A number out of its range, as a stream above 255 or a
- * negative time, is ILP_ARGUMENT. Where a call does not return the code for which a parameter is described, what that
- * parameter points to has no meaning.
+ * are refusals: the handle's object is then as before the call. A number out of its range, as a stream above 255 or a
+ * negative time, is ILP_ARGUMENT. If a call does not return the code for which a parameter is described, what that
+ * parameter points to has no meaning. ilp_error_text has each code in words, and ilp_is_no_memory says of a refusal whether the
+ * call can be repeated once there is memory.
  *
- * Bytes that a call gives are put out: they stay in the handle until the next call that puts out bytes, and ilp_output copies
- * them, as often as it is called. A call that puts out bytes also says how many.
+ * Structs that may grow, ilp_end_config and ilp_failure, begin with their size, which the caller sets: `sizeof` of the struct. A
+ * size that is smaller than this header's is ILP_ARGUMENT. So is a config that is larger and has other bytes than 0 beyond what
+ * the library knows. Of a larger failure the library fills what it knows, and sets `size` to how many bytes that are.
+ *
+ * Output. Bytes that a call returns are its output: they stay in the object until the next call that outputs bytes, and ilp_output
+ * copies them, as often as it is called. A call that outputs bytes also says how many.
  *
  * Flights and tickets. ilp_end_send says a number of the flight, and ilp_hop_arrive a number of the ticket. Each is settled
  * once: by ilp_end_answer or ilp_end_fault, and by ilp_hop_settle, ilp_hop_fault or ilp_hop_abandon. Afterwards, and for any
@@ -22,8 +29,12 @@
  * Pointers. A null pointer is ILP_NULL where something has to lie; bytes of which there are none may be null.
  *
  * What no number refuses, and the caller has to take care of: a pointer that dangles, or where fewer bytes lie than is said;
- * parameters that overlap; memory that malloc, realloc and free do not give and take as the C standard says. Two packets of a
+ * parameters that overlap; memory that malloc and free do not give and take as the C standard says. Two packets of a
  * connection with the same IV give away their contents and the key of their authentication: see ilp_end_send.
+ *
+ * Memory. Each block that the library gives back was overwritten, and so was the part of the stack that a call with keys used.
+ * A thread needs 160 KiB of stack for ilp_end_new and ilp_keys_new, and 20 KiB for the other calls, beside its own.
+ * ilpstream_memory.h has the functions by which libilpstream.a takes memory, which a program may define itself.
  *
  * Units. Amounts are in the smallest unit of the asset of their link. Times are milliseconds since 1970-01-01 00:00 UTC, from
  * 0 to 253,402,300,000,000. */
@@ -34,6 +45,12 @@
 #ifdef __cplusplus
 extern "C" {
 #endif
+
+/* The version of this header. While MAJOR is 0, a higher MINOR may change calls. */
+#define ILP_VERSION "0.1.0"
+#define ILP_VERSION_MAJOR 0
+#define ILP_VERSION_MINOR 1
+#define ILP_VERSION_PATCH 0
 
 /* What a call returns; docs/ERRORS.md says more of each. */
 typedef uint32_t ilp_code;
@@ -85,22 +102,36 @@ enum {
     ILP_UNKNOWN = 104,       /* there is no such open flight or ticket */
     ILP_ENDED = 105,         /* all bytes were read, and the peer closed the stream */
     ILP_ABORTED = 106,       /* the peer aborted the stream */
-    ILP_ONWARD = 107,        /* the bytes go on to another account */
+    ILP_ONWARD = 107,        /* the bytes are to be forwarded to another account */
     ILP_BUSY = 108,          /* another call has the object */
-    ILP_NULL = 109           /* a pointer is null, or a length above 2^63 - 1 */
+    ILP_NULL = 109           /* a pointer is null, or a length is above 2^63 - 1 bytes */
 };
+
+/* ---- without a handle
+ *
+ * These calls may be made at any time, by any thread. What they return stays valid. */
+
+/* The version of the library, which is ILP_VERSION of the header that it was built with. */
+const char *ilp_version(void);
+
+/* A code in English, in one sentence or two. Never null: there is a text for numbers that are no code too. */
+const char *ilp_error_text(ilp_code code);
+
+/* 1 if the code says that memory was refused, whichever part of the library was refused it: ILP_NO_MEMORY, ILP_HOP_NO_MEMORY,
+ * ILP_KEYS_NO_MEMORY, ILP_STREAM_NO_MEMORY, ILP_PACKET_NO_MEMORY, ILP_HTTP_NO_MEMORY. Else 0. */
+int ilp_is_no_memory(ilp_code code);
 
 /* ---- handles of any kind */
 
-/* Frees what a handle is of, and leaves it empty. The parameter is the address of a handle: ilp_free(&end). ILP_DONE also for a
- * null pointer and for an empty handle, so that a second ilp_free of one variable does nothing. ILP_MISUSE for a copy of a handle
- * that was freed; ILP_BUSY, after which it is not freed. */
+/* Frees the handle's object, and leaves the handle empty. The parameter is the address of a handle: ilp_free(&end). ILP_DONE
+ * also for a null pointer and for an empty handle, so that a second ilp_free of one variable does nothing. ILP_MISUSE for a
+ * copy of a handle that was freed; ILP_BUSY, after which it is not freed. */
 ilp_code ilp_free(void *handle);
 
-/* Copies the bytes that the last call put out to the front of a buffer of `room` bytes; `len` is how many they are. ILP_ROOM
- * where the buffer has fewer: then nothing is copied, and `len` is how many are needed. Before the first call that puts out
- * bytes there are none. The bytes stay put out. */
-ilp_code ilp_output(void *handle, uint8_t *out, size_t room, size_t *len);
+/* Copies the bytes that the last call output to the front of a buffer of `room` bytes; `len` is how many they are. ILP_ROOM
+ * where the buffer has fewer: then nothing is copied, and `len` is how many are needed. Before the first call that outputs
+ * bytes there are none. The bytes stay output. */
+ilp_code ilp_output(const void *handle, uint8_t *out, size_t room, size_t *len);
 
 /* ---- an end of a STREAM connection (RFC 0029) */
 
@@ -108,11 +139,12 @@ typedef struct ilp_end { uint64_t inner; } ilp_end;
 
 enum { ILP_CLIENT = 0, ILP_SERVER = 1 };
 
-/* How an end sends. `in_flight` is how many Prepares may wait for their answer at once, 1 to 64; `packets` how many it sends
- * in all, 1 to 2^31 - 1; `packet_limit` the greatest amount of one Prepare at the start, 1 to 2^63 - 1. The prepare amount of
- * a packet, which is the least that has to arrive (RFC 0029, section 5.2), is its amount times `least_num` / `least_den`,
- * rounded down; neither of the two is 0, and 1 / 1 has all of it arrive. */
+/* How an end sends. `size` is sizeof(ilp_end_config). `in_flight` is how many Prepares may wait for their answer at once, 1 to
+ * 64; `packets` how many it sends in all, 1 to 2^31 - 1; `packet_limit` the greatest amount of one Prepare at the start, 1 to
+ * 2^63 - 1. The prepare amount of a packet, which is the least that has to arrive (RFC 0029, section 5.2), is its amount times
+ * `least_num` / `least_den`, rounded down; neither of the two is 0, and 1 / 1 has all of it arrive. */
 typedef struct ilp_end_config {
+    size_t size;
     size_t in_flight;
     uint64_t packets;
     uint64_t packet_limit;
@@ -148,12 +180,12 @@ ilp_code ilp_end_offer(ilp_end *end, uint32_t stream, uint64_t amount);
  * that the peer may open. ILP_NO_STREAM. */
 ilp_code ilp_end_set_receive_max(ilp_end *end, uint32_t stream, uint64_t amount);
 
-/* Puts out the first bytes that can be read on a stream, at most `max`, which is not 0. ILP_DONE: `len` is how many, at least
+/* Outputs the first bytes that can be read on a stream, at most `max`, which is not 0. ILP_DONE: `len` is how many, at least
  * 1. ILP_IDLE: none yet. ILP_ENDED: all were read, and the peer closed the stream. ILP_ABORTED: the peer aborted the stream,
  * and `code` is its code. ILP_NO_STREAM, ILP_NO_MEMORY. */
 ilp_code ilp_end_read(ilp_end *end, uint32_t stream, size_t max, size_t *len, uint64_t *code);
 
-/* Puts out the bytes of the next ILP Prepare, which is to be sent to the peer: `len` is how many, and `flight` the number by
+/* Outputs the bytes of the next ILP Prepare, which is to be sent to the peer: `len` is how many, and `flight` the number by
  * which the answer is reported. `iv` has 12 bytes: no two packets of a connection, of either end, may have the same, so take
  * them from the system's random bytes. `now` is the time; the Prepare expires 30 seconds later. ILP_IDLE: nothing is to
  * be sent now. ILP_NO_MEMORY. */
@@ -177,12 +209,12 @@ typedef struct ilp_received {
     uint32_t opened;
 } ilp_received;
 
-/* Puts out the answer to the `len` bytes of an ILP Prepare that came from the peer at the time `now`; the answer is to be sent
+/* Outputs the answer to the `len` bytes of an ILP Prepare that came from the peer at the time `now`; the answer is to be sent
  * back. ILP_NO_MEMORY: answer it with the bytes of ilp_end_t00, and the peer sends again. */
 ilp_code ilp_end_receive(ilp_end *end, const uint8_t *bytes, size_t len, int64_t now, ilp_received *received);
 
 /* Copies a Reject T00 that is kept ready, for use where memory is refused, as ilp_output does. */
-ilp_code ilp_end_t00(ilp_end *end, uint8_t *out, size_t room, size_t *len);
+ilp_code ilp_end_t00(const ilp_end *end, uint8_t *out, size_t room, size_t *len);
 
 /* What an end did so far. `accepted` is how many bytes were written at this end, and `delivered` how many it gave to its
  * reader; `credited` is how many units it received, and `paid` how many of its own were fulfilled. */
@@ -193,16 +225,16 @@ typedef struct ilp_totals {
     uint64_t paid;
 } ilp_totals;
 
-ilp_code ilp_end_totals(ilp_end *end, ilp_totals *totals);
+ilp_code ilp_end_totals(const ilp_end *end, ilp_totals *totals);
 
 /* `answer` is 1 where a stream is open at this end, else 0. */
-ilp_code ilp_end_has_stream(ilp_end *end, uint32_t stream, uint32_t *answer);
+ilp_code ilp_end_has_stream(const ilp_end *end, uint32_t stream, uint32_t *answer);
 
 /* `answer` is 1 where this end's own close of a stream was fulfilled, else 0. */
-ilp_code ilp_end_settled(ilp_end *end, uint32_t stream, uint32_t *answer);
+ilp_code ilp_end_settled(const ilp_end *end, uint32_t stream, uint32_t *answer);
 
 /* `answer` is 1 where the connection failed, else 0: 200 Prepares in a row without a Fulfill, or a final Reject code. */
-ilp_code ilp_end_is_failed(ilp_end *end, uint32_t *answer);
+ilp_code ilp_end_is_failed(const ilp_end *end, uint32_t *answer);
 
 /* What `kind` is of an ilp_failure. */
 enum {
@@ -212,11 +244,12 @@ enum {
     ILP_REJECTED = 4    /* a Reject came */
 };
 
-/* Why a Prepare failed. Of a Reject it has the code, such as T04; triggeredBy, the ILP address of whoever refused, in the first
- * `by_len` bytes of `by`; and the first 255 bytes of the message, in the first `message_len` bytes of `message`. Whoever refused
- * chose the message: it may have any characters, and its last one may be cut. Of anything else all of these are 0. No text ends
- * with a 0. */
+/* Why a Prepare failed. `size` is sizeof(ilp_failure), set before the call. Of a Reject it has the code, such as T04;
+ * triggeredBy, the ILP address of whoever refused, in the first `by_len` bytes of `by`; and the first 255 bytes of the message,
+ * in the first `message_len` bytes of `message`. Whoever refused chose the message: it may have any characters, and its last
+ * one may be cut. Of anything else all of these are 0. No text ends with a 0. */
 typedef struct ilp_failure {
+    size_t size;
     uint32_t kind;
     uint8_t code[3];
     size_t by_len;
@@ -225,8 +258,9 @@ typedef struct ilp_failure {
     uint8_t message[255];
 } ilp_failure;
 
-/* Why the last Prepare of this end that failed did so. A later Fulfill does not change it. ILP_IDLE: none failed yet. */
-ilp_code ilp_end_last_failure(ilp_end *end, ilp_failure *failure);
+/* Why the last Prepare of this end that failed did so. A later Fulfill does not change it. ILP_IDLE: none failed yet.
+ * ILP_ARGUMENT: `size` of the failure was not set. */
+ilp_code ilp_end_last_failure(const ilp_end *end, ilp_failure *failure);
 
 /* ---- a hop: the connector between a sender and a receiver (RFC 0027) */
 
@@ -240,8 +274,8 @@ typedef struct ilp_account {
 } ilp_account;
 
 /* A route. Its prefix, an ILP address, is the next `prefix_len` bytes of a text that all routes share. `account` is where a
- * Prepare goes on to whose destination has the prefix; where several do, the longest one counts. The amount that goes on is
- * that which arrived times `num` / `den`, rounded down; neither of the two is 0. */
+ * Prepare is forwarded to whose destination has the prefix; where several do, the longest one counts. The amount that is
+ * forwarded is that which arrived times `num` / `den`, rounded down; neither of the two is 0. */
 typedef struct ilp_route {
     size_t prefix_len;
     size_t account;
@@ -250,8 +284,8 @@ typedef struct ilp_route {
 } ilp_route;
 
 /* Makes a hop in an empty handle: its own ILP address, its accounts, numbered from 0, and its routes, whose prefixes stand one
- * after another in `prefixes`. Nothing is owed yet. ILP_ARGUMENT where `own` or a prefix is no ILP address, a `num` or
- * `den` is 0, or the lengths of the prefixes are not together `prefixes_len`; ILP_BAD_TABLE; ILP_MISUSE where the handle is not empty;
+ * after another in `prefixes`. Nothing is owed yet. ILP_ARGUMENT where `own` or a prefix is no ILP address, a `num` or `den` is
+ * 0, or the lengths of the prefixes are not together `prefixes_len`; ILP_BAD_TABLE; ILP_MISUSE where the handle is not empty;
  * ILP_HOP_NO_MEMORY. */
 ilp_code ilp_hop_new(ilp_hop *hop, const uint8_t *own, size_t own_len, const ilp_account *accounts, size_t accounts_len,
                      const uint8_t *prefixes, size_t prefixes_len, const ilp_route *routes, size_t routes_len);
@@ -268,22 +302,22 @@ ilp_code ilp_hop_restored(ilp_hop *hop, const uint8_t *own, size_t own_len, cons
  * the numbers of tickets go on: the answer to an earlier Prepare is ILP_UNKNOWN. */
 ilp_code ilp_hop_restart(ilp_hop *hop);
 
-/* What a hop did with a Prepare. `len` is how many bytes were put out. Where they go on, `ticket` is the number by which the
- * answer is reported, and `account` the one that they go on to. */
+/* What a hop did with a Prepare. `len` is how many bytes were output. If they are to be forwarded, `ticket` is the number by
+ * which the answer is reported, and `account` the one to forward them to. */
 typedef struct ilp_arrived {
     size_t len;
     size_t account;
     uint64_t ticket;
 } ilp_arrived;
 
-/* Takes the `len` bytes of an ILP Prepare that came from an account at the time `now`. ILP_DONE: what was put out is a Reject,
+/* Takes the `len` bytes of an ILP Prepare that came from an account at the time `now`. ILP_DONE: what was output is a Reject,
  * which is to be sent back. ILP_ONWARD: it is a Prepare, which is to be sent on to another account; the amount is held
  * against the first one until the ticket is settled. ILP_NO_ACCOUNT. ILP_HOP_NO_MEMORY: answer it with the bytes of
  * ilp_hop_t00, and the sender sends again. */
 ilp_code ilp_hop_arrive(ilp_hop *hop, size_t account, const uint8_t *bytes, size_t len, int64_t now, ilp_arrived *arrived);
 
-/* What a ticket books: the account `payer`, from which the Prepare came, owes `claim` more, and `payee`, to which it went on, is
- * owed `due` more, each in units of its link. `books` is 1; where nothing is booked, all are 0. */
+/* What a ticket books: the account `payer`, from which the Prepare came, owes `claim` more, and `payee`, to which it was
+ * forwarded, is owed `due` more, each in units of its link. `books` is 1; where nothing is booked, all are 0. */
 typedef struct ilp_booking {
     size_t payer;
     uint64_t claim;
@@ -295,21 +329,21 @@ typedef struct ilp_booking {
 /* What ilp_hop_settle would book with the same arguments. It changes nothing. A host that keeps books of its own asks this,
  * stores the booking, settles the ticket with the same bytes and the same `now`, and then sends the answer back. ILP_UNKNOWN,
  * ILP_HOP_NO_MEMORY. */
-ilp_code ilp_hop_books(ilp_hop *hop, uint64_t ticket, const uint8_t *bytes, size_t len, int64_t now, ilp_booking *booking);
+ilp_code ilp_hop_books(const ilp_hop *hop, uint64_t ticket, const uint8_t *bytes, size_t len, int64_t now, ilp_booking *booking);
 
-/* Takes the `len` bytes of the answer to a Prepare that went on under a ticket, and puts out the answer to the Prepare that had
- * come: `answer_len` is how many bytes it has. A Fulfill that fits and came in time is booked; all else is a Reject. What was
- * held is released. ILP_UNKNOWN, ILP_HOP_NO_MEMORY. */
+/* Takes the `len` bytes of the answer to a Prepare that was forwarded under a ticket, and outputs the answer to the Prepare
+ * that had come: `answer_len` is how many bytes it has. A Fulfill that fits and came in time is booked; all else is a Reject.
+ * What was held is released. ILP_UNKNOWN, ILP_HOP_NO_MEMORY. */
 ilp_code ilp_hop_settle(ilp_hop *hop, uint64_t ticket, const uint8_t *bytes, size_t len, int64_t now, size_t *answer_len);
 
-/* The same where no answer came, and none is waited for: what is put out is a Reject T01. ILP_UNKNOWN. */
+/* The same where no answer came, and none is waited for: what is output is a Reject T01. ILP_UNKNOWN. */
 ilp_code ilp_hop_fault(ilp_hop *hop, uint64_t ticket, size_t *answer_len);
 
 /* Gives up a ticket without an answer. The amount stays held. ILP_UNKNOWN. */
 ilp_code ilp_hop_abandon(ilp_hop *hop, uint64_t ticket);
 
 /* Copies a Reject T00 that is kept ready, for use where memory is refused, as ilp_output does. */
-ilp_code ilp_hop_t00(ilp_hop *hop, uint8_t *out, size_t room, size_t *len);
+ilp_code ilp_hop_t00(const ilp_hop *hop, uint8_t *out, size_t room, size_t *len);
 
 /* What an account owes the hop, what the hop owes it, and what is held against it, in units of its link. */
 typedef struct ilp_balances {
@@ -319,7 +353,7 @@ typedef struct ilp_balances {
 } ilp_balances;
 
 /* ILP_NO_ACCOUNT. */
-ilp_code ilp_hop_balances(ilp_hop *hop, size_t account, ilp_balances *balances);
+ilp_code ilp_hop_balances(const ilp_hop *hop, size_t account, ilp_balances *balances);
 
 /* ---- keys of a connection: sealed packets, fulfillments and conditions (RFC 0029, RFC 0027) */
 
@@ -329,17 +363,17 @@ typedef struct ilp_keys { uint64_t inner; } ilp_keys;
  * handle is not empty; ILP_KEYS_NO_MEMORY. */
 ilp_code ilp_keys_new(ilp_keys *keys, const uint8_t secret[32]);
 
-/* Puts out the payload of a plain text of `len` bytes: the IV, the tag of 16 bytes, and the ciphertext. `payload_len` is how
- * many bytes it has: 28 more than the text. The text is not looked at: mostly it is what ilp_packet_write puts out.
+/* Outputs the payload of a plain text of `len` bytes: the IV, the tag of 16 bytes, and the ciphertext. `payload_len` is how
+ * many bytes it has: 28 more than the text. The text is not looked at: mostly it is what ilp_packet_write outputs.
  * No two payloads of a connection may have the same IV. ILP_KEYS_NO_MEMORY. */
 ilp_code ilp_keys_seal(ilp_keys *keys, const uint8_t iv[12], const uint8_t *text, size_t len, size_t *payload_len);
 
-/* Puts out the plain text of a payload of `len` bytes. `text_len` is how many bytes it has: 28 less than the payload.
+/* Outputs the plain text of a payload of `len` bytes. `text_len` is how many bytes it has: 28 less than the payload.
  * ILP_SHORT: the payload has fewer than 28 bytes. ILP_TAG: its tag does not match its ciphertext. ILP_KEYS_NO_MEMORY. */
 ilp_code ilp_keys_open(ilp_keys *keys, const uint8_t *payload, size_t len, size_t *text_len);
 
 /* The fulfillment of a Prepare whose data is this payload of `len` bytes, as it is sent. */
-ilp_code ilp_keys_fulfillment(ilp_keys *keys, const uint8_t *payload, size_t len, uint8_t fulfillment[32]);
+ilp_code ilp_keys_fulfillment(const ilp_keys *keys, const uint8_t *payload, size_t len, uint8_t fulfillment[32]);
 
 /* The condition of a fulfillment: its SHA-256 digest. It needs no handle. */
 ilp_code ilp_condition(const uint8_t fulfillment[32], uint8_t condition[32]);
@@ -396,19 +430,19 @@ ilp_code ilp_packet_new(ilp_packet *packet, uint32_t kind, uint64_t sequence, ui
  * ILP_STREAM_NO_MEMORY. */
 ilp_code ilp_packet_read(ilp_packet *packet, uint32_t kind, const uint8_t *bytes, size_t len);
 
-ilp_code ilp_packet_header(ilp_packet *packet, ilp_header *header);
+ilp_code ilp_packet_header(const ilp_packet *packet, ilp_header *header);
 
 /* Adds a frame, whose text, address or data has `len` bytes, behind the others. ILP_ARGUMENT where the type is not known, a value
  * is given that the type does not have, the code is above 255, or a message or an address is not UTF-8. ILP_FRAME where an
  * address is neither empty nor an ILP address. ILP_STREAM_NO_MEMORY. */
 ilp_code ilp_packet_push(ilp_packet *packet, const ilp_frame *frame, const uint8_t *data, size_t len);
 
-/* Reports the known frame at a place, counted from 0, and puts out its text, address or data: `len` is how many bytes that are.
+/* Reports the known frame at a place, counted from 0, and outputs its text, address or data: `len` is how many bytes that are.
  * `index` is counted over all frames, also those that were skipped, of the packet that was read; that of a frame that was added
  * is how many known frames there were. ILP_ARGUMENT where there are not so many known frames; ILP_STREAM_NO_MEMORY. */
 ilp_code ilp_packet_frame(ilp_packet *packet, size_t place, ilp_frame *frame, uint64_t *index, size_t *len);
 
-/* Puts out the bytes of the packet, in the shortest encoding: `len` is how many they are. ILP_STREAM_TOO_LONG where they would
+/* Outputs the bytes of the packet, in the shortest encoding: `len` is how many they are. ILP_STREAM_TOO_LONG where they would
  * be more than 32,739; ILP_STREAM_NO_MEMORY. */
 ilp_code ilp_packet_write(ilp_packet *packet, size_t *len);
 
@@ -488,7 +522,7 @@ ilp_code ilp_request_new(ilp_message *request, const uint8_t *tokens, size_t tok
 ilp_code ilp_response_new(ilp_message *response);
 
 /* What the bytes of a message are so far. ILP_DONE: `taken` is how many of them are the message, `body_len` how many bytes were
- * put out, and `account` that of a request, by the place of its token. ILP_IDLE: `wants` is how many bytes to ask for next:
+ * output, and `account` that of a request, by the place of its token. ILP_IDLE: `wants` is how many bytes to ask for next:
  * at least 1, and never more than the message must still have. ILP_STATUS: `status` is the status that answers a request, or
  * that a response has. All else is 0. */
 typedef struct ilp_reading {
@@ -499,7 +533,7 @@ typedef struct ilp_reading {
     uint32_t status;
 } ilp_reading;
 
-/* Takes the next `len` bytes of a message. ILP_DONE: it is whole, and its body is put out. ILP_IDLE: it is not whole yet.
+/* Takes the next `len` bytes of a message. ILP_DONE: it is whole, and its body is output. ILP_IDLE: it is not whole yet.
  * ILP_STATUS: a request is refused by a status, or a response has a status other than 200. ILP_BAD_HEAD, ILP_TOO_LONG: a
  * response is refused. Where it is refused, or ILP_HTTP_NO_MEMORY, no byte was taken. Each call reads the message from its
  * start, so that some thousand bytes at once cost less than single ones. */

@@ -37,7 +37,7 @@ static ilp_keys new_keys(void) {
 static ilp_end new_end(void) {
     ilp_end end = {0};
     ilp_end_config config = {
-        .in_flight = 1, .packets = 9, .packet_limit = 9, .least_num = 1, .least_den = 1};
+        .size = sizeof config, .in_flight = 1, .packets = 9, .packet_limit = 9, .least_num = 1, .least_den = 1};
     IS(ilp_end_new(&end, ILP_CLIENT, secret, (const uint8_t *)"test.a", 6, (const uint8_t *)"test.b", 6, &config), ILP_DONE);
     return end;
 }
@@ -172,6 +172,86 @@ static void null_pointers(void) {
     IS(ilp_free(&end), ILP_DONE);
 }
 
+/* Numbers of elements whose bytes are more than a memory has: 2^59 accounts have 2^63 bytes. */
+static void too_many(void) {
+    const ilp_account account = {1, 1};
+    const ilp_route route = {0, 0, 1, 1};
+    const uint64_t sum = 0;
+    const size_t length = 0;
+    const uint8_t *own = (const uint8_t *)"test.hub";
+    ilp_hop hop = {0};
+    ilp_message request = {0};
+    for (unsigned bits = 59; bits < 64; bits++) {
+        size_t many = (size_t)1 << bits;
+        IS(ilp_hop_new(&hop, own, 8, &account, many, NULL, 0, NULL, 0), ILP_NULL);
+        IS(ilp_hop_new(&hop, own, 8, &account, 1, NULL, 0, &route, many), ILP_NULL);
+    }
+    IS(ilp_hop_new(&hop, own, 8, &account, SIZE_MAX, NULL, 0, NULL, 0), ILP_NULL);
+    IS(ilp_hop_restored(&hop, own, 8, &account, 1, NULL, 0, NULL, 0, &sum, (size_t)1 << 60, &sum, 1, 5), ILP_NULL);
+    IS(ilp_hop_restored(&hop, own, 8, &account, 1, NULL, 0, NULL, 0, &sum, 1, &sum, (size_t)1 << 60, 5), ILP_NULL);
+    IS(ilp_request_new(&request, NULL, 0, &length, (size_t)1 << 60), ILP_NULL);
+    IS(hop.inner != 0 || request.inner != 0, 0);
+}
+
+static ilp_code made(const void *config) {
+    ilp_end end = {0};
+    const uint8_t *own = (const uint8_t *)"test.a", *peer = (const uint8_t *)"test.b";
+    ilp_code code = ilp_end_new(&end, ILP_CLIENT, secret, own, 6, peer, 6, config);
+    IS(ilp_free(&end), ILP_DONE);
+    return code;
+}
+
+/* Structs that begin with their size: of this header, of an older one, and of a later one. */
+static void sizes(void) {
+    struct {
+        ilp_end_config known;
+        uint64_t later[2];
+    } config = {.known = {.in_flight = 1, .packets = 9, .packet_limit = 9, .least_num = 1, .least_den = 1}};
+    struct {
+        ilp_failure known;
+        uint64_t later;
+    } failure = {.later = 7};
+    IS(made(&config), ILP_ARGUMENT); /* the size was not set */
+    config.known.size = sizeof config.known - 1;
+    IS(made(&config), ILP_ARGUMENT);
+    config.known.size = sizeof config.known;
+    IS(made(&config), ILP_DONE);
+    config.later[1] = 1; /* beyond the size: it is not looked at */
+    IS(made(&config), ILP_DONE);
+    config.known.size = sizeof config;
+    IS(made(&config), ILP_ARGUMENT); /* a field that this version does not know */
+    config.later[1] = 0;
+    IS(made(&config), ILP_DONE);
+    config.known.size = SIZE_MAX;
+    IS(made(&config), ILP_ARGUMENT);
+    ilp_end end = new_end();
+    IS(ilp_end_last_failure(&end, &failure.known), ILP_ARGUMENT);
+    failure.known.size = sizeof failure.known - 1;
+    IS(ilp_end_last_failure(&end, &failure.known), ILP_ARGUMENT);
+    failure.known.size = sizeof failure;
+    IS(ilp_end_last_failure(&end, &failure.known), ILP_IDLE);
+    uint32_t stream;
+    uint64_t flight;
+    size_t len;
+    IS(ilp_end_open_stream(&end, &stream), ILP_DONE);
+    IS(ilp_end_write(&end, stream, (const uint8_t *)"hi", 2), ILP_DONE);
+    IS(ilp_end_send(&end, iv, 0, &flight, &len), ILP_DONE);
+    IS(ilp_end_fault(&end, flight), ILP_DONE);
+    IS(ilp_end_last_failure(&end, &failure.known), ILP_DONE);
+    IS(failure.known.size != sizeof failure.known || failure.later != 7 || failure.known.kind != ILP_LOST, 0);
+    IS(ilp_free(&end), ILP_DONE);
+}
+
+/* What is known without a handle. */
+static void about(void) {
+    IS(strcmp(ilp_version(), ILP_VERSION) != 0, 0);
+    IS(strcmp(ilp_error_text(ILP_MISUSE), ilp_error_text(ILP_ARGUMENT)) == 0, 0);
+    for (ilp_code code = 0; code < 300; code++) IS(strlen(ilp_error_text(code)) < 10, 0);
+    IS(strcmp(ilp_error_text(UINT32_MAX), ilp_error_text(1)) != 0, 0);
+    IS(ilp_is_no_memory(ILP_NO_MEMORY) && ilp_is_no_memory(ILP_HOP_NO_MEMORY) && ilp_is_no_memory(ILP_KEYS_NO_MEMORY), 1);
+    IS(ilp_is_no_memory(ILP_DONE) || ilp_is_no_memory(ILP_IDLE) || ilp_is_no_memory(UINT32_MAX), 0);
+}
+
 /* Frames that are none. */
 static void bad_frames(void) {
     ilp_packet packet = {0};
@@ -203,7 +283,7 @@ static sem_t is_inside, goes_on;
 
 enum { PAGE = 4096 };
 
-/* The thread that reads the page stands here, in the middle of its call, until it is told to go on. */
+/* The thread that reads the page stands here, in the middle of its call, until it may go on. */
 static void stands(int unused) {
     (void)unused;
     sem_post(&is_inside);
@@ -304,6 +384,9 @@ int main(int argc, char **argv) {
     hops_with_books();
     never_made();
     null_pointers();
+    too_many();
+    sizes();
+    about();
     bad_frames();
     in_use();
     many();

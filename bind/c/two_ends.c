@@ -11,7 +11,7 @@ enum { SIZE = 1 << 20, UNITS = 500, PACKET = 40000 };
 
 static void must(ilp_code code, const char *what) {
     if (code == ILP_DONE) return;
-    fprintf(stderr, "%s: refused with %u\n", what, code);
+    fprintf(stderr, "%s: %u: %s\n", what, code, ilp_error_text(code));
     exit(1);
 }
 
@@ -30,7 +30,7 @@ static int64_t now(void) {
 static ilp_end new_end(uint32_t role, const uint8_t secret[32], const char *own, const char *peer) {
     ilp_end end = {0};
     ilp_end_config config = {
-        .in_flight = 16, .packets = 10000, .packet_limit = 1000, .least_num = 1, .least_den = 1};
+        .size = sizeof config, .in_flight = 16, .packets = 10000, .packet_limit = 1000, .least_num = 1, .least_den = 1};
     must(ilp_end_new(&end, role, secret, (const uint8_t *)own, strlen(own), (const uint8_t *)peer,
                      strlen(peer), &config), "ilp_end_new");
     return end;
@@ -67,20 +67,20 @@ static size_t write_some(ilp_end *end, uint32_t stream, const uint8_t *bytes, si
 
 /* Reads what has arrived into a buffer: how many bytes they are. */
 static size_t read_some(ilp_end *end, uint32_t stream, uint8_t *bytes, size_t room) {
-    size_t got = 0, len;
+    size_t count = 0, len;
     uint64_t reason;
-    while (got < room) {
-        ilp_code code = ilp_end_read(end, stream, room - got, &len, &reason);
+    while (count < room) {
+        ilp_code code = ilp_end_read(end, stream, room - count, &len, &reason);
         if (code == ILP_IDLE || code == ILP_NO_STREAM) break;
         must(code, "ilp_end_read");
-        must(ilp_output(end, bytes + got, room - got, &len), "ilp_output");
-        got += len;
+        must(ilp_output(end, bytes + count, room - count, &len), "ilp_output");
+        count += len;
     }
-    return got;
+    return count;
 }
 
 int main(void) {
-    static uint8_t sent[SIZE], got[SIZE];
+    static uint8_t sent[SIZE], received[SIZE];
     uint8_t secret[32];
     uint32_t stream;
     ilp_totals paid, credited;
@@ -97,12 +97,12 @@ int main(void) {
     while (goes_on) {
         if (written < SIZE) written += write_some(&client, stream, sent + written, SIZE - written);
         goes_on = pass(&client, &server) || written < SIZE;
-        read += read_some(&server, stream, got + read, SIZE - read);
+        read += read_some(&server, stream, received + read, SIZE - read);
     }
     must(ilp_end_totals(&client, &paid), "ilp_end_totals");
     must(ilp_end_totals(&server, &credited), "ilp_end_totals");
-    bool is_whole = read == SIZE && memcmp(sent, got, SIZE) == 0;
-    printf("%zu bytes %s; paid %llu, credited %llu\n", read, is_whole ? "came whole" : "are not those sent",
+    bool is_whole = read == SIZE && memcmp(sent, received, SIZE) == 0;
+    printf("%zu bytes %s; paid %llu, credited %llu\n", read, is_whole ? "arrived intact" : "are not those sent",
            (unsigned long long)paid.paid, (unsigned long long)credited.credited);
     ilp_free(&client);
     ilp_free(&server);
