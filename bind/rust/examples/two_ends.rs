@@ -64,7 +64,7 @@ fn main() -> Result<(), Box<dyn std::error::Error>> {
     let (paid, credited) = (client.totals()?.paid, server.totals()?.credited);
     assert!(got == sent && (paid, credited) == (UNITS, UNITS));
     println!(
-        "{} bytes came whole; paid {paid}, credited {credited}",
+        "{} bytes arrived intact; paid {paid}, credited {credited}",
         got.len()
     );
     Ok(())

@@ -14,7 +14,6 @@ pub enum Role {
 }
 
 /// How an end sends.
-#[repr(C)]
 #[derive(Clone, Copy, Debug, PartialEq, Eq)]
 pub struct EndConfig {
     /// How many Prepares may wait for their answer at once, 1 to 64.
@@ -166,6 +165,7 @@ pub struct Received {
 /// # Ok(())
 /// # }
 /// ```
+#[derive(Debug)]
 pub struct End {
     handle: Handle,
 }
@@ -228,8 +228,8 @@ impl End {
         done(raw::ilp_end_offer(&mut self.handle, stream.into(), amount))
     }
 
-    /// Lets a stream receive up to an amount in all, which is 0 at the start and is never lowered. [`Error::NoStream`],
-    /// [`Error::Closed`], [`Error::ConnectionFailed`].
+    /// Lets a stream receive up to an amount in all, which is 0 at the start and is never lowered. The stream is open, or
+    /// one that the peer may open: else it is [`Error::NoStream`].
     pub fn set_receive_max(&mut self, stream: u8, amount: u64) -> Result<(), Error> {
         done(raw::ilp_end_set_receive_max(
             &mut self.handle,
@@ -238,11 +238,12 @@ impl End {
         ))
     }
 
-    /// The next bytes of a stream, at most `max`, which is not 0. [`Error::NoStream`], [`Error::OutOfMemory`].
+    /// The next bytes of a stream, at most `max`. [`Error::Argument`] where that is 0; [`Error::NoStream`],
+    /// [`Error::OutOfMemory`].
     pub fn read(&mut self, stream: u8, max: usize) -> Result<Read, Error> {
         let (mut len, mut code) = (0, 0);
         match raw::ilp_end_read(&mut self.handle, stream.into(), max, &mut len, &mut code) {
-            DONE => Ok(Read::Bytes(output(&mut self.handle, len)?)),
+            DONE => Ok(Read::Bytes(output(&self.handle, len)?)),
             IDLE => Ok(Read::Nothing),
             ENDED => Ok(Read::End),
             ABORTED => Ok(Read::Aborted(code)),
@@ -252,13 +253,13 @@ impl End {
 
     /// The next Prepare, or None where nothing is to be sent now. No two packets of a connection, of either end, may have the
     /// same IV: take each from [`Ivs`](crate::Ivs). `now` is in milliseconds after 1970-01-01 00:00 UTC; the Prepare expires
-    /// some seconds later. [`Error::OutOfMemory`].
+    /// 30 seconds later. [`Error::Argument`] where `now` is before 1970 or after 9999; [`Error::OutOfMemory`].
     pub fn send(&mut self, iv: &[u8; 12], now: i64) -> Result<Option<Outgoing>, Error> {
         let (mut flight, mut len) = (0, 0);
         match raw::ilp_end_send(&mut self.handle, iv, now, &mut flight, &mut len) {
             DONE => Ok(Some(Outgoing {
                 flight: Flight(flight),
-                bytes: output(&mut self.handle, len)?,
+                bytes: output(&self.handle, len)?,
             })),
             IDLE => Ok(None),
             number => Err(Error::of(number)),
@@ -283,7 +284,8 @@ impl End {
         done(raw::ilp_end_fault(&mut self.handle, flight.0))
     }
 
-    /// What answers a Prepare of the peer. [`Error::OutOfMemory`]: answer it with [`End::t00`], and the peer sends again.
+    /// What answers a Prepare of the peer. [`Error::Argument`] where `now` is before 1970 or after 9999.
+    /// [`Error::OutOfMemory`]: answer it with [`End::t00`], and the peer sends again.
     pub fn receive(&mut self, bytes: &[u8], now: i64) -> Result<Received, Error> {
         let mut received = raw::Received::default();
         done(raw::end_receive(
@@ -293,7 +295,7 @@ impl End {
             &mut received,
         ))?;
         Ok(Received {
-            bytes: output(&mut self.handle, received.len)?,
+            bytes: output(&self.handle, received.len)?,
             reason: received.reason,
             amount: received.amount,
             sequence: (received.opened == 1).then_some(received.sequence),
@@ -301,37 +303,37 @@ impl End {
     }
 
     /// A Reject T00 that is kept ready, for use where memory is refused.
-    pub fn t00(&mut self) -> Result<Vec<u8>, Error> {
-        text(|out, len| raw::end_t00(&mut self.handle, out, len))
+    pub fn t00(&self) -> Result<Vec<u8>, Error> {
+        text(|out, len| raw::end_t00(&self.handle, out, len))
     }
 
     /// What this end did so far.
-    pub fn totals(&mut self) -> Result<Totals, Error> {
+    pub fn totals(&self) -> Result<Totals, Error> {
         let mut totals = Totals::default();
-        done(raw::ilp_end_totals(&mut self.handle, &mut totals))?;
+        done(raw::ilp_end_totals(&self.handle, &mut totals))?;
         Ok(totals)
     }
 
     /// Whether a stream is open at this end.
-    pub fn has_stream(&mut self, stream: u8) -> Result<bool, Error> {
-        answered(|answer| raw::ilp_end_has_stream(&mut self.handle, stream.into(), answer))
+    pub fn has_stream(&self, stream: u8) -> Result<bool, Error> {
+        answered(|answer| raw::ilp_end_has_stream(&self.handle, stream.into(), answer))
     }
 
     /// Whether this end's own close of a stream was fulfilled.
-    pub fn settled(&mut self, stream: u8) -> Result<bool, Error> {
-        answered(|answer| raw::ilp_end_settled(&mut self.handle, stream.into(), answer))
+    pub fn settled(&self, stream: u8) -> Result<bool, Error> {
+        answered(|answer| raw::ilp_end_settled(&self.handle, stream.into(), answer))
     }
 
     /// Whether the connection failed: 200 Prepares in a row without a Fulfill, or a final Reject code.
-    pub fn is_failed(&mut self) -> Result<bool, Error> {
-        answered(|answer| raw::ilp_end_is_failed(&mut self.handle, answer))
+    pub fn is_failed(&self) -> Result<bool, Error> {
+        answered(|answer| raw::ilp_end_is_failed(&self.handle, answer))
     }
 
     /// Why the last Prepare of this end that failed did so. `None` before the first failure; a later Fulfill does not change
     /// it.
-    pub fn last_failure(&mut self) -> Result<Option<Failure>, Error> {
+    pub fn last_failure(&self) -> Result<Option<Failure>, Error> {
         let mut told = raw::Failure::default();
-        match raw::ilp_end_last_failure(&mut self.handle, &mut told) {
+        match raw::ilp_end_last_failure(&self.handle, &mut told) {
             DONE => Ok(Some(failure(&told))),
             IDLE => Ok(None),
             number => Err(Error::of(number)),

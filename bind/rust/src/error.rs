@@ -23,6 +23,11 @@ macro_rules! refusals {
                 }
             }
 
+            /// What it means, in a sentence or two of the library's documents.
+            pub fn explanation(self) -> &'static str {
+                crate::raw::error_text(self.number())
+            }
+
             pub(crate) fn of(number: u32) -> Error {
                 match number {
                     $($number => Error::$name,)*
@@ -62,7 +67,7 @@ refusals! {
     Code = 16, "the error code has another character";
     /// Bytes follow the last field or the packet.
     Trailing = 17, "bytes follow the packet";
-    /// There is no memory for an ILP packet.
+    /// Out of memory for an ILP packet.
     PacketOutOfMemory = 18, "out of memory for an ILP packet";
     /// The STREAM packet is of another version than 1.
     StreamVersion = 20, "the packet is of another version of STREAM";
@@ -80,7 +85,7 @@ refusals! {
     Short = 30, "the payload is too short";
     /// The tag of the payload is wrong.
     Tag = 31, "the tag of the payload is wrong";
-    /// There is no memory for keys or a payload.
+    /// Out of memory for keys or a payload.
     KeysOutOfMemory = 33, "out of memory for a payload";
     /// The table of a hop: a prefix stands twice, a route names no account, or a limit is above 2^63 - 1.
     BadTable = 34, "the table of the hop is bad";
@@ -109,16 +114,32 @@ refusals! {
     Status = 83, "the message has another status than 200";
     /// The body of a response is longer than 65,535 bytes.
     BodyTooLong = 84, "the body of the response is too long";
-    /// There is no memory for a message of HTTP.
+    /// Out of memory for a message of HTTP.
     HttpOutOfMemory = 87, "out of memory for a message";
-    /// The handle is empty, or of another kind.
+    /// The handle is empty, or of another kind. No call of this crate gives it.
     Misuse = 101, "the handle is of another kind";
     /// An argument is out of its range.
     Argument = 102, "an argument is out of its range";
-    /// A buffer is too small.
+    /// A buffer is too small. No call of this crate gives it.
     Room = 103, "the buffer is too small";
     /// There is no such open flight or ticket.
     Unknown = 104, "there is no such open flight or ticket";
+}
+
+impl Error {
+    /// Whether memory was refused, in whichever part of the library: the call can be repeated once there is some.
+    pub fn is_out_of_memory(self) -> bool {
+        use Error::*;
+        matches!(
+            self,
+            PacketOutOfMemory
+                | StreamOutOfMemory
+                | KeysOutOfMemory
+                | HopOutOfMemory
+                | OutOfMemory
+                | HttpOutOfMemory
+        )
+    }
 }
 
 impl std::error::Error for Error {}

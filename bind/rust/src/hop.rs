@@ -109,6 +109,7 @@ fn table(routes: &[Route<'_>]) -> (String, Vec<raw::Route>) {
 /// # Ok(())
 /// # }
 /// ```
+#[derive(Debug)]
 pub struct Hop {
     handle: Handle,
 }
@@ -170,16 +171,17 @@ impl Hop {
     }
 
     /// What becomes of a Prepare that came from an account at the time `now`, in milliseconds after 1970-01-01 00:00 UTC. Where
-    /// it is sent on, its amount is held until the ticket is settled. [`Error::NoAccount`]. [`Error::HopOutOfMemory`]: answer it
+    /// it is sent on, its amount is held until the ticket is settled. [`Error::NoAccount`]; [`Error::Argument`] where `now` is
+    /// before 1970 or after 9999. [`Error::HopOutOfMemory`]: answer it
     /// with [`Hop::t00`], and the sender sends again.
     pub fn arrive(&mut self, account: usize, bytes: &[u8], now: i64) -> Result<Verdict, Error> {
         let mut arrived = raw::Arrived::default();
         match raw::hop_arrive(&mut self.handle, account, bytes, now, &mut arrived) {
-            DONE => Ok(Verdict::Answer(output(&mut self.handle, arrived.len)?)),
+            DONE => Ok(Verdict::Answer(output(&self.handle, arrived.len)?)),
             ONWARD => Ok(Verdict::Forward {
                 ticket: Ticket(arrived.ticket),
                 account: arrived.account,
-                bytes: output(&mut self.handle, arrived.len)?,
+                bytes: output(&self.handle, arrived.len)?,
             }),
             number => Err(Error::of(number)),
         }
@@ -207,20 +209,9 @@ impl Hop {
     ///     }
     /// }
     /// ```
-    pub fn books(
-        &mut self,
-        ticket: Ticket,
-        bytes: &[u8],
-        now: i64,
-    ) -> Result<Option<Booking>, Error> {
+    pub fn books(&self, ticket: Ticket, bytes: &[u8], now: i64) -> Result<Option<Booking>, Error> {
         let mut it = raw::Booking::default();
-        done(raw::hop_books(
-            &mut self.handle,
-            ticket.0,
-            bytes,
-            now,
-            &mut it,
-        ))?;
+        done(raw::hop_books(&self.handle, ticket.0, bytes, now, &mut it))?;
         Ok((it.books == 1).then_some(Booking {
             payer: it.payer,
             claim: it.claim,
@@ -241,14 +232,14 @@ impl Hop {
             now,
             &mut len,
         ))?;
-        output(&mut self.handle, len)
+        output(&self.handle, len)
     }
 
     /// The same where no answer came, and none is waited for: a Reject T01. [`Error::Unknown`].
     pub fn fault(&mut self, ticket: Ticket) -> Result<Vec<u8>, Error> {
         let mut len = 0;
         done(raw::ilp_hop_fault(&mut self.handle, ticket.0, &mut len))?;
-        output(&mut self.handle, len)
+        output(&self.handle, len)
     }
 
     /// Gives up a ticket without an answer. The amount stays held. [`Error::Unknown`].
@@ -257,18 +248,14 @@ impl Hop {
     }
 
     /// A Reject T00 that is kept ready, for use where memory is refused.
-    pub fn t00(&mut self) -> Result<Vec<u8>, Error> {
-        text(|out, len| raw::hop_t00(&mut self.handle, out, len))
+    pub fn t00(&self) -> Result<Vec<u8>, Error> {
+        text(|out, len| raw::hop_t00(&self.handle, out, len))
     }
 
     /// What an account owes the hop, what the hop owes it, and what is held against it. [`Error::NoAccount`].
-    pub fn balances(&mut self, account: usize) -> Result<Balances, Error> {
+    pub fn balances(&self, account: usize) -> Result<Balances, Error> {
         let mut balances = Balances::default();
-        done(raw::ilp_hop_balances(
-            &mut self.handle,
-            account,
-            &mut balances,
-        ))?;
+        done(raw::ilp_hop_balances(&self.handle, account, &mut balances))?;
         Ok(balances)
     }
 }

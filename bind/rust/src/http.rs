@@ -53,6 +53,7 @@ fn fed(handle: &mut Handle, bytes: &[u8]) -> Result<Progress, Error> {
 /// # Ok(())
 /// # }
 /// ```
+#[derive(Debug)]
 pub struct Request {
     handle: Handle,
 }
@@ -74,6 +75,7 @@ impl Request {
 }
 
 /// A response of ILP over HTTP, as it is read.
+#[derive(Debug)]
 pub struct Response {
     handle: Handle,
 }

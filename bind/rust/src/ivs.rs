@@ -7,6 +7,7 @@ use std::time::{SystemTime, UNIX_EPOCH};
 /// Initialization vectors for sealed packets, each of 12 random bytes of the system. With one key no two packets may have the
 /// same IV: an attacker would learn their contents, and the key of their authentication. Of 2^31 packets of each end, two have
 /// the same random IV with a probability below 2^-32 (NIST SP 800-38D, section 8.3).
+#[derive(Debug)]
 pub struct Ivs {
     random: File,
 }

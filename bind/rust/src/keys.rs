@@ -4,7 +4,7 @@ use crate::error::{Error, done};
 use crate::output::output;
 use crate::raw::{self, Handle};
 
-/// The keys of a connection (RFC 0029, section 4): they seal and open the payloads of its packets, and make the fulfillments of
+/// The keys of a connection (RFC 0029, section 4). When they are dropped, their bytes are overwritten. They seal and open the payloads of its packets, and make the fulfillments of
 /// its Prepares.
 ///
 /// ```
@@ -20,6 +20,7 @@ use crate::raw::{self, Handle};
 /// # Ok(())
 /// # }
 /// ```
+#[derive(Debug)]
 pub struct Keys {
     handle: Handle,
 }
@@ -37,21 +38,21 @@ impl Keys {
     pub fn seal(&mut self, iv: &[u8; 12], text: &[u8]) -> Result<Vec<u8>, Error> {
         let mut len = 0;
         done(raw::keys_seal(&mut self.handle, iv, text, &mut len))?;
-        output(&mut self.handle, len)
+        output(&self.handle, len)
     }
 
     /// The plain text of a payload. [`Error::Short`], [`Error::Tag`], [`Error::KeysOutOfMemory`].
     pub fn open(&mut self, payload: &[u8]) -> Result<Vec<u8>, Error> {
         let mut len = 0;
         done(raw::keys_open(&mut self.handle, payload, &mut len))?;
-        output(&mut self.handle, len)
+        output(&self.handle, len)
     }
 
-    /// The fulfillment of a Prepare whose data is this payload, as it is sent.
-    pub fn fulfillment(&mut self, payload: &[u8]) -> Result<[u8; 32], Error> {
+    /// The fulfillment of a Prepare whose data is this payload, as it is sent. It is not refused.
+    pub fn fulfillment(&self, payload: &[u8]) -> Result<[u8; 32], Error> {
         let mut fulfillment = [0; 32];
         done(raw::keys_fulfillment(
-            &mut self.handle,
+            &self.handle,
             payload,
             &mut fulfillment,
         ))?;

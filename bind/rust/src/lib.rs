@@ -11,14 +11,16 @@
 //! changes nothing, and says why by an [`Error`], whose number is that of the library's documents. The functions behind the
 //! calls were proved to meet their contracts for all arguments; this crate's own code is ordinary Rust, and was not.
 //!
-//! Memory is taken by the C library's `malloc`. Where there is none, a call is refused: [`Error::OutOfMemory`] or
-//! [`Error::HopOutOfMemory`]. The bytes that a call gives are a `Vec`, for which the program aborts where there is no memory, as
-//! everywhere in Rust.
+//! Memory is taken by the C library's `malloc`. Where there is none, a call is refused by an error of which
+//! [`Error::is_out_of_memory`] is true, and can be repeated. The bytes that a call gives are a `Vec`, for which the program aborts
+//! where there is no memory, as everywhere in Rust. Memory that the library gives back was overwritten: no key stays there.
+//!
+//! Features: none is on by default. `refusing` is for tests: requests for memory are counted and refused by its module.
 //!
 //! The archive is linked from `bind/out` of the repository, which `bind/build` makes, or from the folder that the environment
 //! variable `ILPSTREAM_OUT` names.
 
-#![deny(unsafe_code, missing_docs)]
+#![deny(unsafe_code, missing_docs, missing_debug_implementations)]
 
 mod end;
 mod error;
@@ -42,3 +44,8 @@ pub use ilp::{Answer, Prepare};
 pub use ivs::{Ivs, now};
 pub use keys::{Keys, condition};
 pub use packet::{Frame, Frames, Header, Packet, PacketKind};
+
+/// The version of the library that is linked, as `0.1.0`.
+pub fn version() -> &'static str {
+    raw::version()
+}

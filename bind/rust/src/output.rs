@@ -4,7 +4,7 @@ use crate::error::{Error, done};
 use crate::raw::{self, Handle};
 
 /// The bytes that the last call put out, of which it said how many there are.
-pub(crate) fn output(handle: &mut Handle, len: usize) -> Result<Vec<u8>, Error> {
+pub(crate) fn output(handle: &Handle, len: usize) -> Result<Vec<u8>, Error> {
     let mut bytes = vec![0; len];
     let mut copied = 0;
     done(raw::output(handle, &mut bytes, &mut copied))?;

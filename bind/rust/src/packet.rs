@@ -261,6 +261,7 @@ pub struct Header {
 /// # Ok(())
 /// # }
 /// ```
+#[derive(Debug)]
 pub struct Packet {
     handle: Handle,
 }
@@ -287,10 +288,10 @@ impl Packet {
         Ok(Packet { handle })
     }
 
-    /// Its numbers.
-    pub fn header(&mut self) -> Result<Header, Error> {
+    /// Its numbers. They are not refused.
+    pub fn header(&self) -> Result<Header, Error> {
         let mut header = raw::Header::default();
-        done(raw::ilp_packet_header(&mut self.handle, &mut header))?;
+        done(raw::ilp_packet_header(&self.handle, &mut header))?;
         Ok(Header {
             kind: PacketKind::of(header.kind)?,
             sequence: header.sequence,
@@ -325,7 +326,7 @@ impl Packet {
         Ok((index, Frame::of(fields, output(handle, len)?)?))
     }
 
-    /// Its known frames, each with its index.
+    /// Its known frames, each with its index. They are not refused as a whole.
     pub fn frames(&mut self) -> Result<Frames<'_>, Error> {
         let end = self.header()?.frames;
         Ok(Frames {
@@ -339,12 +340,13 @@ impl Packet {
     pub fn write(&mut self) -> Result<Vec<u8>, Error> {
         let mut len = 0;
         done(raw::ilp_packet_write(&mut self.handle, &mut len))?;
-        output(&mut self.handle, len)
+        output(&self.handle, len)
     }
 }
 
 /// The known frames of a packet, each with its index. Where memory is refused for one, [`Error::StreamOutOfMemory`] stands in its
 /// place.
+#[derive(Debug)]
 pub struct Frames<'p> {
     packet: &'p mut Packet,
     place: usize,

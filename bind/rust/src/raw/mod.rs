@@ -5,32 +5,68 @@
 //! of its range, and keeps no pointer that it was passed. The declarations below are compared with the archive's sources, and
 //! with the header for C, by tests/bindings.py.
 
+#[cfg(feature = "refusing")]
 mod heap;
 
-use crate::end::{EndConfig, Totals};
+use crate::end::Totals;
 use crate::hop::{Account, Balances};
-use std::ffi::c_void;
-use std::ptr::null_mut;
+use std::cell::Cell;
+use std::ffi::{CStr, c_char};
+use std::fmt;
+use std::marker::PhantomData;
 
-/// What the archive keeps of an object: nothing, or its address.
+/// What the archive keeps of an object: nothing, or a number by which it finds it. It may be passed to another thread, and is not
+/// shared by threads: one call at a time is made.
 #[repr(C)]
 pub(crate) struct Handle {
-    inner: *mut c_void,
+    inner: u64,
+    alone: PhantomData<Cell<()>>,
 }
 
 impl Handle {
     /// The handle of nothing.
     pub(crate) fn empty() -> Handle {
-        Handle { inner: null_mut() }
+        Handle {
+            inner: 0,
+            alone: PhantomData,
+        }
     }
 }
 
-// SAFETY: an object may be passed to another thread: that is proved of it. One call at a time is made, by `&mut`.
-unsafe impl Send for Handle {}
+impl fmt::Debug for Handle {
+    /// What the object has is not shown: it may have keys.
+    fn fmt(&self, f: &mut fmt::Formatter<'_>) -> fmt::Result {
+        f.write_str("..")
+    }
+}
 
 impl Drop for Handle {
     fn drop(&mut self) {
         ilp_free(self);
+    }
+}
+
+/// How an end sends.
+#[repr(C)]
+pub(crate) struct EndConfig {
+    size: usize,
+    in_flight: usize,
+    packets: u64,
+    packet_limit: u64,
+    least_num: u32,
+    least_den: u32,
+}
+
+impl EndConfig {
+    fn of(config: &crate::end::EndConfig) -> EndConfig {
+        EndConfig {
+            size: size_of::<EndConfig>(),
+            in_flight: config.in_flight,
+            packets: config.packets,
+            packet_limit: config.packet_limit,
+            least_num: config.least_num,
+            least_den: config.least_den,
+        }
     }
 }
 
@@ -49,6 +85,7 @@ pub(crate) struct Received {
 #[repr(C)]
 #[derive(Clone, Copy)]
 pub(crate) struct Failure {
+    size: usize,
     pub kind: u32,
     pub code: [u8; 3],
     pub by_len: usize,
@@ -60,6 +97,7 @@ pub(crate) struct Failure {
 impl Default for Failure {
     fn default() -> Failure {
         Failure {
+            size: size_of::<Failure>(),
             kind: 0,
             code: [0; 3],
             by_len: 0,
@@ -172,8 +210,8 @@ pub(crate) struct Reading {
 }
 
 unsafe extern "C" {
-    safe fn ilp_free(handle: &mut Handle);
-    fn ilp_output(handle: &mut Handle, out: *mut u8, room: usize, len: &mut usize) -> u32;
+    safe fn ilp_free(handle: &mut Handle) -> u32;
+    fn ilp_output(handle: &Handle, out: *mut u8, room: usize, len: &mut usize) -> u32;
 
     fn ilp_end_new(
         end: &mut Handle,
@@ -220,12 +258,12 @@ unsafe extern "C" {
         now: i64,
         received: &mut Received,
     ) -> u32;
-    fn ilp_end_t00(end: &mut Handle, out: *mut u8, room: usize, len: &mut usize) -> u32;
-    pub(crate) safe fn ilp_end_totals(end: &mut Handle, totals: &mut Totals) -> u32;
-    pub(crate) safe fn ilp_end_has_stream(end: &mut Handle, stream: u32, answer: &mut u32) -> u32;
-    pub(crate) safe fn ilp_end_settled(end: &mut Handle, stream: u32, answer: &mut u32) -> u32;
-    pub(crate) safe fn ilp_end_is_failed(end: &mut Handle, answer: &mut u32) -> u32;
-    pub(crate) safe fn ilp_end_last_failure(end: &mut Handle, failure: &mut Failure) -> u32;
+    fn ilp_end_t00(end: &Handle, out: *mut u8, room: usize, len: &mut usize) -> u32;
+    pub(crate) safe fn ilp_end_totals(end: &Handle, totals: &mut Totals) -> u32;
+    pub(crate) safe fn ilp_end_has_stream(end: &Handle, stream: u32, answer: &mut u32) -> u32;
+    pub(crate) safe fn ilp_end_settled(end: &Handle, stream: u32, answer: &mut u32) -> u32;
+    pub(crate) safe fn ilp_end_is_failed(end: &Handle, answer: &mut u32) -> u32;
+    pub(crate) safe fn ilp_end_last_failure(end: &Handle, failure: &mut Failure) -> u32;
 
     fn ilp_hop_new(
         hop: &mut Handle,
@@ -264,7 +302,7 @@ unsafe extern "C" {
         arrived: &mut Arrived,
     ) -> u32;
     fn ilp_hop_books(
-        hop: &mut Handle,
+        hop: &Handle,
         ticket: u64,
         bytes: *const u8,
         len: usize,
@@ -281,9 +319,9 @@ unsafe extern "C" {
     ) -> u32;
     pub(crate) safe fn ilp_hop_fault(hop: &mut Handle, ticket: u64, answer_len: &mut usize) -> u32;
     pub(crate) safe fn ilp_hop_abandon(hop: &mut Handle, ticket: u64) -> u32;
-    fn ilp_hop_t00(hop: &mut Handle, out: *mut u8, room: usize, len: &mut usize) -> u32;
+    fn ilp_hop_t00(hop: &Handle, out: *mut u8, room: usize, len: &mut usize) -> u32;
     pub(crate) safe fn ilp_hop_balances(
-        hop: &mut Handle,
+        hop: &Handle,
         account: usize,
         balances: &mut Balances,
     ) -> u32;
@@ -303,7 +341,7 @@ unsafe extern "C" {
         text_len: &mut usize,
     ) -> u32;
     fn ilp_keys_fulfillment(
-        keys: &mut Handle,
+        keys: &Handle,
         payload: *const u8,
         len: usize,
         fulfillment: &mut [u8; 32],
@@ -315,7 +353,7 @@ unsafe extern "C" {
         amount: u64,
     ) -> u32;
     fn ilp_packet_read(packet: &mut Handle, kind: u32, bytes: *const u8, len: usize) -> u32;
-    pub(crate) safe fn ilp_packet_header(packet: &mut Handle, header: &mut Header) -> u32;
+    pub(crate) safe fn ilp_packet_header(packet: &Handle, header: &mut Header) -> u32;
     fn ilp_packet_push(packet: &mut Handle, frame: &Frame, data: *const u8, len: usize) -> u32;
     pub(crate) safe fn ilp_packet_frame(
         packet: &mut Handle,
@@ -326,7 +364,7 @@ unsafe extern "C" {
     ) -> u32;
     pub(crate) safe fn ilp_packet_write(packet: &mut Handle, len: &mut usize) -> u32;
 
-    pub(crate) safe fn ilp_condition(fulfillment: &[u8; 32], condition: &mut [u8; 32]);
+    pub(crate) safe fn ilp_condition(fulfillment: &[u8; 32], condition: &mut [u8; 32]) -> u32;
 
     fn ilp_prepare_read(bytes: *const u8, len: usize, prepare: &mut Prepare) -> u32;
     fn ilp_answer_read(bytes: *const u8, len: usize, answer: &mut Answer) -> u32;
@@ -398,9 +436,28 @@ unsafe extern "C" {
     fn ilp_refusal_text(status: u32, out: *mut u8, room: usize, len: &mut usize) -> u32;
 }
 
+unsafe extern "C" {
+    safe fn ilp_version() -> *const c_char;
+    safe fn ilp_error_text(code: u32) -> *const c_char;
+}
+
+/// A text of the archive.
+fn text_of(at: *const c_char) -> &'static str {
+    // SAFETY: each of these texts ends with a 0, and is never changed or freed.
+    unsafe { CStr::from_ptr(at) }.to_str().unwrap_or_default()
+}
+
+pub(crate) fn version() -> &'static str {
+    text_of(ilp_version())
+}
+
+pub(crate) fn error_text(code: u32) -> &'static str {
+    text_of(ilp_error_text(code))
+}
+
 // SAFETY of each call below: each pointer and the length behind it are those of one slice.
 
-pub(crate) fn output(handle: &mut Handle, out: &mut [u8], len: &mut usize) -> u32 {
+pub(crate) fn output(handle: &Handle, out: &mut [u8], len: &mut usize) -> u32 {
     unsafe { ilp_output(handle, out.as_mut_ptr(), out.len(), len) }
 }
 
@@ -410,9 +467,10 @@ pub(crate) fn end_new(
     secret: &[u8; 32],
     own: &str,
     peer: &str,
-    config: &EndConfig,
+    config: &crate::end::EndConfig,
 ) -> u32 {
     let (own_at, peer_at) = (own.as_ptr(), peer.as_ptr());
+    let config = EndConfig::of(config);
     unsafe {
         ilp_end_new(
             end,
@@ -422,7 +480,7 @@ pub(crate) fn end_new(
             own.len(),
             peer_at,
             peer.len(),
-            config,
+            &config,
         )
     }
 }
@@ -449,7 +507,7 @@ pub(crate) fn end_receive(
     unsafe { ilp_end_receive(end, bytes.as_ptr(), bytes.len(), now, received) }
 }
 
-pub(crate) fn end_t00(end: &mut Handle, out: &mut [u8], len: &mut usize) -> u32 {
+pub(crate) fn end_t00(end: &Handle, out: &mut [u8], len: &mut usize) -> u32 {
     unsafe { ilp_end_t00(end, out.as_mut_ptr(), out.len(), len) }
 }
 
@@ -497,7 +555,7 @@ pub(crate) fn hop_restored(hop: &mut Handle, it: &Restored<'_>) -> u32 {
 }
 
 pub(crate) fn hop_books(
-    hop: &mut Handle,
+    hop: &Handle,
     ticket: u64,
     bytes: &[u8],
     now: i64,
@@ -526,7 +584,7 @@ pub(crate) fn hop_settle(
     unsafe { ilp_hop_settle(hop, ticket, bytes.as_ptr(), bytes.len(), now, answer_len) }
 }
 
-pub(crate) fn hop_t00(hop: &mut Handle, out: &mut [u8], len: &mut usize) -> u32 {
+pub(crate) fn hop_t00(hop: &Handle, out: &mut [u8], len: &mut usize) -> u32 {
     unsafe { ilp_hop_t00(hop, out.as_mut_ptr(), out.len(), len) }
 }
 
@@ -543,11 +601,7 @@ pub(crate) fn keys_open(keys: &mut Handle, payload: &[u8], text_len: &mut usize)
     unsafe { ilp_keys_open(keys, payload.as_ptr(), payload.len(), text_len) }
 }
 
-pub(crate) fn keys_fulfillment(
-    keys: &mut Handle,
-    payload: &[u8],
-    fulfillment: &mut [u8; 32],
-) -> u32 {
+pub(crate) fn keys_fulfillment(keys: &Handle, payload: &[u8], fulfillment: &mut [u8; 32]) -> u32 {
     unsafe { ilp_keys_fulfillment(keys, payload.as_ptr(), payload.len(), fulfillment) }
 }
 

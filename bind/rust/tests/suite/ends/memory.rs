@@ -69,7 +69,7 @@ fn ready(call: Call, prepare: &[u8]) -> End {
 fn called(end: &mut End, call: Call, prepare: &[u8]) -> Result<Given, Error> {
     Ok(match call {
         Call::New => {
-            let mut end = new_end(Role::Client, config(4, 100, 1_000))?;
+            let end = new_end(Role::Client, config(4, 100, 1_000))?;
             Given::Bytes(end.t00()?)
         }
         Call::OpenStream => Given::Stream(end.open_stream()?),
