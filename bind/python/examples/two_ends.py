@@ -23,7 +23,7 @@ def passed(client, server):
 
 def main():
     secret = os.urandom(32)
-    sent, got, written = bytes(i * 7 & 255 for i in range(SIZE)), b"", 0
+    sent, received, written = bytes(i * 7 & 255 for i in range(SIZE)), b"", 0
     with (
         End(Role.CLIENT, secret, "example.alice", "example.bob") as client,
         End(Role.SERVER, secret, "example.bob", "example.alice") as server,
@@ -40,10 +40,10 @@ def main():
                     raise
             passed(client, server)
             while part := server.read(stream):
-                got += part
+                received += part
         paid, credited = client.totals().paid, server.totals().credited
-    assert got == sent and paid == credited == UNITS
-    print(f"{len(got)} bytes came whole; paid {paid}, credited {credited}")
+    assert received == sent and paid == credited == UNITS
+    print(f"{len(received)} bytes arrived intact; paid {paid}, credited {credited}")
 
 
 main()

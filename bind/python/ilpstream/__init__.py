@@ -2,8 +2,9 @@
 libilpstream.so.
 
 There is no I/O here, no clock, no thread and no random number: bytes, times and IVs are arguments. A call that is refused
-raises `IlpError`, whose `number` is that of docs/ERRORS.md, and changes nothing. An argument that no call could be given, as a
-secret of 31 bytes, raises `ValueError`."""
+raises `IlpError`, whose `number` is that of docs/ERRORS.md, and changes nothing. An argument that no call could be given raises
+`ValueError`, as a secret of 31 bytes, or `TypeError`, as a number in the place of bytes. Objects are context managers: `with
+End(..) as end`. They cannot be copied or pickled."""
 
 from ._end import Aborted, End, Failure, FailureKind, Outgoing, Received, Role, Totals
 from ._hop import Account, Answer, Balances, Booking, Forward, Hop, Route
@@ -28,6 +29,8 @@ from ._packet import (
     StreamMoney,
     StreamMoneyBlocked,
 )
+
+__version__ = "0.1.0"
 
 __all__ = [
     "Aborted",

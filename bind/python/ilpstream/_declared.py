@@ -1,6 +1,6 @@
 """The calls of libilpstream.so, as its header declares them. tests/bindings.py compares them with the archive's sources."""
 
-from ctypes import POINTER, Structure, c_char_p, c_int64, c_size_t, c_uint8, c_uint32, c_uint64
+from ctypes import POINTER, Structure, c_char_p, c_int, c_int64, c_size_t, c_uint8, c_uint32, c_uint64
 
 
 class Handle(Structure):
@@ -11,6 +11,7 @@ class Handle(Structure):
 
 class Config(Structure):
     _fields_ = [
+        ("size", c_size_t),
         ("in_flight", c_size_t),
         ("packets", c_uint64),
         ("packet_limit", c_uint64),
@@ -35,6 +36,7 @@ class Totals(Structure):
 
 class Failure(Structure):
     _fields_ = [
+        ("size", c_size_t),
         ("kind", c_uint32),
         ("code", c_uint8 * 3),
         ("by_len", c_size_t),
@@ -127,7 +129,14 @@ _room = (POINTER(c_uint8), c_size_t)
 _out = POINTER(c_uint8)  # an array of as many bytes as the call gives
 _u32, _u64, _size = POINTER(c_uint32), POINTER(c_uint64), POINTER(c_size_t)
 
-# What each call returns, and its parameters.
+# What the calls return that need no handle and are no part of the proved archive, and their parameters.
+ABOUT = {
+    "ilp_version": (c_char_p, ()),
+    "ilp_error_text": (c_char_p, (c_uint32,)),
+    "ilp_is_no_memory": (c_int, (c_uint32,)),
+}
+
+# What each call of the proved archive returns, and its parameters.
 CALLS = {
     "ilp_free": (c_uint32, (_handle,)),
     "ilp_output": (c_uint32, (_handle, *_room, _size)),

@@ -3,11 +3,11 @@
 from __future__ import annotations
 
 import enum
-from ctypes import byref, c_size_t, c_uint8, c_uint32, c_uint64
+from ctypes import byref, c_size_t, c_uint8, c_uint32, c_uint64, sizeof
 from dataclasses import dataclass
 
 from . import _declared
-from ._object import Buffer, Code, IlpError, Object, alone, done, fixed, lib, moment, number
+from ._object import Buffer, Code, IlpError, Object, alone, done, fixed, lib, moment, number, taken
 
 
 class Role(enum.IntEnum):
@@ -82,19 +82,20 @@ class End(Object):
     >>> import os, time
     >>> now = int(time.time() * 1000)
     >>> secret = os.urandom(32)
-    >>> client = End(Role.CLIENT, secret, "example.alice", "example.bob")
-    >>> server = End(Role.SERVER, secret, "example.bob", "example.alice")
-    >>> stream = client.open_stream()
-    >>> client.write(stream, b"hi")
-    >>> client.offer(stream, 10)
-    >>> client.close(stream)
-    >>> server.set_receive_max(stream, 10)
-    >>> while prepare := client.send(os.urandom(12), now):
-    ...     answer = server.receive(prepare.bytes, now)
-    ...     fits = client.answer(prepare.flight, answer.bytes)
-    >>> server.read(stream), server.read(stream)
-    (b'hi', None)
-    >>> client.totals().paid, server.totals().credited
+    >>> alice, bob = "example.alice", "example.bob"
+    >>> with End(Role.CLIENT, secret, alice, bob) as client, End(Role.SERVER, secret, bob, alice) as server:
+    ...     stream = client.open_stream()
+    ...     client.write(stream, b"hi")
+    ...     client.offer(stream, 10)
+    ...     client.close(stream)
+    ...     server.set_receive_max(stream, 10)
+    ...     before = server.read(stream)
+    ...     while prepare := client.send(os.urandom(12), now):
+    ...         answer = server.receive(prepare.bytes, now)
+    ...         fits = client.answer(prepare.flight, answer.bytes)
+    ...     before, server.read(stream), server.read(stream)
+    ...     client.totals().paid, server.totals().credited
+    (None, b'hi', b'')
     (10, 10)
     """
 
@@ -115,7 +116,9 @@ class End(Object):
         `packet_limit` units each, 1 to 2^63 - 1. Of a packet at least its amount times `least`, as a numerator and a
         denominator, has to arrive."""
         super().__init__()
+        self._role = role
         config = _declared.Config(
+            sizeof(_declared.Config),
             number(in_flight, 64, "in_flight"),
             number(packets, 64, "packets"),
             number(packet_limit, 64, "packet_limit"),
@@ -147,7 +150,7 @@ class End(Object):
     def write(self, stream: int, data: Buffer) -> None:
         """Takes bytes that are to be sent: all, or none where it raises. `Code.FULL`: more than 262,144 of the stream would
         wait for an acknowledgement."""
-        data = bytes(data)
+        data = taken(data)
         done(lib.ilp_end_write(self._at(), number(stream, 32, "the stream"), data, len(data)))
 
     @alone
@@ -171,19 +174,24 @@ class End(Object):
         stream, amount = number(stream, 32, "the stream"), number(amount, 64, "the amount")
         done(lib.ilp_end_set_receive_max(self._at(), stream, amount))
 
+    def _may_come(self, stream: int) -> bool:
+        """Whether the peer may open a stream of this number."""
+        return 1 <= stream <= 64 and stream % 2 == (self._role == Role.SERVER)
+
     @alone
-    def read(self, stream: int, most: int = 65536) -> bytes | None:
-        """The next bytes of a stream, at most so many; b"" where there are none yet; None where all were read, and the peer
-        closed the stream. Raises `Aborted` where the peer aborted it."""
-        length, code = c_size_t(), c_uint64()
-        most = number(most, 64, "the most")
-        answer = lib.ilp_end_read(self._at(), number(stream, 32, "the stream"), most, byref(length), byref(code))
+    def read(self, stream: int, size: int = -1) -> bytes | None:
+        """The next bytes of a stream, as `io.RawIOBase.read` gives them: at most so many, or all that are there, which are never
+        more than 65,536; b"" where all were read, and the peer closed the stream; None where there are none yet, also before the
+        peer opened the stream. Raises `Aborted` where the peer aborted it."""
+        length, code, stream = c_size_t(), c_uint64(), number(stream, 32, "the stream")
+        most = 65536 if size == -1 else number(size, 64, "the size")
+        answer = lib.ilp_end_read(self._at(), stream, most, byref(length), byref(code))
         if answer == Code.DONE:
             return self._output(length.value)
-        if answer == Code.IDLE:
-            return b""
-        if answer == Code.ENDED:
+        if answer == Code.IDLE or answer == Code.NO_STREAM and self._may_come(stream):
             return None
+        if answer == Code.ENDED:
+            return b""
         if answer == Code.ABORTED:
             raise Aborted(code.value)
         raise IlpError(answer)
@@ -204,6 +212,7 @@ class End(Object):
     def answer(self, flight: int, data: Buffer) -> bool:
         """Whether the bytes that came back to a flight are a Fulfill that fits. Raises `Code.UNKNOWN` where it is not open."""
         fulfilled = c_uint32()
+        data = taken(data)
         copy = (c_uint8 * len(data)).from_buffer_copy(data)
         flight = number(flight, 64, "the flight")
         done(lib.ilp_end_answer(self._at(), flight, copy, len(data), byref(fulfilled)))
@@ -218,7 +227,7 @@ class End(Object):
     def receive(self, data: Buffer, now: int) -> Received:
         """What answers a Prepare of the peer. Where it raises `Code.NO_MEMORY`, answer with `t00()`, and the peer sends again."""
         received = _declared.Received()
-        data = bytes(data)
+        data = taken(data)
         done(lib.ilp_end_receive(self._at(), data, len(data), moment(now), byref(received)))
         sequence = received.sequence if received.opened else None
         return Received(self._output(received.len), received.reason, received.amount, sequence)
@@ -267,7 +276,7 @@ class End(Object):
         >>> failure.kind.name, failure.code, failure.by, failure.message
         ('REJECTED', 'T04', 'example.hub', b'no liquidity')
         """
-        told = _declared.Failure()
+        told = _declared.Failure(sizeof(_declared.Failure))
         answer = lib.ilp_end_last_failure(self._at(), byref(told))
         if answer == Code.IDLE:
             return None

@@ -7,7 +7,7 @@ from ctypes import byref, c_size_t, c_uint64
 from dataclasses import dataclass
 
 from . import _declared
-from ._object import Buffer, Code, IlpError, Object, alone, done, lib, moment, number
+from ._object import Buffer, Code, IlpError, Object, alone, done, lib, moment, number, taken
 
 
 @dataclass(frozen=True)
@@ -150,7 +150,7 @@ class Hop(Object):
         """What becomes of a Prepare that came from an account at the time `now`. Where it is sent on, its amount is held until
         the ticket is settled. Where it raises `Code.HOP_NO_MEMORY`, answer with `t00()`, and the sender sends again."""
         arrived = _declared.Arrived()
-        data, account = bytes(data), number(account, 64, "the account")
+        data, account = taken(data), number(account, 64, "the account")
         answer = lib.ilp_hop_arrive(self._at(), account, data, len(data), moment(now), byref(arrived))
         if answer == Code.DONE:
             return Answer(self._output(arrived.len))
@@ -176,7 +176,7 @@ class Hop(Object):
         (True, 7)
         """
         it = _declared.Booking()
-        data, ticket = bytes(data), number(ticket, 64, "the ticket")
+        data, ticket = taken(data), number(ticket, 64, "the ticket")
         done(lib.ilp_hop_books(self._at(), ticket, data, len(data), moment(now), byref(it)))
         return Booking(it.payer, it.claim, it.payee, it.due) if it.books else None
 
@@ -185,7 +185,7 @@ class Hop(Object):
         """Settles a ticket by the bytes that came back, and gives those that are to be sent back. A Fulfill that fits and came
         in time is booked; all else becomes a Reject. Raises `Code.UNKNOWN` where the ticket is not open."""
         length = c_size_t()
-        data, ticket = bytes(data), number(ticket, 64, "the ticket")
+        data, ticket = taken(data), number(ticket, 64, "the ticket")
         done(lib.ilp_hop_settle(self._at(), ticket, data, len(data), moment(now), byref(length)))
         return self._output(length.value)
 

@@ -7,7 +7,7 @@ from ctypes import byref, c_size_t
 from dataclasses import dataclass
 
 from . import _declared
-from ._object import Buffer, Code, Object, alone, done, lib, number, written
+from ._object import Buffer, Code, Object, alone, done, lib, number, taken, written
 
 
 @dataclass(frozen=True)
@@ -39,7 +39,7 @@ class _Message(Object):
     def feed(self, data: Buffer) -> Wants | Whole | Status:
         """Takes the next bytes. Some thousand at once cost less than single ones. Where the message is refused no byte was
         taken."""
-        data, reading = bytes(data), _declared.Reading()
+        data, reading = taken(data), _declared.Reading()
         answer = lib.ilp_message_feed(self._at(), data, len(data), byref(reading))
         if answer == Code.IDLE:
             return Wants(reading.wants)
@@ -54,11 +54,9 @@ class Request(_Message):
     65,535 bytes.
 
     >>> text = request_text("bob.example", "alice-at-bob", b"a packet")
-    >>> request = Request(["alice-at-bob"])
-    >>> request.feed(text[:9])
-    Wants(length=1)
-    >>> request.feed(text[9:]).body
-    b'a packet'
+    >>> with Request(["alice-at-bob"]) as request:
+    ...     request.feed(text[:9]), request.feed(text[9:]).body
+    (Wants(length=1), b'a packet')
     """
 
     def __init__(self, tokens: Sequence[str]) -> None:
@@ -86,13 +84,14 @@ class Response(_Message):
 
 def request_text(host: str, token: str, body: Buffer) -> bytes:
     """A POST request with an ILP packet. The host and the token have 1 to 255 characters from ! to ~."""
-    name, word, body = host.encode(), token.encode(), bytes(body)
+    name, word, body = host.encode(), token.encode(), taken(body)
     return written(lib.ilp_request_text, name, len(name), word, len(word), body, len(body))
 
 
 def answer_text(body: Buffer) -> bytes:
     """A response 200 with an ILP packet."""
-    return written(lib.ilp_answer_text, bytes(body), len(body))
+    body = taken(body)
+    return written(lib.ilp_answer_text, body, len(body))
 
 
 def refusal_text(status: int) -> bytes:

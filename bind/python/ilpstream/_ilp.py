@@ -6,7 +6,7 @@ from ctypes import byref
 from dataclasses import dataclass
 
 from . import _declared
-from ._object import Buffer, done, fixed, lib, moment, number, written
+from ._object import Buffer, done, fixed, lib, moment, number, taken, written
 
 
 @dataclass(frozen=True)
@@ -28,7 +28,7 @@ class Prepare:
     @staticmethod
     def read(data: Buffer) -> Prepare:
         """Reads all of the bytes as a Prepare."""
-        data, read = bytes(data), _declared.Prepare()
+        data, read = taken(data), _declared.Prepare()
         done(lib.ilp_prepare_read(data, len(data), byref(read)))
         destination = data[read.destination_at :][: read.destination_len].decode()
         payload = data[read.payload_at :][: read.payload_len]
@@ -38,7 +38,8 @@ class Prepare:
         """Its bytes."""
         amount, expiry = number(self.amount, 64, "the amount"), moment(self.expiry)
         condition, to = fixed(self.condition, 32, "the condition"), self.destination.encode()
-        parts = (to, len(to), self.payload, len(self.payload))
+        payload = taken(self.payload)
+        parts = (to, len(to), payload, len(payload))
         return written(lib.ilp_prepare_write, amount, expiry, condition, *parts)
 
 
@@ -57,7 +58,8 @@ class Fulfill:
     def write(self) -> bytes:
         """Its bytes."""
         fulfillment = fixed(self.fulfillment, 32, "the fulfillment")
-        return written(lib.ilp_fulfill_write, fulfillment, self.payload, len(self.payload))
+        payload = taken(self.payload)
+        return written(lib.ilp_fulfill_write, fulfillment, payload, len(payload))
 
 
 @dataclass(frozen=True)
@@ -77,14 +79,14 @@ class Reject:
     def write(self) -> bytes:
         """Its bytes."""
         code = fixed(self.code.encode(), 3, "the code")
-        by, message = self.by.encode(), self.message.encode()
-        parts = (by, len(by), message, len(message), self.payload, len(self.payload))
+        by, message, payload = self.by.encode(), self.message.encode(), taken(self.payload)
+        parts = (by, len(by), message, len(message), payload, len(payload))
         return written(lib.ilp_reject_write, code, *parts)
 
 
 def read_answer(data: Buffer) -> Fulfill | Reject:
     """Reads all of the bytes as a Fulfill or a Reject."""
-    data, read = bytes(data), _declared.Answer()
+    data, read = taken(data), _declared.Answer()
     done(lib.ilp_answer_read(data, len(data), byref(read)))
     payload = data[read.payload_at :][: read.payload_len]
     if read.kind == 13:

@@ -4,20 +4,18 @@ from __future__ import annotations
 
 from ctypes import byref, c_size_t, c_uint8
 
-from ._object import Buffer, Object, alone, done, fixed, lib
+from ._object import Buffer, Object, alone, done, fixed, lib, taken
 
 
 class Keys(Object):
     """The keys of a connection (RFC 0029, section 4): they seal and open the payloads of its packets, and make the fulfillments
-    of its Prepares.
+    of its Prepares. When it is freed, their bytes are overwritten.
 
     >>> import os
-    >>> keys = Keys(os.urandom(32))
-    >>> payload = keys.seal(os.urandom(12), b"any text")
-    >>> keys.open(payload)
-    b'any text'
-    >>> len(condition(keys.fulfillment(payload)))
-    32
+    >>> with Keys(os.urandom(32)) as keys:
+    ...     payload = keys.seal(os.urandom(12), b"any text")
+    ...     keys.open(payload), len(condition(keys.fulfillment(payload)))
+    (b'any text', 32)
     """
 
     def __init__(self, secret: Buffer) -> None:
@@ -29,21 +27,21 @@ class Keys(Object):
     def seal(self, iv: Buffer, text: Buffer) -> bytes:
         """The payload of a plain text: the IV, the tag of 16 bytes, and the ciphertext. No two payloads of a connection may have
         the same IV of 12 bytes: take each from `os.urandom(12)`."""
-        length, text = c_size_t(), bytes(text)
+        length, text = c_size_t(), taken(text)
         done(lib.ilp_keys_seal(self._at(), fixed(iv, 12, "the IV"), text, len(text), byref(length)))
         return self._output(length.value)
 
     @alone
     def open(self, payload: Buffer) -> bytes:
         """The plain text of a payload. Raises `Code.SHORT` or `Code.TAG` where it is none."""
-        length, payload = c_size_t(), bytes(payload)
+        length, payload = c_size_t(), taken(payload)
         done(lib.ilp_keys_open(self._at(), payload, len(payload), byref(length)))
         return self._output(length.value)
 
     @alone
     def fulfillment(self, payload: Buffer) -> bytes:
         """The fulfillment of a Prepare whose data is this payload, as it is sent."""
-        out, payload = (c_uint8 * 32)(), bytes(payload)
+        out, payload = (c_uint8 * 32)(), taken(payload)
         done(lib.ilp_keys_fulfillment(self._at(), payload, len(payload), out))
         return bytes(out)
 

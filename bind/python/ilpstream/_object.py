@@ -5,12 +5,13 @@ from __future__ import annotations
 import ctypes
 import enum
 import functools
+import operator
 import os
 import threading
 from collections.abc import Callable
 from ctypes import byref, c_size_t, c_uint8, c_uint32
 from types import TracebackType
-from typing import ParamSpec, TypeVar
+from typing import NoReturn, ParamSpec, SupportsIndex, TypeVar
 
 from . import _declared
 
@@ -18,14 +19,14 @@ Buffer = bytes | bytearray | memoryview
 
 
 def _path() -> str:
-    """Where the shared object lies: beside this file, or in bind/out of the repository."""
+    """Where the shared object is: beside this file, in bind/out of the repository, or where the system has it."""
     here = os.path.dirname(os.path.abspath(__file__))
-    beside = os.path.join(here, "libilpstream.so")
-    return beside if os.path.exists(beside) else os.path.join(here, "../../out/libilpstream.so")
+    near = (os.path.join(here, it) for it in ("libilpstream.so", "../../out/libilpstream.so"))
+    return next(filter(os.path.exists, near), "libilpstream.so.0")
 
 
 lib = ctypes.CDLL(os.environ.get("ILPSTREAM_SO") or _path())
-for _name, (_result, _parameters) in _declared.CALLS.items():
+for _name, (_result, _parameters) in (_declared.CALLS | _declared.ABOUT).items():
     _call = getattr(lib, _name)
     _call.restype, _call.argtypes = _result, _parameters
 
@@ -127,6 +128,19 @@ class IlpError(Exception):
         super().__init__(_TEXTS.get(number, f"refused with the number {number}"))  # type: ignore[call-overload]
         self.number = number
 
+    def __reduce__(self) -> tuple[type[IlpError], tuple[int]]:
+        return type(self), (self.number,)
+
+    @property
+    def explanation(self) -> str:
+        """What the number means, in a sentence or two of the library's documents."""
+        return str(lib.ilp_error_text(self.number).decode())
+
+    @property
+    def is_out_of_memory(self) -> bool:
+        """Whether memory was refused, in whichever part of the library: the call can be repeated once there is some."""
+        return bool(lib.ilp_is_no_memory(self.number))
+
 
 def done(number: int) -> None:
     """Raises what a call returned, where it was refused."""
@@ -134,15 +148,22 @@ def done(number: int) -> None:
         raise IlpError(number)
 
 
+def taken(data: Buffer) -> bytes:
+    """The bytes of a buffer. A TypeError where it is none: `bytes(5)` would be five zeros."""
+    return data if type(data) is bytes else memoryview(data).tobytes()
+
+
 def fixed(data: Buffer, length: int, name: str) -> bytes:
     """These bytes, which have to have this length."""
+    data = taken(data)
     if len(data) != length:
         raise ValueError(f"{name} has {len(data)} bytes, and not {length}")
-    return bytes(data)
+    return data
 
 
 def number(value: int, bits: int, name: str) -> int:
     """This number, which has to be one of so many bits: ctypes would cut it off."""
+    value = operator.index(value)
     if not 0 <= value < 1 << bits:
         raise ValueError(f"{name} is {value}, which is no number of {bits} bits")
     return value
@@ -150,6 +171,7 @@ def number(value: int, bits: int, name: str) -> int:
 
 def moment(now: int) -> int:
     """This time, which has to be a number of 64 bits."""
+    now = operator.index(now)
     if not -(1 << 63) <= now < 1 << 63:
         raise ValueError(f"the time is {now}, which is no number of 64 bits")
     return now
@@ -185,7 +207,7 @@ def alone(method: Callable[Parameters, Result]) -> Callable[Parameters, Result]:
 
 
 class Object:
-    """What a handle is of. `free`, or the end of `with`, gives up its memory; each call after that raises `IlpError`. Several
+    """An object of the library. `free`, or the end of `with`, gives up its memory; each call after that raises `IlpError`. Several
     threads may use it: one call at a time is made."""
 
     def __init__(self) -> None:
@@ -196,6 +218,10 @@ class Object:
     def free(self) -> None:
         """Gives up its memory. It may be called again."""
         done(lib.ilp_free(self._at()))
+
+    def __reduce_ex__(self, protocol: SupportsIndex) -> NoReturn:
+        """It is neither copied nor pickled: a copy would be of the same object, and a saved end would use IVs again."""
+        raise TypeError(f"cannot copy or pickle '{type(self).__name__}' object")
 
     def __enter__(self: Self) -> Self:
         return self

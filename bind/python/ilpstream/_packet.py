@@ -8,7 +8,7 @@ from ctypes import byref, c_size_t, c_uint64
 from dataclasses import dataclass, fields
 
 from . import _declared
-from ._object import Buffer, Object, alone, done, lib, number
+from ._object import Buffer, Object, alone, done, lib, number, taken
 
 
 class PacketKind(enum.IntEnum):
@@ -147,10 +147,10 @@ def _given(frame: Frame) -> tuple[_declared.Frame, bytes]:
     places = iter(("first", "second"))
     for field in fields(frame):
         value = getattr(frame, field.name)
-        if isinstance(value, str):
+        if field.name in ("message", "address"):
             data = value.encode()
-        elif isinstance(value, (bytes, bytearray, memoryview)):
-            data = bytes(value)
+        elif field.name == "data":
+            data = taken(value)
         elif field.name == "code":
             given.code = number(value, 32, "the code")
         else:
@@ -214,7 +214,7 @@ class Packet(Object):
         `Code.STREAM_OER`, `Code.FRAME`."""
         packet = Packet.__new__(Packet)
         Object.__init__(packet)
-        data = bytes(data)
+        data = taken(data)
         done(lib.ilp_packet_read(packet._at(), number(kind, 32, "the kind"), data, len(data)))
         return packet
 
