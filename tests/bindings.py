@@ -7,9 +7,10 @@ bind/python; bind/c/calls.c with what bind/calls writes for the header. Then one
 comparison has to find.
 
 Then bind/archive builds the archive, over what `rt ci` left, or the one that is named is taken. What bind/build builds of it is
-run: the commands of docs/EMBEDDING.md; the programs in C under valgrind and with sanitizers; the tests of bind/rust, also with
+run: the commands of docs/EMBEDDING.md; the programs in C under valgrind and with sanitizers, one with an allocator that checks, and
+one that looks for keys in memory that was given back; what bind/install installs; the tests of bind/rust, also with
 AddressSanitizer where the compiler has it, the examples of its documentation and its programs; the examples in the documentation
-of bind/python, tests/nulls.py and tests/plain.py over it.
+of bind/python, its wheel, tests/nulls.py and tests/plain.py over it.
 
 tests/bindings.py                builds the archive by bind/archive
 tests/bindings.py --look         compares alone, and runs nothing
@@ -19,11 +20,13 @@ ILPSTREAM_HOSTILE says how many hostile inputs each reader is given. Each findin
 and what was not."""
 import ctypes
 import glob
+import hmac
 import importlib.machinery
 import importlib.util
 import os
 import re
 import shutil
+import socket
 import subprocess
 import sys
 import tempfile
@@ -31,11 +34,21 @@ import tempfile
 import readme
 
 TOP = os.path.realpath(os.path.join(os.path.dirname(os.path.realpath(__file__)), ".."))
-HEADER, GUARDED = "bind/c/ilpstream.h", "bind/c/calls.c"
+HEADER, GUARDED, MEMORY = "bind/c/ilpstream.h", "bind/c/calls.c", "bind/c/ilpstream_memory.h"
 ERRORS, CODES = "docs/ERRORS.md", "crates/st_embed/src/code.rt"
 RUST, PYTHON = "bind/rust/src", "bind/python/ilpstream/_declared.py"
 # The numbers that only bind/c/calls.c returns, in front of the proved calls: those of handles and of null pointers.
 GUARDS = {"BUSY": 108, "NULL": 109}
+# The structs that begin with their size in front of the proved calls, each by its first field there.
+SIZED = ("{in_flight: ", "{kind: u32, code: ")
+# Where the version stands.
+VERSIONS = {
+    HEADER: r'#define ILP_VERSION "(.*)"',
+    "bind/rust/Cargo.toml": r'(?m)^version = "(.*)"',
+    "bind/python/pyproject.toml": r'(?m)^version = "(.*)"',
+    "bind/python/ilpstream/__init__.py": r'__version__ = "(.*)"',
+    "crates/st_words/src/program.rt": r'VERSION: &str = "(.*)"',
+}
 SECONDS = 600
 # How long the archive may take, of which one crate is proved.
 BUILD_SECONDS = 1_500
@@ -123,8 +136,9 @@ def exports(text):
 def declared_rust(text):
     blocks = "\n".join(re.findall(r'^unsafe extern "C" \{\n(.*?)^\}', text, re.S | re.M))
     structs = "\n".join(re.findall(r"#\[repr\(C\)\].*?\n\}", text, re.S))
-    calls = rust_calls(structs + blocks, r"\bfn (ilp_\w+)\((.*?)\)(?:\s+-> (\w+))?;")
-    return calls
+    # (texts are no calls of the archive)
+    blocks = re.sub(r"(?m)^.*-> \*const c_char;$", "", blocks)
+    return rust_calls(structs + blocks, r"\bfn (ilp_\w+)\((.*?)\)(?:\s+-> (\w+))?;")
 
 
 C_TYPES = {"uint8_t": "u8", "uint32_t": "u32", "uint64_t": "u64", "int64_t": "i64", "size_t": "usize", "void": "void"}
@@ -152,7 +166,7 @@ def declared_c(text):
             fields += [f"{re.sub(r'.[0-9]+.$', '', it)}: {of(kind, it)}" for it in names.split(", ")]
         structs[name] = "handle" if fields == ["inner: u64"] else "{" + ", ".join(fields) + "}"
     calls = {}
-    for result, name, parameters in re.findall(r"^(\w+) (ilp_\w+)\((.*?)\);", text, re.S | re.M):
+    for result, name, parameters in re.findall(r"^(ilp_code) (ilp_\w+)\((.*?)\);", text, re.S | re.M):
         kinds = (re.fullmatch(r"(.*?[ *]+)(\w+(?:\[\d+\])?)", it, re.S) for it in split(parameters))
         calls[name] = [of(re.sub(r"\s+", " ", it[1]), it[2]) for it in kinds] + [C_TYPES[result]]
     return calls
@@ -196,8 +210,35 @@ def as_python(call):
 
 
 def guarded(call):
-    """A call as bind/c/calls.c has it: it always returns a code."""
+    """A call as bind/c/calls.c has it: it always returns a code, and structs that may grow begin with their size."""
+    for first in SIZED:
+        call = [it.replace(first, "{size: usize, " + first[1:]) for it in call]
     return [*call[:-1], "u32" if call[-1] == "void" else call[-1]]
+
+
+def allocator(texts):
+    """Findings about the functions by which the archive takes memory: the kit's crate libc declares them."""
+    kit = os.path.dirname(os.path.realpath(subprocess.run(["rt", "doc"], capture_output=True, text=True).stdout.split()[0]))
+    with open(f"{kit}/rattle/libc/src/heap.rt", encoding="utf-8") as source:
+        declared = dict(re.findall(r"fn (rattle_\w+)\((.*?)\)", re.sub(r"//.*", "", source.read()), re.S))
+    # (a Memory has no bytes: nothing is passed for it)
+    real = {name: [it.split(":")[1].strip() for it in split(of) if "Memory" not in it] for name, of in declared.items()}
+    in_c = {"void *": "*mut u8", "size_t ": "usize"}
+    c = dict(re.findall(r"^(?:rattle_tried|void) (rattle_\w+)\((.*?)\);", texts[MEMORY], re.M))
+    rust = dict(re.findall(r'extern "C" fn (rattle_\w+)\((.*?)\)', texts["bind/rust"], re.S))
+    for name, kinds in real.items():
+        given = [in_c.get(re.sub(r"\w+$", "", it)) for it in split(c.get(name, ""))]
+        if given != kinds:
+            yield f"{MEMORY}: {name} has {given}, and the kit passes {kinds}"
+        given = [it.split(":")[1].strip().replace("c_void", "u8") for it in split(rust.get(name, ""))]
+        if given != kinds:
+            yield f"{RUST}: {name} has {given}, and the kit passes {kinds}"
+
+
+def versions(texts):
+    found = {where: re.search(pattern, texts[where])[1] for where, pattern in VERSIONS.items()}
+    if len(set(found.values())) > 1:
+        yield f"the version is not one: {found}"
 
 
 def numbers(texts):
@@ -232,7 +273,7 @@ def differences(texts):
         yield f"crates/st_c: only {len(real)} exports were read"
     for where, declared, seen in (
         (HEADER, declared_c(texts[HEADER]), guarded),
-        (RUST, declared_rust(texts["bind/rust"]), list),
+        (RUST, declared_rust(texts["bind/rust"]), guarded),
         (PYTHON, declared_python(texts[PYTHON]), lambda call: as_python(guarded(call))),
     ):
         for name in sorted(set(real) | set(declared)):
@@ -243,6 +284,8 @@ def differences(texts):
             elif declared[name] != seen(real[name]):
                 yield f"{where}: {name} has {declared[name]}, and the export {seen(real[name])}"
     yield from numbers(texts)
+    yield from allocator(texts)
+    yield from versions(texts)
     wanted = written_calls(texts[HEADER])
     if texts[GUARDED] != wanted:
         yield f"{GUARDED}: it is not what bind/calls writes for {HEADER}"
@@ -261,7 +304,7 @@ def all_texts():
         "crates/st_c": sources("crates/st_c/src/**/*.rt"),
         "bind/rust": sources("bind/rust/src/**/*.rs"),
         "bind/python": sources("bind/python/ilpstream/*.py"),
-        **{path: read(path) for path in (HEADER, GUARDED, PYTHON, CODES, ERRORS)},
+        **{path: read(path) for path in (HEADER, GUARDED, MEMORY, PYTHON, CODES, ERRORS, *VERSIONS)},
     }
 
 
@@ -278,7 +321,12 @@ PLANTED = [
     ("bind/python", "    IDLE = 100\n", "    IDLE = 99\n"),
     ("crates/st_c", "fn ilp_hop_abandon(", "fn ilp_hop_give_up("),
     (CODES, "UNKNOWN: u32 = 104", "UNKNOWN: u32 = 110"),
-    (GUARDED, "    if (is_missing(bytes, len)) return ILP_NULL;\n", ""),
+    (GUARDED, "    if (is_missing(bytes, len, sizeof *bytes)) return ILP_NULL;\n", ""),
+    (GUARDED, "    wipe_making();\n", ""),
+    (HEADER, "    size_t size;\n    size_t in_flight;", "    size_t in_flight;"),
+    (MEMORY, "void rattle_dealloc(void *at)", "void rattle_dealloc(void *at, size_t size, size_t align)"),
+    ("bind/rust", "fn rattle_dealloc(at: *mut c_void)", "fn rattle_dealloc(at: *mut c_void, _size: usize)"),
+    (HEADER, '#define ILP_VERSION "0.1.0"', '#define ILP_VERSION "0.1.1"'),
 ]
 
 
@@ -329,7 +377,7 @@ class Count:
         return output if good else None
 
 
-WHOLE = "1048576 bytes came whole; paid 500, credited 500"
+WHOLE = "1048576 bytes arrived intact; paid 500, credited 500"
 
 
 ANSWERED = "calls were answered as they should be"
@@ -337,14 +385,102 @@ ANSWERED = "calls were answered as they should be"
 
 def run_c(count, out, room):
     """The programs of bind/c: as they are, under valgrind, and with the sanitizers that the compiler has."""
+    with open(f"{room}/texts.h", "w", encoding="utf-8") as file:
+        subprocess.run([f"{TOP}/bind/texts"], stdout=file, check=True)
     run_program(count, out, room, "two_ends", [], WHOLE, ["address,undefined"])
-    run_program(count, out, room, "failures", [], "4 causes were told", ["address,undefined"])
+    run_program(count, out, room, "failures", [], "4 causes were reported", ["address,undefined"])
     run_program(count, out, room, "misuse", ["300"], ANSWERED, ["address,undefined", "thread"])
+    # (the argument is how many bytes a direction has where valgrind or a sanitizer looks)
+    run_program(count, out, room, "lossy", ["9000"], "20 lossy connections delivered", ["address,undefined"])
+    # (its own allocator is linked in the place of heap.c; valgrind looks at how it is used)
+    run_program(count, out, room, "memory", [], "each refused once", ["undefined"], guards=["calls", "about"])
+    run_wiped(count, out, room)
+    run_installed(count, out, room)
 
 
-def run_program(count, out, room, name, given, wanted, sanitizers):
-    program, compiler = f"{room}/{name}", os.environ.get("CC", "cc")
-    words = [compiler, "-std=c11", "-D_GNU_SOURCE", "-O2", "-g", "-Wall", "-Wextra", "-Werror", f"-I{out}", "-pthread"]
+def compiler_words(out):
+    flags = ["-std=c11", "-D_GNU_SOURCE", "-O2", "-g", "-Wall", "-Wextra", "-Werror"]
+    return [os.environ.get("CC", "cc"), *flags, f"-I{out}", "-pthread"]
+
+
+def expanded(key):
+    """The 60 words of an AES key of 32 bytes (FIPS 197, section 5.2), computed with the field's logarithms."""
+    powers = [1]
+    for _ in range(254):
+        powers.append(powers[-1] ^ (powers[-1] << 1) ^ (0x11B if powers[-1] & 128 else 0))
+
+    def box(it):
+        inverse = powers[-powers.index(it) % 255] if it else 0
+        return inverse ^ 0x63 ^ sum_of_rotations(inverse)
+
+    words = [key[at : at + 4] for at in range(0, 32, 4)]
+    for at in range(8, 60):
+        word = words[-1]
+        if at % 8 == 0:
+            word = bytes(map(box, word[1:] + word[:1]))
+            word = bytes([word[0] ^ 1 << (at // 8 - 1), *word[1:]])
+        elif at % 8 == 4:
+            word = bytes(map(box, word))
+        words.append(bytes(a ^ b for a, b in zip(words[-8], word)))
+    return b"".join(words)
+
+
+def sum_of_rotations(it):
+    """The rotations of a byte by 1 to 4, added."""
+    total = 0
+    for by in range(1, 5):
+        total ^= (it << by | it >> 8 - by) & 255
+    return total
+
+
+def secret_patterns():
+    """A secret, the two keys that are derived of it (RFC 0029, section 4), and the words of the cipher's key in both orders."""
+    secret = os.urandom(32)
+    keys = [hmac.digest(secret, text, "sha256") for text in (b"ilp_stream_encryption", b"ilp_stream_fulfillment")]
+    words = expanded(keys[0])
+    turned = b"".join(words[at : at + 4][::-1] for at in range(0, len(words), 4))
+    return [it.hex() for it in (secret, *keys, words[:240], turned[:240])]
+
+
+def run_wiped(count, out, room):
+    """What is left of keys in memory, in C; and that the look finds it where an allocator does not overwrite."""
+    patterns = secret_patterns()
+    source, archive = f"{TOP}/bind/c/wiped.c", f"{out}/libilpstream.a"
+    # (once with the C around the archive by the widest instructions that this processor has)
+    native = ["-O3", "-march=native", f"-I{room}", *(f"{TOP}/bind/c/{it}.c" for it in ("calls", "heap", "about"))]
+    for name, more in (("wiped", []), ("wiped-native", native), ("wiped-plain", ["-DPLAIN"])):
+        words = [*compiler_words(out), source, *more, archive, "-Wl,--wrap=free", "-o", f"{room}/{name}"]
+        if count.run(f"the build of {name}", words) is None:
+            return
+    for name in ("wiped", "wiped-native"):
+        count.run(name, [f"{room}/{name}", *patterns], "0 after, 0 after ends")
+    ran = subprocess.run([f"{room}/wiped-plain", *patterns], capture_output=True, text=True, timeout=SECONDS)
+    found = ran.returncode == 1 and "keys are left in memory" in ran.stderr
+    count.add(found, f"wiped.c does not find keys in memory that is not overwritten: {ran.stdout}{ran.stderr}")
+
+
+def run_installed(count, out, room):
+    """What bind/install installs is found by pkg-config, linked and run, with the shared library and with the static one."""
+    prefix = f"{room}/installed"
+    if count.run("bind/install", [f"{TOP}/bind/install", prefix], OUT=out) is None:
+        return
+    places = {"PKG_CONFIG_PATH": f"{prefix}/lib/pkgconfig", "LD_LIBRARY_PATH": f"{prefix}/lib"}
+    flags = [f"-I{prefix}/include", f"-L{prefix}/lib", "-lilpstream"]
+    if shutil.which("pkg-config"):
+        asked = count.run("pkg-config", ["pkg-config", "--cflags", "--libs", "ilpstream"], "-lilpstream", **places)
+        flags = (asked or "").split()
+    name = os.environ.get("CC", "cc")
+    for kind, more in (("shared", []), ("static", ["-Wl,-Bstatic", "-lilpstream", "-Wl,-Bdynamic"])):
+        program = f"{room}/two_ends-{kind}"
+        words = [name, "-std=c11", "-D_GNU_SOURCE", "-O2", f"{TOP}/bind/c/two_ends.c", *more, *flags, "-o", program]
+        if count.run(f"two_ends.c with the {kind} library", words) is not None:
+            count.run(f"two_ends.c with the {kind} library", [program], WHOLE, **places)
+    if shutil.which("readelf"):
+        count.run("readelf", ["readelf", "-d", f"{prefix}/lib/libilpstream.so"], "[libilpstream.so.0]")
+
+
+def run_program(count, out, room, name, given, wanted, sanitizers, guards=("calls", "heap", "about")):
+    program, words = f"{room}/{name}", compiler_words(out)
     source, archive = f"{TOP}/bind/c/{name}.c", f"{out}/libilpstream.a"
     if count.run(f"the build of {name}.c", [*words, source, archive, "-o", program]) is None:
         return
@@ -357,8 +493,8 @@ def run_program(count, out, room, name, given, wanted, sanitizers):
         count.run(f"{name}.c under valgrind", ["valgrind", *flags, program, *given], wanted)
     for sanitizer in sanitizers:
         sanitized = f"{room}/{name}-{sanitizer}"
-        front = [f"{TOP}/bind/c/calls.c", f"{TOP}/bind/c/heap.c"]
-        link = [*words, f"-fsanitize={sanitizer}", source, *front, archive, "-o", sanitized]
+        front = [f"{TOP}/bind/c/{it}.c" for it in guards]
+        link = [*words, f"-fsanitize={sanitizer}", f"-I{room}", source, *front, archive, "-o", sanitized]
         # (a compiler may not have it)
         if subprocess.run(link, stderr=subprocess.DEVNULL).returncode == 0:
             count.run(f"{name}.c with -fsanitize={sanitizer}", [sanitized, *given], wanted)
@@ -489,6 +625,12 @@ def run_rust(count, out, room):
         words = ["valgrind", *flags, f"{folder}/{binary[1]}", "--test-threads=1", *VALGRIND]
         count.run("tests in Rust under valgrind", words, "passed", folder)
     run_sanitized(count, folder, room, places)
+    words = ["cargo", "run", "--offline", "--release", "--quiet", "--", *secret_patterns()]
+    count.run("wiped in Rust", words, "0 after, 0 after ends", f"{folder}/wiped", **places, CARGO_TARGET_DIR=f"{room}/wiped-target")
+    words = ["cargo", "doc", "--offline", "--no-deps", "--all-features"]
+    count.run("the documentation in Rust", words, "Finished", folder, **places, RUSTDOCFLAGS="-D warnings")
+    words = ["cargo", "package", "--offline", "--allow-dirty", "--no-verify", "--list"]
+    count.run("what a package of the crate has", words, "README.md", folder, **places)
 
 
 def run_python(count, out):
@@ -501,8 +643,61 @@ def run_python(count, out):
         "sys.exit(any(it.failed for it in results) or not any(it.attempted for it in results))\n"
     )
     count.run("the examples of the Python module", [sys.executable, "-c", look], "examples", folder, **places)
+    count.run("bind/python/tests.py", [sys.executable, f"{folder}/tests.py", out], "OK", folder, **places)
     count.run("tests/nulls.py", [sys.executable, f"{TOP}/tests/nulls.py"], " 0 failed", folder, **places)
     count.run("tests/plain.py", [sys.executable, f"{TOP}/tests/plain.py"], " 0 differences", folder, **places)
+
+
+def free_ports(count):
+    """Ports that nobody listens at."""
+    sockets = [socket.socket() for _ in range(count)]
+    for it in sockets:
+        it.bind(("127.0.0.1", 0))
+    ports = [it.getsockname()[1] for it in sockets]
+    for it in sockets:
+        it.close()
+    return [f"127.0.0.1:{port}" for port in ports]
+
+
+def run_wallets(count, out, room):
+    """Two wallets of bind/python by asyncio, each of which sends bytes and units to the other over the connector of bind/rust."""
+    connector_program = f"{TOP}/bind/rust/target/release/examples/connector"
+    if not os.access(connector_program, os.X_OK):
+        count.add(False, f"there is no {connector_program} for the wallets")
+        return
+    alice, bob = free_ports(2)
+    table = (
+        f"account 10000 500 alice-at-hub {alice} hub-at-alice\naccount 10000 500 bob-at-hub {bob} hub-at-bob\n"
+        "route example.alice 0\nroute example.bob 1\n"
+    )
+    secret, sent = os.urandom(32).hex(), [os.urandom(300_000), os.urandom(200_000)]
+    connector = Listening([connector_program, "127.0.0.1:0", "example.hub"], table)
+    places = {**os.environ, "ILPSTREAM_SO": f"{out}/libilpstream.so", "PYTHONPATH": f"{TOP}/bind/python"}
+    sides = [
+        ["client", alice, "hub-at-alice", connector.address, "alice-at-hub", secret, "example.alice", "example.bob", "70"],
+        ["server", bob, "hub-at-bob", connector.address, "bob-at-hub", secret, "example.bob", "example.alice", "30"],
+    ]
+    processes = []
+    for place, words in enumerate(sides):
+        with open(f"{room}/wallet-{place}", "wb") as file:
+            file.write(sent[place])
+        with open(f"{room}/wallet-{place}", "rb") as source, open(f"{room}/received-{place}", "wb") as output:
+            words = [sys.executable, f"{TOP}/bind/python/examples/wallet.py", *words]
+            processes.append(subprocess.Popen(words, stdin=source, stdout=output, stderr=subprocess.PIPE, text=True, env=places))
+    ends = []
+    for process in processes:
+        try:
+            ends.append((process.communicate(timeout=120)[1], process.returncode))
+        except subprocess.TimeoutExpired:
+            process.kill()
+            ends.append((process.communicate()[1], "time"))
+    connector.stop()
+    received = []
+    for place in range(2):
+        with open(f"{room}/received-{place}", "rb") as file:
+            received.append(file.read())
+    good = received == sent[::-1] and ends == [("paid 70, credited 30\n", 0), ("paid 30, credited 70\n", 0)]
+    count.add(good, f"the wallets: {[len(it) for it in received]} bytes arrived, {ends}")
 
 
 def run_document(count):
@@ -524,6 +719,7 @@ def main():
                 run_c(count, out, room)
                 run_rust(count, out, room)
                 run_python(count, out)
+                run_wallets(count, out, room)
                 run_document(count)
         finally:
             shutil.rmtree(room, ignore_errors=True)
