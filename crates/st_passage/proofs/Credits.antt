@@ -18,10 +18,10 @@ use Rattle.st_quiet.proofs.Staying.{effect_credit}
 use Rattle.st_passage.specs.Chains.{Stands}
 use Rattle.st_passage.proofs.Runs.{turn_exchange, turn_stands}
 
-load_credited : (s : Sending) (limits : List Known) (p : Load) (q : Packet) (r : Receiving) → Sends s limits max_packet p (with_flight s p) → IsPacketOf p q → (effect r q p.amount).credit ≡ r.credit + p.amount
+pub load_credited : (s : Sending) (limits : List Known) (p : Load) (q : Packet) (r : Receiving) → Sends s limits max_packet p (with_flight s p) → IsPacketOf p q → (effect r q p.amount).credit ≡ r.credit + p.amount
 load_credited s limits p q r sends is = subst (λ fs. (after_all r p.amount fs).credit ≡ r.credit + p.amount) (sym is.frames) (effect_credit s limits r p.amount p.frames sends.due)
 
-exchange_credits : (n : ℕ → ℕ) (s : Sending) (r : Receiving) (t : Sending) (u : Receiving) → IsQuiet n s → Exchange n s r t u → u.credit + all_money_left t ≡ r.credit + all_money_left s
+pub exchange_credits : (n : ℕ → ℕ) (s : Sending) (r : Receiving) (t : Sending) (u : Receiving) → IsQuiet n s → Exchange n s r t u → u.credit + all_money_left t ≡ r.credit + all_money_left s
 exchange_credits n s r t u quiet x =
     let spends = round_spends n s t x.limits x.load (reply_frames (effect r x.packet x.load.amount) (frames_of x.packet)) quiet x.sends x.writes in
     adds _ _ _ _ _ (x.reads.credit ∙ load_credited s x.limits x.load x.packet r x.sends x.carries) spends.money

@@ -25,10 +25,10 @@ use Rattle.st_passage.proofs.Begun.{all_frames_most, closes_most, money_is, open
 use Rattle.st_passage.proofs.Telling.{TellsEnd, reads_leave, reads_leave_links}
 use Rattle.st_passage.proofs.WorldRuns.{begun_rests, run_credits, run_delivers, run_ends, run_is_bounded, run_money, run_opens, run_puts, run_reads_whole, run_sharper}
 
-record Counts (xs : List (List ℕ)) (ms : List ℕ) : Type 0 where
-  as_many : length ms ≡ length xs
-  some : 1 ≤ length xs
-  few : length xs ≤ 32
+pub record Counts (xs : List (List ℕ)) (ms : List ℕ) : Type 0 where
+  pub as_many : length ms ≡ length xs
+  pub some : 1 ≤ length xs
+  pub few : length xs ≤ 32
 
 counts_of : (n m : ℕ) → (nat_eq n m && nat_le 1 n && nat_le n 32) ≡ true → (m ≡ n) × (1 ≤ n) × (n ≤ 32)
 counts_of n m e =
@@ -39,7 +39,7 @@ counts_of n m e =
     let c : nat_le n 32 ≡ true = most.1 in
     (grind (arith, nat_tests), grind (arith, nat_tests), grind (arith, nat_tests))
 
-counted : (xs : List (List ℕ)) (ms : List ℕ) → are_lawful xs ms ≡ true → Counts xs ms
+pub counted : (xs : List (List ℕ)) (ms : List ℕ) → are_lawful xs ms ≡ true → Counts xs ms
 counted xs ms e = let all = counts_of (length xs) (length ms) e in record { as_many = all.0; some = all.1; few = all.2 }
 
 module _ (c : Chain) (xs : List (List ℕ)) (ms : List ℕ) (lawful : are_lawful xs ms ≡ true) (may : MayPlay c xs ms) where
@@ -49,7 +49,7 @@ module _ (c : Chain) (xs : List (List ℕ)) (ms : List ℕ) (lawful : are_lawful
   abbrev first : EndState
   first = opening_client c (input_of xs) (money_of ms) (length xs)
 
-  modest : IsModest (lengths (input_of xs))
+  pub modest : IsModest (lengths (input_of xs))
   modest = let all = all_streams length xs [] refl counts.few in let few = may.input_fits in subst (λ n. n < 2 ^ 63) (sym all) few
 
   all_offered : all_of (money_of ms) ≡ sum ms

@@ -156,7 +156,7 @@ rounds_cross c input limit (suc m) e hops f n w v room modest s calm few packets
 
 -- ---- the opening
 
-allows_rest : (money : ℕ → ℕ) (first count : ℕ) (w v : World) (e : EndState) (hops : List Hop) (f : EndState) (n : ℕ) → IsAtRest w e hops f n → Met w (allows money first count) v → IsAtRest v e hops (allow_each money first count f) n
+pub allows_rest : (money : ℕ → ℕ) (first count : ℕ) (w v : World) (e : EndState) (hops : List Hop) (f : EndState) (n : ℕ) → IsAtRest w e hops f n → Met w (allows money first count) v → IsAtRest v e hops (allow_each money first count f) n
 unfolding allows allow_each
 allows_rest money first zero w v e hops f n rest run = subst (λ z. IsAtRest z e hops f n) (sym run) rest
 allows_rest money first (suc m) w v e hops f n rest run =
@@ -171,7 +171,7 @@ allows_rest money first (suc m) w v e hops f n rest run =
     allows_rest money (first + 1) m mid v e hops (set_receive_max f first (money first)).1 n (subst (λ z. IsAtRest mid e hops (set_receive_max z first (money first)).1 n) rest.server one) run.4
 
 -- nothing is acknowledged of a stream
-abbrev NoAcks : EndState → Type 0
+abbrev pub NoAcks : EndState → Type 0
 NoAcks e = (j : ℕ) → acked_of (outgoing_at e.sending j) ≡ 0
 
 no_slot : (n j : ℕ) → slot {A = Outgoing} (replicate n None) j ≡ None
@@ -179,7 +179,7 @@ no_slot zero j = refl
 no_slot (suc n) zero = refl
 no_slot (suc n) (suc j) = no_slot n j
 
-no_acks_first : (role : Role) (keys : DerivedKeys) (own peer : List ℕ) (config : Config) → NoAcks (new_end role keys own peer config)
+pub no_acks_first : (role : Role) (keys : DerivedKeys) (own peer : List ℕ) (config : Config) → NoAcks (new_end role keys own peer config)
 no_acks_first role keys own peer config j = ap acked_of (no_slot 65 j)
 
 acks_opened : (e : EndState) (o : Option ℕ) → NoAcks e → NoAcks (opening_as e o).1
@@ -213,13 +213,13 @@ acks_begun input money e (Some k) none = by (connection_refusal e)
           | inr apart ↦ ap acked_of apart ∙ none l
         ]
 
-acks_begun_each : (input : ℕ → List ℕ) (money : ℕ → ℕ) (count : ℕ) (e : EndState) → NoAcks e → NoAcks (begin_each input money count e)
+pub acks_begun_each : (input : ℕ → List ℕ) (money : ℕ → ℕ) (count : ℕ) (e : EndState) → NoAcks e → NoAcks (begin_each input money count e)
 unfolding begin_each
 acks_begun_each input money zero e none = none
 acks_begun_each input money (suc m) e none = acks_begun_each input money m (begun input money (open_stream e)) (acks_begun input money e (own_number e) none)
 
 -- and nothing of it is read
-abbrev NoReads : EndState → Type 0
+abbrev pub NoReads : EndState → Type 0
 NoReads f = (k : ℕ) → (incoming_at f.receiving k).held.read ≡ 0
 
 begins_rest : (c : Chain) (input : ℕ → List ℕ) (money : ℕ → ℕ) (w v : World) (e : EndState) (hops : List Hop) (f : EndState) (n : ℕ) → IsReachedBy c w → IsAtRest w e hops f n → NoAcks e → NoReads f → (x : Begins input money w v)
@@ -247,7 +247,7 @@ begins_rest c input money w v e hops f n r rest none unread x =
       ap (λ z. (open_stream z).0) (sym rest.client) ∙ sym number,
     )
 
-begins_all : (c : Chain) (input : ℕ → List ℕ) (money : ℕ → ℕ) (count j : ℕ) (w v : World) (e : EndState) (hops : List Hop) (f : EndState) (n : ℕ) → IsReachedBy c w → IsAtRest w e hops f n → NoAcks e → NoReads f → OpenTo j e → BeginsEach input money count w v
+pub begins_all : (c : Chain) (input : ℕ → List ℕ) (money : ℕ → ℕ) (count j : ℕ) (w v : World) (e : EndState) (hops : List Hop) (f : EndState) (n : ℕ) → IsReachedBy c w → IsAtRest w e hops f n → NoAcks e → NoReads f → OpenTo j e → BeginsEach input money count w v
     → IsAtRest v (begin_each input money count e) hops f n × IsReachedBy c v × OpenTo (j + count) (begin_each input money count e)
 unfolding begin_each
 begins_all c input money zero j w v e hops f n r rest none unread opened run = (subst (λ z. IsAtRest z e hops f n) (sym run) rest, subst (IsReachedBy c) (sym run) r, subst (λ m. OpenTo m e) (let same : j ≡ j + 0 = omega arith in same) opened)
@@ -256,7 +256,7 @@ begins_all c input money (suc m) j w v e hops f n r rest none unread opened run 
     let all = begins_all c input money m (j + 1) run.0 v (begun input money (open_stream e)) hops f n one.1 one.0 (acks_begun input money e (own_number e) none) unread (opens_next input money j run.1.stream e opened one.2) run.2 in
     (all.0, all.1, subst (λ l. OpenTo l (begin_each input money m (begun input money (open_stream e)))) (let same : j + 1 + m ≡ j + suc m = omega arith in same) all.2)
 
-copies_allows : (input : ℕ → List ℕ) (money : ℕ → ℕ) (first count : ℕ) (w v : World) → Met w (allows money first count) v → Copies input w → Copies input v
+pub copies_allows : (input : ℕ → List ℕ) (money : ℕ → ℕ) (first count : ℕ) (w v : World) → Met w (allows money first count) v → Copies input w → Copies input v
 unfolding allows
 copies_allows input money first zero w v run copies = subst (Copies input) (sym run) copies
 copies_allows input money first (suc m) w v run copies = copies_allows input money (first + 1) m run.0 v run.4 (copies_same input w run.0 (ap (λ (z : World). z.ledgers) run.3.1) copies)
@@ -268,11 +268,11 @@ copies_begins input money w v x copies =
     let call = offer (end_at x.opened Client) k (money k) in
     copies_write input k x.offered v x.writes_first (copies_accepted input call.0 x.opened x.offered call.1 k _ (x.offers.4 ∙ x.offers.3.1) (first k) first)
 
-copies_begins_each : (input : ℕ → List ℕ) (money : ℕ → ℕ) (count : ℕ) (w v : World) → BeginsEach input money count w v → Copies input w → Copies input v
+pub copies_begins_each : (input : ℕ → List ℕ) (money : ℕ → ℕ) (count : ℕ) (w v : World) → BeginsEach input money count w v → Copies input w → Copies input v
 copies_begins_each input money zero w v run copies = subst (Copies input) (sym run) copies
 copies_begins_each input money (suc m) w v run copies = copies_begins_each input money m run.0 v run.2 (copies_begins input money w run.0 run.1 copies)
 
-copies_first : (c : Chain) (input : ℕ → List ℕ) → Copies input (opening c)
+pub copies_first : (c : Chain) (input : ℕ → List ℕ) → Copies input (opening c)
 copies_first c input k = subst (λ o. IsPrefixOf (ledger_or o).written (input k)) (sym (fmap.get-empty nat_cmp k)) (input k, refl)
 
 pub nothing_open : (config : Config) (keys : DerivedKeys) (own peer : List ℕ) → OpenTo 0 (new_end roles.Client keys own peer config)
@@ -291,7 +291,7 @@ long_map : (ts : List Table) → length (map new_node ts) ≡ length ts
 long_map [] = refl
 long_map (t ∷ ts) = let e = long_map ts in omega (arith, e)
 
-opening_rests : (c : Chain) → IsAtRest (opening c) (new_end roles.Client (keys_of c.secret) c.client c.server c.config) (map state_of (map new_node c.hops)) (new_end roles.Server (keys_of c.secret) c.server c.client c.config) 0
+pub opening_rests : (c : Chain) → IsAtRest (opening c) (new_end roles.Client (keys_of c.secret) c.client c.server c.config) (map state_of (map new_node c.hops)) (new_end roles.Server (keys_of c.secret) c.server c.client c.config) 0
 opening_rests c = record {
   client = refl;
   server = refl;
@@ -309,10 +309,10 @@ one_most : (money : ℕ) (n : ℕ) (o : Option Outgoing) → ((y : Outgoing) →
 one_most money n None h = omega arith
 one_most money n (Some y) h = offered_most money n y (h y refl)
 
-money_most : (p : ℕ) (n money : ℕ → ℕ) (config : Config) (e : EndState) → IsBegun p n money config e → all_money_left e.sending ≤ all_of money
+pub money_most : (p : ℕ) (n money : ℕ → ℕ) (config : Config) (e : EndState) → IsBegun p n money config e → all_money_left e.sending ≤ all_of money
 money_most p n money config e b = sum_below (λ k. money_left (outgoing_at e.sending k)) money (λ k. one_most (money k) (n k) (outgoing_at e.sending k) (λ y at. b.streams k y at)) 0 65
 
-calm_tables : (destination : List ℕ) (sent most left all : ℕ) (ts : List Table) → left ≤ all → all < 2 ^ 63 → AllByRecursion (HasRoomFor destination most all) ts → AllByRecursion (IsCalm destination sent most left) (map state_of (map new_node ts))
+pub calm_tables : (destination : List ℕ) (sent most left all : ℕ) (ts : List Table) → left ≤ all → all < 2 ^ 63 → AllByRecursion (HasRoomFor destination most all) ts → AllByRecursion (IsCalm destination sent most left) (map state_of (map new_node ts))
 calm_tables destination sent most left all [] few modest room = tt
 calm_tables destination sent most left all (t ∷ ts) few modest room = (
   new_calm destination sent t.own t.client t.server t.routes most left room.0.leads room.0.max_packet (let l = room.0.limit in omega (arith, l, few)) (omega (arith, few, modest)),
@@ -439,7 +439,7 @@ ends_by h m most alive empty_run end is =
     ∙ ap (λ o. cond (is_read h.read o) End Nothing) end
     ∙ ap (λ b. cond b End Nothing) here
 
-nothing_left : (n : ℕ → ℕ) (g : EndState) → IsQuiet n g.sending → g.receiving.closed ≡ false → GoesNone g → work_left n g.sending ≡ 0
+pub nothing_left : (n : ℕ → ℕ) (g : EndState) → IsQuiet n g.sending → g.receiving.closed ≡ false → GoesNone g → work_left n g.sending ≡ 0
 nothing_left n g quiet unclosed (inl closed) = absurd (let clash : ◌≡◌ {A = Bool} false true = sym unclosed ∙ closed in cc)
 nothing_left n g quiet unclosed (inr idle) = elim (cases_lt 0 (work_left n g.sending)) [
   | inl some ↦ absurd (some_goes n g.sending (limits g.receiving) quiet some idle)

@@ -25,18 +25,27 @@ Met w (event ∷ events) after = (mid : World) × (told : Told) × IsEvent event
 abbrev pub state_of : Node → Hop
 state_of n = n.state
 
--- so many Prepares went over a lane, and each was answered
-pub record HasPassed (count : ℕ) (lane : Lane) : Type 0 where
-  pub puts : length lane.puts ≡ count
-  pub given : length lane.given ≡ count
+-- so many Prepares were put on a lane, and so many answers were given on it
+pub record HasGone (prepares answers : ℕ) (lane : Lane) : Type 0 where
+  pub puts : length lane.puts ≡ prepares
+  pub given : length lane.given ≡ answers
 
--- the client is e, the server f, the hops between them are these, and so many Prepares went over all links towards the server
-pub record IsAtRest (w : World) (e : EndState) (hops : List Hop) (f : EndState) (count : ℕ) : Type 0 where
+-- so many Prepares went over a lane, and each was answered
+abbrev pub HasPassed : (count : ℕ) → Lane → Type 0
+HasPassed count lane = HasGone count count lane
+
+-- the client is e, the server f, the hops between them are these, and so many Prepares and answers went over each link, of
+-- those towards the server
+pub record IsSettled (w : World) (e : EndState) (hops : List Hop) (f : EndState) (prepares answers : ℕ → ℕ) : Type 0 where
   pub client : end_at w Client ≡ e
   pub server : end_at w Server ≡ f
   pub hops_are : map state_of w.nodes ≡ hops
   pub links : length w.links ≡ length w.nodes + 1
-  pub lanes : (link : ℕ) → link ≤ length w.nodes → HasPassed count (lane_at w link Client)
+  pub lanes : (link : ℕ) → link ≤ length w.nodes → HasGone (prepares link) (answers link) (lane_at w link Client)
+
+-- as many of both over all links
+abbrev pub IsAtRest : World → EndState → List Hop → EndState → (count : ℕ) → Type 0
+IsAtRest w e hops f count = IsSettled w e hops f (λ link. count) (λ link. count)
 
 -- ---- a Prepare goes over all links, and its answer comes back
 
@@ -56,11 +65,15 @@ AllForward (h ∷ others) text now =
     (t : Open) × (account : ℕ) × (onward : List ℕ) × (after : Hop) × (arrived h 0 text now ≡ (Forwards t account onward, after)) × (ticket_at after.tickets t.number ≡ Some t) × AllForward others onward now
 
 -- from this world the client sent, and what went came over all hops to the server, and its answer back; nothing was written
--- or read
-pub record HasCrossed (w : World) (e : EndState) (hops : List Hop) (f : EndState) (count : ℕ) (iv : List ℕ) (now : ℤ) (v : World) : Type 0 where
+-- or read. So many Prepares and answers had gone over each link before
+pub record HasCrossedBy (w : World) (e : EndState) (hops : List Hop) (f : EndState) (prepares answers : ℕ → ℕ) (iv : List ℕ) (now : ℤ) (v : World) : Type 0 where
   pub flight : flights.Open
   pub bytes : List ℕ
   pub gone : EndState
   pub goes : Goes e iv now flight bytes gone
   pub ledgers : v.ledgers ≡ w.ledgers
-  pub rests : IsAtRest v (ended gone flight (Some (crossed hops f bytes now).answer)) (crossed hops f bytes now).hops (crossed hops f bytes now).end (suc count)
+  pub rests : IsSettled v (ended gone flight (Some (crossed hops f bytes now).answer)) (crossed hops f bytes now).hops (crossed hops f bytes now).end (λ link. suc (prepares link)) (λ link. suc (answers link))
+
+-- as many over all links
+abbrev pub HasCrossed : World → EndState → List Hop → EndState → (count : ℕ) → (iv : List ℕ) → (now : ℤ) → World → Type 0
+HasCrossed w e hops f count iv now v = HasCrossedBy w e hops f (λ link. count) (λ link. count) iv now v
