@@ -1,16 +1,17 @@
 //! Books in a file that is there already.
 
-ghost use Rattle.std.specs.Prelude.{false, true, IsTrue, IfOk};
+ghost use Rattle.std.specs.Prelude.{◌≤◌, false, true, length, IsTrue, IfOk, OnOk};
 ghost use Rattle.sqlite_wal.specs.Files.{image_at};
+ghost use Rattle.sqlite_wal.specs.Reads.{AreClean, OnlyReads};
 ghost use Rattle.sqlite_store.specs.FileStore.{view};
 ghost use Rattle.sqlite_trees.specs.View.{IsClean};
-ghost use Rattle.sqlite.specs.Files.{image_of};
+ghost use Rattle.sqlite.specs.Files.{image_of, IsNothing};
 ghost use Rattle.sqlite_std_file.specs.File.{file_is_usable, IsFresh};
 ghost use Rattle.st_books.specs.Found.{FindsOld};
 
 use crate::books::Books;
 use crate::error::BooksError;
-use crate::making::{holds_nothing, refuse_damage};
+use crate::making::{LEAST_LEN, holds_nothing, refuse_damage};
 use crate::opening::{books_of, refusal_of};
 use sqlite::{Connection, FileFrom, FileStore, Files, Options, Start};
 use sqlite_disk::Disk;
@@ -20,6 +21,22 @@ use std::fs;
 use std::hash::{BuildHasher, RandomState};
 use std::io::ErrorKind;
 use std::rt::HostRuntime;
+
+/// Refuses files that hold no database yet, and a file that is too short for one.
+fn refuse_nothing<D: Disk>(alloc: Global, files: &mut Files<D>) -> Result<(), BooksError>
+    requires log { IsTrue (D.Disk.is_usable files.old.log) }
+    requires db { IsTrue (D.Disk.is_usable files.old.db) }
+    ensures something { OnOk result (AreClean D.Disk files.new.log files.new.db → ¬ IsNothing (image_of D.Disk files.old)) }
+    ensures long { OnOk result (AreClean D.Disk files.new.log files.new.db → 100 ≤ length (D.Disk.seen files.old.db)) }
+    ensures log { OnlyReads D.Disk files.old.log files.new.log }
+    ensures db { OnlyReads D.Disk files.old.db files.new.db }
+{
+    let nothing = holds_nothing(alloc, files)?;
+    if nothing || files.db.len()? < LEAST_LEN {
+        return Err(BooksError::NoBooks);
+    }
+    Ok(())
+}
 
 /// Opens the books of a database file and its log on any disk, as `open_existing` does.
 pub fn open_existing_files<D: Disk + Drop>(
@@ -32,9 +49,7 @@ pub fn open_existing_files<D: Disk + Drop>(
     ensures { IfOk result (λ b. IsClean (view b.store) → FindsOld (image_of D.Disk files) b) }
 {
     refuse_damage(alloc, &mut files.log)?;
-    if holds_nothing(alloc, &mut files)? {
-        return Err(BooksError::NoBooks);
-    }
+    refuse_nothing(alloc, &mut files)?;
     let books = match Connection::open_files(alloc, files, options) {
         Ok(conn) => books_of(alloc, conn, false)?,
         Err((error, _)) => return Err(refusal_of(error)),

@@ -26,7 +26,7 @@ const VERSION: u32 = 3007000;
 const BEGUN: u32 = 0xffff_ffff;
 
 /// The length of the header of a database file.
-const LEAST_LEN: usize = 100;
+pub(crate) const LEAST_LEN: usize = 100;
 
 /// The length of a log that has a header, and no frame.
 const EMPTY_LEN: usize = 41;

@@ -1,1 +1,2 @@
 mod Tokens
+mod Fates

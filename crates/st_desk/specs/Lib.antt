@@ -4,3 +4,4 @@ pub mod Stored
 pub mod Answers
 pub mod Links
 pub mod Deadlines
+pub mod Serving

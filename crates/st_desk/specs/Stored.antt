@@ -1,10 +1,12 @@
 -- What a settlement books, and whether that was stored before it.
-use Rattle.std.specs.Prelude.{ℕ, ℤ, List, Bool, false, not, ◌&&◌, nat_eq, if◌then◌else◌}
+use Rattle.std.specs.Prelude.{◌≡◌, ℕ, ℤ, List, Bool, false, not, ◌&&◌, nat_eq, if◌then◌else◌, ⊤}
 use Rattle.std.specs.declared.option.Option.{Option}
 use Rattle.std.specs.declared.option.Option.TheVariants.{None, Some}
 use Rattle.st_hop.specs.declared.ticket.Open.{Open}
 use Rattle.st_hop.specs.Settling.{is_booked}
 use Rattle.st_booking.specs.declared.booking.Booking.{Booking}
+use Rattle.st_desk.specs.declared.stored.Fate.{Fate}
+use Rattle.st_desk.specs.declared.stored.Fate.TheVariants.{Stored, Refused, Unknown}
 
 -- what is booked where this ticket ends fulfilled: the claim on the account from which the Prepare arrived, and the due of the
 -- one to which it was forwarded
@@ -22,3 +24,14 @@ is_stored t (Some b) = is_same b (booking_of t)
 -- a Fulfill whose booking was not stored counts as no answer
 abbrev pub counted : Open → (outcome : Option (List ℕ)) → (now : ℤ) → (token : Option Booking) → Option (List ℕ)
 counted t outcome now token = if is_booked t outcome now && not (is_stored t token) then None else outcome
+
+-- the fate by the token of a booking: without one, it is known only where no commit had the booking
+abbrev pub fate_by : (token : Option Booking) → (is_known : Bool) → Fate
+fate_by (Some b) is_known = Stored b
+fate_by None is_known = if is_known then Refused else Unknown
+
+-- what is stored is this booking
+abbrev pub IsFateOf : Booking → Fate → Type 0
+IsFateOf b (Stored token) = token ≡ b
+IsFateOf b Refused = ⊤
+IsFateOf b Unknown = ⊤

@@ -2,6 +2,7 @@
 
 ghost use Rattle.std.specs.Prelude.{◌≡◌, ◌∷◌, ◌++◌, [], true, false, None};
 
+use crate::stored::Fate;
 use st_booking::{Booked, Booking};
 use std::alloc::{AllocError, Allocator};
 use std::mem;
@@ -14,8 +15,8 @@ enum Slot {
     Waits(Booking),
     /// A commit has it.
     Away,
-    /// It was committed, and this is its token; or it was refused.
-    Told(Option<Booked>),
+    /// What became of it.
+    Told(Fate),
 }
 
 /// What one commit takes, with the places that it was taken from.
@@ -26,18 +27,20 @@ pub(crate) struct Batch<A: Allocator> {
     pub(crate) places: Vec<usize, A>,
 }
 
-/// What a commit made of a batch: the tokens of its bookings, and the places of these.
+/// What a commit made of a batch: the tokens of its bookings, and the places of these. Without a token a booking is not stored
+/// where that is known; else it may be.
 #[derive(Drop)]
 pub(crate) struct Ended<A: Allocator> {
     pub(crate) tokens: Vec<Option<Booked>, A>,
     pub(crate) places: Vec<usize, A>,
+    pub(crate) is_known: bool,
 }
 
 /// What a thread that waited for a commit is to do.
 #[derive(Drop)]
 pub(crate) enum Turn<A: Allocator> {
-    /// Its booking was committed, or refused.
-    Told(Option<Booked>),
+    /// This became of its booking.
+    Told(Fate),
     /// It commits these.
     Leads(Batch<A>),
 }
@@ -125,32 +128,33 @@ impl<A: Allocator + Copy> Board<A> {
     }
 
     /// What the thread of a place that waited is to do. Where nothing can be committed, for want of memory, its own booking is
-    /// refused.
+    /// refused. Of a place that has no booking nothing is known.
     pub(crate) fn turn(&mut self, alloc: A, place: usize) -> Turn<A> {
         let Some(slot) = self.slots.get_mut(place) else {
-            return Turn::Told(None);
+            return Turn::Told(Fate::Unknown);
         };
         match mem::replace(slot, Slot::Empty) {
-            Slot::Told(token) => return Turn::Told(token),
+            Slot::Told(fate) => return Turn::Told(fate),
             Slot::Waits(booking) => *slot = Slot::Waits(booking),
-            Slot::Empty | Slot::Away => return Turn::Told(None),
+            Slot::Empty | Slot::Away => return Turn::Told(Fate::Unknown),
         }
         let batch = self.collect(alloc);
         if batch.bookings.is_empty() {
             if let Some(slot) = self.slots.get_mut(place) {
                 *slot = Slot::Empty;
             }
-            return Turn::Told(None);
+            return Turn::Told(Fate::Refused);
         }
         self.is_busy = true;
         Turn::Leads(batch)
     }
 
-    /// Puts the tokens of a commit at the places of their bookings, and ends it.
+    /// Puts what a commit made of its bookings at their places, and ends it.
     pub(crate) fn finish(&mut self, ended: Ended<A>) {
         let Ended {
             mut tokens,
             mut places,
+            is_known,
         } = ended;
         while let Some(place) = places.pop() {
             let token = match tokens.pop() {
@@ -158,7 +162,7 @@ impl<A: Allocator + Copy> Board<A> {
                 None => None,
             };
             if let Some(slot) = self.slots.get_mut(place) {
-                *slot = Slot::Told(token);
+                *slot = Slot::Told(Fate::new(token, is_known));
             }
         }
         self.is_busy = false;

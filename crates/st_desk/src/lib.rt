@@ -19,5 +19,5 @@ pub use error::DeskError;
 pub use fail_link::FailLink;
 pub use link::{Clock, Link, LinkFault, Links};
 pub use serving::{Served, serve};
-pub use stored::{Books, NoBooks, booking_of};
+pub use stored::{Books, Fate, NoBooks, booking_of};
 pub use till::{AtTill, Till, deposit, refused_at};

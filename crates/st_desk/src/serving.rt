@@ -1,12 +1,18 @@
 //! How one thread serves a hop.
 
-ghost use Rattle.std.specs.Prelude.{◌≡◌, ◌≤ℤ◌, ◌<ℤ◌, pos, IfOk};
+ghost use Rattle.std.specs.Prelude.{◌≡◌, ◌≤ℤ◌, ◌<ℤ◌, pos, true, false, None, IfOk, IfSome, MatchOption};
+ghost use Rattle.st_ilp.specs.Reading.{is_fulfill_text};
+ghost use Rattle.st_hop.specs.Seen.{verdict_seen, outcome_seen};
+ghost use Rattle.st_hop.specs.Settling.{is_booked};
+ghost use Rattle.st_desk.specs.Answers.{told};
 ghost use Rattle.st_desk.specs.Deadlines.{deadline};
+ghost use Rattle.st_desk.specs.Serving.{AnswersBy, IsAnswered, IsOf, IsServed, IsUnfulfilled};
+ghost use Rattle.st_desk.specs.Stored as stored;
 
 use crate::desk::{AccountShares, Arrived, HopDesk};
 use crate::error::DeskError;
 use crate::link::{Clock, Links};
-use crate::stored::{Books, booking_of};
+use crate::stored::{Books, Fate, booking_of};
 use st_booking::Booked;
 use st_hop::{HopError, Outcome, Ticket, Verdict};
 use st_ilp::Moment;
@@ -23,7 +29,8 @@ fn arrive<C: Ledger, D: Ledger, A: Allocator + Copy>(
     bytes: &[u8],
     now: Moment,
 ) -> Result<Arrived<A>, HopError>
-    ensures { IfOk result (λ a. a.account ≡ account) }
+    ensures account { IfOk result (λ a. a.account ≡ account) }
+    ensures of { IfOk result (λ a. IsOf account (verdict_seen a.verdict)) }
 {
     desk.lock(rt).arrive(account, bytes, now)
 }
@@ -36,7 +43,9 @@ fn settle<C: Ledger, D: Ledger, A: Allocator + Copy>(
     outcome: Outcome<A>,
     now: Moment,
     token: Option<Booked>,
-) -> Result<Vec<u8, A>, DeskError> {
+) -> Result<Vec<u8, A>, DeskError>
+    ensures { IfOk result (λ v. is_fulfill_text v.items ≡ is_booked ticket (stored.counted ticket (outcome_seen outcome) now token) now) }
+{
     let mut shares = shares.lock(rt);
     desk.lock(rt)
         .settle(&mut shares, ticket, outcome, now, token)
@@ -45,7 +54,9 @@ fn settle<C: Ledger, D: Ledger, A: Allocator + Copy>(
 fn t00<C: Ledger, D: Ledger, A: Allocator + Copy>(
     rt: &impl Wait,
     desk: &Mutex<HopDesk<C, D, A>>,
-) -> Result<Vec<u8, A>, DeskError> {
+) -> Result<Vec<u8, A>, DeskError>
+    ensures { IfOk result (λ v. is_fulfill_text v.items ≡ false) }
+{
     desk.lock(rt).copy_of_t00()
 }
 
@@ -72,21 +83,56 @@ pub struct Served<A: Allocator + Copy> {
     /// The index of the account that the Prepare arrived from, and against which its amount was reserved where the hop
     /// forwarded it.
     pub account: usize,
-    /// The bytes that answer the Prepare (RFC 0027).
-    pub answer: Vec<u8, A>,
+    /// The bytes that answer the Prepare (RFC 0027). `None` where nobody knows whether what it books is stored, or where that is
+    /// stored and its ticket is not open any more: then there is no answer that is right.
+    pub answer: Option<Vec<u8, A>>,
 }
 
-/// The token of what this outcome books, once it is stored. `None` where it books nothing, or where that could not be stored.
-fn stored<A: Allocator + Copy>(
-    books: &mut impl Books,
+/// The fate of what this outcome books. `None` where it books nothing.
+fn fate_of<A: Allocator + Copy, B: Books>(
+    books: &mut B,
     ticket: &Ticket,
     outcome: &Outcome<A>,
     now: Moment,
-) -> Option<Booked> {
+) -> Option<Fate>
+    ensures asked { MatchOption result ((is_booked ticket.now (outcome_seen outcome.now) now ≡ false) × (books.new ≡ books.old))
+        (λ fate. (is_booked ticket.now (outcome_seen outcome.now) now ≡ true) × B.stores books.old (stored.booking_of ticket.now) fate books.new × stored.IsFateOf (stored.booking_of ticket.now) fate) }
+{
     if !outcome.books(ticket, now) {
         return None;
     }
-    books.store(booking_of(ticket))
+    Some(books.store(booking_of(ticket)))
+}
+
+/// Ends a ticket by the fate of what it books, and gives what answers its Prepare. Where nobody knows that fate the ticket stays
+/// open, with its amount reserved, and there is no answer.
+fn end<C: Ledger, D: Ledger, A: Allocator + Copy>(
+    rt: &impl Wait,
+    desk: &Mutex<HopDesk<C, D, A>>,
+    shares: &Mutex<AccountShares<C, D>>,
+    ticket: Ticket,
+    outcome: Outcome<A>,
+    now: Moment,
+    fate: Option<Fate>,
+) -> Result<Option<Vec<u8, A>>, DeskError>
+    requires { MatchOption fate (is_booked ticket (outcome_seen outcome) now ≡ false)
+        (λ fate. (is_booked ticket (outcome_seen outcome) now ≡ true) × stored.IsFateOf (stored.booking_of ticket) fate) }
+    ensures { IfOk result (λ answer. MatchOption fate (IsUnfulfilled (told answer)) (λ fate. AnswersBy fate (told answer))) }
+{
+    let token = match fate {
+        Some(Fate::Unknown) => {
+            ticket.abandon();
+            return Ok(None);
+        }
+        Some(Fate::Stored(token)) => Some(token),
+        Some(Fate::Refused) | None => None,
+    };
+    let is_stored = token.is_some();
+    match settle(rt, desk, shares, ticket, outcome, now, token) {
+        Ok(answer) => Ok(Some(answer)),
+        Err(_) if is_stored => Ok(None),
+        Err(_) => Ok(Some(t00(rt, desk)?)),
+    }
 }
 
 /// What answers a Prepare that arrived: the hop's own Reject, or what comes back over the links.
@@ -94,14 +140,19 @@ fn answer_to<C: Ledger, D: Ledger, A: Allocator + Copy, T: Links<A>, B: Books, K
     rt: &impl Wait,
     desk: &Mutex<HopDesk<C, D, A>>,
     shares: &Mutex<AccountShares<C, D>>,
+    _account: usize,
     verdict: Verdict<A>,
     links: &mut T,
     books: &mut B,
     clock: &mut K,
     now: Moment,
-) -> Result<Vec<u8, A>, DeskError> {
+) -> Result<Option<Vec<u8, A>>, DeskError>
+    requires { IsOf _account (verdict_seen verdict) }
+    ensures { IfOk result (λ answer. IsAnswered T.exchanges B.stores K.reads _account
+        (record { links = links.old; books = books.old; clock = clock.old }) (record { links = links.new; books = books.new; clock = clock.new }) (told answer)) }
+{
     match verdict {
-        Verdict::Answer(answer) => Ok(answer),
+        Verdict::Answer(answer) => Ok(Some(answer)),
         Verdict::Forward {
             ticket,
             account,
@@ -110,11 +161,8 @@ fn answer_to<C: Ledger, D: Ledger, A: Allocator + Copy, T: Links<A>, B: Books, K
             let by = deadline_of(&ticket, now);
             let outcome = links.exchange(account, &bytes, by);
             let now = clock.now();
-            let token = stored(books, &ticket, &outcome, now);
-            match settle(rt, desk, shares, ticket, outcome, now, token) {
-                Ok(answer) => Ok(answer),
-                Err(_) => t00(rt, desk),
-            }
+            let fate = fate_of(books, &ticket, &outcome, now);
+            end(rt, desk, shares, ticket, outcome, now, fate)
         }
     }
 }
@@ -124,10 +172,11 @@ fn answer_to<C: Ledger, D: Ledger, A: Allocator + Copy, T: Links<A>, B: Books, K
 /// account from which the desk let the Prepare arrive.
 ///
 /// The desk's lock is taken to let the Prepare arrive and to settle it; the shares are locked while it is settled. No lock is
-/// held during the exchange, nor while `books` store what the Fulfill books. A Fulfill is passed back only once that is stored,
-/// and otherwise answered with T01. The answer is T00 (RFC 0027) where memory was refused on arrival, where there is no such
-/// account, or where the ticket is not open any more. Fails with `NoMemory` where there is no memory for T00 either. It
-/// waits for the locks.
+/// held during the exchange, nor while `books` store what the Fulfill books. A Fulfill is passed back only once that is stored.
+/// Where it is not stored the answer is T01. Where nobody knows, there is no answer: it is lost, as an answer is that the
+/// neighbour does not take, and the amount stays reserved until the process ends. The answer is T00 (RFC 0027) where memory was
+/// refused on arrival, where there is no such account, or where the ticket is not open any more. Fails with `NoMemory` where
+/// there is no memory for T00 either. It waits for the locks.
 pub fn serve<C: Ledger, D: Ledger, A: Allocator + Copy, T: Links<A>, B: Books, K: Clock>(
     rt: &impl Wait,
     desk: &Mutex<HopDesk<C, D, A>>,
@@ -138,7 +187,9 @@ pub fn serve<C: Ledger, D: Ledger, A: Allocator + Copy, T: Links<A>, B: Books, K
     books: &mut B,
     clock: &mut K,
 ) -> Result<Served<A>, DeskError>
-    ensures { IfOk result (λ s. s.account ≡ account) }
+    ensures account { IfOk result (λ s. s.account ≡ account) }
+    ensures served { IfOk result (λ s. IsServed T.exchanges B.stores K.reads account
+        (record { links = links.old; books = books.old; clock = clock.old }) (record { links = links.new; books = books.new; clock = clock.new }) (told s.answer)) }
 {
     let now = clock.now();
     let (account, answer) = match arrive(rt, desk, account, bytes, now) {
@@ -146,10 +197,10 @@ pub fn serve<C: Ledger, D: Ledger, A: Allocator + Copy, T: Links<A>, B: Books, K
             let Arrived { account, verdict } = arrived;
             (
                 account,
-                answer_to(rt, desk, shares, verdict, links, books, clock, now)?,
+                answer_to(rt, desk, shares, account, verdict, links, books, clock, now)?,
             )
         }
-        Err(_) => (account, t00(rt, desk)?),
+        Err(_) => (account, Some(t00(rt, desk)?)),
     };
     Ok(Served { account, answer })
 }

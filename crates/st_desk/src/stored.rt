@@ -1,20 +1,51 @@
 //! What a settlement books, and the books in which that is stored before it.
 
-ghost use Rattle.std.specs.Prelude.{◌≡◌, true, ⊤, IfSome};
+ghost use Rattle.std.specs.Prelude.{◌≡◌, true, ⊤};
 ghost use Rattle.st_hop.specs.Seen.{outcome_seen};
+ghost use Rattle.st_booking.specs.declared.booking.Booking as bookings;
 ghost use Rattle.st_desk.specs.Stored as stored;
+ghost use Rattle.st_desk.specs.declared.stored.Fate as fates;
+ghost use Rattle.st_desk.specs.declared.stored.Fate.TheVariants as fated;
 
 use st_booking::{Booked, Booking, Keeper, commit_one};
 use st_hop::{Outcome, Ticket};
 use st_ilp::Moment;
 use std::alloc::Allocator;
 
+/// The fate of a booking that was to be stored.
+#[must_use]
+#[derive(Drop)]
+pub enum Fate {
+    /// It is stored: a crash does not lose it. The token is that of this booking.
+    Stored(Booked),
+    /// It is not stored, and no later start finds it.
+    Refused,
+    /// It may be stored or not: the next start finds it, or does not.
+    Unknown,
+}
+
+impl Fate {
+    /// The fate of a booking that a commit gave this token, or none. Without one it is known only where no commit had the booking.
+    pub(crate) fn new(token: Option<Booked>, is_known: bool) -> Fate
+        ensures { result ≡ stored.fate_by token is_known }
+    {
+        match token {
+            Some(token) => Fate::Stored(token),
+            None if is_known => Fate::Refused,
+            None => Fate::Unknown,
+        }
+    }
+}
+
 /// Where the desk of a hop stores what a Fulfill books, before it settles the ticket and passes the Fulfill on.
 pub trait Books {
-    /// Stores a booking, so that a crash does not lose it. Gives the token of this booking, or `None` where it could not be
-    /// stored.
-    fn store(&mut self, booking: Booking) -> Option<Booked>
-        ensures { IfSome result (λ token. token ≡ booking) };
+    // What a booking with this fate made of the books.
+    ghost stores: { Self → bookings.Booking → fates.Fate → Self → Type 0 } = { λ _ _ _ _. ⊤ };
+
+    /// Stores a booking, so that a crash does not lose it, and gives its fate.
+    fn store(&mut self, booking: Booking) -> Fate
+        ensures token { stored.IsFateOf booking result }
+        ensures stores { stores self.old booking result self.new };
 }
 
 /// Books in memory alone: what was booked is lost when the process ends.
@@ -32,10 +63,13 @@ impl Keeper for NoBooks {
 }
 
 impl Books for NoBooks {
-    fn store(&mut self, booking: Booking) -> Option<Booked> {
+    // No booking is refused.
+    ghost stores = { λ _ booking fate _. fate ≡ fated.Stored booking };
+
+    fn store(&mut self, booking: Booking) -> Fate {
         match commit_one(self, booking) {
-            Ok(token) => Some(token),
-            Err(_) => None,
+            Ok(token) => Fate::Stored(token),
+            Err(_) => Fate::Refused,
         }
     }
 }

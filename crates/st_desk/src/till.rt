@@ -1,10 +1,11 @@
 //! Books that threads share: one commit serves all bookings that wait.
 
-ghost use Rattle.std.specs.Prelude.{◌≡◌, ◌≢◌, ℕ, None, Some, IfSome, length, map};
+ghost use Rattle.std.specs.Prelude.{◌≡◌, ◌≢◌, ℕ, true, false, None, Some, length, map};
+ghost use Rattle.st_desk.specs.Stored.{IsFateOf};
 
 use crate::board::{Batch, Board, Ended, Turn};
-use crate::stored::{Books, is_same};
-use st_booking::{Booked, Booking, Keeper, commit_all};
+use crate::stored::{Books, Fate, is_same};
+use st_booking::{Booking, Keeper, commit_all};
 use std::alloc::{AllocError, Allocator};
 use std::sync::{Condvar, Mutex, Wait};
 
@@ -17,7 +18,7 @@ struct Drawer<K: Keeper> {
 
 /// Books under a lock of their own, with a board of bookings that wait. The first thread that finds no commit under way
 /// commits all that wait, by one commit, while the others wait for it. After a refusal nothing is committed any more: what the
-/// books have is read by the next process.
+/// books have of the bookings that were refused is read by the next process, and known to nobody before.
 #[derive(Drop)]
 pub struct Till<K: Keeper, A: Allocator> {
     board: Mutex<Board<A>>,
@@ -52,8 +53,24 @@ impl<K: Keeper, A: Allocator + Copy> Till<K, A> {
             drawer,
             alloc: _,
         } = self;
-        let Drawer { books, refused } = drawer.into_inner();
+        drawer.into_inner().into_parts()
+    }
+}
+
+impl<K: Keeper> Drawer<K> {
+    /// The books, and the first number with which they refused.
+    fn into_parts(self) -> (K, Option<u8>)
+        ensures { result ≡ (self.books, self.refused) }
+    {
+        let Drawer { books, refused } = self;
         (books, refused)
+    }
+
+    /// The first number with which the books refused.
+    fn refused(&self) -> Option<u8>
+        ensures { result ≡ self.now.refused }
+    {
+        self.refused
     }
 }
 
@@ -87,6 +104,9 @@ fn commit_batch<K: Keeper, A: Allocator + Copy>(drawer: &mut Drawer<K>, batch: B
         → K.commits drawer.old.books batch.bookings.items drawer.new.books × (result.tokens.items ≡ map Some batch.bookings.items) }
     ensures kept { drawer.old.refused ≡ None → length batch.tokens.items ≡ length batch.bookings.items → (number : ℕ) → drawer.new.refused ≡ Some number
         → K.keeps drawer.old.books batch.bookings.items drawer.new.books number × (result.tokens.items ≡ batch.tokens.items) }
+    // What the books refused now is not known to be left out.
+    ensures known { result.is_known ≡ true → drawer.new.refused ≡ drawer.old.refused }
+    ensures unknown { result.is_known ≡ false → drawer.old.refused ≡ None }
     ensures places { result.places.items ≡ batch.places.items }
 {
     let Batch {
@@ -94,6 +114,7 @@ fn commit_batch<K: Keeper, A: Allocator + Copy>(drawer: &mut Drawer<K>, batch: B
         mut tokens,
         places,
     } = batch;
+    let mut is_known = true;
     if drawer.refused.is_none() && tokens.len() == bookings.len() {
         match commit_all(
             &mut drawer.books,
@@ -101,10 +122,17 @@ fn commit_batch<K: Keeper, A: Allocator + Copy>(drawer: &mut Drawer<K>, batch: B
             tokens.as_mut_slice(),
         ) {
             Ok(()) => {}
-            Err(number) => drawer.refused = Some(number),
+            Err(number) => {
+                drawer.refused = Some(number);
+                is_known = false;
+            }
         }
     }
-    Ended { tokens, places }
+    Ended {
+        tokens,
+        places,
+        is_known,
+    }
 }
 
 /// Commits a batch under the lock of the books alone, so that bookings can be put meanwhile.
@@ -121,39 +149,43 @@ fn finish<K: Keeper, A: Allocator + Copy>(rt: &impl Wait, till: &Till<K, A>, end
     till.turned.notify_all();
 }
 
-/// The token, where it is that of this booking.
-fn own_token(token: Option<Booked>, booking: Booking) -> Option<Booked>
-    ensures { IfSome result (λ token. token ≡ booking) }
+/// The fate, where it is that of this booking: of the token of another one nothing is known.
+fn own_fate(fate: Fate, booking: Booking) -> Fate
+    ensures { IsFateOf booking result }
 {
-    match token {
-        Some(token) if is_same(token.booking(), booking) => Some(token),
-        _ => None,
+    match fate {
+        Fate::Stored(token) if is_same(token.booking(), booking) => Fate::Stored(token),
+        Fate::Stored(_) => Fate::Unknown,
+        Fate::Refused => Fate::Refused,
+        Fate::Unknown => Fate::Unknown,
     }
 }
 
-/// Has the books of a till commit a booking, together with those of other threads that wait, and gives its token. `None` where
-/// the books refuse it, or refused one before, where memory is refused, or where more threads wait than the till is for. It
-/// waits for the commit.
+/// Has the books of a till commit a booking, together with those of other threads that wait, and gives its fate. It is unknown
+/// where the books refused the commit that had it. It is not stored where they refused one before, where memory is refused, or
+/// where more threads wait than the till is for. It waits for the commit.
 pub fn deposit<K: Keeper, A: Allocator + Copy, R: Wait>(
     rt: &R,
     till: &Till<K, A>,
     booking: Booking,
-) -> Option<Booked>
-    ensures { IfSome result (λ token. token ≡ booking) }
+) -> Fate
+    ensures { IsFateOf booking result }
 {
-    let place = put(rt, till, booking)?;
+    let Some(place) = put(rt, till, booking) else {
+        return Fate::Refused;
+    };
     for _ in rt.forever() {
         match turn(rt, till, place) {
-            Turn::Told(token) => return own_token(token, booking),
+            Turn::Told(fate) => return own_fate(fate, booking),
             Turn::Leads(batch) => finish(rt, till, commit(rt, till, batch)),
         }
     }
-    None
+    Fate::Unknown
 }
 
 /// The first number with which the books of a till refused a booking. After it the process has to end.
 pub fn refused_at<K: Keeper, A: Allocator + Copy>(rt: &impl Wait, till: &Till<K, A>) -> Option<u8> {
-    till.drawer.lock(rt).refused
+    till.drawer.lock(rt).refused()
 }
 
 /// A thread's way to the books of a till.
@@ -166,7 +198,7 @@ pub struct AtTill<'a, K: Keeper, A: Allocator, R: Wait> {
 }
 
 impl<K: Keeper, A: Allocator + Copy, R: Wait> Books for AtTill<'_, K, A, R> {
-    fn store(&mut self, booking: Booking) -> Option<Booked> {
+    fn store(&mut self, booking: Booking) -> Fate {
         deposit(self.rt, self.till, booking)
     }
 }

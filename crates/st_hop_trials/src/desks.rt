@@ -1,9 +1,9 @@
 //! A desk with one share out, and what it answers.
 ghost use Rattle.std.specs.Prelude.{◌≡◌};
 
-use st_booking::{Booked, Booking};
+use st_booking::Booking;
 use st_desk::{
-    AccountShares, Books, Clock, HopDesk, Link, LinkFault, NoBooks, Owed, Served, serve,
+    AccountShares, Books, Clock, Fate, HopDesk, Link, LinkFault, NoBooks, Owed, Served, serve,
 };
 use st_hop::{Account, HopError, HopState, Route};
 use st_ilp::Moment;
@@ -154,7 +154,7 @@ fn ask<C: Ledger, D: Ledger, R: Wait + Abort>(
     links: &mut Vec<Neighbour<'_, Global>>,
     books: &mut Noted,
     clock: &mut Moving,
-) -> Vec<u8> {
+) -> Option<Vec<u8>> {
     match serve(rt, desk, shares, 0, PREPARE, links, books, clock) {
         Ok(Served { account, answer }) => {
             assert!(rt; account == 0);
@@ -164,16 +164,17 @@ fn ask<C: Ledger, D: Ledger, R: Wait + Abort>(
     }
 }
 
-/// Whether nothing is held, account 0 owes this much, as much is due to account 1, and account 1 owes nothing.
-fn is_booked<C: Ledger, D: Ledger>(desk: &HopDesk<C, D, Global>, owed: u64) -> bool {
+/// Whether this is held of account 0, which owes so much, as much is due to account 1, and account 1 owes nothing.
+fn is_booked<C: Ledger, D: Ledger>(desk: &HopDesk<C, D, Global>, held: u64, owed: u64) -> bool {
     let hop = desk.hop();
-    hop.held(0) == Ok(0)
+    hop.held(0) == Ok(held)
         && hop.claims(0) == Ok(owed)
         && hop.dues(1) == Ok(owed)
         && hop.claims(1) == Ok(0)
 }
 
-/// What one thread is answered by a new desk over these links, and what is owed then.
+/// What one thread is answered by a new desk over these links, and what is owed then. The amount is held where there is no
+/// answer.
 fn one_serves<C: Ledger, D: Ledger, R: Wait + Abort>(
     rt: &R,
     alloc: Global,
@@ -183,7 +184,7 @@ fn one_serves<C: Ledger, D: Ledger, R: Wait + Abort>(
     links: &mut Vec<Neighbour<'_, Global>>,
     books: &mut Noted,
     clock: &mut Moving,
-) -> (Vec<u8>, Owed)
+) -> (Option<Vec<u8>>, Owed)
     requires claims { (claims.name ≡ C.name) × (claims.parts ≡ C.parts) × (claims.parts ≡ 64) }
     requires dues { (dues.name ≡ D.name) × (dues.parts ≡ D.parts) × (dues.parts ≡ 64) }
 {
@@ -193,7 +194,8 @@ fn one_serves<C: Ledger, D: Ledger, R: Wait + Abort>(
     let told = ask(rt, &desk, &shares, links, books, clock);
     let mut desk = desk.into_inner();
     let owed = gathered(rt, alloc, &mut desk, shares.into_inner());
-    assert!(rt; is_booked(&desk, owed.claims));
+    let held = if told.is_some() { 0 } else { 5 };
+    assert!(rt; is_booked(&desk, held, owed.claims));
     (told, owed)
 }
 
@@ -212,20 +214,30 @@ pub(crate) fn gathered<C: Ledger, D: Ledger, A: Allocator + Copy>(
     }
 }
 
-/// Books that note what they are to store, and refuse it where they are full.
+/// What books do.
+#[derive(Clone, Copy, Debug, PartialEq, Eq)]
+enum Way {
+    Store,
+    Refuse,
+    /// They do not know whether they stored it.
+    Fail,
+}
+
+/// Books that note what they are to store.
 #[derive(Drop)]
 struct Noted {
-    is_full: bool,
+    way: Way,
     noted: Option<Booking>,
 }
 
 impl Books for Noted {
-    fn store(&mut self, booking: Booking) -> Option<Booked> {
+    fn store(&mut self, booking: Booking) -> Fate {
         self.noted = Some(booking);
-        if self.is_full {
-            return None;
+        match self.way {
+            Way::Store => NoBooks.store(booking),
+            Way::Refuse => Fate::Refused,
+            Way::Fail => Fate::Unknown,
         }
-        NoBooks.store(booking)
     }
 }
 
@@ -240,29 +252,41 @@ const BOOKING: Booking = Booking {
 /// The last moment at which a Fulfill is in time.
 const LAST: i64 = EXPIRY - 1;
 
+/// A neighbour's answer, whether there is a link to it, what the books do, when the answer comes, what goes back, the amount that
+/// is booked then, and what was to be stored.
+type Row = (
+    Option<&'static [u8]>,
+    bool,
+    Way,
+    i64,
+    Option<&'static [u8]>,
+    u64,
+    Option<Booking>,
+);
+
 /// A Fulfill is stored and booked, up to the millisecond before the Prepare expires where it was sent on. A later one is not, nor
-/// one that could not be stored, a Reject, a neighbour without an answer and a missing link.
+/// one that was not stored, a Reject, a neighbour without an answer and a missing link. Where nobody knows whether it is stored
+/// there is no answer.
 #[test]
 fn a_thread_serves(rt: HostRuntime) -> Result<(), Fail> {
-    let rows: [(Option<&[u8]>, bool, bool, i64, &[u8], u64, Option<Booking>); 6] = [
-        (Some(FULFILL), true, false, LAST, FULFILL, 5, Some(BOOKING)),
-        (Some(FULFILL), true, false, EXPIRY, R00, 0, None),
-        (Some(FULFILL), true, true, LAST, T01, 0, Some(BOOKING)),
-        (Some(REJECT), true, false, LAST, REJECT, 0, None),
-        (None, true, false, LAST, T01, 0, None),
-        (Some(FULFILL), false, false, LAST, T01, 0, None),
+    let yes = Some(BOOKING);
+    let rows: [Row; 7] = [
+        (Some(FULFILL), true, Way::Store, LAST, Some(FULFILL), 5, yes),
+        (Some(FULFILL), true, Way::Store, EXPIRY, Some(R00), 0, None),
+        (Some(FULFILL), true, Way::Refuse, LAST, Some(T01), 0, yes),
+        (Some(FULFILL), true, Way::Fail, LAST, None, 0, yes),
+        (Some(REJECT), true, Way::Store, LAST, Some(REJECT), 0, None),
+        (None, true, Way::Store, LAST, Some(T01), 0, None),
+        (Some(FULFILL), false, Way::Store, LAST, Some(T01), 0, None),
     ];
     let alloc = rt.alloc();
-    for (answer, has_links, is_full, then, want, amount, noted) in rows {
+    for (answer, has_links, way, then, want, amount, noted) in rows {
         let mut links = if has_links {
             neighbours(&rt, alloc, answer)
         } else {
             Vec::new(alloc)
         };
-        let mut books = Noted {
-            is_full,
-            noted: None,
-        };
+        let mut books = Noted { way, noted: None };
         let (told, owed) = one_serves::<Brand, Brand, _>(
             &rt,
             alloc,
@@ -273,7 +297,11 @@ fn a_thread_serves(rt: HostRuntime) -> Result<(), Fail> {
             &mut books,
             &mut moving_clock(&rt, then),
         );
-        assert!(rt; told.as_slice() == want);
+        let is_wanted = match (&told, want) {
+            (Some(told), Some(want)) => told.as_slice() == want,
+            (told, want) => told.is_none() && want.is_none(),
+        };
+        assert!(rt; is_wanted);
         assert!(rt; (owed.claims, owed.dues) == (amount, amount));
         assert!(rt; books.noted == noted);
     }

@@ -42,7 +42,13 @@ fn serve_three<C: Ledger, D: Ledger, R: Wait + Abort>(
             &mut NoBooks,
             &mut clock,
         ) {
-            Ok(told) => assert!(rt; told.answer.as_slice() == want),
+            Ok(told) => {
+                let is_wanted = match told.answer {
+                    Some(answer) => answer.as_slice() == want,
+                    None => false,
+                };
+                assert!(rt; is_wanted);
+            }
             Err(refused) => panic!(rt; "refused {}", refused.number()),
         }
         assert!(rt; links.get(1).map(|link| link.faults()) == Some(faults));

@@ -38,9 +38,10 @@ fn told_by<A: Allocator + Copy>(rt: &impl Abort, served: Result<Served<A>, DeskE
             assert!(rt; e.number() == 75);
             Told::Refused
         }
-        Ok(bytes) if bytes.as_slice() == FULFILL.as_slice() => Told::Fulfilled,
-        Ok(bytes) if bytes.as_slice() == T01.as_slice() => Told::NoAnswerCame,
-        Ok(bytes) => {
+        Ok(None) => panic!(rt; "no answer"),
+        Ok(Some(bytes)) if bytes.as_slice() == FULFILL.as_slice() => Told::Fulfilled,
+        Ok(Some(bytes)) if bytes.as_slice() == T01.as_slice() => Told::NoAnswerCame,
+        Ok(Some(bytes)) => {
             assert!(rt; bytes.as_slice() == T00.as_slice());
             Told::NoMemory
         }

@@ -86,7 +86,10 @@ fn is_fulfilled<C: Ledger, D: Ledger, R: Wait + Abort + std::time::Clock>(
         &mut NoBooks,
         &mut clock,
     ) {
-        Ok(served) => served.answer.as_slice() == FULFILL.as_slice(),
+        Ok(served) => match served.answer {
+            Some(answer) => answer.as_slice() == FULFILL.as_slice(),
+            None => false,
+        },
         Err(_) => false,
     }
 }

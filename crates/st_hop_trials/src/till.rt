@@ -3,7 +3,7 @@
 ghost use Rattle.std.specs.Prelude.{⊤};
 
 use st_booking::{Booking, Keeper};
-use st_desk::{Till, deposit, refused_at};
+use st_desk::{Fate, Till, deposit, refused_at};
 use std::alloc::Global;
 use std::process::Abort;
 use std::sync::Wait;
@@ -46,23 +46,35 @@ const BOOKING: Booking = Booking {
     due: 2,
 };
 
-/// How many of ten deposits gave their token.
-fn ten<R: Wait>(rt: &R, till: &Till<Sums, Global>) -> u64 {
-    let mut stored: u64 = 0;
-    for _ in 0..10 {
-        if deposit(rt, till, BOOKING).is_some() {
-            stored = stored.saturating_add(1);
-        }
-    }
-    stored
+/// How many deposits were stored, and of how many nobody knows it.
+#[derive(Clone, Copy, Debug, PartialEq, Eq)]
+struct Fates {
+    stored: u64,
+    unknown: u64,
 }
 
-/// How many of the deposits of two threads gave their token, what the books then have, and with which number they refused.
+/// What became of ten deposits.
+fn ten<R: Wait>(rt: &R, till: &Till<Sums, Global>) -> Fates {
+    let mut fates = Fates {
+        stored: 0,
+        unknown: 0,
+    };
+    for _ in 0..10 {
+        match deposit(rt, till, BOOKING) {
+            Fate::Stored(_) => fates.stored = fates.stored.saturating_add(1),
+            Fate::Unknown => fates.unknown = fates.unknown.saturating_add(1),
+            Fate::Refused => {}
+        }
+    }
+    fates
+}
+
+/// What became of the deposits of two threads, what the books then have, and with which number they refused.
 fn two<R: Threads + Wait + Abort + Sync>(
     rt: &R,
     alloc: Global,
     most: u64,
-) -> (u64, u64, u64, Option<u8>) {
+) -> (Fates, u64, u64, Option<u8>) {
     let books = Sums {
         claims: 0,
         dues: 0,
@@ -73,23 +85,32 @@ fn two<R: Threads + Wait + Abort + Sync>(
     let seen = refused_at(rt, &till);
     let (books, refused) = till.into_books();
     assert!(rt; seen == refused);
-    (one.saturating_add(other), books.claims, books.dues, refused)
+    let both = Fates {
+        stored: one.stored.saturating_add(other.stored),
+        unknown: one.unknown.saturating_add(other.unknown),
+    };
+    (both, books.claims, books.dues, refused)
 }
 
 /// What two threads deposit is committed, each booking once.
 #[test]
 fn two_threads_deposit(rt: HostRuntime) -> Result<(), Fail> {
-    assert!(rt; two(&rt, rt.alloc(), 60) == (20, 60, 40, None));
+    let all = Fates {
+        stored: 20,
+        unknown: 0,
+    };
+    assert!(rt; two(&rt, rt.alloc(), 60) == (all, 60, 40, None));
     Ok(())
 }
 
-/// After a refusal nothing is committed, and each token is that of a booking that the books have.
+/// After a refusal nothing is committed, and each token is that of a booking that the books have. Only of the one or two bookings
+/// that were refused nobody knows whether they are stored.
 #[test]
 fn a_refusal_ends_a_till(rt: HostRuntime) -> Result<(), Fail> {
-    let (stored, claims, dues, refused) = two(&rt, rt.alloc(), 31);
+    let (Fates { stored, unknown }, claims, dues, refused) = two(&rt, rt.alloc(), 31);
     assert!(rt; refused == Some(93));
     assert!(rt; claims == stored.saturating_mul(3) && dues == stored.saturating_mul(2));
-    assert!(rt; stored <= 10);
+    assert!(rt; stored <= 10 && (unknown == 1 || unknown == 2));
     Ok(())
 }
 
@@ -102,7 +123,7 @@ fn a_till_for_nobody_is_full(rt: HostRuntime) -> Result<(), Fail> {
         most: 9,
     };
     let till = Till::new(rt.alloc(), books, 0)?;
-    assert!(rt; deposit(&rt, &till, BOOKING).is_none());
+    assert!(rt; matches!(deposit(&rt, &till, BOOKING), Fate::Refused));
     assert!(rt; till.into_books().0.claims == 0);
     Ok(())
 }

@@ -17,4 +17,5 @@ pub mod Tries
 pub mod Failing
 pub mod Expiries
 pub mod Working
+mod Pumps
 pub mod Rings

@@ -1,13 +1,15 @@
 -- What a worker found to do, and what came of its exchange.
-use Rattle.std.specs.Prelude.{◌≡◌, ℕ, ℤ, true, false, List, Option, Some, None, Result, Ok, Err}
+use Rattle.std.specs.Prelude.{◌≡◌, ◌⊎◌, ℕ, ℤ, true, false, List, Option, Some, None, Result, Ok, Err}
 use Rattle.st_end.specs.State.{EndState}
 use Rattle.st_end.specs.Totals.{settled}
 use Rattle.st_desk.specs.declared.link.LinkFault.{LinkFault}
 use Rattle.st_end.specs.Sending.{Goes}
 use Rattle.st_hub.specs.Steps.{Flows}
 use Rattle.st_hub.specs.Hub.{Hub, with_core}
-use Rattle.st_hub.specs.Stalls.{Does}
+use Rattle.st_hub.specs.Stalls.{Does, IsStalled}
+use Rattle.st_hub.specs.Trying.{AllTried}
 use Rattle.st_hub.specs.declared.turns.Step.TheVariants as step
+use Rattle.st_hub.specs.declared.workers.WorkEnd.{WorkEnd}
 use Rattle.st_hub.specs.declared.workers.WorkEnd.TheVariants as ends
 use Rattle.st_hub.specs.declared.workers.Begun.{Begun}
 use Rattle.st_hub.specs.declared.workers.Begun.TheVariants.{Sends, Idle, Ends}
@@ -17,37 +19,59 @@ pub record GoesOn (e : EndState) (stream : ℕ) : Type 0 where
   pub works : e.sending.failed ≡ false
   pub is_open : settled e stream ≡ false
 
--- what a worker finds at an end. It ends as failed where the connection failed, else as settled where the stream's close is
--- fulfilled; else it does what a step does. It ends for no other reason but memory, and where it sends nothing the end and the
--- hand are as they were
+-- a worker ends for what it finds at an end: the connection failed; else the stream's close is fulfilled; else the stream is
+-- stalled; or memory was refused
+abbrev pub EndsAt : EndState → (stream : ℕ) → WorkEnd → Type 0
+EndsAt a stream ends.Failed = a.sending.failed ≡ true
+EndsAt a stream ends.Settled = (a.sending.failed ≡ false) × (settled a stream ≡ true)
+EndsAt a stream ends.Stalled = GoesOn a stream × IsStalled a stream
+EndsAt a stream ends.NoMemory = Unit {0}
+EndsAt a stream ends.Stopped = ⊥
+EndsAt a stream ends.IvFault = ⊥
+EndsAt a stream ends.Turns = ⊥
+
+-- what a worker finds at an end. Where it goes on it does what a step does. Where it sends nothing the end and the hand are as they
+-- were
 abbrev pub FindsAt : {A : Type 0} → EndState → (hand : Option (List ℕ)) → (stream : ℕ) → (now : ℤ) → Begun A → EndState → (after : Option (List ℕ)) → Type 0
 FindsAt {A} a hand stream now (Sends t) b after = GoesOn a stream × Does {A = A} a hand stream now (step.Sends t) b after
 FindsAt {A} a hand stream now Idle b after = GoesOn a stream × Does {A = A} a hand stream now step.Idle b after
-FindsAt {A} a hand stream now (Ends ends.Stalled) b after = GoesOn a stream × Does {A = A} a hand stream now step.Stalled b after
-FindsAt a hand stream now (Ends ends.Failed) b after = (a.sending.failed ≡ true) × (b ≡ a) × (after ≡ hand)
-FindsAt a hand stream now (Ends ends.Settled) b after = (a.sending.failed ≡ false) × (settled a stream ≡ true) × (b ≡ a) × (after ≡ hand)
-FindsAt a hand stream now (Ends ends.NoMemory) b after = (b ≡ a) × (after ≡ hand)
-FindsAt a hand stream now (Ends ends.Stopped) b after = ⊥
-FindsAt a hand stream now (Ends ends.IvFault) b after = ⊥
-FindsAt a hand stream now (Ends ends.Turns) b after = ⊥
+FindsAt a hand stream now (Ends end) b after = EndsAt a stream end × (b ≡ a) × (after ≡ hand)
 
 -- items moved between a hub's rings and its end, and no share was touched
 pub record Moves {A : Type 0} (a b : Hub A) : Type 0 where
   pub flows : Flows a.flow b.flow
   pub shares : (b.out ≡ a.out) × (b.kept ≡ a.kept)
 
--- what a worker finds at a hub, once all was pumped that can be. Beside what was pumped, the hub changes as its end does
+-- the worker had memory
+abbrev pub HadMemory : {A : Type 0} → Begun A → Type 0
+HadMemory (Ends ends.NoMemory) = ⊥
+HadMemory (Ends ends.Stopped) = Unit {0}
+HadMemory (Ends ends.Failed) = Unit {0}
+HadMemory (Ends ends.IvFault) = Unit {0}
+HadMemory (Ends ends.Turns) = Unit {0}
+HadMemory (Ends ends.Settled) = Unit {0}
+HadMemory (Ends ends.Stalled) = Unit {0}
+HadMemory Idle = Unit {0}
+HadMemory (Sends t) = Unit {0}
+
+-- what a worker finds at a hub, once each ring was tried. Beside what was pumped, the hub changes as its end does
 pub record Finds {A : Type 0} (a : Hub A) (hand : Option (List ℕ)) (stream : ℕ) (now : ℤ) (found : Begun A) (b : Hub A) (after : Option (List ℕ)) : Type 0 where
   pub pumped : Hub A
   pub moves : Moves a pumped
+  pub tried : HadMemory found → AllTried a.flow a.known a.room pumped.flow
   pub finds : FindsAt pumped.flow.core hand stream now found b.flow.core after
   pub rest : b ≡ with_core pumped b.flow.core
 
--- the packet that is sent was sealed under the IV in hand, which is in hand no more; and where nothing is sent it still is
-abbrev pub Uses : {A : Type 0} → (hand : Option (List ℕ)) → Begun A → (after : Option (List ℕ)) → Type 0
-Uses hand (Sends t) after = ((iv : List ℕ) × (a : EndState) × (now : ℤ) × (b : EndState) × (hand ≡ Some iv) × Goes a iv now t.flight t.bytes b) × (after ≡ None)
-Uses hand Idle after = after ≡ hand
-Uses hand (Ends end) after = after ≡ hand
+-- what a worker finds at a hub, as it was then
+abbrev pub FindsSome : {A : Type 0} → (hand : Option (List ℕ)) → (stream : ℕ) → (now : ℤ) → Begun A → (after : Option (List ℕ)) → Type 0
+FindsSome {A} hand stream now found after = (a b : Hub A) × Finds a hand stream now found b after
+
+-- how a turn begins: somebody asked to stop, and nothing was touched; or the worker read its clock once, and found this then at the
+-- hub
+abbrev pub Begins : {K A : Type 0} → (reads : K → ℤ → K → Type 0) → K → (hand : Option (List ℕ)) → (stream : ℕ) → Begun A → K → (after : Option (List ℕ)) → Type 0
+Begins {K} {A} reads clock hand stream found clock_after after =
+    ((found ≡ Ends ends.Stopped) × (clock_after ≡ clock) × (after ≡ hand))
+    ⊎ ((now : ℤ) × reads clock now clock_after × FindsSome {A = A} hand stream now found after)
 
 -- the bytes that came back, where any did
 abbrev pub bytes_back : Result (List ℕ) LinkFault → Option (List ℕ)

@@ -26,3 +26,11 @@ cause_if false e flight outcome = None
 -- what is told of a turn that ends with this outcome
 abbrev pub cause_of : EndState → Open → (outcome : Option (List ℕ)) → Option Cause
 cause_of e flight outcome = cause_if (is_open e flight) e flight outcome
+
+-- an end after a turn with this outcome: only an open turn changes it
+abbrev pub end_if : Bool → EndState → Open → (outcome : Option (List ℕ)) → EndState
+end_if true e flight outcome = ended e flight outcome
+end_if false e flight outcome = e
+
+abbrev pub end_after : EndState → Open → (outcome : Option (List ℕ)) → EndState
+end_after e flight outcome = end_if (is_open e flight) e flight outcome

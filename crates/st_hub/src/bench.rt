@@ -1,5 +1,8 @@
 //! A hub under its lock, with what its threads wait on.
 
+ghost use Rattle.std.specs.Prelude.{◌≡◌};
+ghost use Rattle.std.specs.Duration.{as_nanos};
+
 use crate::gate::Gate;
 use crate::hub::HubState;
 use st_queues::HubName;
@@ -7,6 +10,9 @@ use std::alloc::Allocator;
 use std::sync::atomic::{AtomicU64, Ordering};
 use std::sync::{Condvar, Mutex, MutexGuard, Wait};
 use std::time::{Clock, Duration};
+
+/// The pause between two tries of all workers of a hub after a failure for now, unless another is set, in milliseconds.
+const SPACE: u64 = 50;
 
 /// A hub under its lock, with what its workers and the threads that write to it wait on, and the gate that spaces out
 /// the workers' tries after a failure.
@@ -16,6 +22,8 @@ use std::time::{Clock, Duration};
 #[derive(Drop)]
 pub struct Bench<N: HubName<A>, A: Allocator + Copy> {
     hub: Mutex<HubState<N, A>>,
+    /// The pause between two tries of all workers, while the last exchange failed for now.
+    pub pause: Duration,
     pub(crate) gate: Mutex<Gate>,
     // Signalled where a worker may find something to do.
     pub(crate) woken: Condvar,
@@ -26,10 +34,20 @@ pub struct Bench<N: HubName<A>, A: Allocator + Copy> {
 }
 
 impl<N: HubName<A>, A: Allocator + Copy> Bench<N, A> {
-    /// Makes a bench of a hub. Does not allocate.
-    pub fn new(hub: HubState<N, A>) -> Bench<N, A> {
+    /// Makes a bench of a hub, with a pause of 50 ms between two tries after a failure for now. Does not allocate.
+    pub fn new(hub: HubState<N, A>) -> Bench<N, A>
+        ensures { as_nanos result.pause ≡ 50_000_000 }
+    {
+        Bench::with_pause(hub, Duration::from_millis(SPACE))
+    }
+
+    /// Makes a bench of a hub, with this pause between two tries of its workers after a failure for now. Does not allocate.
+    pub fn with_pause(hub: HubState<N, A>, pause: Duration) -> Bench<N, A>
+        ensures { result.pause ≡ pause }
+    {
         Bench {
             hub: Mutex::new(hub),
+            pause,
             gate: Mutex::new(Gate::new()),
             woken: Condvar::new(),
             room: Condvar::new(),

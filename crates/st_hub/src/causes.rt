@@ -2,7 +2,8 @@
 
 ghost use Rattle.std.specs.Prelude.{◌≡◌};
 ghost use Rattle.st_hop.specs.Seen.{outcome_seen};
-ghost use Rattle.st_hub.specs.Causes.{cause_of, cause_with};
+ghost use Rattle.st_hub.specs.Causes.{cause_of, cause_with, end_after};
+ghost use Rattle.st_hub.specs.Hub.{with_core};
 ghost use Rattle.st_hub.specs.Seen.{cause_seen};
 
 use crate::hub::HubState;
@@ -60,7 +61,8 @@ pub(crate) fn close_turn<N: HubName<A>, A: Allocator + Copy>(
     turn: Turn<A>,
     outcome: Outcome<A>,
 ) -> Option<Cause>
-    ensures { cause_seen result ≡ cause_of state.old.flow.core turn.flight (outcome_seen outcome) }
+    ensures cause { cause_seen result ≡ cause_of state.old.flow.core turn.flight (outcome_seen outcome) }
+    ensures ended { state.new ≡ with_core state.old (end_after state.old.flow.core turn.flight (outcome_seen outcome)) }
 {
     match state.finish_turn(turn, outcome) {
         Ok(true) | Err(_) => None,

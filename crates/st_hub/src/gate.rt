@@ -1,7 +1,8 @@
 //! What the workers of a hub wait on, and the gate that spaces out their tries after a failure.
 
-ghost use Rattle.std.specs.Prelude.{◌≡◌, ◌≤◌, ◌<◌, ◌&&◌, true, false, not, IfSome};
+ghost use Rattle.std.specs.Prelude.{◌≡◌, ◌≤◌, ◌<◌, ◌+◌, ◌-◌, ◌&&◌, true, false, not, IfSome, MatchOption};
 ghost use Rattle.std.specs.Duration.{as_nanos};
+ghost use Rattle.std.specs.Time.{instant_nanos};
 ghost use Rattle.st_hop.specs.Seen.{outcome_seen};
 ghost use Rattle.st_hub.specs.Gates.{is_temporary};
 
@@ -9,9 +10,6 @@ use st_hop::Outcome;
 use st_ilp::{Answer, read_answer};
 use std::alloc::Allocator;
 use std::time::{Clock, Duration, Instant};
-
-/// How long after one try the gate lets the next one through, in milliseconds.
-const SPACE: u64 = 50;
 
 /// Whether an exchange failed for now: no answer came, or one that cannot be read, or a Reject whose code begins with
 /// `T`, a temporary error (RFC 0027).
@@ -28,7 +26,17 @@ pub(crate) fn is_temporary<A: Allocator + Copy>(outcome: &Outcome<A>) -> bool
     }
 }
 
-/// A gate that is shut while the last exchange failed for now. It then lets one try through each 50 ms.
+/// What is left of a pause that began at a moment. `None` where it is over.
+fn left_of(pause: Duration, begun: Instant, now: Instant) -> Option<Duration>
+    ensures { MatchOption result
+        (as_nanos pause ≤ instant_nanos now - instant_nanos begun)
+        (λ left. (0 < as_nanos left) × (as_nanos left + (instant_nanos now - instant_nanos begun) ≡ as_nanos pause)) }
+{
+    let left = pause.saturating_sub(now.duration_since(begun));
+    if left.is_zero() { None } else { Some(left) }
+}
+
+/// A gate that is shut while the last exchange failed for now. It then lets one try through, and after a pause the next.
 #[derive(Drop)]
 pub(crate) struct Gate {
     is_shut: bool,
@@ -47,16 +55,16 @@ impl Gate {
         }
     }
 
-    /// How long the next try is still to wait: 50 ms at most. `None` where it may begin.
-    pub(crate) fn left(&self, rt: &impl Clock) -> Option<Duration>
-        ensures { IfSome result (λ left. (self.now.is_shut ≡ true) × (0 < as_nanos left) × (as_nanos left ≤ 50_000_000)) }
+    /// How long the next try is still to wait where there is such a pause between two: what is left of it since the last
+    /// one. `None` where it may begin, and where the clock cannot be read.
+    pub(crate) fn left(&self, rt: &impl Clock, pause: Duration) -> Option<Duration>
+        ensures { IfSome result (λ left. (self.now.is_shut ≡ true) × (0 < as_nanos left) × (as_nanos left ≤ as_nanos pause)) }
     {
         if !self.is_shut {
             return None;
         }
-        let since = self.last?.elapsed(rt).ok()?;
-        let left = Duration::from_millis(SPACE).checked_sub(since)?;
-        if left.is_zero() { None } else { Some(left) }
+        let now = Instant::now(rt).ok()?;
+        left_of(pause, self.last?, now)
     }
 
     /// Notes that a try begins.

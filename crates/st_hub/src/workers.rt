@@ -2,8 +2,11 @@
 
 ghost use Rattle.std.specs.Prelude.{◌≡◌, ℕ, List, true, is_some, IfSome, MatchBool, None, ⊤};
 ghost use Rattle.st_hop.specs.Seen.{outcome_seen};
-ghost use Rattle.st_hub.specs.Begins.{FindsAt, Finds, Uses, Exchanged};
+ghost use Rattle.st_end.specs.State.{EndState};
+ghost use Rattle.st_hub.specs.Begins.{Begins, FindsAt, Finds, FindsSome, Exchanged};
+ghost use Rattle.st_hub.specs.Causes.{cause_of};
 ghost use Rattle.st_hub.specs.Hub.{with_core};
+ghost use Rattle.st_hub.specs.Seen.{cause_seen};
 ghost use Rattle.st_hub.specs.Working.{Fills, WorkedTo};
 
 use crate::bench::Bench;
@@ -92,7 +95,6 @@ fn find<N: HubName<A>, A: Allocator + Copy>(
 ) -> Begun<A>
     requires { is_some hand.old ≡ true }
     ensures finds { FindsAt state.old.flow.core hand.old stream now result state.new.flow.core hand.new }
-    ensures uses { Uses hand.old result hand.new }
     ensures rest { state.new ≡ with_core state.old state.new.flow.core }
 {
     if state.is_failed() {
@@ -118,8 +120,7 @@ fn look<N: HubName<A>, A: Allocator + Copy>(
     now: Moment,
 ) -> Begun<A>
     requires { is_some hand.old ≡ true }
-    ensures finds { Finds state.old hand.old stream now result state.new hand.new }
-    ensures uses { Uses hand.old result hand.new }
+    ensures { Finds state.old hand.old stream now result state.new hand.new }
 {
     let before = state.totals().accepted;
     let pumped = state.pump();
@@ -143,7 +144,7 @@ fn look_again<N: HubName<A>, A: Allocator + Copy, R: Wait + std::time::Clock>(
     rest: Duration,
 ) -> Begun<A>
     requires { is_some hand.old ≡ true }
-    ensures uses { Uses hand.old result hand.new }
+    ensures { FindsSome hand.old stream now result hand.new }
 {
     let mut state = state;
     bench.idle.fetch_add(1, Ordering::SeqCst);
@@ -167,7 +168,7 @@ fn pass_gate<'b, N: HubName<A>, A: Allocator + Copy, R: Wait + std::time::Clock>
         if gauge.stopped(seat) {
             return None;
         }
-        let Some(left) = bench.gate.lock(rt).left(rt) else {
+        let Some(left) = bench.gate.lock(rt).left(rt, bench.pause) else {
             return Some(state);
         };
         state = bench.woken.wait_timeout(rt, state, left).0;
@@ -188,7 +189,7 @@ fn begin<N: HubName<A>, A: Allocator + Copy, K: Clock, R: Wait + std::time::Cloc
     rest: Duration,
 ) -> Begun<A>
     requires { is_some hand.old ≡ true }
-    ensures uses { Uses hand.old result hand.new }
+    ensures { Begins K.reads clock.old hand.old stream result clock.new hand.new }
 {
     let Some(mut state) = pass_gate(rt, bench, gauge, seat) else {
         return Begun::Ends(WorkEnd::Stopped);
@@ -212,7 +213,9 @@ fn finish<N: HubName<A>, A: Allocator + Copy, R: Wait + std::time::Clock>(
     bench: &Bench<N, A>,
     turn: Turn<A>,
     outcome: Outcome<A>,
-) -> Option<Cause> {
+) -> Option<Cause>
+    ensures { (e : EndState) × (cause_seen result ≡ cause_of e turn.flight (outcome_seen outcome)) }
+{
     let has_failed = is_temporary(&outcome);
     let mut state = bench.lock(rt);
     let cause = close_turn(&mut state, turn, outcome);
@@ -266,7 +269,7 @@ fn make_turns<
     W: Observer,
     R: Wait + std::time::Clock,
 >(rt: &R, bench: &Bench<N, A>, worker: Worker<'_, N, A, L, I, K, W>) -> WorkEnd
-    ensures { WorkedTo I.gives L.exchanges worker.entry.ivs.now worker.entry.link.now result worker.exit.1.0.now worker.exit.0.now }
+    ensures { WorkedTo I.gives L.exchanges K.reads worker.entry.stream worker.entry.turns worker.entry.ivs.now worker.entry.link.now worker.entry.clock.now result worker.exit.1.0.now worker.exit.0.now worker.exit.1.1.0.now }
 {
     let Worker {
         link,
@@ -303,10 +306,11 @@ fn make_turns<
 /// longer open then changes nothing. With the lock open it tells its observer where the Prepare carries a Blocked frame, and
 /// where it failed. After a turn with nothing to send it sleeps, until somebody wakes it (`Bench`) or its rest is over.
 ///
-/// Each packet that it exchanges is sealed under the next IV that its source gave, and no IV serves twice.
+/// Each packet that it exchanges is sealed under the next IV that its source gave, and no IV serves twice. In a turn it
+/// exchanges at most one packet, at the moment that it read from its clock once in that turn, behind the gate.
 ///
 /// While the last exchange failed for now (no answer came, or a Reject whose code begins with `T`), the workers of a hub
-/// let one try through each 50 ms, whatever their number is.
+/// let one try through, and the next after the bench's pause, whatever their number is.
 ///
 /// It ends early once its seat sees that some seat asked to stop, once the connection failed, where no IV is given,
 /// where memory is refused, and with its stream. It waits for the lock. At its end it wakes all other threads.
@@ -319,7 +323,7 @@ pub fn work<
     W: Observer,
     R: Wait + std::time::Clock,
 >(rt: &R, bench: &Bench<N, A>, worker: Worker<'_, N, A, L, I, K, W>) -> WorkEnd
-    ensures { WorkedTo I.gives L.exchanges worker.entry.ivs.now worker.entry.link.now result worker.exit.1.0.now worker.exit.0.now }
+    ensures { WorkedTo I.gives L.exchanges K.reads worker.entry.stream worker.entry.turns worker.entry.ivs.now worker.entry.link.now worker.entry.clock.now result worker.exit.1.0.now worker.exit.0.now worker.exit.1.1.0.now }
 {
     let end = make_turns(rt, bench, worker);
     bench.wake_all(rt);

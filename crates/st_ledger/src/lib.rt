@@ -3,7 +3,8 @@
 //!
 //! `place` compares the books with the table, by names, before anything is written, adds the names that the books lack, and
 //! counts the start. `Placed` is the `Keeper` of a till: it books the accounts of the table at their places in the books.
-//! `OpensBooks` opens the books of a file, so that a program over it needs no runtime of a process.
+//! `OpensBooks` opens the books of a file, so that a program over it needs no runtime of a process. `Watched` books refuse once their
+//! files are not those that were opened.
 #![tactic(auto)]
 
 mod error;
@@ -13,6 +14,7 @@ mod placed;
 mod placing;
 mod settling;
 mod text;
+mod watched;
 
 pub use error::LedgerError;
 pub use opening::OpensBooks;
@@ -20,3 +22,4 @@ pub use placed::Placed;
 pub use placing::{Life, place};
 pub use settling::settle;
 pub use text::{account_text, ledger_text};
+pub use watched::{FileNames, Look, Watched, Watcher};

@@ -3,14 +3,19 @@
 ghost use Rattle.std.specs.Prelude.{ℕ, List, IfOk, ⊤};
 ghost use Rattle.st_books.specs.Standing.{Kept};
 
+use crate::watched::{FileNames, Watcher};
 use sqlite::{FileFrom, FileStore, Unknown};
 use sqlite_trees::store::Alter;
 use st_books::{Books, BooksError, open, open_existing};
+use std::alloc::AllocError;
 
 /// What opens the books of a file. A program is generic over it, as it is over the runtime that gives files and sockets.
 pub trait OpensBooks {
     /// What the books are kept in.
     type Store: Alter + Send + Drop;
+
+    /// What looks at the files of the books by their names.
+    type Watcher: Watcher + Send + Drop;
 
     /// What is known of the books that it opens at a path.
     ghost finds: { Self → List ℕ → Kept Self.Store → Type 0 };
@@ -25,11 +30,16 @@ pub trait OpensBooks {
     /// Opens the books of a file. Refuses with `NoBooks` where there is no file, or it holds nothing, and makes none.
     fn open_existing(&self, path: &str) -> Result<Books<Self::Store>, BooksError>
         ensures { IfOk result (finds_existing self.now path.now) };
+
+    /// What looks at the files of books that were opened at a path. Fails where memory is refused.
+    fn watcher(&self, path: &str) -> Result<Self::Watcher, AllocError>;
 }
 
 /// The runtime of a process opens the files of the system. Which books they hold, no clause can say.
 impl OpensBooks for HostRuntime {
     type Store = FileStore<FileFrom<Unknown>>;
+
+    type Watcher = FileNames<HostRuntime>;
 
     ghost finds = { λ _ _ _. ⊤ };
 
@@ -41,5 +51,9 @@ impl OpensBooks for HostRuntime {
 
     fn open_existing(&self, path: &str) -> Result<Books<Self::Store>, BooksError> {
         open_existing(self, path, Unknown)
+    }
+
+    fn watcher(&self, path: &str) -> Result<Self::Watcher, AllocError> {
+        FileNames::new(*self, self.alloc(), path)
     }
 }

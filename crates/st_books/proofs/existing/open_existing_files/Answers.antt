@@ -14,7 +14,7 @@ image db log = record { log = log; db = db }
 pub returns : goal.returns
 returns g c =
     let first = ap (image (g.D.Disk.seen c.args.files.db)) c.refuse_damage.ensures.same.seen in
-    let same = same_image c.holds_nothing.ensures.log c.holds_nothing.ensures.db ∙ first in
+    let same = same_image c.refuse_nothing.ensures.log c.refuse_nothing.ensures.db ∙ first in
     ok_four c.folded.result _ _ _ _ _ (λ b sums clean shown crash now.
     let was = clean now in
     let early = c.in_ok-books-in-Ok.ensures.clean was in
@@ -25,7 +25,7 @@ returns g c =
         found = subst (λ (i : Image). FindsIn i (file_state c.in-Ok.conn)) same (record { holds = f.holds; reads = f.reads });
         takes = takes_folded _ _ b sums (shown now) crash (c.in_ok-books-in-Ok.ensures.taken was);
       };
-      whole = c.in_ok-refuse_damage.ensures.whole (c.holds_nothing.ensures.log.clean (halves g.D.Disk _ _ f.honest).0);
-      something = subst (λ (i : Image). ¬ IsNothing i) first (c.in_ok-holds_nothing.ensures.found f.honest c.if-branch.false);
+      whole = c.in_ok-refuse_damage.ensures.whole (c.refuse_nothing.ensures.log.clean (halves g.D.Disk _ _ f.honest).0);
+      something = subst (λ (i : Image). ¬ IsNothing i) first (c.in_ok-refuse_nothing.ensures.something f.honest);
       listed = c.in_ok-books-in-Ok.ensures.listed refl was;
     }) c.folded.ensures.sums c.folded.ensures.clean c.folded.ensures.same c.folded.ensures.crash

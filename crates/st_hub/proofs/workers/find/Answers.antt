@@ -6,8 +6,3 @@ returns-in-Ok-Sends-clause-finds g c = (
   record { works = sym c.is_failed.ensures ∙ c.if-is_failed.false; is_open = sym c.settled.ensures ∙ c.if-settled.false },
   rw c.in-Ok-Sends.field-0-is at c.in-Ok-Sends.ensures.does,
 )
-
-pub returns-in-Ok-Sends-clause-uses : goal.returns-in-Ok-Sends-clause-uses
-returns-in-Ok-Sends-clause-uses g c =
-    let d = rw c.in-Ok-Sends.field-0-is at c.in-Ok-Sends.ensures.does in
-    ((d.0, _, _, _, d.1, d.2), d.3)
