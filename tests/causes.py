@@ -230,7 +230,7 @@ def a_message_of_65_kb_is_cut(play, name):
 def comes(process, wanted, *left_out):
     """The log of a process that goes on has just these kinds of lines, within ten seconds, but for these events."""
     until = time.monotonic() + 10
-    while (seen := kinds(process, "start", "more", "totals", *left_out)) != wanted and time.monotonic() < until:
+    while (seen := kinds(process, "start", "listening", "more", "totals", *left_out)) != wanted and time.monotonic() < until:
         time.sleep(0.02)
     want(seen == wanted, f"log {seen}")
     return " / ".join(seen)
@@ -268,7 +268,7 @@ def connections_that_are_left_out_are_of_no_neighbour(play):
     # (each second has ten lines at most)
     while not found and time.monotonic() < until:
         refusal(play, hub.port)
-        found = kinds(hub, "start", "connection", "totals")
+        found = kinds(hub, "start", "listening", "connection", "totals")
     want(found and all(re.fullmatch(r"more event=connection count=\d+", it) for it in found), f"log {found}")
     return " / ".join(found)
 
@@ -491,7 +491,7 @@ def what_finds_no_room_is_counted(play):
     refused = sum(it.startswith("refused ") for it in seen)
     at = next(place for place, it in enumerate(seen) if it.startswith("more lost="))
     want(at >= 1_024, f"lost are told in line {at}")
-    others = sum(not it.startswith(("refused ", "more lost=", "start ", "totals ")) for it in seen[:at])
+    others = sum(not it.startswith(("refused ", "more lost=", "start ", "listening ", "totals ")) for it in seen[:at])
     want(others == 0 and len(lost) == 1 and refused + lost[0] >= 1_300, f"{refused} lines, {lost} lost, {others} others")
     return f"{refused} lines, {lost[0]} lost"
 
@@ -526,13 +526,14 @@ def a_log_whose_disk_was_full_goes_on(play):
             break
         time.sleep(0.05)
     refused = rf'{DATE}connection status=401 from="127\.0\.0\.1:\d+"\n'
-    want(re.fullmatch(rf"{DATE}start [^\n]+\n(?:{refused}){{6}}", text), f"log {text!r}")
+    want(re.fullmatch(rf"{DATE}start [^\n]+\n{DATE}listening [^\n]+\n(?:{refused}){{6}}", text), f"log {text!r}")
     return "each line is whole"
 
 
 # What a terminal shows while a transfer runs.
 
-LINE = rb"\r\d+ bytes(?: \(\d+ %\))?, \d+ bytes/s, \d+ units(?: \(last failure: [a-z]+ T\d\d\))?\x1b\[K\r"
+BEHIND = rb"(?:, \d+:[0-5]\d:[0-5]\d left)?(?: \(waits at the limit of \d+ (?:bytes|units)\))?(?: \(last failure: [a-z]+ T\d\d\))?"
+LINE = rb"\r\d+ bytes(?: \(\d+ %%\))?, \d+ bytes/s, \d+ units%b\x1b\[K\r" % BEHIND
 CLEARED = rb"\r\x1b\[K"
 
 
@@ -588,6 +589,69 @@ def a_terminal_shows_how_far_a_receiver_is_and_a_pipe_shows_nothing(play):
     want(re.search(rb"\r[123]000 bytes, \d+ bytes/s, 7 units", text), f"terminal {text!r}")
     want(ended(sender, 10) == "0", "send printed something, or failed")
     return f"{count} lines"
+
+
+def slow(play, receiver, seconds):
+    """A peer that passes requests on to a receiver, one at a time, and each answer back after so many seconds."""
+    turn = threading.Lock()
+
+    def handle(_, stream):
+        head, body = message(stream)
+        with turn:
+            time.sleep(seconds)
+            stream.sendall(b"".join(asked((HOST, receiver.port), head + body)))
+
+    return play.peer(handle)
+
+
+@test(waits=True)
+def a_terminal_shows_the_time_left_of_a_file(play):
+    size = 1_000_000
+    receiver = play.receive()
+    file, terminal = play.terminal()
+    sender = play.send(slow(play, receiver, 0.2).port, some_bytes(size), stderr=terminal)
+    terminal.close()
+    _, text = shows(play, file, sender, time.monotonic())
+    found = re.findall(rb"\r(\d+) bytes \((\d+) %\), (\d+) bytes/s, 0 units, (\d+):(\d\d):(\d\d) left\x1b", text)
+    want(len(found) > 20, f"terminal {text!r}")
+    for bytes_, percent, rate, *time_left in (map(int, it) for it in found):
+        seconds = (time_left[0] * 60 + time_left[1]) * 60 + time_left[2]
+        want(percent == bytes_ * 100 // size, f"{percent} % of {bytes_}")
+        want((size - bytes_) // (rate + 1) <= seconds <= (size - bytes_) // rate, f"{seconds} s for the rest of {bytes_} at {rate}")
+    return f"{len(found)} lines, at first {found[0]}"
+
+
+@test(("send",), ("receive",), waits=True)
+def a_terminal_shows_the_pace_of_the_last_seconds_of(play, command):
+    # All comes at once, and then nothing for a quarter of a minute.
+    given, writer = play.pipe()
+    file, terminal = play.terminal()
+    ways = {command: {"stderr": terminal}}
+    receiver = play.receive(**ways.get("receive", {}))
+    play.send(receiver.port, given, **ways.get("send", {}))
+    terminal.close()
+    writer.write(some_bytes(60_000))
+    text = written(file, 16)
+    rates = [int(it) for it in re.findall(rb"\r60000 bytes, (\d+) bytes/s, 0 units\x1b", text)]
+    want(rates and max(rates) > 10_000, f"terminal {text!r}")
+    want(rates[-1] == 0, f"{rates[-1]} bytes/s in the end")
+    return f"{max(rates)} bytes/s, and then 0"
+
+
+@test(waits=True)
+def a_terminal_shows_that_a_sender_waits_at_a_limit(play):
+    given, writer = play.pipe()
+    file, terminal = play.terminal()
+    receiver = play.receive(most=5)
+    sender = play.send(receiver.port, given, "--money=12", stderr=terminal)
+    terminal.close()
+    for _ in range(5):  # (bytes are sent on meanwhile)
+        writer.write(bytes(1_000))
+        time.sleep(0.4)
+    text = written(file, 1)
+    want(re.search(rb"\r5000 bytes, \d+ bytes/s, 5 units \(waits at the limit of 5 units\)(?: \(last failure: reject F99\))?\x1b", text), f"terminal {text!r}")
+    want("waits at=stream-money stream=1 receive_max=5 total=5" in lines(sender), "the log has no such line")
+    return "5 of 12 units"
 
 
 @test(waits=True)

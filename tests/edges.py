@@ -160,12 +160,12 @@ def feed(writer, content, seconds):
         pass
 
 
-def cut_off(play, content):
+def cut_off(play, content, *words):
     """A transfer in whose middle the connector is stopped: the sender, the receiver, and the connector's port."""
     receiver = play.receive()
     hub = play.before(receiver)
     given, writer = play.pipe()
-    sender = play.send(hub.port, given, "--money=500")
+    sender = play.send(hub.port, given, "--money=500", *words)
     threading.Thread(target=feed, args=(writer, content, 2), daemon=True).start()
     until = time.monotonic() + 30
     while os.path.getsize(receiver.path) < len(content) // 4 and time.monotonic() < until:
@@ -196,6 +196,68 @@ def a_connector_gone_for_good(play):
     taken = time.monotonic() - begun
     want(told == "58" and 5 < taken < 40, f"send {told} after {taken:.2f} s")
     return f"58 after {taken:.1f} s"
+
+
+# A sender that tries on for longer, or waits for the next try.
+
+
+@test(("--patience=60", "0"), ("--patience=10", "58"), ("--workers=4", "58"), waits=True)
+def a_connector_gone_for_20_seconds_beside_a_sender_with(play, word, wanted):
+    content = some_bytes(4_000_000)
+    sender, receiver, port = cut_off(play, content, word)
+    time.sleep(20)
+    play.connector(table_to(receiver.port), port=port)
+    if wanted == "0":
+        return f"{transfer(sender, receiver, content, 30)} from when it was back"
+    told = ended(sender, 1)
+    want(told == wanted, f"send {told}")
+    return wanted
+
+
+@test((None, 1, 10), (10, 16, 10), (20, 1, 20), (25, 16, 25), waits=True)
+def how_long_a_sender_reaches_nobody(play, patience, workers, seconds):
+    words = [] if patience is None else [f"--patience={patience}"]
+    begun = time.monotonic()
+    told = ended(play.send(free_port(), b"some bytes", f"--workers={workers}", *words), seconds + 10)
+    taken = time.monotonic() - begun
+    # (the tries of all workers together are apart, but for the first, that are under way at once)
+    least = seconds * (200 - workers) / 200 - 0.1
+    want(told == "58" and least < taken < seconds + 3, f"send {told} after {taken:.2f} s, where {least:.2f} is the least")
+    return f"58 after {taken:.2f} s"
+
+
+@test((100, 0.5), (400, 2), waits=True)
+def tries_are_apart_by_their_share_of(play, patience, share):
+    begun = []
+
+    def handle(_, stream):
+        begun.append(time.monotonic())
+        message(stream)
+
+    sender = play.send(play.peer(handle).port, some_bytes(200_000), f"--patience={patience}", "--workers=4")
+    time.sleep(5 * share + 0.5)
+    stands(sender, "send")
+    sender.kill()
+    # (some are under way when the first fails)
+    tries = begun[:1] + [it for it in begun if it > begun[0] + 0.2]
+    apart = [later - earlier for earlier, later in zip(tries, tries[1:])]
+    want(4 <= len(apart) <= 6 and all(share - 0.1 < it < share + 0.4 for it in apart), f"apart by {apart}")
+    return f"{min(apart):.3f} to {max(apart):.3f} s"
+
+
+@test(waits=True)
+def a_long_pause_ends_with_its_sender(play):
+    # The input breaks off while all workers wait for the next try, which is in seven minutes: a terminal goes away.
+    above, below = play.terminal()
+    sender = play.send(free_port(), above, "--patience=86400", "--money=5")
+    above.close()
+    time.sleep(2)
+    stands(sender, "send")
+    below.close()
+    begun = time.monotonic()
+    told = ended(sender, 20)
+    want(told == "90", f"send {told} after {time.monotonic() - begun:.1f} s")
+    return f"90 after {time.monotonic() - begun:.2f} s"
 
 
 # Limits that nothing raises any more.

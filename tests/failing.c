@@ -5,7 +5,8 @@
  *   kill   the process ends by SIGKILL; of a write, half was made
  *   error  EIO; of a write, half was made; all other calls are made
  *   full   each write and change of length from there on is refused with ENOSPC; syncs are made
- *   read   EIO; reads are counted, and no other calls */
+ *   read   EIO; reads are counted, and no other calls
+ *   sync   EIO; syncs are counted, and no other calls; all other calls are made */
 #define _GNU_SOURCE
 #include <dlfcn.h>
 #include <errno.h>
@@ -31,7 +32,7 @@ static enum way next_way(int fd, enum call call) {
     ssize_t length = readlink(link, name, sizeof name - 1);
     if (!path || !at || !with || length < 0 || strncmp(name, path, strlen(path)) != 0)
         return MADE;
-    if ((call == READ) != (strcmp(with, "read") == 0))
+    if ((call == READ) != (strcmp(with, "read") == 0) || (call != SYNC && strcmp(with, "sync") == 0))
         return MADE;
     long number = atomic_fetch_add(&calls, 1) + 1, first = atol(at);
     if (strcmp(with, "full") == 0)

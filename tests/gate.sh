@@ -48,8 +48,11 @@ program() {
         step 30 tests/program.sh
         step 15 tests/edges.py
         step 5 tests/opens.py
+        step 5 tests/control.py
         step 10 tests/causes.py
         step 10 tests/ledger.py --kills=12
+        step 10 tests/examples.py
+        step 10 tests/scaling.py
     else
         printf '%s\n' "the program was not built, so it was not run" '0 passed, 1 failed'
     fi

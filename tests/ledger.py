@@ -181,9 +181,12 @@ class Way:
         try:
             with stream:
                 stream.sendall(request(f"{self.payer}-at-hub", packet))
-                _, body = message(stream)
+                head, body = message(stream)
         except OSError:
             return
+        # A connection without an answer is closed before its first byte, and has no other status.
+        if head and not head.startswith(b"HTTP/1.1 200 "):
+            self.strange.append(head)
         if body == fulfill(preimage):
             self.taken.add(number)
         elif body[:1] == b"\x0e":
@@ -297,21 +300,21 @@ class Hub(Connector):
         self.stop(it, listened)
         return listened
 
-    def account(self, listened, refused_too=False):
+    def account(self, listened):
         """A life has ended. Compares what the books have more than before with what each neighbour gave and took in it."""
         before, after = self.books, books_in(self.path, self.play.room)
         more = after.starts - before.starts
         want(more == 1 or (more == 0 and not listened), f"starts {before.starts}, then {after.starts}; it listened: {listened}")
         for way in self.ways:
-            self.compare(way, before, after, refused_too)
+            self.compare(way, before, after)
         self.books = after
 
-    def compare(self, way, before, after, refused_too):
-        """In this life the books have each Fulfill that was passed on, once, and of those that were given and not passed on, with
-        claim and due, any or none."""
+    def compare(self, way, before, after):
+        """In this life the books have each Fulfill that was passed on, once, none for which a Reject went back, and of those that were
+        given and not answered, with claim and due, any or none."""
         claims = after.claims(way.payer) - before.claims(way.payer) - sum(way.amounts[it] for it in way.taken)
         dues = after.dues(way.payee) - before.dues(way.payee) - sum(map(way.due, way.taken))
-        unanswered = way.sent - way.taken - (set() if refused_too else set(way.refused))
+        unanswered = way.sent - way.taken - set(way.refused)
         pending = sorted(unanswered & way.given)
         kept = sum_of(pending, claims, dues, way)
         told = f"{way.payer} to {way.payee}: claims {claims} and dues {dues} beside {len(way.taken)} that were passed on"
@@ -323,7 +326,8 @@ class Hub(Connector):
         way.paid += sum(way.amounts[it] for it in way.taken)
         way.unanswered += sum(way.amounts[it] for it in unanswered)
         way.fulfilled += sum(way.due(it) for it in way.sent & way.given)
-        way.pending += sum(map(way.due, pending))
+        # (what came back once the books refused is answered with T01 and never owed, though its payee gave it)
+        way.pending += sum(way.due(it) for it in way.sent & way.given - way.taken)
         way.begin()
 
     def laws(self):
@@ -573,8 +577,7 @@ def life_with(hub, library, way, call):
     hub.gate.empty()
     # Where the first page of a new file was half written there are no books yet: the next connector makes them.
     if listened or hub.books.starts or not is_no_database(hub.path, hub.play.room):
-        # What was refused for the failure may be in the books all the same.
-        hub.account(any(way.taken for way in hub.ways), refused_too=True)
+        hub.account(any(way.taken for way in hub.ways))
     hub.stop(hub.serve())
     return "serves" if serves else "killed" if told == "WRONG -9 b''" else told, listened
 
@@ -593,6 +596,30 @@ def a_call_on_the_books_meets(play, way, wanted):
             want(is_so, f"connector {told} where call {call} on {life} books meets {way}; it listened: {listened}")
     want(found[wanted] > found["serves"], f"most calls are not made: {dict(found)}")
     return f"seed {SEED}: {dict(found)}"
+
+
+@test()
+def a_sync_of_the_books_fails(play):
+    hub, library, seen = Hub(play, f"{play.room}/books"), shared_object(play, "failing"), collections.Counter()
+    hub.some_sums()
+    runs = max(4 * KILLS, 10)
+    for _ in range(runs):
+        call = hub.rng.randrange(24, 64)  # (a start has some 17)
+        it = hub.start(env=with_failing(hub, library, "sync", call))
+        want(until_it_listens(it), f"seed {SEED}: a connector does not listen where sync {call} fails")
+        hub.gate.open()
+        told = ended(it, 20)
+        hub.gate.shut()
+        hub.gate.empty()
+        want(told == "112", f"seed {SEED}: connector {told} where sync {call} fails")
+        lost = {way.payer: way.given - way.taken - set(way.refused) for way in hub.ways}
+        seen["without an answer"] += sum(map(len, lost.values()))
+        # None of those that were answered with a Reject is in the books, of those without an answer any are.
+        hub.account(True)
+    want(seen["without an answer"] >= runs // 2, f"seed {SEED}: {dict(seen)} in {runs} runs")
+    hub.served()
+    hub.laws()
+    return f"seed {SEED}: 112 for each of {runs}; {dict(seen)}; {hub.tally['kept']} of {hub.tally['open']} in the books; none with a Reject"
 
 
 @test()
@@ -627,8 +654,7 @@ def a_disk_of_2_mb_that_fills(play):
     told = "listens" if until_it_listens(again) else ended(again, 20)
     want(told in ("113", "listens"), f"connector {told} on a disk that was full")
     hub.path = larger
-    # A booking that met the full disk was answered with T01, and may be in the books all the same.
-    hub.account(True, refused_too=True)
+    hub.account(True)
     passed = hub.tally["passed"]
     hub.port = free_port()
     hub.served()
@@ -853,6 +879,45 @@ def a_torn_commit_is_no_damage(play):
     return f"seed {SEED}: {dict(found)}"
 
 
+@test()
+def new_books_are_in_the_log(play):
+    hub, found = Hub(play, f"{play.room}/books"), []
+    for _ in range(3):
+        it = hub.serve()
+        time.sleep(0.2)
+        hub.stop(it)
+        with open(it.log, encoding="utf-8") as file:
+            found += [line.split(" ", 1)[1] for line in file if " books " in line]
+    want(found == ["books new\n"], f"the log of three lives has {found}")
+    return "once in three lives"
+
+
+@test()
+def copies_while_a_connector_runs(play):
+    hub, rng, copy = Hub(play, f"{play.room}/books"), random.Random(SEED), f"{play.room}/taken"
+    hub.some_sums()
+    it, before, moments = hub.serve(), hub.books, []
+    for at in range(50):
+        time.sleep(rng.uniform(0, 0.1))
+        there = [way.paid + sum(way.amounts[one] for one in list(way.taken)) for way in hub.ways]
+        told = subprocess.run([f"{TOP}/examples/books/copy", hub.path, copy], env={**os.environ, "PROGRAM": PROGRAM}, capture_output=True, timeout=60, check=False)
+        sent = [way.paid + way.unanswered + sum(way.amounts[one] for one in list(way.sent)) for way in hub.ways]
+        want(told.returncode == 0 and files_of(copy) == [copy], f"seed {SEED}: copy {at} ended with {told.returncode} {told.stderr!r}")
+        told, books = books_of(copy)
+        want(told == "0", f"seed {SEED}: copy {at} is refused with {told}")
+        for way, least, most in zip(hub.ways, there, sent):
+            claims = books.claims(way.payer)
+            want(least <= claims <= most, f"seed {SEED}: copy {at} has claims from {way.payer} of {claims}, not from {least} to {most}")
+            want(claims >= before.claims(way.payer), f"seed {SEED}: copy {at} is older than the one before")
+        # On this way a claim is as large as its due, and one commit has both.
+        want(books.claims("bob") == books.dues("alice"), f"seed {SEED}: copy {at} is of no moment: {books}")
+        before = books
+        moments.append(books.claims("bob"))
+    hub.stop(it)
+    want(len(set(moments)) > 10, f"seed {SEED}: the copies are of {len(set(moments))} moments")
+    return f"seed {SEED}: 50 copies, of {len(set(moments))} moments"
+
+
 def alone(path, to):
     """A copy of the database file, without its log."""
     for old in files_of(to):
@@ -897,13 +962,52 @@ def no_new_books_beside_a_log(play):
             if content is not None:
                 with open(copy, "wb") as file:
                     file.write(content)
-            wanted = ("110",) if what in ("missing", "empty") else ("110", "114")
+            wanted = ("110", "114") if what == "of zeros" else ("110",)
             refuses(hub, copy, f"{kind}, and the file is {what}", starts=True, wanted=wanted)
     # The first page of a database that has no tables, which earlier connectors left beside a log with all that there was.
     hub.path, hub.books = f"{play.room}/first", Books(0, {})
     with_sqlite(hub.path, "PRAGMA journal_mode = WAL", "PRAGMA user_version = 0", "VACUUM")
     stays_as_it_is(hub, "a database with no tables, and no log")
     return f"110 for each of {2 * len(ways)}, and for a database with no tables"
+
+
+def away(path, again=False):
+    """Moves a file to another name, or back."""
+    here, there = (f"{path}.away", path) if again else (path, f"{path}.away")
+    os.rename(here, there)
+
+
+@test(*itertools.product(("", "-wal"), ("moved", "removed", "replaced", "cut", "cut in half")))
+def a_file_of_a_connector_that_runs_is(play, file, what):
+    hub = Hub(play, f"{play.room}/books")
+    hub.some_sums()
+    it, path = hub.serve(), f"{hub.path}{file}"
+    time.sleep(0.3)
+    if what == "cut":
+        # (without a booking under way: a cut within one may come before the connector looks again)
+        hub.gate.shut()
+        hub.gate.empty()
+        os.truncate(path, os.path.getsize(path) - 1)
+        hub.gate.open()
+    elif what == "cut in half":
+        os.truncate(path, os.path.getsize(path) // 2)
+    elif what == "removed":
+        os.remove(path)
+    else:
+        away(path)
+    if what == "replaced":
+        shutil.copyfile(f"{path}.away", path)
+    told = ended(it, 20)
+    hub.gate.shut()
+    hub.gate.empty()
+    want(told == "112", f"connector {told} once {path} is {what}")
+    if what in ("moved", "replaced"):
+        away(path, again=True)
+        # Each Fulfill that was passed on is in the files that were moved.
+        hub.account(True)
+        hub.served()
+        hub.laws()
+    return "112, and each Fulfill that was passed on is booked"
 
 
 def other_files(rng):

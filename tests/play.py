@@ -12,6 +12,7 @@ PROGRAM = os.path.realpath(WORDS[0] if WORDS else f"{TOP}/crates/ilpstream/out/i
 STAY = 2_147_483_647  # requests of a connector that does not end by itself
 AT_ONCE = 16  # tests that wait, side by side
 TESTS, WAITING = [], []
+RESULTS = []  # of the tests that ran: True, False, or None of one that was skipped
 
 
 class Wrong(Exception):
@@ -233,7 +234,7 @@ def tried(name, function, row):
 def main():
     word = WORDS[1] if len(WORDS) > 1 else ""
     waiting, others = ([it for it in tests if word in it[0]] for tests in (WAITING, TESTS))
-    results = []
+    results = RESULTS
     with ThreadPoolExecutor(max_workers=AT_ONCE) as pool:
         begun = [pool.submit(tried, *it) for it in waiting]
         for passed, told in chain((tried(*it) for it in others), (it.result() for it in begun)):

@@ -1,7 +1,7 @@
 #!/usr/bin/env bash
 # Runs ./ilpstream as whoever uses it does, and compares its output, its errors and its status. What it writes to standard
 # error, and what it does where a stream is closed or a terminal, `rt ci` does not see. The last line counts the runs.
-# The packets' answers follow from the tables of README.md, the texts of the errors from its words.
+# The packets' answers follow from the tables of docs/ERRORS.md, the texts of the errors from docs/errors.toml.
 set -u
 top=$(dirname "$(readlink -f "${BASH_SOURCE[0]}")")/..
 room=$(mktemp -d)
@@ -186,13 +186,14 @@ names() {
 }
 names local '--hops <N>' '--streams <N>' '--lose <N>'
 names send '--to <HOST:PORT>' '--token <TOKEN>' '--secret <HEX>' '--address <ADDRESS>' '--peer <ADDRESS>' '--money <N>' \
-    '--workers <N>' '--random <FILE>' '--least <NUM:DEN>' '--totals <FILE>' '--log <FILE>' ' --token-file <FILE> ' ' --secret-file <FILE> ' \
+    '--workers <N>' '--patience <SECONDS>' '--random <FILE>' '--least <NUM:DEN>' '--totals <FILE>' '--log <FILE>' ' --token-file <FILE> ' ' --secret-file <FILE> ' \
     'Usage: ilpstream send [OPTIONS] --to <HOST:PORT> <--token <TOKEN>|--token-file <FILE>>'
 names receive '--listen <HOST:PORT>' '--token <TOKEN>' '--secret <HEX>' '--address <ADDRESS>' '--peer <ADDRESS>' \
     '--receive-max <N>' '--patience <SECONDS>' '--totals <FILE>' '--log <FILE>' ' --token-file <FILE> ' ' --secret-file <FILE> ' \
-    'Usage: ilpstream receive [OPTIONS] --listen <HOST:PORT> <--token <TOKEN>|--token-file <FILE>>'
-names connector '--listen <HOST:PORT>' '--own <ADDRESS>' '--requests <N>' '--workers <N>' '--totals <FILE>' '--log <FILE>' \
-    '--ledger <FILE>' \
+    '--verbose' '--control <FIFO>' 'Usage: ilpstream receive [OPTIONS] --listen <HOST:PORT> <--token <TOKEN>|--token-file <FILE>>'
+names connector '--listen <HOST:PORT>' '--own <ADDRESS>' '--requests <N>' '--endless' '--workers <N>' '--totals <FILE>' '--log <FILE>' \
+    '--ledger <FILE>' '--verbose' '--control <FIFO>' '--table <FILE>' \
+    'Usage: ilpstream connector [OPTIONS] --listen <HOST:PORT> --own <ADDRESS> <--requests <N>|--endless>' \
     '[NAME=TEXT]'
 names ledger 'Usage: ilpstream ledger <FILE> [settle <NAME> <AMOUNT>]' '<FILE>' AMOUNT
 names explain 'Usage: ilpstream explain <N>' 'Number of a fault or a refusal, 0 to 255'
@@ -336,6 +337,7 @@ done <<ROWS
 6 --least=1:1:1
 6 --least=
 6 --money=+5
+6 --patience=+20
 ROWS
 with 1 --listen=:7771 "${receive[@]}" && bad_option
 with 2 '--token=a b' "${receive[@]}" && bad_option
@@ -432,8 +434,8 @@ refused_words() {
     has "${words[*]}" "$err" "error: "
     same "${words[*]}" $'\n2\n'"$table" "$out"$'\n'"$status"$'\n'"$left"
 }
-for word in --money=9223372036854775808 --money=-1 --money=1.5 --money= --money=five --workers=0 --workers=17 --to=h:1 \
-    --tokens=t; do
+for word in --money=9223372036854775808 --money=-1 --money=1.5 --money= --money=five --workers=0 --workers=17 --patience=9 --patience=86401 \
+    --to=h:1 --tokens=t; do
     with 6 "$word" "${send[@]}" && refused_words
 done
 with 1 --money=1 "${send[@]}" && refused_words
@@ -648,7 +650,7 @@ receiver: accepted 0
 receiver: delivered 70000
 receiver: credited 500
 receiver: paid 0
-70000 bytes and 500 units came whole
+70000 bytes and 500 units arrived intact
 --
 
 --

@@ -5,7 +5,7 @@
 - A line of another document has at most 100 columns. Exempt are rows of tables, which cannot be broken, and blocks of code,
   which show what a program prints or what is pasted.
 - A sentence has at most 40 words. A code span is one word; a cell of a table and an item of a list are texts of their own.
-- No private idiom: IDIOMS has them, with the field's words. Code spans, blocks of code and links' targets are not looked at,
+- No private idiom: IDIOMS and PLAIN have them, with the field's words. Code spans, blocks of code and links' targets are not looked at,
   so that printed formats and names of the code stay.
 
 `tests/prose.py FILE ..` looks at these documents alone. Each finding is a line; the last one counts the documents without
@@ -39,7 +39,32 @@ IDIOMS = [
     (r"(refused|bad|its|these|those|no) words|words (behind|of the command|ask|say|are|were|given)", "arguments"),
     (r"No memory\.", "Does not allocate."),
 ]
-IDIOM = [(re.compile(rf"(?<![\w-])(?:{pattern})(?![\w-])" if not pattern.endswith(".") else pattern, re.I), better) for pattern, better in IDIOMS]
+# Words that are plain, and not what the field says. Rows of ERRORS have those of docs/errors.toml, which the program prints too.
+PLAIN = [
+    (r"got(?! /)", "received"),
+    (r"came whole", "arrived intact"),
+    (r"(?-i:Where)(?! each rule| it is defined| to look| some Sends)[^.:?!|]*,", "If"),
+    (r"(that|what|which|it|they|or) (is|are|was|were) none", "is not a valid .."),
+    (r"(that|what|which|where it) (is|are|was|were) no (address(es)?|backup|copy|digit|effect|error|frame|limit|packet|refusals?|regular|terminal|text|token)", "is not a .."),
+    (r"stands?|stood|standing", "is, is written, follows"),
+    (r"(?<!leaves the new file )behind(?! (an? )?(nginx|one name|handles|a lock|a reference|code as)|, which may| it, requests)", "after"),
+    (r"beside", "with, next to, in addition to"),
+    (r"(is|are|was|were|be|been|not) looked at", "is checked"),
+    (r"(puts?|putting) out", "returns"),
+    (r"handle is of", "the handle's object"),
+    (r"(run|runs|tried|read|booked|looked|more|measuring) by hand|by hand:", "manually"),
+    (r"its like|the like", "similar"),
+    (r"reckon(s|ed|ing)?", "computes"),
+    (r"in a minute|calls get on|cut off:", "who it is for, make progress, interrupted"),
+    (r"those used below", "an argument by name"),
+]
+
+
+def compiled(pairs):
+    return [(re.compile(rf"(?<![\w-])(?:{pattern})(?![\w-])" if not pattern.endswith(".") else pattern, re.I), better) for pattern, better in pairs]
+
+
+IDIOM, WORD = compiled(IDIOMS), compiled(PLAIN)
 FENCE = re.compile(r"^\s*```")
 ITEM = re.compile(r"^\s*(?:[-*]|\d+\.) +")
 CODE = re.compile(r"(`+)(?!`).*?(?<!`)\1(?!`)")
@@ -109,7 +134,7 @@ def look(path):
                 count = len(re.findall(r"[^\W_][\w'.,^/-]*", sentence))
                 if count > WORDS:
                     yield number, f"a sentence of {count} words; at most {WORDS}: {sentence[:60]} .."
-            for idiom, better in IDIOM:
+            for idiom, better in [*IDIOM, *([] if kind == "row" and path == "docs/ERRORS.md" else WORD)]:
                 for hit in idiom.finditer(text):
                     yield number, f"'{hit.group(0)}': {better}"
 

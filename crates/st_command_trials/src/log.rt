@@ -74,17 +74,45 @@ fn a_limit_has_its_stream(rt: HostRuntime) {
     sure!(&rt; is_line(rt.alloc(), MOMENT, &event, text));
 }
 
-/// A line of 1,500 bytes of 4,000 in three seconds, after a Reject whose code has an escape character.
+/// A line of 1,500 bytes of 4,000, of which 300 came in the last 600 milliseconds, after a Reject whose code has an escape character.
 #[test]
 fn a_line_says_how_far_a_transfer_is(rt: HostRuntime) {
     let progress = Progress {
         bytes: 1_500,
         length: Some(4_000),
-        millis: 3_000,
+        gained: 300,
+        millis: 600,
         units: 7,
+        waits: None,
         last: Some(Brief::Reject(*b"T0\x1b")),
     };
-    let text = "\r1500 bytes (37 %), 500 bytes/s, 7 units (last failure: reject T0\\x1b)\x1b[K\r";
+    let text =
+        "\r1500 bytes (37 %), 500 bytes/s, 7 units, 0:00:05 left (last failure: reject T0\\x1b)\x1b[K\r";
+    let is_so = match shown(rt.alloc(), &progress) {
+        Ok(line) => line.as_str() == text,
+        Err(_) => false,
+    };
+    sure!(&rt; is_so);
+}
+
+/// A line of a sender that paid all 500 units that its peer takes, and sends ten bytes a second of 37,260.
+#[test]
+fn a_line_has_the_limit_and_the_time_left(rt: HostRuntime) {
+    let progress = Progress {
+        bytes: 10,
+        length: Some(37_260),
+        gained: 10,
+        millis: 1_000,
+        units: 500,
+        waits: Some(Blocked::StreamMoney {
+            stream: 1,
+            receive_max: 500,
+            total: 500,
+        }),
+        last: None,
+    };
+    let text =
+        "\r10 bytes (0 %), 10 bytes/s, 500 units, 1:02:05 left (waits at the limit of 500 units)\x1b[K\r";
     let is_so = match shown(rt.alloc(), &progress) {
         Ok(line) => line.as_str() == text,
         Err(_) => false,

@@ -401,8 +401,8 @@ rows =
           codes "to `--peer`, or the receiver has another secret or another address. Else after 200 exchanges in" ∷
           codes "a row without success: nobody listens at `--to`, a wrong token, no way on from a connector, a" ∷
           codes "LIMIT that is used up, too little that arrives for `--least`, or clocks that differ. While no" ∷
-          codes "answer arrives, or a Reject with a code of letter T, one exchange begins each 50 ms, so that 200" ∷
-          codes "of them take some ten seconds or more." ∷
+          codes "answer arrives, or a Reject with a code of letter T, the 200 are spread over the seconds of" ∷
+          codes "`--patience`, ten if it is left out." ∷
           [];
       advice = codes "What to do: Look at `--to` and the tokens, then at the table's routes, then at LIMIT, rates and" ∷
           codes "clocks. Then begin again with a new secret." ∷
@@ -967,7 +967,8 @@ rows =
           codes "HOST:PORT are such as a request may have, and `ledger --help` says what a payment is. Or the" ∷
           codes "file of `--totals` or `--log` cannot be opened; in `connector`, no file can be made beside that" ∷
           codes "of `--totals`. Or that of `--token-file` or `--secret-file` cannot be read, or its first line is" ∷
-          codes "no token or no secret." ∷
+          codes "no token or no secret. Or that of `--control` is no pipe, or cannot be opened; or that of" ∷
+          codes "`--table` cannot be read." ∷
           [];
       advice = codes "What to do: Correct the option or the file. Nothing else was opened, and nothing was sent." ∷ [];
     } ∷
@@ -1060,9 +1061,10 @@ rows =
           codes "ledger" ∷
           [];
       cause = codes "The disk failed. The books in memory are as before the call; open the file again to see what it" ∷
-          codes "has." ∷
+          codes "has. Or, in `connector --ledger`, the file or its log does not stand at its name as the last" ∷
+          codes "booking left it." ∷
           [];
-      advice = codes "What to do: Look at the disk, then start again." ∷ [];
+      advice = codes "What to do: Look at the disk, put the files back where they were moved, then start again." ∷ [];
     } ∷
     record {
       number = 113;

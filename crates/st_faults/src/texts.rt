@@ -253,8 +253,8 @@ const FAULT_58: &str = "58  st_local LocalFault::Failed, in local
     to `--peer`, or the receiver has another secret or another address. Else after 200 exchanges in
     a row without success: nobody listens at `--to`, a wrong token, no way on from a connector, a
     LIMIT that is used up, too little that arrives for `--least`, or clocks that differ. While no
-    answer arrives, or a Reject with a code of letter T, one exchange begins each 50 ms, so that 200
-    of them take some ten seconds or more.
+    answer arrives, or a Reject with a code of letter T, the 200 are spread over the seconds of
+    `--patience`, ten if it is left out.
     What to do: Look at `--to` and the tokens, then at the table's routes, then at LIMIT, rates and
     clocks. Then begin again with a new secret.
 Numbers of the library:
@@ -580,7 +580,8 @@ const FAULT_98: &str =
     HOST:PORT are such as a request may have, and `ledger --help` says what a payment is. Or the
     file of `--totals` or `--log` cannot be opened; in `connector`, no file can be made beside that
     of `--totals`. Or that of `--token-file` or `--secret-file` cannot be read, or its first line is
-    no token or no secret.
+    no token or no secret. Or that of `--control` is no pipe, or cannot be opened; or that of
+    `--table` cannot be read.
     What to do: Correct the option or the file. Nothing else was opened, and nothing was sent.
 ";
 
@@ -622,8 +623,9 @@ const FAULT_111: &str = "111  st_books BooksError::Taken, in connector, ledger
 
 const FAULT_112: &str = "112  st_books BooksError::Device, in connector, ledger
     The disk failed. The books in memory are as before the call; open the file again to see what it
-    has.
-    What to do: Look at the disk, then start again.
+    has. Or, in `connector --ledger`, the file or its log does not stand at its name as the last
+    booking left it.
+    What to do: Look at the disk, put the files back where they were moved, then start again.
 ";
 
 const FAULT_113: &str = "113  st_books BooksError::Full, in connector, ledger

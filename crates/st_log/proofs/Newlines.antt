@@ -7,7 +7,7 @@ use Rattle.std.proofs.lemmas.List.Folds.{list_all-append}
 use Rattle.st_ilp.specs.Calendar.{DateAndTime, date_and_time}
 use Rattle.st_ilp.specs.Expiry.{digit}
 use Rattle.st_log.specs.Quoting.{is_plain, hex_digit, hex_escape, escaped, all_escaped, quoted, most_quoted, fitting, dots, quoted_short}
-use Rattle.st_log.specs.Lines.{◌⧺◌, written_date, date_text, word_of, unreached_word, plain_cause_text, reject_front, reject_back, exchange_text, start_text, waits_text, connection_text, account_front, account_back, is_of_neighbour, neighbours_more_text, nobodys_more_text, more_text, event_text, line_text}
+use Rattle.st_log.specs.Lines.{◌⧺◌, written_date, date_text, word_of, unreached_word, plain_cause_text, reject_front, reject_back, exchange_text, start_text, waits_text, connection_text, control_text, account_front, account_back, is_of_neighbour, neighbours_more_text, nobodys_more_text, more_text, event_text, line_text}
 use Rattle.st_log.specs.Laws.{has_no_newline, EndsByItsOneNewline, LineHasOneNewline}
 use Rattle.st_log.specs.declared.event.Event.{Event}
 use Rattle.st_log.specs.declared.event.Event.TheVariants as event
@@ -22,6 +22,8 @@ use Rattle.st_log.specs.declared.event.Lost.{Lost}
 use Rattle.st_log.specs.declared.event.Lost.TheVariants as lost
 use Rattle.st_log.specs.declared.event.Blocked.{Blocked}
 use Rattle.st_log.specs.declared.event.Blocked.TheVariants as blocked
+use Rattle.st_log.specs.declared.event.Heard.{Heard}
+use Rattle.st_log.specs.declared.event.Heard.TheVariants as heard
 use Rattle.st_log.specs.declared.event.Kind.{Kind}
 use Rattle.st_log.specs.declared.event.Kind.TheVariants as kind
 
@@ -175,6 +177,8 @@ word_clean kind.More = refl
 word_clean kind.End = refl
 word_clean kind.Waits = refl
 word_clean kind.Clock = refl
+word_clean kind.Listening = refl
+word_clean kind.Control = refl
 
 -- a literal, a word, and then a literal and a number
 word_number : (text word next : List ℕ) (n : ℕ) → has_no_newline text ≡ true → has_no_newline word ≡ true → has_no_newline next ≡ true
@@ -220,9 +224,12 @@ start_ends (start.Send to address peer money workers) =
 start_ends (start.Receive listen address peer most) =
     said (codes "start command=receive listen=") listen.now _ refl (said (codes " address=") address.now _ refl (said (codes " peer=") peer.now _ refl
     (number (codes " receive_max=") most (10 ∷ []) refl ends)))
-start_ends (start.Connector listen own workers requests) =
+start_ends (start.Connector listen own workers (Some requests)) =
     said (codes "start command=connector listen=") listen.now _ refl (said (codes " own=") own.now _ refl
     (number (codes " workers=") workers _ refl (number (codes " requests=") requests (10 ∷ []) refl ends)))
+start_ends (start.Connector listen own workers None) =
+    said (codes "start command=connector listen=") listen.now _ refl (said (codes " own=") own.now _ refl
+    (number (codes " workers=") workers (codes " requests=endless\n") refl (more (codes " requests=endless") (10 ∷ []) (record { is = refl }) ends)))
 
 waits_ends : (b : Blocked) → EndsByItsOneNewline (waits_text b)
 waits_ends (blocked.ConnectionData limit) = number (codes "waits at=connection-data limit=") limit (10 ∷ []) refl ends
@@ -235,6 +242,15 @@ waits_ends (blocked.StreamMoney stream receive_max total) =
 connection_ends : (l : Lost) (from : List ℕ) → EndsByItsOneNewline (connection_text l from)
 connection_ends (lost.Status status) from = number (codes "connection status=") status _ refl (said (codes " from=") from (10 ∷ []) refl ends)
 connection_ends lost.Cut from = said (codes "connection cut from=") from (10 ∷ []) refl ends
+
+-- a text that may be cut stands in the line
+cut : (text bytes rest : List ℕ) → has_no_newline text ≡ true → EndsByItsOneNewline rest → EndsByItsOneNewline (text ⧺ quoted_short bytes ⧺ rest)
+cut text bytes rest h e = more text (quoted_short bytes ⧺ rest) (record { is = h }) (more (quoted_short bytes) rest (short_clean bytes) e)
+
+control_ends : (line : List ℕ) (h : Heard) → EndsByItsOneNewline (control_text line h)
+control_ends line heard.Done = cut (codes "control line=") line (10 ∷ []) refl ends
+control_ends line heard.Unknown = cut (codes "control unknown line=") line (10 ∷ []) refl ends
+control_ends line (heard.Failed words) = cut (codes "control failed line=") line _ refl (said (codes " words=") words.now (10 ∷ []) refl ends)
 
 either_ends : (t : Bool) (a b : List ℕ) → EndsByItsOneNewline a → EndsByItsOneNewline b → EndsByItsOneNewline (cond t a b)
 either_ends true a b x y = x
@@ -257,6 +273,7 @@ account n t =
 
 event_ends : (n : ℕ) (e : Event) → EndsByItsOneNewline (event_text n e)
 event_ends n (event.Start s) = start_ends s
+event_ends n (event.Listening address) = coded (codes "listening address=") address.now (10 ∷ []) refl ends
 event_ends n (event.Exchange c) = exchange_ends n c
 event_ends n (event.Refused code None) = number (codes "refused neighbour=") n _ refl (coded (codes " code=") code (10 ∷ []) refl ends)
 event_ends n (event.Refused code (Some reason)) =
@@ -265,6 +282,8 @@ event_ends n (event.Connection l from) = connection_ends l from.now
 event_ends n (event.Limit most) = number (codes "limit neighbour=") n _ refl (number (codes " most=") most (10 ∷ []) refl ends)
 event_ends n (event.Waits b) = waits_ends b
 event_ends n (event.Clock back) = number (codes "clock set_back_ms=") back (10 ∷ []) refl ends
+event_ends n (event.Control line h) = control_ends line.now h
+event_ends n event.NewBooks = more (codes "books new") (10 ∷ []) (record { is = refl }) ends
 event_ends n (event.Table line words) = number (codes "table line=") line _ refl (said (codes " words=") words.now (10 ∷ []) refl ends)
 event_ends n (event.Closed stream None) = number (codes "closed stream=") stream (10 ∷ []) refl ends
 event_ends n (event.Closed stream (Some code)) = number (codes "closed stream=") stream _ refl (number (codes " code=") code (10 ∷ []) refl ends)

@@ -15,6 +15,8 @@ use Rattle.st_log.specs.declared.event.Lost.{Lost}
 use Rattle.st_log.specs.declared.event.Lost.TheVariants as lost
 use Rattle.st_log.specs.declared.event.Blocked.{Blocked}
 use Rattle.st_log.specs.declared.event.Blocked.TheVariants as blocked
+use Rattle.st_log.specs.declared.event.Heard.{Heard}
+use Rattle.st_log.specs.declared.event.Heard.TheVariants as heard
 use Rattle.st_log.specs.declared.event.Kind.{Kind}
 use Rattle.st_log.specs.declared.event.Kind.TheVariants as kind
 use Rattle.st_log.specs.declared.event.EndCounts.{EndCounts}
@@ -46,12 +48,15 @@ date_text moment = written_date (date_and_time moment)
 
 abbrev pub kind_of : Event → Kind
 kind_of (event.Start s) = kind.Start
+kind_of (event.Listening address) = kind.Listening
 kind_of (event.Exchange c) = kind.Exchange
 kind_of (event.Refused code reason) = kind.Refused
 kind_of (event.Connection l from) = kind.Connection
 kind_of (event.Limit most) = kind.Limit
 kind_of (event.Waits b) = kind.Waits
 kind_of (event.Clock back) = kind.Clock
+kind_of (event.Control line h) = kind.Control
+kind_of event.NewBooks = kind.Start
 kind_of (event.Table line words) = kind.Table
 kind_of (event.Closed stream code) = kind.Closed
 kind_of (event.End t) = kind.Totals
@@ -75,6 +80,8 @@ place_of kind.More = 8
 place_of kind.End = 9
 place_of kind.Waits = 10
 place_of kind.Clock = 11
+place_of kind.Listening = 12
+place_of kind.Control = 13
 
 abbrev pub word_of : Kind → List ℕ
 word_of kind.Start = codes "start"
@@ -89,6 +96,8 @@ word_of kind.More = codes "more"
 word_of kind.End = codes "end"
 word_of kind.Waits = codes "waits"
 word_of kind.Clock = codes "clock"
+word_of kind.Listening = codes "listening"
+word_of kind.Control = codes "control"
 
 -- ---- what stands behind the date, by the event, with the newline; n is the neighbour's number
 
@@ -107,10 +116,21 @@ connector_text listen own workers requests =
     codes "start command=connector listen=" ⧺ quoted listen ⧺ codes " own=" ⧺ quoted own
     ⧺ codes " workers=" ⧺ decimal workers ⧺ codes " requests=" ⧺ decimal requests ⧺ 10 ∷ []
 
+-- of a connector that answers any number
+abbrev pub endless_text : (listen own : List ℕ) → (workers : ℕ) → List ℕ
+endless_text listen own workers =
+    codes "start command=connector listen=" ⧺ quoted listen ⧺ codes " own=" ⧺ quoted own
+    ⧺ codes " workers=" ⧺ decimal workers ⧺ codes " requests=endless\n"
+
 abbrev pub start_text : Start → List ℕ
 start_text (start.Send to address peer money workers) = send_text to.now address.now peer.now money workers
 start_text (start.Receive listen address peer most) = receive_text listen.now address.now peer.now most
-start_text (start.Connector listen own workers requests) = connector_text listen.now own.now workers requests
+start_text (start.Connector listen own workers (Some requests)) = connector_text listen.now own.now workers requests
+start_text (start.Connector listen own workers None) = endless_text listen.now own.now workers
+
+-- an address of the system has no byte that is escaped, so it stands bare
+abbrev pub listening_text : (address : List ℕ) → List ℕ
+listening_text address = codes "listening address=" ⧺ all_escaped address ⧺ 10 ∷ []
 
 abbrev pub link_text : (n fault : ℕ) → List ℕ
 link_text n fault = codes "exchange neighbour=" ⧺ decimal n ⧺ codes " cause=link fault=" ⧺ decimal fault ⧺ 10 ∷ []
@@ -171,6 +191,12 @@ waits_text (blocked.StreamMoney stream receive_max total) =
 abbrev pub clock_text : (back : ℕ) → List ℕ
 clock_text back = codes "clock set_back_ms=" ⧺ decimal back ⧺ 10 ∷ []
 
+-- anybody who may write to the pipe writes the line, so it is cut as a peer's text is
+abbrev pub control_text : (line : List ℕ) → Heard → List ℕ
+control_text line heard.Done = codes "control line=" ⧺ quoted_short line ⧺ 10 ∷ []
+control_text line heard.Unknown = codes "control unknown line=" ⧺ quoted_short line ⧺ 10 ∷ []
+control_text line (heard.Failed words) = codes "control failed line=" ⧺ quoted_short line ⧺ codes " words=" ⧺ quoted words.now ⧺ 10 ∷ []
+
 abbrev pub table_text : (line : ℕ) → (words : List ℕ) → List ℕ
 table_text line words = codes "table line=" ⧺ decimal line ⧺ codes " words=" ⧺ quoted words ⧺ 10 ∷ []
 
@@ -221,6 +247,7 @@ failed_text fault words = codes "end fault=" ⧺ decimal fault ⧺ codes " words
 
 abbrev pub event_text : (n : ℕ) → Event → List ℕ
 event_text n (event.Start s) = start_text s
+event_text n (event.Listening address) = listening_text address.now
 event_text n (event.Exchange c) = exchange_text n c
 event_text n (event.Refused code None) = refused_text n code
 event_text n (event.Refused code (Some reason)) = reason_text n code reason
@@ -228,6 +255,8 @@ event_text n (event.Connection l from) = connection_text l from.now
 event_text n (event.Limit most) = limit_text n most
 event_text n (event.Waits b) = waits_text b
 event_text n (event.Clock back) = clock_text back
+event_text n (event.Control line h) = control_text line.now h
+event_text n event.NewBooks = codes "books new\n"
 event_text n (event.Table line words) = table_text line words.now
 event_text n (event.Closed stream None) = closed_text stream
 event_text n (event.Closed stream (Some code)) = aborted_text stream code

@@ -37,7 +37,7 @@ told_in (Some l) = l.count
 
 -- where a kind from a neighbour is counted: each has a place of its own, but neighbours above the last share the last one's
 abbrev pub slot_place : (last : ℕ) → Kind → (neighbour : ℕ) → ℕ
-slot_place last k n = min n last * 12 + place_of k
+slot_place last k n = min n last * 14 + place_of k
 
 -- ---- runs of events of one kind from one neighbour
 

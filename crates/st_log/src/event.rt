@@ -9,6 +9,11 @@ ghost use Rattle.st_log.specs.Lines as spec;
 pub enum Event<'a> {
     /// A command begins.
     Start(Start<'a>),
+    /// The command listens.
+    Listening {
+        /// At which address, as IP:PORT.
+        address: &'a str,
+    },
     /// An exchange with the neighbour brought no Fulfill.
     Exchange(Cause<'a>),
     /// A packet from the neighbour was refused here.
@@ -37,6 +42,15 @@ pub enum Event<'a> {
         /// By how many milliseconds.
         set_back: u64,
     },
+    /// A line came by the pipe by which a command is asked things while it runs.
+    Control {
+        /// The line, without its newline.
+        line: &'a [u8],
+        /// What became of it.
+        heard: Heard<'a>,
+    },
+    /// A connector begins with books that were made new, or that no start was counted in.
+    NewBooks,
     /// A line of a connector's table is bad.
     Table {
         /// The number of the line, from 1.
@@ -121,8 +135,8 @@ pub enum Start<'a> {
         own: &'a str,
         /// How many threads wait for a connection.
         workers: u8,
-        /// How many requests it answers.
-        requests: u64,
+        /// How many requests it answers. `None` is any number.
+        requests: Option<u64>,
     },
 }
 
@@ -196,6 +210,17 @@ pub enum Blocked {
     },
 }
 
+/// What became of a line by which a command was asked something.
+#[derive(Clone, Copy)]
+pub enum Heard<'a> {
+    /// What it asks for is done, or begun.
+    Done,
+    /// It asks for nothing that the command knows, and does nothing.
+    Unknown,
+    /// What it asks for cannot be done, for this reason, and nothing is changed.
+    Failed(&'a str),
+}
+
 /// What became of a connection on which no request was answered.
 #[derive(Clone, Copy, Debug, PartialEq, Eq)]
 pub enum Lost {
@@ -264,10 +289,14 @@ pub enum Kind {
     Waits,
     /// `clock`
     Clock,
+    /// `listening`
+    Listening,
+    /// `control`
+    Control,
 }
 
 /// How many kinds there are.
-pub(crate) const KINDS: usize = 12;
+pub(crate) const KINDS: usize = 14;
 
 impl Event<'_> {
     /// The kind of the event: the word with which its line begins.
@@ -275,13 +304,15 @@ impl Event<'_> {
         ensures { result ≡ spec.kind_of self.now }
     {
         match self {
-            Event::Start(_) => Kind::Start,
+            Event::Start(_) | Event::NewBooks => Kind::Start,
+            Event::Listening { .. } => Kind::Listening,
             Event::Exchange(_) => Kind::Exchange,
             Event::Refused { .. } => Kind::Refused,
             Event::Connection { .. } => Kind::Connection,
             Event::Limit { .. } => Kind::Limit,
             Event::Waits(_) => Kind::Waits,
             Event::Clock { .. } => Kind::Clock,
+            Event::Control { .. } => Kind::Control,
             Event::Table { .. } => Kind::Table,
             Event::Closed { .. } => Kind::Closed,
             Event::End(_) | Event::Account(_) | Event::Rejects { .. } => Kind::Totals,
@@ -321,12 +352,14 @@ impl Kind {
         Kind::End,
         Kind::Waits,
         Kind::Clock,
+        Kind::Listening,
+        Kind::Control,
     ];
 
     /// The place of the kind among all kinds.
     pub(crate) fn place(self) -> usize
         ensures place { result ≡ spec.place_of self }
-        ensures few { result < 12 }
+        ensures few { result < 14 }
     {
         match self {
             Kind::Start => 0,
@@ -341,6 +374,8 @@ impl Kind {
             Kind::End => 9,
             Kind::Waits => 10,
             Kind::Clock => 11,
+            Kind::Listening => 12,
+            Kind::Control => 13,
         }
     }
 
@@ -371,6 +406,8 @@ impl Kind {
             Kind::End => "end",
             Kind::Waits => "waits",
             Kind::Clock => "clock",
+            Kind::Listening => "listening",
+            Kind::Control => "control",
         }
     }
 }

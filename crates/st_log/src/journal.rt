@@ -86,6 +86,21 @@ impl<W: Write> Journal<W> {
         self.has_failed.load(Ordering::SeqCst)
     }
 
+    /// Has all lines from now on written by another writer, those that wait among them. A line that was written in part is written
+    /// anew. False where another thread writes for too long: then the writer stays.
+    pub fn change<C: Clock>(&self, clock: &C, writer: W) -> bool
+    where
+        W: Drop,
+    {
+        let Some(mut outlet) = within(clock, &self.outlet) else {
+            return false;
+        };
+        self.round(&mut outlet);
+        outlet.change(writer);
+        self.round(&mut outlet);
+        true
+    }
+
     /// Writes the line of an event that happened now, about the neighbour of this number. Not to be called while a lock of a
     /// hub or a desk is held.
     pub fn note<C: Clock>(&self, clock: &C, now: Moment, neighbour: usize, event: &Event<'_>) {

@@ -47,6 +47,19 @@ impl<W> Outlet<W> {
         let queue = Queue::new(alloc)?;
         Ok(Outlet { writer, queue })
     }
+
+    /// Has the lines that wait, and those to come, written by another writer: a line that was written in part is written anew.
+    pub(crate) fn change(&mut self, writer: W)
+    where
+        W: Drop,
+        ensures writer { self.new.writer ≡ writer }
+        ensures lines { self.new.queue.lines.items ≡ self.old.queue.lines.items }
+        ensures whole { self.new.queue.begun ≡ 0 }
+        ensures lost { self.new.queue.lost ≡ self.old.queue.lost }
+    {
+        self.writer = writer;
+        self.queue.begin_anew();
+    }
 }
 
 impl<W: Write> Outlet<W> {

@@ -102,7 +102,7 @@ impl Pace {
     /// Nothing was counted. `last` is the greatest number of a neighbour.
     pub fn new(alloc: Global, last: u32) -> Result<Pace, AllocError>
         ensures last { IfOk result (λ pace. pace.last ≡ last) }
-        ensures slots { IfOk result (λ pace. pace.slots.items ≡ replicate ((last + 1) * 12) empty) }
+        ensures slots { IfOk result (λ pace. pace.slots.items ≡ replicate ((last + 1) * 14) empty) }
     {
         let count = (last as usize + 1) * KINDS;
         let slots = Vec::from_elem(alloc, Slot::empty(), count)?;

@@ -4,7 +4,7 @@ ghost use Rattle.std.specs.Prelude.{◌≡◌, IfOk, Some, string_bytes};
 ghost use Rattle.st_log.specs.Progress as spec;
 ghost use Rattle.st_log.specs.declared.progress.Brief.TheVariants as brief;
 
-use crate::event::{Cause, Unreached};
+use crate::event::{Blocked, Cause, Unreached};
 use crate::quote::code_text;
 use std::alloc::{AllocError, Global};
 
@@ -37,10 +37,14 @@ pub struct Progress {
     pub bytes: u64,
     /// How many bytes the input has, where that is known.
     pub length: Option<u64>,
-    /// The milliseconds since the transfer began.
+    /// How many of these bytes came in the last seconds.
+    pub gained: u64,
+    /// The milliseconds of these last seconds.
     pub millis: u64,
     /// The units that were paid or received.
     pub units: u64,
+    /// The limit of the peer at which the end waits. `None` where it does not.
+    pub waits: Option<Blocked>,
     /// Why the last exchange without a Fulfill brought none. `None` where there was no such exchange.
     pub last: Option<Brief>,
 }
@@ -71,14 +75,27 @@ fn percent(bytes: u64, length: u64) -> u128
     (u128::from(bytes) * 100 / u128::from(length)).min(100)
 }
 
-/// Bytes a second.
-fn rate(bytes: u64, millis: u64) -> u128
-    ensures { result ≡ spec.rate bytes millis }
+/// Bytes a second, where so many came in so many milliseconds.
+fn rate(gained: u64, millis: u64) -> u128
+    ensures { result ≡ spec.rate gained millis }
 {
     if millis == 0 {
         return 0;
     }
-    u128::from(bytes) * 1_000 / u128::from(millis)
+    u128::from(gained) * 1_000 / u128::from(millis)
+}
+
+/// The seconds in which the rest of an input of this length comes, at the pace of so many bytes in so many milliseconds. `None`
+/// where that is unknown.
+fn seconds_left(bytes: u64, length: Option<u64>, gained: u64, millis: u64) -> Option<u128>
+    ensures { result ≡ spec.seconds_left bytes length gained millis }
+{
+    let length = length?;
+    if gained == 0 || millis == 0 {
+        return None;
+    }
+    let rest = u128::from(length.saturating_sub(bytes));
+    Some(rest * u128::from(millis) / (u128::from(gained) * 1_000))
 }
 
 fn part_text(alloc: Global, bytes: u64, length: Option<u64>) -> Result<String, AllocError>
@@ -89,6 +106,47 @@ fn part_text(alloc: Global, bytes: u64, length: Option<u64>) -> Result<String, A
     };
     let percent = percent(bytes, length);
     let text = format!(in alloc; " ({percent} %)")?;
+    Ok(text)
+}
+
+/// A time as in 1:02:03.
+fn time_text(alloc: Global, seconds: u128) -> Result<String, AllocError>
+    ensures { IfOk result (λ text. string_bytes text ≡ spec.time_text seconds) }
+{
+    let hours = seconds / 3_600;
+    let (minutes, rest) = (seconds / 60 % 60, seconds % 60);
+    let (a, b) = (minutes / 10, minutes % 10);
+    let (c, d) = (rest / 10, rest % 10);
+    let text = format!(in alloc; "{hours}:{a}{b}:{c}{d}")?;
+    Ok(text)
+}
+
+fn left_text(alloc: Global, seconds: Option<u128>) -> Result<String, AllocError>
+    ensures { IfOk result (λ text. string_bytes text ≡ spec.left_text seconds) }
+{
+    let Some(seconds) = seconds else {
+        return Ok(String::new(alloc));
+    };
+    let time = time_text(alloc, seconds)?;
+    let text = format!(in alloc; ", {time} left")?;
+    Ok(text)
+}
+
+fn waits_text(alloc: Global, waits: Option<Blocked>) -> Result<String, AllocError>
+    ensures { IfOk result (λ text. string_bytes text ≡ spec.waits_text waits) }
+{
+    let text = match waits {
+        None => String::new(alloc),
+        Some(Blocked::ConnectionData { limit }) => {
+            format!(in alloc; " (waits at the limit of {limit} bytes)")?
+        }
+        Some(Blocked::StreamData { limit, .. }) => {
+            format!(in alloc; " (waits at the limit of {limit} bytes)")?
+        }
+        Some(Blocked::StreamMoney { receive_max, .. }) => {
+            format!(in alloc; " (waits at the limit of {receive_max} units)")?
+        }
+    };
     Ok(text)
 }
 
@@ -134,6 +192,28 @@ fn failure_text(alloc: Global, last: Option<Brief>) -> Result<String, AllocError
     }
 }
 
+/// What stands behind the units.
+#[tactic(auto, using(crate::proofs::Pieces::pieces))]
+fn tail_text(alloc: Global, progress: &Progress) -> Result<String, AllocError>
+    ensures { IfOk result (λ text. string_bytes text ≡ spec.tail_text progress.now) }
+{
+    let Progress {
+        bytes,
+        length,
+        gained,
+        millis,
+        waits,
+        last,
+        ..
+    } = *progress;
+    let seconds = seconds_left(bytes, length, gained, millis);
+    let left = left_text(alloc, seconds)?;
+    let limit = waits_text(alloc, waits)?;
+    let failure = failure_text(alloc, last)?;
+    let text = format!(in alloc; "{left}{limit}{failure}")?;
+    Ok(text)
+}
+
 /// The line of a transfer that is so far: from the first column of a terminal, whose line it rewrites, and back to it. It has no
 /// other control character than these carriage returns and the sequence that clears the rest of the line.
 ///
@@ -144,15 +224,16 @@ pub fn shown(alloc: Global, progress: &Progress) -> Result<String, AllocError>
     let Progress {
         bytes,
         length,
+        gained,
         millis,
         units,
-        last,
+        ..
     } = *progress;
     let part = part_text(alloc, bytes, length)?;
-    let rate = rate(bytes, millis);
-    let failure = failure_text(alloc, last)?;
+    let rate = rate(gained, millis);
+    let tail = tail_text(alloc, progress)?;
     let text = format!(in alloc;
-        "\r{bytes} bytes{part}, {rate} bytes/s, {units} units{failure}\x1b[K\r"
+        "\r{bytes} bytes{part}, {rate} bytes/s, {units} units{tail}\x1b[K\r"
     )?;
     Ok(text)
 }

@@ -25,6 +25,15 @@ impl Queue {
         })
     }
 
+    /// Nothing of the first line counts as written any more.
+    pub(crate) fn begin_anew(&mut self)
+        ensures lines { self.new.lines.items ≡ self.old.lines.items }
+        ensures begun { self.new.begun ≡ 0 }
+        ensures lost { self.new.lost ≡ self.old.lost }
+    {
+        self.begun = 0;
+    }
+
     /// How many lines wait.
     pub(crate) fn len(&self) -> usize
         ensures { result ≡ length self.now.lines.items }

@@ -72,13 +72,20 @@ pub(crate) fn quoted(alloc: Global, bytes: &[u8]) -> Result<String, AllocError>
     Ok(text)
 }
 
+/// Bytes as they stand in a line, without quotes.
+pub(crate) fn bare(alloc: Global, bytes: &[u8]) -> Result<String, AllocError>
+    ensures { IfOk result (λ text. string_bytes text ≡ spec.all_escaped bytes.now) }
+{
+    let mut text = String::new(alloc);
+    put_all_escaped(&mut text, bytes)?;
+    Ok(text)
+}
+
 /// The code of a Reject as it stands in a line, without quotes.
 pub(crate) fn code_text(alloc: Global, code: &[u8; 3]) -> Result<String, AllocError>
     ensures { IfOk result (λ text. string_bytes text ≡ spec.all_escaped code.now) }
 {
-    let mut text = String::new(alloc);
-    put_all_escaped(&mut text, code)?;
-    Ok(text)
+    bare(alloc, code)
 }
 
 /// How many characters of a line a byte takes.

@@ -4,8 +4,8 @@ ghost use Rattle.std.specs.Prelude.{◌≡◌, ◌++◌, IfOk, string_bytes};
 ghost use Rattle.st_log.specs.Lines as spec;
 
 use crate::date::date_text;
-use crate::event::{AccountCounts, Blocked, Cause, EndCounts, Event, Kind, Lost, Start};
-use crate::quote::{code_text, quoted, quoted_short};
+use crate::event::{AccountCounts, Blocked, Cause, EndCounts, Event, Heard, Kind, Lost, Start};
+use crate::quote::{bare, code_text, quoted, quoted_short};
 use st_ilp::Moment;
 use std::alloc::{AllocError, Global};
 
@@ -63,6 +63,18 @@ fn connector_text(
     Ok(text)
 }
 
+/// The line of a connector that answers any number of requests.
+fn endless_text(alloc: Global, listen: &str, own: &str, workers: u8) -> Result<String, AllocError>
+    ensures { IfOk result (λ text. string_bytes text ≡ spec.endless_text listen.now own.now workers) }
+{
+    let listen = quoted(alloc, listen.as_bytes())?;
+    let own = quoted(alloc, own.as_bytes())?;
+    let text = format!(in alloc;
+        "start command=connector listen={listen} own={own} workers={workers} requests=endless\n"
+    )?;
+    Ok(text)
+}
+
 fn start_text(alloc: Global, start: Start<'_>) -> Result<String, AllocError>
     ensures { IfOk result (λ text. string_bytes text ≡ spec.start_text start.entry) }
 {
@@ -84,9 +96,23 @@ fn start_text(alloc: Global, start: Start<'_>) -> Result<String, AllocError>
             listen,
             own,
             workers,
-            requests,
+            requests: Some(requests),
         } => connector_text(alloc, listen, own, workers, requests),
+        Start::Connector {
+            listen,
+            own,
+            workers,
+            requests: None,
+        } => endless_text(alloc, listen, own, workers),
     }
+}
+
+fn listening_text(alloc: Global, address: &str) -> Result<String, AllocError>
+    ensures { IfOk result (λ text. string_bytes text ≡ spec.listening_text address.now) }
+{
+    let address = bare(alloc, address.as_bytes())?;
+    let text = format!(in alloc; "listening address={address}\n")?;
+    Ok(text)
 }
 
 fn link_text(alloc: Global, neighbour: usize, fault: u8) -> Result<String, AllocError>
@@ -246,6 +272,21 @@ fn clock_text(alloc: Global, set_back: u64) -> Result<String, AllocError>
     Ok(text)
 }
 
+fn control_text(alloc: Global, line: &[u8], heard: Heard<'_>) -> Result<String, AllocError>
+    ensures { IfOk result (λ text. string_bytes text ≡ spec.control_text line.now heard.entry) }
+{
+    let line = quoted_short(alloc, line)?;
+    let text = match heard {
+        Heard::Done => format!(in alloc; "control line={line}\n")?,
+        Heard::Unknown => format!(in alloc; "control unknown line={line}\n")?,
+        Heard::Failed(words) => {
+            let words = quoted(alloc, words.as_bytes())?;
+            format!(in alloc; "control failed line={line} words={words}\n")?
+        }
+    };
+    Ok(text)
+}
+
 fn table_text(alloc: Global, line: usize, words: &str) -> Result<String, AllocError>
     ensures { IfOk result (λ text. string_bytes text ≡ spec.table_text line words.now) }
 {
@@ -375,6 +416,7 @@ fn event_text(alloc: Global, neighbour: usize, event: &Event<'_>) -> Result<Stri
 {
     match *event {
         Event::Start(start) => start_text(alloc, start),
+        Event::Listening { address } => listening_text(alloc, address),
         Event::Exchange(cause) => exchange_text(alloc, neighbour, cause),
         Event::Refused { code, reason: None } => refused_text(alloc, neighbour, &code),
         Event::Refused {
@@ -385,6 +427,8 @@ fn event_text(alloc: Global, neighbour: usize, event: &Event<'_>) -> Result<Stri
         Event::Limit { most } => limit_text(alloc, neighbour, most),
         Event::Waits(blocked) => waits_text(alloc, blocked),
         Event::Clock { set_back } => clock_text(alloc, set_back),
+        Event::Control { line, heard } => control_text(alloc, line, heard),
+        Event::NewBooks => String::from_str(alloc, "books new\n"),
         Event::Table { line, words } => table_text(alloc, line, words),
         Event::Closed { stream, code: None } => closed_text(alloc, stream),
         Event::Closed {

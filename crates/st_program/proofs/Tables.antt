@@ -1,5 +1,5 @@
 -- From a table to the end of a connector.
-use Rattle.std.proofs.Common.{◌≡◌, ℕ, Bool, true, false, List, map, Option, Some, None, refl, sym, ap, subst, ◌∙◌, inl, inr}
+use Rattle.std.proofs.Common.{◌≡◌, ℕ, Bool, true, false, List, [], map, Option, Some, None, refl, sym, ap, subst, ◌∙◌, inl, inr}
 use Rattle.std.specs.Prelude.{◌⊎◌, IfSome, IsErrOf, Result, Ok, Err}
 use Rattle.std.specs.Str.Lines.{lines}
 use Rattle.std.specs.Borrow.{Bor}
@@ -16,7 +16,7 @@ use Rattle.st_oer.specs.declared.tally.Tally.{Tally}
 use Rattle.st_commands.specs.declared.error.Fault.{Fault}
 use Rattle.st_commands.specs.declared.error.Fault.TheVariants as fault
 use Rattle.st_program.specs.Input.{FailsToRead}
-use Rattle.st_program.specs.Table.{EndsBy, FailsFirst, HasTable, LacksTable, SaysTable, Serves, TellsBad, WhyNoHop, WhyNoTable, is_hop}
+use Rattle.st_program.specs.Table.{EndsBy, EndsByTable, FailsFirst, GoesOn, HasTable, LacksTable, Lives, SaysTable, Serves, TellsBad, WhyNoHop, WhyNoTable, is_hop, later}
 
 -- what holds of the bytes that were read holds of the input
 said_of : (input : Option (List ℕ)) (bytes : List ℕ) (P : List ℕ → Type 0) → IfSome input (λ all. bytes ≡ all) → P bytes → IfSome input P
@@ -48,6 +48,78 @@ module _ (own : List ℕ) (ledger : Option (Bor (List ℕ))) (input : Option (Li
   no_table T run.BadOption why = why
   no_table T (run.Transfer e) why = absurd why
   no_table T (run.Ledger e) why = absurd why
+
+module _ (own : List ℕ) (ledger : Option (Bor (List ℕ))) (bytes : List ℕ) where
+  -- the same by the bytes themselves
+  pub lives_table : {T : Type 0} (xs : List AccountLine) (rs : List Route) (result : Result T RunError) → SaysTable bytes xs rs → Serves own ledger xs rs result → Lives own ledger bytes result
+  lives_table xs rs (Ok x) says is = (xs, rs, says, is)
+  lives_table xs rs (Err (run.Fault x)) says is = inl is
+  lives_table xs rs (Err run.NoRandom) says is = is
+  lives_table xs rs (Err run.NoListener) says is = (xs, rs, says, is)
+  lives_table xs rs (Err run.NoHop) says is = (xs, rs, says, is)
+  lives_table xs rs (Err run.BadTable) says is = inr (xs, rs, says, is)
+  lives_table xs rs (Err run.BadOption) says is = is
+  lives_table xs rs (Err (run.Transfer e)) says is = (xs, rs, says, is)
+  lives_table xs rs (Err (run.Ledger e)) says is = (is.0, (xs, rs, says, is.1))
+
+  pub lives_without : (T : Type 0) (x : RunError) → WhyNoTable bytes x → Lives {T = T} own ledger bytes (Err x)
+  lives_without T (run.Fault x) why = inl why
+  lives_without T run.NoRandom why = why
+  lives_without T run.NoListener why = absurd why
+  lives_without T run.NoHop why = absurd why
+  lives_without T run.BadTable why = inl why
+  lives_without T run.BadOption why = why
+  lives_without T (run.Transfer e) why = absurd why
+  lives_without T (run.Ledger e) why = absurd why
+
+  -- by a table that was looked at before
+  pub goes_on : {T : Type 0} (ended : Result T RunError) → Lives own ledger bytes ended → GoesOn ledger (later ended)
+  goes_on (Ok x) is = tt
+  goes_on (Err (run.Fault x)) is = tt
+  goes_on (Err run.NoRandom) is = is
+  goes_on (Err run.NoListener) is = tt
+  goes_on (Err run.NoHop) is = tt
+  goes_on (Err run.BadTable) is = tt
+  goes_on (Err run.BadOption) is = is
+  goes_on (Err (run.Transfer e)) is = tt
+  goes_on (Err (run.Ledger e)) is = is.0
+
+  -- from a good table
+  pub lives_on : {T : Type 0} (result : Result T RunError) → HasTable own bytes → GoesOn ledger result → Lives own ledger bytes result
+  lives_on (Ok x) has is = has
+  lives_on (Err (run.Fault x)) has is = inr has
+  lives_on (Err run.NoRandom) has is = is
+  lives_on (Err run.NoListener) has is = has
+  lives_on (Err run.NoHop) has is = has
+  lives_on (Err run.BadTable) has is = absurd is
+  lives_on (Err run.BadOption) has is = is
+  lives_on (Err (run.Transfer e)) has is = has
+  lives_on (Err (run.Ledger e)) has is = (is, has)
+
+  -- by an input that has these bytes
+  pub lives_by : {T : Type 0} (input : Option (List ℕ)) (r s : Tally) (result : Result T RunError) → IfSome input (λ all. bytes ≡ all) → Lives own ledger bytes result → EndsBy own ledger input r s result
+  lives_by input r s (Ok x) whole is = said_of input bytes (HasTable own) whole is
+  lives_by input r s (Err (run.Fault x)) whole (inl is) = inl (memory x r s is)
+  lives_by input r s (Err (run.Fault x)) whole (inr is) = inr (said_of input bytes (HasTable own) whole is)
+  lives_by input r s (Err run.NoRandom) whole is = is
+  lives_by input r s (Err run.NoListener) whole is = said_of input bytes (HasTable own) whole is
+  lives_by input r s (Err run.NoHop) whole is = said_of input bytes (HasTable own) whole is
+  lives_by input r s (Err run.BadTable) whole is = said_of input bytes (LacksTable own) whole is
+  lives_by input r s (Err run.BadOption) whole is = is
+  lives_by input r s (Err (run.Transfer e)) whole is = said_of input bytes (HasTable own) whole is
+  lives_by input r s (Err (run.Ledger e)) whole is = (is.0, said_of input bytes (HasTable own) whole is.1)
+
+-- an option is bad before anything is read
+pub bad_option : (T : Type 0) (table : Option (Bor (List ℕ))) (own : List ℕ) (ledger : Option (Bor (List ℕ))) (input : Option (List ℕ)) (r s : Tally) (Q : Type 0) → Q
+    → EndsByTable {T = T} table own ledger input r s Q (Err run.BadOption)
+bad_option T None own ledger input r s Q q = inr (refl, q)
+bad_option T (Some file) own ledger input r s Q q = (q, inl refl)
+
+-- or memory is refused
+pub no_memory : (T : Type 0) (table : Option (Bor (List ℕ))) (own : List ℕ) (ledger : Option (Bor (List ℕ))) (input : Option (List ℕ)) (r s : Tally) (Q : Type 0) → Q
+    → EndsByTable {T = T} table own ledger input r s Q (Err (run.Fault fault.NoMemory))
+no_memory T None own ledger input r s Q q = inl (inl tt)
+no_memory T (Some file) own ledger input r s Q q = (q, inr ([], inl refl))
 
 -- what gives no hop ends the connector
 pub no_hop : (T : Type 0) (own : List ℕ) (ledger : Option (Bor (List ℕ))) (xs : List AccountLine) (rs : List Route) (x : RunError) → WhyNoHop own xs rs x → Serves {T = T} own ledger xs rs (Err x)

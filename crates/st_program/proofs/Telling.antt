@@ -8,7 +8,7 @@ use Rattle.st_commands.specs.declared.error.Fault.{Fault}
 use Rattle.st_program.specs.declared.error.RunError.{RunError}
 use Rattle.st_program.specs.declared.error.RunError.TheVariants as run
 use Rattle.st_oer.specs.declared.tally.Tally.{Tally}
-use Rattle.st_program.specs.Table.{EndsBy}
+use Rattle.st_program.specs.Table.{EndsBy, EndsByFile, EndsByTable, Lives}
 use Rattle.st_program.specs.Totals.{IsEmptyBeside, Replaced, TakesPlace, ended_with, lines_from}
 
 module _ {X : Type 0} (text : ℕ → X → List ℕ) where
@@ -48,6 +48,21 @@ module _ (own : List ℕ) (ledger : Option (Bor (List ℕ))) (input : Option (Li
       → EndsBy own ledger input r s result ⊎ ((result ≡ Err run.BadOption) × Q)
   ends_logged Q ended result (inl by) told = inl (ends_told ended result by told)
   ends_logged Q ended result (inr (bad, q)) (told, is) = inr (is ∙ ap (λ (e : Result (Unit {0}) RunError). ended_with e told) bad, q)
+
+lives_with : (own : List ℕ) (ledger : Option (Bor (List ℕ))) (bytes : List ℕ) (ended : Result (Unit {0}) RunError) (told : Result (Unit {0}) Fault) → Lives own ledger bytes ended → Lives own ledger bytes (ended_with ended told)
+lives_with own ledger bytes (Err e) told by = by
+lives_with own ledger bytes (Ok x) (Ok y) by = by
+lives_with own ledger bytes (Ok x) (Err fault) by = inr by
+
+file_with : (own : List ℕ) (ledger : Option (Bor (List ℕ))) (ended : Result (Unit {0}) RunError) (told : Result (Unit {0}) Fault) → EndsByFile own ledger ended → EndsByFile own ledger (ended_with ended told)
+file_with own ledger ended told (inl bad) = inl (ap (λ (e : Result (Unit {0}) RunError). ended_with e told) bad)
+file_with own ledger ended told (inr (bytes, by)) = inr (bytes, lives_with own ledger bytes ended told by)
+
+-- a connector that told its totals, or its log, ends by its table as it did before
+pub table_told : (table : Option (Bor (List ℕ))) (own : List ℕ) (ledger : Option (Bor (List ℕ))) (input : Option (List ℕ)) (r s : Tally) (Q : Type 0) (ended result : Result (Unit {0}) RunError)
+    → EndsByTable table own ledger input r s Q ended → (told : Result (Unit {0}) Fault) × (result ≡ ended_with ended told) → EndsByTable table own ledger input r s Q result
+table_told None own ledger input r s Q ended result by told = ends_logged own ledger input r s Q ended result by told
+table_told (Some file) own ledger input r s Q ended result (q, by) (told, is) = (q, subst (EndsByFile own ledger) (sym is) (file_with own ledger ended told by))
 
 not_bad : (ended : Result (Unit {0}) RunError) (told : Result (Unit {0}) Fault) → ended ≢ Err run.BadOption → ended_with ended told ≢ Err run.BadOption
 not_bad (Err e) told none wrong = none wrong

@@ -14,7 +14,7 @@ use Rattle.st_words.specs.declared.request.Request.TheVariants as request
 use Rattle.st_program.specs.declared.error.RunError.{RunError}
 use Rattle.st_program.specs.declared.error.RunError.TheVariants as run
 use Rattle.st_program.specs.Errors.{number}
-use Rattle.st_program.specs.Table.{EndsBy}
+use Rattle.st_program.specs.Table.{EndsByTable}
 use Rattle.st_program.specs.Ledger.{EndsLedger}
 use Rattle.st_program.specs.Explain.{Explains}
 use Rattle.st_program.specs.Words.{MayRefuse, MayShow}
@@ -53,7 +53,7 @@ Does (request.Local x) remaining contents said ended r s w v e f status = local.
 Does (request.Send x) remaining contents said ended r s w v e f status = (v ≡ w) × Ends (s ≡ r) said e f status
 Does (request.Receive x) remaining contents said ended r s w v e f status = (s ≡ r) × Ends (v ≡ w) said e f status
 Does (request.Connector x) remaining contents said ended r s w v e f status =
-    (v ≡ w) × ((end : Result (Unit {0}) RunError) × (EndsBy x.own.now x.ledger (remaining (device_of r)) (tally_of r) (tally_of s) end ⊎ ((end ≡ Err run.BadOption) × (s ≡ r))) × TellsEnd end said e f status)
+    (v ≡ w) × ((end : Result (Unit {0}) RunError) × EndsByTable x.table x.own.now x.ledger (remaining (device_of r)) (tally_of r) (tally_of s) (s ≡ r) end × TellsEnd end said e f status)
 Does (request.Ledger x) remaining contents said ended r s w v e f status =
     (s ≡ r) × ((end : Result (Unit {0}) RunError) × EndsLedger contents x.payment w v end × TellsEnd end said e f status)
 Does (request.Explain n) remaining contents said ended r s w v e f status = (s ≡ r) × Explains n contents said ended w v e f status

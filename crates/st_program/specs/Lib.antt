@@ -12,5 +12,6 @@ pub mod Ledger
 pub mod Explain
 pub mod Streams
 pub mod Obstacle
+pub mod Control
 pub mod Endings
 pub mod Process

@@ -1,17 +1,31 @@
 -- What is told of a transfer while it runs.
-use Rattle.std.specs.Prelude.{ℕ, ◌-◌, nat_le, Bool, Option, None}
+use Rattle.std.specs.Prelude.{ℕ, ◌-◌, nat_le, nat_lt, Bool, if◌then◌else◌, Option, None}
 use Rattle.st_end.specs.Totals.{Totals}
 use Rattle.st_log.specs.declared.progress.Brief.{Brief}
 use Rattle.st_log.specs.declared.progress.Progress.{Progress}
+use Rattle.st_log.specs.declared.event.Blocked.{Blocked}
+use Rattle.st_program.specs.declared.progress.Mark.{Mark}
+use Rattle.st_program.specs.declared.progress.Span.{Span}
 use Rattle.st_program.specs.declared.progress.Side.{Side}
 use Rattle.st_program.specs.declared.progress.Side.TheVariants as side
 
--- how far an end is: a sender by what it accepted and paid, a receiver by what it delivered and was credited
-abbrev pub progress_of : Side → Totals → (millis : ℕ) → Option Brief → Progress
-progress_of (side.Sends length) t millis last =
-    record { bytes = t.accepted; length = length; millis = millis; units = t.paid; last = last }
-progress_of side.Receives t millis last =
-    record { bytes = t.delivered; length = None; millis = millis; units = t.credited; last = last }
+-- the bytes of an end: those that a sender accepted, or a receiver delivered
+abbrev pub bytes_of : Side → Totals → ℕ
+bytes_of (side.Sends length) t = t.accepted
+bytes_of side.Receives t = t.delivered
+
+-- where the last seconds begin, once an end is here: five seconds or more before, and as few as the marks allow; at the start before
+-- there are so many
+abbrev pub moved : Span → Mark → Span
+moved s here = if nat_lt (here.millis - s.next.millis) 5000 then s else record { from = s.next; next = here }
+
+-- how far an end is: a sender by what it accepted and paid, a receiver by what it delivered and was credited; and how much of it
+-- came since a mark
+abbrev pub progress_of : Side → Totals → (from : Mark) → (millis : ℕ) → Option Blocked → Option Brief → Progress
+progress_of (side.Sends length) t from millis waits last =
+    record { bytes = t.accepted; length = length; gained = t.accepted - from.bytes; millis = millis - from.millis; units = t.paid; waits = waits; last = last }
+progress_of side.Receives t from millis waits last =
+    record { bytes = t.delivered; length = None; gained = t.delivered - from.bytes; millis = millis - from.millis; units = t.credited; waits = waits; last = last }
 
 -- so many nanoseconds passed since a moment, by a clock that counts them
 abbrev pub is_due : (now before period : ℕ) → Bool

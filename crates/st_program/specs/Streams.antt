@@ -1,5 +1,5 @@
 -- Which command needs which standard stream.
-use Rattle.std.specs.Prelude.{Bool, true, false, Option, Some, None}
+use Rattle.std.specs.Prelude.{Bool, true, false, ◌||◌, Option, Some, None, is_some}
 use Rattle.st_commands.specs.declared.error.Fault.{Fault}
 use Rattle.st_commands.specs.declared.error.Fault.TheVariants as fault
 use Rattle.st_words.specs.declared.request.Request.{Request}
@@ -18,6 +18,6 @@ missing request.Frames s = None
 missing (request.Local x) s = None
 missing (request.Send x) s = unless s.input fault.Input
 missing (request.Receive x) s = unless s.output fault.Output
-missing (request.Connector x) s = unless s.input fault.Input
+missing (request.Connector x) s = unless (s.input || is_some x.table) fault.Input
 missing (request.Ledger x) s = unless s.output fault.Output
 missing (request.Explain n) s = None

@@ -1,5 +1,5 @@
 -- The table of a connector, in bytes, and how a connector may end by it.
-use Rattle.std.specs.Prelude.{◌≡◌, ◌⊎◌, ℕ, Bool, true, false, List, map, Option, IfSome, IsSome, Result, Ok, Err, IsErrOf}
+use Rattle.std.specs.Prelude.{◌≡◌, ◌⊎◌, ℕ, Bool, true, false, List, map, Option, Some, None, IfSome, IsSome, ⊤, Result, Ok, Err, IsErrOf}
 use Rattle.std.specs.Borrow.{Bor}
 use Rattle.std.specs.Str.Lines.{lines}
 use Rattle.st_oer.specs.Text.{is_utf8}
@@ -59,6 +59,17 @@ WhyNoHop own xs rs run.BadOption = ⊥
 WhyNoHop own xs rs (run.Transfer e) = ⊥
 WhyNoHop own xs rs (run.Ledger e) = ⊥
 
+-- why a hop cannot go on with the sums of a table of before
+abbrev pub WhyNotCarried : RunError → Type 0
+WhyNotCarried (run.Fault x) = x ≡ fault.NoMemory
+WhyNotCarried run.NoHop = ⊤
+WhyNotCarried run.NoRandom = ⊥
+WhyNotCarried run.NoListener = ⊥
+WhyNotCarried run.BadTable = ⊥
+WhyNotCarried run.BadOption = ⊥
+WhyNotCarried (run.Transfer e) = ⊥
+WhyNotCarried (run.Ledger e) = ⊥
+
 -- How a connector of this address may end that has these accounts and routes. Books end it only where it was asked to keep
 -- them, and with a table that a hop may have
 abbrev pub Serves : {T : Type 0} → List ℕ → (ledger : Option (Bor (List ℕ))) → List AccountLine → List Route → Result T RunError → Type 0
@@ -85,6 +96,52 @@ EndsBy own ledger input r s (Err run.BadTable) = IfSome input (LacksTable own)
 EndsBy own ledger input r s (Err run.BadOption) = ⊥
 EndsBy own ledger input r s (Err (run.Transfer e)) = IfSome input (HasTable own)
 EndsBy own ledger input r s (Err (run.Ledger e)) = IsSome ledger × IfSome input (HasTable own)
+
+-- how a connector of this address may end that begins with the table in these bytes, and goes on by tables that it was given while it
+-- ran. A fault is one of memory, or comes after a good table
+abbrev pub Lives : {T : Type 0} → List ℕ → (ledger : Option (Bor (List ℕ))) → (bytes : List ℕ) → Result T RunError → Type 0
+Lives own ledger bytes (Ok x) = HasTable own bytes
+Lives own ledger bytes (Err (run.Fault x)) = (x ≡ fault.NoMemory) ⊎ HasTable own bytes
+Lives own ledger bytes (Err run.NoRandom) = ⊥
+Lives own ledger bytes (Err run.NoListener) = HasTable own bytes
+Lives own ledger bytes (Err run.NoHop) = HasTable own bytes
+Lives own ledger bytes (Err run.BadTable) = LacksTable own bytes
+Lives own ledger bytes (Err run.BadOption) = ⊥
+Lives own ledger bytes (Err (run.Transfer e)) = HasTable own bytes
+Lives own ledger bytes (Err (run.Ledger e)) = IsSome ledger × HasTable own bytes
+
+-- how it may go on from a table that it had: never as a bad table does
+abbrev pub GoesOn : {T : Type 0} → (ledger : Option (Bor (List ℕ))) → Result T RunError → Type 0
+GoesOn ledger (Ok x) = ⊤
+GoesOn ledger (Err (run.Fault x)) = ⊤
+GoesOn ledger (Err run.NoRandom) = ⊥
+GoesOn ledger (Err run.NoListener) = ⊤
+GoesOn ledger (Err run.NoHop) = ⊤
+GoesOn ledger (Err run.BadTable) = ⊥
+GoesOn ledger (Err run.BadOption) = ⊥
+GoesOn ledger (Err (run.Transfer e)) = ⊤
+GoesOn ledger (Err (run.Ledger e)) = IsSome ledger
+
+-- how it ended by a table that was looked at before: such a one is not bad, and if it were, there is no hop by it
+abbrev pub later : {T : Type 0} → Result T RunError → Result T RunError
+later (Ok x) = Ok x
+later (Err (run.Fault x)) = Err (run.Fault x)
+later (Err run.NoRandom) = Err run.NoRandom
+later (Err run.NoListener) = Err run.NoListener
+later (Err run.NoHop) = Err run.NoHop
+later (Err run.BadTable) = Err run.NoHop
+later (Err run.BadOption) = Err run.BadOption
+later (Err (run.Transfer e)) = Err (run.Transfer e)
+later (Err (run.Ledger e)) = Err (run.Ledger e)
+
+-- how one may end whose table is in a file: by the bytes that stand there, or since the file cannot be read
+abbrev pub EndsByFile : {T : Type 0} → List ℕ → (ledger : Option (Bor (List ℕ))) → Result T RunError → Type 0
+EndsByFile own ledger result = IsErrOf result run.BadOption ⊎ ((bytes : List ℕ) × Lives own ledger bytes result)
+
+-- how one may end, by its file where it has one, so that the input is not touched; else by the input. An option may be bad before
+abbrev pub EndsByTable : {T : Type 0} → (table : Option (Bor (List ℕ))) → List ℕ → (ledger : Option (Bor (List ℕ))) → Option (List ℕ) → (r s : Tally) → (untouched : Type 0) → Result T RunError → Type 0
+EndsByTable None own ledger input r s untouched result = EndsBy own ledger input r s result ⊎ (IsErrOf result run.BadOption × untouched)
+EndsByTable (Some file) own ledger input r s untouched result = untouched × EndsByFile own ledger result
 
 -- what comes before a table is read: memory was refused, or the input's reader, r before and s now, counted why it could not be
 abbrev pub FailsFirst : {T : Type 0} → Result T RunError → (r s : Tally) → Type 0

@@ -6,7 +6,9 @@
 #![tactic(auto)]
 
 mod beside;
+mod carried;
 mod connector;
+mod control;
 mod counts;
 mod credentials;
 mod ends;
@@ -16,6 +18,7 @@ mod hop;
 mod input;
 mod laws;
 mod ledger;
+mod listening;
 mod log;
 mod obstacle;
 mod process;
@@ -26,6 +29,7 @@ mod reports;
 mod send;
 mod stdin;
 mod streams;
+mod table_file;
 mod tell;
 mod totals;
 

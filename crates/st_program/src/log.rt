@@ -6,13 +6,13 @@ ghost use Rattle.st_program.specs.Totals as spec;
 ghost use Rattle.st_program.specs.declared.error.RunError.TheVariants.{BadOption, Fault as IsFault};
 
 use crate::error::RunError;
-use crate::obstacle::{Obstacle, Step, words_of};
+use crate::obstacle::{Cause, Obstacle, Step, cause_of, words_of};
 use crate::totals::ended_with;
 use st_commands::Fault;
 use st_ilp::Moment;
 use st_log::{AccountCounts, EndCounts, Event};
 use st_settings::{TableFault, WholeFault, table_fault, whole_fault};
-use st_transfer::{AccountTotals, Counts, LogFile, RuntimeClock, log_in};
+use st_transfer::{AccountTotals, Counts, LogFile, RuntimeClock, log_anew, log_in};
 use std::alloc::Global;
 use std::fs::{File, Files, OpenOptions};
 use std::io;
@@ -84,6 +84,28 @@ pub(crate) fn journal<'a, N: Files<File = File>>(
             Err(_) => Err(RunError::Fault(Fault::NoMemory)),
         },
         Err(error) => Err(error),
+    }
+}
+
+/// Opens the file of a log anew, by its name, and has the log go on there: what stands in the file that the log had stays, and so
+/// does the log where that fails. Nothing is to be done without a log.
+pub(crate) fn reopen<N: Files<File = File> + Clock>(
+    rt: &N,
+    log: Log<'_>,
+    name: Option<&str>,
+) -> Result<(), Cause> {
+    let (Some(journal), Some(name)) = (log, name) else {
+        return Ok(());
+    };
+    match at_end(rt, name) {
+        Ok(file) => {
+            if log_anew(rt, journal, file) {
+                Ok(())
+            } else {
+                Err(Cause::Other)
+            }
+        }
+        Err(error) => Err(cause_of(&error)),
     }
 }
 

@@ -26,6 +26,10 @@ pub(crate) enum Step {
     TokenFile,
     /// Read the secret in a file.
     SecretFile,
+    /// Open the pipe of `--control`.
+    Control,
+    /// Read the file of `--table`.
+    Table,
 }
 
 /// Why it could not, by what the system said.
@@ -40,6 +44,7 @@ pub(crate) enum Cause {
     ManyFiles,
     Taken,
     BadLine,
+    NoPipe,
     Other,
 }
 
@@ -64,24 +69,27 @@ fn front(step: Step) -> &'static str
         Step::Random => "cannot open --random ",
         Step::TokenFile => "cannot read --token-file ",
         Step::SecretFile => "cannot read --secret-file ",
+        Step::Control => "cannot open --control ",
+        Step::Table => "cannot read --table ",
     }
 }
 
-/// How the words of a cause end.
-fn back(cause: Cause) -> &'static str
+/// A cause in words.
+pub(crate) fn back(cause: Cause) -> &'static str
     ensures { result.now ≡ spec.back cause }
 {
     match cause {
-        Cause::NotFound => ": not found",
-        Cause::Denied => ": permission denied",
-        Cause::IsFolder => ": is a directory",
-        Cause::InUse => ": address in use",
-        Cause::NotHere => ": no address of this host",
-        Cause::NoName => ": unknown name",
-        Cause::ManyFiles => ": too many open files",
-        Cause::Taken => ": all names are taken",
-        Cause::BadLine => ": bad first line",
-        Cause::Other => ": failed",
+        Cause::NotFound => "not found",
+        Cause::Denied => "permission denied",
+        Cause::IsFolder => "is a directory",
+        Cause::InUse => "address in use",
+        Cause::NotHere => "no address of this host",
+        Cause::NoName => "unknown name",
+        Cause::ManyFiles => "too many open files",
+        Cause::Taken => "all names are taken",
+        Cause::BadLine => "bad first line",
+        Cause::NoPipe => "is no pipe",
+        Cause::Other => "failed",
     }
 }
 
@@ -131,7 +139,7 @@ fn obstacle_words(alloc: Global, obstacle: &Obstacle<'_>) -> Result<String, Allo
     ensures { IfOk result (λ text. string_bytes text ≡ spec.words obstacle.now.step obstacle.now.name.now obstacle.now.cause) }
 {
     let (front, name, back) = (front(obstacle.step), obstacle.name, back(obstacle.cause));
-    let text = format!(in alloc; "{front}{name}{back}")?;
+    let text = format!(in alloc; "{front}{name}: {back}")?;
     Ok(text)
 }
 

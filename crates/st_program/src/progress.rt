@@ -11,7 +11,7 @@ use libc::net::{POLLOUT, poll};
 use libc::types::pollfd;
 use libc::{isatty, write};
 use st_end::Totals;
-use st_log::{Brief, Progress, shown};
+use st_log::{Blocked, Brief, Progress, shown};
 use st_transfer::Watch;
 use std::alloc::Global;
 use std::fs;
@@ -31,6 +31,9 @@ const LOOK_MILLIS: u64 = 1_000;
 /// How many seconds pass at least between two times that the totals are logged.
 const LOG_SECONDS: u64 = 60;
 
+/// How many milliseconds are between two marks at least, from which the last seconds of a transfer are counted.
+const MARK_MILLIS: u64 = 5_000;
+
 /// What clears the line.
 const CLEARED: [u8; 4] = *b"\r\x1b[K";
 
@@ -43,12 +46,35 @@ pub(crate) enum Side {
     Receives,
 }
 
-/// When something was told.
+/// How many bytes a transfer had, so many milliseconds after it began.
+#[derive(Clone, Copy, Debug, PartialEq, Eq)]
+pub(crate) struct Mark {
+    bytes: u64,
+    millis: u64,
+}
+
+/// The beginning of a transfer.
+const START: Mark = Mark {
+    bytes: 0,
+    millis: 0,
+};
+
+/// The last two marks of a transfer.
+#[derive(Clone, Copy, Debug, PartialEq, Eq)]
+pub(crate) struct Span {
+    /// Where its last seconds begin.
+    from: Mark,
+    /// Where they are to begin next.
+    next: Mark,
+}
+
+/// When something was told, and how far the transfer was.
 #[derive(Clone, Copy)]
 struct Times {
     begun: Instant,
     shown: Instant,
     logged: Instant,
+    span: Span,
 }
 
 /// What tells how far `send` or `receive` is.
@@ -63,23 +89,58 @@ pub(crate) struct Teller<'a, N> {
     times: Option<Times>,
 }
 
-/// How far an end with these totals is.
-fn progress_of(side: Side, totals: &Totals, millis: u64, last: Option<Brief>) -> Progress
-    ensures { result ≡ spec.progress_of side (totals_seen totals.now) millis last }
+/// The bytes of an end with these totals.
+fn bytes_of(side: Side, totals: &Totals) -> u64
+    ensures { result ≡ spec.bytes_of side (totals_seen totals.now) }
 {
+    match side {
+        Side::Sends(_) => totals.accepted,
+        Side::Receives => totals.delivered,
+    }
+}
+
+/// The marks of a transfer that is here now.
+fn moved(span: Span, here: Mark) -> Span
+    ensures { result ≡ spec.moved span here }
+{
+    if here.millis.saturating_sub(span.next.millis) < MARK_MILLIS {
+        return span;
+    }
+    Span {
+        from: span.next,
+        next: here,
+    }
+}
+
+/// How far an end with these totals is, so many milliseconds after it began, and how much of it came since a mark.
+fn progress_of(
+    side: Side,
+    totals: &Totals,
+    from: Mark,
+    millis: u64,
+    waits: Option<Blocked>,
+    last: Option<Brief>,
+) -> Progress
+    ensures { result ≡ spec.progress_of side (totals_seen totals.now) from millis waits last }
+{
+    let millis = millis.saturating_sub(from.millis);
     match side {
         Side::Sends(length) => Progress {
             bytes: totals.accepted,
             length,
+            gained: totals.accepted.saturating_sub(from.bytes),
             millis,
             units: totals.paid,
+            waits,
             last,
         },
         Side::Receives => Progress {
             bytes: totals.delivered,
             length: None,
+            gained: totals.delivered.saturating_sub(from.bytes),
             millis,
             units: totals.credited,
+            waits,
             last,
         },
     }
@@ -97,7 +158,7 @@ pub(crate) fn has_terminal() -> bool {
     isatty(STDERR) == 1
 }
 
-/// Writes to the terminal, where it takes a text at once: one that was stopped (Ctrl-S) holds nothing up.
+/// Writes to standard error, where that takes a text at once: a terminal that was stopped (Ctrl-S) holds nothing up.
 pub(crate) fn put_terminal(text: &[u8]) {
     let mut fds = [pollfd {
         fd: STDERR,
@@ -125,6 +186,10 @@ impl<'a, N: Clock> Teller<'a, N> {
                 begun,
                 shown: begun,
                 logged: begun,
+                span: Span {
+                    from: START,
+                    next: START,
+                },
             }),
             Err(_) => None,
         };
@@ -138,13 +203,28 @@ impl<'a, N: Clock> Teller<'a, N> {
         }
     }
 
-    /// Writes the line.
-    fn show(&self, totals: &Totals, since: Duration, last: Option<Brief>) {
+    /// Writes the totals to the log now, where there is one.
+    pub(crate) fn tell_now(&self, totals: &Totals) {
+        tell_minute(self.rt, self.log, totals);
+    }
+
+    /// Writes the line, so long after the beginning. Returns the marks then.
+    fn show(
+        &self,
+        totals: &Totals,
+        span: Span,
+        since: Duration,
+        waits: Option<Blocked>,
+        last: Option<Brief>,
+    ) -> Span {
         let millis = u64::try_from(since.as_millis()).unwrap_or(u64::MAX);
-        let progress = progress_of(self.side, totals, millis, last);
+        let bytes = bytes_of(self.side, totals);
+        let span = moved(span, Mark { bytes, millis });
+        let progress = progress_of(self.side, totals, span.from, millis, waits, last);
         if let Ok(line) = shown(self.alloc, &progress) {
             put_terminal(line.as_bytes());
         }
+        span
     }
 }
 
@@ -162,7 +242,7 @@ impl<N: Clock> Watch for Teller<'_, N> {
         None
     }
 
-    fn look(&mut self, totals: &Totals, last: Option<Brief>) {
+    fn look(&mut self, totals: &Totals, waits: Option<Blocked>, last: Option<Brief>) {
         if self.period().is_none() {
             return;
         }
@@ -175,7 +255,8 @@ impl<N: Clock> Watch for Teller<'_, N> {
         let mut told = times;
         if self.on_terminal && is_due(now, times.shown, Duration::from_millis(LINE_MILLIS)) {
             told.shown = now;
-            self.show(totals, now.duration_since(times.begun), last);
+            let since = now.duration_since(times.begun);
+            told.span = self.show(totals, times.span, since, waits, last);
         }
         if is_due(now, times.logged, Duration::from_secs(LOG_SECONDS)) {
             told.logged = now;

@@ -1,14 +1,17 @@
 //! The command `receive`.
 
 ghost use Rattle.std.specs.Prelude.{◌≡◌, ◌≢◌, Err};
+ghost use Rattle.st_program.specs.Control as spec;
 ghost use Rattle.st_program.specs.Credentials.{AreOf};
 ghost use Rattle.st_program.specs.Settings.{IsReceiver};
 ghost use Rattle.st_program.specs.declared.error.RunError.TheVariants.{BadOption};
 
+use crate::control::{Control, Directed, pipe_of};
 use crate::credentials::Credentials;
 use crate::ends::{Asked, begin, end};
 use crate::error::RunError;
-use crate::log::Log;
+use crate::listening::tell_listening;
+use crate::log::{Log, tell_run};
 use crate::obstacle::Obstacle;
 use crate::progress::{Side, Teller};
 use crate::send::widest;
@@ -18,7 +21,7 @@ use st_end::Totals;
 use st_log::Start;
 use st_oer::CountWrite;
 use st_settings::ReceiveSettings;
-use st_transfer::{ReceiveTerms, RuntimeClock, TransferError, receive_on, server_end};
+use st_transfer::{ReceiveTerms, RuntimeClock, TransferError, Watch, receive_on, server_end};
 use std::alloc::Global;
 use std::fs::{File, Files};
 use std::io::Write;
@@ -34,6 +37,7 @@ fn transfer<
     alloc: Global,
     settings: &ReceiveSettings<'a>,
     credentials: &Credentials,
+    pipe: Option<File>,
     writer: &mut CountWrite<W>,
     log: Log<'_>,
     totals: &mut Totals,
@@ -50,6 +54,7 @@ fn transfer<
             return Err(RunError::NoListener);
         }
     };
+    tell_listening(rt, alloc, log, settings.verbose, &listener);
     match server_end(
         alloc,
         credentials.secret,
@@ -66,13 +71,39 @@ fn transfer<
                 log,
             };
             let clock = RuntimeClock::with_log(rt, log);
-            let mut watch = Teller::new(rt, alloc, log, Side::Receives);
+            let mut watch = directed(rt, alloc, settings, pipe, log);
             let ended = receive_on(rt, alloc, listener, end, writer, clock, terms, &mut watch);
             *totals = ended.totals;
-            ended.result?;
-            Ok(())
+            result_of(ended.result, watch.is_stopped())
         }
         Err(error) => Err(RunError::Transfer(TransferError::End(error))),
+    }
+}
+
+/// What tells how far the receiver is, and what it is asked by this pipe, where there is one.
+fn directed<'r, N: Files<File = File> + std::time::Clock>(
+    rt: &'r N,
+    alloc: Global,
+    settings: &ReceiveSettings<'r>,
+    pipe: Option<File>,
+    log: Log<'r>,
+) -> Directed<'r, N> {
+    let control = match pipe {
+        Some(pipe) => Some(Control::new(rt, alloc, pipe, log, settings.log, false)),
+        None => None,
+    };
+    let teller = Teller::new(rt, alloc, log, Side::Receives);
+    Directed::new(teller, control, settings.totals)
+}
+
+/// The result of a receiver. One that was asked to stop, and has no further request since, is well.
+fn result_of(ended: Result<u64, TransferError>, is_stopped: bool) -> Result<(), RunError>
+    ensures stopped { result ≡ spec.receiver_result ended is_stopped }
+{
+    match ended {
+        Ok(_) => Ok(()),
+        Err(TransferError::Turns | TransferError::Silent) if is_stopped => Ok(()),
+        Err(error) => Err(RunError::Transfer(error)),
     }
 }
 
@@ -95,7 +126,7 @@ fn asked_of<'a>(settings: &ReceiveSettings<'a>) -> Asked<'a>
 }
 
 /// Receives from one sender and writes the bytes to the output, as the settings say. Where a file that has the token or the
-/// secret, or one for events or totals, cannot be opened, nothing else is done. Sets what stood in its way.
+/// secret, one for events or totals, or the pipe by which it is asked things, cannot be opened, nothing else is done. Sets what stood in its way.
 pub(crate) fn receive<
     'a,
     W: Write,
@@ -116,11 +147,19 @@ pub(crate) fn receive<
     };
     let mut totals = nothing_yet();
     let log = begun.journal.as_ref();
+    let pipe = match pipe_of(rt, settings.control, obstacle) {
+        Ok(pipe) => pipe,
+        Err(error) => {
+            let _ = tell_run(rt, alloc, log, obstacle, Err(error));
+            return Err(error);
+        }
+    };
     let ended = transfer(
         rt,
         alloc,
         settings,
         &begun.credentials,
+        pipe,
         writer,
         log,
         &mut totals,

@@ -12,7 +12,7 @@ use crate::log::Log;
 use crate::obstacle::{Obstacle, Step};
 use crate::progress::{Side, Teller, has_terminal, input_length};
 use crate::totals::nothing_yet;
-use st_commands::TURNS;
+use st_commands::{Fault, TURNS};
 use st_end::Totals;
 use st_log::Start;
 use st_oer::CountRead;
@@ -21,10 +21,30 @@ use st_settings::SendSettings;
 use st_transfer::{Ended, Neighbour, SendTerms, TransferError, client_end, send_on};
 use std::alloc::Global;
 use std::fs::{File, Files};
-use std::io::Read;
+use std::io::{BufReader, Read};
 use std::net::{Net, TcpListener, TcpStream};
 use std::sync::Wait;
 use std::thread::Threads;
+
+/// The most bytes of one read of the input: four of the pieces that are put into a ring.
+const INPUT: usize = 16_384;
+
+/// The most bytes of one read of the random bytes: those of 341 IVs.
+const RANDOM: usize = 4_092;
+
+/// The reader behind a buffer of so many bytes.
+fn buffered<R: Read + Drop>(
+    alloc: Global,
+    capacity: usize,
+    reader: R,
+) -> Result<BufReader<R>, RunError>
+    ensures { result ≢ Err BadOption }
+{
+    match BufReader::with_capacity(alloc, capacity, reader) {
+        Ok(buffered) => Ok(buffered),
+        Err(_) => Err(RunError::Fault(Fault::NoMemory)),
+    }
+}
 
 /// The configuration of an end that may have the most bytes and packets in flight.
 pub(crate) fn widest() -> EndConfig {
@@ -63,12 +83,14 @@ fn terms_of<'a>(
 ) -> SendTerms<'a>
     ensures neighbour { result.neighbour ≡ neighbour.entry }
     ensures settings { (result.money ≡ settings.now.money) × (result.workers ≡ settings.now.workers) }
+    ensures patience { result.patience ≡ settings.now.patience }
 {
     let SendSettings { money, workers, .. } = *settings;
     SendTerms {
         neighbour,
         money,
         workers,
+        patience: settings.patience,
         turns: TURNS,
         log,
     }
@@ -108,6 +130,8 @@ fn transfer<
             return Err(RunError::NoRandom);
         }
     };
+    let random = buffered(alloc, RANDOM, random)?;
+    let input = buffered(alloc, INPUT, reader)?;
     match client_end(
         alloc,
         credentials.secret,
@@ -121,7 +145,7 @@ fn transfer<
             let Ended {
                 result,
                 totals: then,
-            } = send_on(rt, alloc, end, reader, random, terms, watch);
+            } = send_on(rt, alloc, end, input, random, terms, watch);
             *totals = then;
             result?;
             Ok(())

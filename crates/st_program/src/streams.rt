@@ -32,14 +32,17 @@ fn unless(is_open: bool, fault: Fault) -> Option<Fault>
     if is_open { None } else { Some(fault) }
 }
 
-/// The fault of a command that needs a standard stream which is closed: of the input for `send` and `connector`, of the
-/// output for `receive` and `ledger`. `frames`, `local` and `explain` open nothing: their first read or write fails.
+/// The fault of a command that needs a standard stream which is closed: of the input for `send` and for a `connector`
+/// without a file of its table, of the output for `receive` and `ledger`. `frames`, `local` and `explain` open nothing: their first read or write fails.
 pub(crate) fn missing(request: &Request<'_>, streams: Streams) -> Option<Fault>
     ensures { result ≡ spec.missing request.now streams }
 {
     match request {
         Request::Frames | Request::Local(_) | Request::Explain(_) => None,
-        Request::Send(_) | Request::Connector(_) => unless(streams.input, Fault::Input),
+        Request::Send(_) => unless(streams.input, Fault::Input),
+        Request::Connector(settings) => {
+            unless(streams.input || settings.table.is_some(), Fault::Input)
+        }
         Request::Receive(_) | Request::Ledger(_) => unless(streams.output, Fault::Output),
     }
 }

@@ -17,6 +17,7 @@ use st_end::Totals;
 use st_oer::CountWrite;
 use st_transfer::{AccountTotals, Counts, Minutes};
 use std::alloc::{AllocError, Global};
+use std::fs;
 use std::fs::{File, Files};
 use std::io::Write;
 
@@ -240,6 +241,27 @@ pub(crate) fn tell_totals<W: Write + Drop>(
     match file {
         Some(mut file) => ended_with(ended, put_totals(alloc, &mut file, totals)),
         None => ended,
+    }
+}
+
+/// Writes the totals of an end so far to its file, where that is a regular one. The totals at its end take their place: they are no
+/// shorter, since no total falls.
+pub(crate) fn put_totals_now<N: Files<File = File>>(
+    rt: &N,
+    alloc: Global,
+    name: Option<&str>,
+    totals: &Totals,
+) {
+    let Some(name) = name else {
+        return;
+    };
+    match fs::metadata(rt, name) {
+        Ok(found) if found.is_file() => {}
+        _ => return,
+    }
+    if let Ok(file) = File::create(rt, name) {
+        // (what cannot be written now may be at the end)
+        let _ = put_totals(alloc, &mut CountWrite::new(file), totals);
     }
 }
 

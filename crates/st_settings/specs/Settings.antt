@@ -1,5 +1,5 @@
 -- The settings that the texts of a command's options say.
-use Rattle.std.specs.Prelude.{◌≡◌, ℕ, ◌≤◌, ◌^◌, ◌-◌, true, ⊤, List, Option, Some, None, option_map}
+use Rattle.std.specs.Prelude.{◌≡◌, ℕ, ◌≤◌, ◌^◌, ◌-◌, Bool, true, ⊤, List, Option, Some, None, option_map}
 use Rattle.std.specs.Borrow.{Bor}
 use Rattle.st_oer.specs.Address.{is_address}
 use Rattle.st_settings.specs.declared.options.LocalOptions.{LocalOptions}
@@ -60,6 +60,7 @@ pub record SendTexts : Type 0 where
   pub peer : List ℕ
   pub money : List ℕ
   pub workers : List ℕ
+  pub patience : List ℕ
   pub random : List ℕ
   pub least : List ℕ
   pub totals : Option (List ℕ)
@@ -76,6 +77,7 @@ send_texts o = record {
   peer = o.peer.now;
   money = o.money.now;
   workers = o.workers.now;
+  patience = o.patience.now;
   random = o.random.now;
   least = o.least.now;
   totals = said o.totals;
@@ -95,6 +97,8 @@ pub record ReceiveTexts : Type 0 where
   pub patience : Option (List ℕ)
   pub totals : Option (List ℕ)
   pub log : Option (List ℕ)
+  pub verbose : Bool
+  pub control : Option (List ℕ)
 
 abbrev pub receive_texts : ReceiveOptions → ReceiveTexts
 receive_texts o = record {
@@ -109,27 +113,35 @@ receive_texts o = record {
   patience = said o.patience;
   totals = said o.totals;
   log = said o.log;
+  verbose = o.verbose;
+  control = said o.control;
 }
 
 -- the texts of `connector`
 pub record ConnectorTexts : Type 0 where
   pub listen : List ℕ
   pub own : List ℕ
-  pub requests : List ℕ
+  pub requests : Option (List ℕ)
   pub workers : List ℕ
   pub totals : Option (List ℕ)
   pub log : Option (List ℕ)
   pub ledger : Option (List ℕ)
+  pub verbose : Bool
+  pub control : Option (List ℕ)
+  pub table : Option (List ℕ)
 
 abbrev pub connector_texts : ConnectorOptions → ConnectorTexts
 connector_texts o = record {
   listen = o.listen.now;
   own = o.own.now;
-  requests = o.requests.now;
+  requests = said o.requests;
   workers = o.workers.now;
   totals = said o.totals;
   log = said o.log;
   ledger = said o.ledger;
+  verbose = o.verbose;
+  control = said o.control;
+  table = said o.table;
 }
 
 -- the texts ask `local` for this
@@ -147,6 +159,7 @@ pub record IsSend (o : SendTexts) (s : SendSettings) : Type 0 where
   pub peer : (s.peer.now ≡ o.peer) × (is_address o.peer ≡ true)
   pub money : IsWithin 0 most_money o.money s.money
   pub workers : IsWithin 1 most_workers o.workers s.workers
+  pub patience : IsWithin 10 86_400 o.patience s.patience
   pub random : s.random.now ≡ o.random
   pub least : IsRate o.least s.least
   pub totals : said s.totals ≡ o.totals
@@ -163,13 +176,18 @@ pub record IsReceive (o : ReceiveTexts) (s : ReceiveSettings) : Type 0 where
   pub patience : IsChosen 1 86_400 o.patience s.patience
   pub totals : said s.totals ≡ o.totals
   pub log : said s.log ≡ o.log
+  pub verbose : s.verbose ≡ o.verbose
+  pub control : said s.control ≡ o.control
 
 -- the texts ask `connector` for this
 pub record IsConnector (o : ConnectorTexts) (s : ConnectorSettings) : Type 0 where
   pub listen : (s.listen.now ≡ o.listen) × IsHostPort o.listen
   pub own : (s.own.now ≡ o.own) × (is_address o.own ≡ true)
-  pub requests : IsWithin 1 (2 ^ 31 - 1) o.requests s.requests
+  pub requests : IsChosen 1 (2 ^ 31 - 1) o.requests s.requests
   pub workers : IsWithin 1 most_workers o.workers s.workers
   pub totals : said s.totals ≡ o.totals
   pub log : said s.log ≡ o.log
   pub ledger : said s.ledger ≡ o.ledger
+  pub verbose : s.verbose ≡ o.verbose
+  pub control : said s.control ≡ o.control
+  pub table : said s.table ≡ o.table

@@ -31,8 +31,8 @@ pub use line::{AccountLine, Neighbour};
 pub use number::read_number;
 pub use options::{ConnectorOptions, LedgerOptions, LocalOptions, ReceiveOptions, SendOptions};
 pub use settings::{
-    ConnectorSettings, LocalSettings, MAX_HOPS, MAX_LOSE, MAX_MONEY, MAX_PATIENCE, MAX_REQUESTS,
-    MAX_STREAMS, MAX_WORKERS, ReceiveSettings, SendSettings,
+    ConnectorSettings, LEAST_SEND_PATIENCE, LocalSettings, MAX_HOPS, MAX_LOSE, MAX_MONEY,
+    MAX_PATIENCE, MAX_REQUESTS, MAX_STREAMS, MAX_WORKERS, ReceiveSettings, SendSettings,
 };
 pub use source::{Secret, Token};
 pub use table::{Table, read_table};

@@ -32,6 +32,8 @@ pub struct SendOptions<'a> {
     pub money: &'a str,
     /// The text of `--workers`.
     pub workers: &'a str,
+    /// The text of `--patience`.
+    pub patience: &'a str,
     /// The text of `--random`.
     pub random: &'a str,
     /// The text of `--least`.
@@ -67,6 +69,10 @@ pub struct ReceiveOptions<'a> {
     pub totals: Option<&'a str>,
     /// The text of `--log`, where it is given.
     pub log: Option<&'a str>,
+    /// Whether `--verbose` is given.
+    pub verbose: bool,
+    /// The text of `--control`, where it is given.
+    pub control: Option<&'a str>,
 }
 
 /// The texts of the options of `connector`.
@@ -76,8 +82,8 @@ pub struct ConnectorOptions<'a> {
     pub listen: &'a str,
     /// The text of `--own`.
     pub own: &'a str,
-    /// The text of `--requests`.
-    pub requests: &'a str,
+    /// The text of `--requests`, where it is given.
+    pub requests: Option<&'a str>,
     /// The text of `--workers`.
     pub workers: &'a str,
     /// The text of `--totals`, where it is given.
@@ -86,6 +92,12 @@ pub struct ConnectorOptions<'a> {
     pub log: Option<&'a str>,
     /// The text of `--ledger`, where it is given.
     pub ledger: Option<&'a str>,
+    /// Whether `--verbose` is given.
+    pub verbose: bool,
+    /// The text of `--control`, where it is given.
+    pub control: Option<&'a str>,
+    /// The text of `--table`, where it is given.
+    pub table: Option<&'a str>,
 }
 
 /// The texts of the arguments of `ledger`.

@@ -25,8 +25,10 @@ pub const MAX_STREAMS: u64 = 32;
 pub const MAX_MONEY: u64 = (1 << 63) - 1;
 /// The most worker threads of a command.
 pub const MAX_WORKERS: u64 = 16;
-/// The most seconds that `receive` can be asked to wait for a request: a day.
+/// The most seconds that `receive` can be asked to wait for a request, and that `send` can be asked to try on: a day.
 pub const MAX_PATIENCE: u64 = 86_400;
+/// The fewest seconds that `send` can be asked to try on, which are the default too.
+pub const LEAST_SEND_PATIENCE: u32 = 10;
 /// The most requests that a connector can be asked to answer.
 pub const MAX_REQUESTS: u64 = (1 << 31) - 1;
 
@@ -58,6 +60,8 @@ pub struct SendSettings<'a> {
     pub money: u64,
     /// The number of threads that send: 1 to 16, by default 4.
     pub workers: u8,
+    /// Over how many seconds the tries are spread after whose failure the connection fails: 10, the default, to 86,400.
+    pub patience: u64,
     /// The name of the file that random bytes are read from, by default /dev/urandom.
     pub random: &'a str,
     /// The lowest accepted rate: the units that have to arrive for the units that are sent, rounded down; by default 1
@@ -90,6 +94,10 @@ pub struct ReceiveSettings<'a> {
     pub totals: Option<&'a str>,
     /// The name of the file to which a line for each event is appended, where one was given.
     pub log: Option<&'a str>,
+    /// Whether the command reports on standard error what it does: where it listens.
+    pub verbose: bool,
+    /// The name of the pipe by which the command is asked things while it runs, where one was given.
+    pub control: Option<&'a str>,
 }
 
 /// The settings of `connector`.
@@ -99,8 +107,9 @@ pub struct ConnectorSettings<'a> {
     pub listen: &'a str,
     /// The connector's own ILP address.
     pub own: &'a str,
-    /// The number of requests that are answered before the connector ends: 1 to 2^31 - 1.
-    pub requests: u64,
+    /// The number of requests that are answered before the connector ends: 1 to 2^31 - 1. `None`, with `--endless`, is any
+    /// number.
+    pub requests: Option<u64>,
     /// The number of threads that answer: 1 to 16, by default 4.
     pub workers: u8,
     /// The name of the file that the totals are written to, where one was given.
@@ -109,6 +118,12 @@ pub struct ConnectorSettings<'a> {
     pub log: Option<&'a str>,
     /// The name of the file that the books are kept in, where one was given.
     pub ledger: Option<&'a str>,
+    /// Whether the command reports on standard error what it does: where it listens.
+    pub verbose: bool,
+    /// The name of the pipe by which the command is asked things while it runs, where one was given.
+    pub control: Option<&'a str>,
+    /// The name of the file that has the table, where one was given. Without one the table is standard input.
+    pub table: Option<&'a str>,
 }
 
 /// The number that bytes write, from `least` to `most`.
@@ -182,6 +197,11 @@ impl<'a> SendSettings<'a> {
             peer: address(options.peer)?,
             money: number(options.money, 0, MAX_MONEY)?,
             workers: number(options.workers, 1, MAX_WORKERS)? as u8,
+            patience: number(
+                options.patience,
+                u64::from(LEAST_SEND_PATIENCE),
+                MAX_PATIENCE,
+            )?,
             random: options.random,
             least: read_rate(options.least)?,
             totals: options.totals,
@@ -205,6 +225,8 @@ impl<'a> ReceiveSettings<'a> {
             patience: chosen(options.patience, 1, MAX_PATIENCE)?,
             totals: options.totals,
             log: options.log,
+            verbose: options.verbose,
+            control: options.control,
         })
     }
 }
@@ -217,11 +239,14 @@ impl<'a> ConnectorSettings<'a> {
         Some(ConnectorSettings {
             listen: host_port(options.listen)?,
             own: address(options.own)?,
-            requests: number(options.requests, 1, MAX_REQUESTS)?,
+            requests: chosen(options.requests, 1, MAX_REQUESTS)?,
             workers: number(options.workers, 1, MAX_WORKERS)? as u8,
             totals: options.totals,
             log: options.log,
             ledger: options.ledger,
+            verbose: options.verbose,
+            control: options.control,
+            table: options.table,
         })
     }
 }

@@ -1,5 +1,5 @@
 -- The threads of a connector and the requests that they claim.
-use Rattle.std.specs.Prelude.{◌≡◌, ◌⊎◌, ℕ, ◌+◌, ◌-◌, ◌<◌, ◌≤◌, Bool, true, false, if◌then◌else◌, List, slice_index, slice_set, Option, Some, None, IsNone, IsSome}
+use Rattle.std.specs.Prelude.{◌≡◌, ◌⊎◌, ℕ, ◌+◌, ◌-◌, ◌<◌, ◌≤◌, Bool, true, false, not, ◌&&◌, if◌then◌else◌, is_none, List, slice_index, slice_set, Option, Some, None, IsNone, IsSome}
 use Rattle.std.specs.Option.{option_or}
 use Rattle.st_oer.specs.Faults.{count_after}
 use Rattle.st_transfer.specs.declared.roster.Failed.{Failed}
@@ -10,8 +10,10 @@ use Rattle.st_transfer.specs.declared.error.TransferError.{TransferError}
 use Rattle.st_transfer.specs.declared.error.TransferError.TheVariants.{NoMemory}
 
 -- the requests that no thread has claimed; the threads that are being made, that accept and
--- that have a connection, each with a claim; how many of these last were to send to a neighbour for each account; the requests whose connections are done, or that are left to no thread; how often a thread began to accept;
--- how many ended since the last connection because their accepts failed; whether the last thread could not be made; and the fault
+-- that have a connection, each with a claim; how many of these last were to send to a neighbour for each account; the requests whose connections are done, or that are left to no thread since a fault ended all; those for which none is
+-- accepted any more since the connector is stopped; how often a thread began to accept;
+-- how many ended since the last connection because their accepts failed; whether the last thread could not be made; whether any
+-- number of connections is accepted; whether the connector is stopped; and the fault
 -- that ended all, so that no request is left
 pub record Roster : Type 0 where
   pub left : ℕ
@@ -20,9 +22,12 @@ pub record Roster : Type 0 where
   pub busy : ℕ
   pub sending : List ℕ
   pub spent : ℕ
+  pub unserved : ℕ
   pub begun : ℕ
   pub failed : ℕ
   pub refused : Bool
+  pub endless : Bool
+  pub stopped : Bool
   pub fault : Option TransferError
 
 -- all threads
@@ -62,9 +67,30 @@ abbrev pub without : (account : Option ℕ) → (sending : List ℕ) → List �
 without None sending = sending
 without (Some account) sending = slice_set sending account (slice_index sending account - 1)
 
+-- the connector is stopped: no request is left to any thread, and those that have a connection finish
+abbrev pub Stops : Roster → Roster → Type 0
+Stops a b = b ≡ record a { left = 0; unserved = a.unserved + a.left; stopped = true }
+
+-- then a thread that accepts ends without a connection
+abbrev pub LeavesUnserved : Roster → Roster → Type 0
+LeavesUnserved a b = (a.accepting ≡ b.accepting + 1) × (b ≡ record a { accepting = b.accepting; unserved = a.unserved + 1 })
+
+-- and one that could not be made is not asked for again
+abbrev pub IsMissed : Roster → Roster → Type 0
+IsMissed a b = (a.coming ≡ b.coming + 1) × (b ≡ record a { coming = b.coming; unserved = a.unserved + 1; refused = true })
+
+-- whether a request whose connection is done is left again: to an endless connector, until it is stopped or a fault ended all
+abbrev pub gives_back : Roster → Bool
+gives_back r = r.endless && (not r.stopped && is_none r.fault)
+
 -- it is done with its connection, which counts as a request whatever it brought, and sends for its account no more
 abbrev pub IsDone : Roster → (sent_for : Option ℕ) → Roster → Type 0
-IsDone a sent_for b = (a.busy ≡ b.busy + 1) × (b ≡ record a { busy = b.busy; sending = without sent_for a.sending; spent = a.spent + 1 })
+IsDone a sent_for b = (a.busy ≡ b.busy + 1) × (b ≡ record a {
+  busy = b.busy;
+  sending = without sent_for a.sending;
+  left = if gives_back a then a.left + 1 else a.left;
+  spent = if gives_back a then a.spent else a.spent + 1;
+})
 
 -- it accepts again, for one request more
 abbrev pub GoesOn : Roster → Roster → Type 0
@@ -83,17 +109,19 @@ Stays workers reached r = (0 < r.left) × (r.coming + r.accepting < workers + sp
 abbrev pub LeavesNone : Roster → TransferError → Roster → Type 0
 LeavesNone a e b = b ≡ record a { left = 0; spent = a.spent + a.left; fault = option_or a.fault (Some e) }
 
--- a thread that accepts ends by a fault, and no request is left to any other
+-- no request is left to any thread, and then the one that accepts ends
 abbrev pub EndsBy : Roster → TransferError → Roster → Type 0
-EndsBy a e b = (a.accepting ≡ b.accepting + 1) × LeavesNone (record a { accepting = b.accepting; spent = a.spent + 1 }) e b
+EndsBy a e b = (mid : Roster) × LeavesNone a e mid × Leaves mid b
 
--- a thread fails to accept. Where others accept, it ends, and its request is left again. The last one that accepts tries again
+-- a thread fails to accept. Where the connector is stopped, it ends. Where others accept, it ends, and its request is left again. The last one that accepts tries again
 -- while threads have connections; where none has, or a fault ended all, it ends, and so do all
 abbrev pub IsFailed : Roster → TransferError → Failed → Roster → Type 0
-IsFailed a e fails.Leave b = IsNone a.fault × (1 < a.accepting) × (a.accepting ≡ b.accepting + 1)
-    × (b ≡ record a { left = a.left + 1; accepting = b.accepting; failed = count_after 1 a.failed })
-IsFailed a e fails.Again b = IsNone a.fault × (a.accepting ≤ 1) × (0 < a.busy) × (b ≡ a)
-IsFailed a e fails.End b = (IsSome a.fault ⊎ ((a.accepting ≤ 1) × (a.busy ≡ 0)))
+IsFailed a e fails.Leave b = IsNone a.fault
+    × (((a.stopped ≡ true) × (0 < a.accepting → LeavesUnserved a b) × (a.accepting ≡ 0 → b ≡ a))
+    ⊎ ((a.stopped ≡ false) × (1 < a.accepting) × (a.accepting ≡ b.accepting + 1)
+    × (b ≡ record a { left = a.left + 1; accepting = b.accepting; failed = count_after 1 a.failed })))
+IsFailed a e fails.Again b = IsNone a.fault × (a.stopped ≡ false) × (a.accepting ≤ 1) × (0 < a.busy) × (b ≡ a)
+IsFailed a e fails.End b = (IsSome a.fault ⊎ ((a.stopped ≡ false) × (a.accepting ≤ 1) × (a.busy ≡ 0)))
     × (0 < a.accepting → EndsBy a e b) × (a.accepting ≡ 0 → LeavesNone a e b)
 
 -- the only thread could not be made, so that memory or threads are wanting, or a fault ended all before: no request is left

@@ -52,6 +52,11 @@ IsWait time millis =
     ((as_nanos time / 1000000 < longest_wait) × (millis ≡ pos (as_nanos time / 1000000 + 1)))
     ⊎ ((longest_wait ≤ as_nanos time / 1000000) × (millis ≡ pos longest_wait))
 
+-- the pause of a sender between two tries after a failure, in nanoseconds, where it tries on for so many seconds: the share of one of
+-- the 200 failures in a row after which a connection fails
+abbrev pub pause_in : (seconds : ℕ) → ℕ
+pause_in seconds = seconds * 1_000_000_000 / 200
+
 -- a time of so many seconds; none where no number is given
 abbrev pub IsSeconds : Option ℕ → Option Duration → Type 0
 IsSeconds None time = time ≡ None

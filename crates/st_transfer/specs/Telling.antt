@@ -1,5 +1,5 @@
 -- What is told to the log.
-use Rattle.std.specs.Prelude.{ℕ, ◌==◌, bytes_eq, if◌then◌else◌, Option, Some, None}
+use Rattle.std.specs.Prelude.{ℕ, Bool, true, false, ◌==◌, bytes_eq, if◌then◌else◌, Option, Some, None}
 use Rattle.st_http.specs.Errors.{number}
 use Rattle.st_link.specs.Links.{status_of}
 use Rattle.st_link.specs.declared.cause.LinkCause.{LinkCause}
@@ -12,7 +12,9 @@ use Rattle.st_sender.specs.declared.notice.Blocked.TheVariants as stops
 use Rattle.st_end.specs.Failed.{Failed, Lost as NoneCame, Unreadable, Unfit, Rejected}
 use Rattle.st_log.specs.declared.event.Event.{Event}
 use Rattle.st_log.specs.declared.event.Event.TheVariants as event
+use Rattle.st_log.specs.declared.event.Blocked.{Blocked}
 use Rattle.st_log.specs.declared.event.Blocked.TheVariants as limit
+use Rattle.st_transfer.specs.declared.watching.Reached.{Reached}
 use Rattle.st_log.specs.declared.event.Cause.{Cause}
 use Rattle.st_log.specs.declared.event.Cause.TheVariants as cause
 use Rattle.st_log.specs.declared.event.Unreached.{Unreached}
@@ -52,3 +54,23 @@ abbrev pub wait_told : sender.Blocked → Event
 wait_told (stops.Connection most) = event.Waits (limit.ConnectionData most)
 wait_told (stops.Data k most) = event.Waits (limit.StreamData k most)
 wait_told (stops.Money k most total) = event.Waits (limit.StreamMoney k most total)
+
+-- a limit that the next Prepare tells
+abbrev pub told_by_next : Blocked → Reached
+told_by_next at = record { limit = at; is_sent = false }
+
+-- one on money stands while bytes are sent
+abbrev pub is_on_money : Blocked → Bool
+is_on_money (limit.ConnectionData most) = false
+is_on_money (limit.StreamData k most) = false
+is_on_money (limit.StreamMoney k most total) = true
+
+-- what is known of a limit once one more Prepare is sent: where that is not the one that tells it, a limit on bytes was raised
+abbrev pub after_next : Reached → Option Reached
+after_next r = if r.is_sent then (if is_on_money r.limit then Some r else None) else Some (record r { is_sent = true })
+
+-- the limit at which an end waits that paid so many units: one on money was raised where more was paid since
+abbrev pub waits_at : Blocked → (paid : ℕ) → Option Blocked
+waits_at (limit.ConnectionData most) paid = Some (limit.ConnectionData most)
+waits_at (limit.StreamData k most) paid = Some (limit.StreamData k most)
+waits_at (limit.StreamMoney k most total) paid = if paid == total then Some (limit.StreamMoney k most total) else None

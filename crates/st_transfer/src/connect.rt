@@ -1,20 +1,22 @@
 //! The command `connector`.
 
-ghost use Rattle.std.specs.Prelude.{◌≡◌, ◌⊎◌, Err, IfErr, IfOk, IsSome, MatchOption, Some, length, sum, vec_len, pos, ◌+ℤ◌};
+ghost use Rattle.std.specs.Prelude.{◌≡◌, ◌⊎◌, Err, IfErr, IfOk, IsOkUnless, IsSome, MatchOption, Some, length, sum, vec_len, pos, ◌+ℤ◌};
 ghost use Rattle.st_ilp.specs.Moments.{IsMoment};
 ghost use Rattle.st_transfer.specs.Accounts.{AreTotalsOf};
 ghost use Rattle.st_transfer.specs.Moments.{IsEarlier};
-ghost use Rattle.st_transfer.specs.declared.error.TransferError.TheVariants.{NoMemory};
+ghost use Rattle.st_transfer.specs.declared.error.TransferError.TheVariants.{Accept, NoMemory};
 
 use crate::accounts::{AccountTotals, note, places};
 use crate::clock::{LastMoment, SharedClock};
 use crate::counts::{Came, Counts, came_of, count_answer};
 use crate::crew::{Crew, CrewEnded, Wanted};
 use crate::error::TransferError;
-use crate::minutes::{Minutes, tell_minute};
+use crate::minutes::{Minutes, Order, tell_minute};
 use crate::neighbour::Neighbourhood;
 use crate::roster::Failed;
-use crate::serving::{accept_next, serve_on, shut};
+use crate::serving::{
+    PAUSE, TRIES, Tried, accept_next, accept_soon, accept_without_waits, serve_on, shut,
+};
 use crate::storing::Storing;
 use crate::telling::{Sent, tell_outcome, tell_served};
 use crate::terms::ConnectTerms;
@@ -24,16 +26,17 @@ use st_desk::{AccountShares, HopDesk, Links, Owed, Served, Till, serve};
 use st_hop::{HopState, Outcome};
 use st_http::Answerer;
 use st_ilp::Moment;
-use st_link::{LinkCause, deadline_in};
+use st_link::{LinkCause, deadline_in, left_until};
 use std::alloc::Global;
+use std::cell::Cell;
 use std::io::{Read, Write};
 use std::marker::Brand;
-use std::net::{Net, OpenStream};
+use std::net::{Net, OpenStream, SocketAddr};
 use std::sync::ledger::{Blank, Ledger};
 use std::sync::{Mutex, Wait};
 use std::thread;
 use std::thread::{Scope, Threads};
-use std::time::Clock;
+use std::time::{Clock, Duration, Instant};
 
 /// How a connector ended.
 #[derive(Drop)]
@@ -48,6 +51,8 @@ pub struct ConnectorEnded {
     /// How many Prepares were answered with T00 in place of being forwarded, because too many threads were busy, or too many
     /// for their account.
     pub overloaded: u64,
+    /// For how many requests no connection was accepted, since the connector was stopped or paused before.
+    pub unserved: u64,
     /// How many threads were to wait for a connection at any time.
     pub workers: u8,
 }
@@ -60,6 +65,10 @@ struct Common<'a, C: Ledger, D: Ledger, L> {
     desk: Mutex<HopDesk<C, D, Global>>,
     shares: Mutex<AccountShares<C, D>>,
     counts: Mutex<Counts>,
+    /// Whether it may be asked to stop: then no thread waits long for a connection.
+    is_asked: bool,
+    /// That of the thread which waits for a connection, where no thread waits long.
+    turn: Mutex<()>,
     /// The moment that the clock gave last, to any thread.
     last: Mutex<LastMoment>,
     crew: Crew,
@@ -154,6 +163,8 @@ struct Server<'a, C: Ledger, D: Ledger, K: Keeper, L, R: Net + Wait + Clock> {
     sent_for: Option<usize>,
     /// Whether the exchange of the last request could not connect to its neighbour.
     is_unreached: bool,
+    /// Set where the last request is to have no answer.
+    withheld: &'a Cell<bool>,
 }
 
 impl<C: Ledger, D: Ledger, K: Keeper, L: AwaitListener, R: Net + Wait + Clock> Answerer
@@ -172,6 +183,7 @@ impl<C: Ledger, D: Ledger, K: Keeper, L: AwaitListener, R: Net + Wait + Clock> A
             account: at,
             sent_for,
             is_unreached,
+            withheld,
         } = self;
         let (rt, common) = (*rt, *common);
         let mut ways = Ways {
@@ -200,11 +212,16 @@ impl<C: Ledger, D: Ledger, K: Keeper, L: AwaitListener, R: Net + Wait + Clock> A
         }
         match served {
             Ok(Served { account, answer }) => {
-                count_answer(rt, &common.counts, account, ways.came, &answer);
                 *at = Some(account);
                 *is_unreached = ways.is_unreached;
-                tell_served(rt, common.terms.log, account, &answer, ways.sent);
-                Some(answer)
+                match &answer {
+                    Some(answer) => {
+                        count_answer(rt, &common.counts, account, ways.came, answer);
+                        tell_served(rt, common.terms.log, account, answer, ways.sent);
+                    }
+                    None => withheld.set(true),
+                }
+                answer
             }
             Err(_) => None,
         }
@@ -220,6 +237,66 @@ impl<C: Ledger, D: Ledger, K: Keeper, L, R: Net + Wait + Clock> Server<'_, C, D,
         self.latest = latest_after(now);
         self.sent_for = None;
         self.is_unreached = false;
+        self.withheld.set(false);
+    }
+}
+
+/// Tries to accept a connection, once no other thread does. None comes to a connector that is stopped.
+fn try_accept<C: Ledger, D: Ledger, L: AwaitListener, R: Wait>(
+    rt: &R,
+    common: &Common<'_, C, D, L>,
+) -> Tried<L::Stream> {
+    let turn = common.turn.lock(rt);
+    let tried = if common.crew.is_stopped(rt) {
+        Tried::Nothing
+    } else {
+        accept_soon(common.listener)
+    };
+    drop(turn);
+    tried
+}
+
+/// Accepts the next connection, as `accept_next` does. `None` where the connector is stopped before.
+fn accept_asked<C: Ledger, D: Ledger, L: AwaitListener, R: Wait + Clock>(
+    rt: &R,
+    common: &Common<'_, C, D, L>,
+) -> Result<Option<(L::Stream, SocketAddr)>, TransferError>
+    ensures refused { IsOkUnless result Accept }
+{
+    let mut failures = 0;
+    for _ in rt.forever() {
+        if !common.crew.rest(rt) {
+            return Ok(None);
+        }
+        match try_accept(rt, common) {
+            Tried::Came(stream, from) => return Ok(Some((stream, from))),
+            Tried::Nothing => failures = 0,
+            Tried::Failed if failures < TRIES - 1 => {
+                failures += 1;
+                thread::sleep(rt, Duration::from_millis(PAUSE));
+            }
+            Tried::Failed | Tried::Shut => {
+                thread::sleep(rt, Duration::from_millis(PAUSE));
+                return Err(TransferError::Accept);
+            }
+        }
+    }
+    unreachable!()
+}
+
+/// Accepts the next connection. `None` where the connector is stopped before.
+fn accept_one<C: Ledger, D: Ledger, L: AwaitListener, R: Wait + Clock>(
+    rt: &R,
+    common: &Common<'_, C, D, L>,
+) -> Result<Option<(L::Stream, SocketAddr)>, TransferError>
+    ensures refused { IsOkUnless result Accept }
+{
+    if common.is_asked {
+        return accept_asked(rt, common);
+    }
+    match accept_next(rt, common.listener) {
+        Ok(accepted) => Ok(Some(accepted)),
+        Err(error) => Err(error),
     }
 }
 
@@ -230,7 +307,7 @@ fn serve_next<C: Ledger, D: Ledger, K: Keeper, L: AwaitListener, R: Net + Wait +
 where
     L::Stream: Read + Write + OpenStream,
 {
-    let (rt, common) = (server.rt, server.common);
+    let (rt, common, withheld) = (server.rt, server.common, server.withheld);
     let Common {
         alloc,
         listener,
@@ -238,8 +315,9 @@ where
         terms,
         ..
     } = common;
-    match accept_next(rt, *listener) {
-        Ok((stream, from)) => {
+    match accept_one(rt, common) {
+        Ok(None) => false,
+        Ok(Some((stream, from))) => {
             let Some(needed) = crew.take(rt) else {
                 return false;
             };
@@ -252,6 +330,7 @@ where
                 terms.tokens,
                 server,
                 terms.turns,
+                withheld,
                 terms.log,
             );
             crew.finish(rt, server.sent_for, !server.is_unreached)
@@ -277,6 +356,7 @@ where
     L::Stream: Read + Write + OpenStream,
 {
     let crew = &common.crew;
+    let withheld = Cell::new(false);
     let mut server = Server {
         rt,
         common,
@@ -296,6 +376,7 @@ where
         account: None,
         sent_for: None,
         is_unreached: false,
+        withheld: &withheld,
     };
     crew.begin(rt);
     for _ in rt.forever() {
@@ -339,6 +420,102 @@ where
     scope.spawn(move || serve_job(job)).is_ok()
 }
 
+/// When the manager of a connector's threads has something else to do.
+#[derive(Clone, Copy)]
+struct Next {
+    /// When a period ends.
+    period_ends: Option<Instant>,
+    /// When it looks for an order, where there may be one.
+    looks: Option<Instant>,
+}
+
+/// How long the manager waits before it looks for an order.
+const LOOK_MILLIS: u64 = 200;
+
+/// How many orders there may be at one look.
+const MOST_ORDERS: u32 = 64;
+
+impl Next {
+    fn new<C: Ledger, D: Ledger, L>(rt: &impl Clock, common: &Common<'_, C, D, L>) -> Next {
+        let mut next = Next {
+            period_ends: deadline_in(rt, common.terms.period),
+            looks: None,
+        };
+        next.look_later(rt, common.is_asked);
+        next
+    }
+
+    fn look_later(&mut self, rt: &impl Clock, is_asked: bool) {
+        if is_asked {
+            self.looks = deadline_in(rt, Duration::from_millis(LOOK_MILLIS));
+        }
+    }
+
+    /// The earlier of both moments.
+    fn moment(&self) -> Option<Instant> {
+        match (self.period_ends, self.looks) {
+            (Some(one), Some(other)) => Some(one.min(other)),
+            (one, other) => one.or(other),
+        }
+    }
+
+    /// A moment has come: the period may be over, and there may be orders.
+    fn come<C: Ledger, D: Ledger, M: Minutes, L: AwaitListener, R: Wait + Clock>(
+        &mut self,
+        rt: &R,
+        common: &Common<'_, C, D, L>,
+        accounts: &mut [AccountTotals],
+        minutes: &mut M,
+    ) {
+        if left_until(rt, self.period_ends).is_none() {
+            report(rt, common, accounts, minutes);
+            self.period_ends = deadline_in(rt, common.terms.period);
+        }
+        if common.is_asked && left_until(rt, self.looks).is_none() {
+            obey(rt, common, accounts, minutes);
+        }
+        self.look_later(rt, common.is_asked);
+    }
+}
+
+/// Tells what the connector has, for which `accounts` has places.
+fn report<C: Ledger, D: Ledger, M: Minutes, L>(
+    rt: &impl Wait,
+    common: &Common<'_, C, D, L>,
+    accounts: &mut [AccountTotals],
+    minutes: &mut M,
+) {
+    let Common {
+        alloc,
+        desk,
+        counts,
+        crew,
+        ..
+    } = common;
+    tell_minute(rt, *alloc, desk, counts, crew, accounts, minutes);
+}
+
+/// Does what the connector is asked for.
+fn obey<C: Ledger, D: Ledger, M: Minutes, L: AwaitListener>(
+    rt: &impl Wait,
+    common: &Common<'_, C, D, L>,
+    accounts: &mut [AccountTotals],
+    minutes: &mut M,
+) {
+    for _ in 0..MOST_ORDERS {
+        match minutes.next_order() {
+            Order::Nothing => return,
+            Order::Done => {}
+            Order::Report => report(rt, common, accounts, minutes),
+            Order::Pause => common.crew.stop(rt),
+            Order::Stop => {
+                common.crew.stop(rt);
+                shut(common.listener);
+            }
+        }
+    }
+}
+
 /// Makes the threads of a connector in a scope, wherever too few of them accept, until none is left. Each period it tells
 /// what the connector has, for which `accounts` has places.
 fn make_threads<
@@ -360,27 +537,17 @@ where
     R::Stream: Send,
     R::Listener: AwaitListener + Send + Sync,
 {
-    let Common {
-        alloc,
-        desk,
-        counts,
-        crew,
-        terms,
-        ..
-    } = job.common;
-    let mut period_ends = deadline_in(rt, terms.period);
+    let crew = &job.common.crew;
+    let mut next = Next::new(rt, job.common);
     for _ in rt.forever() {
-        match crew.wants(rt, period_ends) {
+        match crew.wants(rt, next.moment()) {
             Wanted::Nothing => return,
             Wanted::Thread => {
                 if !spawn_one(scope, job) {
                     crew.do_without(rt);
                 }
             }
-            Wanted::Report => {
-                tell_minute(rt, *alloc, desk, counts, crew, accounts, minutes);
-                period_ends = deadline_in(rt, terms.period);
-            }
+            Wanted::Moment => next.come(rt, job.common, accounts, minutes),
         }
     }
 }
@@ -437,6 +604,7 @@ fn common_of<'a, C: Ledger, D: Ledger, L>(
     listener: &'a L,
     mut desk: HopDesk<C, D, Global>,
     terms: ConnectTerms<'a>,
+    is_asked: bool,
 ) -> Result<Common<'a, C, D, L>, TransferError>
     ensures { IfOk result (λ common. common.crew.workers ≡ terms.entry.workers) }
 {
@@ -453,6 +621,8 @@ fn common_of<'a, C: Ledger, D: Ledger, L>(
         counts: Mutex::new(counts),
         last: Mutex::new(LastMoment::none()),
         crew,
+        is_asked,
+        turn: Mutex::new(()),
         neighbourhood,
         t00,
         terms,
@@ -488,16 +658,20 @@ where
 {
     let workers = terms.workers;
     let desk = HopDesk::<C, D, Global>::new(alloc, hop, claims, dues);
-    let common = match common_of(alloc, listener, desk, terms) {
+    let common = match common_of(alloc, listener, desk, terms, minutes.is_asked()) {
         Ok(common) => common,
         Err(error) => return ConnectorEnded {
             result: Err(error),
             accounts,
             counts: Counts::none(alloc),
             overloaded: 0,
+            unserved: 0,
             workers,
         },
     };
+    if common.is_asked {
+        accept_without_waits(listener);
+    }
     let mut accounts = accounts;
     let job = Job {
         rt,
@@ -515,6 +689,7 @@ where
     let CrewEnded {
         workers,
         overloaded,
+        unserved,
         fault,
     } = crew.ended();
     let served = match fault {
@@ -533,6 +708,7 @@ where
         accounts,
         counts: counts.into_inner(),
         overloaded,
+        unserved,
         workers,
     }
 }
@@ -551,8 +727,8 @@ where
 /// connection.
 ///
 /// With a `till`, what a Fulfill books is committed there before the Fulfill is passed back, each booking once. A Fulfill
-/// that could not be stored is answered with T01 in its place. The till has to be for `MOST_THREADS`. Without one, what is
-/// booked is in memory alone.
+/// that was not stored is answered with T01 in its place. Where the books refused the commit that had it, nobody knows, and the
+/// connection is closed without an answer. The till has to be for `MOST_THREADS`. Without one, what is booked is in memory alone.
 ///
 /// A thread to which the listener gives no connection 100 times in a row ends where others wait for one, and no further
 /// thread is made in its place until one of them has a connection.
@@ -564,14 +740,17 @@ where
 /// file descriptor is not shut: each thread that waits at it ends once it gives a connection or an error.
 ///
 /// `minutes` is told each period of the terms, by the thread that calls, what the accounts have then. Meanwhile no thread
-/// is made, so that it is to take little time.
+/// is made, so that it is to take little time. Where it may ask for something, that is looked for each 200 milliseconds, and
+/// one thread at a time waits for a connection, for no longer. Once it asks for a stop, the listener is shut, no further
+/// connection is accepted, and those that threads have are finished. That is no fault. Once it asks for a pause, the listener stays
+/// as it is, and connections wait there.
 ///
 /// The call ends with its threads. The totals of the accounts, and how their Prepares ended, are given whatever the result
 /// is.
 pub fn connector_on<R: Net + Threads + Wait + Clock + Sync, K: Keeper + Send + Drop, M: Minutes>(
     rt: &R,
     alloc: Global,
-    listener: R::Listener,
+    listener: &R::Listener,
     hop: HopState<Global>,
     terms: ConnectTerms<'_>,
     till: Option<&Till<K, Global>>,
@@ -587,7 +766,7 @@ where
         Ok(accounts) => run::<Brand, Brand, K, M, R>(
             rt,
             alloc,
-            &listener,
+            listener,
             hop,
             Blank::new(64),
             Blank::new(64),
@@ -601,6 +780,7 @@ where
             accounts: Vec::new(alloc),
             counts: Counts::none(alloc),
             overloaded: 0,
+            unserved: 0,
             workers: terms.workers,
         },
     }

@@ -17,8 +17,8 @@ const RETRY_SECONDS: u64 = 1;
 pub(crate) enum Wanted {
     /// One more thread is to be made, for which a request is claimed.
     Thread,
-    /// The period is over.
-    Report,
+    /// A moment has come.
+    Moment,
     /// No thread is left.
     Nothing,
 }
@@ -42,6 +42,8 @@ pub(crate) struct CrewEnded {
     pub(crate) workers: u8,
     /// How many requests were not sent to a neighbour because too many threads were busy, or too many for their account.
     pub(crate) overloaded: u64,
+    /// For how many requests no connection was accepted, since the connector was stopped.
+    pub(crate) unserved: u64,
     /// The fault that ended all.
     pub(crate) fault: Option<TransferError>,
 }
@@ -49,10 +51,11 @@ pub(crate) struct CrewEnded {
 // Each function here that takes the lock lets it go before it returns.
 
 impl Crew {
-    /// No threads yet, for a given number of requests, and so many accounts. At any time `workers` threads are to accept.
+    /// No threads yet, for a given number of requests or for any, and so many accounts. At any time `workers` threads are to
+    /// accept.
     pub(crate) fn new(
         alloc: Global,
-        requests: u64,
+        requests: Option<u64>,
         workers: u8,
         accounts: usize,
     ) -> Result<Crew, AllocError>
@@ -67,27 +70,49 @@ impl Crew {
         })
     }
 
-    /// Waits until one more thread is to be made, for which a request is claimed, until no thread is left, or for the end of
-    /// a period, where there is one.
-    pub(crate) fn wants<R: Wait + Clock>(&self, rt: &R, period_ends: Option<Instant>) -> Wanted {
+    /// Waits until one more thread is to be made, for which a request is claimed, until no thread is left, or for a moment,
+    /// where there is one. The moment goes first: where threads cannot be made, it comes all the same.
+    pub(crate) fn wants<R: Wait + Clock>(&self, rt: &R, moment: Option<Instant>) -> Wanted {
         let mut roster = self.roster.lock(rt);
         for _ in rt.forever() {
+            let left = left_until(rt, moment);
+            if moment.is_some() && left.is_none() {
+                return Wanted::Moment;
+            }
             if roster.hire(self.workers) {
                 return Wanted::Thread;
             }
             if roster.threads() == 0 {
                 return Wanted::Nothing;
             }
-            if period_ends.is_none() {
-                roster = self.changed.wait(rt, roster);
-                continue;
-            }
-            let Some(left) = left_until(rt, period_ends) else {
-                return Wanted::Report;
+            roster = match left {
+                Some(left) => self.changed.wait_timeout(rt, roster, left).0,
+                None => self.changed.wait(rt, roster),
             };
-            roster = self.changed.wait_timeout(rt, roster, left).0;
         }
         unreachable!()
+    }
+
+    /// Stops the connector: no further thread takes a connection, and those that have one finish. Each that accepts is to be
+    /// woken.
+    pub(crate) fn stop(&self, rt: &impl Wait) {
+        self.roster.lock(rt).stop();
+        self.changed.notify_one();
+        self.relieved.notify_all();
+    }
+
+    /// Whether the connector is stopped.
+    pub(crate) fn is_stopped(&self, rt: &impl Wait) -> bool {
+        self.roster.lock(rt).is_stopped()
+    }
+
+    /// A thread that accepts looks whether it is to go on. It is not where the connector is stopped.
+    pub(crate) fn rest(&self, rt: &impl Wait) -> bool {
+        let goes_on = self.roster.lock(rt).rest();
+        if !goes_on {
+            self.changed.notify_one();
+        }
+        goes_on
     }
 
     /// How many requests were not sent to a neighbour so far.
@@ -186,14 +211,17 @@ impl Crew {
             roster,
             ..
         } = self;
+        let roster = roster.into_inner();
+        let unserved = roster.unserved();
         let Roster {
             overloaded,
             fault,
             ..
-        } = roster.into_inner();
+        } = roster;
         CrewEnded {
             workers,
             overloaded,
+            unserved,
             fault,
         }
     }

@@ -9,7 +9,7 @@ ghost use Rattle.st_transfer.specs.Lobby.{IsOfLobby};
 ghost use Rattle.st_transfer.specs.declared.error.TransferError.TheVariants.{Accept, Silent, Turns};
 
 use crate::error::TransferError;
-use crate::serving::{PAUSE, WRITE_SECONDS, accept_next};
+use crate::serving::{PAUSE, WRITE_SECONDS, accept_next, shut};
 use crate::telling::{Log, tell_connection};
 use crate::waiting::{AwaitListener, Patience, millis_of};
 use crate::watching::{Idle, Watch};
@@ -305,6 +305,15 @@ where
         }
     }
 
+    /// Accepts no further connection. Those on which a request is on its way stay.
+    fn stop(&mut self)
+        ensures left { self.new.left ≡ 0 }
+        ensures kept { vec_len self.new.guests ≡ vec_len self.old.guests }
+    {
+        self.left = 0;
+        shut(self.listener);
+    }
+
     /// Reads what has arrived on a connection, and gives it once its request has come whole.
     fn read(&mut self, place: usize) -> Option<Guest<'a, L::Stream, R>>
         requires { place < vec_len self.old.guests }
@@ -335,7 +344,8 @@ where
     /// status. `idle` is told each period meanwhile.
     ///
     /// Fails with `Accept` where the listener gives no connection 100 times in a row; with `Silent` where no request came
-    /// for as long as the patience lasts; with `Turns` where no further connection may be accepted and none is left.
+    /// for as long as the patience lasts; with `Turns` where no further connection may be accepted and none is left, as once
+    /// `idle` says that it is stopped.
     pub(crate) fn next<V: Watch>(
         &mut self,
         patience: &Patience,
@@ -354,16 +364,19 @@ where
             }
             let ready = self.wait(patience, idle.period())?;
             idle.look();
+            if self.left > 0 && idle.is_stopped() {
+                self.stop();
+            }
             if let Some(place) = ready.guest
                 && let Some(guest) = self.read(place)
             {
                 return Ok(guest);
             }
-            if ready.accept {
+            if ready.accept && self.left > 0 {
                 self.accept(patience)?;
             }
         }
-        self.left = 0;
+        self.stop();
         Err(TransferError::Turns)
     }
 }

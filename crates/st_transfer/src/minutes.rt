@@ -8,8 +8,33 @@ use std::alloc::Global;
 use std::sync::ledger::Ledger;
 use std::sync::{Mutex, Wait};
 
-/// Something that is told each period what a connector has of its accounts, while it runs.
+/// What a connector is asked while it runs.
+#[derive(Clone, Copy, Debug, PartialEq, Eq)]
+pub enum Order {
+    /// Nothing, for now.
+    Nothing,
+    /// Something that was done by whoever gives the order. More may follow.
+    Done,
+    /// To tell what it has of its accounts, as each period.
+    Report,
+    /// To accept no further connection, to finish those that it has, and to end then.
+    Stop,
+    /// The same, but the listener stays as it is: connections wait there for whoever accepts next.
+    Pause,
+}
+
+/// Something that is told each period what a connector has of its accounts, while it runs, and that may ask it for something.
 pub trait Minutes {
+    /// Whether the connector may be asked for something. Then it looks for the next order each 200 milliseconds.
+    fn is_asked(&self) -> bool {
+        false
+    }
+
+    /// The next thing that the connector is asked for. It is not to wait. No lock is held meanwhile, but no thread is made.
+    fn next_order(&mut self) -> Order {
+        Order::Nothing
+    }
+
     /// A period is over. `totals` and `counts` are copies, by the account's place, and `overloaded` is how many Prepares
     /// were answered with T00 because too many threads were busy. No lock is held meanwhile, but no thread is made.
     fn minute(&mut self, totals: &[AccountTotals], counts: &Counts, overloaded: u64);

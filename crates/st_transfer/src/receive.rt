@@ -120,7 +120,7 @@ where
 /// time that the receiver waited: for what arrives, and for a period at most.
 ///
 /// The result is `Accept` where the listener gives no connection 100 times in a row while none is open; `Silent` where no
-/// valid request arrived for as long as the patience lasts; `Turns` after the last connection; `File` where the output
+/// valid request arrived for as long as the patience lasts; `Turns` after the last connection, also where `watch` stopped it; `File` where the output
 /// fails or its calls are used up, and where the peer aborted the stream; `End` where `end` refuses the receive maximum,
 /// or memory to read the stream is refused. What arrived before is written.
 pub fn receive_on<

@@ -1,8 +1,8 @@
 //! How many threads of a connector accept, how many requests they may still take, and which of them may send.
 
-ghost use Rattle.std.specs.Prelude.{◌≡◌, ◌⊎◌, ◌+◌, ◌-◌, ◌<◌, ◌↔◌, ℕ, false, replicate, slice_index, slice_set, IfOk, IsNone, IsSome, IsTrue, MatchBool, None, Some};
+ghost use Rattle.std.specs.Prelude.{◌≡◌, ◌⊎◌, ◌+◌, ◌-◌, ◌^◌, ◌<◌, ◌↔◌, ℕ, false, true, not, is_none, replicate, slice_index, slice_set, unwrap_or, IfOk, IsNone, IsSome, IsTrue, MatchBool, None, Some};
 ghost use Rattle.st_oer.specs.Faults.{count_after};
-ghost use Rattle.st_transfer.specs.Crew.{threads_of, Hires, LeavesAgain, GivesUp, Wants, Begins, Takes, Leaves, IsNeeded, IsDone, GoesOn, Stays, LeavesNone, IsFailed, HasPlace, Sends, IsLeave};
+ghost use Rattle.st_transfer.specs.Crew.{threads_of, Hires, LeavesAgain, LeavesUnserved, IsMissed, Stops, GivesUp, Wants, Begins, Takes, Leaves, IsNeeded, IsDone, GoesOn, Stays, LeavesNone, IsFailed, HasPlace, Sends, IsLeave};
 ghost use Rattle.st_transfer.specs.declared.error.TransferError.TheVariants.{Books};
 
 use crate::error::TransferError;
@@ -79,6 +79,9 @@ fn one_less(sending: &mut [u64], account: usize)
 #[derive(Drop)]
 pub(crate) struct Roster {
     requests: u64,
+    /// Whether each request is left again once its connection is done, until a fault ended all: then there are always more than
+    /// threads.
+    is_endless: bool,
     /// Requests that no thread has claimed.
     left: u64,
     /// Threads that are being made.
@@ -90,14 +93,18 @@ pub(crate) struct Roster {
     /// How many of these were to send to a neighbour for each account, by the place of the account that the request arrived
     /// from.
     sending: Vec<u64>,
-    /// Requests whose connections are done, and those for which none is accepted any more.
+    /// Requests whose connections are done, and those for which none is accepted any more since a fault ended all.
     spent: u64,
+    /// Requests for which no connection is accepted any more since the connector is stopped.
+    unserved: u64,
     /// How often a thread began to accept.
     begun: u64,
     /// Threads that ended because their accepts failed, since the last connection.
     failed: u64,
     /// Whether the last thread could not be made.
     is_refused: bool,
+    /// Whether the connector is stopped: then no request is left to any thread, and each that accepts is to end.
+    is_stopped: bool,
     /// How many requests were not sent to a neighbour because too many threads were busy.
     pub(crate) overloaded: u64,
     /// The fault that ended all: no request is served after it, but by threads that have a connection.
@@ -105,32 +112,41 @@ pub(crate) struct Roster {
 }
 
 impl Model for Roster {
-    ghost use Rattle.std.specs.Prelude.{◌≡◌, ◌+◌, ◌≤◌, IsSome};
+    ghost use Rattle.std.specs.Prelude.{◌≡◌, ◌+◌, ◌-◌, ◌^◌, ◌≤◌, false, IsNone, IsSome, IsTrue};
     ghost use Rattle.st_transfer.specs.Crew as crew;
 
     ghost Value = { crew.Roster };
 
-    ghost view = { λ r. record { left = r.left; coming = r.coming; accepting = r.accepting; busy = r.busy; sending = r.sending.items; spent = r.spent; begun = r.begun; failed = r.failed; refused = r.is_refused; fault = r.fault } };
+    ghost view = { λ r. record { left = r.left; coming = r.coming; accepting = r.accepting; busy = r.busy; sending = r.sending.items; spent = r.spent; unserved = r.unserved; begun = r.begun; failed = r.failed; refused = r.is_refused; endless = r.is_endless; stopped = r.is_stopped; fault = r.fault } };
 
-    ghost invariant = { λ r. (r.left + r.coming + r.accepting + r.busy + r.spent ≡ r.requests) × (r.coming + r.accepting + r.busy ≤ 1279) × (IsSome r.fault → r.left ≡ 0) };
+    ghost invariant = { λ r. (r.left + r.coming + r.accepting + r.busy + r.spent + r.unserved ≡ r.requests) × (r.coming + r.accepting + r.busy ≤ 1279) × (IsSome r.fault → r.left ≡ 0) × (IsTrue r.is_stopped → r.left ≡ 0) × (r.is_stopped ≡ false → r.unserved ≡ 0) × (IsTrue r.is_endless → (r.requests ≡ 2 ^ 64 - 1) × (IsNone r.fault → r.is_stopped ≡ false → r.spent ≡ 0)) };
 }
 
 impl Roster {
-    /// No threads, a given number of requests, and so many accounts.
-    pub(crate) fn new(alloc: Global, requests: u64, accounts: usize) -> Result<Roster, AllocError>
-        ensures { IfOk result (λ roster. roster ≡ record { left = requests; coming = 0; accepting = 0; busy = 0; sending = replicate accounts 0; spent = 0; begun = 0; failed = 0; refused = false; fault = None }) }
+    /// No threads, a given number of requests or any, and so many accounts.
+    pub(crate) fn new(
+        alloc: Global,
+        requests: Option<u64>,
+        accounts: usize,
+    ) -> Result<Roster, AllocError>
+        ensures { IfOk result (λ roster. roster ≡ record { left = unwrap_or requests (2 ^ 64 - 1); coming = 0; accepting = 0; busy = 0; sending = replicate accounts 0; spent = 0; unserved = 0; begun = 0; failed = 0; refused = false; endless = is_none requests; stopped = false; fault = None }) }
     {
+        let is_endless = requests.is_none();
+        let requests = requests.unwrap_or(u64::MAX);
         Ok(Roster {
             requests,
+            is_endless,
             left: requests,
             coming: 0,
             accepting: 0,
             busy: 0,
             sending: Vec::from_elem(alloc, 0, accounts)?,
             spent: 0,
+            unserved: 0,
             begun: 0,
             failed: 0,
             is_refused: false,
+            is_stopped: false,
             overloaded: 0,
             fault: None,
         })
@@ -141,6 +157,14 @@ impl Roster {
         ensures { result ≡ threads_of self.now }
     {
         self.coming + self.accepting + self.busy
+    }
+
+    /// Whether a request is left. One always is to an endless connector, until it is stopped or a fault ended all.
+    fn has_request(&self) -> bool
+        ensures left { IsTrue result ↔ (0 < self.now.left) }
+        ensures endless { self.now.endless ≡ true → IsNone self.now.fault → self.now.stopped ≡ false → IsTrue result }
+    {
+        self.left > 0
     }
 
     /// Whether there is room for one more thread, where so many are to accept.
@@ -164,7 +188,7 @@ impl Roster {
         ensures hired { MatchBool result (Hires self.old self.new) (self.new ≡ self.old) }
         ensures wanted { IsTrue result ↔ Wants workers self.old }
     {
-        if self.left == 0 || !self.lacks_one(workers) || !self.has_room(workers) {
+        if !self.has_request() || !self.lacks_one(workers) || !self.has_room(workers) {
             return false;
         }
         self.left -= 1;
@@ -174,24 +198,76 @@ impl Roster {
     }
 
     /// Gives the request of a thread back that could not be made. Where there is no other thread, or a fault ended all, no
-    /// request is served.
+    /// request is served. To a connector that is stopped that is no fault.
     pub(crate) fn give_up(&mut self)
-        ensures back { 0 < self.old.coming → IsNone self.old.fault → 0 < threads_of self.new → LeavesAgain self.old self.new }
-        ensures last { 0 < self.old.coming → IsSome self.old.fault ⊎ (threads_of self.new ≡ 0) → GivesUp self.old self.new }
+        ensures back { 0 < self.old.coming → self.old.stopped ≡ false → IsNone self.old.fault → 0 < threads_of self.new → LeavesAgain self.old self.new }
+        ensures last { 0 < self.old.coming → self.old.stopped ≡ false → IsSome self.old.fault ⊎ (threads_of self.new ≡ 0) → GivesUp self.old self.new }
+        ensures stopped { 0 < self.old.coming → self.old.stopped ≡ true → IsMissed self.old self.new }
     {
         if self.coming == 0 {
             return;
         }
         self.coming -= 1;
+        self.is_refused = true;
+        if self.is_stopped {
+            self.unserved += 1;
+            return;
+        }
         if self.fault.is_none() {
             self.left += 1;
         } else {
             self.spent += 1;
         }
-        self.is_refused = true;
         if self.threads() == 0 {
             self.end(TransferError::NoMemory);
         }
+    }
+
+    /// The connector is stopped: no request is left to any thread. Those with a connection finish.
+    pub(crate) fn stop(&mut self)
+        ensures { Stops self.old self.new }
+    {
+        self.unserved += self.left;
+        self.left = 0;
+        self.is_stopped = true;
+    }
+
+    /// A thread that accepts ends, since the connector is stopped.
+    fn leave_unserved(&mut self)
+        requires { self.old.stopped ≡ true }
+        ensures accepting { 0 < self.old.accepting → LeavesUnserved self.old self.new }
+        ensures none { self.old.accepting ≡ 0 → self.new ≡ self.old }
+    {
+        if self.accepting > 0 {
+            self.accepting -= 1;
+            self.unserved += 1;
+        }
+    }
+
+    /// A thread that accepts had no connection for a while. False where it is to end: the connector is stopped.
+    pub(crate) fn rest(&mut self) -> bool
+        ensures goes_on { result ≡ not self.old.stopped }
+        ensures accepting { 0 < self.old.accepting → MatchBool result (self.new ≡ self.old) (LeavesUnserved self.old self.new) }
+    {
+        if !self.is_stopped {
+            return true;
+        }
+        self.leave_unserved();
+        false
+    }
+
+    /// Whether the connector is stopped.
+    pub(crate) fn is_stopped(&self) -> bool
+        ensures { result ≡ self.now.stopped }
+    {
+        self.is_stopped
+    }
+
+    /// How many requests no connection was accepted for, since the connector was stopped.
+    pub(crate) fn unserved(&self) -> u64
+        ensures { result ≡ self.now.unserved }
+    {
+        self.unserved
     }
 
     /// Leaves no request to any thread, and notes why.
@@ -247,12 +323,16 @@ impl Roster {
         }
     }
 
-    /// A thread meets a fault as it accepts. Where other threads accept, it ends, and its request is left again. Where none
+    /// A thread meets a fault as it accepts. Where the connector is stopped, it ends, and that is no fault. Where other threads accept, it ends, and its request is left again. Where none
     /// does, it is to try again while threads have connections, which take file descriptors and memory until they end. Else
     /// it ends, and so do all: the first fault is why.
     pub(crate) fn fail(&mut self, fault: TransferError) -> Failed
         ensures { IsFailed self.old fault result self.new }
     {
+        if self.fault.is_none() && self.is_stopped {
+            self.leave_unserved();
+            return Failed::Leave;
+        }
         if self.fault.is_none() && self.accepting > 1 {
             self.accepting -= 1;
             self.left += 1;
@@ -262,16 +342,16 @@ impl Roster {
         if self.fault.is_none() && self.busy > 0 {
             return Failed::Again;
         }
+        self.end(fault);
         if self.accepting > 0 {
             self.accepting -= 1;
             self.spent += 1;
         }
-        self.end(fault);
         Failed::End
     }
 
-    /// A thread is done with its connection, which counts as a request whatever it brought. `sent_for` is the account for
-    /// which it was to send to a neighbour, where it was.
+    /// A thread is done with its connection, which counts as a request whatever it brought; to an endless connector that is not
+    /// stopped the request is left again. `sent_for` is the account for which it was to send to a neighbour, where it was.
     pub(crate) fn finish(&mut self, sent_for: Option<usize>)
         ensures { 0 < self.old.busy → IsDone self.old sent_for self.new }
     {
@@ -279,7 +359,11 @@ impl Roster {
             return;
         }
         self.busy -= 1;
-        self.spent += 1;
+        if self.is_endless && !self.is_stopped && self.fault.is_none() {
+            self.left += 1;
+        } else {
+            self.spent += 1;
+        }
         let Some(account) = sent_for else {
             return;
         };
@@ -295,7 +379,7 @@ impl Roster {
     {
         let spare = if reached { SPARE } else { 0 };
         let most = u64::from(workers) + spare;
-        if self.left == 0 || self.coming + self.accepting >= most || !self.has_room(workers) {
+        if !self.has_request() || self.coming + self.accepting >= most || !self.has_room(workers) {
             return false;
         }
         self.left -= 1;

@@ -1,12 +1,14 @@
 //! The command `send`.
 
 ghost use Rattle.std.specs.Prelude.{◌≡◌, ℕ, length, Err, IfErr, IfOk, IfSome, IsOkUnless};
+ghost use Rattle.std.specs.Duration.{as_nanos};
 ghost use Rattle.st_end.specs.Seen.{totals_seen};
 ghost use Rattle.st_queues.specs.Lanes.{ring_at};
 ghost use Rattle.st_end.specs.Totals as totals;
 ghost use Rattle.st_file.specs.Errors.{counted};
 ghost use Rattle.st_hub.specs.Hub.{IsNew};
 ghost use Rattle.st_transfer.specs.Keeping.{file_stream};
+ghost use Rattle.st_transfer.specs.Moments.{pause_in};
 ghost use Rattle.st_transfer.specs.Outcomes as outcomes;
 ghost use Rattle.st_transfer.specs.Outcomes.{ComesTo, IsTold, OpensWith, WhyNotBegun, no_totals};
 ghost use Rattle.st_transfer.specs.declared.error.TransferError.TheVariants.{Rings as NoRings};
@@ -19,7 +21,7 @@ use crate::inlet::{Inlet, Until};
 use crate::ivs::ReaderIvs;
 use crate::terms::SendTerms;
 use crate::told_link::Told;
-use crate::watching::{LastFailure, Watch};
+use crate::watching::{Latest, Watch};
 use crate::workers::work_alone;
 use st_end::{EndState, Totals};
 use st_file::{FileError, send_all};
@@ -35,6 +37,27 @@ use std::sync::{Mutex, Wait};
 use std::thread;
 use std::thread::{Parker, Threads};
 use std::time::Duration;
+
+/// After how many failures in a row a connection fails.
+const TRIES: u32 = 200;
+
+/// The pause between two tries after a failure, where so many of them as let a connection fail are spread over these seconds.
+fn pause_of(seconds: u64) -> Duration
+    ensures { as_nanos result ≡ pause_in seconds }
+{
+    let whole = Duration::from_secs(seconds);
+    match whole.checked_div(TRIES) {
+        Some(pause) => pause,
+        None => unreachable!(),
+    }
+}
+
+/// A hub under its lock, whose workers try on for as long as the terms say.
+fn bench_of<N: HubName<Global>>(hub: HubState<N, Global>, terms: &SendTerms<'_>) -> Bench<N, Global>
+    ensures { as_nanos result.pause ≡ pause_in terms.now.patience }
+{
+    Bench::with_pause(hub, pause_of(terms.patience))
+}
 
 /// The error for why a worker ended, where it is an error.
 fn fault_of(end: WorkEnd) -> Option<TransferError>
@@ -197,7 +220,7 @@ struct Shared<'a, N: HubName<Global>, G> {
     terms: SendTerms<'a>,
     /// Whether somebody is told how far the transfer is.
     is_watched: bool,
-    last: LastFailure,
+    last: Latest,
     /// Where the thread that tells it sleeps.
     parker: Parker,
 }
@@ -240,7 +263,7 @@ fn watch_beside<N: HubName<Global>, G, V: Watch + Drop, R: Wait>(
             break;
         }
         let totals = totals_so_far(&shared.gauge, &mut seat);
-        watch.look(&totals, shared.last.seen());
+        watch.look(&totals, shared.last.waits(totals.paid), shared.last.seen());
     }
     watch.end();
 }
@@ -329,7 +352,7 @@ where
 }
 
 /// Sends over an open hub.
-#[tactic(auto, using(crate::proofs::Outcomes::sent_whole, crate::proofs::Outcomes::told_so))]
+#[tactic(auto, using(crate::proofs::Outcomes::told_so))]
 fn transfer<
     N: HubName<Global> + Send + Sync,
     I: Read + Drop,
@@ -360,7 +383,7 @@ where
     let theirs = gauge.split(&mut seat);
     let shared = Shared {
         alloc,
-        bench: Bench::new(hub),
+        bench: bench_of(hub, &terms),
         gauge,
         seat: Mutex::new(theirs),
         ivs: Mutex::new(ReaderIvs::new(random)),
@@ -368,7 +391,7 @@ where
         ends: Mutex::new(Vec::new(alloc)),
         terms,
         is_watched: watch.period().is_some(),
-        last: LastFailure::none(),
+        last: Latest::none(),
         parker: Parker::new(),
     };
     let fed = feed_beside(rt, &shared, writer, seat, input, watch);

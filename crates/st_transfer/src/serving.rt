@@ -8,24 +8,76 @@ use crate::error::TransferError;
 use crate::telling::{Log, tell_connection};
 use crate::waiting::AwaitListener;
 use crate::watched::Watched;
-use libc::net::{SHUT_RDWR, shutdown};
+use libc::net::{POLLIN, SHUT_RDWR, poll, shutdown};
+use libc::types::pollfd;
 use st_http::{Answerer, serve_one};
 use st_link::{ANSWER_SECONDS, Buffered, Timed};
 use st_oer::Counting;
 use std::alloc::Global;
+use std::cell::Cell;
 use std::io::{ErrorKind, Read, Write};
 use std::net::{OpenListener, OpenStream, SocketAddr};
 use std::thread;
 use std::time::{Clock, Duration};
 
 /// How often in a row `accept` may fail.
-const TRIES: u32 = 100;
+pub(crate) const TRIES: u32 = 100;
 
 /// How many milliseconds pass between two tries of a call that failed.
 pub(crate) const PAUSE: u64 = 10;
 
 /// How many seconds there are at least to write an answer.
 pub(crate) const WRITE_SECONDS: u64 = 5;
+
+/// How many milliseconds a thread waits for a connection, where it is then to look whether it is to go on.
+const LOOK_MILLIS: i32 = 200;
+
+/// How one try to accept a connection ended.
+#[derive(Drop)]
+pub(crate) enum Tried<S> {
+    /// A connection came from this address.
+    Came(S, SocketAddr),
+    /// None came in time.
+    Nothing,
+    /// The listener failed.
+    Failed,
+    /// The listener is shut.
+    Shut,
+}
+
+/// Has no `accept` of a listener wait, where it has a file descriptor.
+pub(crate) fn accept_without_waits(listener: &impl AwaitListener) {
+    if let Some(descriptor) = listener.descriptor() {
+        os::set_nonblocking(descriptor, true);
+    }
+}
+
+/// Accepts a connection, where one comes within 200 milliseconds. The listener is to be one whose `accept` does not wait, where it
+/// has a file descriptor.
+pub(crate) fn accept_soon<L: AwaitListener>(listener: &L) -> Tried<L::Stream> {
+    if let Some(fd) = listener.descriptor() {
+        let mut fds = [pollfd {
+            fd,
+            events: POLLIN,
+            revents: 0,
+        }];
+        let ready = poll(&mut fds, LOOK_MILLIS);
+        if ready == 0 {
+            return Tried::Nothing;
+        }
+        if ready < 0 {
+            return Tried::Failed;
+        }
+    }
+    match listener.accept() {
+        Ok((stream, from)) => Tried::Came(stream, from),
+        Err(error) => match error.kind() {
+            ErrorKind::WouldBlock | ErrorKind::Interrupted => Tried::Nothing,
+            ErrorKind::InvalidInput => Tried::Shut,
+            _ => Tried::Failed,
+        },
+    }
+}
 
 /// Accepts the next connection of a listener, and gives the address of its other side. Where that fails, for example because the process has no file descriptor
 /// left, it tries again after 10 milliseconds. Fails with `Accept` after 100 failures in a row, or 10 milliseconds after the
@@ -78,7 +130,8 @@ fn serve_stream<S: Read + Write, T: Answerer>(
 /// Reads one request from a connection, has it answered where it is valid, and writes the response (RFC 0035, the
 /// synchronous mode). The request may take 30 seconds, the response as long as is left of them and 5 seconds at least, and
 /// both together `turns` I/O calls. What fails on the connection ends it alone, and so does a refusal of memory for its
-/// buffer. A connection on which no request was answered is reported to `log`.
+/// buffer. Once the answerer has set `withheld` nothing is written. A connection on which no request was answered is reported
+/// to `log`.
 pub(crate) fn serve_on<S: Read + Write + OpenStream + Drop, T: Answerer>(
     rt: &impl Clock,
     alloc: Global,
@@ -87,6 +140,7 @@ pub(crate) fn serve_on<S: Read + Write + OpenStream + Drop, T: Answerer>(
     tokens: &[&str],
     answerer: &mut T,
     turns: u64,
+    withheld: &Cell<bool>,
     log: Log<'_>,
 )
     ensures { AskedOnce T.gives answerer.old answerer.new }
@@ -97,7 +151,7 @@ pub(crate) fn serve_on<S: Read + Write + OpenStream + Drop, T: Answerer>(
     let Ok(buffered) = Buffered::new(alloc, timed) else {
         return;
     };
-    let mut stream = Counting::new(Watched::new(buffered));
+    let mut stream = Counting::new(Watched::new(buffered, withheld));
     serve_stream(alloc, &mut stream, tokens, answerer, turns);
     tell_connection(rt, alloc, log, from, stream.into_inner().status());
 }

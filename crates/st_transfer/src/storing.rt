@@ -3,8 +3,8 @@
 use crate::crew::Crew;
 use crate::serving::shut;
 use crate::waiting::AwaitListener;
-use st_booking::{Booked, Booking, Keeper};
-use st_desk::{Books, NoBooks, Till, deposit, refused_at};
+use st_booking::{Booking, Keeper};
+use st_desk::{Books, Fate, NoBooks, Till, deposit, refused_at};
 use std::alloc::Global;
 use std::sync::Wait;
 
@@ -30,14 +30,14 @@ impl<K: Keeper, L: AwaitListener, R: Wait> Storing<'_, K, L, R> {
 }
 
 impl<K: Keeper, L: AwaitListener, R: Wait> Books for Storing<'_, K, L, R> {
-    fn store(&mut self, booking: Booking) -> Option<Booked> {
+    fn store(&mut self, booking: Booking) -> Fate {
         let Some(till) = self.till else {
             return NoBooks.store(booking);
         };
-        let token = deposit(self.rt, till, booking);
-        if token.is_none() {
+        let fate = deposit(self.rt, till, booking);
+        if !matches!(&fate, Fate::Stored(_)) {
             self.end_if_refused(till);
         }
-        token
+        fate
     }
 }

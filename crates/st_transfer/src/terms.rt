@@ -13,6 +13,8 @@ pub struct SendTerms<'a> {
     pub money: u64,
     /// The number of workers, each a thread.
     pub workers: u8,
+    /// Over how many seconds the tries are spread that fail in a row until the connection has failed.
+    pub patience: u64,
     /// The most turns of each worker, the most I/O calls of one exchange, and the most I/O calls for the input.
     pub turns: u64,
     /// Where it is told what happens. `None` where that is told nowhere.
@@ -42,8 +44,9 @@ pub struct ConnectTerms<'a> {
     /// Where each account is reached, by the account's place. A Prepare that is forwarded to an account without a
     /// neighbour is answered with a Reject of code T01 (RFC 0027).
     pub neighbours: &'a [Option<Neighbour<'a>>],
-    /// How many connections are accepted before the connector ends, each for one request, whatever it brings.
-    pub requests: u64,
+    /// How many connections are accepted before the connector ends, each for one request, whatever it brings. `None` is any
+    /// number.
+    pub requests: Option<u64>,
     /// How many threads wait for a connection at any time, while requests are left.
     pub workers: u8,
     /// The most I/O calls of one TCP stream for one request, or for one exchange with a neighbour.

@@ -4,7 +4,7 @@ ghost use Rattle.std.specs.Prelude.{◌≡◌};
 ghost use Rattle.st_transfer.specs.Telling.{end_told, wait_told};
 
 use crate::telling::{Log, cause_in, cause_of, tell};
-use crate::watching::LastFailure;
+use crate::watching::Latest;
 use st_desk::{Link, LinkFault};
 use st_end::{Failed, FailedKind};
 use st_hub::Observer;
@@ -21,7 +21,7 @@ use std::time::Clock;
 #[derive(Clone, Copy)]
 pub(crate) struct Told<'a> {
     pub(crate) log: Log<'a>,
-    pub(crate) last: Option<&'a LastFailure>,
+    pub(crate) last: Option<&'a Latest>,
 }
 
 impl Told<'_> {
@@ -69,6 +69,9 @@ impl<R: Net + Clock> ToldLink<'_, R> {
 
 impl<R: Net + Clock> Link<Global> for ToldLink<'_, R> {
     fn exchange(&mut self, bytes: &[u8], by: Moment) -> Result<Vec<u8>, LinkFault> {
+        if let Some(last) = self.told.last {
+            last.sends();
+        }
         let answer = self.link.exchange(bytes, by);
         self.tell(&answer);
         answer
@@ -132,6 +135,12 @@ impl<R: Clock> Observer for ToldFlights<'_, R> {
     }
 
     fn waits(&mut self, blocked: Blocked) {
-        tell(self.rt, self.told.log, 0, &wait_of(blocked));
+        let event = wait_of(blocked);
+        if let Event::Waits(limit) = event {
+            if let Some(last) = self.told.last {
+                last.reaches(limit);
+            }
+        }
+        tell(self.rt, self.told.log, 0, &event);
     }
 }

@@ -1,7 +1,8 @@
 //! A stream of which the status of what is written is known.
 
+use std::cell::Cell;
 use std::io;
-use std::io::{Read, Write};
+use std::io::{ErrorKind, Read, Write};
 
 /// How many bytes a response has before its status, which has three digits: `HTTP/1.1 `.
 const FRONT: u8 = 9;
@@ -35,19 +36,22 @@ impl StatusLine {
     }
 }
 
-/// A stream on which one response is written, and which keeps its status. Each call goes through as it is.
+/// A stream on which one response is written, and which keeps its status. Each call goes through as it is, but that nothing is
+/// written once the response is withheld.
 #[derive(Drop)]
-pub(crate) struct Watched<S> {
+pub(crate) struct Watched<'a, S> {
     stream: S,
     line: StatusLine,
+    withheld: &'a Cell<bool>,
 }
 
-impl<S> Watched<S> {
+impl<'a, S> Watched<'a, S> {
     /// The stream, on which nothing was written yet.
-    pub(crate) fn new(stream: S) -> Watched<S> {
+    pub(crate) fn new(stream: S, withheld: &'a Cell<bool>) -> Watched<'a, S> {
         Watched {
             stream,
             line: StatusLine { at: 0, status: 0 },
+            withheld,
         }
     }
 
@@ -60,7 +64,7 @@ impl<S> Watched<S> {
     }
 }
 
-impl<S: Read> Read for Watched<S> {
+impl<S: Read> Read for Watched<'_, S> {
     ghost remaining = { λ s. S.remaining s.stream };
 
     fn read(&mut self, buf: &mut [u8]) -> io::Result<usize> {
@@ -68,10 +72,13 @@ impl<S: Read> Read for Watched<S> {
     }
 }
 
-impl<S: Write> Write for Watched<S> {
+impl<S: Write> Write for Watched<'_, S> {
     ghost contents = { λ s. S.contents s.stream };
 
     fn write(&mut self, buf: &[u8]) -> io::Result<usize> {
+        if self.withheld.get() {
+            return Err(ErrorKind::BrokenPipe.into());
+        }
         let written = self.stream.write(buf);
         if let Ok(n) = written {
             self.line.see_all(&buf[..n.min(buf.len())]);

@@ -1,7 +1,10 @@
 //! What is told of a transfer while it runs.
 
+ghost use Rattle.std.specs.Prelude.{◌≡◌};
+ghost use Rattle.st_transfer.specs.Telling as spec;
+
 use st_end::Totals;
-use st_log::Brief;
+use st_log::{Blocked, Brief};
 use std::sync::Mutex;
 use std::time::Duration;
 
@@ -11,10 +14,15 @@ pub trait Watch {
     /// told: a sender is not looked at then.
     fn period(&self) -> Option<Duration>;
 
-    /// What the totals of the end are, and why the last exchange that failed did: it brought a sender no Fulfill, or a
-    /// receiver refused it. No lock is held meanwhile. A sender is looked at each period, and a receiver as often as it was
+    /// What the totals of the end are, at which limit of its peer it waits, and why the last exchange that failed did: it
+    /// brought a sender no Fulfill, or a receiver refused it. No lock is held meanwhile. A sender is looked at each period, and a receiver as often as it was
     /// called or a period is over.
-    fn look(&mut self, totals: &Totals, last: Option<Brief>);
+    fn look(&mut self, totals: &Totals, waits: Option<Blocked>, last: Option<Brief>);
+
+    /// Whether a receiver is to accept no further connection, and to end once those that it has are done.
+    fn is_stopped(&self) -> bool {
+        false
+    }
 
     /// The transfer is over.
     fn end(&mut self);
@@ -29,7 +37,7 @@ impl Watch for NoWatch {
         None
     }
 
-    fn look(&mut self, _: &Totals, _: Option<Brief>) {}
+    fn look(&mut self, _: &Totals, _: Option<Blocked>, _: Option<Brief>) {}
 
     fn end(&mut self) {}
 }
@@ -50,21 +58,103 @@ impl<V: Watch> Idle<'_, V> {
 
     /// Tells how far the transfer is.
     pub(crate) fn look(&mut self) {
-        self.watch.look(&self.totals, self.last);
+        self.watch.look(&self.totals, None, self.last);
+    }
+
+    /// Whether it is to accept no further connection.
+    pub(crate) fn is_stopped(&self) -> bool {
+        self.watch.is_stopped()
     }
 }
 
-/// Why the last exchange that failed did, for all threads of a sender. None waits here for another.
-#[derive(Drop)]
-pub(crate) struct LastFailure {
-    brief: Mutex<Option<Brief>>,
+/// A limit of the peer that a Prepare tells.
+#[derive(Clone, Copy, Debug, PartialEq, Eq)]
+pub(crate) struct Reached {
+    limit: Blocked,
+    /// Whether that Prepare is sent.
+    is_sent: bool,
 }
 
-impl LastFailure {
-    /// No exchange failed yet.
-    pub(crate) fn none() -> LastFailure {
-        LastFailure {
+/// A limit that the next Prepare tells.
+fn told_by_next(limit: Blocked) -> Reached
+    ensures { result ≡ spec.told_by_next limit }
+{
+    Reached {
+        limit,
+        is_sent: false,
+    }
+}
+
+/// What is known of a limit once one more Prepare is sent. The one that tells it is sent alone. So where another is sent, a
+/// limit on bytes was raised; one on money stands while bytes are sent.
+fn after_next(reached: Reached) -> Option<Reached>
+    ensures { result ≡ spec.after_next reached }
+{
+    let Reached { limit, is_sent } = reached;
+    if !is_sent {
+        return Some(Reached {
+            limit,
+            is_sent: true,
+        });
+    }
+    match limit {
+        Blocked::ConnectionData { .. } | Blocked::StreamData { .. } => None,
+        Blocked::StreamMoney { .. } => Some(reached),
+    }
+}
+
+/// The limit at which an end waits that paid so many units, where this is the last one that it told.
+fn waits_at(limit: Blocked, paid: u64) -> Option<Blocked>
+    ensures { result ≡ spec.waits_at limit paid }
+{
+    match limit {
+        Blocked::ConnectionData { .. } | Blocked::StreamData { .. } => Some(limit),
+        Blocked::StreamMoney { total, .. } => { if paid == total { Some(limit) } else { None } }
+    }
+}
+
+/// Why the last exchange that failed did, and which limit of the peer was reached last, for all threads of a sender. None
+/// waits here for another.
+#[derive(Drop)]
+pub(crate) struct Latest {
+    brief: Mutex<Option<Brief>>,
+    limit: Mutex<Option<Reached>>,
+}
+
+impl Latest {
+    /// No exchange failed yet, and no limit was reached.
+    pub(crate) fn none() -> Latest {
+        Latest {
             brief: Mutex::new(None),
+            limit: Mutex::new(None),
+        }
+    }
+
+    /// Keeps the limit that the next Prepare tells, unless another thread is here just now.
+    pub(crate) fn reaches(&self, limit: Blocked) {
+        if let Some(mut kept) = self.limit.try_lock() {
+            *kept = Some(told_by_next(limit));
+        }
+    }
+
+    /// Notes that a Prepare is sent, unless another thread is here just now.
+    pub(crate) fn sends(&self) {
+        if let Some(mut kept) = self.limit.try_lock() {
+            *kept = match *kept {
+                Some(reached) => after_next(reached),
+                None => None,
+            };
+        }
+    }
+
+    /// The limit at which an end waits that paid so many units. `None` also where another thread is here just now.
+    pub(crate) fn waits(&self, paid: u64) -> Option<Blocked> {
+        match self.limit.try_lock() {
+            Some(kept) => match *kept {
+                Some(reached) => waits_at(reached.limit, paid),
+                None => None,
+            },
+            None => None,
         }
     }
 

@@ -184,7 +184,7 @@ fn terms_of<'a>(
     ConnectTerms {
         tokens,
         neighbours,
-        requests: crossing.requests,
+        requests: Some(crossing.requests),
         workers: crossing.workers,
         turns: TURNS,
         period: Duration::from_millis(crossing.period),
@@ -241,7 +241,7 @@ where
     let tokens = [TOKEN, "t1"];
     let neighbours = [None, Neighbour::new(next, TOKEN)];
     let terms = terms_of(&tokens, &neighbours, crossing);
-    Ok(connector_on(net, alloc, listener, hop, terms, till, minutes))
+    Ok(connector_on(net, alloc, &listener, hop, terms, till, minutes))
 }
 
 /// The end of the sender `test.a`.
@@ -319,6 +319,7 @@ where
             neighbour,
             money,
             workers,
+            patience: 10,
             turns,
             log: None,
         },

@@ -6,7 +6,7 @@ use Rattle.clap.specs.Lexer.{long_of, short_of}
 use Rattle.clap.specs.Words.{Row, Text}
 use Rattle.clap.proofs.OnLiterals.{clap_on_literals}
 use Rattle.st_words.specs.Words.{command_of}
-use Rattle.st_words.specs.Laws.{BooksSayTheirFile, ConnectorSaysItsTexts, FilesSayTheirNames, LedgerSaysItsFile, PaymentSaysItsTexts, ReceiveSaysItsTexts, SayLedger, SendSaysItsTexts}
+use Rattle.st_words.specs.Laws.{BooksSayTheirFile, ConnectorSaysItsTexts, ControlSaysItsNames, EndlessSaysNoNumber, FilesSayTheirNames, LedgerSaysItsFile, PaymentSaysItsTexts, ReceiveSaysItsTexts, RequestsAreSaidOnce, SayLedger, SendSaysItsTexts}
 
 pub send_plain : SendSaysItsTexts
 unfolding clap_on_literals
@@ -23,6 +23,18 @@ receive_plain listen token secret address peer = (refl, (_, refl, refl))
 pub connector_plain : ConnectorSaysItsTexts
 unfolding clap_on_literals
 connector_plain listen own = (refl, (_, refl, refl))
+
+pub endless_plain : EndlessSaysNoNumber
+unfolding clap_on_literals
+endless_plain listen own = (refl, (_, refl, refl))
+
+pub requests_once : RequestsAreSaidOnce
+unfolding clap_on_literals
+requests_once listen own = (refl, refl)
+
+pub control_plain : ControlSaysItsNames
+unfolding clap_on_literals
+control_plain listen own control table = (refl, (_, refl, refl))
 
 pub books_plain : BooksSayTheirFile
 unfolding clap_on_literals

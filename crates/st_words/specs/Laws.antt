@@ -1,6 +1,7 @@
 -- What plain words ask for, whatever the texts in them are.
-use Rattle.std.specs.Prelude.{◌≡◌, ◌≢◌, ℕ, List, [], ◌∷◌, ◌++◌, codes, Option, Some, None}
+use Rattle.std.specs.Prelude.{◌≡◌, ◌≢◌, ℕ, false, true, List, [], ◌∷◌, ◌++◌, codes, Option, Some, None}
 use Rattle.clap.specs.Words.{Row, Text}
+use Rattle.clap.specs.declared.error.kind.ErrorKind.TheVariants.{ArgumentConflict, MissingRequiredArgument}
 use Rattle.st_words.specs.Words.{command_of, connector_texts, ledger_texts, receive_texts, refusals, send_texts}
 
 -- the words of `send` with these texts
@@ -21,6 +22,7 @@ SendSaysItsTexts = (to token secret address peer : Text) → (refusals (send_wor
       peer = peer;
       money = codes "0";
       workers = codes "4";
+      patience = codes "10";
       random = codes "/dev/urandom";
       least = codes "1:1";
       totals = None;
@@ -45,6 +47,7 @@ FilesSayTheirNames = (to token secret address peer log : Text) → (refusals (fi
       peer = peer;
       money = codes "0";
       workers = codes "4";
+      patience = codes "10";
       random = codes "/dev/urandom";
       least = codes "1:1";
       totals = None;
@@ -71,6 +74,8 @@ ReceiveSaysItsTexts = (listen token secret address peer : Text) → (refusals (r
       patience = None;
       totals = None;
       log = None;
+      verbose = false;
+      control = None;
     }))
 
 -- the words of `connector` with these texts, for a thousand requests
@@ -83,20 +88,66 @@ SayConnector words listen own totals ledger = (refusals words ≡ [])
     × ((rows : List Row) × (command_of words ≡ Some (codes "connector", rows)) × (connector_texts rows ≡ record {
       listen = listen;
       own = own;
-      requests = codes "1000";
+      requests = Some (codes "1000");
       workers = codes "4";
       totals = totals;
       log = None;
       ledger = ledger;
+      verbose = false;
+      control = None;
+      table = None;
     }))
 
 abbrev pub ConnectorSaysItsTexts : Type 0
 ConnectorSaysItsTexts = (listen own : Text) → SayConnector (connector_words listen own) listen own None None
 
+-- the same without end
+abbrev pub endless_words : Text → Text → List Text
+endless_words listen own = codes "ilpstream" ∷ codes "connector" ∷ (codes "--listen=" ++ listen) ∷ (codes "--own=" ++ own) ∷ codes "--endless" ∷ []
+
+abbrev pub EndlessSaysNoNumber : Type 0
+EndlessSaysNoNumber = (listen own : Text) → (refusals (endless_words listen own) ≡ [])
+    × ((rows : List Row) × (command_of (endless_words listen own) ≡ Some (codes "connector", rows)) × (connector_texts rows ≡ record {
+      listen = listen;
+      own = own;
+      requests = None;
+      workers = codes "4";
+      totals = None;
+      log = None;
+      ledger = None;
+      verbose = false;
+      control = None;
+      table = None;
+    }))
+
+-- a number beside it is refused, and so is neither
+abbrev pub RequestsAreSaidOnce : Type 0
+RequestsAreSaidOnce = (listen own : Text)
+    → (refusals (connector_words listen own ++ codes "--endless" ∷ []) ≡ ArgumentConflict ∷ [])
+    × (refusals (codes "ilpstream" ∷ codes "connector" ∷ (codes "--listen=" ++ listen) ∷ (codes "--own=" ++ own) ∷ []) ≡ MissingRequiredArgument ∷ [])
+
 -- the same with a file for totals and one for books
 abbrev pub BooksSayTheirFile : Type 0
 BooksSayTheirFile = (listen own totals ledger : Text)
     → SayConnector (connector_words listen own ++ (codes "--totals=" ++ totals) ∷ (codes "--ledger=" ++ ledger) ∷ []) listen own (Some totals) (Some ledger)
+
+-- an endless connector with a pipe for orders and a table in a file, which reports where it listens
+abbrev pub ControlSaysItsNames : Type 0
+ControlSaysItsNames = (listen own control table : Text)
+    → (refusals (endless_words listen own ++ (codes "--control=" ++ control) ∷ (codes "--table=" ++ table) ∷ codes "--verbose" ∷ []) ≡ [])
+    × ((rows : List Row) × (command_of (endless_words listen own ++ (codes "--control=" ++ control) ∷ (codes "--table=" ++ table) ∷ codes "--verbose" ∷ []) ≡ Some (codes "connector", rows))
+    × (connector_texts rows ≡ record {
+      listen = listen;
+      own = own;
+      requests = None;
+      workers = codes "4";
+      totals = None;
+      log = None;
+      ledger = None;
+      verbose = true;
+      control = Some control;
+      table = Some table;
+    }))
 
 -- words of `ledger` say this file, and the words of a payment or none
 abbrev pub SayLedger : List Text → (file : Text) → Option (List Text) → Type 0

@@ -1,6 +1,6 @@
 -- Pairs of options of a command, of which exactly one has to be given. clap takes them both, or neither: with groups, or with rules on one
 -- another, its contracts would say less of all arguments.
-use Rattle.std.specs.Prelude.{Bool, true, false, ◌||◌, [], ◌∷◌, List, codes, Option, Some, None, is_some, if◌then◌else◌}
+use Rattle.std.specs.Prelude.{Bool, true, false, ◌||◌, [], ◌∷◌, List, codes, Option, Some, None, is_some, unwrap_or, if◌then◌else◌}
 use Rattle.std.specs.Str.{bytes_eq}
 use Rattle.clap.specs.Kinds.{or_else}
 use Rattle.clap.specs.Words.{Kinds, Row, Text, first_of}
@@ -17,12 +17,22 @@ pair_fault false false = MissingRequiredArgument ∷ []
 abbrev pub is_given : Text → List Row → Bool
 is_given name rows = is_some (first_of name rows)
 
+-- an option without a value is given
+abbrev pub is_set : Text → List Row → Bool
+is_set name rows = bytes_eq (unwrap_or (first_of name rows) []) (codes "true")
+
+-- what is answered where the number of requests is needed, or that there is no such number
+abbrev pub requests_fault : List Row → Kinds
+requests_fault rows = pair_fault (is_given (codes "requests") rows) (is_set (codes "endless") rows)
+
 -- what is answered where a token and a secret are needed
 abbrev pub keys_fault : List Row → Kinds
 keys_fault rows = or_else (pair_fault (is_given (codes "token") rows) (is_given (codes "token-file") rows))
     (pair_fault (is_given (codes "secret") rows) (is_given (codes "secret-file") rows))
 
--- what is answered by the command and its options: `send` and `receive` need a token and a secret
+-- what is answered by the command and its options: `send` and `receive` need a token and a secret, `connector` a number of requests
+-- or that there is none
 abbrev pub pairs_fault : Option (Text × List Row) → Kinds
 pairs_fault None = []
-pairs_fault (Some (name, rows)) = if bytes_eq name (codes "send") || bytes_eq name (codes "receive") then keys_fault rows else []
+pairs_fault (Some (name, rows)) = if bytes_eq name (codes "send") || bytes_eq name (codes "receive") then keys_fault rows
+    else (if bytes_eq name (codes "connector") then requests_fault rows else [])

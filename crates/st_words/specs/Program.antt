@@ -2,7 +2,7 @@
 use Rattle.std.specs.Prelude.{◌≡◌, ℕ, Bool, ◌^◌, ◌-◌, true, false, [], ◌∷◌, ◌++◌, codes, Some}
 use Rattle.clap.specs.Words.{App, Rule, Shape, Text, shape_of, with_subcommand}
 use Rattle.clap.specs.Simple.{new_rule, new_shape}
-use Rattle.clap.specs.declared.builder.action.ArgAction.TheVariants.{Set}
+use Rattle.clap.specs.declared.builder.action.ArgAction.TheVariants.{Set, SetTrue}
 use Rattle.clap.specs.declared.builder.command.Command.{Command}
 use Rattle.clap.specs.declared.builder.command.Command.TheViews.{out-Command}
 use Rattle.clap.specs.declared.builder.value_parser.ValueParser.TheVariants.{Unsigned}
@@ -17,6 +17,10 @@ with_required r = record r { required = true }
 
 abbrev pub with_default : Text → Rule → Rule
 with_default value r = record r { defaults = value ∷ [] }
+
+-- `--name` without a value
+abbrev pub flag_rule : Text → Rule
+flag_rule name = record (new_rule name) { long = Some name; action = Some SetTrue }
 
 -- `--name` with a number from `least` to `most`
 abbrev pub number_rule : Text → ℕ → ℕ → Rule
@@ -53,6 +57,18 @@ totals_rule = option_rule (codes "totals")
 abbrev pub log_rule : Rule
 log_rule = option_rule (codes "log")
 
+-- what is reported on standard error
+abbrev pub verbose_rule : Rule
+verbose_rule = flag_rule (codes "verbose")
+
+-- by what a command is asked things while it runs
+abbrev pub control_rule : Rule
+control_rule = option_rule (codes "control")
+
+-- where the table of a connector is
+abbrev pub table_rule : Rule
+table_rule = option_rule (codes "table")
+
 -- where books are kept
 abbrev pub ledger_rule : Rule
 ledger_rule = option_rule (codes "ledger")
@@ -84,6 +100,14 @@ patience_rule = number_rule (codes "patience") 1 86_400
 abbrev pub with_workers : Shape → Shape
 with_workers s = with_rule s (with_default (codes "4") (number_rule (codes "workers") 1 most_workers))
 
+-- over how many seconds a sender's tries are spread, from ten up to a day
+abbrev pub with_spread : Shape → Shape
+with_spread s = with_rule s (with_default (codes "10") (number_rule (codes "patience") 10 86_400))
+
+-- how many threads a sender has, and how long it tries on
+abbrev pub with_tries : Shape → Shape
+with_tries s = with_spread (with_workers s)
+
 -- whom a sender sends to
 abbrev pub with_peers : Shape → Shape
 with_peers s = with_ends (with_rule s (required_rule (codes "to")))
@@ -92,9 +116,25 @@ with_peers s = with_ends (with_rule s (required_rule (codes "to")))
 abbrev pub with_sources : Shape → Shape
 with_sources s = with_rule (with_rule s (with_default (codes "/dev/urandom") (option_rule (codes "random")))) (with_default (codes "1:1") (option_rule (codes "least")))
 
--- how many a connector takes
+-- how many a connector takes, or that it takes any number: exactly one of the two is to be given (specs/Pairs.antt)
 abbrev pub with_requests : Shape → Shape
-with_requests s = with_rule s (with_required (number_rule (codes "requests") 1 (2 ^ 31 - 1)))
+with_requests s = with_rule (with_rule s (number_rule (codes "requests") 1 (2 ^ 31 - 1))) (flag_rule (codes "endless"))
+
+-- where totals and events are told
+abbrev pub with_reports : Shape → Shape
+with_reports s = with_rule (with_rule s totals_rule) log_rule
+
+-- what a command that listens reports, and by what it is asked things
+abbrev pub with_running : Shape → Shape
+with_running s = with_rule (with_rule s verbose_rule) control_rule
+
+-- where a connector is
+abbrev pub with_place : Shape → Shape
+with_place s = with_rule (with_listen s) (required_rule (codes "own"))
+
+-- its books and its table, and what it has as any command that listens
+abbrev pub with_files : Shape → Shape
+with_files s = with_rule (with_running (with_rule s ledger_rule)) table_rule
 
 abbrev pub frames : Shape
 frames = new_shape (codes "frames")
@@ -117,6 +157,7 @@ send = record (new_shape (codes "send")) {
       ∷ required_rule (codes "peer")
       ∷ with_default (codes "0") (number_rule (codes "money") 0 most_money)
       ∷ with_default (codes "4") (number_rule (codes "workers") 1 most_workers)
+      ∷ with_default (codes "10") (number_rule (codes "patience") 10 86_400)
       ∷ with_default (codes "/dev/urandom") (option_rule (codes "random"))
       ∷ with_default (codes "1:1") (option_rule (codes "least"))
       ∷ totals_rule
@@ -135,18 +176,24 @@ receive = record (new_shape (codes "receive")) {
       ∷ with_default (codes "0") (number_rule (codes "receive-max") 0 most_money)
       ∷ patience_rule
       ∷ totals_rule
-      ∷ log_rule ∷ [];
+      ∷ log_rule
+      ∷ verbose_rule
+      ∷ control_rule ∷ [];
 }
 
 abbrev pub connector : Shape
 connector = record (new_shape (codes "connector")) {
   rules = required_rule (codes "listen")
       ∷ required_rule (codes "own")
-      ∷ with_required (number_rule (codes "requests") 1 (2 ^ 31 - 1))
+      ∷ number_rule (codes "requests") 1 (2 ^ 31 - 1)
+      ∷ flag_rule (codes "endless")
       ∷ with_default (codes "4") (number_rule (codes "workers") 1 most_workers)
       ∷ totals_rule
       ∷ log_rule
-      ∷ ledger_rule ∷ [];
+      ∷ ledger_rule
+      ∷ verbose_rule
+      ∷ control_rule
+      ∷ table_rule ∷ [];
 }
 
 -- FILE, and three words or none

@@ -9,7 +9,7 @@ use Rattle.st_words.specs.declared.error.WordsError.{WordsError}
 use Rattle.st_words.specs.declared.error.WordsError.TheVariants.{Refused, BadOption}
 use Rattle.st_words.specs.declared.request.Request.{Request}
 use Rattle.st_words.specs.declared.request.Request.TheVariants as request
-use Rattle.st_words.specs.Pairs.{pairs_fault}
+use Rattle.st_words.specs.Pairs.{is_set, pairs_fault}
 use Rattle.st_words.specs.Program.{program}
 
 -- the value that an option has by these words, or by its default; no text where it has none
@@ -34,6 +34,7 @@ send_texts rows = record {
   peer = value_of (codes "peer") rows;
   money = value_of (codes "money") rows;
   workers = value_of (codes "workers") rows;
+  patience = value_of (codes "patience") rows;
   random = value_of (codes "random") rows;
   least = value_of (codes "least") rows;
   totals = first_of (codes "totals") rows;
@@ -53,17 +54,22 @@ receive_texts rows = record {
   patience = first_of (codes "patience") rows;
   totals = first_of (codes "totals") rows;
   log = first_of (codes "log") rows;
+  verbose = is_set (codes "verbose") rows;
+  control = first_of (codes "control") rows;
 }
 
 abbrev pub connector_texts : List Row → settings.ConnectorTexts
 connector_texts rows = record {
   listen = value_of (codes "listen") rows;
   own = value_of (codes "own") rows;
-  requests = value_of (codes "requests") rows;
+  requests = first_of (codes "requests") rows;
   workers = value_of (codes "workers") rows;
   totals = first_of (codes "totals") rows;
   log = first_of (codes "log") rows;
   ledger = first_of (codes "ledger") rows;
+  verbose = is_set (codes "verbose") rows;
+  control = first_of (codes "control") rows;
+  table = first_of (codes "table") rows;
 }
 
 abbrev pub ledger_texts : List Row → ledger.LedgerTexts

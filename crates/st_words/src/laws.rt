@@ -1,15 +1,19 @@
 //! A law of the arguments of `send`, `receive`, `connector` and `ledger`.
 
-ghost use Rattle.st_words.specs.Laws.{BooksSayTheirFile, ConnectorSaysItsTexts, FilesSayTheirNames, LedgerSaysItsFile, PaymentSaysItsTexts, ReceiveSaysItsTexts, SendSaysItsTexts};
+ghost use Rattle.st_words.specs.Laws.{BooksSayTheirFile, ConnectorSaysItsTexts, ControlSaysItsNames, EndlessSaysNoNumber, FilesSayTheirNames, LedgerSaysItsFile, PaymentSaysItsTexts, ReceiveSaysItsTexts, RequestsAreSaidOnce, SendSaysItsTexts};
 
 /// States a law; it does nothing. A command gets the texts behind `--to=` and the other options exactly as they are,
 /// whatever they are; an option that is left out has its default. `ledger` gets its file, and each name and amount of a
-/// payment, also an amount behind a minus.
+/// payment, also an amount behind a minus. `connector`
+/// is refused with both of `--requests` and `--endless`, and with neither.
 pub fn plain_words_say_their_texts()
     ensures send { SendSaysItsTexts }
     ensures files { FilesSayTheirNames }
     ensures receive { ReceiveSaysItsTexts }
     ensures connector { ConnectorSaysItsTexts }
+    ensures endless { EndlessSaysNoNumber }
+    ensures requests { RequestsAreSaidOnce }
+    ensures control { ControlSaysItsNames }
     ensures books { BooksSayTheirFile }
     ensures ledger { LedgerSaysItsFile }
     ensures payment { PaymentSaysItsTexts }

@@ -3,7 +3,7 @@
 ghost use Rattle.std.specs.Prelude.{◌≡◌, ◌≤◌, ◌<◌, ◌^◌, ℕ, List, [], ◌∷◌, false, length, IfOk};
 ghost use Rattle.clap.specs.Words.{app_of, rule_of, shape_of, with_subcommand};
 ghost use Rattle.st_words.specs.Program as spec;
-ghost use Rattle.st_words.specs.Program.{HasShape, has_globals, last_rule, number_place_rule, number_rule, option_rule, place_rule, required_rule, with_rule};
+ghost use Rattle.st_words.specs.Program.{HasShape, flag_rule, has_globals, last_rule, number_place_rule, number_rule, option_rule, place_rule, required_rule, with_rule};
 
 use clap::{Arg, ArgAction, Command, value_parser};
 use std::alloc::{AllocError, Global};
@@ -105,6 +105,17 @@ pub(crate) fn number<'a>(
     ensures own { result.global ≡ false }
 {
     ranged(alloc, name, "N", help, least, most)
+}
+
+/// An option `--NAME` without a value.
+pub(crate) fn flag<'a>(alloc: Global, name: &'a str, help: &'a str) -> Arg<'a>
+    ensures rule { rule_of result ≡ flag_rule name.now }
+    ensures own { result.global ≡ false }
+{
+    Arg::new(alloc, name)
+        .long(name)
+        .help(help)
+        .action(ArgAction::SetTrue)
 }
 
 /// The command with one further option.

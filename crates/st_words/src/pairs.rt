@@ -3,10 +3,10 @@
 ghost use Rattle.std.specs.Prelude.{◌≡◌, [], ◌∷◌, Some};
 ghost use Rattle.clap.specs.Words.{FailsBy, HasKind, found_of, rows_of, subcommand_rows_of};
 ghost use Rattle.st_words.specs.Pairs as spec;
-ghost use Rattle.st_words.specs.Pairs.{keys_fault, pair_fault, pairs_fault};
+ghost use Rattle.st_words.specs.Pairs.{keys_fault, pair_fault, pairs_fault, requests_fault};
 
-use crate::request::chosen;
-use crate::texts::{RECEIVE_USAGE, SEND_USAGE};
+use crate::request::{chosen, is_set};
+use crate::texts::{CONNECTOR_USAGE, RECEIVE_USAGE, SEND_USAGE};
 use clap::error::ErrorKind;
 use clap::{ArgMatches, Command, Error};
 use std::alloc::Global;
@@ -29,6 +29,12 @@ const TOKEN: Messages = Messages {
 const SECRET: Messages = Messages {
     both: "the argument '--secret <HEX>' cannot be used with '--secret-file <FILE>'",
     neither: "the following required arguments were not provided:\n  <--secret <HEX>|--secret-file <FILE>>",
+};
+
+/// What is said of `--requests` and `--endless`.
+const REQUESTS: Messages = Messages {
+    both: "the argument '--requests <N>' cannot be used with '--endless'",
+    neither: "the following required arguments were not provided:\n  <--requests <N>|--endless>",
 };
 
 /// An error of this kind in the form of clap's, with this usage; or one of memory that was refused.
@@ -71,6 +77,15 @@ fn is_given(matches: &ArgMatches<'_>, name: &str) -> bool
     chosen(matches, name).is_some()
 }
 
+/// Looks at the number of requests of `connector`, or that there is none.
+fn look_at_requests(alloc: Global, matches: &ArgMatches<'_>) -> Result<(), Error>
+    ensures { FailsBy (requests_fault (rows_of (found_of matches.now))) result }
+{
+    let requests = is_given(matches, "requests");
+    let endless = is_set(matches, "endless");
+    look(alloc, CONNECTOR_USAGE, &REQUESTS, requests, endless)
+}
+
 /// Looks at the token and the secret of a command, each of which is given or in a file.
 fn look_at_keys(alloc: Global, usage: &'static str, matches: &ArgMatches<'_>) -> Result<(), Error>
     ensures { FailsBy (keys_fault (rows_of (found_of matches.now))) result }
@@ -90,12 +105,13 @@ fn look_at(alloc: Global, name: &str, matches: &ArgMatches<'_>) -> Result<(), Er
     match name {
         "send" => look_at_keys(alloc, SEND_USAGE, matches),
         "receive" => look_at_keys(alloc, RECEIVE_USAGE, matches),
+        "connector" => look_at_requests(alloc, matches),
         _ => Ok(()),
     }
 }
 
 /// Looks whether exactly one of each pair of the command's options is given: `send` and `receive` need a token and a
-/// secret, each from an option or from a file.
+/// secret, each from an option or from a file, and `connector` a number of requests or that there is none.
 ///
 /// Fails with `ArgumentConflict` where both of a pair are given, with `MissingRequiredArgument` where neither is, and with
 /// `OutOfMemory`.

@@ -4,22 +4,23 @@ ghost use Rattle.std.specs.Prelude.{◌≡◌, false, IfOk};
 ghost use Rattle.clap.specs.Words.{app_of, shape_of};
 ghost use Rattle.clap.specs.Simple.{new_shape};
 ghost use Rattle.st_words.specs.Program as spec;
-ghost use Rattle.st_words.specs.Program.{HasShape, has_globals, ledger_rule, log_rule, patience_rule, totals_rule, with_rule};
+ghost use Rattle.st_words.specs.Program.{HasShape, control_rule, has_globals, ledger_rule, log_rule, patience_rule, table_rule, totals_rule, verbose_rule, with_rule};
 
 use crate::options::{
-    last, number, option, placed, placed_number, ranged, required, with, with_command,
+    flag, last, number, option, placed, placed_number, ranged, required, with, with_command,
     with_default, with_optional, with_required,
 };
 use crate::texts::{
     ACCOUNTS_HELP, AFTER_CONNECTOR_HELP, AFTER_EXPLAIN_HELP, AFTER_FRAMES_HELP, AFTER_HELP,
     AFTER_LEDGER_HELP, AFTER_LOCAL_HELP, AFTER_RECEIVE_HELP, AFTER_SEND_HELP, BOOKS_HELP,
-    LEAST_HELP, LEDGER_HELP, LEDGER_USAGE, LOG_HELP, NUMBER_HELP, PATIENCE_HELP, PAYMENT_HELP,
-    RECEIVE_USAGE, SECRET_FILE_HELP, SECRET_HELP, SEND_USAGE, TOKEN_FILE_HELP, TOKEN_HELP,
-    TOTALS_HELP,
+    CONNECTOR_USAGE, CONTROL_HELP, ENDLESS_HELP, LEAST_HELP, LEDGER_HELP, LEDGER_USAGE, LOG_HELP,
+    NUMBER_HELP, PATIENCE_HELP, PAYMENT_HELP, RECEIVE_USAGE, SECRET_FILE_HELP, SECRET_HELP,
+    SEND_USAGE, SPREAD_HELP, TABLE_HELP, TOKEN_FILE_HELP, TOKEN_HELP, TOTALS_HELP, VERBOSE_HELP,
 };
 use clap::Command;
 use st_settings::{
-    MAX_HOPS, MAX_LOSE, MAX_MONEY, MAX_PATIENCE, MAX_REQUESTS, MAX_STREAMS, MAX_WORKERS,
+    LEAST_SEND_PATIENCE, MAX_HOPS, MAX_LOSE, MAX_MONEY, MAX_PATIENCE, MAX_REQUESTS, MAX_STREAMS,
+    MAX_WORKERS,
 };
 use std::alloc::{AllocError, Global};
 
@@ -122,6 +123,16 @@ fn with_patience<'a>(alloc: Global, command: Command<'a>) -> Result<Command<'a>,
     with(command, patience)
 }
 
+/// The command with the option for how long it tries on.
+fn with_spread<'a>(alloc: Global, command: Command<'a>) -> Result<Command<'a>, AllocError>
+    requires { has_globals command ≡ false }
+    ensures { IfOk result (HasShape (spec.with_spread (shape_of command.entry))) }
+{
+    let (help, least) = (SPREAD_HELP, LEAST_SEND_PATIENCE);
+    let patience = ranged(alloc, "patience", "SECONDS", help, least, MAX_PATIENCE);
+    with_default(command, patience, "10")
+}
+
 /// The command with the option for the number of its threads.
 fn with_workers<'a>(
     alloc: Global,
@@ -132,6 +143,15 @@ fn with_workers<'a>(
     ensures { IfOk result (HasShape (spec.with_workers (shape_of command.entry))) }
 {
     with_default(command, number(alloc, "workers", help, 1, MAX_WORKERS), "4")
+}
+
+/// The command with the options for the number of a sender's threads, and for how long it tries on.
+fn with_tries<'a>(alloc: Global, command: Command<'a>) -> Result<Command<'a>, AllocError>
+    requires { has_globals command ≡ false }
+    ensures { IfOk result (HasShape (spec.with_tries (shape_of command.entry))) }
+{
+    let command = with_workers(alloc, command, "Number of threads that send, 1 to 16")?;
+    with_spread(alloc, command)
 }
 
 /// The command with the option for the file of totals.
@@ -154,12 +174,78 @@ fn with_log<'a>(alloc: Global, command: Command<'a>) -> Result<Command<'a>, Allo
     with(command, option(alloc, "log", "FILE", LOG_HELP))
 }
 
+/// The command with the option for what it reports on standard error.
+fn with_verbose<'a>(alloc: Global, command: Command<'a>) -> Result<Command<'a>, AllocError>
+    requires { has_globals command ≡ false }
+    ensures { IfOk result (HasShape (with_rule (shape_of command.entry) verbose_rule)) }
+{
+    with(command, flag(alloc, "verbose", VERBOSE_HELP))
+}
+
+/// The command with the option for the pipe by which it is asked things while it runs.
+fn with_control<'a>(alloc: Global, command: Command<'a>) -> Result<Command<'a>, AllocError>
+    requires { has_globals command ≡ false }
+    ensures { IfOk result (HasShape (with_rule (shape_of command.entry) control_rule)) }
+{
+    with(command, option(alloc, "control", "FIFO", CONTROL_HELP))
+}
+
+/// The command with the option for the file of its table.
+fn with_table<'a>(alloc: Global, command: Command<'a>) -> Result<Command<'a>, AllocError>
+    requires { has_globals command ≡ false }
+    ensures { IfOk result (HasShape (with_rule (shape_of command.entry) table_rule)) }
+{
+    with(command, option(alloc, "table", "FILE", TABLE_HELP))
+}
+
 /// The command with the option for the file of books.
 fn with_ledger<'a>(alloc: Global, command: Command<'a>) -> Result<Command<'a>, AllocError>
     requires { has_globals command ≡ false }
     ensures { IfOk result (HasShape (with_rule (shape_of command.entry) ledger_rule)) }
 {
     with(command, option(alloc, "ledger", "FILE", LEDGER_HELP))
+}
+
+/// The command with the options for the files of totals and of events.
+fn with_reports<'a>(
+    alloc: Global,
+    command: Command<'a>,
+    help: &'a str,
+) -> Result<Command<'a>, AllocError>
+    requires { has_globals command ≡ false }
+    ensures { IfOk result (HasShape (spec.with_reports (shape_of command.entry))) }
+{
+    let command = with_totals(alloc, command, help)?;
+    with_log(alloc, command)
+}
+
+/// The command with the options for what it reports on standard error, and by what it is asked things.
+fn with_running<'a>(alloc: Global, command: Command<'a>) -> Result<Command<'a>, AllocError>
+    requires { has_globals command ≡ false }
+    ensures { IfOk result (HasShape (spec.with_running (shape_of command.entry))) }
+{
+    let command = with_verbose(alloc, command)?;
+    with_control(alloc, command)
+}
+
+/// The command with the options for where a connector is.
+fn with_place<'a>(alloc: Global, command: Command<'a>) -> Result<Command<'a>, AllocError>
+    requires { has_globals command ≡ false }
+    ensures { IfOk result (HasShape (spec.with_place (shape_of command.entry))) }
+{
+    let command = with_listen(alloc, command)?;
+    let own = "ILP address of the connector, at most 1023 characters";
+    with_required(alloc, command, "own", "ADDRESS", own)
+}
+
+/// The command with the options for the files of a connector, and with those of a command that listens.
+fn with_files<'a>(alloc: Global, command: Command<'a>) -> Result<Command<'a>, AllocError>
+    requires { has_globals command ≡ false }
+    ensures { IfOk result (HasShape (spec.with_files (shape_of command.entry))) }
+{
+    let command = with_ledger(alloc, command)?;
+    let command = with_running(alloc, command)?;
+    with_table(alloc, command)
 }
 
 /// The command with the options that say where a sender sends to.
@@ -193,7 +279,7 @@ fn send<'a>(alloc: Global) -> Result<Command<'a>, AllocError>
     let command = with_peers(alloc, command)?;
     let money = "Money to offer on the stream, in units, 0 to 2^63 - 1";
     let command = with_money(alloc, command, "money", money)?;
-    let command = with_workers(alloc, command, "Number of threads that send, 1 to 16")?;
+    let command = with_tries(alloc, command)?;
     let command = with_sources(alloc, command)?;
     let command = with_totals(alloc, command, TOTALS_HELP)?;
     with_log(alloc, command)
@@ -210,20 +296,18 @@ fn receive<'a>(alloc: Global) -> Result<Command<'a>, AllocError>
     let most = "The most money to accept on the stream, in units, 0 to 2^63 - 1";
     let command = with_money(alloc, command, "receive-max", most)?;
     let command = with_patience(alloc, command)?;
-    let command = with_totals(alloc, command, TOTALS_HELP)?;
-    with_log(alloc, command)
+    let command = with_reports(alloc, command, TOTALS_HELP)?;
+    with_running(alloc, command)
 }
 
-/// The command with the option for the number of requests that a connector accepts.
+/// The command with the options for the number of requests that a connector accepts, or that it accepts any number.
 fn with_requests<'a>(alloc: Global, command: Command<'a>) -> Result<Command<'a>, AllocError>
     requires { has_globals command ≡ false }
     ensures { IfOk result (HasShape (spec.with_requests (shape_of command.entry))) }
 {
     let help = "Number of requests to accept before it ends, 1 to 2147483647";
-    with(
-        command,
-        required(number(alloc, "requests", help, 1, MAX_REQUESTS)),
-    )
+    let command = with(command, number(alloc, "requests", help, 1, MAX_REQUESTS))?;
+    with(command, flag(alloc, "endless", ENDLESS_HELP))
 }
 
 fn connector<'a>(alloc: Global) -> Result<Command<'a>, AllocError>
@@ -231,18 +315,16 @@ fn connector<'a>(alloc: Global) -> Result<Command<'a>, AllocError>
 {
     let about = "Accepts packets from neighbours and forwards them, by the table on standard input";
     let command = named(alloc, "connector", about, AFTER_CONNECTOR_HELP);
-    let command = with_listen(alloc, command)?;
-    let own = "ILP address of the connector, at most 1023 characters";
-    let command = with_required(alloc, command, "own", "ADDRESS", own)?;
+    let command = command.override_usage(CONNECTOR_USAGE);
+    let command = with_place(alloc, command)?;
     let command = with_requests(alloc, command)?;
     let command = with_workers(
         alloc,
         command,
         "Number of threads that answer requests, 1 to 16",
     )?;
-    let command = with_totals(alloc, command, ACCOUNTS_HELP)?;
-    let command = with_log(alloc, command)?;
-    with_ledger(alloc, command)
+    let command = with_reports(alloc, command, ACCOUNTS_HELP)?;
+    with_files(alloc, command)
 }
 
 /// What help calls the words of a payment.

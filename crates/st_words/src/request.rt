@@ -5,6 +5,7 @@ ghost use Rattle.clap.specs.Words.{FailsBy, fault_of, first_of, found_of, rows_o
 ghost use Rattle.st_settings.specs.Ledger as ledger;
 ghost use Rattle.st_settings.specs.Numbers.{IsNumber};
 ghost use Rattle.st_settings.specs.Settings as settings;
+ghost use Rattle.st_words.specs.Pairs as pairs;
 ghost use Rattle.st_words.specs.Program as grammar;
 ghost use Rattle.st_words.specs.Words as spec;
 ghost use Rattle.st_words.specs.declared.request.Request.{Request};
@@ -54,6 +55,13 @@ fn value<'a>(matches: &ArgMatches<'a>, name: &str) -> &'a str
     chosen(matches, name).unwrap_or("")
 }
 
+/// Whether an option without a value is given.
+pub(crate) fn is_set(matches: &ArgMatches<'_>, name: &str) -> bool
+    ensures { result ≡ pairs.is_set name.now (rows_of (found_of matches.now)) }
+{
+    value(matches, name) == "true"
+}
+
 fn local<'a>(matches: &ArgMatches<'a>) -> LocalOptions<'a>
     ensures { settings.local_texts result ≡ spec.local_texts (rows_of (found_of matches.now)) }
 {
@@ -77,6 +85,7 @@ pub(crate) fn send<'a>(matches: &ArgMatches<'a>) -> SendOptions<'a>
         peer: value(matches, "peer"),
         money: value(matches, "money"),
         workers: value(matches, "workers"),
+        patience: value(matches, "patience"),
         random: value(matches, "random"),
         least: value(matches, "least"),
         totals: chosen(matches, "totals"),
@@ -99,6 +108,8 @@ pub(crate) fn receive<'a>(matches: &ArgMatches<'a>) -> ReceiveOptions<'a>
         patience: chosen(matches, "patience"),
         totals: chosen(matches, "totals"),
         log: chosen(matches, "log"),
+        verbose: is_set(matches, "verbose"),
+        control: chosen(matches, "control"),
     }
 }
 
@@ -108,11 +119,14 @@ pub(crate) fn connector<'a>(matches: &ArgMatches<'a>) -> ConnectorOptions<'a>
     ConnectorOptions {
         listen: value(matches, "listen"),
         own: value(matches, "own"),
-        requests: value(matches, "requests"),
+        requests: chosen(matches, "requests"),
         workers: value(matches, "workers"),
         totals: chosen(matches, "totals"),
         log: chosen(matches, "log"),
         ledger: chosen(matches, "ledger"),
+        verbose: is_set(matches, "verbose"),
+        control: chosen(matches, "control"),
+        table: chosen(matches, "table"),
     }
 }
 

@@ -50,7 +50,7 @@ fn send_rule(it: &SendOptions<'_>) -> &'static str {
     if read_rate(it.least).is_none() {
         return "--least is NUM:DEN, each from 1 to 4294967295";
     }
-    if is_number(it.money) && is_number(it.workers) {
+    if is_number(it.money) && is_number(it.workers) && is_number(it.patience) {
         "--to is HOST:PORT, with a port up to 65535"
     } else {
         DIGITS
@@ -74,7 +74,7 @@ fn connector_rule(it: &ConnectorOptions<'_>) -> &'static str {
     if !is_address(it.own) {
         return "--own is an ILP address";
     }
-    if is_number(it.requests) && is_number(it.workers) {
+    if is_number(it.requests.unwrap_or("1")) && is_number(it.workers) {
         "--listen is HOST:PORT, with a port up to 65535"
     } else {
         DIGITS

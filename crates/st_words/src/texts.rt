@@ -134,6 +134,10 @@ pub const RECEIVE_USAGE: &str =
     "ilpstream receive [OPTIONS] --listen <HOST:PORT> <--token <TOKEN>|--token-file <FILE>>
            <--secret <HEX>|--secret-file <FILE>> --address <ADDRESS> --peer <ADDRESS>";
 
+/// The usage of `connector`.
+pub const CONNECTOR_USAGE: &str =
+    "ilpstream connector [OPTIONS] --listen <HOST:PORT> --own <ADDRESS> <--requests <N>|--endless>";
+
 /// The usage of `ledger`.
 pub const LEDGER_USAGE: &str = "ilpstream ledger <FILE> [settle <NAME> <AMOUNT>]";
 
@@ -145,6 +149,20 @@ pub const PAYMENT_HELP: &str = "Book a payment outside Interledger";
 
 /// The help of N of `explain`.
 pub const NUMBER_HELP: &str = "Number of a fault or a refusal, 0 to 255";
+
+/// The help of `--verbose`.
+pub const VERBOSE_HELP: &str =
+    "Print `listening address=IP:PORT` to standard error once it listens";
+
+/// The help of `--control`.
+pub const CONTROL_HELP: &str =
+    "Pipe whose lines ask the command to stop, to write its totals, or to open its log anew";
+
+/// The help of `--table`.
+pub const TABLE_HELP: &str = "File of the table, in place of standard input";
+
+/// The help of `--endless`.
+pub const ENDLESS_HELP: &str = "Accept any number of requests, in place of --requests";
 
 /// The help of `--ledger`.
 pub const LEDGER_HELP: &str =
@@ -166,9 +184,13 @@ pub const SECRET_FILE_HELP: &str = "File whose first line is the secret, in plac
 /// The help of `--log`.
 pub const LOG_HELP: &str = "File to which one line for each event is appended";
 
-/// The help of `--patience`.
+/// The help of `--patience` of `receive`.
 pub const PATIENCE_HELP: &str =
     "Seconds to wait for a valid request, 1 to 86400; without it the wait has no end";
+
+/// The help of `--patience` of `send`.
+pub const SPREAD_HELP: &str =
+    "Seconds over which the 200 tries are spread that may fail in a row, 10 to 86400";
 
 /// The help of `--least`.
 pub const LEAST_HELP: &str =

@@ -1,4 +1,4 @@
-use Rattle.st_words.proofs.PlainWords.{books_plain, connector_plain, files_plain, ledger_plain, payment_plain, receive_plain, send_plain}
+use Rattle.st_words.proofs.PlainWords.{books_plain, connector_plain, control_plain, endless_plain, files_plain, ledger_plain, payment_plain, receive_plain, requests_once, send_plain}
 use Rattle.st_words.proofs.laws.plain_words_say_their_texts.Goals as goal
 
 pub returns : goal.returns
@@ -7,6 +7,9 @@ returns c = record {
   files = files_plain;
   receive = receive_plain;
   connector = connector_plain;
+  endless = endless_plain;
+  requests = requests_once;
+  control = control_plain;
   books = books_plain;
   ledger = ledger_plain;
   payment = payment_plain;

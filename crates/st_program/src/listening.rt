@@ -1,0 +1,32 @@
+//! The address at which a command listens.
+
+use crate::log::{Log, tell};
+use crate::progress::put_terminal;
+use st_log::Event;
+use std::alloc::Global;
+use std::net::TcpListener;
+use std::time::Clock;
+
+/// Reports the address at which a command listens, with the port that it was given in place of 0: to its log, where there is
+/// one, and to standard error, where that is asked for. Nothing is reported where the system does not say the address.
+pub(crate) fn tell_listening<N: Clock>(
+    rt: &N,
+    alloc: Global,
+    log: Log<'_>,
+    verbose: bool,
+    listener: &TcpListener,
+) {
+    let Ok(address) = listener.local_addr() else {
+        return;
+    };
+    let Ok(address) = format!(in alloc; "{address}") else {
+        return;
+    };
+    let event = Event::Listening {
+        address: address.as_str(),
+    };
+    tell(rt, log, &event);
+    if verbose && let Ok(line) = format!(in alloc; "listening address={address}\n") {
+        put_terminal(line.as_bytes());
+    }
+}
