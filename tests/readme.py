@@ -2,12 +2,12 @@
 """Looks whether what the documents show is so.
 
 Each block ```rust of README, COMMANDS, OPERATING and LIBRARY stands, line for line, in a source of the crates, so that what a
-reader pastes is what the gate proved and ran. Each block ```c, ```rust and ```python of EMBEDDING stands so in a source of
-bind/; its commands are run by tests/bindings.py.
+reader pastes is what the gate proved and ran. Each block ```c, ```rust and ```python of EMBEDDING, and each block ```c and
+```python of README, stands so in a source of bind/; the commands of EMBEDDING are run by tests/bindings.py.
 
 Each block ```console of them is run. Those of a document are run one after another by one bash, as by a reader who pastes them
-in order, in a directory that at first has nothing but `ilpstream`, the built program (which is on the PATH too), and the
-repository's `examples`, `bind` and `README.md`. A line that begins with `$ ` is a command; where it ends with a backslash the next
+in order, in a directory that at first has nothing but `ilpstream` and `try`, the built program (which is on the PATH too), and
+the repository's `examples`, `bind` and `README.md`. A line that begins with `$ ` is a command; where it ends with a backslash the next
 line goes on with it. All other lines are the output, standard output and standard error together, which is compared with that of
 the whole block. A line `...` stands for any lines, and a word `...` in a line for any text. A block has to end what it began: no
 process may run in the background behind it. A document has 120 seconds. Blocks ```sh and ```text are not run.
@@ -82,7 +82,7 @@ def look_at_examples(paths):
         "python": sources("bind/python/examples/*.py"),
     }
     for path in paths:
-        for language, found in hosts.items() if path == EMBEDDING else [("rust", rattle)]:
+        for language, found in (hosts if path == EMBEDDING else {**hosts, "rust": rattle}).items():
             for number, lines in blocks(path, language):
                 text = plain(lines)
                 good = any(text in source for source in found)
@@ -124,6 +124,7 @@ def run(script, seconds=SECONDS):
     room = tempfile.mkdtemp()
     try:
         os.symlink(PROGRAM, f"{room}/ilpstream")
+        os.symlink(PROGRAM, f"{room}/try")
         os.symlink(f"{TOP}/examples", f"{room}/examples")
         os.symlink(f"{TOP}/README.md", f"{room}/README.md")
         os.symlink(f"{TOP}/bind", f"{room}/bind")
