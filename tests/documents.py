@@ -1,5 +1,5 @@
 #!/usr/bin/env python3
-"""Compares docs/ERRORS.md, docs/LIMITS.md and a table of docs/ARCHITECTURE.md with the sources.
+"""Compares docs/ERRORS.md, docs/LIMITS.md, docs/CONFORMANCE.md and a table of docs/ARCHITECTURE.md with the sources.
 
 ERRORS: the help of each command ends with the faults that the document has for it. The numbers and the variants of its tables are those of each `number` and `fault_number` in crates/*/specs, the
 numbers in brackets those of each `inner`; the reasons of an end, the codes of a hop's Rejects, the statuses of HTTP and the
@@ -8,6 +8,8 @@ finding.
 ARCHITECTURE: the table of lemmas names each crate whose proofs cite another crate's lemmas, with that other crate.
 LIMITS: the value of each row is that of the constant, or stands in the definition, that the row names; and each constant of
 the crates below that is a whole number is in a row, or in OTHERS with the reason why it is no limit.
+CONFORMANCE: each name in the last column of a row exists: a definition, a clause, a function with a contract, or a test. A row
+that is met, or met otherwise, has a name, and each other row a reason.
 Each finding is a line; the last line counts what was compared without a finding (tables for the most part), and findings."""
 import glob
 import os
@@ -365,6 +367,67 @@ def check_limits(count):
     count.compared()
 
 
+# ---- conformance
+
+STATUSES = {"yes", "otherwise", "no", "host"}
+# What the last column has in code besides names.
+NO_NAMES = {"send", "receive", "ilpstream", "ilpstream ledger", "/dev/urandom", "/ilp", "Connection: close", "peer."}
+DEFINITION = re.compile(r"(st_\w+): ([A-Z]\w*)\.(\w+)")
+FUNCTION = re.compile(r"(st_\w+): (?:([A-Z]\w*)::)?([a-z]\w*)(?:\.([a-z]\w*))?")
+PLACE = re.compile(r"((?:tests|bind|crates|examples)/[\w./-]+)(?:: ([a-z]\w*))?")
+
+
+def has_definition(crate, file, name):
+    path = f"crates/{crate}/specs/{file}.antt"
+    words = "(?:(?:abbrev|unfoldable|data|record|pub) )+"
+    return os.path.exists(f"{TOP}/{path}") and re.search(rf"^{words}{name}(?!\w)", read(path), re.M) is not None
+
+
+def has_clause(crate, owner, name, clause):
+    """Whether a function has this clause, or any where none is named."""
+    for path in files(f"crates/{crate}/src/**/*.rt"):
+        text = read(path)
+        if owner and not re.search(rf"^impl\b.*\b{owner}\b", text, re.M):
+            continue
+        for contract in re.findall(rf"\bfn {name}\b(.*?)^ *\{{", text, re.M | re.S):
+            if re.search(rf"^ *ensures {clause} \{{" if clause else r"^ *ensures\b", contract, re.M):
+                return True
+    return False
+
+
+def has_test(path, name):
+    return os.path.isfile(f"{TOP}/{path}") and (not name or re.search(rf"^ *(?:pub )?(?:fn|def) {name}\b", read(path), re.M) is not None)
+
+
+def exists(name):
+    """Whether what a row names is in the repository."""
+    for form, has in ((DEFINITION, has_definition), (FUNCTION, has_clause), (PLACE, has_test)):
+        found = form.fullmatch(name)
+        if found:
+            return has(*found.groups())
+    return False
+
+
+def check_conformance(count):
+    where = "docs/CONFORMANCE.md"
+    for name in ("st_oer: Spelling.octets", "st_hop: settle.settled", "st_end: EndState::new", "tests/edges.py: transfer"):
+        count.check(exists(name), f"{where}: {name} was not found")
+        count.check(not exists(f"{name}_x"), f"{where}: {name}_x was found, and there is none")
+    rows, sections = rows_of(where, "Requirement", count), [header for header, _ in tables(where) if header[0] == "Requirement"]
+    count.check(len(rows) > 90 and len(sections) == 10, f"{where}: {len(rows)} rows in {len(sections)} tables were read")
+    count.compared()
+    for line, cells in rows:
+        if len(cells) != 4 or not all(cells) or cells[2] not in STATUSES:
+            count.check(False, f"{where}:{line}: a row without a requirement, a section, a status or a reason")
+            continue
+        names = [name for name in CODE.findall(cells[3]) if name not in NO_NAMES]
+        for name in names:
+            count.check(exists(name), f"{where}:{line}: there is no {name}")
+        said = re.sub(r"[\W_]+", "", CODE.sub("", cells[3]))
+        count.check(bool(names) if cells[2] in ("yes", "otherwise") else len(said) > 10, f"{where}:{line}: nothing says so")
+    count.compared()
+
+
 def main():
     count = Count()
     check_numbers(count)
@@ -374,6 +437,7 @@ def main():
     check_calls(count)
     check_lemmas(count)
     check_limits(count)
+    check_conformance(count)
     print(f"{count.passed} passed, {count.failed} failed")
     return 1 if count.failed else 0
 
