@@ -63,6 +63,7 @@ documents() {
     step 5 tests/documents.py
     step 5 tests/prose.py
     step 5 tests/generated.py
+    step 5 tests/manual.py
     step 5 tests/timing.py
     step 5 tests/seen_by_tests.py --look
     step 5 tests/refused.py --look

@@ -1,6 +1,6 @@
 #!/usr/bin/env python3
-"""Runs the scripts of crates/*/gen, which write long code and proofs, and tools/errors.py, which writes the tables of errors, and
-compares with what stands. Each finding is a line; the last line counts the files that are as their script writes them, and those
+"""Runs the scripts of crates/*/gen, which write long code and proofs, tools/errors.py, which writes the tables of errors, and
+tools/manual.py, which writes the man page and completions, and compares with what stands. Each finding is a line; the last line counts the files that are as their script writes them, and those
 that are not."""
 import glob
 import os
@@ -9,7 +9,7 @@ import subprocess
 import sys
 
 TOP = os.path.realpath(os.path.join(os.path.dirname(os.path.realpath(__file__)), ".."))
-SCRIPTS = ["crates/st_aes/gen/planes.py", "tools/errors.py"]
+SCRIPTS = ["crates/st_aes/gen/planes.py", "tools/errors.py", "tools/manual.py"]
 COUNT = re.compile(r"^([0-9]+) files as written, ([0-9]+) not$")
 
 
