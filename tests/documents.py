@@ -10,6 +10,8 @@ LIMITS: the value of each row is that of the constant, or stands in the definiti
 the crates below that is a whole number is in a row, or in OTHERS with the reason why it is no limit.
 CONFORMANCE: each name in the last column of a row exists: a definition, a clause, a function with a contract, or a test. A row
 that is met, or met otherwise, has a name, and each other row a reason.
+All documents but CHANGELOG and COMPARED: a name in code that has `_` or a capital within stands in some source, a path in code
+leads to a file, and the number of a fault is that of docs/errors.toml.
 Each finding is a line; the last line counts what was compared without a finding (tables for the most part), and findings."""
 import glob
 import os
@@ -428,6 +430,59 @@ def check_conformance(count):
     count.compared()
 
 
+# ---- names in code
+
+# The names of std, of the system and of examples.
+OF_OTHERS = {"follows_so", "fill_buf", "O_EXCL", "my_program", "delay_exit"}
+# Documents about what is gone, and about libraries of others.
+ABOUT_OTHERS = {"CHANGELOG.md", "docs/COMPARED.md"}
+BUILT = {"out", "built", "target", ".git", "__pycache__"}
+NAMED_PATH = re.compile(r"(?<![\w./*$-])(?:tests|docs|crates|bind|tools|examples|bench|share)/[\w.*/-]*[\w*]")
+
+
+def words_of_sources():
+    """Each word of a source, and of the path of a file."""
+    found = set()
+    for at, folders, names in os.walk(TOP):
+        folders[:] = [it for it in folders if it not in BUILT]
+        for name in names:
+            path = os.path.relpath(f"{at}/{name}", TOP)
+            found.update(re.findall(r"\w+", path))
+            if not name.endswith((".md", ".pyc")):
+                with open(f"{TOP}/{path}", encoding="utf-8", errors="replace") as source:
+                    found.update(re.findall(r"\w+", source.read()))
+    return found
+
+
+def lines_of_prose(path):
+    """The lines of a document outside of blocks of code, with their numbers."""
+    inside = False
+    for number, line in enumerate(read(path).splitlines(), 1):
+        is_fence = line.lstrip().startswith("```")
+        inside = inside != is_fence
+        if not inside and not is_fence:
+            yield number, line
+
+
+def check_names_in_code(count):
+    known = words_of_sources() | OF_OTHERS
+    faults = {row["number"] for row in tomllib.loads(read("docs/errors.toml"))["row"]}
+    for where in files("*.md") + files("docs/*.md"):
+        if where in ABOUT_OTHERS:
+            continue
+        for line, text in lines_of_prose(where):
+            for code in CODE.findall(text):
+                names = {word for word in re.findall(r"\w+", code) if "_" in word.strip("_") or re.search("[a-z][A-Z]", word)}
+                for name in sorted(names - known):
+                    count.check(False, f"{where}:{line}: {name} stands in no source")
+                for path in NAMED_PATH.findall(code):
+                    is_there = not BUILT.isdisjoint(path.split("/")) or re.search(r"(?:^|/)[A-Z]+(?:/|$|\.edit)", path) or glob.glob(f"{TOP}/{path}")
+                    count.check(is_there, f"{where}:{line}: there is no {path}")
+            for number in re.findall(r"\bfaults? (\d+)\b", text):
+                count.check(int(number) in faults, f"{where}:{line}: no fault has the number {number}")
+        count.compared()
+
+
 def main():
     count = Count()
     check_numbers(count)
@@ -438,6 +493,7 @@ def main():
     check_lemmas(count)
     check_limits(count)
     check_conformance(count)
+    check_names_in_code(count)
     print(f"{count.passed} passed, {count.failed} failed")
     return 1 if count.failed else 0
 
