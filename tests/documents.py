@@ -5,7 +5,8 @@ ERRORS: the help of each command ends with the faults that the document has for 
 numbers in brackets those of each `inner`; the reasons of an end, the codes of a hop's Rejects, the statuses of HTTP and the
 numbers that calls of the library for C return are those of their definitions. What is in one and not in the other is a
 finding.
-ARCHITECTURE: the table of lemmas names each crate whose proofs cite another crate's lemmas, with that other crate.
+ARCHITECTURE: the table of lemmas names each crate whose proofs cite another crate's lemmas, with that other crate, and the crates
+of the program are those of crates.txt.
 LIMITS: the value of each row is that of the constant, or stands in the definition, that the row names; and each constant of
 the crates below that is a whole number is in a row, or in OTHERS with the reason why it is no limit.
 CONFORMANCE: each name in the last column of a row exists: a definition, a clause, a function with a contract, or a test. A row
@@ -20,6 +21,9 @@ import sys
 import tomllib
 
 TOP = os.path.realpath(os.path.join(os.path.dirname(os.path.realpath(__file__)), ".."))
+sys.path.insert(0, f"{TOP}/tools")
+import crates as repository  # noqa: E402
+
 CODE = re.compile(r"`([^`]+)`")
 
 # The crates of the tests and of the measurements: what they count is no limit of the program.
@@ -287,9 +291,12 @@ def check_lemmas(count):
         in_order = "in this order" in read(where).splitlines()[line - 1]
         documented |= set(zip(below, above)) if in_order else {(one, other) for one in below for other in above}
     count.same(where, documented, cited, "crates/*/proofs")
-    crates = {above for _, above in cited}
-    count.check(f"the proofs of {len(crates)}\ncrates cite lemmas" in read(where), f"{where}: {len(crates)} crates cite lemmas")
-    count.compared()
+    crates, text = {above for _, above in cited}, " ".join(read(where).split())
+    count.check(f"the proofs of {len(crates)} crates cite lemmas" in text, f"{where}: {len(crates)} crates cite lemmas")
+    program = repository.with_below("ilpstream", repository.read_crates())
+    count.check(f"**The {len(program)} crates of the program**" in text, f"{where}: the program has {len(program)} crates")
+    found = re.search(r"\*\*The \d+ crates of the program\*\*.*?(?=\*\*Laws alone)", text)
+    count.same(where, set(re.findall(r"\b(?:st_\w+|ilpstream)\b", found.group(0) if found else "")), set(program), "crates.txt (crates of the program)")
 
 
 # ---- the limits

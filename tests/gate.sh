@@ -1,8 +1,9 @@
 #!/usr/bin/env bash
 # The whole gate: `rt ci`; then the program that it built, run as whoever uses it does; the bindings for C, Rust and Python; the
-# documents' examples, numbers, links and prose; whether the prover refuses the wrong bodies of tests/refused; and whether those
-# that only tests see can still be made. Each line of `rt ci` on a crate bears the minute in which it was printed. Before the last
-# line stand the processor's time by crate and the time of the whole, which is 150 minutes at most; the last line counts all.
+# documents' examples, numbers, links and prose; the man page and completions; whether the prover refuses the wrong bodies of
+# tests/refused; and whether those that only tests see can still be made. Each line of `rt ci` on a crate bears the minute in which
+# it was printed. Before the last line stand the processor's time by crate and the time of the whole, which is 150 minutes at most;
+# the last line counts all.
 set -u
 cd "$(dirname "$(readlink -f "${BASH_SOURCE[0]}")")/.." || exit 1
 room=$(mktemp -d)

@@ -42,6 +42,7 @@ def said(words, **how):
 # ---- the options of the help
 
 FUNCTION = re.compile(r"^(?:pub\(crate\) )?fn (\w+)\b.*?^\{\n(.*?)^\}", re.M | re.S)
+TEXTS = "crates/st_words/src/texts.rt"
 # An option is made with its name: number(alloc, "hops", ..), with_required(alloc, command, "to", ..).
 MADE = re.compile(r'\b(?:number|ranged|option|flag|with_required|with_optional|with_money)\(\s*alloc,\s*(?:command,\s*)?"([\w-]+)"')
 
@@ -54,8 +55,13 @@ def options():
         called = [it for it in re.findall(r"\b(\w+)\(", bodies[name]) if it in bodies and it != name]
         return set(MADE.findall(bodies[name])).union(*(of(it) for it in called))
 
+    def words(name):
+        """Those that the end of its help has on a line that begins with a word, as `settle NAME AMOUNT`."""
+        after = re.search(rf'^pub const AFTER_{name.upper()}_HELP: &str =\s*"((?:[^"\\]|\\.)*)";', read(TEXTS), re.M)
+        return {it for line in re.findall(r"^  [a-z].*$", after.group(1), re.M) for it in re.findall(r"--([a-z][\w-]*)", line)}
+
     names = re.findall(r"\bwith_command\(program, (\w+)\(alloc\)", read(PROGRAM))
-    return {name: of(name) for name in names}
+    return {name: of(name) | words(name) for name in names}
 
 
 def documented(name):

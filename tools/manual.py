@@ -124,13 +124,12 @@ class Command:
                     self.argument(row[0], plain(row[1]))
 
     def argument(self, cell, meaning):
-        found = CODE.match(cell)
-        name, _, value = (found.group(1) if found else cell).partition(" ")
-        if name.startswith("--"):
-            self.options.append((name, value, meaning))
-        elif found and name.islower():
-            self.words.append(name)
-        self.has_file = self.has_file or name in FILES
+        for name, _, value in (code.partition(" ") for code in CODE.findall(cell)):
+            if name.startswith("--"):
+                self.options.append((name, value, meaning))
+            elif name.islower():
+                self.words.append(name)
+        self.has_file = self.has_file or cell in FILES
 
 
 def commands():
