@@ -1,6 +1,7 @@
 pub mod Errors
 pub mod Desk
 pub mod Stored
+pub mod Board
 pub mod Answers
 pub mod Links
 pub mod Deadlines

@@ -1,6 +1,9 @@
 //! What waits for a commit of the books.
 
-ghost use Rattle.std.specs.Prelude.{◌≡◌, ◌∷◌, ◌++◌, [], true, false, None};
+ghost use Rattle.std.specs.Prelude.{◌≡◌, ◌≢◌, ◌∷◌, ◌++◌, ℕ, [], true, false, IfOk, None, Some, length, replicate, slice_get, slice_set};
+ghost use Rattle.st_desk.specs.Board.{IsBatch, IsLed, IsTurn, TakesAt, lists, with_told, waits_at};
+ghost use Rattle.st_desk.specs.declared.board.Slot.TheVariants as slot;
+ghost use Rattle.st_desk.specs.declared.stored.Fate as fates;
 
 use crate::stored::Fate;
 use st_booking::{Booked, Booking};
@@ -78,7 +81,9 @@ impl<A: Allocator + Copy> Batch<A> {
 
 impl<A: Allocator + Copy> Board<A> {
     /// A board with so many places. Fails where memory is refused.
-    pub(crate) fn new(alloc: A, places: usize) -> Result<Board<A>, AllocError> {
+    pub(crate) fn new(alloc: A, places: usize) -> Result<Board<A>, AllocError>
+        ensures empty { IfOk result (λ board. (board.slots.items ≡ replicate places slot.Empty) × (board.is_busy ≡ false)) }
+    {
         let mut slots = Vec::new(alloc);
         for _ in 0..places {
             slots.push(Slot::Empty)?;
@@ -90,7 +95,11 @@ impl<A: Allocator + Copy> Board<A> {
     }
 
     /// Puts a booking at a place that is free, and gives the place. `None` where all are taken.
-    pub(crate) fn put(&mut self, booking: Booking) -> Option<usize> {
+    pub(crate) fn put(&mut self, booking: Booking) -> Option<usize>
+        ensures put { (place : ℕ) → result ≡ Some place → (slice_get self.old.slots.items place ≡ Some slot.Empty) × (self.new.slots.items ≡ slice_set self.old.slots.items place (slot.Waits booking)) }
+        ensures full { result ≡ None → (self.new.slots.items ≡ self.old.slots.items) × ((place : ℕ) → slice_get self.old.slots.items place ≢ Some slot.Empty) }
+        ensures busy { self.new.is_busy ≡ self.old.is_busy }
+    {
         for place in 0..self.slots.len() {
             if let Slot::Empty = self.slots[place] {
                 self.slots[place] = Slot::Waits(booking);
@@ -101,7 +110,9 @@ impl<A: Allocator + Copy> Board<A> {
     }
 
     /// Whether a thread has to wait: a commit is under way, and it was not told yet.
-    pub(crate) fn is_waiting(&self, place: usize) -> bool {
+    pub(crate) fn is_waiting(&self, place: usize) -> bool
+        ensures { result ≡ waits_at (slice_get self.now.slots.items place) self.now.is_busy }
+    {
         match self.slots.get(place) {
             Some(Slot::Told(_)) => false,
             Some(_) => self.is_busy,
@@ -109,35 +120,42 @@ impl<A: Allocator + Copy> Board<A> {
         }
     }
 
+    /// Takes the booking of a place into a batch. Returns whether one waited there, and there was memory for it.
+    fn take(&mut self, batch: &mut Batch<A>, place: usize) -> bool
+        ensures taken { result ≡ true → TakesAt place self.old.slots.items (lists batch.old) self.new.slots.items (lists batch.new) }
+        ensures left { result ≡ false → (self.new.slots.items ≡ self.old.slots.items) × (lists batch.new ≡ lists batch.old) }
+        ensures busy { self.new.is_busy ≡ self.old.is_busy }
+    {
+        let Some(Slot::Waits(booking)) = self.slots.get(place) else {
+            return false;
+        };
+        if !batch.add(place, *booking) {
+            return false;
+        }
+        self.slots[place] = Slot::Away;
+        true
+    }
+
     /// Takes what waits, but what there is no memory for.
-    fn collect(&mut self, alloc: A) -> Batch<A> {
+    fn collect(&mut self, alloc: A) -> Batch<A>
+        ensures batch { IsBatch self.old.slots.items (lists result) self.new.slots.items (length self.old.slots.items) }
+        ensures busy { self.new.is_busy ≡ self.old.is_busy }
+    {
         let mut batch = Batch {
             bookings: Vec::new(alloc),
             tokens: Vec::new(alloc),
             places: Vec::new(alloc),
         };
         for place in 0..self.slots.len() {
-            let Slot::Waits(booking) = self.slots[place] else {
-                continue;
-            };
-            if batch.add(place, booking) {
-                self.slots[place] = Slot::Away;
-            }
+            self.take(&mut batch, place);
         }
         batch
     }
 
-    /// What the thread of a place that waited is to do. Where nothing can be committed, for want of memory, its own booking is
-    /// refused. Of a place that has no booking nothing is known.
-    pub(crate) fn turn(&mut self, alloc: A, place: usize) -> Turn<A> {
-        let Some(slot) = self.slots.get_mut(place) else {
-            return Turn::Told(Fate::Unknown);
-        };
-        match mem::replace(slot, Slot::Empty) {
-            Slot::Told(fate) => return Turn::Told(fate),
-            Slot::Waits(booking) => *slot = Slot::Waits(booking),
-            Slot::Empty | Slot::Away => return Turn::Told(Fate::Unknown),
-        }
+    /// Has the thread of a place commit all that waits. If there is no memory to take anything, its own booking is refused.
+    fn lead(&mut self, alloc: A, place: usize) -> Turn<A>
+        ensures { IsLed self.old.slots.items place self.old.is_busy result self.new.slots.items self.new.is_busy }
+    {
         let batch = self.collect(alloc);
         if batch.bookings.is_empty() {
             if let Some(slot) = self.slots.get_mut(place) {
@@ -149,21 +167,56 @@ impl<A: Allocator + Copy> Board<A> {
         Turn::Leads(batch)
     }
 
+    /// Takes what became of the booking of a place, which is free from then on.
+    fn hear(&mut self, place: usize) -> Fate
+        ensures told { (fate : fates.Fate) → slice_get self.old.slots.items place ≡ Some (slot.Told fate) → result ≡ fate }
+        ensures free { self.new.slots.items ≡ slice_set self.old.slots.items place slot.Empty }
+        ensures busy { self.new.is_busy ≡ self.old.is_busy }
+    {
+        let Some(slot) = self.slots.get_mut(place) else {
+            return Fate::Unknown;
+        };
+        match mem::replace(slot, Slot::Empty) {
+            Slot::Told(fate) => fate,
+            Slot::Empty | Slot::Waits(_) | Slot::Away => Fate::Unknown,
+        }
+    }
+
+    /// What the thread of a place that waited is to do: take the fate of its booking, or commit what waits. Of a place that has no
+    /// booking nothing is known.
+    pub(crate) fn turn(&mut self, alloc: A, place: usize) -> Turn<A>
+        ensures { IsTurn self.old.slots.items place self.old.is_busy (slice_get self.old.slots.items place) result self.new.slots.items self.new.is_busy }
+    {
+        match self.slots.get(place) {
+            Some(Slot::Told(_)) => Turn::Told(self.hear(place)),
+            Some(Slot::Waits(_)) => self.lead(alloc, place),
+            Some(Slot::Empty | Slot::Away) | None => Turn::Told(Fate::Unknown),
+        }
+    }
+
+    /// Puts the fate of a booking at its place.
+    fn tell(&mut self, place: usize, fate: Fate)
+        ensures told { self.new.slots.items ≡ slice_set self.old.slots.items place (slot.Told fate) }
+        ensures busy { self.new.is_busy ≡ self.old.is_busy }
+    {
+        if let Some(slot) = self.slots.get_mut(place) {
+            *slot = Slot::Told(fate);
+        }
+    }
+
     /// Puts what a commit made of its bookings at their places, and ends it.
-    pub(crate) fn finish(&mut self, ended: Ended<A>) {
+    pub(crate) fn finish(&mut self, ended: Ended<A>)
+        ensures told { length ended.tokens.items ≡ length ended.places.items → self.new.slots.items ≡ with_told self.old.slots.items ended.places.items ended.tokens.items ended.is_known }
+        ensures free { self.new.is_busy ≡ false }
+    {
         let Ended {
             mut tokens,
             mut places,
             is_known,
         } = ended;
         while let Some(place) = places.pop() {
-            let token = match tokens.pop() {
-                Some(token) => token,
-                None => None,
-            };
-            if let Some(slot) = self.slots.get_mut(place) {
-                *slot = Slot::Told(Fate::new(token, is_known));
-            }
+            let token = tokens.pop().unwrap_or(None);
+            self.tell(place, Fate::new(token, is_known));
         }
         self.is_busy = false;
     }
