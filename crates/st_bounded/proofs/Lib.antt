@@ -6,3 +6,5 @@ pub mod Parts
 pub mod Unopened
 pub mod Room
 pub mod Wholes
+pub mod Fates
+pub mod FatedWholes

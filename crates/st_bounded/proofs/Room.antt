@@ -1,5 +1,5 @@
 -- The hops of a chain lead on to its server, and have the room that its accounts have.
-use Rattle.std.proofs.Common.{◌≡◌, ℕ, suc, ◌+◌, ◌^◌, ◌<◌, ◌≤◌, List, [], ◌∷◌, length, map, sum, Some, refl, ap, arith}
+use Rattle.std.proofs.Common.{◌≡◌, ℕ, suc, ◌+◌, ◌*◌, ◌^◌, ◌<◌, ◌≤◌, List, [], ◌∷◌, length, map, sum, Some, refl, ap, arith}
 use Rattle.std.specs.List.{AllByRecursion}
 use Rattle.st_oer.specs.Address.{is_within}
 use Rattle.st_oer.specs.Ratios.{ratio}
@@ -12,6 +12,9 @@ use Rattle.st_quiet.specs.Calls.{MaySend}
 use Rattle.st_passage.specs.Calm.{LeadsOn}
 use Rattle.st_passage.specs.Rounds.{HasRoomFor}
 use Rattle.st_passage.specs.Plays.{MayPlay, sends_needed}
+use Rattle.st_quiet.specs.Losses.{Fate, lost_answers}
+use Rattle.st_passage.specs.LostWorlds.{MayPlayLossy}
+use Rattle.st_bounded.specs.Fates.{HasRoomToLose}
 use Rattle.st_chain.specs.Chains.{both_ways, chain_of, one_to_one, server_name, table_of, tables_from}
 
 -- by the names, which are numbers
@@ -47,4 +50,19 @@ may_play accounts config xs ms may_send bytes money few all packets = record {
   few_hops = (let same = long 1 accounts in omega (arith, same, few));
   room = have_room config.packet_limit (sum ms) 1 accounts all;
   packets = packets;
+}
+
+pub may_lose : (accounts : List Account) (config : Config) (xs : List (List ℕ)) (ms rs : List ℕ) (fates : List Fate) → HasRoomToLose accounts config xs ms rs fates → MayPlayLossy (chain_of (map one_to_one accounts) config) xs ms rs fates
+may_lose accounts config xs ms rs fates h = record {
+  may_send = h.may_send;
+  input_fits = h.input_fits;
+  short = h.short;
+  most_fits = h.most_fits;
+  each = h.each;
+  all = h.all;
+  few = h.few;
+  few_hops = (let same = long 1 accounts in let few = h.few_hops in omega (arith, same, few));
+  room = have_room config.packet_limit (sum ms + lost_answers fates * config.packet_limit) 1 accounts h.room;
+  packets = h.packets;
+  numbers = h.numbers;
 }

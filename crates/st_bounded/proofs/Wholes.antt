@@ -81,10 +81,10 @@ few_of n m e = let all = and_parts (nat_eq n m && nat_le 1 n) (nat_le n 32) e in
 pub lawful_few : (xs : List (List ℕ)) (ms : List ℕ) → are_lawful xs ms ≡ true → length xs ≤ 32
 lawful_few xs ms e = few_of (length xs) (length ms) e
 
-nodes_are : (c : Chain) (w : World) → w ≡ opening c → length w.nodes ≡ length c.hops
+pub nodes_are : (c : Chain) (w : World) → w ≡ opening c → length w.nodes ≡ length c.hops
 nodes_are c w first = ap (λ (z : World). length z.nodes) first ∙ length-map c.hops new_node
 
-roomy : 32739 ≤ read_limit
+pub roomy : 32739 ≤ read_limit
 roomy = omega arith
 
 module _ (c : Chain) (xs : List (List ℕ)) (ms : List ℕ) (lawful : are_lawful xs ms ≡ true) (may : MayPlay c xs ms) (w : World) (first : w ≡ opening c) (count : ℕ) (counted : count ≡ length xs) where

@@ -1,3 +1,4 @@
 pub mod Faults
 pub mod Playing
 pub mod Promised
+pub mod Fates

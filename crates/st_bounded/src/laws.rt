@@ -1,4 +1,4 @@
-//! A law of the chains of st_chain, over the definitions alone. The function does nothing: the contract is the law.
+//! Laws of the chains of st_chain, over the definitions alone. These functions do nothing: the contract is the law.
 
 ghost use Rattle.std.specs.Prelude.{ℕ, ◌≤◌, ◌<◌, ◌^◌, List, length, map, sum};
 ghost use Rattle.std.specs.List.{AllByRecursion};
@@ -6,6 +6,9 @@ ghost use Rattle.st_hop.specs.declared.account.Account.{Account};
 ghost use Rattle.st_sender.specs.Sending.{Config};
 ghost use Rattle.st_quiet.specs.Calls.{MaySend};
 ghost use Rattle.st_passage.specs.Plays.{MayPlay, sends_needed};
+ghost use Rattle.st_quiet.specs.Losses.{Fate};
+ghost use Rattle.st_passage.specs.LostWorlds.{MayPlayLossy};
+ghost use Rattle.st_bounded.specs.Fates.{HasRoomToLose};
 ghost use Rattle.st_chain.specs.Chains.{chain_of, one_to_one};
 
 /// The conditions under which a chain that forwards amounts unchanged may play a lossless run. It has at most eight
@@ -16,4 +19,11 @@ pub fn a_chain_with_room_may_play()
     ensures { (accounts : List Account) (config : Config) (xs : List (List ℕ)) (ms : List ℕ) → MaySend config → sum (map length xs) < 2 ^ 63 → sum ms < 2 ^ 63 → length accounts ≤ 8
         → AllByRecursion (λ (a : Account). (config.packet_limit ≤ a.max_packet) × (sum ms ≤ a.limit)) accounts → sends_needed config.packet_limit xs ms < config.packets
         → MayPlay (chain_of (map one_to_one accounts) config) xs ms }
+{}
+
+/// The same with losses: where each hop's account has room for all amounts and for what the lost answers may carry, and
+/// each receive max has such room too. The connection's number of Prepares suffices for the losses, and no 200 Sends in
+/// a row are lost.
+pub fn a_chain_with_room_may_lose()
+    ensures { (accounts : List Account) (config : Config) (xs : List (List ℕ)) (ms rs : List ℕ) (fates : List Fate) → HasRoomToLose accounts config xs ms rs fates → MayPlayLossy (chain_of (map one_to_one accounts) config) xs ms rs fates }
 {}

@@ -74,7 +74,7 @@ fn play<A: Allocator + Copy>(
 }
 
 /// Whether the world could not record an event.
-fn is_unrecorded(ended: &Result<(), Stop>) -> bool
+pub(crate) fn is_unrecorded(ended: &Result<(), Stop>) -> bool
     ensures { result ≡ is_unrecorded ended.now }
 {
     matches!(ended, Err(Stop::NoMemory))

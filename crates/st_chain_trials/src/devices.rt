@@ -1,7 +1,7 @@
 //! `local` over devices of which a call fails, and turns that run out.
 
 use crate::local::settings;
-use st_local::{LocalFault, play_local, run_local};
+use st_local::{LocalFault, LocalSends, play_local, run_local};
 use st_oer::{CountRead, CountWrite, FailAt};
 use std::alloc::Global;
 use std::process::Abort;
@@ -58,7 +58,15 @@ fn play(alloc: Global, given: u64) -> (Result<(), LocalFault>, u64) {
     let mut reader = CountRead::new(TEXT);
     let mut writer = CountWrite::new(Vec::new(alloc));
     let settings = settings(1, 0, 2);
-    let played = play_local(alloc, &settings, &mut reader, &mut writer, &mut turns);
+    let mut sends = LocalSends::none();
+    let played = play_local(
+        alloc,
+        &settings,
+        &mut reader,
+        &mut writer,
+        &mut turns,
+        &mut sends,
+    );
     (played, turns)
 }
 
@@ -69,4 +77,35 @@ fn turns_are_used_up(rt: HostRuntime) {
         sure!(&rt; play(rt.alloc(), given) == (Err(LocalFault::Turns), 0), given);
     }
     sure!(&rt; play(rt.alloc(), 6) == (Ok(()), 0));
+}
+
+/// The numbers of a run over two hops, on three streams, of which each Prepare of this number is lost.
+fn sends_of(rt: &impl Abort, alloc: Global, lose: u64, text: &[u8]) -> LocalSends {
+    let mut turns = 1_000;
+    let mut sends = LocalSends::none();
+    let mut reader = CountRead::new(text);
+    let mut writer = CountWrite::new(Vec::new(alloc));
+    let played = play_local(
+        alloc,
+        &settings(2, lose, 3),
+        &mut reader,
+        &mut writer,
+        &mut turns,
+        &mut sends,
+    );
+    sure!(rt; played == Ok(()), lose);
+    sends
+}
+
+/// Runs of 60,000 bytes with losses: the client sends a Prepare for each frame of 16,000 bytes, one for each close, and one
+/// more for each that is lost, and no more.
+#[test]
+fn each_loss_costs_one_prepare(rt: HostRuntime) {
+    let text = [7; 60_000];
+    for lose in 2..9u64 {
+        let sends = sends_of(&rt, rt.alloc(), lose, &text);
+        sure!(&rt; sends.sent.checked_div(lose) == Some(sends.lost), lose);
+        sure!(&rt; sends.bound == Some(sends.lost.saturating_add(9)), lose);
+        sure!(&rt; !sends.is_past(), lose);
+    }
 }

@@ -1,10 +1,9 @@
 //! Runs in which one end alone sends, one Prepare at a time, and some Sends are lost: how many Sends they take, what is
 //! delivered, and what is credited. And runs in which both ends send.
 
-use crate::lossy::{
-    Fate, Input, Met, Numbers, PACKET_LIMIT, Passage, begin, read_all, step, world,
-};
-use st_chain::{Event, World};
+use crate::lossy::{Input, Met, Numbers, PACKET_LIMIT, Passage, begin, read_all, step, world};
+use st_bounded::{Fate, LossyDelivery, lossy};
+use st_chain::{Event, Trace, World};
 use st_ilp::Moment;
 use st_nodes::{Side, Way};
 use std::alloc::Global;
@@ -102,8 +101,8 @@ impl Plan {
 }
 
 /// Whether a stream's bytes were all written and read, and its end was reported.
-fn is_whole(world: &World<Global>, side: Side, stream: u8, input: &[u8]) -> bool {
-    let Some(ledger) = world.trace().ledger(side, stream) else {
+fn is_whole(trace: &Trace<Global>, side: Side, stream: u8, input: &[u8]) -> bool {
+    let Some(ledger) = trace.ledger(side, stream) else {
         return false;
     };
     ledger.read() == input && ledger.told_end()
@@ -163,11 +162,11 @@ fn begin_all(rt: &impl Abort, world: &mut World<Global>, plan: &Plan, bytes: &[u
 }
 
 /// How many streams of a plan came whole.
-fn whole_of(world: &World<Global>, plan: &Plan, bytes: &[u8]) -> usize {
+fn whole_of(trace: &Trace<Global>, plan: &Plan, bytes: &[u8]) -> usize {
     let mut whole = 0usize;
     for at in 0..plan.streams.min(3) {
         let is_one = is_whole(
-            world,
+            trace,
             Side::Client,
             stream_at(at),
             front(bytes, plan.sizes[at]),
@@ -185,7 +184,7 @@ fn play(rt: &impl Abort, alloc: Global, plan: &Plan, numbers: &mut Numbers, byte
     Seen {
         paid: world.trace().end(Side::Client).totals().paid,
         credited: world.trace().end(Side::Server).totals().credited,
-        whole: whole_of(&world, plan, bytes),
+        whole: whole_of(world.trace(), plan, bytes),
         ..seen
     }
 }
@@ -232,6 +231,80 @@ fn a_lost_send_costs_itself(rt: HostRuntime) {
     sure!(&rt; reached && more);
 }
 
+/// How many fates a list has.
+const FATES: usize = 16;
+
+/// A list of fates of a plan.
+fn list_of(plan: &Plan, numbers: &mut Numbers) -> [Fate; FATES] {
+    let (mut fates, mut losses) = ([Fate::Delivered; FATES], 0u64);
+    for at in 0..FATES {
+        fates[at] = plan.fate(numbers, losses);
+        losses = losses.saturating_add(u64::from(fates[at] != Fate::Delivered));
+    }
+    fates
+}
+
+/// What is seen of a run by a list of fates.
+fn seen_of(played: &LossyDelivery<Global>, plan: &Plan, fates: &[Fate], bytes: &[u8]) -> Seen {
+    let trace = played.trace();
+    let mut seen = Seen::NOTHING;
+    for at in 0..fates.len().min(played.sends() as usize) {
+        seen.note(fates[at]);
+    }
+    Seen {
+        sends: played.sends(),
+        paid: trace.end(Side::Client).totals().paid,
+        credited: trace.end(Side::Server).totals().credited,
+        whole: whole_of(trace, plan, bytes),
+        ..seen
+    }
+}
+
+/// A run by a list of fates, with just the room for the money and for what lost answers may carry.
+fn play_list(rt: &impl Abort, alloc: Global, plan: &Plan, fates: &[Fate], bytes: &[u8]) -> Seen {
+    let ([one, two, three], count) = (plan.sizes, plan.streams.min(3));
+    let input = [front(bytes, one), front(bytes, two), front(bytes, three)];
+    let mut receive_max = plan.money;
+    for at in 0..3 {
+        let money = plan.money[at];
+        let spare = plan.most_losses.saturating_mul(money.min(PACKET_LIMIT));
+        receive_max[at] = money.saturating_add(spare);
+    }
+    let world = world(rt, alloc, plan.hops);
+    match lossy(
+        world,
+        &input[..count],
+        &plan.money[..count],
+        &receive_max[..count],
+        fates,
+    ) {
+        Ok(played) => {
+            let seen = seen_of(&played, plan, fates, bytes);
+            sure!(rt; seen.credited.saturating_sub(seen.paid) == played.carried());
+            seen
+        }
+        Err(_) => panic!(rt; "there is memory"),
+    }
+}
+
+/// 200 lists of fates, over none to three hops: no run has more Sends than its bound and its losses, and some have as
+/// many. What is credited beside all money is exactly what the lost answers carried.
+#[test]
+fn no_list_passes_the_bound(rt: HostRuntime) {
+    let bytes = bytes(&rt, rt.alloc());
+    let mut numbers = Numbers::of(3);
+    let (mut reached, mut more) = (false, false);
+    for n in 0..200 {
+        let plan = Plan::draw(&mut numbers);
+        let fates = list_of(&plan, &mut numbers);
+        let seen = play_list(&rt, rt.alloc(), &plan, &fates, &bytes);
+        sure!(&rt; seen.is_lawful(&plan), n);
+        reached = reached || seen.is_at_bound(&plan);
+        more = more || seen.credited > seen.paid;
+    }
+    sure!(&rt; reached && more);
+}
+
 /// 40 bytes and 100 units on one stream, of which the first answer is lost.
 fn lose_the_first(rt: &impl Abort, alloc: Global, receive_max: u64) -> Seen {
     let (mut world, bytes) = (world(rt, alloc, 0), [5; 40]);
@@ -261,7 +334,7 @@ fn lose_the_first(rt: &impl Abort, alloc: Global, receive_max: u64) -> Seen {
     Seen {
         paid: world.trace().end(Side::Client).totals().paid,
         credited: world.trace().end(Side::Server).totals().credited,
-        whole: usize::from(is_whole(&world, Side::Client, 1, &bytes)),
+        whole: usize::from(is_whole(world.trace(), Side::Client, 1, &bytes)),
         sends,
         ..Seen::NOTHING
     }

@@ -1,5 +1,6 @@
 //! What an event of a lossy run leads to, and the numbers by which such runs are drawn.
 
+use st_bounded::Fate;
 use st_chain::{Event, World};
 use st_ilp::Moment;
 use st_nodes::{Side, Told, Way};
@@ -92,16 +93,6 @@ pub(crate) fn begin(rt: &impl Abort, world: &mut World<Global>, side: Side, inpu
     for event in &events {
         sure!(rt; step(rt, world, event) == Met::Called, u64::from(stream));
     }
-}
-
-/// What becomes of a Send.
-#[derive(Clone, Copy, PartialEq, Eq)]
-pub(crate) enum Fate {
-    Delivered,
-    /// The Prepare is lost on this link.
-    PrepareLost(usize),
-    /// The answer is lost on this link.
-    AnswerLost(usize),
 }
 
 /// The Prepares and answers of one way of a chain so far, by link.
