@@ -34,7 +34,8 @@ OTHERS = {
     "numbers of a format": {
         "st_frames": "CONNECTION_CLOSE CONNECTION_NEW_ADDRESS CONNECTION_MAX_DATA CONNECTION_DATA_BLOCKED STREAM_CLOSE "
         "STREAM_MONEY STREAM_MAX_MONEY STREAM_MONEY_BLOCKED STREAM_DATA STREAM_MAX_DATA STREAM_DATA_BLOCKED VERSION",
-        "st_books": "HEADER_LEN FRAME_HEADER_LEN VERSION BEGUN LEAST_LEN EMPTY_LEN",
+        "st_books": "HEADER_LEN FRAME_HEADER_LEN VERSION BEGUN LEAST_LEN EMPTY_LEN USED COMMITS LIST "
+        "IDENTITY_LEN BEFORE_IDENTITY BEFORE_ADDRESS AFTER_ADDRESS",
         "st_commands": "PREPARE",
         "st_end": "PREPARE FULFILL REJECT",
         "st_ilp": "PREPARE FULFILL REJECT",
@@ -176,7 +177,7 @@ def check_names(count):
     """The variants that other tables name beside a number: they have that number, or keep it of another."""
     where = "docs/ERRORS.md"
     numbers, kept, _ = refusals()
-    for first in ("Fault", "R"):
+    for first in ("Fault", "N"):
         for line, cells in rows_of(where, first, count):
             for name in CODE.findall(" ".join(cells[1:])):
                 known = {number for number, _, variant in numbers if variant == name}
@@ -191,7 +192,7 @@ def check_help(count):
     text, rows = read(path), rows_of(where, "Fault", count)
     header = next(header for header, _ in tables(where) if header[0] == "Fault")
     documented = {name.strip("`"): [cells[0] for _, cells in rows if cells[place]] for place, name in enumerate(header) if place}
-    refused = {cells[0].split("(")[0] for _, cells in rows_of(where, "R", count)}
+    refused = {cells[0].split("(")[0] for _, cells in rows_of(where, "N", count)}
     last = r"`ilpstream explain N` says what each number means\.\Z"
     helps = dict(re.findall(r'^pub const AFTER_(\w+)_HELP: &str =\s*"((?:[^"\\]|\\.)*)";', text, re.M))
     for command, numbers in documented.items():
@@ -205,7 +206,7 @@ def check_help(count):
     count.compared()
     rows = tomllib.loads(read("docs/errors.toml"))["row"]
     marked = {row["variant"] for row in rows if row.get("line")}
-    named = {CODE.findall(cells[1])[0] for _, cells in rows_of(where, "R", count)}
+    named = {CODE.findall(cells[1])[0] for _, cells in rows_of(where, "N", count)}
     count.same(where, named, marked, "docs/errors.toml (`line`)")
 
 

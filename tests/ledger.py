@@ -62,6 +62,7 @@ def books_in(path, room):
     want(integrity == [("ok",)], f"sqlite3 says {integrity}")
     if not tables:
         return Books(0, {})
+    want(tables == [("account",), ("payment",), ("books",)], f"the tables and views are {tables}")
     rows = with_sqlite(copy, "SELECT name, claims, dues FROM account")[0]
     want(len({name for name, _, _ in rows}) == len(rows), f"a name twice in {rows}")
     return Books(starts[0][0], {name: (claims, dues) for name, claims, dues in rows})
@@ -234,9 +235,9 @@ class Connector:
         lines += [f"route {prefix} {names.index(name)}{rate}" for prefix, (name, rate) in self.routes.items() if name in names]
         return "\n".join(lines) + "\n", names
 
-    def start(self, table=None, requests=STAY, port=None, **how):
+    def start(self, table=None, requests=STAY, port=None, words=(), own="test.hub", **how):
         """The connector begins, with the accounts in an order that is drawn."""
-        words = [f"--listen={HOST}:{port or self.port}", "--own=test.hub", f"--requests={requests}", f"--workers={SENDERS}"]
+        words = [*words, f"--listen={HOST}:{port or self.port}", f"--own={own}", f"--requests={requests}", f"--workers={SENDERS}"]
         with self.play.file((table or self.table()[0]).encode()) as given:
             it = self.play.start("connector", [*words, f"--ledger={self.path}"], given=given, **how)
         it.port = port or self.port
@@ -879,6 +880,158 @@ def a_torn_commit_is_no_damage(play):
     return f"seed {SEED}: {dict(found)}"
 
 
+def begins_of(path):
+    """The database file, and the header of its log."""
+    return [it[:None if not end else 32] for end, it in sorted(contents(path).items())]
+
+
+def copied_running(path, to):
+    """A copy of both files of one moment, taken while a connector writes them."""
+    while True:
+        copied(path, to)
+        if begins_of(path) == begins_of(to):
+            return to
+
+
+@test()
+def a_log_of_another_moment(play):
+    hub, rng, found = Hub(play, f"{play.room}/books"), random.Random(SEED), collections.Counter()
+    hub.some_sums()
+    moments = []
+    for at in range(12):
+        it = hub.serve()
+        # (in some lives the log is folded while the connector serves, at 1,000 frames)
+        for part in range(3):
+            time.sleep(rng.uniform(0.05, 0.4))
+            if part < 2:
+                moments.append(copied_running(hub.path, f"{play.room}/running{at}-{part}"))
+        hub.stop(it)
+        moments.append(copied(hub.path, f"{play.room}/killed{at}"))
+    pairs = [(one, two) for one in moments for two in moments if one != two]
+    for one, two in rng.sample(pairs, 50):
+        copy = copied(two, f"{play.room}/mixed")
+        shutil.copyfile(one, copy)
+        told, books = books_of(copy)
+        same = books_of(copied(two, f"{play.room}/same"))[1]
+        # The log goes on from this file too where nothing was folded between the two moments: then it is the moment of the log.
+        want(told == "110" or (told == "0" and books == same), f"seed {SEED}: the file of {one} beside the log of {two}: {told} {books}")
+        found[told] += 1
+    want(found["110"] > 25, f"seed {SEED}: {dict(found)}")
+    same_books(hub.path, hub.books)
+    return f"seed {SEED}: {dict(found)}"
+
+
+def lives(play, number, count=8):
+    """Books with a number of their own, and copies of them: each is of a life that a kill ended."""
+    hub, rng = Hub(play, f"{play.room}/books{number}"), random.Random(f"{SEED} {number}")
+    hub.some_sums()
+    copies = []
+    for at in range(count):
+        hub.served(rng.uniform(0.2, 0.6))
+        copies.append(copied(hub.path, f"{play.room}/killed{number}-{at}"))
+    hub.close()
+    return hub, copies
+
+
+def mixed(file, log, to):
+    """Books with the database file of one copy, and the log of another."""
+    copied(log, to)
+    shutil.copyfile(file, to)
+    return to
+
+
+@test()
+def a_log_of_other_books(play):
+    rng, moments = random.Random(SEED), []
+    for number in range(2):
+        hub, copies = lives(play, number)
+        moments += [(number, it) for it in copies]
+    pairs = [(one, two) for here, one in moments for there, two in moments if here != there]
+    for one, two in rng.sample(pairs, 50):
+        copy = mixed(one, two, f"{play.room}/mixed")
+        refuses(hub, copy, f"seed {SEED}: the file of {one} beside the log of {two}", starts=rng.random() < 0.1)
+    return f"seed {SEED}: 110 for each of 50 pairs"
+
+
+def history_of(path, room):
+    """The books of each moment since the last fold: those of the file alone, and those after each commit of its log."""
+    found = [books_of(alone(path, f"{room}/moment"))]
+    for end in Log(f"{path}-wal").ends:
+        copy = copied(path, f"{room}/moment")
+        os.truncate(f"{copy}-wal", end)
+        found.append(books_of(copy))
+    want(all(told == "0" for told, _ in found), f"a commit of {path} is refused")
+    return [books for _, books in found]
+
+
+class AnyBytes:
+    """Books with a bit changed, or cut, at each 512th byte of both files: what a read of them gives."""
+
+    def __init__(self, play, hub):
+        self.play, self.hub, self.rng, self.tally = play, hub, random.Random(SEED), collections.Counter()
+
+    def look(self, kind, path, moments):
+        """Each has the sums of one of these moments, or is refused, with nothing written. A connector is tried at some."""
+        copy = f"{self.play.room}/damaged"
+        for file in "", "-wal":
+            for place in range(self.rng.randrange(512), os.path.getsize(path + file), 512):
+                bit = self.rng.randrange(8)
+                copied(path, copy)
+                flipped(copy + file, place, bit)
+                self.one(f"{kind}: bit {bit} at {place} of FILE{file}", copy, moments)
+                copied(path, copy)
+                os.truncate(copy + file, place)
+                self.one(f"{kind}: FILE{file} cut to {place} bytes", copy, moments)
+
+    def one(self, what, path, moments):
+        before = contents(path)
+        told, books = books_of(path)
+        self.tally[told] += 1
+        if told == "0":
+            want(books in moments, f"seed {SEED}: {what}: {books} is of no moment of these books since the last fold")
+            return
+        want(told in REFUSALS and contents(path) == before, f"seed {SEED}: {what}: {told}, or the books were changed")
+        if self.rng.random() < 0.02:
+            refuses(self.hub, path, f"seed {SEED}: {what}", starts=True, wanted=REFUSALS)
+
+    def told(self):
+        return ", ".join(f"{told}: {count}" for told, count in sorted(self.tally.items()))
+
+
+@test()
+def any_bytes_of_books(play):
+    hub = Hub(play, f"{play.room}/books")
+    lived(hub, 0.3)
+    tried = AnyBytes(play, hub)
+    tried.look("these books", hub.path, history_of(hub.path, play.room))
+    same_books(hub.path, hub.books)
+    return f"seed {SEED}: {tried.told()}"
+
+
+def may_be_torn(file, log):
+    """Whether each byte of the count of commits in a database file is that of the commit before a log, or of the log's last one. Then
+    a first page that does not fit its sum looks like one that a fold left unfinished."""
+    with open(file, "rb") as it:
+        there = it.read(44)[40:]
+    it = Log(f"{log}-wal")
+    counts = [it.bytes[at + 64 : at + 68] for at in it.frames if at < it.ends[-1] and it.bytes[at : at + 4] == b"\0\0\0\1"]
+    before = (int.from_bytes(counts[0], "big") - 1).to_bytes(4, "big")
+    return all(byte in pair for byte, *pair in zip(there, before, counts[-1]))
+
+
+@test(("of other books",), ("of an earlier life",), ("of a later life",))
+def any_bytes_beside_a_log(play, which):
+    hub, own = lives(play, 0)
+    file = own[2 if which == "of a later life" else 6]
+    logs = {"of other books": lives(play, 1)[1], "of an earlier life": own[:5], "of a later life": own[4:]}[which]
+    log = next(it for it in logs if which == "of other books" or not may_be_torn(file, it))
+    tried, copy = AnyBytes(play, hub), mixed(file, log, f"{play.room}/mixed")
+    refuses(hub, copy, f"seed {SEED}: a log {which}", starts=True)
+    # Without a commit of that log it is the books of the last fold.
+    tried.look(f"a log {which}", copy, [books_of(alone(file, f"{play.room}/moment"))[1]])
+    return f"seed {SEED}: {tried.told()}"
+
+
 @test()
 def new_books_are_in_the_log(play):
     hub, found = Hub(play, f"{play.room}/books"), []
@@ -1094,6 +1247,83 @@ def a_file_that_cannot_be_opened(play):
     found["no folder"] = told_by(hub), ledger(hub.path)[0].replace("110", "111")  # (`ledger` finds no file)
     want(all(told == ("111", "111") for told in found.values()), f"{found}")
     return "111"
+
+
+# Whose books they are.
+
+
+def stamp_of(path, room):
+    """What a copy of the books says of itself."""
+    rows = with_sqlite(copied(path, f"{room}/copy"), "SELECT schema, identity, address FROM books")[0]
+    want(len(rows) == 1 and re.fullmatch("[0-9a-f]{32}", rows[0][1]), f"the books say {rows}")
+    return rows[0]
+
+
+@test()
+def books_say_what_they_are(play):
+    hub, found = Hub(play, f"{play.room}/books"), set()
+    for at in range(5):
+        hub.path, hub.books = f"{play.room}/books-{at}", Books(0, {})
+        hub.served()
+        found.add(stamp_of(hub.path, play.room))
+    want({(schema, own) for schema, _, own in found} == {(1, "test.hub")} and len(found) == 5, f"five books say {found}")
+    before = stamp_of(hub.path, play.room)
+    for _ in range(3):
+        hub.served()
+        want(stamp_of(hub.path, play.room) == before, f"a kill or a start changes what the books say: {before}")
+    return f"five identities, one of which is {before[1]}; kills and starts keep it"
+
+
+@test()
+def books_of_another_address(play):
+    hub = Hub(play, f"{play.room}/books")
+    before = hub.some_sums()
+    in_one_file(hub.path)
+    with open(hub.path, "rb") as file:
+        content = file.read()
+    for own in ("test.hub2", "test.hu", "g.other.connector", "test.Hub"):
+        told = told_by(hub, own=own)
+        want(told == "110", f"connector {told} as {own} with the books of test.hub")
+    with open(hub.path, "rb") as file:
+        want(file.read() == content, "books of another address are changed")
+    same_books(hub.path, before)
+    hub.served()
+    return "110, and they are left; `ledger` reads them, and their own connector goes on"
+
+
+def without_sums(path, to):
+    """Another file with these tables and views, and no rows, whose pages do not end in sums."""
+    for old in files_of(to):
+        os.remove(old)
+    texts = with_sqlite(path, "SELECT sql FROM sqlite_schema")[0]
+    with_sqlite(to, "PRAGMA journal_mode = WAL", "PRAGMA user_version = 1", *[it for it, in texts])
+    return to
+
+
+@test()
+def books_that_say_something_else(play):
+    hub, made = Hub(play, f"{play.room}/books"), "CREATE VIEW books AS SELECT"
+    hub.some_sums()
+    in_one_file(hub.path)
+    identity = stamp_of(hub.path, play.room)[1]
+    plain = without_sums(hub.path, f"{play.room}/plain")
+    want(books_of(plain)[0] == "0", f"books without sums are not read: {books_of(plain)[0]}")
+    kinds = {
+        "no view": ["DROP VIEW books"],
+        "another version": ["DROP VIEW books", f"{made} 2 AS schema, '{identity}' AS identity, 'test.hub' AS address"],
+        "a short identity": ["DROP VIEW books", f"{made} 1 AS schema, '{identity[1:]}' AS identity, 'test.hub' AS address"],
+        "a table in place of it": ["DROP VIEW books", "CREATE TABLE books (schema, identity, address)"],
+        "a second view": ["CREATE VIEW more AS SELECT 1 AS one"],
+    }
+    for kind, statements in kinds.items():
+        hub.path = copied(f"{play.room}/books", f"{play.room}/other")
+        # (a sqlite3 that writes spoils the sums of its pages, so that they are damaged)
+        with_sqlite(hub.path, *statements)
+        stays_as_it_is(hub, kind, ("110", "114"))
+        # One whose pages have no sums is refused for what it says.
+        hub.path = without_sums(hub.path, plain)
+        stays_as_it_is(hub, f"{kind}, without sums")
+    return f"110, and they are left: {', '.join(kinds)}"
 
 
 # Names, limits and payments.

@@ -184,7 +184,7 @@ names() {
     done
     same "the help of $1" $'\n0' "$err"$'\n'"$status"
 }
-names local '--hops <N>' '--streams <N>' '--lose <N>'
+names local '--hops <N>' '--streams <N>' '--lose <N>' '--totals <FILE>'
 names send '--to <HOST:PORT>' '--token <TOKEN>' '--secret <HEX>' '--address <ADDRESS>' '--peer <ADDRESS>' '--money <N>' \
     '--workers <N>' '--patience <SECONDS>' '--random <FILE>' '--least <NUM:DEN>' '--totals <FILE>' '--log <FILE>' ' --token-file <FILE> ' ' --secret-file <FILE> ' \
     'Usage: ilpstream send [OPTIONS] --to <HOST:PORT> <--token <TOKEN>|--token-file <FILE>>'
@@ -195,7 +195,8 @@ names connector '--listen <HOST:PORT>' '--own <ADDRESS>' '--requests <N>' '--end
     '--ledger <FILE>' '--verbose' '--control <FIFO>' '--table <FILE>' \
     'Usage: ilpstream connector [OPTIONS] --listen <HOST:PORT> --own <ADDRESS> <--requests <N>|--endless>' \
     '[NAME=TEXT]'
-names ledger 'Usage: ilpstream ledger <FILE> [settle <NAME> <AMOUNT>]' '<FILE>' AMOUNT
+names ledger 'Usage: ilpstream ledger <FILE> [settle <NAME> <AMOUNT> [--reference <TEXT>]]' '<FILE>' AMOUNT \
+    'ilpstream ledger <FILE> adjust <NAME> <claims|dues> <N> --reference <TEXT>' 'adjust NAME claims|dues N --reference TEXT'
 names explain 'Usage: ilpstream explain <N>' 'Number of a fault or a refusal, 0 to 255'
 
 # The help of each command ends with its faults. tests/documents.py compares all with docs/ERRORS.md.
@@ -204,11 +205,11 @@ ends() {
     same "the end of the help of $1" "$2"$'\n`ilpstream explain N` says what each number means.' "$(tail -n "${3:-2}" "$room/out")"
 }
 ends frames $'Faults: 90, 91, 93, 99.\nLines are refused with 20, 21, 22, 23, 24, 40, 41, 42, 63, 95.' 3
-ends local 'Faults: 58, 84, 90, 91, 93, 97, 98, 99.'
+ends local 'Faults: 58, 84, 90, 91, 93, 97, 98, 99, 126.'
 ends send 'Faults: 54, 58, 59, 69, 86, 89, 90, 91, 93, 94, 98, 99.'
 ends receive 'Faults: 54, 80, 86, 88, 91, 92, 93, 98, 99.'
 ends connector 'Faults: 35, 80, 90, 91, 93, 96, 98, 99, 110, 111, 112, 113, 114, 115, 117, 119, 120, 122, 123.'
-ends ledger 'Faults: 91, 93, 98, 99, 110, 111, 112, 113, 114, 115, 116, 117, 119, 120, 121.'
+ends ledger 'Faults: 91, 93, 98, 99, 110, 111, 112, 113, 114, 115, 116, 117, 119, 120, 121, 125.'
 ends explain 'Faults: 91, 93, 98, 99.'
 
 # What a number means: one error, two, one of the library alone, one of a line, and none.
@@ -241,13 +242,13 @@ while read -r number row; do
     has "explain $number" "$out" 'What to do: '
     same "explain $number" $'\n0' "$err"$'\n'"$status"
 done <<'ROWS'
-90 st_commands Fault::Input, in frames, send, connector
+90 st_commands Fault::Input, in frames, local, send, connector
 58 st_local LocalFault::Failed, in local
 58 st_transfer TransferError::Failed, in send
 88 st_transfer TransferError::Silent, in receive
 96 st_program RunError::BadTable, in connector
 116 st_books BooksError::NoAccount, in ledger
-91 st_commands Fault::Output, in frames, send, receive, connector, ledger, explain
+91 st_commands Fault::Output, in frames, local, send, receive, connector, ledger, explain
 ROWS
 for number in 0 6 100 255; do
     run explain "$number" </dev/null
@@ -361,6 +362,16 @@ settle alice 5.0
 settle alice 9223372036854775808
 settle alice -9223372036854775808
 settle alice --help
+settle alice 5 6 7
+settle alice 5 --referenc x
+settle alice 5 --reference é
+adjust alice claims
+adjust alice claims 5 --reference
+adjust alice claims 0 --reference x
+adjust alice claims -5 --reference x
+adjust alice claims 9223372036854775808 --reference x
+adjust alice both 5 --reference x
+adjust é claims 5 --reference x
 ROWS
 words=(explain +58) && bad_option
 words=(ledger "$room/books" settle '' 5) && bad_option
@@ -467,6 +478,10 @@ ledger --file=books
 ledger books settle
 ledger books settle alice
 ledger books settle alice 5 6
+ledger books settle alice 5 --reference
+ledger books settle alice 5 --reference=x
+ledger books adjust alice claims 5
+ledger books adjust alice claims 5 --reference x y
 ledger books -5
 explain
 explain 256
@@ -691,6 +706,13 @@ for count in {0..9}; do
 done
 run local --streams 32 < <(seq 300)
 same 'local: 32 streams' "$(seq 300)"$'\n--\n\n--\n0' "$(told)"
+# How many Prepares there were: one for each 16,000 bytes, one for the close, and one more for each that was lost.
+"$program" local --hops 2 --lose 3 --totals "$room/sends" <"$room/sent" >"$room/out"
+same 'local: the numbers of 70,000 bytes' $'0\nsends 8\nlost 2\nbound 8\nequal' "$?"$'\n'"$(cat "$room/sends")"$'\n'"$(cmp "$room/sent" "$room/out" && echo equal)"
+run local --lose 1 --totals "$room/sends" < <(printf a)
+same 'local: a fault leaves the numbers' $'\n--\nfault 58\n--\n1\nsends 8' "$(told)"$'\n'"$(head -n 1 "$room/sends")"
+run local --totals "$room/none/sends" < <(printf a)
+same 'local: no file for the numbers' $'\n--\nfault 98\n--\n1' "$(told)"
 head -c 1048577 /dev/urandom >"$room/sent"
 run local <"$room/sent"
 same 'local: a byte too many' $'\n--\nfault 84\n--\n1' "$(told)"

@@ -3,14 +3,15 @@ use Rattle.std.proofs.Common.{◌≡◌, inl, ℕ, IsTrue, refl, sym, subst}
 use Rattle.sqlite_trees.specs.Tree.{Trees}
 use Rattle.sqlite_trees.specs.View.{IsClean}
 use Rattle.sqlite_trees.specs.declared.store.Store.{Ghosts}
+use Rattle.st_books.specs.declared.balance.Tally.{Tally}
 use Rattle.st_books.specs.Standing.{Kept, Sums, AreSums, sums_of, Tells, Holds, Remains, IsReady, payments_in}
-use Rattle.st_books.specs.Commits.{BeforeOrAfter, Makes, Refuses}
+use Rattle.st_books.specs.Commits.{BeforeOrAfter, Makes, Refuses, Rereads}
 
 module _ {S : Type 0} (g : Ghosts S) (settled : (s : S) (db : Trees) → IsTrue (g.view s).is_open → g.recovers s db → db ≡ (g.view s).committed) where
-  pub open_leaves : (s : S) (a : Sums) (count : ℕ) → Holds (g.view s) a.starts a.names a.amounts a.paid count → IsTrue (g.view s).is_open → (db : Trees) → g.recovers s db → AreSums db a
+  pub open_leaves : (s : S) (a : Sums) (count : Tally) → Holds (g.view s) a.starts a.names a.amounts a.paid count → IsTrue (g.view s).is_open → (db : Trees) → g.recovers s db → AreSums db a
   open_leaves s a count held is_open db may = subst (λ t. AreSums t a) (sym (settled s db is_open may)) (held.1 is_open).0.books
 
-  pub makes : (old new : Kept S) (after : Sums) (count : ℕ) → Tells new after → Holds (g.view new.store) after.starts after.names after.amounts after.paid count → (IsClean (g.view new.store) → IsTrue (g.view new.store).is_open)
+  pub makes : (old new : Kept S) (after : Sums) (count : Tally) → Tells new after → Holds (g.view new.store) after.starts after.names after.amounts after.paid count → (IsClean (g.view new.store) → IsTrue (g.view new.store).is_open)
       → BeforeOrAfter g old after new → Makes g old after new
   makes old new after count made held opened moment = record {
     made = made;
@@ -19,7 +20,7 @@ module _ {S : Type 0} (g : Ghosts S) (settled : (s : S) (db : Trees) → IsTrue 
     any_moment = moment;
   }
 
-  pub refuses : (old new : Kept S) (after : Sums) (count : ℕ) → Tells new (sums_of g old) → Holds (g.view new.store) old.starts old.names old.amounts (payments_in (g.view old.store)) count → BeforeOrAfter g old after new
+  pub refuses : (old new : Kept S) (after : Sums) (count : Tally) → Tells new (sums_of g old) → Holds (g.view new.store) old.starts old.names old.amounts (payments_in (g.view old.store)) count → BeforeOrAfter g old after new
       → Refuses g old after new
   refuses old new after count same held moment = record {
     same = same;
@@ -28,8 +29,22 @@ module _ {S : Type 0} (g : Ghosts S) (settled : (s : S) (db : Trees) → IsTrue 
   }
 
   -- before anything was asked of the store
-  pub refuses_early : (old new : Kept S) (after : Sums) (count : ℕ) → new ≡ old → Holds (g.view old.store) old.starts old.names old.amounts (payments_in (g.view old.store)) count → Refuses g old after new
+  pub refuses_early : (old new : Kept S) (after : Sums) (count : Tally) → new ≡ old → Holds (g.view old.store) old.starts old.names old.amounts (payments_in (g.view old.store)) count → Refuses g old after new
   refuses_early old new after count same held = subst (λ k. Refuses g old after k) (sym same) (refuses old old after count (refl, refl, refl) held (λ clean db may. inl may))
 
-  pub remains : (k : Kept S) (count : ℕ) → IsReady (g.view k.store) → Holds (g.view k.store) k.starts k.names k.amounts (payments_in (g.view k.store)) count → IsTrue (g.view k.store).is_open → Remains g k
+  -- only reads were asked of it, and undone
+  pub rereads : (old new : Kept S) (count : Tally) → Tells new (sums_of g old) → Holds (g.view new.store) old.starts old.names old.amounts (payments_in (g.view old.store)) count
+      → ((db : Trees) → g.recovers new.store db → g.recovers old.store db) → Rereads g old new
+  rereads old new count same held outcomes = record {
+    same = same;
+    paid = λ is_open. (held.1 is_open).0.books.audit;
+    as_before = λ is_open. open_leaves new.store (sums_of g old) count held is_open;
+    outcomes = outcomes;
+  }
+
+  -- or nothing was
+  pub rereads_none : (old new : Kept S) (count : Tally) → new ≡ old → Holds (g.view old.store) old.starts old.names old.amounts (payments_in (g.view old.store)) count → Rereads g old new
+  rereads_none old new count same held = subst (λ k. Rereads g old k) (sym same) (rereads old old count (refl, refl, refl) held (λ db may. may))
+
+  pub remains : (k : Kept S) (count : Tally) → IsReady (g.view k.store) → Holds (g.view k.store) k.starts k.names k.amounts (payments_in (g.view k.store)) count → IsTrue (g.view k.store).is_open → Remains g k
   remains k count ready held is_open = record { is_open = is_open; numbered = ready.laid.numbered; leaves = open_leaves k.store (sums_of g k) count held is_open }

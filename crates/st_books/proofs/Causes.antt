@@ -78,10 +78,11 @@ pub name_here : (names : List (List ℕ)) (at : ℕ) (name : List ℕ) → at < 
 name_here names at name low is = same_Some _ _ (sym (get_at names at [] low) ∙ get_at names at name low) ∙ sym is
 
 -- the line of a payment was refused
-pub because_unpaid : (was mid : View) (a b c : ℕ) (names : List (List ℕ)) (all : List Amounts) (p : Payment) (id : ℕ) (name : List ℕ) (e : BooksError) → a ≤ b → mid.is_broken ≡ was.is_broken → mid.reals ≡ was.reals → name_at names p.account ≡ name
-    → Because mid (MoreFaults b c) (excuses ⊥ (IsUncountable p) ⊥ (¬ IsStorableRow (mid.reals payment_tree) (payment_line id name p.side p.amount p.moment))) e → Because was (MoreFaults a c) (payment_excuses was names all p) e
-because_unpaid was mid a b c names all p id name e early sound reals is h =
-    because_later was mid (MoreFaults b c) (MoreFaults a c) (excuses ⊥ (IsUncountable p) ⊥ (¬ IsStorableRow (mid.reals payment_tree) (payment_line id name p.side p.amount p.moment))) (payment_excuses was names all p) e
+pub because_unpaid : (was mid : View) (a b c : ℕ) (names : List (List ℕ)) (all : List Amounts) (p : Payment) (text : List ℕ) (id moment : ℕ) (name : List ℕ) (e : BooksError) → a ≤ b → mid.is_broken ≡ was.is_broken → mid.reals ≡ was.reals
+    → name_at names p.account ≡ name
+    → Because mid (MoreFaults b c) (excuses ⊥ (IsUncountable p) ⊥ (¬ IsStorableRow (mid.reals payment_tree) (payment_line id name text p.amount moment))) e → Because was (MoreFaults a c) (payment_excuses was names all p text) e
+because_unpaid was mid a b c names all p text id moment name e early sound reals is h =
+    because_later was mid (MoreFaults b c) (MoreFaults a c) (excuses ⊥ (IsUncountable p) ⊥ (¬ IsStorableRow (mid.reals payment_tree) (payment_line id name text p.amount moment))) (payment_excuses was names all p text) e
     (λ broken. sym sound ∙ broken) (fault_since a b c early) (record {
       no_account = λ x. absurd x;
       too_much = λ x. inr x;
@@ -89,8 +90,9 @@ because_unpaid was mid a b c names all p id name e early sound reals is h =
       taken = λ x. absurd x;
       bad_name = λ bad. inr (
         id,
-        subst (λ n. ¬ IsStorableRow (was.reals payment_tree) (payment_line id n p.side p.amount p.moment)) (sym is)
-            (subst (λ r. ¬ IsStorableRow (r payment_tree) (payment_line id name p.side p.amount p.moment)) reals bad),
+        moment,
+        subst (λ n. ¬ IsStorableRow (was.reals payment_tree) (payment_line id n text p.amount moment)) (sym is)
+            (subst (λ r. ¬ IsStorableRow (r payment_tree) (payment_line id name text p.amount moment)) reals bad),
       );
     }) h
 

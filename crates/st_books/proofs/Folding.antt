@@ -9,9 +9,11 @@ use Rattle.sqlite_store.specs.FileStore.{view, recovers}
 use Rattle.sqlite.specs.Files.{over_files}
 use Rattle.st_books.specs.declared.balance.Amounts.{Amounts}
 use Rattle.st_books.specs.Table.{lines}
+use Rattle.st_books.specs.declared.balance.Tally.{Tally}
+use Rattle.st_books.specs.Payments.{tally_of}
 use Rattle.st_books.specs.Standing.{Kept, Sums, AreSums, sums_of, Holds, IsLaid, Stands, Takes, payments_in}
 
-pub folded_holds : (old new : View) (starts : ℕ) (names : List (List ℕ)) (all : List Amounts) (count : ℕ) → Holds old starts names all (payments_in old) count → (IsClean new → IsTrue new.is_open) → (IsTrue new.is_open → new ≡ old)
+pub folded_holds : (old new : View) (starts : ℕ) (names : List (List ℕ)) (all : List Amounts) (count : Tally) → Holds old starts names all (payments_in old) count → (IsClean new → IsTrue new.is_open) → (IsTrue new.is_open → new ≡ old)
     → Holds new starts names all (payments_in new) count
 folded_holds old new starts names all count held opened same = (
   λ clean.
@@ -19,7 +21,7 @@ folded_holds old new starts names all count held opened same = (
       subst (λ (v : View). IsLaid v) (sym e) (held.0 (subst (λ (v : View). IsClean v) e clean)),
   λ is_open.
       let e = same is_open in
-      subst (λ (v : View). Stands v starts names all (payments_in v) × (length (payments_in v) ≡ count)) (sym e) (held.1 (subst (λ (v : View). IsTrue v.is_open) e is_open)),
+      subst (λ (v : View). Stands v starts names all (payments_in v) × (tally_of (payments_in v) ≡ count)) (sym e) (held.1 (subst (λ (v : View). IsTrue v.is_open) e is_open)),
 )
 
 module _ {D : Type 0} {g : Ghosts D} where

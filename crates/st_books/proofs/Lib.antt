@@ -2,9 +2,11 @@ mod LineLemmas
 mod PaymentLemmas
 mod Distinct
 mod Steps
+mod Counting
 mod Causes
 mod Calls
 mod Listed
+mod Stamping
 mod DamageLemmas
 mod HeadLemmas
 mod Folding

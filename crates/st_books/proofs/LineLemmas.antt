@@ -83,7 +83,7 @@ pub from_no_key : (o : Order) (es : List Row) → from_key o [] es ≡ es
 from_no_key o [] = refl
 from_no_key o (e ∷ es) = refl
 
-snoc_append : {X : Type 0} (xs : List X) (x : X) (ys : List X) → (xs ++ x ∷ []) ++ ys ≡ xs ++ x ∷ ys
+pub snoc_append : {X : Type 0} (xs : List X) (x : X) (ys : List X) → (xs ++ x ∷ []) ++ ys ≡ xs ++ x ∷ ys
 snoc_append [] x ys = refl
 snoc_append (z ∷ xs) x ys = ap (λ l. z ∷ l) (snoc_append xs x ys)
 

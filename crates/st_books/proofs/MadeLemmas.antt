@@ -1,14 +1,16 @@
--- The two tables, as they are made.
-use Rattle.std.proofs.Common.{◌≡◌, ℕ, pos, true, false, map, is_eq, int_cmp, List, [], ◌∷◌, codes, refl, sym, ap, ◌∙◌, arith}
+-- The two tables and the view, as they are made.
+use Rattle.std.proofs.Common.{◌≡◌, ℕ, pos, true, false, map, is_eq, int_cmp, List, [], ◌∷◌, codes, ◌≢◌, refl, sym, ap, subst, ◌∙◌, arith}
 use Rattle.sqlite_value.specs.declared.value.Value.TheVariants.{Text}
 use Rattle.sqlite_value.specs.Order.{Row, column}
 use Rattle.sqlite_value.proofs.OrderLemmas.{value_cmp-Int, value_cmp-Text}
 use Rattle.sqlite_trees.specs.Tree.{put_row, with_tree}
 use Rattle.sqlite_trees.specs.Objects.{catalog_tree, version_tree, SetsObject}
-use Rattle.sqlite_trees.specs.Sound.{is_sound_list, is_sound_object, has_code, is_word, is_virtual, head_at, are_in_order, fits_kind, begins, same_name, is_free_name, may_follow}
+use Rattle.sqlite_trees.specs.Sound.{is_sound_list, is_sound_object, has_code, is_word, is_virtual, is_text_only, head_at, are_in_order, fits_kind, begins, same_name, is_free_name, may_follow}
 use Rattle.sqlite_trees.specs.View.{View, Commits}
-use Rattle.sqlite_trees.specs.declared.store.Shape.TheVariants.{Table}
+use Rattle.sqlite_trees.specs.declared.store.Shape.{Shape}
+use Rattle.sqlite_trees.specs.declared.store.Shape.TheVariants.{Table, Pageless}
 use Rattle.st_books.specs.Payments.{payment_text}
+use Rattle.st_books.specs.Stamp.{stamp_tree, stamp_row, stamp_text, Stamps}
 use Rattle.st_books.specs.Table.{table_text, payment_tree, ListsTables}
 use Rattle.st_books.specs.Standing.{IsReady}
 use Rattle.st_books.specs.Made.{table_row, IsUnlaid, Lays}
@@ -51,48 +53,79 @@ payment_real : is_virtual (Text (codes "table")) (Text payment_text) ≡ false
 unfolding begins same_name
 payment_real = rw (value_cmp-Text (codes "table") (codes "view"), value_cmp-Text (codes "table") (codes "trigger")) refl
 
-one_by_one : are_in_order [] (map (head_at 1) (account_row ∷ payment_row ∷ [])) ≡ true
+-- and the view
+coded_last : (n : ℕ) (text : List ℕ) → has_code n (stamp_row text) ≡ is_eq (int_cmp (pos 3) (pos n))
+coded_last n text = ap is_eq (value_cmp-Int (pos 3) (pos n))
+
+a_text : is_text_only (Text (codes "view")) ≡ true
+a_text = rw (value_cmp-Text (codes "view") (codes "view")) refl
+
+stamp_fits : (identity address : List ℕ) → fits_kind (Text (codes "view")) (Text (codes "books")) (Text (codes "books")) (Text (stamp_text identity address)) ≡ true
+unfolding fits_kind begins same_name is_free_name
+stamp_fits identity address = rw (value_cmp-Text (codes "view") (codes "index"), value_cmp-Text (codes "view") (codes "table"), value_cmp-Text (codes "view") (codes "view"), value_cmp-Text (codes "books") (codes "books")) refl
+
+view_by : (row : Row) → has_code 1 row ≡ false → has_code 4 row ≡ false → has_code 3 row ≡ true → fits_kind (column row 1) (column row 2) (column row 3) (column row 4) ≡ true → is_text_only (column row 1) ≡ true
+    → is_sound_object row ≡ true
+view_by row one four three fits textual = rw (one, four, three, fits, textual) refl
+
+one_by_one : (text : List ℕ) → are_in_order [] (map (head_at 1) (account_row ∷ payment_row ∷ stamp_row text ∷ [])) ≡ true
 unfolding may_follow same_name
-one_by_one = rw (value_cmp-Text (codes "table") (codes "index")) refl
+one_by_one text = rw (value_cmp-Text (codes "table") (codes "index"), value_cmp-Text (codes "view") (codes "index")) refl
 
-loads : is_sound_list (account_row ∷ payment_row ∷ []) ≡ true
+loads : (identity address : List ℕ) → is_sound_list (account_row ∷ payment_row ∷ stamp_row (stamp_text identity address) ∷ []) ≡ true
 unfolding is_sound_list
-loads = rw (object_by account_row (coded 1) (coded 3) a_word account_fits account_real, object_by payment_row (coded_next 1) (coded_next 3) a_word payment_fits payment_real, one_by_one) refl
+loads identity address =
+    let text = stamp_text identity address in
+    rw (
+      object_by account_row (coded 1) (coded 3) a_word account_fits account_real,
+      object_by payment_row (coded_next 1) (coded_next 3) a_word payment_fits payment_real,
+      view_by (stamp_row text) (coded_last 1 text) (coded_last 4 text) (coded_last 3 text) (stamp_fits identity address) a_text,
+      one_by_one text,
+    ) refl
 
--- the list that the two calls make
-in_order : put_row payment_row (account_row ∷ []) ≡ account_row ∷ payment_row ∷ []
-in_order = rw (lower_id 1 2 (omega arith)) refl
+-- the list that the three calls make
+in_order : (text : List ℕ) → put_row (stamp_row text) (put_row payment_row (account_row ∷ [])) ≡ account_row ∷ payment_row ∷ stamp_row text ∷ []
+in_order text = rw (lower_id 1 2 (omega arith), lower_id 1 3 (omega arith), lower_id 2 3 (omega arith)) refl
 
-lists : (objects : List Row) → objects ≡ account_row ∷ payment_row ∷ [] → ListsTables objects
-lists objects e = record {
+lists : (address text : List ℕ) → Stamps address text → (objects : List Row) → objects ≡ account_row ∷ payment_row ∷ stamp_row text ∷ [] → ListsTables objects
+lists address text stamps objects e = record {
   account = account_row;
   payment = payment_row;
+  stamp = stamp_row text;
   only = e;
   accounts = record { is = record { id = refl; kind = refl; name = refl; owner = refl; text_is = refl }; code = refl; reals = refl };
   payments = record { is = record { id = refl; kind = refl; name = refl; owner = refl; text_is = refl }; code = refl; reals = refl };
-  loads = ap is_sound_list e ∙ loads;
+  stamped = record { is = record { address = address; text = text; stamps = stamps; id = refl; kind = refl; name = refl; owner = refl; text_is = refl }; code = refl; reals = refl };
+  loads = ap is_sound_list e ∙ subst (λ t. is_sound_list (account_row ∷ payment_row ∷ stamp_row t ∷ []) ≡ true) (sym stamps.is) (loads stamps.identity address);
 }
 
--- a table more: the list, its own rows, and another tree
-module _ (old new : View) (tree : ℕ) (row : Row) (sets : SetsObject old new tree Table 0 (put_row row)) where
+-- an object more: the list, its own rows, and the other trees
+module _ (old new : View) (tree : ℕ) (shape : Shape) (row : Row) (sets : SetsObject old new tree shape 0 (put_row row)) where
   list_made : new.trees catalog_tree ≡ put_row row (old.trees catalog_tree)
   list_made = ap (λ (v : View). v.trees catalog_tree) sets.is ∙ same_tree (with_tree old.trees tree []) catalog_tree (put_row row (old.trees catalog_tree))
 
-pub lays : (was mid new : View) → IsUnlaid was → SetsObject was mid 0 Table 0 (put_row account_row) → SetsObject mid new payment_tree Table 0 (put_row payment_row) → Lays was new
-lays was mid new bare one two = record {
+  empty_made : tree ≢ catalog_tree → new.trees tree ≡ []
+  empty_made low = ap (λ (v : View). v.trees tree) sets.is ∙ (other_tree (with_tree old.trees tree []) catalog_tree (put_row row (old.trees catalog_tree)) tree low ∙ same_tree old.trees tree [])
+
+  kept : (t : ℕ) → t ≢ catalog_tree → t ≢ tree → new.trees t ≡ old.trees t
+  kept t low other = ap (λ (v : View). v.trees t) sets.is ∙ (other_tree (with_tree old.trees tree []) catalog_tree (put_row row (old.trees catalog_tree)) t low ∙ other_tree old.trees tree [] t other)
+
+pub lays : (was mid late new : View) (address text : List ℕ) → Stamps address text → IsUnlaid was → SetsObject was mid 0 Table 0 (put_row account_row) → SetsObject mid late payment_tree Table 0 (put_row payment_row)
+    → SetsObject late new stamp_tree Pageless 0 (put_row (stamp_row text)) → Lays was new
+lays was mid late new address text stamps bare one two three = record {
   books = record {
-    rows = ap (λ (v : View). v.trees 0) two.is ∙ (other_tree (with_tree mid.trees payment_tree []) catalog_tree (put_row payment_row (mid.trees catalog_tree)) 0 (omega arith) ∙ (other_tree mid.trees payment_tree [] 0 (omega arith)
-        ∙ (ap (λ (v : View). v.trees 0) one.is ∙ (other_tree (with_tree was.trees 0 []) catalog_tree (put_row account_row (was.trees catalog_tree)) 0 (omega arith) ∙ same_tree was.trees 0 []))));
+    rows = kept late new stamp_tree Pageless (stamp_row text) three 0 (omega arith) (omega arith) ∙ (kept mid late payment_tree Table payment_row two 0 (omega arith) (omega arith) ∙ empty_made was mid 0 Table account_row one (omega arith));
     named = refl;
-    audit = ap (λ (v : View). v.trees payment_tree) two.is ∙ (other_tree (with_tree mid.trees payment_tree []) catalog_tree (put_row payment_row (mid.trees catalog_tree)) payment_tree (omega arith) ∙ same_tree mid.trees payment_tree []);
+    audit = kept late new stamp_tree Pageless (stamp_row text) three payment_tree (omega arith) (omega arith) ∙ empty_made mid late payment_tree Table payment_row two (omega arith);
     payments = tt;
-    counted = ap (λ (v : View). v.trees version_tree) two.is ∙ (other_tree (with_tree mid.trees payment_tree []) catalog_tree (put_row payment_row (mid.trees catalog_tree)) version_tree (omega arith) ∙ (other_tree mid.trees payment_tree [] version_tree (omega arith)
-        ∙ (ap (λ (v : View). v.trees version_tree) one.is ∙ (other_tree (with_tree was.trees 0 []) catalog_tree (put_row account_row (was.trees catalog_tree)) version_tree (omega arith) ∙ (other_tree was.trees 0 [] version_tree (omega arith) ∙ bare.unstarted)))));
-    objects = lists (new.trees catalog_tree) (list_made mid new payment_tree payment_row two ∙ (ap (put_row payment_row) (list_made was mid 0 account_row one ∙ ap (put_row account_row) bare.lists) ∙ in_order));
+    counted = kept late new stamp_tree Pageless (stamp_row text) three version_tree (omega arith) (omega arith) ∙ (kept mid late payment_tree Table payment_row two version_tree (omega arith) (omega arith)
+        ∙ (kept was mid 0 Table account_row one version_tree (omega arith) (omega arith) ∙ bare.unstarted));
+    objects = lists address text stamps (new.trees catalog_tree) (list_made late new stamp_tree Pageless (stamp_row text) three ∙ (ap (put_row (stamp_row text)) (list_made mid late payment_tree Table payment_row two
+        ∙ ap (put_row payment_row) (list_made was mid 0 Table account_row one ∙ ap (put_row account_row) bare.lists)) ∙ in_order text));
   };
-  table = ap (λ (v : View). v.shape 0) two.is ∙ ap (λ (v : View). v.shape 0) one.is;
-  audit = ap (λ (v : View). v.shape payment_tree) two.is;
-  numbered = ap (λ (v : View). v.is_numbered) two.is ∙ (ap (λ (v : View). v.is_numbered) one.is ∙ bare.numbered);
+  table = ap (λ (v : View). v.shape 0) three.is ∙ (ap (λ (v : View). v.shape 0) two.is ∙ ap (λ (v : View). v.shape 0) one.is);
+  audit = ap (λ (v : View). v.shape payment_tree) three.is ∙ ap (λ (v : View). v.shape payment_tree) two.is;
+  numbered = ap (λ (v : View). v.is_numbered) three.is ∙ (ap (λ (v : View). v.is_numbered) two.is ∙ (ap (λ (v : View). v.is_numbered) one.is ∙ bare.numbered));
 }
 
 -- and committed

@@ -14,7 +14,7 @@ use Rattle.st_books.specs.Table.{lines, payment_tree}
 use Rattle.st_books.specs.Standing.{Kept, Sums, sums_of, AreSums}
 use Rattle.st_books.specs.Found.{FindsBooks, NextFinds}
 use Rattle.st_books.proofs.LineLemmas.{lines_apart}
-use Rattle.st_books.proofs.Sound.{books_schema, sound}
+use Rattle.st_books.proofs.Sound.{sound}
 
 same_starts : (m n : ℕ) → version_rows m ≡ version_rows n → m ≡ n
 same_starts m n e = cc
@@ -29,13 +29,10 @@ only_sums db a b is named rows audit starts =
 
 pub next_finds : {D : Type 0} {g : Ghosts D} {E : Type 0} {h : Ghosts E} → NextFinds g h
 next_finds it before after numbered only left may again found =
-    let databases : AreDatabases (recovers it) = λ db r. (
-      books_schema,
-      elim (only db r) [
-        | inl b ↦ sound db before b
-        | inr a ↦ sound db after a
-      ],
-    ) in
+    let databases : AreDatabases (recovers it) = λ db r. elim (only db r) [
+      | inl b ↦ (_, sound db before b)
+      | inr a ↦ (_, sound db after a)
+    ] in
     let db = (file_state found.opened).committed.trees in
     ∥∥₁_map (next_run it numbered databases left may (file_state found.opened) found.found) (λ r. elim (only db r) [
       | inl b ↦ inl (only_sums db before (sums_of over_files again) b found.takes.named found.takes.rows found.takes.audit found.takes.starts)

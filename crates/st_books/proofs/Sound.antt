@@ -1,5 +1,5 @@
 -- Books are a database that obeys its schema, so that the next open takes them.
-use Rattle.std.proofs.Common.{◌≡◌, ◌⊎◌, inl, inr, ℕ, zero, suc, slice_index, ◌+◌, ◌^◌, ◌<◌, pos, Bool, true, false, not, ◌&&◌, ◌||◌, List, [], ◌∷◌, filter, codes, Ok, Some, IsUtf8, refl, sym, ap, subst, ◌∙◌, arith}
+use Rattle.std.proofs.Common.{◌≡◌, ◌⊎◌, inl, inr, ℕ, zero, suc, slice_index, ◌+◌, ◌^◌, ◌<◌, pos, Bool, true, false, not, ◌&&◌, ◌||◌, List, [], ◌∷◌, filter, codes, Ok, None, Some, IsUtf8, refl, sym, ap, subst, ◌∙◌, arith}
 use Rattle.std.specs.List.{AllByRecursion, AllZip}
 use Rattle.std.proofs.lemmas.Str.{IsUtf8-from_ascii}
 use Rattle.sqlite_value.specs.declared.value.Value.TheVariants.{Null, Int, Text as Words}
@@ -14,15 +14,16 @@ use Rattle.sqlite_schema.specs.declared.schema.Kind.{Kind}
 use Rattle.sqlite_schema.specs.declared.schema.Kind.TheVariants.{Integer, Text}
 use Rattle.sqlite_schema.specs.declared.schema.Column.{Column}
 use Rattle.sqlite_schema.specs.declared.schema.Table.{Table}
+use Rattle.sqlite_schema.specs.declared.schema.View.{View as Stored}
 use Rattle.sqlite_schema.specs.declared.schema.Schema.{Schema}
 use Rattle.sqlite_schema.specs.Names.{same_name}
-use Rattle.sqlite_schema.specs.Rules.{passes, Obeys, table_reals}
+use Rattle.sqlite_schema.specs.Rules.{passes, Keeps, Obeys, table_reals}
 use Rattle.sqlite_catalog.specs.Listing.{IsSound, Lists, DefinesTable, is_formed, IsTableRow, IsIndexRow, IsViewRow, is_table_row, is_index_row, is_view_row, is_foreign_row}
 use Rattle.sqlite_resolve.specs.Compile.{table_defined_by}
 use Rattle.sqlite_tied.specs.Compute.{everything}
 use Rattle.st_books.specs.declared.balance.Amounts.{Amounts}
-use Rattle.st_books.specs.declared.balance.Side.{Side}
 use Rattle.st_books.specs.Payments.{payment_text, payment_line, ArePaymentsFrom}
+use Rattle.st_books.specs.Stamp.{stamp_tree, IsStamped}
 use Rattle.st_books.specs.Table.{table_text, line, lines_from, payment_tree, IsListed, ListsTables}
 use Rattle.st_books.specs.Standing.{Sums, AreSums}
 
@@ -55,7 +56,7 @@ abbrev payments : ℕ → Table
 payments tree = table_of (codes "payment") tree
     (column_of (codes "id") Integer false ∷ column_of (codes "name") Text true ∷ column_of (codes "side") Text true ∷ column_of (codes "amount") Integer true ∷ column_of (codes "moment") Integer true ∷ [])
 
-abbrev pub books_schema : Schema
+abbrev books_schema : Schema
 books_schema = record { tables = account ∷ payments payment_tree ∷ []; indexes = []; views = [] }
 
 -- ---- each line obeys it
@@ -73,19 +74,19 @@ lines_pass rule db id [] all = tt
 lines_pass rule db id (n ∷ names) [] = tt
 lines_pass rule db id (n ∷ names) (a ∷ all) = (line_passes rule db id n a, lines_pass rule db (suc id) names all)
 
-payment_passes : (rule : Constraint) (db : Trees) (id : ℕ) (name : List ℕ) (side : Side) (amount moment : ℕ) → passes rule books_schema db (payments payment_tree) (payment_line id name side amount moment) ≡ true
-payment_passes Datatype db id name side amount moment = refl
-payment_passes NotNull db id name side amount moment = refl
-payment_passes Check db id name side amount moment = refl
-payment_passes PrimaryKey db id name side amount moment = refl
-payment_passes Unique db id name side amount moment = refl
-payment_passes ForeignKey db id name side amount moment = refl
+payment_passes : (rule : Constraint) (db : Trees) (id : ℕ) (name text : List ℕ) (amount moment : ℕ) → passes rule books_schema db (payments payment_tree) (payment_line id name text amount moment) ≡ true
+payment_passes Datatype db id name text amount moment = refl
+payment_passes NotNull db id name text amount moment = refl
+payment_passes Check db id name text amount moment = refl
+payment_passes PrimaryKey db id name text amount moment = refl
+payment_passes Unique db id name text amount moment = refl
+payment_passes ForeignKey db id name text amount moment = refl
 
 payments_pass : (rule : Constraint) (db : Trees) (id : ℕ) (paid : List Row) → ArePaymentsFrom id paid → AllByRecursion (λ row. passes rule books_schema db (payments payment_tree) row ≡ true) paid
 payments_pass rule db id [] all = tt
 payments_pass rule db id (row ∷ paid) all =
     let it = all.0 in
-    (subst (λ r. passes rule books_schema db (payments payment_tree) r ≡ true) (sym it.is) (payment_passes rule db id it.name it.side it.amount it.moment), payments_pass rule db (suc id) paid all.1)
+    (subst (λ r. passes rule books_schema db (payments payment_tree) r ≡ true) (sym it.is) (payment_passes rule db id it.name it.text it.amount it.moment), payments_pass rule db (suc id) paid all.1)
 
 books_obey : (db : Trees) (s : Sums) → AreSums db s → Obeys books_schema db
 books_obey db s books = record {
@@ -95,6 +96,25 @@ books_obey db s books = record {
   );
   indexed = tt;
 }
+
+-- ---- with the view, which has no lines
+
+abbrev stamp_view : (text : List ℕ) → Stored
+stamp_view text = record { name = codes "books"; tree = stamp_tree; sql = text; foreign = None; binds = false; is_bound = false }
+
+abbrev pub stamped_schema : (text : List ℕ) → Schema
+stamped_schema text = record { tables = account ∷ payments payment_tree ∷ []; indexes = []; views = stamp_view text ∷ [] }
+
+rules_stay : (text : List ℕ) (rule : Constraint) (db : Trees) → Keeps rule books_schema db → Keeps rule (stamped_schema text) db
+rules_stay text Datatype db h = h
+rules_stay text NotNull db h = h
+rules_stay text Check db h = h
+rules_stay text PrimaryKey db h = h
+rules_stay text Unique db h = h
+rules_stay text ForeignKey db h = h
+
+stamped_obey : (text : List ℕ) (db : Trees) → Obeys books_schema db → Obeys (stamped_schema text) db
+stamped_obey text db h = record { rules = λ rule. rules_stay text rule db (h.rules rule); indexed = tt }
 
 -- ---- the list of objects is this schema's
 
@@ -124,6 +144,16 @@ module _ (row : Row) (kind : column row 1 ≡ Words (codes "table")) (code : num
   no_index : is_index_row row ≡ false
   no_index = rw (a_table) refl
 
+module _ (row : Row) (kind : column row 1 ≡ Words (codes "view")) (code : number_in (column row 5) ≡ 3) where
+  stamp_no_table : is_table_row row ≡ false
+  stamp_no_table = rw (kind, code, value_cmp-Text (codes "view") (codes "table")) refl
+
+  stamp_a_view : is_view_row row ≡ true
+  stamp_a_view = rw (kind, code, value_cmp-Text (codes "view") (codes "view")) refl
+
+  stamp_no_index : is_index_row row ≡ false
+  stamp_no_index = rw (stamp_no_table, stamp_a_view) refl
+
 ascii : (bs : List ℕ) → AllByRecursion (λ b. b < 128) bs → (i : ℕ) → slice_index bs i < 128
 ascii [] all i = omega arith
 ascii (b ∷ bs) all zero = all.0
@@ -151,10 +181,31 @@ module _ (number tree : ℕ) (name text : List ℕ) (columns : List Column) (row
     utf8 = utf8;
   }
 
-pub lists : (objects : List Row) → ListsTables objects → Lists objects books_schema
+-- the last row is that of the view
+stamp_row_is : (row : Row) (all : IsStamped row) → IsViewRow row (stamp_view all.is.text)
+stamp_row_is row all = record {
+  kind = codes "view";
+  owner = codes "books";
+  code = 3;
+  described = record {
+    low = omega arith;
+    id = all.is.id;
+    kind_is = all.is.kind;
+    name_is = all.is.name;
+    owner_is = all.is.owner;
+    shape_is = all.code;
+    reals_are = all.reals;
+    fits = omega arith;
+  };
+  aside = (refl, refl, refl, all.is.text_is, all.is.stamps.defined, IsUtf8-from_ascii (codes "books") (ascii (codes "books") (omega arith, (omega arith, (omega arith, (omega arith, (omega arith, tt)))))), refl, refl);
+}
+
+pub lists : (objects : List Row) (all : ListsTables objects) → Lists objects (stamped_schema all.stamped.is.text)
 lists objects all =
     let r = all.account in
     let s = all.payment in
+    let t = all.stamp in
+    let v = all.stamped in
     let a = all.accounts in
     let p = all.payments in
     let first = table_row_is 1 0 (codes "account") table_text account.columns r refl (omega arith) refl (account, defined, refl) refl
@@ -163,15 +214,15 @@ lists objects all =
     (IsUtf8-from_ascii (codes "payment") (ascii (codes "payment") (omega arith, (omega arith, (omega arith, (omega arith, (omega arith, (omega arith, (omega arith, tt))))))))) p in
     record {
       listed = record {
-        tables = rw (all.only, a_table r a.is.kind a.code, a_table s p.is.kind p.code) (first, (second, tt));
-        indexes = rw (all.only, no_index r a.is.kind a.code, no_index s p.is.kind p.code) tt;
-        views = rw (all.only, no_view r a.is.kind a.code, no_view s p.is.kind p.code) tt;
-        owned = tt;
+        tables = rw (all.only, a_table r a.is.kind a.code, a_table s p.is.kind p.code, stamp_no_table t v.is.kind v.code) (first, (second, tt));
+        indexes = rw (all.only, no_index r a.is.kind a.code, no_index s p.is.kind p.code, stamp_no_index t v.is.kind v.code) tt;
+        views = rw (all.only, no_view r a.is.kind a.code, no_view s p.is.kind p.code, stamp_a_view t v.is.kind v.code) (stamp_row_is t v, tt);
+        owned = (tt, tt);
         named = ((apart, tt), (tt, tt));
         loads = all.loads;
       };
       guarded = ((λ at key e. absurd (let k = e in cc)), ((λ at key e. absurd (let k = e in cc)), tt));
     }
 
-pub sound : (db : Trees) (s : Sums) → AreSums db s → IsSound books_schema db
-sound db s books = record { lists = lists (db catalog_tree) books.objects; obeys = books_obey db s books }
+pub sound : (db : Trees) (s : Sums) (books : AreSums db s) → IsSound (stamped_schema books.objects.stamped.is.text) db
+sound db s books = record { lists = lists (db catalog_tree) books.objects; obeys = stamped_obey _ db (books_obey db s books) }

@@ -1,5 +1,5 @@
 -- Steps of a store one after another.
-use Rattle.std.proofs.Common.{Result, Ok, Err, IfOk, OnOk, OnErr, IsOk, ◌≡◌, ◌≢◌, ◌⊎◌, inl, inr, ℕ, ◌+◌, true, false, List, length, length-append, ◌++◌, ◌∷◌, IsTrue, [], if◌then◌else◌, refl, sym, ap, subst, ◌∙◌, arith, ne_eqb, eq-eqb}
+use Rattle.std.proofs.Common.{Result, Ok, Err, IfOk, OnOk, OnErr, IsOk, ◌≡◌, ◌≢◌, ◌⊎◌, inl, inr, ℕ, ◌+◌, true, false, List, length, length-append, max, ◌++◌, ◌∷◌, IsTrue, [], if◌then◌else◌, refl, sym, ap, subst, ◌∙◌, arith, ne_eqb, eq-eqb}
 use Rattle.std.proofs.lemmas.Bool.{cases_Bool}
 use Rattle.sqlite_trees.specs.Tree.{Trees, with_tree, put_row}
 use Rattle.sqlite_trees.specs.Objects.{catalog_tree, version_tree, version_rows}
@@ -12,7 +12,8 @@ use Rattle.sqlite.specs.Steps.{IsFresh}
 use Rattle.sqlite_trees.proofs.Doubt.{no_doubt}
 use Rattle.st_books.specs.declared.balance.Amounts.{Amounts}
 use Rattle.st_books.specs.Sums.{nothing}
-use Rattle.st_books.specs.Payments.{payment_line, name_at, with_payment, ArePayments, payment_row}
+use Rattle.st_books.specs.declared.balance.Tally.{Tally}
+use Rattle.st_books.specs.Payments.{payment_line, name_at, tally_of, with_payment, ArePayments, IsEntryText, payment_row}
 use Rattle.st_books.specs.declared.balance.Payment.{Payment}
 use Rattle.st_books.specs.Table.{AreBooks, ListsTables, line, lines, payment_tree}
 use Rattle.st_books.proofs.LineLemmas.{put_end}
@@ -99,10 +100,11 @@ open_sound v broken sound = elim (cases_Bool v.is_open) [
 ]
 
 -- what stood before a transaction stands after its rollback
-pub held_undone : (was mid new : View) (starts : ℕ) (names : List (List ℕ)) (all : List Amounts) (paid : List Row) (count : ℕ) → Holds was starts names all paid count → (IsClean mid → Keeps was mid) → IsRolledBack mid new → (IsClean new → IsClean mid) → (IsClean mid → IsClean was)
+pub held_undone : (was mid new : View) (starts : ℕ) (names : List (List ℕ)) (all : List Amounts) (paid : List Row) (count : Tally) → Holds was starts names all paid count → (IsClean mid → Keeps was mid) → (IsClean new → IsRolledBack mid new) → (IsClean new → IsClean mid) → (IsClean mid → IsClean was)
     → (IsTrue new.is_open → IsClean new) → Holds new starts names all paid count
-held_undone was mid new starts names all paid count held kept undone late early clean = (
+held_undone was mid new starts names all paid count held kept back_to late early clean = (
   λ now.
+      let undone = back_to now in
       let keeps = kept (late now) in
       let laid = held.0 (early (late now)) in
       let level : mid.shape ≡ mid.committed_shape = keeps.schema.shape ∙ (laid.kept ∙ sym keeps.schema.committed_shape) in
@@ -114,6 +116,7 @@ held_undone was mid new starts names all paid count held kept undone late early 
         numbered = undone.numbered ∙ (keeps.schema.numbered ∙ laid.numbered);
       },
   λ is_open.
+      let undone = back_to (clean is_open) in
       let keeps = kept (late (clean is_open)) in
       let back = undone.kept (clean is_open) in
       let mid_open = back.was_open is_open in
@@ -129,8 +132,8 @@ held_undone was mid new starts names all paid count held kept undone late early 
 )
 
 -- what was drawn stands after the commit
-pub held_committed : (was mid new : View) (starts later : ℕ) (names longer : List (List ℕ)) (before after : List Amounts) (paid more : List Row) (count grown : ℕ) → Holds was starts names before paid count → IsClean was → OnlyWrites was mid
-    → (length paid ≡ count → AreBooks was.trees starts names before paid → AreBooks mid.trees later longer after more) → (length paid ≡ count → length more ≡ grown) → Commits mid new → IsTrue was.is_open
+pub held_committed : (was mid new : View) (starts later : ℕ) (names longer : List (List ℕ)) (before after : List Amounts) (paid more : List Row) (count grown : Tally) → Holds was starts names before paid count → IsClean was → OnlyWrites was mid
+    → (tally_of paid ≡ count → AreBooks was.trees starts names before paid → AreBooks mid.trees later longer after more) → (tally_of paid ≡ count → tally_of more ≡ grown) → Commits mid new → IsTrue was.is_open
     → Holds new later longer after more grown
 held_committed was mid new starts later names longer before after paid more count grown held clean frame drawn counted commits is_open =
     let laid = held.0 clean in
@@ -184,9 +187,9 @@ pub at_ok : {T E P : Type 0} (r : Result T E) → IsOk r → OnOk r P → P
 at_ok (Ok x) is h = h
 at_ok (Err e) is h = absurd (let k = is in cc)
 
-module _ {E : Type 0} (was mid new : View) (starts later : ℕ) (names longer : List (List ℕ)) (before after : List Amounts) (paid more : List Row) (count grown : ℕ) (held : Holds was starts names before paid count) (late : IsClean new → IsClean mid) (early : IsClean mid → IsClean was)
+module _ {E : Type 0} (was mid new : View) (starts later : ℕ) (names longer : List (List ℕ)) (before after : List Amounts) (paid more : List Row) (count grown : Tally) (held : Holds was starts names before paid count) (late : IsClean new → IsClean mid) (early : IsClean mid → IsClean was)
     (wide : was.is_open ≡ false → IsTrue was.is_broken) (entered : Result (Unit {0}) E) (frame : OnOk entered (IsClean mid → OnlyWrites was mid))
-    (drawn : OnOk entered (IsClean mid → length paid ≡ count → AreBooks was.trees starts names before paid → AreBooks mid.trees later longer after more)) (counted : length paid ≡ count → length more ≡ grown) where
+    (drawn : OnOk entered (IsClean mid → tally_of paid ≡ count → AreBooks was.trees starts names before paid → AreBooks mid.trees later longer after more)) (counted : tally_of paid ≡ count → tally_of more ≡ grown) where
   -- the store was open, where what was entered may be committed
   was_open : IsClean mid → IsOk entered → mid.is_broken ≡ false → IsTrue was.is_open
   was_open clean is sound = open_sound was wide (sym (ap (λ (v : View). v.is_broken) (at_ok entered is frame clean)) ∙ sound)
@@ -225,27 +228,27 @@ undone_ready old new undone clean is_open numbered loads table audit =
       loads = loads;
     }
 
-pub ready_holds : (v : View) (starts : ℕ) (names : List (List ℕ)) (all : List Amounts) (count : ℕ) → (IsClean v → IsReady v) → (IsTrue v.is_open → IsClean v) → (IsClean v → AreBooks v.trees starts names all (v.trees payment_tree))
-    → (IsClean v → length (v.trees payment_tree) ≡ count) → Holds v starts names all (payments_in v) count
+pub ready_holds : (v : View) (starts : ℕ) (names : List (List ℕ)) (all : List Amounts) (count : Tally) → (IsClean v → IsReady v) → (IsTrue v.is_open → IsClean v) → (IsClean v → AreBooks v.trees starts names all (v.trees payment_tree))
+    → (IsClean v → tally_of (v.trees payment_tree) ≡ count) → Holds v starts names all (payments_in v) count
 ready_holds v starts names all count ready clean books counted = (
   λ now. (ready now).laid,
   λ is_open.
       let now = clean is_open in
       let r = ready now in (
         record { sound = r.sound; settled = r.settled; books = subst (λ (db : Trees). AreBooks db starts names all (db payment_tree)) r.settled (books now) },
-        sym (ap (λ (db : Trees). length (db payment_tree)) r.settled) ∙ counted now,
+        sym (ap (λ (db : Trees). tally_of (db payment_tree)) r.settled) ∙ counted now,
       ),
 )
 
 -- the payments are those of the store
-pub holds_own : (v : View) (starts : ℕ) (names : List (List ℕ)) (all : List Amounts) (paid : List Row) (count : ℕ) → Holds v starts names all paid count → Holds v starts names all (payments_in v) count
+pub holds_own : (v : View) (starts : ℕ) (names : List (List ℕ)) (all : List Amounts) (paid : List Row) (count : Tally) → Holds v starts names all paid count → Holds v starts names all (payments_in v) count
 holds_own v starts names all paid count held = (
   held.0,
   λ is_open.
       let stood = held.1 is_open in
       let same : paid ≡ payments_in v = sym stood.0.books.audit in (
         record { sound = stood.0.sound; settled = stood.0.settled; books = subst (λ p. AreBooks v.committed starts names all p) same stood.0.books },
-        sym (ap length same) ∙ stood.1,
+        sym (ap tally_of same) ∙ stood.1,
       ),
 )
 
@@ -312,20 +315,21 @@ payment_written db rows starts names all paid more h is lawful = record {
   objects = subst ListsTables (sym (other_tree db payment_tree rows catalog_tree (omega arith))) h.objects;
 }
 
-pub payment_added : (old new : View) (starts : ℕ) (names : List (List ℕ)) (all : List Amounts) (paid : List Row) (p : Payment) → SetsTree old new payment_tree (put_row (payment_row paid names p)) → AreBooks old.trees starts names all paid
-    → AreBooks new.trees starts names all (with_payment paid names p)
-payment_added old new starts names all paid p sets h =
-    subst (λ db. AreBooks db starts names all (with_payment paid names p)) (sym (ap (λ (v : View). v.trees) sets.is))
-    (payment_written old.trees (put_row (payment_row paid names p) (old.trees payment_tree)) starts names all paid (with_payment paid names p) h
-    (ap (put_row (payment_row paid names p)) h.audit ∙ put_payment paid names p h.payments) (payments_push paid names p h.payments))
+pub payment_added : (old new : View) (starts : ℕ) (names : List (List ℕ)) (all : List Amounts) (paid : List Row) (p : Payment) (text : List ℕ) → IsEntryText p.kind p.side text → SetsTree old new payment_tree (put_row (payment_row paid names p text))
+    → AreBooks old.trees starts names all paid → AreBooks new.trees starts names all (with_payment paid names p text)
+payment_added old new starts names all paid p text is sets h =
+    subst (λ db. AreBooks db starts names all (with_payment paid names p text)) (sym (ap (λ (v : View). v.trees) sets.is))
+    (payment_written old.trees (put_row (payment_row paid names p text) (old.trees payment_tree)) starts names all paid (with_payment paid names p text) h
+    (ap (put_row (payment_row paid names p text)) h.audit ∙ put_payment paid names p text h.payments) (payments_push paid names p text is h.payments))
 
--- its line was written with a name and a number that are these
-pub payment_drawn : (old new : View) (starts : ℕ) (names : List (List ℕ)) (all : List Amounts) (paid : List Row) (p : Payment) (before : ℕ) (name : List ℕ) → length paid ≡ before → name_at names p.account ≡ name
-    → SetsTree old new payment_tree (put_row (payment_line (before + 1) name p.side p.amount p.moment)) → AreBooks old.trees starts names all paid → AreBooks new.trees starts names all (with_payment paid names p)
-payment_drawn old new starts names all paid p before name count is sets h =
-    let named : SetsTree old new payment_tree (put_row (payment_line (before + 1) (name_at names p.account) p.side p.amount p.moment)) =
-    subst (λ n. SetsTree old new payment_tree (put_row (payment_line (before + 1) n p.side p.amount p.moment))) (sym is) sets in
-    payment_added old new starts names all paid p (subst (λ n. SetsTree old new payment_tree (put_row (payment_line (n + 1) (name_at names p.account) p.side p.amount p.moment))) (sym count) named) h
+-- its line was written with a name, a number and a moment that are these
+pub payment_drawn : (old new : View) (starts : ℕ) (names : List (List ℕ)) (all : List Amounts) (paid : List Row) (p : Payment) (text : List ℕ) (before : Tally) (name : List ℕ) → IsEntryText p.kind p.side text → tally_of paid ≡ before
+    → name_at names p.account ≡ name → SetsTree old new payment_tree (put_row (payment_line (before.lines + 1) name text p.amount (max before.latest p.moment))) → AreBooks old.trees starts names all paid
+    → AreBooks new.trees starts names all (with_payment paid names p text)
+payment_drawn old new starts names all paid p text before name words count is sets h =
+    let written : Tally → List ℕ → Type 0 = λ t n. SetsTree old new payment_tree (put_row (payment_line (t.lines + 1) n text p.amount (max t.latest p.moment))) in
+    let named : written before (name_at names p.account) = subst (written before) (sym is) sets in
+    payment_added old new starts names all paid p text words (subst (λ (t : Tally). written t (name_at names p.account)) (sym count) named) h
 
 pub line_added : (old new : View) (starts : ℕ) (names : List (List ℕ)) (all : List Amounts) (paid : List Row) (name : List ℕ) → SetsTree old new 0 (put_row (line (length names + 1) name nothing)) → AreBooks old.trees starts names all paid
     → AreBooks new.trees starts (names ++ name ∷ []) (all ++ nothing ∷ []) paid
@@ -339,13 +343,13 @@ pub starts_counted : (old new : View) (starts later : ℕ) (names : List (List �
     → AreBooks new.trees later names all paid
 starts_counted old new starts later names all paid sets h = subst (λ db. AreBooks db later names all paid) (sym (ap (λ (v : View). v.trees) sets.is)) (starts_written old.trees starts later names all paid h)
 
--- one more
-pub one_more : (paid : List Row) (row : Row) (count : ℕ) → length paid ≡ count → length (paid ++ row ∷ []) ≡ count + 1
-one_more paid row count is = omega (arith, is, length-append paid (row ∷ []))
-
 -- a write of one tree changes nothing else
 pub sets_only : (old new : View) (tree : ℕ) (edit : List Row → List Row) → SetsTree old new tree edit → OnlyWrites old new
 sets_only old new tree edit sets = sets.is ∙ ap (λ (v : View). record old { trees = v.trees; cursors = new.cursors }) (sym sets.is)
+
+-- a read writes nothing
+pub only_reads : (old new : View) → ReadsOnly old new → OnlyWrites old new
+only_reads old new reads = reads ∙ ap (λ (v : View). record old { trees = v.trees; cursors = new.cursors }) (sym reads)
 
 pub reads_then : (a b c : View) → ReadsOnly a b → ReadsOnly b c → ReadsOnly a c
 reads_then a b c p q = q ∙ ap (λ (v : View). record v { cursors = c.cursors }) p

@@ -10,7 +10,7 @@ use Rattle.st_booking.specs.declared.booking.Booking.{Booking}
 use Rattle.st_books.specs.Errors.{number}
 use Rattle.st_books.specs.declared.balance.Payment.{Payment}
 use Rattle.st_books.specs.Sums.{nothing, amounts_at, booked, IsOfNoAccount, IsAbove, Overflows, ForOne}
-use Rattle.st_books.specs.Payments.{less, paid_off, with_payment, IsShort, IsUncountable}
+use Rattle.st_books.specs.Payments.{changed, entry_text, paid_off, with_payment, IsShort, IsUncountable}
 use Rattle.st_books.specs.Table.{line}
 use Rattle.st_books.specs.Standing.{Kept, Sums, AreSums, sums_of, Tells, LeavesOnly, payments_in}
 use Rattle.st_books.specs.Reasons.{Excuses, Because, HasBadName, HasBadPayment}
@@ -24,8 +24,8 @@ after_name g k name = record { starts = k.starts; names = k.names ++ name ∷ []
 abbrev pub after_start : {S : Type 0} → Ghosts S → Kept S → Sums
 after_start g k = record { starts = k.starts + 1; names = k.names; amounts = k.amounts; paid = payments_in (g.view k.store) }
 
-abbrev pub after_payment : {S : Type 0} → Ghosts S → Kept S → Payment → Sums
-after_payment g k p = record { starts = k.starts; names = k.names; amounts = paid_off k.amounts p; paid = with_payment (payments_in (g.view k.store)) k.names p }
+abbrev pub after_payment : {S : Type 0} → Ghosts S → Kept S → Payment → (reference : List ℕ) → Sums
+after_payment g k p reference = record { starts = k.starts; names = k.names; amounts = paid_off k.amounts p; paid = with_payment (payments_in (g.view k.store)) k.names p (entry_text p.kind p.side reference) }
 
 -- a crash at any moment since `old` leaves what it could leave then, or the books with the whole change
 abbrev pub BeforeOrAfter : {S : Type 0} → Ghosts S → Kept S → Sums → Kept S → Type 0
@@ -69,17 +69,24 @@ name_excuses v names name = record {
 abbrev pub start_excuses : ℕ → Excuses
 start_excuses starts = record { no_account = ⊥; too_much = 2 ^ 32 ≤ starts + 1; too_little = ⊥; taken = ⊥; bad_name = ⊥ }
 
-abbrev pub payment_excuses : View → List (List ℕ) → List Amounts → Payment → Excuses
-payment_excuses v names all p = record {
+abbrev pub payment_excuses : View → List (List ℕ) → List Amounts → Payment → (text : List ℕ) → Excuses
+payment_excuses v names all p text = record {
   no_account = length all ≤ p.account;
-  too_much = IsAbove (less p.side p.amount (amounts_at all p.account)) ⊎ IsUncountable p;
+  too_much = IsAbove (changed p.kind p.side p.amount (amounts_at all p.account)) ⊎ IsUncountable p;
   too_little = IsShort all p;
   taken = ⊥;
-  bad_name = HasBadName v names ⊎ HasBadPayment v names p;
+  bad_name = HasBadName v names ⊎ HasBadPayment v names p text;
 }
 
 abbrev pub IsBecause : {S : Type 0} → Ghosts S → Kept S → Kept S → Excuses → BooksError → Type 0
 IsBecause g old new x e = IsClean (g.view new.store) → Because (g.view old.store) (MoreFaults (g.faults old.store) (g.faults new.store)) x e
+
+-- Nothing was changed, and each crash leaves what it could leave before.
+pub record Rereads {S : Type 0} (g : Ghosts S) (old new : Kept S) : Type 0 where
+  pub same : Tells new (sums_of g old)
+  pub paid : IsTrue (g.view new.store).is_open → payments_in (g.view new.store) ≡ payments_in (g.view old.store)
+  pub as_before : IsTrue (g.view new.store).is_open → LeavesOnly g new.store (sums_of g old)
+  pub outcomes : (db : Trees) → g.recovers new.store db → g.recovers old.store db
 
 -- a refusal of bookings with this number, and its cause
 abbrev pub KeepsFor : {S : Type 0} → Ghosts S → Kept S → List Booking → Kept S → ℕ → Type 0

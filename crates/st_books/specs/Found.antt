@@ -1,5 +1,5 @@
 -- What an open of books finds.
-use Rattle.std.specs.Prelude.{◌≡◌, ◌⊎◌, IsTrue}
+use Rattle.std.specs.Prelude.{◌≡◌, ◌⊎◌, ℕ, List, IsTrue}
 use Rattle.sqlite_disk.specs.declared.Disk.{Ghosts}
 use Rattle.sqlite_wal.specs.Recovery.{Image}
 use Rattle.sqlite_trees.specs.Tree.{Trees}
@@ -10,7 +10,8 @@ use Rattle.sqlite.specs.Files.{file_state, over_files, IsNothing}
 use Rattle.sqlite.specs.Start.{FindsIn}
 use Rattle.sqlite_trees.specs.Objects.{catalog_tree}
 use Rattle.st_books.specs.Damage.{IsDamaged, IsUnmade}
-use Rattle.st_books.specs.Table.{ListsTables}
+use Rattle.st_books.specs.Continuing.{IsContinued}
+use Rattle.st_books.specs.Table.{ListsTables, IsOf}
 use Rattle.st_books.specs.Standing.{Kept, Sums, AreSums, sums_of, Takes}
 
 -- the files held a database of these books, and from now on each crash leaves them
@@ -19,17 +20,20 @@ pub record FindsBooks {D : Type 0} {g : Ghosts D} (image : Image) (books : Kept 
   pub found : FindsIn image (file_state opened)
   pub takes : Takes over_files (file_state opened).committed.trees books
 
--- The log is not damaged. The tables were listed, or the books were still to be made; so where there is no database beside the log
--- of one, none are found.
-pub record FindsWhole {D : Type 0} {g : Ghosts D} (image : Image) (books : Kept (FileStore D g)) : Type 0 where
+-- The log is not damaged, and continues the file. The tables were listed, or the books were still to be made; so where there is no
+-- database beside the log of one, none are found. The books are of the connector of this address.
+pub record FindsWhole {D : Type 0} {g : Ghosts D} (address : List ℕ) (image : Image) (books : Kept (FileStore D g)) : Type 0 where
   pub finds : FindsBooks image books
   pub whole : ¬ IsDamaged image.log
+  pub continued : IsContinued image
   pub nothing_lost : ¬ IsUnmade image → (¬ IsNothing image) × ListsTables ((file_state finds.opened).committed.trees catalog_tree)
+  pub own : IsOf address ((view books.store).committed catalog_tree)
 
 -- and they were made before: there was a database, and it listed the two tables
 pub record FindsOld {D : Type 0} {g : Ghosts D} (image : Image) (books : Kept (FileStore D g)) : Type 0 where
   pub finds : FindsBooks image books
   pub whole : ¬ IsDamaged image.log
+  pub continued : IsContinued image
   pub something : ¬ IsNothing image
   pub listed : ListsTables ((file_state finds.opened).committed.trees catalog_tree)
 

@@ -1,5 +1,6 @@
 pub mod Sums
 pub mod Payments
+pub mod Stamp
 pub mod Table
 pub mod Standing
 pub mod Made
@@ -7,4 +8,5 @@ pub mod Errors
 pub mod Reasons
 pub mod Commits
 pub mod Damage
+pub mod Continuing
 pub mod Found

@@ -1,10 +1,11 @@
--- How the two tables are made.
+-- How the two tables and the view are made.
 use Rattle.std.specs.Prelude.{◌≡◌, ℕ, ◌+◌, pos, List, [], ◌∷◌, codes, IsTrue}
 use Rattle.sqlite_value.specs.declared.value.Value.TheVariants.{Int, Text}
 use Rattle.sqlite_value.specs.Order.{Row}
 use Rattle.sqlite_trees.specs.Objects.{catalog_tree, version_tree, version_rows}
 use Rattle.sqlite_trees.specs.View.{View}
 use Rattle.sqlite_trees.specs.declared.store.Shape.TheVariants.{Absent, Table}
+use Rattle.st_books.specs.Stamp.{stamp_tree}
 use Rattle.st_books.specs.Table.{payment_tree, AreBooks}
 
 -- the row of a table in the list of objects: its number there, type, name, table, text, that it is a table, and no REAL column
@@ -16,6 +17,7 @@ pub record IsUnlaid (v : View) : Type 0 where
   pub numbered : IsTrue v.is_numbered
   pub accounts : v.shape 0 ≡ Absent
   pub payments : v.shape payment_tree ≡ Absent
+  pub stamp : v.shape stamp_tree ≡ Absent
   pub lists : v.trees catalog_tree ≡ []
   pub unstarted : v.trees version_tree ≡ version_rows 0
 

@@ -42,6 +42,6 @@ no_excuse = excuses ⊥ ⊥ ⊥ ⊥
 abbrev pub HasBadName : View → List (List ℕ) → Type 0
 HasBadName v names = (at : ℕ) × (name : List ℕ) × (a : Amounts) × (slice_get names at ≡ Some name) × (¬ IsStorableRow (v.reals 0) (line (at + 1) name a))
 
--- SQLite cannot store the line of this payment, whatever its number
-abbrev pub HasBadPayment : View → List (List ℕ) → Payment → Type 0
-HasBadPayment v names p = (id : ℕ) × (¬ IsStorableRow (v.reals payment_tree) (payment_line id (name_at names p.account) p.side p.amount p.moment))
+-- SQLite cannot store the line of this payment, whatever its number and moment
+abbrev pub HasBadPayment : View → List (List ℕ) → Payment → (text : List ℕ) → Type 0
+HasBadPayment v names p text = (id : ℕ) × (moment : ℕ) × (¬ IsStorableRow (v.reals payment_tree) (payment_line id (name_at names p.account) text p.amount moment))

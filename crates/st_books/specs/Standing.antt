@@ -8,6 +8,8 @@ use Rattle.sqlite_trees.specs.View.{View, IsClean, KeepsSchema, OnlyWrites}
 use Rattle.sqlite_trees.specs.declared.store.Store.{Ghosts}
 use Rattle.sqlite_trees.specs.declared.store.Shape.TheVariants.{Table}
 use Rattle.st_books.specs.declared.balance.Amounts.{Amounts}
+use Rattle.st_books.specs.declared.balance.Tally.{Tally}
+use Rattle.st_books.specs.Payments.{tally_of}
 use Rattle.st_books.specs.Table.{AreBooks, lines, payment_tree}
 
 -- the payments of the last commit
@@ -27,9 +29,9 @@ pub record IsLaid (v : View) : Type 0 where
   pub kept : v.shape ≡ v.committed_shape
   pub numbered : IsTrue v.is_numbered
 
--- and while the store is open, there are so many payments
-abbrev pub Holds : View → (starts : ℕ) → List (List ℕ) → List Amounts → (paid : List Row) → (payments : ℕ) → Type 0
-Holds v starts names all paid payments = (IsClean v → IsLaid v) × (IsTrue v.is_open → Stands v starts names all paid × (length paid ≡ payments))
+-- and while the store is open, there are so many payments, the last one of this moment
+abbrev pub Holds : View → (starts : ℕ) → List (List ℕ) → List Amounts → (paid : List Row) → (payments : Tally) → Type 0
+Holds v starts names all paid payments = (IsClean v → IsLaid v) × (IsTrue v.is_open → Stands v starts names all paid × (tally_of paid ≡ payments))
 
 -- a store between transactions, with the tables, and with a list of objects that SQLite loads
 pub record IsReady (v : View) : Type 0 where

@@ -1,4 +1,4 @@
--- The books as rows of two tables that sqlite3 shows.
+-- The books as rows of two tables that sqlite3 shows, and of a view.
 use Rattle.std.specs.Prelude.{◌≡◌, ◌≢◌, ℕ, suc, pos, true, List, [], ◌∷◌, length, codes, ⊤}
 use Rattle.std.specs.List.{AllByRecursion}
 use Rattle.sqlite_value.specs.declared.value.Value.TheVariants.{Null, Int, Text}
@@ -8,6 +8,7 @@ use Rattle.sqlite_trees.specs.Objects.{catalog_tree, version_tree, version_rows,
 use Rattle.sqlite_trees.specs.Sound.{is_sound_list}
 use Rattle.st_books.specs.declared.balance.Amounts.{Amounts}
 use Rattle.st_books.specs.Payments.{payment_text, ArePayments}
+use Rattle.st_books.specs.Stamp.{IsStamped}
 
 -- the accounts are tree 0 of the database, and the payments outside Interledger the next
 abbrev pub payment_tree : ℕ
@@ -54,14 +55,21 @@ IsAccountRow = IsTableRow 1 (codes "account") table_text
 abbrev pub IsPaymentRow : Row → Type 0
 IsPaymentRow = IsTableRow 2 (codes "payment") payment_text
 
--- the file has these two tables and no other object
+-- the file has these two tables, the view of books and no other object
 pub record ListsTables (objects : List Row) : Type 0 where
   pub account : Row
   pub payment : Row
-  pub only : objects ≡ account ∷ payment ∷ []
+  pub stamp : Row
+  pub only : objects ≡ account ∷ payment ∷ stamp ∷ []
   pub accounts : IsListed 1 (codes "account") table_text account
   pub payments : IsListed 2 (codes "payment") payment_text payment
+  pub stamped : IsStamped stamp
   pub loads : is_sound_list objects ≡ true
+
+-- the objects of the books of a connector with this address
+pub record IsOf (address : List ℕ) (objects : List Row) : Type 0 where
+  pub lists : ListsTables objects
+  pub own : lists.stamped.is.address ≡ address
 
 -- The database is these books. SQLite's user version counts the starts.
 pub record AreBooks (db : Trees) (starts : ℕ) (names : List (List ℕ)) (all : List Amounts) (paid : List Row) : Type 0 where

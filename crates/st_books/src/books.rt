@@ -1,20 +1,22 @@
 //! Books that are open.
 
-ghost use Rattle.std.specs.Prelude.{◌≡◌, ◌≢◌, ◌+◌, ◌≤◌, None, length, slice_get, IfOk, IfErr, IfSome, IsTrue, OnOk, OnErr};
+ghost use Rattle.std.specs.Prelude.{◌≡◌, ◌≢◌, ◌+◌, ◌<◌, ◌≤◌, None, length, slice_get, IfOk, IfErr, IfSome, IsTrue, OnOk, OnErr};
 ghost use Rattle.std.specs.List.{AllByRecursion};
 ghost use Rattle.sqlite_trees.specs.Tree.{Trees};
 ghost use Rattle.sqlite_trees.specs.View.{IsClean};
+ghost use Rattle.sqlite_trees.specs.declared.error.StoreError.{StoreError};
 ghost use Rattle.sqlite_store.specs.FileStore.{view, recovers, log_frames, HasSpilled};
-ghost use Rattle.st_books.specs.Errors.{number};
+ghost use Rattle.st_books.specs.Errors.{number, told};
 ghost use Rattle.st_books.specs.Table.{AreDistinct};
-ghost use Rattle.st_books.specs.Payments.{paying, IsCovered};
+ghost use Rattle.st_books.specs.Payments.{entry_text, name_at, Finds, IsCovered};
 ghost use Rattle.st_books.specs.Standing.{Holds, payments_in};
-ghost use Rattle.st_books.specs.Commits.{Commits, Makes, Refuses, IsBecause, KeepsFor, after_bookings, after_name, after_start, after_payment, booking_excuses, name_excuses, start_excuses, payment_excuses};
+ghost use Rattle.st_books.specs.Commits.{Commits, Makes, Refuses, Rereads, IsBecause, KeepsFor, after_bookings, after_name, after_start, after_payment, booking_excuses, name_excuses, start_excuses, payment_excuses};
 
-use crate::balance::{Amounts, Payment, Side};
+use crate::balance::{Amounts, Entry, Kind, Payment, Side, Tally};
 use crate::error::BooksError;
+use crate::looking::find;
 use crate::names::{place_of, with_name};
-use crate::paying::commit_payment;
+use crate::paying::{commit_payment, next_tally, text_of};
 use crate::table::{commit_account, commit_bookings, commit_starts};
 use sqlite_disk::Disk;
 use sqlite_store::FileStore;
@@ -31,8 +33,8 @@ pub struct Books<S: Alter> {
     starts: u32,
     names: Vec<Bytes>,
     amounts: Vec<Amounts>,
-    // How many lines the second table has.
-    paid: u64,
+    // The lines of the second table.
+    paid: Tally,
     row: Row,
     alloc: Global,
 }
@@ -73,7 +75,7 @@ impl<S: Alter> Books<S> {
         starts: u32,
         names: Vec<Bytes>,
         amounts: Vec<Amounts>,
-        paid: u64,
+        paid: Tally,
     ) -> Books<S>
         requires holds { Holds (S.Store.view store) starts names.items amounts.items (payments_in (S.Store.view store)) paid }
         requires named { length names.items ≡ length amounts.items }
@@ -186,30 +188,20 @@ impl<S: Alter> Books<S> {
         Ok(())
     }
 
-    /// Takes a payment outside Interledger off what the account at a place owes, or is owed, and keeps a line of it with its
-    /// moment, in milliseconds since 1970. Both are one commit. Refuses with `TooLittle` a payment above what stands.
-    pub fn pay(
-        &mut self,
-        account: usize,
-        side: Side,
-        amount: u64,
-        moment: u64,
-    ) -> Result<(), BooksError>
-        ensures covered { OnOk result (IsCovered self.old.amounts (paying account side amount moment)) }
-        ensures paid { OnOk result (Makes S.Store self.old (after_payment S.Store self.old (paying account side amount moment)) self.new) }
-        ensures refused { OnErr result (Refuses S.Store self.old (after_payment S.Store self.old (paying account side amount moment)) self.new) }
-        ensures cause { IfErr result (IsBecause S.Store self.old self.new (payment_excuses (S.Store.view self.old.store) self.old.names self.old.amounts (paying account side amount moment))) }
+    /// Takes a payment outside Interledger off what an account owes, or is owed, or adds an adjustment; and keeps a line of it
+    /// with its reference, which may be empty, and its moment, or the last line's where that is later. Both are one commit.
+    /// Refuses with `TooLittle` a payment above what stands.
+    pub fn pay(&mut self, payment: Payment, reference: &str) -> Result<(), BooksError>
+        ensures covered { OnOk result (IsCovered self.old.amounts payment) }
+        ensures paid { OnOk result (Makes S.Store self.old (after_payment S.Store self.old payment reference.now) self.new) }
+        ensures refused { OnErr result (Refuses S.Store self.old (after_payment S.Store self.old payment reference.now) self.new) }
+        ensures cause { IfErr result (IsBecause S.Store self.old self.new (payment_excuses (S.Store.view self.old.store) self.old.names self.old.amounts payment (entry_text payment.kind payment.side reference.now))) }
     {
-        let payment = Payment {
-            account,
-            side,
-            amount,
-            moment,
-        };
         // No disk holds so many payments.
-        let Some(next) = self.paid.checked_add(1) else {
+        let Some(next) = next_tally(self.paid, payment) else {
             return Err(BooksError::NoMemory);
         };
+        let text = text_of(self.alloc, payment.kind, payment.side, reference)?;
         let mut draft = Vec::from_slice(self.alloc, self.amounts.as_slice())?;
         let Books {
             store,
@@ -228,10 +220,43 @@ impl<S: Alter> Books<S> {
             draft.as_mut_slice(),
             *paid,
             payment,
+            text.as_slice(),
         )?;
         *amounts = draft;
         *paid = next;
         Ok(())
+    }
+
+    /// What was entered under a reference for the account at a place, on one side: a payment or an adjustment. The books stay.
+    pub fn entered(
+        &mut self,
+        account: usize,
+        side: Side,
+        reference: &str,
+    ) -> Result<Option<Entry>, BooksError>
+        requires { account < length self.old.names }
+        ensures found { IfOk result (λ e. IsClean (S.Store.view self.new.store) → Finds (payments_in (S.Store.view self.old.store)) (name_at self.old.names account) side reference.now e) }
+        ensures same { Rereads S.Store self.old self.new }
+        ensures cause { IfErr result (λ e. (why : StoreError) × (e ≡ told why)) }
+    {
+        let paid = text_of(self.alloc, Kind::Paid, side, reference)?;
+        let adjusted = text_of(self.alloc, Kind::Adjusted, side, reference)?;
+        let Books {
+            store,
+            names,
+            row,
+            ..
+        } = self;
+        let found = find(
+            store,
+            row,
+            names[account].as_slice(),
+            paid.as_slice(),
+            adjusted.as_slice(),
+        );
+        // The transaction ends, in which the lines were read.
+        store.rollback();
+        found
     }
 
     /// Adds an account of a new name, by which and to which nothing is owed, and commits it. Gives its place.

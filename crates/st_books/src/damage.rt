@@ -17,7 +17,7 @@ use std::alloc::Global;
 use std::io;
 
 /// No log has so many frames.
-const MOST_FRAMES: usize = 4_294_967_295;
+pub(crate) const MOST_FRAMES: usize = 4_294_967_295;
 
 /// How a frame fits the header of the one before it.
 #[derive(Clone, Copy, Debug, PartialEq, Eq)]

@@ -10,6 +10,7 @@ ghost use Rattle.sqlite_std_file.specs.File.{file_is_usable, IsFresh};
 ghost use Rattle.st_books.specs.Found.{FindsOld};
 
 use crate::books::Books;
+use crate::continuing::refuse_strange_log;
 use crate::error::BooksError;
 use crate::making::{LEAST_LEN, holds_nothing, refuse_damage};
 use crate::opening::{books_of, refusal_of};
@@ -50,8 +51,9 @@ pub fn open_existing_files<D: Disk + Drop>(
 {
     refuse_damage(alloc, &mut files.log)?;
     refuse_nothing(alloc, &mut files)?;
+    refuse_strange_log(alloc, &mut files)?;
     let books = match Connection::open_files(alloc, files, options) {
-        Ok(conn) => books_of(alloc, conn, false)?,
+        Ok(conn) => books_of(alloc, conn, false, None, "")?,
         Err((error, _)) => return Err(refusal_of(error)),
     };
     books.folded()
@@ -104,7 +106,8 @@ pub(crate) fn files_at<S: Start>(
     }
 }
 
-/// Opens the books of a file. Where there is no file, or it holds nothing, it refuses with `NoBooks` and makes nothing.
+/// Opens the books of a file, whatever address they say. Where there is no file, or it holds nothing, it refuses with `NoBooks`
+/// and makes nothing.
 ///
 /// Else as `open`: it finds the books that a crash left, and refuses with `Taken` where another process has the file.
 pub fn open_existing<S: Start>(

@@ -1,20 +1,22 @@
-//! The two tables of books: whether a store lists them, and how they are made.
+//! The two tables of books and their view: whether a store lists them, and how they are made.
 
-ghost use Rattle.std.specs.Prelude.{◌≡◌, ◌≢◌, ◌⊎◌, ◌<◌, ◌∷◌, [], false, true, pos, IsTrue, IfOk, OnOk, OnErr};
+ghost use Rattle.std.specs.Prelude.{◌≡◌, ◌≢◌, ◌⊎◌, ◌<◌, ◌∷◌, [], false, true, pos, codes, List, ℕ, IsTrue, IfOk, IfSome, OnOk, OnErr};
 ghost use Rattle.std.specs.List.{AllByRecursion};
-ghost use Rattle.sqlite_value.specs.declared.value.Value.TheVariants.{Text};
+ghost use Rattle.sqlite_value.specs.declared.value.Value.TheVariants.{Int, Text};
 ghost use Rattle.sqlite_value.specs.Order.{Row as Values, column};
 ghost use Rattle.sqlite_trees.specs.Tree.{Trees, put_row};
 ghost use Rattle.sqlite_trees.specs.Objects.{catalog_tree, SetsObject};
 ghost use Rattle.sqlite_trees.specs.Sound.{is_sound_list};
 ghost use Rattle.sqlite_trees.specs.View.{IsClean, IsQuiet, KeepsCommitted};
 ghost use Rattle.sqlite_trees.specs.declared.store.Shape.TheVariants as shapes;
-ghost use Rattle.st_books.specs.Table.{payment_tree, AreBooks, IsTableRow, IsAccountRow, IsPaymentRow, ListsTables};
+ghost use Rattle.st_books.specs.Stamp.{stamp_tree, stamp_row, IsStampText, IsStampRow};
+ghost use Rattle.st_books.specs.Table.{payment_tree, AreBooks, IsTableRow, IsAccountRow, IsPaymentRow, ListsTables, IsOf};
 ghost use Rattle.st_books.specs.Standing.{IsReady};
 ghost use Rattle.st_books.specs.Made.{table_row, IsUnlaid, Lays};
 
 use crate::error::BooksError;
 use crate::lines::{count_in, text_in};
+use crate::stamp::is_stamp;
 use crate::table::conclude;
 use sqlite_trees::schema::Object;
 use sqlite_trees::store::{Alter, Shape, Store};
@@ -50,16 +52,45 @@ fn is_table_row(row: &Row, number: u64, name: &str, text: &str) -> bool
         && has_text(row, 4, text)
 }
 
-/// Whether the list of objects is that of books: the two tables.
-fn is_listed(objects: &[Row]) -> bool
-    ensures { IsTrue result → (account : Values) × (payment : Values) × (objects.now ≡ account ∷ payment ∷ []) × IsAccountRow account × IsPaymentRow payment }
+/// Whether a row of the list of objects has the number and the names of the view.
+fn is_named(row: &Row) -> bool
+    ensures { IsTrue result → (column row.now 0 ≡ Int (pos 3)) × (column row.now 1 ≡ Text (codes "view")) × (column row.now 2 ≡ Text (codes "books")) × (column row.now 3 ≡ Text (codes "books")) }
+{
+    count_in(row, 0) == Some(3)
+        && has_text(row, 1, "view")
+        && has_text(row, 2, "books")
+        && has_text(row, 3, "books")
+}
+
+/// Whether a row of the list of objects is that of the view, and says this address, if one is asked for.
+fn is_stamp_row(alloc: Global, row: &Row, own: Option<&str>) -> Result<bool, BooksError>
+    ensures { IfOk result (λ b. IsTrue b → (stamp : IsStampRow row.now) × IfSome own.entry (λ a. stamp.address ≡ a.now)) }
+{
+    let Some(text) = text_in(row, 4) else {
+        return Ok(false);
+    };
+    if !is_named(row) {
+        return Ok(false);
+    }
+    is_stamp(alloc, text, own)
+}
+
+/// Whether the list of objects is that of books: the two tables, and the view, which says this address, if one is asked for.
+fn is_listed(alloc: Global, objects: &[Row], own: Option<&str>) -> Result<bool, BooksError>
+    ensures { IfOk result (λ b. IsTrue b → (account : Values) × (payment : Values) × (row : Values) × (objects.now ≡ account ∷ payment ∷ row ∷ []) × IsAccountRow account × IsPaymentRow payment
+        × ((stamp : IsStampRow row) × IfSome own.entry (λ a. stamp.address ≡ a.now))) }
 {
     match objects {
-        [account, payment] => {
-            is_table_row(account, 1, "account", ACCOUNT)
-                && is_table_row(payment, 2, "payment", PAYMENT)
+        [account, payment, stamp] => {
+            if !is_table_row(account, 1, "account", ACCOUNT) {
+                return Ok(false);
+            }
+            if !is_table_row(payment, 2, "payment", PAYMENT) {
+                return Ok(false);
+            }
+            is_stamp_row(alloc, stamp, own)
         }
-        _ => false,
+        _ => Ok(false),
     }
 }
 
@@ -68,6 +99,15 @@ fn is_table(shape: Shape) -> bool
 {
     match shape {
         Shape::Table => true,
+        _ => false,
+    }
+}
+
+fn is_pageless(shape: Shape) -> bool
+    ensures { IsTrue result → shape ≡ shapes.Pageless }
+{
+    match shape {
+        Shape::Pageless => true,
         _ => false,
     }
 }
@@ -82,15 +122,22 @@ pub(crate) fn is_absent(shape: Shape) -> bool
     }
 }
 
-/// Whether a store lists the two tables of books and nothing else.
-pub(crate) fn lists_books<S: Alter>(alloc: Global, store: &S) -> Result<bool, BooksError>
+/// Whether a store lists the two tables of books and their view, and nothing else. The view says this address, if one is asked
+/// for.
+pub(crate) fn lists_books<S: Alter>(
+    alloc: Global,
+    store: &S,
+    own: Option<&str>,
+) -> Result<bool, BooksError>
     ensures table { IfOk result (λ b. IsTrue b → (S.Store.view store.now).shape 0 ≡ shapes.Table) }
     ensures audit { IfOk result (λ b. IsTrue b → (S.Store.view store.now).shape payment_tree ≡ shapes.Table) }
     ensures listed { IfOk result (λ b. IsTrue b → IsClean (S.Store.view store.now) → (S.Store.view store.now).is_broken ≡ false
         → is_sound_list ((S.Store.view store.now).trees catalog_tree) ≡ true → ListsTables ((S.Store.view store.now).trees catalog_tree)) }
+    ensures own { IfOk result (λ b. IsTrue b → IsClean (S.Store.view store.now) → (S.Store.view store.now).is_broken ≡ false
+        → is_sound_list ((S.Store.view store.now).trees catalog_tree) ≡ true → IfSome own.entry (λ a. IsOf a.now ((S.Store.view store.now).trees catalog_tree))) }
 {
     let objects = store.objects(alloc)?;
-    if !is_listed(&objects) {
+    if !is_listed(alloc, &objects, own)? {
         return Ok(false);
     }
     let account_reals = store.reals(0);
@@ -101,7 +148,14 @@ pub(crate) fn lists_books<S: Alter>(alloc: Global, store: &S) -> Result<bool, Bo
     if payment_reals != 0 {
         return Ok(false);
     }
+    let stamp_reals = store.reals(2);
+    if stamp_reals != 0 {
+        return Ok(false);
+    }
     if !is_table(store.shape(0)) {
+        return Ok(false);
+    }
+    if !is_pageless(store.shape(2)) {
         return Ok(false);
     }
     Ok(is_table(store.shape(1)))
@@ -115,7 +169,8 @@ pub(crate) fn is_unlaid<S: Alter>(alloc: Global, store: &S) -> Result<bool, Book
     let starts = store.version();
     let accounts = is_absent(store.shape(0));
     let payments = is_absent(store.shape(1));
-    Ok(objects.is_empty() && starts == 0 && accounts && payments)
+    let stamp = is_absent(store.shape(2));
+    Ok(objects.is_empty() && starts == 0 && accounts && payments && stamp)
 }
 
 /// Makes an empty table, and lists it with its text.
@@ -144,25 +199,48 @@ fn create_table<S: Alter>(
     Ok(())
 }
 
-/// Makes the two tables.
-fn create_tables<S: Alter>(store: &mut S) -> Result<(), BooksError>
-    requires { IsClean (S.Store.view store.old) → IsUnlaid (S.Store.view store.old) }
+/// Lists the view with this text.
+fn create_stamp<S: Alter>(store: &mut S, text: &str) -> Result<(), BooksError>
+    requires numbered { IsClean (S.Store.view store.old) → IsTrue (S.Store.view store.old).is_numbered }
+    requires unused { IsClean (S.Store.view store.old) → (S.Store.view store.old).shape stamp_tree ≡ shapes.Absent }
+    requires unnamed { IsClean (S.Store.view store.old) → AllByRecursion (λ row. column row 2 ≢ Text (codes "books")) ((S.Store.view store.old).trees catalog_tree) }
+    ensures made { OnOk result (IsClean (S.Store.view store.new) → SetsObject (S.Store.view store.old) (S.Store.view store.new) stamp_tree shapes.Pageless 0 (put_row (stamp_row text.now))) }
+    ensures quiet { IsQuiet S.Store.view S.Store.faults S.Store.recovers S.Store.is_shielded store.old store.new }
+{
+    let object = Object {
+        shape: Shape::Pageless,
+        kind: "view",
+        name: "books",
+        table: "books",
+        reals: 0,
+        sql: Some(text),
+    };
+    store.create(2, &object)?;
+    Ok(())
+}
+
+/// Makes the two tables and the view.
+fn create_tables<S: Alter>(store: &mut S, text: &str) -> Result<(), BooksError>
+    requires unlaid { IsClean (S.Store.view store.old) → IsUnlaid (S.Store.view store.old) }
+    requires stamps { IsStampText text.now }
     ensures laid { OnOk result (IsClean (S.Store.view store.new) → Lays (S.Store.view store.old) (S.Store.view store.new)) }
     ensures quiet { IsQuiet S.Store.view S.Store.faults S.Store.recovers S.Store.is_shielded store.old store.new }
 {
     create_table(store, 0, "account", ACCOUNT)?;
-    create_table(store, 1, "payment", PAYMENT)
+    create_table(store, 1, "payment", PAYMENT)?;
+    create_stamp(store, text)
 }
 
-/// Makes the two tables in a store that lists nothing, in one commit. A crash at any moment of it leaves what could be left
+/// Makes the two tables and the view in a store that lists nothing, in one commit. A crash at any moment of it leaves what could be left
 /// before, or books without accounts.
-pub(crate) fn make<S: Alter>(store: &mut S) -> Result<(), BooksError>
-    requires { IsClean (S.Store.view store.old) → IsUnlaid (S.Store.view store.old) }
+pub(crate) fn make<S: Alter>(store: &mut S, text: &str) -> Result<(), BooksError>
+    requires unlaid { IsClean (S.Store.view store.old) → IsUnlaid (S.Store.view store.old) }
+    requires stamps { IsStampText text.now }
     ensures ready { OnOk result (IsClean (S.Store.view store.new) → IsReady (S.Store.view store.new)) }
     ensures made { OnOk result (IsClean (S.Store.view store.new) → AreBooks (S.Store.view store.new).trees 0 [] [] []) }
     ensures clean { IsClean (S.Store.view store.new) → IsClean (S.Store.view store.old) }
     ensures any_moment { IsClean (S.Store.view store.new) → (db : Trees) → S.Store.recovers store.new db → S.Store.recovers store.old db ⊎ AreBooks db 0 [] [] [] }
 {
-    let entered = create_tables(store);
+    let entered = create_tables(store, text);
     conclude(store, entered)
 }

@@ -1,12 +1,14 @@
 //! What neighbours owe and are owed, in an SQLite database: the books.
 //!
 //! `Books::book` commits bookings: at `Ok` each crash leaves books that have them, and during the call a crash leaves the
-//! books from before or with all of them. `pay` takes a payment outside Interledger off a sum, and keeps a line of it.
+//! books from before or with all of them. `pay` takes a payment outside Interledger off a
+//! sum, or adds an adjustment, and keeps a line of it, by whose reference `entered` finds it.
 //! `begin_life` counts the starts. `open` finds the books that a crash left.
 #![tactic(auto)]
 
 mod balance;
 mod books;
+mod continuing;
 mod damage;
 mod error;
 mod existing;
@@ -14,13 +16,15 @@ mod frames;
 mod laws;
 mod laying;
 mod lines;
+mod looking;
 mod making;
 mod names;
 mod opening;
 mod paying;
+mod stamp;
 mod table;
 
-pub use balance::{Amounts, Payment, Side};
+pub use balance::{Amounts, Entry, Kind, Payment, Side};
 pub use books::Books;
 pub use error::BooksError;
 pub use existing::{open_existing, open_existing_files};

@@ -1,12 +1,14 @@
 //! Rows that are read as lines of the two tables.
 
-ghost use Rattle.std.specs.Prelude.{◌≡◌, ◌+◌, pos, IsTrue, IfSome};
+ghost use Rattle.std.specs.Prelude.{◌≡◌, ◌≢◌, ◌+◌, ◌++◌, pos, length, List, ℕ, None, IsTrue, IfSome};
 ghost use Rattle.sqlite_value.specs.declared.value.Value.TheVariants.{Null, Int, Text};
 ghost use Rattle.sqlite_value.specs.Order.{column};
-ghost use Rattle.st_books.specs.Payments.{side_text, payment_line};
+ghost use Rattle.st_books.specs.declared.balance.Kind.{Kind};
+ghost use Rattle.st_books.specs.declared.balance.Kind.TheVariants.{Paid, Adjusted};
+ghost use Rattle.st_books.specs.Payments.{sign_text, side_text, payment_line};
 ghost use Rattle.st_books.specs.Table.{line};
 
-use crate::balance::{Amounts, Side};
+use crate::balance::{Amounts, Kind, Side};
 use sqlite_value::row::Row;
 use sqlite_value::value::ValueRef;
 
@@ -20,8 +22,10 @@ pub(crate) fn count_in(row: &Row, at: usize) -> Option<u64>
     }
 }
 
+/// The text in a column, where it is one.
 pub(crate) fn text_in(row: &Row, at: usize) -> Option<&[u8]>
-    ensures { IfSome result (λ t. column row.now at ≡ Text t.now) }
+    ensures text { IfSome result (λ t. column row.now at ≡ Text t.now) }
+    ensures none { result ≡ None → (t : List ℕ) → column row.now at ≢ Text t }
 {
     match row.get(at) {
         ValueRef::Text(text) => Some(text),
@@ -55,33 +59,86 @@ pub(crate) fn line_in(row: &Row, at: usize) -> Option<(&[u8], Amounts)>
     Some((name, Amounts { claims, dues }))
 }
 
-fn side_in(row: &Row, at: usize) -> Option<Side>
-    ensures { IfSome result (λ side. column row.now at ≡ Text (side_text side)) }
+/// What a plus in front of the text of an entry says, and what is behind it.
+fn kind_in(text: &[u8]) -> (Kind, &[u8])
+    ensures { text.now ≡ sign_text result.0 ++ result.1.now }
 {
-    let text = text_in(row, at)?;
-    if text == b"claims".as_slice() {
-        return Some(Side::Claims);
+    match text.strip_prefix(b"+") {
+        Some(rest) => (Kind::Adjusted, rest),
+        None => (Kind::Paid, text),
     }
-    if text == b"dues".as_slice() {
-        return Some(Side::Dues);
+}
+
+/// The side that a text begins with, and what is behind it.
+fn side_in(text: &[u8]) -> Option<(Side, &[u8])>
+    ensures { IfSome result (λ s. text.now ≡ side_text s.0 ++ s.1.now) }
+{
+    if let Some(rest) = text.strip_prefix(b"claims") {
+        return Some((Side::Claims, rest));
+    }
+    let rest = text.strip_prefix(b"dues")?;
+    Some((Side::Dues, rest))
+}
+
+/// The parts of a payment's line.
+#[derive(Clone, Copy)]
+pub(crate) struct PaymentLine<'a> {
+    name: &'a [u8],
+    text: &'a [u8],
+    kind: Kind,
+    side: Side,
+    // A space and the reference, or nothing.
+    rest: &'a [u8],
+    amount: u64,
+    /// When it was booked, in milliseconds since 1970.
+    pub(crate) moment: u64,
+}
+
+/// Whether a row has six columns, and begins as the line behind so many.
+fn is_next(row: &Row, before: u64) -> bool
+    ensures { IsTrue result → (length row.now ≡ 6) × (column row.now 0 ≡ Int (pos (before + 1))) × (column row.now 1 ≡ Null) }
+{
+    if row.len() != 6 || !is_null(row, 1) {
+        return false;
+    }
+    let Some(id) = count_in(row, 0) else {
+        return false;
+    };
+    before.checked_add(1) == Some(id)
+}
+
+/// What stands behind a side: nothing, or a space and the reference.
+fn reference_in(rest: &[u8]) -> Option<&[u8]>
+    ensures { IfSome result (λ r. r.now ≡ rest.now) }
+{
+    if rest.is_empty() || rest.starts_with(b" ") {
+        return Some(rest);
     }
     None
 }
 
-/// The name, the side, the amount and the moment of a payment's line, where the row is the line behind so many.
-pub(crate) fn payment_in(row: &Row, before: u64) -> Option<(&[u8], Side, u64, u64)>
-    ensures { IfSome result (λ p. row.now ≡ payment_line (before + 1) p.0.now p.1 p.2 p.3) }
+/// The parts of a payment's line, where the row is the line behind so many.
+pub(crate) fn payment_in(row: &Row, before: u64) -> Option<PaymentLine<'_>>
+    ensures line { IfSome result (λ p. row.now ≡ payment_line (before + 1) p.name.now p.text.now p.amount p.moment) }
+    ensures text { IfSome result (λ p. p.text.now ≡ sign_text p.kind ++ side_text p.side ++ p.rest.now) }
 {
-    if row.len() != 6 || !is_null(row, 1) {
-        return None;
-    }
-    let id = count_in(row, 0)?;
-    if before.checked_add(1) != Some(id) {
+    if !is_next(row, before) {
         return None;
     }
     let name = text_in(row, 2)?;
-    let side = side_in(row, 3)?;
+    let text = text_in(row, 3)?;
+    let (kind, unsigned) = kind_in(text);
+    let (side, rest) = side_in(unsigned)?;
+    let rest = reference_in(rest)?;
     let amount = count_in(row, 4)?;
     let moment = count_in(row, 5)?;
-    Some((name, side, amount, moment))
+    Some(PaymentLine {
+        name,
+        text,
+        kind,
+        side,
+        rest,
+        amount,
+        moment,
+    })
 }

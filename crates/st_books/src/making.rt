@@ -17,7 +17,7 @@ use std::alloc::Global;
 use std::io;
 
 /// The page size of a new file, which SQLite's kit makes.
-const NEW_SIZE: usize = 4096;
+pub(crate) const NEW_SIZE: usize = 4096;
 
 /// The format's version in the header of a log.
 const VERSION: u32 = 3007000;
@@ -32,7 +32,7 @@ pub(crate) const LEAST_LEN: usize = 100;
 const EMPTY_LEN: usize = 41;
 
 /// Why the files were not read.
-fn refusal_of_log(error: sqlite_wal::Error) -> BooksError {
+pub(crate) fn refusal_of_log(error: sqlite_wal::Error) -> BooksError {
     match error {
         sqlite_wal::Error::OutOfMemory => BooksError::NoMemory,
         sqlite_wal::Error::Io(_) => BooksError::Device,
@@ -92,7 +92,7 @@ pub(crate) fn refuse_damage<D: Disk>(alloc: Global, log: &mut D) -> Result<(), B
 }
 
 /// Whether the log has the header with which a new database begins, and which no later call writes.
-fn is_begun<D: Disk>(log: &mut D) -> io::Result<bool>
+pub(crate) fn is_begun<D: Disk>(log: &mut D) -> io::Result<bool>
     requires { IsTrue (D.Disk.is_usable log.old) }
     ensures found { IfOk result (λ b. IsClean D.Disk log.new → IsTrue b → IsBegun 4096 (D.Disk.seen log.old)) }
     ensures same { OnlyReads D.Disk log.old log.new }

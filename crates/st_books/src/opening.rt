@@ -1,6 +1,6 @@
 //! Books in a file.
 
-ghost use Rattle.std.specs.Prelude.{◌≡◌, false, length, IsTrue, IfOk, OnOk};
+ghost use Rattle.std.specs.Prelude.{◌≡◌, false, length, List, ℕ, IsTrue, IfOk, IfSome, OnOk};
 ghost use Rattle.sqlite_trees.specs.Objects.{catalog_tree};
 ghost use Rattle.sqlite_trees.specs.View.{IsClean, IsQuiet};
 ghost use Rattle.sqlite.specs.Steps.{IsFresh};
@@ -10,19 +10,22 @@ ghost use Rattle.sqlite_store.specs.FileStore.{view};
 ghost use Rattle.sqlite.specs.Files.{image_of};
 ghost use Rattle.sqlite.specs.State.{HasCleanDisk};
 ghost use Rattle.sqlite.specs.Held.{state};
-ghost use Rattle.st_books.specs.Payments.{ArePayments};
-ghost use Rattle.st_books.specs.Table.{payment_tree, lines, AreDistinct, ListsTables};
+ghost use Rattle.st_books.specs.Payments.{ArePayments, tally_of};
+ghost use Rattle.st_books.specs.Stamp.{IsStampText};
+ghost use Rattle.st_books.specs.Table.{payment_tree, lines, AreDistinct, ListsTables, IsOf};
 ghost use Rattle.st_books.specs.Standing.{IsReady, ReadsOnly, Takes};
 ghost use Rattle.st_books.specs.Found.{FindsWhole};
 
-use crate::balance::Amounts;
+use crate::balance::{Amounts, Tally};
 use crate::books::Books;
+use crate::continuing::refuse_strange_log;
 use crate::error::BooksError;
 use crate::existing::{files_at, options_of, refuse_lone_log};
 use crate::laying::{is_absent, is_unlaid, lists_books, make};
 use crate::lines::{line_in, payment_in};
 use crate::making::may_make;
 use crate::names::place_of;
+use crate::stamp::{new_identity, new_stamp};
 use sqlite::{Connection, Error, ErrorCode, FileFrom, FileStore, Files, Options, Start};
 use sqlite_disk::Disk;
 use sqlite_trees::store::{Alter, Direction, Store};
@@ -79,40 +82,46 @@ fn let_go<S: Alter + Drop>(conn: Connection<S>) -> S
     conn.into_store()
 }
 
-/// Counts the lines of the second table. Refuses with `NoBooks` where a row is no line of a payment or stands at another place
+/// Counts the lines of the second table, and finds the moment of the last one. Refuses with `NoBooks` where a row is no line of a payment or stands at another place
 /// than its id.
-fn count_payments<S: Alter>(store: &mut S, row: &mut Row) -> Result<u64, BooksError>
+fn count_payments<S: Alter>(store: &mut S, row: &mut Row) -> Result<Tally, BooksError>
     requires { IsClean (S.Store.view store.old) → (S.Store.view store.old).shape payment_tree ≡ shapes.Table }
     ensures lawful { OnOk result (IsClean (S.Store.view store.new) → ArePayments ((S.Store.view store.old).trees payment_tree)) }
-    ensures counted { IfOk result (λ n. IsClean (S.Store.view store.new) → length ((S.Store.view store.old).trees payment_tree) ≡ n) }
+    ensures counted { IfOk result (λ t. IsClean (S.Store.view store.new) → tally_of ((S.Store.view store.old).trees payment_tree) ≡ t) }
     ensures same { OnOk result (IsClean (S.Store.view store.new) → ReadsOnly (S.Store.view store.old) (S.Store.view store.new)) }
     ensures quiet { IsQuiet S.Store.view S.Store.faults S.Store.recovers S.Store.is_shielded store.old store.new }
 {
     row.clear();
     store.seek(0, 1, row, Direction::Forward)?;
-    'rows: for n in 0..u64::MAX {
+    let mut latest = 0;
+    'rows: for lines in 0..u64::MAX {
         if !store.next(0, row)? {
-            return Ok(n);
+            return Ok(Tally { lines, latest });
         }
-        match payment_in(row, n) {
-            Some(_) => {}
-            None => return Err(BooksError::NoBooks),
-        }
+        let Some(line) = payment_in(row, lines) else {
+            return Err(BooksError::NoBooks);
+        };
+        latest = line.moment;
     }
     Err(BooksError::NoMemory)
 }
 
-/// The books of a store that has their tables.
-fn books_in<S: Alter + Drop>(alloc: Global, mut store: S) -> Result<Books<S>, BooksError>
+/// The books of a store that has their tables, and which are of this address, if one is asked for.
+fn books_in<S: Alter + Drop>(
+    alloc: Global,
+    mut store: S,
+    own: Option<&str>,
+) -> Result<Books<S>, BooksError>
     requires { IsClean (S.Store.view store) → IsTrue (S.Store.view store).is_open → (S.Store.view store).shape 0 ≡ shapes.Table → (S.Store.view store).shape payment_tree ≡ shapes.Table → IsReady (S.Store.view store) }
     ensures clean { IfOk result (λ b. IsClean (S.Store.view b.store) → IsClean (S.Store.view store)) }
     ensures taken { IfOk result (λ b. IsClean (S.Store.view b.store) → Takes S.Store (S.Store.view store).trees b) }
     ensures listed { IfOk result (λ b. IsClean (S.Store.view b.store) → ListsTables ((S.Store.view store).trees catalog_tree)) }
+    ensures own { IfOk result (λ b. IsClean (S.Store.view b.store) → IfSome own.entry (λ a. IsOf a.now ((S.Store.view b.store).committed catalog_tree))) }
 {
     if store.is_broken() {
         return Err(BooksError::Shut);
     }
-    if !lists_books(alloc, &store)? {
+    if !lists_books(alloc, &store, own)? {
         return Err(BooksError::NoBooks);
     }
     let starts = store.version();
@@ -122,37 +131,49 @@ fn books_in<S: Alter + Drop>(alloc: Global, mut store: S) -> Result<Books<S>, Bo
     Ok(Books::over(alloc, store, row, starts, names, amounts, paid))
 }
 
-/// New books, in a store that lists nothing and counts no start.
-fn new_books<S: Alter + Drop>(alloc: Global, mut store: S) -> Result<Books<S>, BooksError>
-    requires { IsClean (S.Store.view store) → IsFresh (S.Store.view store) }
+/// New books, in a store that lists nothing and counts no start. This is the text of their view.
+fn new_books<S: Alter + Drop>(
+    alloc: Global,
+    mut store: S,
+    own: Option<&str>,
+    text: &str,
+) -> Result<Books<S>, BooksError>
+    requires fresh { IsClean (S.Store.view store) → IsFresh (S.Store.view store) }
+    requires stamps { IsStampText text.now }
     ensures clean { IfOk result (λ b. IsClean (S.Store.view b.store) → IsClean (S.Store.view store)) }
     ensures taken { IfOk result (λ b. IsClean (S.Store.view b.store) → IsTrue (S.Store.view store).is_open → Takes S.Store (S.Store.view store).trees b) }
+    ensures own { IfOk result (λ b. IsClean (S.Store.view b.store) → IfSome own.entry (λ a. IsOf a.now ((S.Store.view b.store).committed catalog_tree))) }
 {
     if !is_unlaid(alloc, &store)? {
         return Err(BooksError::NoBooks);
     }
-    make(&mut store)?;
-    books_in(alloc, store)
+    make(&mut store, text)?;
+    books_in(alloc, store, own)
 }
 
-/// The books of a database. Where it lists nothing they are made, if they may be.
+/// The books of a database, which are of this address, if one is asked for. Where it lists nothing they are made with this text
+/// of their view, if they may be.
 pub(crate) fn books_of<S: Alter + Drop>(
     alloc: Global,
     conn: Connection<S>,
     may_make: bool,
+    own: Option<&str>,
+    text: &str,
 ) -> Result<Books<S>, BooksError>
+    requires { IsTrue may_make → IsStampText text.now }
     ensures clean { IfOk result (λ b. IsClean (S.Store.view b.store) → HasCleanDisk (state S.Store conn)) }
     ensures taken { IfOk result (λ b. IsClean (S.Store.view b.store) → Takes S.Store (state S.Store conn).committed.trees b) }
     ensures listed { IfOk result (λ b. may_make ≡ false → IsClean (S.Store.view b.store) → ListsTables ((state S.Store conn).committed.trees catalog_tree)) }
+    ensures own { IfOk result (λ b. IsClean (S.Store.view b.store) → IfSome own.entry (λ a. IsOf a.now ((S.Store.view b.store).committed catalog_tree))) }
 {
     let store = let_go(conn);
     if store.is_broken() {
         return Err(BooksError::Shut);
     }
     if may_make && is_absent(store.shape(0)) {
-        new_books(alloc, store)
+        new_books(alloc, store, own, text)
     } else {
-        books_in(alloc, store)
+        books_in(alloc, store, own)
     }
 }
 
@@ -169,19 +190,23 @@ pub(crate) fn refusal_of(error: Error) -> BooksError {
     }
 }
 
-/// Opens the books of a database file and its log on any disk, as `open` does.
+/// Opens the books of a database file and its log on any disk, as `open` does. New books get this identity.
 pub fn open_files<D: Disk + Drop>(
     alloc: Global,
     mut files: Files<D>,
     options: Options,
+    identity: &str,
+    own: &str,
 ) -> Result<Books<FileStore<D>>, BooksError>
     requires log { IsTrue (D.Disk.is_usable files.log) }
     requires db { IsTrue (D.Disk.is_usable files.db) }
-    ensures { IfOk result (λ b. IsClean (view b.store) → FindsWhole (image_of D.Disk files) b) }
+    ensures { IfOk result (λ b. IsClean (view b.store) → FindsWhole own.now (image_of D.Disk files) b) }
 {
+    let text = new_stamp(alloc, identity, own)?;
     let may_make = may_make(alloc, &mut files)?;
+    refuse_strange_log(alloc, &mut files)?;
     let books = match Connection::open_files_with(alloc, files, options, true) {
-        Ok(conn) => books_of(alloc, conn, may_make)?,
+        Ok(conn) => books_of(alloc, conn, may_make, Some(own), text.as_str())?,
         Err((error, _)) => return Err(refusal_of(error)),
     };
     books.folded()
@@ -192,18 +217,24 @@ pub fn open_files<D: Disk + Drop>(
 /// Each page of a new file ends in a sum of its bytes, so that a changed byte is found: `Damaged`. An sqlite3 without the
 /// extension cksumvfs may read such a file, and must not write it.
 ///
+/// New books say what they are, in a view that sqlite3 shows: the version of their tables, an identity of 16 random bytes, and
+/// the address of the connector that keeps them. Those of another address or version, or without that view, are refused with
+/// `NoBooks`.
+///
 /// After a crash it finds the books that the crash left. The log is then folded into the file. Refuses with `NoBooks` where the
 /// file holds something else, where the log is damaged, and where the log is there without its file, and leaves them; with
 /// `Taken` where another process has the file.
 pub fn open<S: Start>(
     rt: &HostRuntime,
     path: &str,
+    own: &str,
     start: S,
 ) -> Result<Books<FileStore<FileFrom<S>>>, BooksError>
-    ensures { IfOk result (λ b. IsClean (view b.store) → FindsWhole (image_at S.Start) b) }
+    ensures { IfOk result (λ b. IsClean (view b.store) → FindsWhole own.now (image_at S.Start) b) }
 {
     refuse_lone_log(rt, path)?;
     let options = options_of(rt)?;
+    let identity = new_identity(rt)?;
     let files = files_at(rt, path, start)?;
-    open_files(rt.alloc(), files, options)
+    open_files(rt.alloc(), files, options, identity.as_str(), own)
 }

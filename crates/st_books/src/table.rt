@@ -4,16 +4,16 @@ ghost use Rattle.std.specs.Prelude.{◌≡◌, ◌⊎◌, ◌+◌, ◌^◌, ◌<
 ghost use Rattle.sqlite_disk.specs.Disk.{MoreFaults};
 ghost use Rattle.sqlite_trees.specs.Tree.{Trees, put_row};
 ghost use Rattle.sqlite_trees.specs.Objects.{version_tree, version_rows};
-ghost use Rattle.sqlite_trees.specs.View.{IsClean, IsQuiet, IsRolledBack, Commits, OnlyWrites, SetsTree, IsStorableRow};
+ghost use Rattle.sqlite_trees.specs.View.{IsClean, IsQuiet, IsRolledBack, Commits, KeepsCommitted, OnlyWrites, SetsTree, IsStorableRow};
 ghost use Rattle.sqlite_trees.specs.declared.store.Shape.TheVariants as shapes;
 ghost use Rattle.st_books.specs.declared.error.BooksError.TheVariants.{NoMemory, TooMuch};
 ghost use Rattle.st_books.specs.Sums.{nothing, booked, booked_one, IsAbove, IsOfNoAccount, Overflows};
 ghost use Rattle.st_books.specs.Table.{line, AreBooks};
-ghost use Rattle.st_books.specs.Standing.{Holds, Draws, Keeps, payments_in};
+ghost use Rattle.st_books.specs.Standing.{Holds, Draws, Keeps, ReadsOnly, payments_in};
 ghost use Rattle.st_books.specs.Reasons.{Because, HasBadName, no_excuse, excuses};
 ghost use Rattle.st_books.specs.Commits.{booking_excuses, name_excuses, start_excuses};
 
-use crate::balance::Amounts;
+use crate::balance::{Amounts, Tally};
 use crate::error::BooksError;
 use sqlite_trees::store::Alter;
 use sqlite_value::row::Row;
@@ -150,6 +150,27 @@ fn enter_all<S: Alter>(
     Ok(())
 }
 
+/// What was entered, with the count of starts written once more as it is. So the commit writes the first page, whose schema
+/// cookie counts the commits.
+fn counted_commit<S: Alter>(
+    store: &mut S,
+    entered: Result<(), BooksError>,
+) -> Result<(), BooksError>
+    ensures entered { OnOk result (IsOk entered) }
+    ensures same { OnOk result (IsClean (S.Store.view store.new) → ReadsOnly (S.Store.view store.old) (S.Store.view store.new)) }
+    ensures keeps { IsClean (S.Store.view store.new) → KeepsCommitted (S.Store.view store.old) (S.Store.view store.new) }
+    ensures quiet { IsQuiet S.Store.view S.Store.faults S.Store.recovers S.Store.is_shielded store.old store.new }
+    ensures cause { IsClean (S.Store.view store.new) → IfErr result (λ e. (entered ≡ Err e) ⊎ (IsOk entered × Because (S.Store.view store.old) (MoreFaults (S.Store.faults store.old) (S.Store.faults store.new)) no_excuse e)) }
+{
+    match entered {
+        Ok(()) => {}
+        Err(error) => return Err(error),
+    }
+    let starts = store.version();
+    store.set_version(starts)?;
+    Ok(())
+}
+
 /// Commits what was entered, or rolls back where something was refused.
 pub(crate) fn conclude<S: Alter>(
     store: &mut S,
@@ -157,13 +178,13 @@ pub(crate) fn conclude<S: Alter>(
 ) -> Result<(), BooksError>
     ensures entered { OnOk result (IsOk entered) }
     ensures committed { OnOk result (IsClean (S.Store.view store.new) → Commits (S.Store.view store.old) (S.Store.view store.new)) }
-    ensures undone { OnErr result (IsRolledBack (S.Store.view store.old) (S.Store.view store.new)) }
+    ensures undone { OnErr result (IsClean (S.Store.view store.new) → IsRolledBack (S.Store.view store.old) (S.Store.view store.new)) }
     ensures clean { IsClean (S.Store.view store.new) → IsClean (S.Store.view store.old) }
-    ensures crash { (db : Trees) → S.Store.recovers store.new db → (IsOk entered × ((S.Store.view store.old).is_broken ≡ false) × (db ≡ (S.Store.view store.old).trees)) ⊎ S.Store.recovers store.old db }
+    ensures crash { IsClean (S.Store.view store.new) → (db : Trees) → S.Store.recovers store.new db → (IsOk entered × ((S.Store.view store.old).is_broken ≡ false) × (db ≡ (S.Store.view store.old).trees)) ⊎ S.Store.recovers store.old db }
     ensures counts { S.Store.faults store.old ≤ S.Store.faults store.new }
     ensures cause { IsClean (S.Store.view store.new) → IfErr result (λ e. (entered ≡ Err e) ⊎ (IsOk entered × Because (S.Store.view store.old) (MoreFaults (S.Store.faults store.old) (S.Store.faults store.new)) no_excuse e)) }
 {
-    match entered {
+    match counted_commit(store, entered) {
         Ok(()) => {
             store.commit()?;
             Ok(())
@@ -181,7 +202,7 @@ pub(crate) fn commit_bookings<S: Alter>(
     store: &mut S,
     row: &mut Row,
     _starts: u32,
-    _paid: u64,
+    _paid: Tally,
     names: &[Bytes],
     draft: &mut [Amounts],
     bookings: &[Booking],
@@ -223,7 +244,7 @@ pub(crate) fn commit_account<S: Alter>(
     store: &mut S,
     row: &mut Row,
     _starts: u32,
-    _paid: u64,
+    _paid: Tally,
     names: &[Bytes],
     amounts: &[Amounts],
     name: &Bytes,
@@ -256,7 +277,7 @@ pub(crate) fn commit_starts<S: Alter>(
     store: &mut S,
     _before: u32,
     starts: u32,
-    _paid: u64,
+    _paid: Tally,
     names: &[Bytes],
     amounts: &[Amounts],
 ) -> Result<(), BooksError>

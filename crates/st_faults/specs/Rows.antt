@@ -783,11 +783,12 @@ rows =
       home = codes "st_commands";
       variant = codes "Fault::Input";
       places = codes "frames" ∷
+          codes "local" ∷
           codes "send" ∷
           codes "connector" ∷
           [];
-      cause = codes "In `frames` and `connector`: standard input cannot be read. In `send` and `connector`: it is" ∷
-          codes "closed; nothing was opened or sent." ∷
+      cause = codes "In `frames` and `connector`: standard input cannot be read. In `send`, `connector` and `local" ∷
+          codes "--totals`: it is closed; nothing was opened or sent." ∷
           [];
       advice = codes "What to do: Look at the file behind `<`." ∷ [];
     } ∷
@@ -828,16 +829,17 @@ rows =
       home = codes "st_commands";
       variant = codes "Fault::Output";
       places = codes "frames" ∷
+          codes "local" ∷
           codes "send" ∷
           codes "receive" ∷
           codes "connector" ∷
           codes "ledger" ∷
           codes "explain" ∷
           [];
-      cause = codes "In `frames`, `ledger` and `explain`: the output cannot be written. In `receive` and `ledger`:" ∷
-          codes "standard output is closed; nothing else was done. In `send`, `receive` and `connector`: the" ∷
-          codes "totals cannot be written to the file of `--totals`, or lines wait at the end that could not be" ∷
-          codes "written to that of `--log`, and there was no other fault." ∷
+      cause = codes "In `frames`, `ledger` and `explain`: the output cannot be written. In `receive`, `ledger` and" ∷
+          codes "`local --totals`: standard output is closed; nothing else was done. In `send`, `receive`," ∷
+          codes "`connector` and `local`: the totals cannot be written to the file of `--totals`, or lines wait" ∷
+          codes "at the end that could not be written to that of `--log`, and there was no other fault." ∷
           [];
       advice = codes "What to do: Make room. Totals and lines that were not written are lost; all else was done." ∷ [];
     } ∷
@@ -870,6 +872,7 @@ rows =
       home = codes "st_commands";
       variant = codes "Fault::Turns";
       places = codes "frames" ∷
+          codes "local" ∷
           codes "connector" ∷
           codes "ledger" ∷
           codes "explain" ∷
@@ -965,10 +968,10 @@ rows =
       cause = codes "The text of an option or an argument is bad. A number has no plus in front, a secret has 64" ∷
           codes "hexadecimal digits, an address is an ILP address, and `--least` is NUM:DEN. A token and a" ∷
           codes "HOST:PORT are such as a request may have, and `ledger --help` says what a payment is. Or the" ∷
-          codes "file of `--totals` or `--log` cannot be opened; in `connector`, no file can be made beside that" ∷
-          codes "of `--totals`. Or that of `--token-file` or `--secret-file` cannot be read, or its first line is" ∷
-          codes "no token or no secret. Or that of `--control` is no pipe, or cannot be opened; or that of" ∷
-          codes "`--table` cannot be read." ∷
+          codes "file of `--totals` or `--log` cannot be opened; in `connector` and `local`, no file can be made" ∷
+          codes "beside that of `--totals`. Or that of `--token-file` or `--secret-file` cannot be read, or its" ∷
+          codes "first line is no token or no secret. Or that of `--control` is no pipe, or cannot be opened; or" ∷
+          codes "that of `--table` cannot be read." ∷
           [];
       advice = codes "What to do: Correct the option or the file. Nothing else was opened, and nothing was sent." ∷ [];
     } ∷
@@ -977,6 +980,7 @@ rows =
       home = codes "st_commands";
       variant = codes "Fault::NoMemory";
       places = codes "frames" ∷
+          codes "local" ∷
           codes "send" ∷
           codes "receive" ∷
           codes "connector" ∷
@@ -992,10 +996,12 @@ rows =
       places = codes "connector" ∷
           codes "ledger" ∷
           [];
-      cause = codes "In `connector --ledger` and `ledger`: out of memory for what the books have. After `settle` the" ∷
-          codes "payment may be booked." ∷
+      cause = codes "In `connector --ledger` and `ledger`: out of memory for what the books have. After `settle` or" ∷
+          codes "`adjust` the entry may be booked." ∷
           [];
-      advice = codes "What to do: Give the process more memory. After `settle` look with `ledger FILE` first." ∷ [];
+      advice = codes "What to do: Give the process more memory. After `settle` or `adjust` look with `ledger FILE`" ∷
+          codes "first, or give it again with the same reference." ∷
+          [];
     } ∷
     record {
       number = 99;
@@ -1035,12 +1041,15 @@ rows =
           codes "ledger" ∷
           [];
       cause = codes "The file holds no books: it is no database, has other tables, a row that is no line of its" ∷
-          codes "table, or a name twice. Or its log is damaged, or the log is there without the file. Both are" ∷
-          codes "left as they are. Where books have to be there already: no file, or an empty one. None is made." ∷
+          codes "table, or a name twice. Or it lacks the view `books`, or has another version in it, or, in" ∷
+          codes "`connector --ledger`, another address than `--own`. Or its log is damaged, does not continue the" ∷
+          codes "file, or is there without the file. Both are left as they are. Where books have to be there" ∷
+          codes "already: no file, or an empty one. None is made." ∷
           [];
-      advice = codes "What to do: Name the right file. Where the log is damaged or the file is gone, put the last copy" ∷
-          codes "of both files back, and compare the sums with each neighbour. A table, an index or a trigger" ∷
-          codes "that was added by hand has to be dropped." ∷
+      advice = codes "What to do: Name the right file. Where the log is damaged or of another moment than the file, or" ∷
+          codes "the file is gone, put the last copy of both files back, and compare the sums with each" ∷
+          codes "neighbour. A table, an index or a trigger that was added by hand has to be dropped. Books that" ∷
+          codes "were made before they had the view `books` cannot be read: make new ones." ∷
           [];
     } ∷
     record {
@@ -1111,8 +1120,8 @@ rows =
       places = codes "connector" ∷
           codes "ledger" ∷
           [];
-      cause = codes "A sum of an account would be above 2^63 - 1, or the starts above 2^32 - 1; or a payment or its" ∷
-          codes "moment is above 2^63 - 1. Nothing changes." ∷
+      cause = codes "A sum of an account would be above 2^63 - 1, or the starts above 2^32 - 1; or an entry by hand" ∷
+          codes "or its moment is above 2^63 - 1. Nothing changes." ∷
           [];
       advice = codes "What to do: Settle with the neighbour, and take what was paid off the sums." ∷ [];
     } ∷
@@ -1173,5 +1182,25 @@ rows =
           codes "Nothing was written, and nothing was listened to." ∷
           [];
       advice = codes "What to do: Raise LIMIT, or settle with the neighbour first." ∷ [];
+    } ∷
+    record {
+      number = 125;
+      home = codes "st_ledger";
+      variant = codes "LedgerError::Reused";
+      places = codes "ledger" ∷ [];
+      cause = codes "In `ledger`: the books have an entry of this account and side with this reference, and another" ∷
+          codes "amount; or one was to be added and the other to be taken off. Nothing changes." ∷
+          [];
+      advice = codes "What to do: Look at the table `payment`, and give what is new a reference of its own." ∷ [];
+    } ∷
+    record {
+      number = 126;
+      home = codes "st_program";
+      variant = codes "LocalError::PastBound";
+      places = codes "local" ∷ [];
+      cause = codes "In `local --totals`: more Prepares were sent than the bound of the file. The output and the file" ∷
+          codes "were written whole." ∷
+          [];
+      advice = codes "What to do: Report it with the input and the options: no such run is known." ∷ [];
     } ∷
     []

@@ -492,9 +492,9 @@ const FAULT_89: &str = "89  st_file FileError::Closed, in send
     What to do: Give the process more memory, and begin again.
 ";
 
-const FAULT_90: &str = "90  st_commands Fault::Input, in frames, send, connector
-    In `frames` and `connector`: standard input cannot be read. In `send` and `connector`: it is
-    closed; nothing was opened or sent.
+const FAULT_90: &str = "90  st_commands Fault::Input, in frames, local, send, connector
+    In `frames` and `connector`: standard input cannot be read. In `send`, `connector` and `local
+    --totals`: it is closed; nothing was opened or sent.
     What to do: Look at the file behind `<`.
 90  st_file FileError::ReadFault, in send
     In `send`: standard input cannot be read.
@@ -511,11 +511,11 @@ const FAULT_90: &str = "90  st_commands Fault::Input, in frames, send, connector
 ";
 
 const FAULT_91: &str =
-    "91  st_commands Fault::Output, in frames, send, receive, connector, ledger, explain
-    In `frames`, `ledger` and `explain`: the output cannot be written. In `receive` and `ledger`:
-    standard output is closed; nothing else was done. In `send`, `receive` and `connector`: the
-    totals cannot be written to the file of `--totals`, or lines wait at the end that could not be
-    written to that of `--log`, and there was no other fault.
+    "91  st_commands Fault::Output, in frames, local, send, receive, connector, ledger, explain
+    In `frames`, `ledger` and `explain`: the output cannot be written. In `receive`, `ledger` and
+    `local --totals`: standard output is closed; nothing else was done. In `send`, `receive`,
+    `connector` and `local`: the totals cannot be written to the file of `--totals`, or lines wait
+    at the end that could not be written to that of `--log`, and there was no other fault.
     What to do: Make room. Totals and lines that were not written are lost; all else was done.
 91  st_file FileError::WriteFault, in receive
     In `receive`: the output cannot be written, for example on a full disk or to a closed pipe.
@@ -530,7 +530,7 @@ const FAULT_92: &str = "92  st_file FileError::Aborted, in receive
     What to do: Ask the sender. What is written is a beginning of the file.
 ";
 
-const FAULT_93: &str = "93  st_commands Fault::Turns, in frames, connector, ledger, explain
+const FAULT_93: &str = "93  st_commands Fault::Turns, in frames, local, connector, ledger, explain
     2,147,483,647 reads, writes and flushes were used up.
     What to do: Give the input in smaller parts.
 93  st_file FileError::Turns, in send, receive
@@ -578,21 +578,22 @@ const FAULT_98: &str =
     The text of an option or an argument is bad. A number has no plus in front, a secret has 64
     hexadecimal digits, an address is an ILP address, and `--least` is NUM:DEN. A token and a
     HOST:PORT are such as a request may have, and `ledger --help` says what a payment is. Or the
-    file of `--totals` or `--log` cannot be opened; in `connector`, no file can be made beside that
-    of `--totals`. Or that of `--token-file` or `--secret-file` cannot be read, or its first line is
-    no token or no secret. Or that of `--control` is no pipe, or cannot be opened; or that of
-    `--table` cannot be read.
+    file of `--totals` or `--log` cannot be opened; in `connector` and `local`, no file can be made
+    beside that of `--totals`. Or that of `--token-file` or `--secret-file` cannot be read, or its
+    first line is no token or no secret. Or that of `--control` is no pipe, or cannot be opened; or
+    that of `--table` cannot be read.
     What to do: Correct the option or the file. Nothing else was opened, and nothing was sent.
 ";
 
 const FAULT_99: &str =
-    "99  st_commands Fault::NoMemory, in frames, send, receive, connector, explain
+    "99  st_commands Fault::NoMemory, in frames, local, send, receive, connector, explain
     Out of memory for a line, a text, a table or the arguments.
     What to do: Give the process more memory.
 99  st_ledger LedgerError::NoMemory, in connector, ledger
-    In `connector --ledger` and `ledger`: out of memory for what the books have. After `settle` the
-    payment may be booked.
-    What to do: Give the process more memory. After `settle` look with `ledger FILE` first.
+    In `connector --ledger` and `ledger`: out of memory for what the books have. After `settle` or
+    `adjust` the entry may be booked.
+    What to do: Give the process more memory. After `settle` or `adjust` look with `ledger FILE`
+    first, or give it again with the same reference.
 99  st_local LocalFault::NoMemory, in local
     In `local`: out of memory. Nothing was written.
     What to do: Give the process more memory.
@@ -609,11 +610,14 @@ Numbers of the library:
 
 const FAULT_110: &str = "110  st_books BooksError::NoBooks, in connector, ledger
     The file holds no books: it is no database, has other tables, a row that is no line of its
-    table, or a name twice. Or its log is damaged, or the log is there without the file. Both are
-    left as they are. Where books have to be there already: no file, or an empty one. None is made.
-    What to do: Name the right file. Where the log is damaged or the file is gone, put the last copy
-    of both files back, and compare the sums with each neighbour. A table, an index or a trigger
-    that was added by hand has to be dropped.
+    table, or a name twice. Or it lacks the view `books`, or has another version in it, or, in
+    `connector --ledger`, another address than `--own`. Or its log is damaged, does not continue the
+    file, or is there without the file. Both are left as they are. Where books have to be there
+    already: no file, or an empty one. None is made.
+    What to do: Name the right file. Where the log is damaged or of another moment than the file, or
+    the file is gone, put the last copy of both files back, and compare the sums with each
+    neighbour. A table, an index or a trigger that was added by hand has to be dropped. Books that
+    were made before they had the view `books` cannot be read: make new ones.
 ";
 
 const FAULT_111: &str = "111  st_books BooksError::Taken, in connector, ledger
@@ -649,8 +653,8 @@ const FAULT_116: &str = "116  st_books BooksError::NoAccount, in ledger
 ";
 
 const FAULT_117: &str = "117  st_books BooksError::TooMuch, in connector, ledger
-    A sum of an account would be above 2^63 - 1, or the starts above 2^32 - 1; or a payment or its
-    moment is above 2^63 - 1. Nothing changes.
+    A sum of an account would be above 2^63 - 1, or the starts above 2^32 - 1; or an entry by hand
+    or its moment is above 2^63 - 1. Nothing changes.
     What to do: Settle with the neighbour, and take what was paid off the sums.
 ";
 
@@ -686,6 +690,18 @@ const FAULT_123: &str = "123  st_ledger LedgerError::BelowOwed, in connector
     In `connector --ledger`: an account owes more than its LIMIT in the table and what it is owed.
     Nothing was written, and nothing was listened to.
     What to do: Raise LIMIT, or settle with the neighbour first.
+";
+
+const FAULT_125: &str = "125  st_ledger LedgerError::Reused, in ledger
+    In `ledger`: the books have an entry of this account and side with this reference, and another
+    amount; or one was to be added and the other to be taken off. Nothing changes.
+    What to do: Look at the table `payment`, and give what is new a reference of its own.
+";
+
+const FAULT_126: &str = "126  st_program LocalError::PastBound, in local
+    In `local --totals`: more Prepares were sent than the bound of the file. The output and the file
+    were written whole.
+    What to do: Report it with the input and the options: no such run is known.
 ";
 
 static TENS_0: [Option<&str>; 10] = [
@@ -923,8 +939,8 @@ static TENS_12: [Option<&str>; 10] = [
     Some(FAULT_122),
     Some(FAULT_123),
     None,
-    None,
-    None,
+    Some(FAULT_125),
+    Some(FAULT_126),
     None,
     None,
     None,

@@ -16,7 +16,7 @@ false_from_Decides : {P : Type 0} (r : Bool) → Decides r P → ¬ P → r ≡ 
 false_from_Decides true d refutes = absurd (refutes (d.0 refl))
 false_from_Decides false d refutes = refl
 
-unlike : (a b : List ℕ) → a ≢ b → bytes_eq a b ≡ false
+pub unlike : (a b : List ℕ) → a ≢ b → bytes_eq a b ≡ false
 unlike a b apart = false_from_Decides (bytes_eq a b) (bytes_eq-Decides a b) apart
 
 -- what holds of all holds of the one that stands here

@@ -131,6 +131,7 @@ of_disk starts claims dues Taken h = h
 pub of_step : {S : Type 0} (old : Kept S) (table : Names) (accounts : List Account) (e : LedgerError) → IsOfStep e → WhyNotPlaced old table accounts e
 of_step old table accounts ledger.Unlisted h = absurd h
 of_step old table accounts ledger.BelowOwed h = absurd h
+of_step old table accounts ledger.Reused h = absurd h
 of_step old table accounts (ledger.Books e) h = of_disk old.starts (claims_of old.names old.amounts table) (dues_of old.names old.amounts table) e h
 of_step old table accounts ledger.NoMemory h = tt
 

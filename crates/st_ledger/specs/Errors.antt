@@ -2,12 +2,13 @@
 use Rattle.std.specs.Prelude.{ℕ, Option, None}
 use Rattle.st_books.specs.Errors as books
 use Rattle.st_ledger.specs.declared.error.LedgerError.{LedgerError}
-use Rattle.st_ledger.specs.declared.error.LedgerError.TheVariants.{Unlisted, BelowOwed, Books, NoMemory}
+use Rattle.st_ledger.specs.declared.error.LedgerError.TheVariants.{Unlisted, BelowOwed, Reused, Books, NoMemory}
 
 -- what the books refuse keeps its number
 abbrev pub number : LedgerError → ℕ
 number Unlisted = 122
 number BelowOwed = 123
+number Reused = 125
 number (Books e) = books.number e
 number NoMemory = 99
 
@@ -15,5 +16,6 @@ number NoMemory = 99
 abbrev pub inner : LedgerError → Option ℕ
 inner Unlisted = None
 inner BelowOwed = None
+inner Reused = None
 inner (Books e) = books.inner e
 inner NoMemory = None

@@ -1,4 +1,5 @@
 pub mod Errors
+pub mod Lives
 pub mod Names
 pub mod Placed
 pub mod Placing

@@ -7,7 +7,7 @@ use Rattle.st_books.specs.declared.error.BooksError.TheVariants as books
 use Rattle.st_books.specs.Sums.{nothing}
 use Rattle.st_books.specs.Standing.{Kept}
 use Rattle.st_ledger.specs.declared.error.LedgerError.{LedgerError}
-use Rattle.st_ledger.specs.declared.error.LedgerError.TheVariants.{Unlisted, BelowOwed, Books, NoMemory}
+use Rattle.st_ledger.specs.declared.error.LedgerError.TheVariants.{Unlisted, BelowOwed, Reused, Books, NoMemory}
 use Rattle.st_ledger.specs.Names.{Names, HasUnlisted, claims_of, dues_of}
 
 -- the number of the first ticket of the life that is counted by this start: no two lives share a number, as long as none
@@ -54,6 +54,7 @@ IsOfDisk books.NameTaken = ⊥
 abbrev pub IsOfStep : LedgerError → Type 0
 IsOfStep Unlisted = ⊥
 IsOfStep BelowOwed = ⊥
+IsOfStep Reused = ⊥
 IsOfStep (Books e) = IsOfDisk e
 IsOfStep NoMemory = ⊤
 
@@ -75,13 +76,15 @@ WhyBooks starts claims dues books.NameTaken = ⊥
 abbrev pub WhyNotPlaced : {S : Type 0} → Kept S → (table : Names) → List Account → LedgerError → Type 0
 WhyNotPlaced old table accounts Unlisted = HasUnlisted old.names old.amounts table
 WhyNotPlaced old table accounts BelowOwed = HasBelow accounts (claims_of old.names old.amounts table) (dues_of old.names old.amounts table)
+WhyNotPlaced old table accounts Reused = ⊥
 WhyNotPlaced old table accounts (Books e) = WhyBooks old.starts (claims_of old.names old.amounts table) (dues_of old.names old.amounts table) e
 WhyNotPlaced old table accounts NoMemory = ⊤
 
--- a refusal of the books or of memory
+-- a refusal of the books, of a reference or of memory
 abbrev pub IsLate : LedgerError → Type 0
 IsLate Unlisted = ⊥
 IsLate BelowOwed = ⊥
+IsLate Reused = ⊤
 IsLate (Books e) = ⊤
 IsLate NoMemory = ⊤
 

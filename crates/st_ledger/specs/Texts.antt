@@ -7,6 +7,14 @@ use Rattle.st_ledger.specs.Names.{Names}
 abbrev pub account_text : List ℕ → Amounts → List ℕ
 account_text name a = codes "account " ++ name ++ codes " claims " ++ decimal a.claims ++ codes " dues " ++ decimal a.dues ++ 10 ∷ []
 
+-- the same without the newline
+abbrev pub sums_text : List ℕ → Amounts → List ℕ
+sums_text name a = codes "account " ++ name ++ codes " claims " ++ decimal a.claims ++ codes " dues " ++ decimal a.dues
+
+-- the line of an account whose entry was booked before: `account alice claims 500 dues 0 booked before` and a newline
+abbrev pub repeated_text : List ℕ → Amounts → List ℕ
+repeated_text name a = sums_text name a ++ codes " booked before\n"
+
 -- a line for each account, in the order of the books
 unfoldable pub accounts_text : Names → List Amounts → List ℕ
 accounts_text [] all = []

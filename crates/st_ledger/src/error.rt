@@ -17,6 +17,9 @@ pub enum LedgerError {
     /// An account owes more than its limit in the table and what it is owed.
     #[error("an account owes more than its limit")]
     BelowOwed,
+    /// Another amount stands under the reference, or the same one the other way round.
+    #[error("another entry has this reference")]
+    Reused,
     /// The books refused.
     #[error("{0}")]
     Books(BooksError),
@@ -26,13 +29,14 @@ pub enum LedgerError {
 }
 
 impl LedgerError {
-    /// The error's number in the program's table of faults: 122, 123, that of the books' refusal, or 99.
+    /// The error's number in the program's table of faults: 122, 123, 125, that of the books' refusal, or 99.
     pub fn number(&self) -> u8
         ensures { result ≡ errors.number self.now }
     {
         match self {
             LedgerError::Unlisted => 122,
             LedgerError::BelowOwed => 123,
+            LedgerError::Reused => 125,
             LedgerError::Books(error) => error.number(),
             LedgerError::NoMemory => 99,
         }

@@ -8,6 +8,7 @@
 #![tactic(auto)]
 
 mod error;
+mod laws;
 mod opening;
 mod owed;
 mod placed;
@@ -17,9 +18,12 @@ mod text;
 mod watched;
 
 pub use error::LedgerError;
+pub use laws::{
+    added_names_owe_nothing, bookings_are_by_name, entries_are_by_name, every_history_balances,
+};
 pub use opening::OpensBooks;
 pub use placed::Placed;
 pub use placing::{Life, place};
-pub use settling::settle;
-pub use text::{account_text, ledger_text};
+pub use settling::{Once, settle, settle_once};
+pub use text::{account_text, ledger_text, repeated_text};
 pub use watched::{FileNames, Look, Watched, Watcher};

@@ -23,8 +23,9 @@ pub trait OpensBooks {
     /// What is known of those that it opens where they have to be there.
     ghost finds_existing: { Self → List ℕ → Kept Self.Store → Type 0 };
 
-    /// Opens the books of a file, or makes them where there is no file, or it holds nothing.
-    fn open(&self, path: &str) -> Result<Books<Self::Store>, BooksError>
+    /// Opens the books of a file, or makes them where there is no file, or it holds nothing. They say the address of the
+    /// connector that keeps them; those of another address are refused with `NoBooks`.
+    fn open(&self, path: &str, own: &str) -> Result<Books<Self::Store>, BooksError>
         ensures { IfOk result (finds self.now path.now) };
 
     /// Opens the books of a file. Refuses with `NoBooks` where there is no file, or it holds nothing, and makes none.
@@ -45,8 +46,8 @@ impl OpensBooks for HostRuntime {
 
     ghost finds_existing = { λ _ _ _. ⊤ };
 
-    fn open(&self, path: &str) -> Result<Books<Self::Store>, BooksError> {
-        open(self, path, Unknown)
+    fn open(&self, path: &str, own: &str) -> Result<Books<Self::Store>, BooksError> {
+        open(self, path, own, Unknown)
     }
 
     fn open_existing(&self, path: &str) -> Result<Books<Self::Store>, BooksError> {

@@ -20,6 +20,30 @@ pub fn account_text(alloc: Global, name: &[u8], amounts: Amounts) -> Result<Vec<
     Ok(line)
 }
 
+/// The line of an account without its newline. Fails where memory is refused.
+#[tactic(auto, using(crate::proofs::Pieces::pieces))]
+fn sums_text(alloc: Global, name: &[u8], amounts: Amounts) -> Result<Vec<u8>, AllocError>
+    ensures { IfOk result (λ line. line.items ≡ texts.sums_text name.now amounts) }
+{
+    let Amounts { claims, dues } = amounts;
+    let mut line = Vec::from_slice(alloc, "account ".as_bytes())?;
+    line.extend_from_slice(name)?;
+    let sums = format!(in alloc; " claims {claims} dues {dues}")?;
+    line.extend_from_slice(sums.as_bytes())?;
+    Ok(line)
+}
+
+/// The line of an account whose entry was booked before: `account alice claims 500 dues 0 booked before`. Fails where memory is
+/// refused.
+#[tactic(auto, using(crate::proofs::Pieces::pieces))]
+pub fn repeated_text(alloc: Global, name: &[u8], amounts: Amounts) -> Result<Vec<u8>, AllocError>
+    ensures { IfOk result (λ line. line.items ≡ texts.repeated_text name.now amounts) }
+{
+    let mut line = sums_text(alloc, name, amounts)?;
+    line.extend_from_slice(b" booked before\n")?;
+    Ok(line)
+}
+
 /// A line for each account, in the order of the books.
 fn accounts_text<S: Alter>(alloc: Global, books: &Books<S>) -> Result<Vec<u8>, AllocError>
     ensures { IfOk result (λ text. text.items ≡ texts.accounts_text books.now.names books.now.amounts) }

@@ -12,6 +12,8 @@ use Rattle.st_world.specs.State.{World}
 use Rattle.st_local.specs.Parts.{part_at, part_size, stream_at}
 use Rattle.st_local.specs.Playing.{Carries, HasSent, Played, Plays, StopsPlay, read_on}
 use Rattle.st_local.specs.Schedule.{BreaksOff, FailedRound, LastRound, StopsSending, start}
+use Rattle.st_local.specs.Sends.{AreOf}
+use Rattle.st_local.specs.declared.sends.LocalSends.{LocalSends}
 use Rattle.st_local.specs.Endings.{ComesBefore, EndsWith, Explains, GoesOver, HasEnded, IsInput, IsRun, SpendsTurns, StaysFlushed, StopsCarry, StopsWrite, WritesPart, most_bytes, most_turns}
 
 -- ---- what was played
@@ -34,14 +36,14 @@ is_run asked streams input Ends o p opened same is plays sent h = record {
       subst (λ (n : ℕ). Ends (part_size (length input) n) n input (start asked) p) is (subst (λ (x : Played). Ends (part_size (length input) streams) streams input x p) opened h);
 }
 
-pub goes_over : (asked : LocalSettings) (streams : ℕ) (input : List ℕ) (o p : Played) → o ≡ start asked → p.asked ≡ asked → streams ≡ asked.streams → Plays p.asked p.events p.world
-    → (sent : ℕ) × HasSent (part_size (length input) streams) input sent p.world → EndsWith LastRound (part_size (length input) streams) streams input o p
-    → ((place : ℕ) → place < streams → read_on p.world (stream_at place) ≡ part_at (part_size (length input) streams) input place) → GoesOver asked (Some input)
-goes_over asked streams input o p opened same is plays sent h read = (
+pub goes_over : (asked : LocalSettings) (streams : ℕ) (input : List ℕ) (sent returned : ℕ) (told : LocalSends) (o p : Played) → AreOf asked (length input) sent returned told → o ≡ start asked → p.asked ≡ asked → streams ≡ asked.streams → Plays p.asked p.events p.world
+    → (sent : ℕ) × HasSent (part_size (length input) streams) input sent p.world → EndsWith (LastRound sent returned) (part_size (length input) streams) streams input o p
+    → ((place : ℕ) → place < streams → read_on p.world (stream_at place) ≡ part_at (part_size (length input) streams) input place) → GoesOver asked (Some input) told
+goes_over asked streams input sent returned told o p are opened same is plays had h read = (
   input,
   p,
   refl,
-  is_run asked streams input (EndsWith LastRound) o p opened same is plays sent h,
+  (sent, returned, is_run asked streams input (EndsWith (LastRound sent returned)) o p opened same is plays had h, are),
   subst (λ (n : ℕ). (place : ℕ) → place < n → read_on p.world (stream_at place) ≡ part_at (part_size (length input) n) input place) is read,
 )
 
@@ -113,8 +115,8 @@ pub input_known : (input : Option (List ℕ)) (sent bytes : List ℕ) → IsInpu
 input_known None sent bytes known same = tt
 input_known (Some all) sent bytes known same = same ∙ known
 
-over_known : (asked : LocalSettings) (input : Option (List ℕ)) (sent : List ℕ) → IsInput input sent → GoesOver asked (Some sent) → GoesOver asked input
-over_known asked input sent known h = (h.0, h.1, input_known input sent h.0 known h.2, h.3, h.4)
+over_known : (asked : LocalSettings) (input : Option (List ℕ)) (sent : List ℕ) (told : LocalSends) → IsInput input sent → GoesOver asked (Some sent) told → GoesOver asked input told
+over_known asked input sent told known h = (h.0, h.1, input_known input sent h.0 known h.2, h.3, h.4)
 
 carry_explains : (asked : LocalSettings) (input : Option (List ℕ)) (sent : List ℕ) (left : ℕ) (e : LocalFault) → IsInput input sent → StopsCarry asked (Some sent) left e → Explains asked input e
 carry_explains asked input sent left fault.Failed known h = (h.0, h.1, input_known input sent h.0 known h.2, h.3, h.4)
@@ -125,9 +127,9 @@ carry_explains asked input sent left fault.Output known h = tt
 carry_explains asked input sent left fault.Turns known h = tt
 carry_explains asked input sent left fault.NoMemory known h = tt
 
-pub over_carry : {T : Type 0} (r : Result T LocalFault) (asked : LocalSettings) (input : Option (List ℕ)) (sent : List ℕ) → IsInput input sent → OnOk r (GoesOver asked (Some sent)) → OnOk r (GoesOver asked input)
-over_carry (Ok x) asked input sent known h = over_known asked input sent known h
-over_carry (Err e) asked input sent known h = tt
+pub over_carry : {T : Type 0} (r : Result T LocalFault) (asked : LocalSettings) (input : Option (List ℕ)) (sent : List ℕ) (told : LocalSends) → IsInput input sent → OnOk r (GoesOver asked (Some sent) told) → OnOk r (GoesOver asked input told)
+over_carry (Ok x) asked input sent told known h = over_known asked input sent told known h
+over_carry (Err e) asked input sent told known h = tt
 
 pub explains_carry : {T : Type 0} (r : Result T LocalFault) (asked : LocalSettings) (input : Option (List ℕ)) (sent : List ℕ) (left : ℕ) → IsInput input sent → IfErr r (StopsCarry asked (Some sent) left)
     → IfErr r (Explains asked input)

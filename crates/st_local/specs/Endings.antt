@@ -13,6 +13,8 @@ use Rattle.st_settings.specs.declared.settings.LocalSettings.{LocalSettings}
 use Rattle.st_local.specs.Playing.{AreRead, Carries, HasFailed, Played, most_events}
 use Rattle.st_local.specs.Parts.{part_size}
 use Rattle.st_local.specs.Schedule.{BreaksOff, FailedRound, LastRound, Reach, Scheduled, start}
+use Rattle.st_local.specs.Sends.{AreOf}
+use Rattle.st_local.specs.declared.sends.LocalSends.{LocalSends}
 
 -- how many bytes an input has at most
 abbrev pub most_bytes : ℕ
@@ -94,9 +96,13 @@ pub record IsRun (asked : LocalSettings) (bytes : List ℕ) (Ends : (size stream
 abbrev pub EndsWith : ((size streams : ℕ) → List ℕ → Reach → Played → Played → Type 0) → (size streams : ℕ) → List ℕ → Played → Played → Type 0
 EndsWith Last size streams bytes p q = Scheduled size streams bytes (Last size streams bytes) p q
 
+-- one in which so many Prepares went, as these numbers tell
+abbrev pub IsTold : LocalSettings → List ℕ → LocalSends → Played → Type 0
+IsTold asked bytes told p = (sent : ℕ) × (returned : ℕ) × IsRun asked bytes (EndsWith (LastRound sent returned)) p × AreOf asked (length bytes) sent returned told
+
 -- one in which each part of the input was read
-abbrev pub GoesOver : LocalSettings → Option (List ℕ) → Type 0
-GoesOver asked input = (bytes : List ℕ) × (p : Played) × IsInput input bytes × IsRun asked bytes (EndsWith LastRound) p × AreRead asked bytes p.world
+abbrev pub GoesOver : LocalSettings → Option (List ℕ) → LocalSends → Type 0
+GoesOver asked input told = (bytes : List ℕ) × (p : Played) × IsInput input bytes × IsTold asked bytes told p × AreRead asked bytes p.world
 
 -- one in which the connection of an end failed
 abbrev pub Fails : LocalSettings → Option (List ℕ) → Type 0
@@ -125,7 +131,7 @@ Explains asked input e = ⊤
 
 -- a run: e and f are the writer for errors at the start and now
 pub record RunsLocal {E : Type 0} (asked : LocalSettings) (input before now : Option (List ℕ)) (ended : Option LocalFault → Type 0) (said : E → Option (List ℕ)) (e f : Counting E) (status : ℕ) : Type 0 where
-  pub done : status ≡ 0 → (f ≡ e) × ended None × IfSome input (λ bytes. Appends before now bytes × (length bytes ≤ most_bytes)) × GoesOver asked input
+  pub done : status ≡ 0 → (f ≡ e) × ended None × IfSome input (λ bytes. Appends before now bytes × (length bytes ≤ most_bytes)) × ((told : LocalSends) × GoesOver asked input told)
   pub refused : status ≡ 1 → (x : LocalFault) × ended (Some x) × Explains asked input x × (ComesBefore x → now ≡ before) × TellsFault x said e f status
   pub part : IfSome input (λ bytes. WritesPart bytes before now)
   pub bound : status ≤ 1

@@ -3,4 +3,5 @@ pub mod Texts
 pub mod Parts
 pub mod Playing
 pub mod Schedule
+pub mod Sends
 pub mod Endings

@@ -280,9 +280,10 @@ pub record Scheduled (size streams : ℕ) (input : List ℕ) (Last : Reach → P
   pub rounds : IsAt size streams input reach p mid
   pub last : Last reach mid r
 
--- a round by which all is done
-abbrev pub LastRound : (size streams : ℕ) → (input : List ℕ) → Reach → Played → Played → Type 0
-LastRound size streams input a p q = (b : Reach) × Round size streams input a b p q × IsOver streams (length input) b q.world
+-- a round by which all is done, and so many Prepares of each side went
+abbrev pub LastRound : (sent returned size streams : ℕ) → (input : List ℕ) → Reach → Played → Played → Type 0
+LastRound sent returned size streams input a p q =
+    (b : Reach) × Round size streams input a b p q × IsOver streams (length input) b q.world × (b.sent ≡ sent) × (b.returned ≡ returned)
 
 -- or an end failed, and something is left to do
 abbrev pub FailedRound : (size streams : ℕ) → (input : List ℕ) → Reach → Played → Played → Type 0

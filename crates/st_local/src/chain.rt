@@ -1,6 +1,6 @@
 //! Prepares that are sent over a chain, one at a time, and their answers.
 
-ghost use Rattle.std.specs.Prelude.{◌≡◌, ◌+◌, ◌≤◌, ◌<◌, ◌∷◌, [], OnOk, OnErr, IfErr};
+ghost use Rattle.std.specs.Prelude.{◌≡◌, ◌+◌, ◌-◌, ◌≤◌, ◌<◌, ◌∷◌, [], OnOk, OnErr, IfErr};
 ghost use Rattle.st_world.specs.Sides.{Client, Server};
 ghost use Rattle.st_nodes.specs.Seen.{way_seen};
 ghost use Rattle.st_local.specs.Playing.{Continues, IsLost, StopsPlay, is_lost, most_events};
@@ -34,6 +34,13 @@ impl Counts {
             answered: 0,
             returned: 0,
         }
+    }
+
+    /// How many Prepares of the client were lost.
+    pub(crate) fn lost(&self) -> u64
+        ensures { result ≡ self.now.sent - self.now.answered }
+    {
+        self.sent.saturating_sub(self.answered) as u64
     }
 
     /// Whether the client's last Prepare is one that is lost: its number is a multiple of this one, where that is not

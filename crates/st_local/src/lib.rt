@@ -13,6 +13,7 @@ mod local;
 mod output;
 mod parts;
 mod play;
+mod sends;
 mod streams;
 mod texts;
 
@@ -22,3 +23,4 @@ pub use local::{play_local, run_local};
 pub use output::TURNS;
 pub use parts::part_size;
 pub use play::MAX_EVENTS;
+pub use sends::LocalSends;

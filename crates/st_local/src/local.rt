@@ -14,6 +14,7 @@ use crate::input::read_input;
 use crate::output::{TURNS, put, tell_fault};
 use crate::parts::stream_at;
 use crate::play::Play;
+use crate::sends::{LocalSends, sends_of};
 use crate::streams::send_parts;
 use st_oer::{CountRead, CountWrite};
 use st_settings::LocalSettings;
@@ -47,12 +48,13 @@ fn carry_over<A: Allocator + Copy, W: Write>(
     input: &[u8],
     writer: &mut CountWrite<W>,
     turns: &mut u64,
+    sends: &mut LocalSends,
 ) -> Result<(), LocalFault>
     requires some { 0 < play.old.asked.streams }
     requires few { play.old.asked.streams ≤ 32 }
     requires start { play.old ≡ start play.old.asked }
     requires blank { (k : ℕ) → written_on play.old.world k ≡ [] }
-    ensures over { OnOk result (GoesOver play.old.asked (Some input.now)) }
+    ensures over { OnOk result (GoesOver play.old.asked (Some input.now) sends.new) }
     ensures whole { OnOk result (Appends (W.contents (device_of writer.old)) (W.contents (device_of writer.new)) input.now) }
     ensures part { WritesPart input.now (W.contents (device_of writer.old)) (W.contents (device_of writer.new)) }
     ensures faults { (tally_of writer.new).faults ≡ writer_faults (fault_of result) (tally_of writer.old).faults }
@@ -63,7 +65,10 @@ fn carry_over<A: Allocator + Copy, W: Write>(
 {
     let streams = play.streams();
     match send_parts(play, input, streams) {
-        Ok(()) => put_parts(play, streams, writer, turns),
+        Ok(counts) => {
+            *sends = sends_of(play, input.len(), counts);
+            put_parts(play, streams, writer, turns)
+        }
         Err(fault) => Err(fault),
     }
 }
@@ -75,11 +80,12 @@ fn carry<A: Allocator + Copy, W: Write>(
     input: &[u8],
     writer: &mut CountWrite<W>,
     turns: &mut u64,
+    sends: &mut LocalSends,
 ) -> Result<(), LocalFault>
     requires hops { settings.now.hops ≤ 8 }
     requires some { 0 < settings.now.streams }
     requires streams { settings.now.streams ≤ 32 }
-    ensures over { OnOk result (GoesOver settings.now (Some input.now)) }
+    ensures over { OnOk result (GoesOver settings.now (Some input.now) sends.new) }
     ensures whole { OnOk result (Appends (W.contents (device_of writer.old)) (W.contents (device_of writer.new)) input.now) }
     ensures part { WritesPart input.now (W.contents (device_of writer.old)) (W.contents (device_of writer.new)) }
     ensures faults { (tally_of writer.new).faults ≡ writer_faults (fault_of result) (tally_of writer.old).faults }
@@ -91,7 +97,7 @@ fn carry<A: Allocator + Copy, W: Write>(
     let Ok(mut play) = Play::new(alloc, settings) else {
         return Err(LocalFault::NoMemory);
     };
-    carry_over(&mut play, input, writer, turns)
+    carry_over(&mut play, input, writer, turns, sends)
 }
 
 /// Sends the reader's bytes over a chain of hops in memory, and writes what was read at its end. The settings have 1 to
@@ -101,20 +107,21 @@ fn carry<A: Allocator + Copy, W: Write>(
 ///
 /// Nothing is written before every stream has ended: at each fault but `Output` and `Turns` the writer is as it was.
 /// Fails with a `LocalFault`: `Input` or `Output` exactly where the reader or the writer counted an error in this call,
-/// and `Turns` only where no I/O call is left.
+/// and `Turns` only where no I/O call is left. Where it ends well, `sends` has the numbers of its Prepares.
 pub fn play_local<A: Allocator + Copy, R: Read, W: Write>(
     alloc: A,
     settings: &LocalSettings,
     reader: &mut CountRead<R>,
     writer: &mut CountWrite<W>,
     turns: &mut u64,
+    sends: &mut LocalSends,
 ) -> Result<(), LocalFault>
     requires hops { settings.now.hops ≤ 8 }
     requires some { 0 < settings.now.streams }
     requires streams { settings.now.streams ≤ 32 }
     ensures whole { OnOk result (IfSome (R.remaining (device_of reader.old)) (λ bytes. Appends (W.contents (device_of writer.old)) (W.contents (device_of writer.new)) bytes × (length bytes ≤ most_bytes))) }
     ensures part { IfSome (R.remaining (device_of reader.old)) (λ bytes. WritesPart bytes (W.contents (device_of writer.old)) (W.contents (device_of writer.new))) }
-    ensures over { OnOk result (GoesOver settings.now (R.remaining (device_of reader.old))) }
+    ensures over { OnOk result (GoesOver settings.now (R.remaining (device_of reader.old)) sends.new) }
     ensures why { IfErr result (Explains settings.now (R.remaining (device_of reader.old))) }
     ensures untouched { IfErr result (λ e. ComesBefore e → writer.new ≡ writer.old) }
     ensures reader_faults { (tally_of reader.new).faults ≡ reader_faults (fault_of result) (tally_of reader.old).faults }
@@ -124,7 +131,7 @@ pub fn play_local<A: Allocator + Copy, R: Read, W: Write>(
     ensures turns { SpendsTurns (tally_of reader.old) (tally_of reader.new) (tally_of writer.old) (tally_of writer.new) turns.old turns.new }
 {
     let input = read_input(alloc, reader, turns)?;
-    carry(alloc, settings, &input, writer, turns)
+    carry(alloc, settings, &input, writer, turns, sends)
 }
 
 /// The command `local`: calls `play_local`, and writes the number of its error to `errors`. The status is 0 where
@@ -145,7 +152,8 @@ pub fn run_local<A: Allocator + Copy, R: Read, W: Write, E: Write>(
         E.contents errors.old errors.new result }
 {
     let mut turns = TURNS;
-    match play_local(alloc, settings, reader, writer, &mut turns) {
+    let mut sends = LocalSends::none();
+    match play_local(alloc, settings, reader, writer, &mut turns, &mut sends) {
         Ok(()) => 0,
         Err(fault) => tell_fault(errors, fault),
     }

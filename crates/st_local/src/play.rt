@@ -106,6 +106,14 @@ impl<A: Allocator + Copy> Play<A> {
         usize::from(self.settings.streams)
     }
 
+    /// How many events there were.
+    pub(crate) fn events(&self) -> u64
+        ensures count { result ≡ self.now.events }
+        ensures few { result ≤ most_events }
+    {
+        self.events
+    }
+
     /// The one moment at which all happens.
     pub(crate) fn now() -> Moment
         ensures { result ≡ pos 0 }

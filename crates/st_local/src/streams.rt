@@ -222,19 +222,21 @@ fn take_turns<A: Allocator + Copy>(
     Ok(progress.sent == input.len() && have_ended(play, streams))
 }
 
-/// Sends each part of the input on a stream of its own, until every stream has ended at the server.
+/// Sends each part of the input on a stream of its own, until every stream has ended at the server. The counts of
+/// Prepares by then.
 pub(crate) fn send_parts<A: Allocator + Copy>(
     play: &mut Play<A>,
     input: &[u8],
     streams: usize,
-) -> Result<(), LocalFault>
+) -> Result<Counts, LocalFault>
     requires some { 0 < streams }
     requires few { streams ≤ 32 }
     requires blank { (k : ℕ) → written_on play.old.world k ≡ [] }
     ensures asked { play.new.asked ≡ play.old.asked }
     ensures sent { (sent : ℕ) × HasSent (part_size (length input.now) streams) input.now sent play.new.world }
     ensures run { OnOk result (Plays play.new.asked play.new.events play.new.world) }
-    ensures scheduled { OnOk result (Scheduled (part_size (length input.now) streams) streams input.now (LastRound (part_size (length input.now) streams) streams input.now) play.old play.new) }
+    ensures scheduled { IfOk result (λ counts. Scheduled (part_size (length input.now) streams) streams input.now (LastRound counts.sent counts.returned (part_size (length input.now) streams) streams input.now) play.old play.new) }
+    ensures counted { IfOk result (λ counts. IsCounted play.new.asked.lose play.new.events counts) }
     ensures delivered { OnOk result ((place : ℕ) → place < streams → read_on play.new.world (stream_at place) ≡ part_at (part_size (length input.now) streams) input.now place) }
     ensures why { IfErr result (StopsSending (part_size (length input.now) streams) streams input.now play.old play.new) }
 {
@@ -246,7 +248,7 @@ pub(crate) fn send_parts<A: Allocator + Copy>(
     };
     'playing: loop {
         if take_turns(play, input, streams, &mut progress)? {
-            return Ok(());
+            return Ok(progress.counts);
         }
         if play.has_failed() {
             return Err(LocalFault::Failed);

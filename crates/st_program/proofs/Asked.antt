@@ -9,7 +9,7 @@ use Rattle.st_settings.specs.Settings as settings
 use Rattle.st_settings.specs.Sources.{SaysToken}
 use Rattle.st_settings.specs.declared.source.Token.{Token}
 use Rattle.st_settings.specs.declared.source.Token.TheVariants as token
-use Rattle.st_settings.specs.declared.settings.LocalSettings.{LocalSettings}
+use Rattle.st_settings.specs.declared.settings.LocalRequest.{LocalRequest}
 use Rattle.st_settings.specs.declared.settings.SendSettings.{SendSettings}
 use Rattle.st_settings.specs.declared.settings.ReceiveSettings.{ReceiveSettings}
 use Rattle.st_words.specs.declared.request.Request.{Request}
@@ -54,7 +54,7 @@ lawful_token None (Some file) (token.InFile f) says = tt
 lawful_token (Some text) (Some file) t says = absurd says
 lawful_token None None t says = absurd says
 
-chain : (o : settings.LocalTexts) (s : LocalSettings) → settings.IsLocal o s → IsChain s
+chain : (o : settings.LocalTexts) (s : LocalRequest) → settings.IsLocal o s → IsChain s.settings
 chain o s h = record {
   hops = h.hops.number.bounded;
   some = h.streams.enough;

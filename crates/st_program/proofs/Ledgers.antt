@@ -1,14 +1,17 @@
 -- How a connector with books, and the command `ledger`, may end.
-use Rattle.std.proofs.Common.{◌≡◌, ◌≢◌, ℕ, suc, ◌-◌, List, [], ◌∷◌, length, Option, Some, true, refl, sym, ap, subst, ◌∙◌, arith}
-use Rattle.std.specs.Prelude.{IsErrAnd, IsSome, Result, Ok, Err}
+use Rattle.std.proofs.Common.{◌≡◌, ◌≢◌, ℕ, suc, ◌-◌, List, [], ◌∷◌, length, Option, Some, None, true, false, refl, sym, ap, subst, ◌∙◌, arith}
+use Rattle.std.specs.Io.KnownBytes.{Appends}
+use Rattle.std.specs.Prelude.{Bool, IfErr, IsErrAnd, IsSome, OnOk, Result, Ok, Err, option_map}
 use Rattle.std.specs.Borrow.{Bor}
 use Rattle.sqlite_trees.specs.declared.store.Store.{Ghosts}
 use Rattle.st_hop.specs.declared.route.Route.{Route}
 use Rattle.st_oer.specs.Faults.{count_after}
-use Rattle.st_oer.specs.Tallies.{TakesTurns}
+use Rattle.st_oer.specs.Tallies.{TakesTurns, device_of, tally_of}
 use Rattle.st_oer.specs.declared.counted.Counting.{Counting}
 use Rattle.st_oer.specs.declared.tally.Tally.{Tally}
 use Rattle.st_books.specs.declared.balance.Amounts.{Amounts}
+use Rattle.st_books.specs.declared.balance.Entry.{Entry}
+use Rattle.st_books.specs.declared.balance.Side.{Side}
 use Rattle.st_books.specs.Standing.{Kept}
 use Rattle.st_commands.specs.Endings.{most_turns, writer_faults}
 use Rattle.st_commands.specs.declared.error.Fault.{Fault}
@@ -19,9 +22,9 @@ use Rattle.st_settings.specs.Table.{names_from}
 use Rattle.st_ledger.specs.declared.error.LedgerError.{LedgerError}
 use Rattle.st_ledger.specs.Names.{amounts_of}
 use Rattle.st_ledger.specs.Placing.{IsLate}
-use Rattle.st_ledger.specs.Settling.{IsSettled}
+use Rattle.st_ledger.specs.Settling.{IsOnce, IsSettled}
 use Rattle.st_ledger.specs.Texts.{account_text}
-use Rattle.st_program.specs.Ledger.{EndsLedger, FailsToWrite, IsPrinted, side_of}
+use Rattle.st_program.specs.Ledger.{EndsLedger, FailsToWrite, IsPrinted, IsPrintedAlone, IsPrintedAs, IsPrintedOnce, PrintsLedger, once_text}
 use Rattle.st_program.specs.Restored.{WhyNotRestored}
 use Rattle.st_program.specs.Table.{Serves, is_hop}
 use Rattle.st_program.specs.declared.error.RunError.{RunError}
@@ -54,9 +57,30 @@ fails_to_write fault.Output w v left input memory faults turns none = faults
 fails_to_write fault.Turns w v left input memory faults turns none = turns.calls ∙ ap (λ (n : ℕ). count_after (most_turns - n) w.calls) (none refl)
 
 -- the line of an account of which a payment was booked
-pub printed_payment : {S : Type 0} (g : Ghosts S) (p : Payment) (old new : Kept S) (moment : ℕ) (left : Amounts) (text : List ℕ) → IsSettled g old p.name.now (side_of p.side) p.amount moment new
-    → left ≡ amounts_of new.names new.amounts p.name.now → text ≡ account_text p.name.now left → IsPrinted g (Some p) old new text
-printed_payment g p old new moment left text settled told line = ((moment, settled), line ∙ ap (account_text p.name.now) told)
+pub printed_alone : {S : Type 0} (g : Ghosts S) (name : List ℕ) (side : Side) (amount : ℕ) (old new : Kept S) (moment : ℕ) (left : Amounts) (text : List ℕ) → IsSettled g old name side amount moment new
+    → left ≡ amounts_of new.names new.amounts name → text ≡ account_text name left → IsPrintedAlone g name side amount old new text
+printed_alone g name side amount old new moment left text settled told line = ((moment, settled), line ∙ ap (account_text name) told)
+
+-- and of one that was booked under a reference
+pub printed_once : {S : Type 0} (g : Ghosts S) (repeated : Bool) (name : List ℕ) (side : Side) (entry : Entry) (reference : List ℕ) (old new : Kept S) (moment : ℕ) (left : Amounts) (text : List ℕ)
+    → IsOnce g repeated old name side entry moment reference new → left ≡ amounts_of new.names new.amounts name → text ≡ once_text repeated name left → IsPrintedOnce g name side entry reference old new text
+printed_once g repeated name side entry reference old new moment left text once told line = (repeated, (moment, once), line ∙ ap (once_text repeated name) told)
+
+-- what was printed of an entry was written
+prints_as : {S : Type 0} (g : Ghosts S) (p : Payment) (reference : Option (List ℕ)) (old new : Kept S) (before now : Option (List ℕ)) (text : List ℕ) → IsPrintedAs g p reference old new text → Appends before now text
+    → PrintsLedger (Some p) before now
+prints_as g p None old new before now text printed whole = (false, amounts_of new.names new.amounts p.name.now, subst (λ (t : List ℕ). Appends before now t) printed.1 whole)
+prints_as g p (Some reference) old new before now text printed whole = (printed.0, amounts_of new.names new.amounts p.name.now, subst (λ (t : List ℕ). Appends before now t) printed.2 whole)
+
+prints_ledger : {S : Type 0} (g : Ghosts S) (payment : Option Payment) (old new : Kept S) (before now : Option (List ℕ)) (text : List ℕ) → IsPrinted g payment old new text → Appends before now text → PrintsLedger payment before now
+prints_ledger g None old new before now text printed whole = (old.starts, old.names, old.amounts, subst (λ (t : List ℕ). Appends before now t) printed.1 whole)
+prints_ledger g (Some p) old new before now text printed whole = prints_as g p (option_map (λ r. r.now) p.reference) old new before now text printed whole
+
+-- the text of books was written, or was not
+pub ends_printed : {T S W : Type 0} (g : Ghosts S) (contents : W → Option (List ℕ)) (payment : Option Payment) (old new : Kept S) (w v : Counting W) (text : List ℕ) (r : Result T RunError) → IsPrinted g payment old new text
+    → OnOk r (Appends (contents (device_of w)) (contents (device_of v)) text) → IfErr r (λ e. (x : Fault) × (e ≡ run.Fault x) × FailsToWrite x (tally_of w) (tally_of v)) → EndsLedger contents payment w v r
+ends_printed g contents payment old new w v text (Ok x) printed whole refused = prints_ledger g payment old new (contents (device_of w)) (contents (device_of v)) text printed whole
+ends_printed {T} g contents payment old new w v text (Err e) printed whole refused = subst (λ (y : RunError). EndsLedger {T = T} contents payment w v (Err y)) (sym refused.1) refused.2
 
 -- the books refused, and nothing was written
 pub ends_refused : {T W : Type 0} (contents : W → Option (List ℕ)) (payment : Option Payment) (w : Counting W) (r : Result T RunError) (e : LedgerError) → IsErrAnd r (λ x. x ≡ run.Ledger e) → IsLate e

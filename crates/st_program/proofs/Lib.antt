@@ -4,3 +4,5 @@ pub mod WordsTaken
 pub mod Asked
 pub mod Tables
 pub mod Ledgers
+pub mod Restoring
+pub mod Locals

@@ -1,5 +1,5 @@
 -- What the program answers, and how a command ended.
-use Rattle.std.specs.Prelude.{◌≡◌, ◌⊎◌, ℕ, List, Option, Some, None, Result, Ok, Err}
+use Rattle.std.specs.Prelude.{◌≡◌, ◌⊎◌, ℕ, List, MatchOption, Option, Some, None, Result, Ok, Err}
 use Rattle.clap.specs.Words.{Kinds}
 use Rattle.st_oer.specs.Tallies.{device_of, tally_of}
 use Rattle.st_oer.specs.declared.counted.Counting.{Counting}
@@ -13,9 +13,12 @@ use Rattle.st_words.specs.declared.request.Request.{Request}
 use Rattle.st_words.specs.declared.request.Request.TheVariants as request
 use Rattle.st_program.specs.declared.error.RunError.{RunError}
 use Rattle.st_program.specs.declared.error.RunError.TheVariants as run
+use Rattle.st_program.specs.declared.error.LocalError.{LocalError}
 use Rattle.st_program.specs.Errors.{number}
 use Rattle.st_program.specs.Table.{EndsByTable}
 use Rattle.st_program.specs.Ledger.{EndsLedger}
+use Rattle.st_program.specs.Local as ends
+use Rattle.st_program.specs.Local.{EndsLocal}
 use Rattle.st_program.specs.Explain.{Explains}
 use Rattle.st_program.specs.Words.{MayRefuse, MayShow}
 
@@ -40,6 +43,11 @@ abbrev pub TellsEnd : {T E : Type 0} → Result T RunError → (E → Option (Li
 TellsEnd (Ok x) said e f status = (status ≡ 0) × (f ≡ e)
 TellsEnd (Err x) said e f status = TellsNumber (number x) said e f status
 
+-- `local` with a file for its totals did
+abbrev pub TellsLocal : {T E : Type 0} → Result T LocalError → (E → Option (List ℕ)) → Counting E → Counting E → ℕ → Type 0
+TellsLocal (Ok x) said e f status = (status ≡ 0) × (f ≡ e)
+TellsLocal (Err x) said e f status = TellsNumber (ends.fault_number x) said e f status
+
 -- it ended in some way: where the file for its totals could not be opened, nothing else was done
 abbrev pub Ends : {E : Type 0} → (untouched : Type 0) → (E → Option (List ℕ)) → Counting E → Counting E → ℕ → Type 0
 Ends untouched said e f status = (end : Result (Unit {0}) RunError) × (end ≡ Err run.BadOption → untouched) × TellsEnd end said e f status
@@ -48,8 +56,10 @@ Ends untouched said e f status = (end : Result (Unit {0}) RunError) × (end ≡ 
 abbrev pub Does : {R W E : Type 0} → Request → (R → Option (List ℕ)) → (W → Option (List ℕ)) → (E → Option (List ℕ)) → (Option Fault → Type 0)
     → Counting R → Counting R → Counting W → Counting W → Counting E → Counting E → ℕ → Type 0
 Does request.Frames remaining contents said ended r s w v e f status = RunsFrames (remaining (device_of r)) (contents (device_of w)) (contents (device_of v)) ended said e f status
-Does (request.Local x) remaining contents said ended r s w v e f status = local.RunsLocal x (remaining (device_of r)) (contents (device_of w)) (contents (device_of v))
-    (local.HasEnded (tally_of r) (tally_of s) (tally_of w) (tally_of v)) said e f status
+Does (request.Local x) remaining contents said ended r s w v e f status = MatchOption x.totals
+    (local.RunsLocal x.settings (remaining (device_of r)) (contents (device_of w)) (contents (device_of v))
+    (local.HasEnded (tally_of r) (tally_of s) (tally_of w) (tally_of v)) said e f status)
+    (λ name. (end : Result (Unit {0}) LocalError) × EndsLocal x.settings (remaining (device_of r)) (contents (device_of w)) (contents (device_of v)) ((s ≡ r) × (v ≡ w)) (v ≡ w) end × TellsLocal end said e f status)
 Does (request.Send x) remaining contents said ended r s w v e f status = (v ≡ w) × Ends (s ≡ r) said e f status
 Does (request.Receive x) remaining contents said ended r s w v e f status = (s ≡ r) × Ends (v ≡ w) said e f status
 Does (request.Connector x) remaining contents said ended r s w v e f status =

@@ -1,25 +1,30 @@
 -- What the command `ledger` prints, and how it ends.
-use Rattle.std.specs.Prelude.{◌≡◌, ℕ, List, Option, Some, None, Result, Ok, Err}
+use Rattle.std.specs.Prelude.{◌≡◌, ℕ, Bool, true, false, List, Option, Some, None, option_map, Result, Ok, Err}
 use Rattle.std.specs.Io.KnownBytes.{Appends}
 use Rattle.sqlite_trees.specs.declared.store.Store.{Ghosts}
 use Rattle.st_oer.specs.Faults.{count_after}
 use Rattle.st_oer.specs.Tallies.{device_of, tally_of}
 use Rattle.st_oer.specs.declared.counted.Counting.{Counting}
 use Rattle.st_oer.specs.declared.tally.Tally.{Tally}
+use Rattle.st_books.specs.declared.balance.Amounts.{Amounts}
+use Rattle.st_books.specs.declared.balance.Entry.{Entry}
+use Rattle.st_books.specs.declared.balance.Kind.{Kind}
+use Rattle.st_books.specs.declared.balance.Kind.TheVariants as kinds
 use Rattle.st_books.specs.declared.balance.Side.{Side}
 use Rattle.st_books.specs.declared.balance.Side.TheVariants as books
 use Rattle.st_books.specs.Standing.{Kept}
 use Rattle.st_commands.specs.declared.error.Fault.{Fault}
 use Rattle.st_commands.specs.declared.error.Fault.TheVariants as fault
 use Rattle.st_commands.specs.Endings.{most_turns}
-use Rattle.st_settings.specs.declared.ledger.LedgerSettings.{LedgerSettings}
+use Rattle.st_settings.specs.declared.ledger.Kind.{Kind as Asked}
+use Rattle.st_settings.specs.declared.ledger.Kind.TheVariants as asked
 use Rattle.st_settings.specs.declared.ledger.Payment.{Payment}
 use Rattle.st_settings.specs.declared.ledger.Side.{Side as Paid}
 use Rattle.st_settings.specs.declared.ledger.Side.TheVariants as paid
 use Rattle.st_ledger.specs.Names.{amounts_of}
 use Rattle.st_ledger.specs.Placing.{IsLate}
-use Rattle.st_ledger.specs.Settling.{IsSettled}
-use Rattle.st_ledger.specs.Texts.{account_text, ledger_text}
+use Rattle.st_ledger.specs.Settling.{IsOnce, IsSettled}
+use Rattle.st_ledger.specs.Texts.{account_text, ledger_text, repeated_text}
 use Rattle.st_program.specs.declared.error.RunError.{RunError}
 use Rattle.st_program.specs.declared.error.RunError.TheVariants as run
 
@@ -28,12 +33,33 @@ abbrev pub side_of : Paid → Side
 side_of paid.Claims = books.Claims
 side_of paid.Dues = books.Dues
 
--- the text of books, old and new: all accounts and the starts of books that stay; or the payment was booked, and the text is its
--- account's line as it stands then
+-- whether the books take an amount off or add it
+abbrev pub kind_of : Asked → Kind
+kind_of asked.Settle = kinds.Paid
+kind_of asked.Adjust = kinds.Adjusted
+
+-- the payment was booked, and the text is its account's line as it stands then
+abbrev pub IsPrintedAlone : {S : Type 0} → Ghosts S → (name : List ℕ) → Side → (amount : ℕ) → (old new : Kept S) → (text : List ℕ) → Type 0
+IsPrintedAlone g name side amount old new text = ((moment : ℕ) × IsSettled g old name side amount moment new) × (text ≡ account_text name (amounts_of new.names new.amounts name))
+
+-- the line of an account whose entry was booked before, or that was entered now
+abbrev pub once_text : (repeated : Bool) → (name : List ℕ) → Amounts → List ℕ
+once_text true = repeated_text
+once_text false = account_text
+
+-- it was booked under its reference, now or before, and the text says which
+abbrev pub IsPrintedOnce : {S : Type 0} → Ghosts S → (name : List ℕ) → Side → Entry → (reference : List ℕ) → (old new : Kept S) → (text : List ℕ) → Type 0
+IsPrintedOnce g name side entry reference old new text =
+    (repeated : Bool) × ((moment : ℕ) × IsOnce g repeated old name side entry moment reference new) × (text ≡ once_text repeated name (amounts_of new.names new.amounts name))
+
+abbrev pub IsPrintedAs : {S : Type 0} → Ghosts S → Payment → (reference : Option (List ℕ)) → (old new : Kept S) → List ℕ → Type 0
+IsPrintedAs g p None old new text = IsPrintedAlone g p.name.now (side_of p.side) p.amount old new text
+IsPrintedAs g p (Some reference) old new text = IsPrintedOnce g p.name.now (side_of p.side) (record { kind = kind_of p.kind; amount = p.amount }) reference old new text
+
+-- the text of books, old and new: all accounts and the starts of books that stay; or the line of the account of an entry
 abbrev pub IsPrinted : {S : Type 0} → Ghosts S → Option Payment → (old new : Kept S) → List ℕ → Type 0
 IsPrinted g None old new text = (new ≡ old) × (text ≡ ledger_text old.starts old.names old.amounts)
-IsPrinted g (Some p) old new text =
-    ((moment : ℕ) × IsSettled g old p.name.now (side_of p.side) p.amount moment new) × (text ≡ account_text p.name.now (amounts_of new.names new.amounts p.name.now))
+IsPrinted g (Some p) old new text = IsPrintedAs g p (option_map (λ r. r.now) p.reference) old new text
 
 -- the text of books that were found was written
 abbrev pub PrintsFound : {S : Type 0} → Ghosts S → (finds : Kept S → Type 0) → Option Payment → (before now : Option (List ℕ)) → Type 0
@@ -46,10 +72,10 @@ FailsToWrite fault.Output w v = v.faults ≡ count_after 1 w.faults
 FailsToWrite fault.Turns w v = v.calls ≡ count_after most_turns w.calls
 FailsToWrite fault.NoMemory w v = ⊥
 
--- what `ledger` wrote: some books' lines and starts, or the line of the account of which it booked a payment
+-- what `ledger` wrote: some books' lines and starts, or the line of the account of an entry
 abbrev pub PrintsLedger : Option Payment → (before now : Option (List ℕ)) → Type 0
 PrintsLedger None before now = (starts : ℕ) × (names : _) × (all : _) × Appends before now (ledger_text starts names all)
-PrintsLedger (Some p) before now = (a : _) × Appends before now (account_text p.name.now a)
+PrintsLedger (Some p) before now = (repeated : Bool) × (a : _) × Appends before now (once_text repeated p.name.now a)
 
 -- how `ledger` ends, w the writer before and v now: nothing is written where the books refuse
 abbrev pub EndsLedger : {T W : Type 0} → (W → Option (List ℕ)) → Option Payment → Counting W → Counting W → Result T RunError → Type 0

@@ -13,5 +13,6 @@ pub mod Explain
 pub mod Streams
 pub mod Obstacle
 pub mod Control
+pub mod Local
 pub mod Endings
 pub mod Process

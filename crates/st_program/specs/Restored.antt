@@ -1,13 +1,15 @@
 -- The hop with which a connector goes on that has books.
-use Rattle.std.specs.Prelude.{◌≡◌, ℕ, List, map, ⊤}
-use Rattle.st_hop.specs.Books.{restored}
+use Rattle.std.specs.Prelude.{◌≡◌, ◌≤◌, ℕ, List, length, map, ⊤}
+use Rattle.sqlite_trees.specs.View.{IsClean}
+use Rattle.sqlite_trees.specs.declared.store.Store.{Ghosts}
+use Rattle.st_hop.specs.Books.{GoesOn, restored}
 use Rattle.st_hop.specs.Hop.{Hop}
 use Rattle.st_hop.specs.Seen.{way_seen}
 use Rattle.st_hop.specs.Table.{new_hop}
 use Rattle.st_hop.specs.declared.route.Route.{Route}
-use Rattle.st_books.specs.Standing.{Kept}
+use Rattle.st_books.specs.Standing.{Kept, LeavesOnly, sums_of}
 use Rattle.st_commands.specs.declared.error.Fault.TheVariants as fault
-use Rattle.st_ledger.specs.Names.{claims_of, dues_of}
+use Rattle.st_ledger.specs.Names.{Names, claims_of, dues_of}
 use Rattle.st_ledger.specs.Placing.{first_of}
 use Rattle.st_settings.specs.declared.line.AccountLine.{AccountLine}
 use Rattle.st_settings.specs.Table.{names_of}
@@ -19,6 +21,17 @@ use Rattle.st_program.specs.declared.error.RunError.TheVariants as run
 abbrev pub IsRestored : {S : Type 0} → List ℕ → List AccountLine → List Route → (old new : Kept S) → Hop → Type 0
 IsRestored own xs rs old new hop =
     hop ≡ restored (new_hop own (map (λ x. x.terms) xs) (map way_seen rs)) (claims_of old.names old.amounts (names_of xs)) (dues_of old.names old.amounts (names_of xs)) (first_of new.starts)
+
+-- the books as they stand now say what is owed at the hop, and each crash leaves them
+pub record StandsFor {S : Type 0} (g : Ghosts S) (names : Names) (books : Kept S) (hop : Hop) : Type 0 where
+  pub claims : hop.claims ≡ claims_of books.names books.amounts names
+  pub dues : hop.dues ≡ dues_of books.names books.amounts names
+  pub leaves : IsClean (g.view books.store) → LeavesOnly g books.store (sums_of g books)
+
+-- a hop goes on from each one with these books: of this address, of as many accounts, and with no ticket of a later number
+abbrev pub GoesOnFrom : (own : List ℕ) → (claims dues : List ℕ) → (next : ℕ) → Hop → Type 0
+GoesOnFrom own claims dues next hop =
+    (h : Hop) → h.own ≡ own → length h.accounts ≡ length hop.accounts → h.claims ≡ claims → h.dues ≡ dues → h.next ≤ next → GoesOn h hop
 
 -- which errors there are where none goes on
 abbrev pub WhyNotRestored : RunError → Type 0

@@ -30,7 +30,7 @@ pub record IsReceiver (s : ReceiveSettings) : Type 0 where
 
 abbrev pub IsLawful : Request → Type 0
 IsLawful request.Frames = ⊤
-IsLawful (request.Local s) = IsChain s
+IsLawful (request.Local s) = IsChain s.settings
 IsLawful (request.Send s) = IsSender s
 IsLawful (request.Receive s) = IsReceiver s
 IsLawful (request.Connector s) = ⊤

@@ -1,5 +1,5 @@
 -- Which command needs which standard stream.
-use Rattle.std.specs.Prelude.{Bool, true, false, ◌||◌, Option, Some, None, is_some}
+use Rattle.std.specs.Prelude.{Bool, true, false, ◌||◌, Option, Some, None, is_some, if◌then◌else◌}
 use Rattle.st_commands.specs.declared.error.Fault.{Fault}
 use Rattle.st_commands.specs.declared.error.Fault.TheVariants as fault
 use Rattle.st_words.specs.declared.request.Request.{Request}
@@ -11,11 +11,15 @@ abbrev pub unless : (is_open : Bool) → Fault → Option Fault
 unless true x = None
 unless false x = Some x
 
+-- the fault of a command that needs both
+abbrev pub missing_one : Streams → Option Fault
+missing_one s = if s.input then unless s.output fault.Output else Some fault.Input
+
 -- the fault of a command that opens files or sockets and needs a stream that is closed. The others open nothing: their first
 -- read or write fails
 abbrev pub missing : Request → Streams → Option Fault
 missing request.Frames s = None
-missing (request.Local x) s = None
+missing (request.Local x) s = if is_some x.totals then missing_one s else None
 missing (request.Send x) s = unless s.input fault.Input
 missing (request.Receive x) s = unless s.output fault.Output
 missing (request.Connector x) s = unless (s.input || is_some x.table) fault.Input

@@ -211,7 +211,7 @@ fn serve<
     let Some(file) = settings.ledger else {
         return serve_without(rt, alloc, settings, table, hop, reports);
     };
-    match opener.open(file) {
+    match opener.open(file, settings.own) {
         Ok(books) => {
             if books.starts() == 0 {
                 tell(rt, reports.log, &Event::NewBooks);

@@ -2,9 +2,11 @@
 
 ghost use Rattle.std.specs.Prelude.{◌≡◌};
 ghost use Rattle.st_program.specs.Errors as errors;
+ghost use Rattle.st_program.specs.Local as local;
 
 use st_commands::Fault;
 use st_ledger::LedgerError;
+use st_local::LocalFault;
 use st_transfer::TransferError;
 use std::alloc::AllocError;
 use thiserror::Error;
@@ -53,6 +55,33 @@ impl RunError {
             RunError::BadOption => 98,
             RunError::Transfer(error) => error.number(),
             RunError::Ledger(error) => error.number(),
+        }
+    }
+}
+
+/// Why `local` with a file for its totals ended before its work was done.
+#[derive(Clone, Copy, Debug, PartialEq, Eq, Error)]
+pub enum LocalError {
+    /// Its totals have no place, or cannot be written.
+    #[error("{0}")]
+    Run(RunError),
+    /// The run ended early.
+    #[error("{0}")]
+    Local(LocalFault),
+    /// More Prepares were sent than the bound of the run.
+    #[error("more Prepares were sent than the bound")]
+    PastBound,
+}
+
+impl LocalError {
+    /// The number of the error, as the program prints it (`fault N`).
+    pub fn number(&self) -> u8
+        ensures { result ≡ local.fault_number self.now }
+    {
+        match self {
+            LocalError::Run(error) => error.number(),
+            LocalError::Local(fault) => fault.number(),
+            LocalError::PastBound => 126,
         }
     }
 }

@@ -6,7 +6,9 @@ ghost use Rattle.st_hop.specs.Table.{is_table, new_hop};
 ghost use Rattle.st_ledger.specs.Placed.{ArePlaces};
 ghost use Rattle.st_settings.specs.Table.{names_of};
 ghost use Rattle.st_program.specs.Table.{WhyNoHop, is_hop};
-ghost use Rattle.st_program.specs.Restored.{IsRestored, WhyNotRestored};
+ghost use Rattle.st_ledger.specs.Names.{claims_of, dues_of};
+ghost use Rattle.st_ledger.specs.Placing.{first_of};
+ghost use Rattle.st_program.specs.Restored.{GoesOnFrom, IsRestored, StandsFor, WhyNotRestored};
 ghost use Rattle.st_program.specs.declared.error.RunError.TheVariants.{BadTable, NoHop};
 
 use crate::error::RunError;
@@ -14,7 +16,7 @@ use sqlite_trees::store::Alter;
 use st_books::Books;
 use st_commands::Fault;
 use st_hop::{Account, HopError, HopState, Route};
-use st_ledger::{Life, place};
+use st_ledger::{Life, added_names_owe_nothing, place};
 use st_settings::{AccountLine, Table};
 use st_transfer::Neighbour;
 use std::alloc::{AllocError, Global};
@@ -71,10 +73,14 @@ pub(crate) fn restored<S: Alter>(
 ) -> Result<Going, RunError>
     ensures hop { IfOk result (λ going. IsRestored own.now table.now.accounts.items table.now.routes.items books.old books.new going.hop) }
     ensures placed { IfOk result (λ going. ArePlaces books.new.names (names_of table.now.accounts.items) going.places.items) }
+    ensures stands { IfOk result (λ going. StandsFor S.Store (names_of table.now.accounts.items) books.new going.hop) }
+    ensures goes_on { IfOk result (λ going. GoesOnFrom own.now (claims_of books.old.names books.old.amounts (names_of table.now.accounts.items)) (dues_of books.old.names books.old.amounts (names_of table.now.accounts.items)) (first_of books.new.starts) going.hop) }
     ensures refused { IfErr result WhyNotRestored }
 {
     let names = table.names(alloc)?;
     let terms = table.terms(alloc)?;
+    added_names_owe_nothing();
+    let _amounts = books.amounts();
     let Life {
         places,
         claims,
@@ -82,7 +88,10 @@ pub(crate) fn restored<S: Alter>(
         first,
     } = place(alloc, books, &names, &terms)?;
     match HopState::restored(alloc, own, &terms, &table.routes, &claims, &dues, first) {
-        Ok(hop) => Ok(Going { hop, places }),
+        Ok(hop) => {
+            hop.is_lawful();
+            Ok(Going { hop, places })
+        }
         Err(_) => Err(RunError::NoHop),
     }
 }

@@ -5,20 +5,22 @@ ghost use Rattle.std.specs.Io.KnownBytes.{Appends};
 ghost use Rattle.st_oer.specs.Tallies.{device_of, tally_of};
 ghost use Rattle.st_commands.specs.declared.error.Fault.{Fault};
 ghost use Rattle.st_ledger.specs.Placing.{IsLate};
-ghost use Rattle.st_program.specs.Ledger.{EndsLedger, FailsToWrite, IsPrinted, PrintsFound};
+ghost use Rattle.st_program.specs.Ledger.{EndsLedger, FailsToWrite, IsPrinted, IsPrintedAlone, IsPrintedOnce, PrintsFound};
 ghost use Rattle.st_program.specs.Ledger as specs;
 ghost use Rattle.st_program.specs.declared.error.RunError.TheVariants as run;
 
 use crate::error::RunError;
 use sqlite_trees::store::Alter;
-use st_books::{Books, Side};
+use st_books::{Amounts, Books, Entry, Kind, Side};
 use st_commands::{TURNS, put};
 use st_desk::Clock;
-use st_ledger::{LedgerError, OpensBooks, account_text, ledger_text, settle};
+use st_ledger::{
+    LedgerError, OpensBooks, account_text, ledger_text, repeated_text, settle, settle_once,
+};
 use st_oer::CountWrite;
 use st_settings::{LedgerSettings, Payment};
 use st_transfer::RuntimeClock;
-use std::alloc::Global;
+use std::alloc::{AllocError, Global};
 use std::io::Write;
 
 /// The side of the books that a payment is taken off.
@@ -31,13 +33,72 @@ fn side_of(side: st_settings::Side) -> Side
     }
 }
 
+/// Whether the books take an amount off or add it.
+fn kind_of(kind: st_settings::Kind) -> Kind
+    ensures { result ≡ specs.kind_of kind }
+{
+    match kind {
+        st_settings::Kind::Settle => Kind::Paid,
+        st_settings::Kind::Adjust => Kind::Adjusted,
+    }
+}
+
 /// The present moment, in milliseconds since the start of 1970; 0 where the clock cannot be read.
 fn moment<C: std::time::Clock>(rt: &C) -> u64 {
     u64::try_from(RuntimeClock::new(rt).now().ms()).unwrap_or(0)
 }
 
-/// Books a payment, and gives the line of its account.
+/// Books a payment without a reference, and gives the line of its account.
 fn settled<S: Alter, C: std::time::Clock>(
+    rt: &C,
+    alloc: Global,
+    books: &mut Books<S>,
+    name: &str,
+    side: Side,
+    amount: u64,
+) -> Result<Vec<u8>, LedgerError>
+    ensures printed { IfOk result (λ text. IsPrintedAlone S.Store name.now side amount books.old books.new text.items) }
+    ensures late { IfErr result IsLate }
+{
+    let left = settle(books, name, side, amount, moment(rt))?;
+    Ok(account_text(alloc, name.as_bytes(), left)?)
+}
+
+/// The line of an account whose entry was booked before, or now.
+fn once_text(
+    alloc: Global,
+    repeated: bool,
+    name: &[u8],
+    amounts: Amounts,
+) -> Result<Vec<u8>, AllocError>
+    ensures { IfOk result (λ text. text.items ≡ specs.once_text repeated name.now amounts) }
+{
+    if repeated {
+        return repeated_text(alloc, name, amounts);
+    }
+    account_text(alloc, name, amounts)
+}
+
+/// Books a payment or an adjustment once under its reference, and gives the line of its account.
+#[tactic(auto, using(crate::proofs::Ledgers::printed_once))]
+fn settled_once<S: Alter, C: std::time::Clock>(
+    rt: &C,
+    alloc: Global,
+    books: &mut Books<S>,
+    name: &str,
+    side: Side,
+    entry: Entry,
+    reference: &str,
+) -> Result<Vec<u8>, LedgerError>
+    ensures printed { IfOk result (λ text. IsPrintedOnce S.Store name.now side entry reference.now books.old books.new text.items) }
+    ensures late { IfErr result IsLate }
+{
+    let once = settle_once(books, name, side, entry, moment(rt), reference)?;
+    Ok(once_text(alloc, once.repeated, name.as_bytes(), once.amounts)?)
+}
+
+/// Books a payment or an adjustment, and gives the line of its account.
+fn entered<S: Alter, C: std::time::Clock>(
     rt: &C,
     alloc: Global,
     books: &mut Books<S>,
@@ -46,12 +107,27 @@ fn settled<S: Alter, C: std::time::Clock>(
     ensures printed { IfOk result (λ text. IsPrinted S.Store (Some payment.entry) books.old books.new text.items) }
     ensures late { IfErr result IsLate }
 {
-    let Payment { name, amount, side } = payment;
-    let left = settle(books, name, side_of(side), amount, moment(rt))?;
-    Ok(account_text(alloc, name.as_bytes(), left)?)
+    let Payment {
+        name,
+        kind,
+        amount,
+        side,
+        reference,
+    } = payment;
+    let side = side_of(side);
+    match reference {
+        None => settled(rt, alloc, books, name, side, amount),
+        Some(reference) => {
+            let entry = Entry {
+                kind: kind_of(kind),
+                amount,
+            };
+            settled_once(rt, alloc, books, name, side, entry, reference)
+        }
+    }
 }
 
-/// What is printed of books: the line of the account of which a payment was booked, or all of them.
+/// What is printed of books: the line of the account of which a payment or an adjustment was booked, or all of them.
 fn text_of<S: Alter, C: std::time::Clock>(
     rt: &C,
     alloc: Global,
@@ -62,7 +138,7 @@ fn text_of<S: Alter, C: std::time::Clock>(
     ensures late { IfErr result IsLate }
 {
     match payment {
-        Some(payment) => settled(rt, alloc, books, payment),
+        Some(payment) => entered(rt, alloc, books, payment),
         None => Ok(ledger_text(alloc, books)?),
     }
 }
@@ -77,8 +153,8 @@ fn print<W: Write>(writer: &mut CountWrite<W>, text: &[u8]) -> Result<(), RunErr
     Ok(())
 }
 
-/// Prints the books of a file: a line for each account, and one for the starts. With a payment it books that, with the
-/// present moment, and prints the line of its account as it stands then. The file has to hold books: none are made.
+/// Prints the books of a file: a line for each account, and one for the starts. With a payment or an adjustment it books
+/// that, with the present moment, and prints the line of its account as it stands then. The file has to hold books: none are made.
 ///
 /// Nothing is printed where the books refuse.
 pub(crate) fn ledger<W: Write, C: std::time::Clock, O: OpensBooks>(

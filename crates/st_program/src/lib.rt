@@ -19,6 +19,7 @@ mod input;
 mod laws;
 mod ledger;
 mod listening;
+mod local;
 mod log;
 mod obstacle;
 mod process;
@@ -33,7 +34,7 @@ mod table_file;
 mod tell;
 mod totals;
 
-pub use error::RunError;
+pub use error::{LocalError, RunError};
 pub use laws::{a_bad_table_is_told_exactly, frames_needs_no_word};
 pub use process::{ilpstream, start};
 pub use program::run;

@@ -12,6 +12,7 @@ ghost use Rattle.st_program.specs.Process.{Obeys};
 use crate::connector::connector;
 use crate::explain::explain;
 use crate::ledger::ledger;
+use crate::local::local;
 use crate::receive::receive;
 use crate::send::send;
 use crate::streams::{Streams, missing};
@@ -20,7 +21,6 @@ use clap::Error;
 use clap::error::ErrorKind;
 use st_commands::{Fault, TURNS, put, run_frames, say, tell_fault};
 use st_ledger::OpensBooks;
-use st_local::run_local;
 use st_oer::{CountRead, CountWrite, Tally};
 use st_words::{Request, WordsError, broken_rule, read_words};
 use std::alloc::Global;
@@ -112,7 +112,7 @@ fn done<
 {
     match request {
         Request::Frames => run_frames(alloc, reader, writer, errors),
-        Request::Local(settings) => run_local(alloc, settings, reader, writer, errors),
+        Request::Local(request) => local(rt, alloc, request, reader, writer, errors),
         Request::Send(settings) => {
             let mut obstacle = None;
             let ended = send(rt, alloc, settings, reader, &mut obstacle);

@@ -32,13 +32,32 @@ fn unless(is_open: bool, fault: Fault) -> Option<Fault>
     if is_open { None } else { Some(fault) }
 }
 
+/// The fault of a command that needs both streams, where one is closed.
+fn missing_one(streams: Streams) -> Option<Fault>
+    ensures { result ≡ spec.missing_one streams }
+{
+    if streams.input {
+        unless(streams.output, Fault::Output)
+    } else {
+        Some(Fault::Input)
+    }
+}
+
 /// The fault of a command that needs a standard stream which is closed: of the input for `send` and for a `connector`
-/// without a file of its table, of the output for `receive` and `ledger`. `frames`, `local` and `explain` open nothing: their first read or write fails.
+/// without a file of its table, of the output for `receive` and `ledger`, of either for `local` with a file for its totals.
+/// `frames`, `explain` and `local` without one open nothing: their first read or write fails.
 pub(crate) fn missing(request: &Request<'_>, streams: Streams) -> Option<Fault>
     ensures { result ≡ spec.missing request.now streams }
 {
     match request {
-        Request::Frames | Request::Local(_) | Request::Explain(_) => None,
+        Request::Frames | Request::Explain(_) => None,
+        Request::Local(request) => {
+            if request.totals.is_some() {
+                missing_one(streams)
+            } else {
+                None
+            }
+        }
         Request::Send(_) => unless(streams.input, Fault::Input),
         Request::Connector(settings) => {
             unless(streams.input || settings.table.is_some(), Fault::Input)

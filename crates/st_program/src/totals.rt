@@ -317,6 +317,21 @@ fn tell_last<N: Files<File = File>>(
     }
 }
 
+/// Writes a text where the totals go, if a file was asked for.
+pub(crate) fn tell_text<N: Files<File = File>>(
+    telling: Telling<'_, N>,
+    text: &[u8],
+) -> Result<(), Fault> {
+    match telling.place {
+        Some(TotalsPlace::Open(mut file)) => {
+            let mut turns = TURNS;
+            put(&mut file, text, &mut turns)
+        }
+        Some(TotalsPlace::Beside(mut place)) => replace(&mut place, text),
+        None => Ok(()),
+    }
+}
+
 /// Writes the totals of a connector where a file was asked for, however it ended. Returns the result of the command.
 pub(crate) fn tell_accounts<N: Files<File = File>>(
     telling: Telling<'_, N>,

@@ -9,3 +9,4 @@ pub mod FirstFaults
 pub mod Readings
 pub mod Placing
 pub mod LawfulRoutes
+pub mod Entries

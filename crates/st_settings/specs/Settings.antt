@@ -6,7 +6,7 @@ use Rattle.st_settings.specs.declared.options.LocalOptions.{LocalOptions}
 use Rattle.st_settings.specs.declared.options.SendOptions.{SendOptions}
 use Rattle.st_settings.specs.declared.options.ReceiveOptions.{ReceiveOptions}
 use Rattle.st_settings.specs.declared.options.ConnectorOptions.{ConnectorOptions}
-use Rattle.st_settings.specs.declared.settings.LocalSettings.{LocalSettings}
+use Rattle.st_settings.specs.declared.settings.LocalRequest.{LocalRequest}
 use Rattle.st_settings.specs.declared.settings.SendSettings.{SendSettings}
 use Rattle.st_settings.specs.declared.settings.ReceiveSettings.{ReceiveSettings}
 use Rattle.st_settings.specs.declared.settings.ConnectorSettings.{ConnectorSettings}
@@ -41,12 +41,14 @@ pub record LocalTexts : Type 0 where
   pub hops : List ℕ
   pub lose : List ℕ
   pub streams : List ℕ
+  pub totals : Option (List ℕ)
 
 abbrev pub local_texts : LocalOptions → LocalTexts
 local_texts o = record {
   hops = o.hops.now;
   lose = o.lose.now;
   streams = o.streams.now;
+  totals = said o.totals;
 }
 
 -- the texts of `send`
@@ -145,10 +147,11 @@ connector_texts o = record {
 }
 
 -- the texts ask `local` for this
-pub record IsLocal (o : LocalTexts) (s : LocalSettings) : Type 0 where
-  pub hops : IsWithin 0 8 o.hops s.hops
-  pub lose : IsWithin 0 1_000_000 o.lose s.lose
-  pub streams : IsWithin 1 32 o.streams s.streams
+pub record IsLocal (o : LocalTexts) (s : LocalRequest) : Type 0 where
+  pub hops : IsWithin 0 8 o.hops s.settings.hops
+  pub lose : IsWithin 0 1_000_000 o.lose s.settings.lose
+  pub streams : IsWithin 1 32 o.streams s.settings.streams
+  pub totals : said s.totals ≡ o.totals
 
 -- the texts ask `send` for this
 pub record IsSend (o : SendTexts) (s : SendSettings) : Type 0 where

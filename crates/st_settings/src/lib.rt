@@ -26,13 +26,13 @@ pub use error::TableError;
 pub use fault::{LineFault, TableFault, table_fault};
 pub use first_line::{first_secret, first_token};
 pub use laws::{a_bad_text_says_no_table, lines_say_one_table};
-pub use ledger::{LedgerSettings, Payment, Side};
+pub use ledger::{Kind, LedgerSettings, Payment, Side, is_reference};
 pub use line::{AccountLine, Neighbour};
 pub use number::read_number;
 pub use options::{ConnectorOptions, LedgerOptions, LocalOptions, ReceiveOptions, SendOptions};
 pub use settings::{
-    ConnectorSettings, LEAST_SEND_PATIENCE, LocalSettings, MAX_HOPS, MAX_LOSE, MAX_MONEY,
-    MAX_PATIENCE, MAX_REQUESTS, MAX_STREAMS, MAX_WORKERS, ReceiveSettings, SendSettings,
+    ConnectorSettings, LEAST_SEND_PATIENCE, LocalRequest, LocalSettings, MAX_HOPS, MAX_LOSE,
+    MAX_MONEY, MAX_PATIENCE, MAX_REQUESTS, MAX_STREAMS, MAX_WORKERS, ReceiveSettings, SendSettings,
 };
 pub use source::{Secret, Token};
 pub use table::{Table, read_table};

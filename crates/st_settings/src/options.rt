@@ -9,6 +9,8 @@ pub struct LocalOptions<'a> {
     pub lose: &'a str,
     /// The text of `--streams`.
     pub streams: &'a str,
+    /// The text of `--totals`, where it is given.
+    pub totals: Option<&'a str>,
 }
 
 /// The texts of the options of `send`.

@@ -2,7 +2,7 @@
 
 ghost use Rattle.std.specs.Prelude.{◌≡◌, ℕ, Option, true, false, MatchOption};
 ghost use Rattle.st_oer.specs.Address as address;
-ghost use Rattle.st_settings.specs.declared.settings.LocalSettings.{LocalSettings};
+ghost use Rattle.st_settings.specs.declared.settings.LocalRequest.{LocalRequest};
 ghost use Rattle.st_settings.specs.declared.settings.SendSettings.{SendSettings};
 ghost use Rattle.st_settings.specs.declared.settings.ReceiveSettings.{ReceiveSettings};
 ghost use Rattle.st_settings.specs.declared.settings.ConnectorSettings.{ConnectorSettings};
@@ -41,6 +41,15 @@ pub struct LocalSettings {
     pub lose: u64,
     /// The number of streams that the input is divided among: 1 to 32, by default 1.
     pub streams: u8,
+}
+
+/// What `local` is asked for: its settings, and where its totals go.
+#[derive(Clone, Copy, Debug)]
+pub struct LocalRequest<'a> {
+    /// The settings of the run.
+    pub settings: LocalSettings,
+    /// The name of the file that the totals are written to, where one was given.
+    pub totals: Option<&'a str>,
 }
 
 /// The settings of `send`.
@@ -171,15 +180,18 @@ fn address(text: &str) -> Option<&str>
     if is_address(text) { Some(text) } else { None }
 }
 
-impl LocalSettings {
-    /// The settings that the texts of the options write. `None` exactly where one of the texts is bad.
-    pub fn read(options: &LocalOptions<'_>) -> Option<LocalSettings>
-        ensures { MatchOption result ((s : LocalSettings) → ¬ (IsLocal (local_texts options.now) s)) (IsLocal (local_texts options.now)) }
+impl<'a> LocalRequest<'a> {
+    /// What the texts of the options ask for. `None` exactly where one of the texts is bad.
+    pub fn read(options: &LocalOptions<'a>) -> Option<LocalRequest<'a>>
+        ensures { MatchOption result ((s : LocalRequest) → ¬ (IsLocal (local_texts options.now) s)) (IsLocal (local_texts options.now)) }
     {
-        Some(LocalSettings {
-            hops: number(options.hops, 0, MAX_HOPS)? as u8,
-            lose: number(options.lose, 0, MAX_LOSE)?,
-            streams: number(options.streams, 1, MAX_STREAMS)? as u8,
+        Some(LocalRequest {
+            settings: LocalSettings {
+                hops: number(options.hops, 0, MAX_HOPS)? as u8,
+                lose: number(options.lose, 0, MAX_LOSE)?,
+                streams: number(options.streams, 1, MAX_STREAMS)? as u8,
+            },
+            totals: options.totals,
         })
     }
 }

@@ -8,7 +8,7 @@ use Rattle.clap.specs.Simple.{is_simple}
 use Rattle.st_settings.specs.Ledger as ledger
 use Rattle.st_settings.specs.Numbers.{IsNumber}
 use Rattle.st_settings.specs.Settings as settings
-use Rattle.st_settings.specs.declared.settings.LocalSettings.{LocalSettings}
+use Rattle.st_settings.specs.declared.settings.LocalRequest.{LocalRequest}
 use Rattle.st_settings.specs.declared.settings.SendSettings.{SendSettings}
 use Rattle.st_settings.specs.declared.settings.ReceiveSettings.{ReceiveSettings}
 use Rattle.st_settings.specs.declared.settings.ConnectorSettings.{ConnectorSettings}
@@ -39,7 +39,7 @@ unlike s t differs e =
     absurd (cc)
 
 module _ (name : Text) (rows : List Row) where
-  pub bad_local : name ≡ codes "local" → ((s : LocalSettings) → ¬ (settings.IsLocal (local_texts rows) s)) → IsBad name rows
+  pub bad_local : name ≡ codes "local" → ((s : LocalRequest) → ¬ (settings.IsLocal (local_texts rows) s)) → IsBad name rows
   bad_local is none request.Frames asks = unlike (codes "local") (codes "frames") refl (sym is ∙ asks)
   bad_local is none (request.Local s) asks = none s asks.1
   bad_local is none (request.Send s) asks = unlike (codes "local") (codes "send") refl (sym is ∙ asks.0)

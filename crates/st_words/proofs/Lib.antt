@@ -1,3 +1,4 @@
 pub mod Commands
 pub mod PlainWords
 pub mod Answered
+pub mod Counted

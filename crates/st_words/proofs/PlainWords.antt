@@ -6,7 +6,7 @@ use Rattle.clap.specs.Lexer.{long_of, short_of}
 use Rattle.clap.specs.Words.{Row, Text}
 use Rattle.clap.proofs.OnLiterals.{clap_on_literals}
 use Rattle.st_words.specs.Words.{command_of}
-use Rattle.st_words.specs.Laws.{BooksSayTheirFile, ConnectorSaysItsTexts, ControlSaysItsNames, EndlessSaysNoNumber, FilesSayTheirNames, LedgerSaysItsFile, PaymentSaysItsTexts, ReceiveSaysItsTexts, RequestsAreSaidOnce, SayLedger, SendSaysItsTexts}
+use Rattle.st_words.specs.Laws.{AdjustmentSaysItsTexts, BooksSayTheirFile, ConnectorSaysItsTexts, ControlSaysItsNames, EndlessSaysNoNumber, FilesSayTheirNames, LedgerSaysItsFile, PaymentSaysItsTexts, ReceiveSaysItsTexts, ReferenceSaysItsTexts, RequestsAreSaidOnce, SayLedger, SendSaysItsTexts}
 
 pub send_plain : SendSaysItsTexts
 unfolding clap_on_literals
@@ -77,3 +77,26 @@ paid_plain file name amount is =
 
 pub payment_plain : PaymentSaysItsTexts
 payment_plain first rest name amount no_hyphen = paid_plain (first ∷ rest) name amount (is_value first rest no_hyphen)
+
+abbrev reference_words : Text → Text → Text → Text → List Text
+reference_words file name amount reference = codes "ilpstream" ∷ codes "ledger" ∷ file ∷ codes "settle" ∷ name ∷ amount ∷ codes "--reference" ∷ reference ∷ []
+
+referred_plain : (file name amount reference : Text) → IsValue file → SayLedger (reference_words file name amount reference) file (Some (codes "settle" ∷ name ∷ amount ∷ codes "--reference" ∷ reference ∷ []))
+unfolding clap_on_literals rows_in
+referred_plain file name amount reference is =
+    (rw (is.more, is.no_long, is.no_short) refl, (rows_in (command_of (reference_words file name amount reference)), rw (is.more, is.no_long, is.no_short) refl, rw (is.more, is.no_long, is.no_short) refl))
+
+pub reference_plain : ReferenceSaysItsTexts
+reference_plain first rest name amount reference no_hyphen = referred_plain (first ∷ rest) name amount reference (is_value first rest no_hyphen)
+
+abbrev adjustment_words : Text → Text → Text → Text → Text → List Text
+adjustment_words file name side amount reference = codes "ilpstream" ∷ codes "ledger" ∷ file ∷ codes "adjust" ∷ name ∷ side ∷ amount ∷ codes "--reference" ∷ reference ∷ []
+
+adjusted_plain : (file name side amount reference : Text) → IsValue file
+    → SayLedger (adjustment_words file name side amount reference) file (Some (codes "adjust" ∷ name ∷ side ∷ amount ∷ codes "--reference" ∷ reference ∷ []))
+unfolding clap_on_literals rows_in
+adjusted_plain file name side amount reference is =
+    (rw (is.more, is.no_long, is.no_short) refl, (rows_in (command_of (adjustment_words file name side amount reference)), rw (is.more, is.no_long, is.no_short) refl, rw (is.more, is.no_long, is.no_short) refl))
+
+pub adjustment_plain : AdjustmentSaysItsTexts
+adjustment_plain first rest name side amount reference no_hyphen = adjusted_plain (first ∷ rest) name side amount reference (is_value first rest no_hyphen)

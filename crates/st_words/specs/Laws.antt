@@ -162,3 +162,15 @@ LedgerSaysItsFile = (first : ℕ) (rest : Text) → first ≢ 45 → SayLedger (
 abbrev pub PaymentSaysItsTexts : Type 0
 PaymentSaysItsTexts = (first : ℕ) (rest name amount : Text) → first ≢ 45
     → SayLedger (codes "ilpstream" ∷ codes "ledger" ∷ (first ∷ rest) ∷ codes "settle" ∷ name ∷ amount ∷ []) (first ∷ rest) (Some (codes "settle" ∷ name ∷ amount ∷ []))
+
+-- and any reference behind them
+abbrev pub ReferenceSaysItsTexts : Type 0
+ReferenceSaysItsTexts = (first : ℕ) (rest name amount reference : Text) → first ≢ 45
+    → SayLedger (codes "ilpstream" ∷ codes "ledger" ∷ (first ∷ rest) ∷ codes "settle" ∷ name ∷ amount ∷ codes "--reference" ∷ reference ∷ []) (first ∷ rest)
+    (Some (codes "settle" ∷ name ∷ amount ∷ codes "--reference" ∷ reference ∷ []))
+
+-- and those of an adjustment
+abbrev pub AdjustmentSaysItsTexts : Type 0
+AdjustmentSaysItsTexts = (first : ℕ) (rest name side amount reference : Text) → first ≢ 45
+    → SayLedger (codes "ilpstream" ∷ codes "ledger" ∷ (first ∷ rest) ∷ codes "adjust" ∷ name ∷ side ∷ amount ∷ codes "--reference" ∷ reference ∷ []) (first ∷ rest)
+    (Some (codes "adjust" ∷ name ∷ side ∷ amount ∷ codes "--reference" ∷ reference ∷ []))

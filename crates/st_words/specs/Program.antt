@@ -81,9 +81,14 @@ place_rule name = record (new_rule name) { value_names = 1; action = Some Set }
 abbrev pub number_place_rule : Text → ℕ → ℕ → Rule
 number_place_rule name least most = record (place_rule name) { parser = Some (Unsigned least most) }
 
--- n values at the end: behind the first of them each word is one, also with a hyphen in front
+-- three to six values at the end, which help shows as n: behind the first of them each word is one, also with a hyphen in front
 abbrev pub last_rule : Text → (n : ℕ) → Rule
-last_rule name n = record (new_rule name) { value_names = n; trailing_var_arg = true; action = Some Set }
+last_rule name n = record (new_rule name) {
+  range = Some (record { start_inclusive = 3; end_inclusive = 6 });
+  value_names = n;
+  trailing_var_arg = true;
+  action = Some Set;
+}
 
 -- where requests are taken
 abbrev pub with_listen : Shape → Shape
@@ -143,7 +148,8 @@ abbrev pub local : Shape
 local = record (new_shape (codes "local")) {
   rules = with_default (codes "1") (number_rule (codes "hops") 0 8)
       ∷ with_default (codes "0") (number_rule (codes "lose") 0 1_000_000)
-      ∷ with_default (codes "1") (number_rule (codes "streams") 1 32) ∷ [];
+      ∷ with_default (codes "1") (number_rule (codes "streams") 1 32)
+      ∷ totals_rule ∷ [];
 }
 
 abbrev pub send : Shape
@@ -196,7 +202,7 @@ connector = record (new_shape (codes "connector")) {
       ∷ table_rule ∷ [];
 }
 
--- FILE, and three words or none
+-- FILE, and three to six words or none
 abbrev pub ledger : Shape
 ledger = record (new_shape (codes "ledger")) {
   rules = with_required (place_rule (codes "file"))

@@ -21,6 +21,7 @@ local_texts rows = record {
   hops = value_of (codes "hops") rows;
   lose = value_of (codes "lose") rows;
   streams = value_of (codes "streams") rows;
+  totals = first_of (codes "totals") rows;
 }
 
 abbrev pub send_texts : List Row → settings.SendTexts

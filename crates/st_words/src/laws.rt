@@ -1,6 +1,6 @@
 //! A law of the arguments of `send`, `receive`, `connector` and `ledger`.
 
-ghost use Rattle.st_words.specs.Laws.{BooksSayTheirFile, ConnectorSaysItsTexts, ControlSaysItsNames, EndlessSaysNoNumber, FilesSayTheirNames, LedgerSaysItsFile, PaymentSaysItsTexts, ReceiveSaysItsTexts, RequestsAreSaidOnce, SendSaysItsTexts};
+ghost use Rattle.st_words.specs.Laws.{AdjustmentSaysItsTexts, BooksSayTheirFile, ConnectorSaysItsTexts, ControlSaysItsNames, EndlessSaysNoNumber, FilesSayTheirNames, LedgerSaysItsFile, PaymentSaysItsTexts, ReceiveSaysItsTexts, ReferenceSaysItsTexts, RequestsAreSaidOnce, SendSaysItsTexts};
 
 /// States a law; it does nothing. A command gets the texts behind `--to=` and the other options exactly as they are,
 /// whatever they are; an option that is left out has its default. `ledger` gets its file, and each name and amount of a
@@ -17,4 +17,6 @@ pub fn plain_words_say_their_texts()
     ensures books { BooksSayTheirFile }
     ensures ledger { LedgerSaysItsFile }
     ensures payment { PaymentSaysItsTexts }
+    ensures reference { ReferenceSaysItsTexts }
+    ensures adjustment { AdjustmentSaysItsTexts }
 {}

@@ -40,8 +40,8 @@ pub(crate) fn placed_number<'a>(alloc: Global, name: &'a str, help: &'a str, mos
     placed(alloc, name, "N", help).value_parser(value_parser!(u64).range(0..=most as i64))
 }
 
-/// As many words at the end as there are `values`, as which help shows them; or none. Behind the first of them each word
-/// is one, also a word that begins with a hyphen.
+/// Three to six words at the end, which help shows as `values`; or none. Behind the first of them each word is one, also a
+/// word that begins with a hyphen.
 pub(crate) fn last<'a>(
     alloc: Global,
     name: &'a str,
@@ -53,6 +53,7 @@ pub(crate) fn last<'a>(
 {
     Arg::new(alloc, name)
         .value_names(values)
+        .num_args(3..=6)
         .trailing_var_arg(true)
         .help(help)
         .action(ArgAction::Set)

@@ -1,12 +1,12 @@
-//! Pairs of options of which exactly one has to be given.
+//! Pairs of options of which exactly one has to be given, and how many words `ledger` takes.
 
-ghost use Rattle.std.specs.Prelude.{◌≡◌, [], ◌∷◌, Some};
+ghost use Rattle.std.specs.Prelude.{◌≡◌, [], ◌∷◌, Some, map, option_map};
 ghost use Rattle.clap.specs.Words.{FailsBy, HasKind, found_of, rows_of, subcommand_rows_of};
 ghost use Rattle.st_words.specs.Pairs as spec;
-ghost use Rattle.st_words.specs.Pairs.{keys_fault, pair_fault, pairs_fault, requests_fault};
+ghost use Rattle.st_words.specs.Pairs.{count_fault, keys_fault, pair_fault, pairs_fault, requests_fault};
 
-use crate::request::{chosen, is_set};
-use crate::texts::{CONNECTOR_USAGE, RECEIVE_USAGE, SEND_USAGE};
+use crate::request::{chosen, is_set, payment};
+use crate::texts::{CONNECTOR_USAGE, LEDGER_USAGE, RECEIVE_USAGE, SEND_USAGE};
 use clap::error::ErrorKind;
 use clap::{ArgMatches, Command, Error};
 use std::alloc::Global;
@@ -98,6 +98,24 @@ fn look_at_keys(alloc: Global, usage: &'static str, matches: &ArgMatches<'_>) ->
     look(alloc, usage, &SECRET, secret, secret_file)
 }
 
+/// What is said of four words after the file of `ledger`.
+const COUNT: &str =
+    "unexpected argument found: after 'settle <NAME> <AMOUNT>' only '--reference <TEXT>' is taken";
+
+/// Looks how many words follow the file of `ledger`: four say nothing.
+#[tactic(auto, using(crate::proofs::Counted::four_refused, crate::proofs::Counted::others_taken))]
+fn look_at_count(alloc: Global, words: Option<&[&str]>) -> Result<(), Error>
+    ensures { FailsBy (count_fault (option_map (λ all. map (λ word. word.now) all.now) words.entry)) result }
+{
+    let Some(words) = words else {
+        return Ok(());
+    };
+    if words.len() == 4 {
+        return Err(refusal(alloc, LEDGER_USAGE, ErrorKind::WrongNumberOfValues, COUNT));
+    }
+    Ok(())
+}
+
 /// Looks at the pairs of the command of this name.
 fn look_at(alloc: Global, name: &str, matches: &ArgMatches<'_>) -> Result<(), Error>
     ensures { FailsBy (pairs_fault (Some (name.now, rows_of (found_of matches.now)))) result }
@@ -106,15 +124,17 @@ fn look_at(alloc: Global, name: &str, matches: &ArgMatches<'_>) -> Result<(), Er
         "send" => look_at_keys(alloc, SEND_USAGE, matches),
         "receive" => look_at_keys(alloc, RECEIVE_USAGE, matches),
         "connector" => look_at_requests(alloc, matches),
+        "ledger" => look_at_count(alloc, payment(matches)),
         _ => Ok(()),
     }
 }
 
 /// Looks whether exactly one of each pair of the command's options is given: `send` and `receive` need a token and a
-/// secret, each from an option or from a file, and `connector` a number of requests or that there is none.
+/// secret, each from an option or from a file, and `connector` a number of requests or that there is none. And looks that
+/// `ledger` has no four words after its file.
 ///
-/// Fails with `ArgumentConflict` where both of a pair are given, with `MissingRequiredArgument` where neither is, and with
-/// `OutOfMemory`.
+/// Fails with `ArgumentConflict` where both of a pair are given, with `MissingRequiredArgument` where neither is, with
+/// `WrongNumberOfValues` for the words of `ledger`, and with `OutOfMemory`.
 pub(crate) fn look_at_pairs(alloc: Global, matches: &ArgMatches<'_>) -> Result<(), Error>
     ensures { FailsBy (pairs_fault (subcommand_rows_of matches.now)) result }
 {

@@ -15,7 +15,8 @@ use crate::texts::{
     AFTER_LEDGER_HELP, AFTER_LOCAL_HELP, AFTER_RECEIVE_HELP, AFTER_SEND_HELP, BOOKS_HELP,
     CONNECTOR_USAGE, CONTROL_HELP, ENDLESS_HELP, LEAST_HELP, LEDGER_HELP, LEDGER_USAGE, LOG_HELP,
     NUMBER_HELP, PATIENCE_HELP, PAYMENT_HELP, RECEIVE_USAGE, SECRET_FILE_HELP, SECRET_HELP,
-    SEND_USAGE, SPREAD_HELP, TABLE_HELP, TOKEN_FILE_HELP, TOKEN_HELP, TOTALS_HELP, VERBOSE_HELP,
+    SEND_USAGE, SENDS_HELP, SPREAD_HELP, TABLE_HELP, TOKEN_FILE_HELP, TOKEN_HELP, TOTALS_HELP,
+    VERBOSE_HELP,
 };
 use clap::Command;
 use st_settings::{
@@ -62,7 +63,8 @@ fn local<'a>(alloc: Global) -> Result<Command<'a>, AllocError>
     let command = with_default(command, lose, "0")?;
     let streams = "Number of streams that the input is divided among, 1 to 32";
     let streams = number(alloc, "streams", streams, 1, MAX_STREAMS);
-    with_default(command, streams, "1")
+    let command = with_default(command, streams, "1")?;
+    with_totals(alloc, command, SENDS_HELP)
 }
 
 /// The command with the options for the token and the secret, each given or in a file.
@@ -313,7 +315,8 @@ fn with_requests<'a>(alloc: Global, command: Command<'a>) -> Result<Command<'a>,
 fn connector<'a>(alloc: Global) -> Result<Command<'a>, AllocError>
     ensures { IfOk result (HasShape spec.connector) }
 {
-    let about = "Accepts packets from neighbours and forwards them, by the table on standard input";
+    let about =
+        "Accepts packets from neighbours and forwards them, by a table of accounts and routes";
     let command = named(alloc, "connector", about, AFTER_CONNECTOR_HELP);
     let command = command.override_usage(CONNECTOR_USAGE);
     let command = with_place(alloc, command)?;
@@ -321,7 +324,7 @@ fn connector<'a>(alloc: Global) -> Result<Command<'a>, AllocError>
     let command = with_workers(
         alloc,
         command,
-        "Number of threads that answer requests, 1 to 16",
+        "Number of threads that wait for a connection at any time, 1 to 16",
     )?;
     let command = with_reports(alloc, command, ACCOUNTS_HELP)?;
     with_files(alloc, command)
@@ -333,7 +336,7 @@ static PAYMENT: [&str; 3] = ["settle", "NAME", "AMOUNT"];
 fn ledger<'a>(alloc: Global) -> Result<Command<'a>, AllocError>
     ensures { IfOk result (HasShape spec.ledger) }
 {
-    let about = "Prints the books of a connector, or books a payment outside Interledger";
+    let about = "Prints the books of a connector, or books a payment or an adjustment";
     let command = named(alloc, "ledger", about, AFTER_LEDGER_HELP).override_usage(LEDGER_USAGE);
     let file = required(placed(alloc, "file", "FILE", BOOKS_HELP));
     let command = with(command, file)?;

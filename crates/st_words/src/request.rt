@@ -1,7 +1,7 @@
 //! What the arguments of the command line ask for.
 
-ghost use Rattle.std.specs.Prelude.{◌≡◌, ℕ, IfOk, MatchOption, map};
-ghost use Rattle.clap.specs.Words.{FailsBy, fault_of, first_of, found_of, rows_of, subcommand_rows_of};
+ghost use Rattle.std.specs.Prelude.{◌≡◌, ℕ, IfOk, MatchOption, codes, map, option_map};
+ghost use Rattle.clap.specs.Words.{FailsBy, all_of, fault_of, first_of, found_of, rows_of, subcommand_rows_of};
 ghost use Rattle.st_settings.specs.Ledger as ledger;
 ghost use Rattle.st_settings.specs.Numbers.{IsNumber};
 ghost use Rattle.st_settings.specs.Settings as settings;
@@ -16,8 +16,8 @@ use crate::pairs::look_at_pairs;
 use crate::program::program;
 use clap::{ArgMatches, Error};
 use st_settings::{
-    ConnectorOptions, ConnectorSettings, LedgerOptions, LedgerSettings, LocalOptions,
-    LocalSettings, ReceiveOptions, ReceiveSettings, SendOptions, SendSettings, read_number,
+    ConnectorOptions, ConnectorSettings, LedgerOptions, LedgerSettings, LocalOptions, LocalRequest,
+    ReceiveOptions, ReceiveSettings, SendOptions, SendSettings, read_number,
 };
 use std::alloc::Global;
 use std::convert::AsStr;
@@ -27,8 +27,8 @@ use std::convert::AsStr;
 pub enum Request<'a> {
     /// `frames`, or no command.
     Frames,
-    /// `local`, with its settings.
-    Local(LocalSettings),
+    /// `local`, with its settings and where its totals go.
+    Local(LocalRequest<'a>),
     /// `send`, with its settings.
     Send(SendSettings<'a>),
     /// `receive`, with its settings.
@@ -69,6 +69,7 @@ fn local<'a>(matches: &ArgMatches<'a>) -> LocalOptions<'a>
         hops: value(matches, "hops"),
         lose: value(matches, "lose"),
         streams: value(matches, "streams"),
+        totals: chosen(matches, "totals"),
     }
 }
 
@@ -130,12 +131,19 @@ pub(crate) fn connector<'a>(matches: &ArgMatches<'a>) -> ConnectorOptions<'a>
     }
 }
 
+/// The words after the file of `ledger`, where there are any.
+pub(crate) fn payment<'w, 'a>(matches: &'w ArgMatches<'a>) -> Option<&'w [&'a str]>
+    ensures { option_map (λ words. map (λ word. word.now) words.now) result ≡ all_of (codes "payment") (rows_of (found_of matches.now)) }
+{
+    matches.get_strs("payment")
+}
+
 fn ledger<'w, 'a>(matches: &'w ArgMatches<'a>) -> LedgerOptions<'w, 'a>
     ensures { ledger.ledger_texts result ≡ spec.ledger_texts (rows_of (found_of matches.now)) }
 {
     LedgerOptions {
         file: value(matches, "file"),
-        payment: matches.get_strs("payment"),
+        payment: payment(matches),
     }
 }
 
@@ -153,7 +161,7 @@ fn request_of<'a>(name: &str, matches: &ArgMatches<'a>) -> Option<Request<'a>>
 {
     match name {
         "frames" => Some(Request::Frames),
-        "local" => Some(Request::Local(LocalSettings::read(&local(matches))?)),
+        "local" => Some(Request::Local(LocalRequest::read(&local(matches))?)),
         "send" => {
             let Some(settings) = SendSettings::read(&send(matches)) else {
                 return None;

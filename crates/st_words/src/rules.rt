@@ -92,7 +92,9 @@ pub fn broken_rule<S: AsStr>(alloc: Global, words: &[S]) -> Option<&'static str>
         "send" => send_rule(&send(inner)),
         "receive" => receive_rule(&receive(inner)),
         "connector" => connector_rule(&connector(inner)),
-        "ledger" => "behind FILE stands settle NAME AMOUNT, or settle NAME -AMOUNT",
+        "ledger" => {
+            "after FILE comes settle NAME AMOUNT, settle NAME -AMOUNT or adjust NAME claims|dues N, and --reference TEXT"
+        }
         _ => DIGITS,
     })
 }

@@ -9,8 +9,8 @@ Exit status:
   1  a line was refused, or a fault ended the run
   2  the arguments ask for no command
 
-A fault prints `fault R` to standard error. `frames` prints `line N refused R` where line N is
-refused. `ilpstream explain R` says what each number R means, and so does docs/ERRORS.md.
+A fault prints `fault N` to standard error. `frames` prints `line L refused N` where line L is
+refused. `ilpstream explain N` says what each number N means, and so does docs/ERRORS.md.
 
 Example:
   ./ilpstream frames < examples/frames.txt";
@@ -18,7 +18,7 @@ Example:
 /// The end of the help of `frames`.
 pub const AFTER_FRAMES_HELP: &str =
     "It reads standard input until its end. Each line is one plain STREAM packet of an ILP Prepare; an
-empty line is skipped. Where line N is refused, it prints `line N refused R` at once, and the exit
+empty line is skipped. Where line L is refused, it prints `line L refused N` at once, and the exit
 status is 1. At the end it prints each stream that a StreamData frame of an accepted packet names:
 its number, the length of its longest run in bytes, and the run in hexadecimal.
 
@@ -35,10 +35,15 @@ pub const AFTER_LOCAL_HELP: &str =
 there are streams. Each part is sent on a stream of its own, which is then closed. The parts are
 written to standard output in the order of the streams. No socket is opened.
 
-Example:
-  ./ilpstream local --hops 2 --lose 3 --streams 4 < README.md
+With --totals it writes how many Prepares the client sent, how many of them were lost, and the bound:
+one for each 16000 bytes of a part, one for each stream, and one for each that was lost. A run that
+has more ends with fault 126. Where the bound does not hold, its line is left out: where the server
+sent a Prepare, and where a part has more than 262144 bytes.
 
-Faults: 58, 84, 90, 91, 93, 97, 98, 99.
+Example:
+  ./ilpstream local --hops 2 --lose 3 --streams 4 --totals t < README.md
+
+Faults: 58, 84, 90, 91, 93, 97, 98, 99, 126.
 `ilpstream explain N` says what each number means.";
 
 /// The end of the help of `send`.
@@ -70,8 +75,9 @@ Faults: 54, 80, 86, 88, 91, 92, 93, 98, 99.
 
 /// The end of the help of `connector`.
 pub const AFTER_CONNECTOR_HELP: &str =
-    "It reads the table from standard input until its end, and then accepts requests. Each line of the
-table is an account or a route; its parts are separated by spaces. Empty lines are skipped.
+    "It reads the table from standard input, or from the file of --table, until its end, and then
+accepts requests. Each line of the table is an account or a route; its parts are separated by
+spaces. Empty lines are skipped.
 
   account [NAME=TEXT] LIMIT MAX TOKEN HOST:PORT TOKEN
       an account; accounts are numbered from 0 in the order of their lines
@@ -87,7 +93,7 @@ table is an account or a route; its parts are separated by spaces. Empty lines a
       on as NUM units, rounded down; NUM and DEN are each from 1 to 4294967295, by default 1 and 1
 
 Example:
-  ./ilpstream connector --listen 127.0.0.1:7770 --own example.hub --requests 1000 < table
+  ./ilpstream connector --listen 127.0.0.1:7770 --own example.hub --endless < table
 
 Faults: 35, 80, 90, 91, 93, 96, 98, 99, 110, 111, 112, 113, 114, 115, 117, 119, 120, 122, 123.
 `ilpstream explain N` says what each number means.";
@@ -97,26 +103,33 @@ pub const AFTER_LEDGER_HELP: &str =
     "FILE is the file of `connector --ledger FILE`. No connector may run with it meanwhile.
 
 Without further words it prints what each account owes and is owed, and how often a connector was
-started with the books. With them it books a payment that was made outside Interledger:
+started with the books. With them it books a payment that was made outside Interledger, or adds what
+both sides agreed on:
 
-  settle NAME AMOUNT
+  settle NAME AMOUNT [--reference TEXT]
       NAME: the name of the account, 1 to 255 visible characters
       AMOUNT: the units that NAME paid of what it owes, 1 to 2^63 - 1; or with a minus in front the
       units that were paid to NAME of what it is owed
+  adjust NAME claims|dues N --reference TEXT
+      N: the units that are added to what NAME owes (claims) or is owed (dues), 1 to 2^63 - 1
+
+With --reference it is booked once for this account and side, however often it is given.
+TEXT: 1 to 128 printable ASCII characters.
 
 Examples:
   ./ilpstream ledger books.db
   ./ilpstream ledger books.db settle alice 500
-  ./ilpstream ledger books.db settle alice -500
+  ./ilpstream ledger books.db settle alice -500 --reference 'invoice 17'
+  ./ilpstream ledger books.db adjust alice claims 20 --reference 'backup of May 3'
 
-Faults: 91, 93, 98, 99, 110, 111, 112, 113, 114, 115, 116, 117, 119, 120, 121.
+Faults: 91, 93, 98, 99, 110, 111, 112, 113, 114, 115, 116, 117, 119, 120, 121, 125.
 `ilpstream explain N` says what each number means.";
 
 /// The end of the help of `explain`.
 pub const AFTER_EXPLAIN_HELP: &str =
-    "N is the number of a line `fault N`, of `line L refused N`, or of an error of the library. For each
-error with this number it prints the crate and the name of the error, which commands report it, its
-cause, and what to do. Where no error has the number, the exit status is 2.
+    "N is the number of a line `fault N` or `line L refused N`. For each error with this number it prints
+the crate and the name of the error, which commands report it, its cause, and what to do. If no error
+has the number, the exit status is 2.
 
 Example:
   ./ilpstream explain 58
@@ -139,13 +152,15 @@ pub const CONNECTOR_USAGE: &str =
     "ilpstream connector [OPTIONS] --listen <HOST:PORT> --own <ADDRESS> <--requests <N>|--endless>";
 
 /// The usage of `ledger`.
-pub const LEDGER_USAGE: &str = "ilpstream ledger <FILE> [settle <NAME> <AMOUNT>]";
+pub const LEDGER_USAGE: &str =
+    "ilpstream ledger <FILE> [settle <NAME> <AMOUNT> [--reference <TEXT>]]
+       ilpstream ledger <FILE> adjust <NAME> <claims|dues> <N> --reference <TEXT>";
 
 /// The help of FILE of `ledger`.
 pub const BOOKS_HELP: &str = "File of the books";
 
-/// The help of the words of a payment.
-pub const PAYMENT_HELP: &str = "Book a payment outside Interledger";
+/// The help of the words of a payment or an adjustment.
+pub const PAYMENT_HELP: &str = "Book a payment outside Interledger, or an adjustment";
 
 /// The help of N of `explain`.
 pub const NUMBER_HELP: &str = "Number of a fault or a refusal, 0 to 255";
@@ -156,7 +171,7 @@ pub const VERBOSE_HELP: &str =
 
 /// The help of `--control`.
 pub const CONTROL_HELP: &str =
-    "Pipe whose lines ask the command to stop, to write its totals, or to open its log anew";
+    "Pipe of orders: stop, totals, log; for connector also table, to read --table again";
 
 /// The help of `--table`.
 pub const TABLE_HELP: &str = "File of the table, in place of standard input";
@@ -200,6 +215,10 @@ pub const LEAST_HELP: &str =
 pub const TOTALS_HELP: &str =
     "File for the totals of this end, in bytes and units; without it no totals are written";
 
+/// The help of `--totals` where the totals are the Prepares of a run in memory.
+pub const SENDS_HELP: &str =
+    "File for how many Prepares were sent and lost, and how many the law allows; by default none";
+
 /// The help of `--totals` where the totals are those of each account.
 pub const ACCOUNTS_HELP: &str =
-    "File for the claims, dues and held amount of each account, in units; without it none are written";
+    "File for each account's claims, dues and counts of answers, each minute and at the end";

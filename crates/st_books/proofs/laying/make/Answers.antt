@@ -25,7 +25,7 @@ returns-clause-made g c =
 pub returns-clause-any_moment : goal.returns-clause-any_moment
 returns-clause-any_moment g c now db may =
     let entered = c.create_tables-entered in
-    elim (c.conclude.ensures.crash db may) [
+    elim (c.conclude.ensures.crash now db may) [
       | inl new ↦ inr (subst (λ (t : Trees). AreBooks t 0 [] [] []) (sym new.2) (at_ok entered.result new.0 entered.ensures.laid (c.conclude.ensures.clean now)).books)
       | inr stays ↦ inl (entered.ensures.quiet.outcomes db stays)
     ]

@@ -1,10 +1,10 @@
-use Rattle.std.proofs.Common.{◌≡◌, false, true, length, arith, sym, ap, subst, ◌∙◌}
+use Rattle.std.proofs.Common.{◌≡◌, false, true, length, IfSome, arith, sym, ap, subst, ◌∙◌}
 use Rattle.sqlite_trees.specs.Tree.{Trees}
 use Rattle.sqlite_trees.specs.View.{View, IsClean}
 use Rattle.sqlite_trees.specs.Objects.{catalog_tree}
 use Rattle.sqlite_trees.specs.Sound.{is_sound_list}
-use Rattle.st_books.specs.Payments.{ArePayments}
-use Rattle.st_books.specs.Table.{payment_tree, ListsTables}
+use Rattle.st_books.specs.Payments.{ArePayments, tally_of}
+use Rattle.st_books.specs.Table.{payment_tree, ListsTables, IsOf}
 use Rattle.st_books.specs.Standing.{Kept, Takes}
 use Rattle.st_books.proofs.Steps.{clean_open, open_sound, ready_holds, read_ready, reads_then, found_ready}
 use Rattle.st_books.proofs.Calls.{remains}
@@ -30,7 +30,7 @@ over-requires-clause-holds g c =
     (clean_open new (g.met.S.Store.shut_if_dirty c.count_payments.new.store))
     (λ now. found_ready was new c.version-starts.result c.in_ok-names.field-0.names.items c.in_ok-names.field-0.amounts.items (reads now)
     (laid.listed c.if-not-branch.false (early now) (sound now) (subst (λ (db : Trees). is_sound_list (db catalog_tree) ≡ true) (sym (before now).settled) (before now).loads)) (told.found (middle now)) told.named (c.version-starts.ensures (early now) (was_open now)) (subst ArePayments (same now) (paid.lawful now)))
-    (λ now. ap length (more now) ∙ paid.counted now)
+    (λ now. ap tally_of (more now) ∙ paid.counted now)
 
 pub returns-clause-taken : goal.returns-clause-taken
 returns-clause-taken g c =
@@ -53,7 +53,7 @@ returns-clause-taken g c =
     (clean_open new (g.met.S.Store.shut_if_dirty c.count_payments.new.store))
     (λ now. found_ready was new c.version-starts.result c.in_ok-names.field-0.names.items c.in_ok-names.field-0.amounts.items (reads now)
     (laid.listed c.if-not-branch.false (early now) (sound now) (subst (λ (db : Trees). is_sound_list (db catalog_tree) ≡ true) (sym (before now).settled) (before now).loads)) (told.found (middle now)) told.named (c.version-starts.ensures (early now) (was_open now)) (subst ArePayments (same now) (paid.lawful now)))
-    (λ now. ap length (more now) ∙ paid.counted now) in
+    (λ now. ap tally_of (more now) ∙ paid.counted now) in
     let k : Kept g.row.S.Denot = record { store = c.count_payments.new.store; starts = c.version-starts.result; names = c.in_ok-names.field-0.names.items; amounts = c.in_ok-names.field-0.amounts.items } in
     subst (λ (b : Kept g.row.S.Denot). IsClean (g.S.Store.view b.store) → Takes g.S.Store was.trees b) (sym c.over.ensures) (λ now.
     let ready = read_ready was new (reads now) (before now) in
@@ -80,3 +80,23 @@ returns-clause-listed g c =
     let before = λ (now : IsClean new). c.requires (early now) (was_open now) (laid.table c.if-not-branch.false) (laid.audit c.if-not-branch.false) in
     subst (λ (b : Kept g.row.S.Denot). IsClean (g.S.Store.view b.store) → ListsTables (was.trees catalog_tree)) (sym c.over.ensures) (λ now.
     laid.listed c.if-not-branch.false (early now) (sound now) (subst (λ (db : Trees). is_sound_list (db catalog_tree) ≡ true) (sym (before now).settled) (before now).loads))
+
+pub returns-clause-own : goal.returns-clause-own
+returns-clause-own g c =
+    let was = g.S.Store.view c.args.store in
+    let mid = g.S.Store.view c.read_lines.new.store in
+    let new = g.S.Store.view c.count_payments.new.store in
+    let told = c.in_ok-names.ensures in
+    let paid = c.in_ok-paid.ensures in
+    let laid = c.in_ok-lists_books.ensures in
+    let middle = λ (now : IsClean new). let e : IsClean mid = omega (arith, c.count_payments.ensures.quiet.clean, now) in e in
+    let early = λ (now : IsClean new). let e : IsClean was = omega (arith, told.quiet.clean, middle now) in e in
+    let sound = λ (now : IsClean new). let e : was.is_broken ≡ false = sym (c.is_broken.ensures (early now)) ∙ c.if-is_broken.false in e in
+    let was_open = λ (now : IsClean new). open_sound was (g.met.S.Store.broken_if_shut c.args.store) (sound now) in
+    let before = λ (now : IsClean new). c.requires (early now) (was_open now) (laid.table c.if-not-branch.false) (laid.audit c.if-not-branch.false) in
+    let reads = λ (now : IsClean new). reads_then was mid new (told.same (middle now)) (paid.same now) in
+    subst (λ (b : Kept g.row.S.Denot). IsClean (g.S.Store.view b.store) → IfSome c.args.own (λ a. IsOf a.now ((g.S.Store.view b.store).committed catalog_tree))) (sym c.over.ensures) (λ now.
+    let ready = read_ready was new (reads now) (before now) in
+    let same : was.trees ≡ new.committed = sym (ap (λ (v : View). v.trees) (reads now)) ∙ ready.settled in
+    subst (λ (db : Trees). IfSome c.args.own (λ a. IsOf a.now (db catalog_tree))) same
+    (laid.own c.if-not-branch.false (early now) (sound now) (subst (λ (db : Trees). is_sound_list (db catalog_tree) ≡ true) (sym (before now).settled) (before now).loads)))

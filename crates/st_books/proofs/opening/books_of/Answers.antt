@@ -8,8 +8,8 @@ use Rattle.st_books.specs.Standing.{Kept, Takes}
 use Rattle.st_books.proofs.Steps.{open_sound, ok_both}
 use Rattle.st_books.proofs.opening.books_of.Goals as goal
 
-pub new_books-requires : goal.new_books-requires
-new_books-requires g c clean =
+pub new_books-requires-clause-fresh : goal.new_books-requires-clause-fresh
+new_books-requires-clause-fresh g c clean =
     c.let_go-store.ensures.fresh clean (open_sound (g.S.Store.view c.let_go-store.result) (g.met.S.Store.broken_if_shut c.let_go-store.result) (sym (c.is_broken.ensures clean) ∙ c.if-is_broken.false))
 
 pub returns-then-is_absent-clause-taken : goal.returns-then-is_absent-clause-taken

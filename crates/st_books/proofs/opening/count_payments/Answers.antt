@@ -1,10 +1,11 @@
 use Rattle.std.proofs.lemmas.Option.{same_Some}
-use Rattle.std.proofs.Common.{◌≡◌, ◌+◌, ◌++◌, ◌∷◌, [], length-append, rules, arith, refl, sym, ap, ◌∙◌}
+use Rattle.std.proofs.Common.{◌≡◌, ◌+◌, ◌++◌, ◌∷◌, [], rules, arith, refl, sym, ap, ◌∙◌}
 use Rattle.sqlite_trees.specs.View.{View}
-use Rattle.st_books.specs.Payments.{IsPaymentLine}
+use Rattle.st_books.specs.declared.balance.Tally.{Tally}
+use Rattle.st_books.specs.Payments.{IsPaymentLine, moment_in, tally_of}
 use Rattle.st_books.specs.Table.{payment_tree}
 use Rattle.st_books.proofs.LineLemmas.{from_no_key}
-use Rattle.st_books.proofs.PaymentLemmas.{read_payment}
+use Rattle.st_books.proofs.PaymentLemmas.{read_payment, tally_more}
 use Rattle.st_books.proofs.opening.count_payments.Goals as goal
 
 pub rows-init : goal.rows-init
@@ -24,10 +25,16 @@ rows-preserved g c = (
       let step = rw c.if-not-branch.false at (c.in_ok-next.ensures.ok clean) in
       let row = c.next.new.row in
       let left : was.1 ≡ row ∷ step.0 = same_Some _ _ (sym was.2 ∙ step.1) in
-      let p = c.in-Some.field-0 in
-      let line : IsPaymentLine (c.rows.n + 1) row = record { name = p.0.now; side = p.1; amount = p.2; moment = p.3; is = c.in-Some.ensures } in
-      let more = read_payment _ was.0 row step.0 (c.rows.n + 1) (rw left at was.3) (omega (arith, was.4)) was.5 line in
-      (was.0 ++ row ∷ [], step.0, ap (λ (v : View). v.cursors 0) step.2, more.0, omega (arith, was.4, length-append was.0 (row ∷ [])), more.1),
+      let p = c.in-Some.line in
+      let line : IsPaymentLine (c.rows.lines + 1) row =
+      record { name = p.name.now; kind = p.kind; side = p.side; text = p.text.now; text_is = (p.rest.now, c.in-Some.ensures.text); amount = p.amount; moment = p.moment; is = c.in-Some.ensures.line } in
+      let so_far = ap (λ (t : Tally). t.lines) was.4 in
+      let more = read_payment _ was.0 row step.0 (c.rows.lines + 1) (rw left at was.3) (omega (arith, so_far)) was.5 line in
+      let lines = ap (λ n. n + 1) so_far in
+      let latest = ap moment_in line.is in
+      let counted : tally_of (was.0 ++ row ∷ []) ≡ record { lines = c.rows.lines + 1; latest = p.moment } =
+      tally_more was.0 row ∙ (λ i. let t : Tally = record { lines = lines i; latest = latest i } in t) in
+      (was.0 ++ row ∷ [], step.0, ap (λ (v : View). v.cursors 0) step.2, more.0, counted, more.1),
   search rules,
   search rules,
   search rules,

@@ -5,9 +5,9 @@ use Rattle.st_books.specs.Standing.{Kept, Takes}
 use Rattle.st_books.proofs.Steps.{open_sound, ok_both, absent_empty}
 use Rattle.st_books.proofs.opening.new_books.Goals as goal
 
-pub make-requires : goal.make-requires
-make-requires g c clean =
-    let fresh = c.requires clean in
+pub make-requires-clause-unlaid : goal.make-requires-clause-unlaid
+make-requires-clause-unlaid g c clean =
+    let fresh = c.requires.fresh clean in
     c.in_ok-is_unlaid.ensures c.if-not-branch.false clean (open_sound (g.S.Store.view c.args.store) (g.met.S.Store.broken_if_shut c.args.store) fresh.sound) fresh.numbered
 
 pub returns-clause-taken : goal.returns-clause-taken
@@ -17,7 +17,7 @@ returns-clause-taken g c =
     ok_both c.books_in.result _ _ (λ (b : Kept g.row.S.Denot). IsClean (g.S.Store.view b.store) → IsTrue was.is_open → Takes g.S.Store was.trees b) (λ b taken clean now is_open.
     let late = clean now in
     let early : IsClean was = c.make.ensures.clean late in
-    let fresh = c.requires early in
+    let fresh = c.requires.fresh early in
     let bare = c.in_ok-is_unlaid.ensures c.if-not-branch.false early is_open fresh.numbered in
     let made = c.in_ok-make.ensures.made late in
     let t = taken now in

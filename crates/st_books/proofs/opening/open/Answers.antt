@@ -15,4 +15,4 @@ pub returns : goal.returns
 returns g c =
     let (log, db) = c.in_ok-files.ensures.fresh in
     let same = ap₂ image (ap₂ (seen g.S.Start.log g.S.Start.db) log.0 log.1) (ap₂ (seen g.S.Start.log g.S.Start.db) db.0 db.1) in
-    ok_then c.open_files.result _ _ (λ b found now. subst (λ i. FindsWhole i b) same (found now)) c.open_files.ensures
+    ok_then c.open_files.result _ _ (λ b found now. subst (λ i. FindsWhole c.args.own.now i b) same (found now)) c.open_files.ensures

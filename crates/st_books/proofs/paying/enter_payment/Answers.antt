@@ -1,4 +1,4 @@
-use Rattle.std.proofs.Common.{◌+◌, arith, ap}
+use Rattle.std.proofs.Common.{◌+◌, max, arith, ap}
 use Rattle.std.proofs.lemmas.Result.{on_ok_weaker}
 use Rattle.sqlite_trees.specs.View.{View, IsClean}
 use Rattle.st_books.proofs.Steps.{payment_drawn}
@@ -13,7 +13,7 @@ returns-clause-drawn g c =
     let name = c.index-names-at.result in
     on_ok_weaker c.add_payment.result (λ put clean starts paid count h.
     let early : IsClean mid = omega (arith, c.add_payment.ensures.quiet.clean, clean) in
-    payment_drawn mid (g.S.Store.view c.add_payment.new.store) starts names c.set_line.new.draft paid p c.args.before name count (name_here names p.account name (omega (arith, c.requires.named, c.if-at-draft.false)) c.index-names-at.is) (put clean)
+    payment_drawn mid (g.S.Store.view c.add_payment.new.store) starts names c.set_line.new.draft paid p c.args.text.now c.args.before name c.requires.words count (name_here names p.account name (omega (arith, c.requires.named, c.if-at-draft.false)) c.index-names-at.is) (put clean)
     ((c.in_ok-set_line.ensures.drawn early).books starts paid h)) c.add_payment.ensures.put
 
 pub returns-clause-cause : goal.returns-clause-cause
@@ -25,5 +25,5 @@ returns-clause-cause g c clean =
     let name = c.index-names-at.result in
     let early : IsClean mid = omega (arith, c.add_payment.ensures.quiet.clean, clean) in
     err_then c.add_payment.result _ _ (λ e h.
-    because_unpaid was mid _ _ _ names c.args.draft.now p (c.args.before + 1) name e c.set_line.ensures.quiet.counts (ap (λ (v : View). v.is_broken) (c.in_ok-set_line.ensures.drawn early).frame) c.in_ok-set_line.ensures.keeps.schema.reals
+    because_unpaid was mid _ _ _ names c.args.draft.now p c.args.text.now (c.args.before.lines + 1) (max c.args.before.latest p.moment) name e c.set_line.ensures.quiet.counts (ap (λ (v : View). v.is_broken) (c.in_ok-set_line.ensures.drawn early).frame) c.in_ok-set_line.ensures.keeps.schema.reals
     (name_here names p.account name (omega (arith, c.requires.named, c.if-at-draft.false)) c.index-names-at.is) h) (c.add_payment.ensures.cause clean)

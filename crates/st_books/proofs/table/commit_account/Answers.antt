@@ -49,7 +49,7 @@ returns-clause-any_moment g c now db may =
     told_crash was mid new c.args._starts c.args._starts names (names ++ name ∷ []) all (all ++ nothing ∷ []) paid paid c.args._paid c.args._paid c.requires.holds c.conclude.ensures.clean (λ now. omega (arith, entered.ensures.quiet.clean, now))
     (g.met.S.Store.broken_if_shut c.args.store.now) entered.result entered.ensures.frame
     (on_ok_weaker entered.result (λ put now _ h. line_added was mid c.args._starts names all paid name (put now) h) entered.ensures.put) (λ counted. counted)
-    entered.ensures.quiet.outcomes db now (c.conclude.ensures.crash db may)
+    entered.ensures.quiet.outcomes db now (c.conclude.ensures.crash now db may)
 
 pub returns-clause-stays_open : goal.returns-clause-stays_open
 returns-clause-stays_open g c =

@@ -63,4 +63,4 @@ returns-clause-any_moment g c now db may =
     told_crash was mid new c.args._starts c.args._starts c.args.names.now c.args.names.now c.args.draft.now (booked c.args.draft.now c.args.bookings.now) paid paid c.args._paid c.args._paid c.requires.holds c.conclude.ensures.clean (λ now. omega (arith, entered.ensures.quiet.clean, now))
     (g.met.S.Store.broken_if_shut c.args.store.now) entered.result (on_ok_weaker entered.result (λ d now. (d now).frame) entered.ensures.drawn)
     (on_ok_both entered.result (λ d is now _ h. subst (λ k. AreBooks mid.trees c.args._starts c.args.names.now k paid) is ((d now).books c.args._starts paid h)) entered.ensures.drawn entered.ensures.booked) (λ counted. counted)
-    entered.ensures.quiet.outcomes db now (c.conclude.ensures.crash db may)
+    entered.ensures.quiet.outcomes db now (c.conclude.ensures.crash now db may)

@@ -47,7 +47,7 @@ returns-clause-any_moment g c now db may =
     told_crash was mid new c.args._before c.args.starts names names all all paid paid c.args._paid c.args._paid c.requires.holds c.conclude.ensures.clean (λ now. omega (arith, entered.ensures.quiet.clean, now))
     (g.met.S.Store.broken_if_shut c.args.store.now) entered.result (on_ok_weaker entered.result (λ set now. sets_only was mid _ _ (set now)) entered.ensures.set)
     (on_ok_weaker entered.result (λ set now _ h. starts_counted was mid c.args._before c.args.starts names all paid (set now) h) entered.ensures.set) (λ counted. counted)
-    entered.ensures.quiet.outcomes db now (c.conclude.ensures.crash db may)
+    entered.ensures.quiet.outcomes db now (c.conclude.ensures.crash now db may)
 
 pub returns-clause-stays_open : goal.returns-clause-stays_open
 returns-clause-stays_open g c =

@@ -3,7 +3,9 @@ use Rattle.std.specs.Io.KnownBytes.{Appends}
 use Rattle.st_oer.specs.Tallies.{device_of}
 use Rattle.st_local.specs.Parts.{joined, part_at, part_size, stream_at}
 use Rattle.st_local.specs.Playing.{read_on}
+use Rattle.st_settings.specs.declared.settings.LocalSettings.{LocalSettings}
 use Rattle.st_local.specs.Endings.{WritesPart}
+use Rattle.st_local.specs.Sends.{AreOf}
 use Rattle.st_local.proofs.Cuts.{parts_whole}
 use Rattle.st_local.proofs.Joined.{joined_same}
 use Rattle.st_local.proofs.Stops.{goes_over, on_ok, play_stops, stops_write, writes_late}
@@ -28,7 +30,8 @@ returns-in-Ok-clause-part g c =
 pub returns-in-Ok-clause-over : goal.returns-in-Ok-clause-over
 returns-in-Ok-clause-over g c =
     on_ok c.put_parts.result _ _
-    (λ done. goes_over c.args.play.now.asked c.streams-streams.result c.args.input.now c.args.play.now c.send_parts.new.play c.requires.start c.send_parts.ensures.asked c.streams-streams.ensures c.in-Ok.ensures.run c.send_parts.ensures.sent
+    (λ done. goes_over c.args.play.now.asked c.streams-streams.result c.args.input.now c.in-Ok.counts.sent c.in-Ok.counts.returned c.sends_of.result c.args.play.now c.send_parts.new.play
+    (subst (λ (a : LocalSettings). AreOf a (length c.args.input.now) c.in-Ok.counts.sent c.in-Ok.counts.returned c.sends_of.result) c.send_parts.ensures.asked c.sends_of.ensures) c.requires.start c.send_parts.ensures.asked c.streams-streams.ensures c.in-Ok.ensures.run c.send_parts.ensures.sent
     c.in-Ok.ensures.scheduled c.in-Ok.ensures.delivered)
     c.put_parts.ensures.whole
 

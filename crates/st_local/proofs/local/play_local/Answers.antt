@@ -16,7 +16,7 @@ returns-clause-part g c =
 
 pub returns-clause-over : goal.returns-clause-over
 returns-clause-over g c =
-    over_carry c.carry.result c.args.settings.now (g.R.Read.remaining (device_of c.args.reader.now)) c.deref.result.now
+    over_carry c.carry.result c.args.settings.now (g.R.Read.remaining (device_of c.args.reader.now)) c.deref.result.now c.carry.new.sends
     (input_known (g.R.Read.remaining (device_of c.args.reader.now)) c.in_ok-input.input.items c.deref.result.now c.in_ok-input.ensures.read c.deref.ensures.value) c.carry.ensures.over
 
 pub returns-clause-why : goal.returns-clause-why

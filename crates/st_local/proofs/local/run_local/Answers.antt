@@ -9,7 +9,7 @@ returns-in-Ok g c =
     ended_well (tally_of c.args.reader.now) (tally_of c.play_local.new.reader) (tally_of c.args.writer.now) (tally_of c.play_local.new.writer) c.play_local.new.turns
     c.in-Ok.ensures.reader_faults c.in-Ok.ensures.writer_faults c.play_local.ensures.turns c.in-Ok.ensures.flushed in
     record {
-      done = λ _. (refl, ended, c.in-Ok.ensures.whole, c.in-Ok.ensures.over);
+      done = λ _. (refl, ended, c.in-Ok.ensures.whole, (c.play_local.new.sends, c.in-Ok.ensures.over));
       refused = λ wrong. absurd (omega (arith, wrong));
       part = c.play_local.ensures.part;
       bound = omega arith;

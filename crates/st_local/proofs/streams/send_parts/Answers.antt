@@ -55,7 +55,7 @@ returns-then-branch-clause-scheduled g c = record {
   reach = reach_of c.playing.progress;
   mid = c.playing.play;
   rounds = c.playing.invariant.rounds;
-  last = (reach_of c.take_turns.new.progress, c.in_ok-take_turns.ensures.round, c.in_ok-take_turns.ensures.over.0 c.if-branch.true);
+  last = (reach_of c.take_turns.new.progress, c.in_ok-take_turns.ensures.round, c.in_ok-take_turns.ensures.over.0 c.if-branch.true, refl, refl);
 }
 
 -- a round that is not the last one

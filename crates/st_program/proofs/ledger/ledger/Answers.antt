@@ -2,7 +2,7 @@ use Rattle.std.proofs.Common.{◌≡◌, List, ℕ, subst}
 use Rattle.std.specs.Io.KnownBytes.{Appends}
 use Rattle.std.proofs.lemmas.Result.{on_ok_weaker}
 use Rattle.st_oer.specs.Tallies.{device_of}
-use Rattle.st_program.proofs.Ledgers.{ends_refused}
+use Rattle.st_program.proofs.Ledgers.{ends_printed, ends_refused}
 use Rattle.st_program.proofs.ledger.ledger.Goals as goal
 
 pub returns-in_err-text-in-Ok-clause-ends : goal.returns-in_err-text-in-Ok-clause-ends
@@ -21,3 +21,10 @@ returns-clause-found g c =
       c.in_ok-text-in-Ok.ensures.printed,
       subst (λ (text : List ℕ). Appends before now text) c.deref.ensures.value whole,
     )) c.print.ensures.whole
+
+pub returns-clause-ends : goal.returns-clause-ends
+returns-clause-ends g c =
+    let before = g.W.Write.contents (device_of c.args.writer.now) in
+    let now = g.W.Write.contents (device_of c.print.new.writer) in
+    ends_printed _ g.W.Write.contents c.args.settings.now.payment c.in-Ok.books c.text_of.new.books c.args.writer.now c.print.new.writer c.in_ok-text-in-Ok.text.items c.print.result c.in_ok-text-in-Ok.ensures.printed
+    (on_ok_weaker c.print.result (λ whole. subst (λ (text : List ℕ). Appends before now text) c.deref.ensures.value whole) c.print.ensures.whole) c.print.ensures.refused

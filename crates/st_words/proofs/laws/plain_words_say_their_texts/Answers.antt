@@ -1,4 +1,4 @@
-use Rattle.st_words.proofs.PlainWords.{books_plain, connector_plain, control_plain, endless_plain, files_plain, ledger_plain, payment_plain, receive_plain, requests_once, send_plain}
+use Rattle.st_words.proofs.PlainWords.{adjustment_plain, books_plain, connector_plain, control_plain, endless_plain, files_plain, ledger_plain, payment_plain, receive_plain, reference_plain, requests_once, send_plain}
 use Rattle.st_words.proofs.laws.plain_words_say_their_texts.Goals as goal
 
 pub returns : goal.returns
@@ -13,4 +13,6 @@ returns c = record {
   books = books_plain;
   ledger = ledger_plain;
   payment = payment_plain;
+  reference = reference_plain;
+  adjustment = adjustment_plain;
 }

@@ -3,7 +3,7 @@ use Rattle.clap.specs.Words.{found_of, rows_of}
 use Rattle.st_settings.specs.Ledger as ledger
 use Rattle.st_settings.specs.Numbers.{IsNumber}
 use Rattle.st_settings.specs.Settings as settings
-use Rattle.st_settings.specs.declared.settings.LocalSettings.{LocalSettings}
+use Rattle.st_settings.specs.declared.settings.LocalRequest.{LocalRequest}
 use Rattle.st_settings.specs.declared.settings.SendSettings.{SendSettings}
 use Rattle.st_settings.specs.declared.settings.ReceiveSettings.{ReceiveSettings}
 use Rattle.st_settings.specs.declared.settings.ConnectorSettings.{ConnectorSettings}
@@ -15,7 +15,7 @@ pub returns-in_err-read-in-local : goal.returns-in_err-read-in-local
 returns-in_err-read-in-local c =
     rw c.from_residual.ensures
     (bad_local c.args.name.now (rows_of (found_of c.args.matches.now)) c.in-local.is
-    (subst (λ (t : settings.LocalTexts). (s : LocalSettings) → ¬ (settings.IsLocal t s)) c.local.ensures c.in_err-read-in-local.ensures))
+    (subst (λ (t : settings.LocalTexts). (s : LocalRequest) → ¬ (settings.IsLocal t s)) c.local.ensures c.in_err-read-in-local.ensures))
 
 pub returns-in_default-read : goal.returns-in_default-read
 returns-in_default-read c =

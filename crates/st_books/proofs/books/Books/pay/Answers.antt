@@ -3,8 +3,8 @@ use Rattle.std.specs.Vec.{with_items}
 use Rattle.std.proofs.lemmas.List.{with_items_is}
 use Rattle.sqlite_disk.specs.Disk.{MoreFaults}
 use Rattle.sqlite_trees.specs.View.{IsClean}
-use Rattle.st_books.specs.declared.balance.Payment.{Payment}
-use Rattle.st_books.specs.Payments.{paying, paid_off, with_payment}
+use Rattle.st_books.specs.declared.balance.Tally.{Tally}
+use Rattle.st_books.specs.Payments.{entry_text, next_tally, paid_off, with_payment}
 use Rattle.st_books.specs.Table.{AreBooks}
 use Rattle.st_books.specs.Standing.{Kept, Holds, payments_in}
 use Rattle.st_books.specs.Reasons.{Because}
@@ -17,26 +17,29 @@ use Rattle.st_books.proofs.books.Books.pay.Goals as goal
 
 pub returns-in_err-commit_payment-clause-refused : goal.returns-in_err-commit_payment-clause-refused
 returns-in_err-commit_payment-clause-refused g c =
-    let payment : Payment = paying c.args.account c.args.side c.args.amount c.args.moment in
+    let payment = c.args.payment in
+    let reference = c.args.reference.now in
     let old : Kept g.row.S.Denot = record { store = c.self.inside.store; starts = c.self.inside.starts; names = c.self.inside.names.items; amounts = c.self.inside.amounts.items } in
     let new : Kept g.row.S.Denot = record { store = c.commit_payment.new.store; starts = c.self.inside.starts; names = c.self.inside.names.items; amounts = c.self.inside.amounts.items } in
     let told = c.in_err-commit_payment.ensures in
     let held : Holds (g.S.Store.view new.store) old.starts old.names old.amounts (payments_in (g.S.Store.view old.store)) c.self.inside.paid = rw (c.as_slice-2.ensures.value, c.as_mut_slice.ensures.value, c.in_ok-draft.ensures.items, c.as_slice.ensures.value) at told.undone in
-    let moment : BeforeOrAfter g.S.Store old (after_payment g.S.Store old payment) new = λ clean db may. rw (c.as_slice-2.ensures.value, c.as_mut_slice.ensures.value, c.in_ok-draft.ensures.items, c.as_slice.ensures.value) at (told.any_moment clean db may) in
-    on_err c.from_residual-in_err-commit_payment.result (subst (λ (k : Kept g.row.S.Denot). Refuses g.S.Store k (after_payment g.S.Store k payment) new) c.self.view_is
-    (refuses g.S.Store g.met.S.Store.settled old new (after_payment g.S.Store old payment) c.self.inside.paid (refl, refl, refl) held moment))
+    let moment : BeforeOrAfter g.S.Store old (after_payment g.S.Store old payment reference) new = λ clean db may. rw (c.as_slice-2.ensures.value, c.as_slice-3.ensures.value, c.in_ok-text.ensures, c.as_mut_slice.ensures.value, c.in_ok-draft.ensures.items, c.as_slice.ensures.value) at (told.any_moment clean db may) in
+    on_err c.from_residual-in_err-commit_payment.result (subst (λ (k : Kept g.row.S.Denot). Refuses g.S.Store k (after_payment g.S.Store k payment reference) new) c.self.view_is
+    (refuses g.S.Store g.met.S.Store.settled old new (after_payment g.S.Store old payment reference) c.self.inside.paid (refl, refl, refl) held moment))
 
 pub returns-in_err-commit_payment-clause-cause : goal.returns-in_err-commit_payment-clause-cause
 returns-in_err-commit_payment-clause-cause g c =
-    let payment : Payment = paying c.args.account c.args.side c.args.amount c.args.moment in
+    let payment = c.args.payment in
+    let reference = c.args.reference.now in
     let e = c.in_err-commit_payment.field-0.0 in
     err_told _ c.from_residual-in_err-commit_payment.result e c.from_residual-in_err-commit_payment.ensures.1 (λ clean.
-    subst (λ (k : Kept g.row.S.Denot). Because (g.S.Store.view k.store) (MoreFaults (g.S.Store.faults k.store) (g.S.Store.faults c.commit_payment.new.store)) (payment_excuses (g.S.Store.view k.store) k.names k.amounts payment) e) c.self.view_is
-    (rw (c.as_slice-2.ensures.value, c.as_mut_slice.ensures.value, c.in_ok-draft.ensures.items, c.as_slice.ensures.value) at (c.in_err-commit_payment.ensures.cause clean)))
+    subst (λ (k : Kept g.row.S.Denot). Because (g.S.Store.view k.store) (MoreFaults (g.S.Store.faults k.store) (g.S.Store.faults c.commit_payment.new.store)) (payment_excuses (g.S.Store.view k.store) k.names k.amounts payment (entry_text payment.kind payment.side reference)) e) c.self.view_is
+    (rw (c.as_slice-2.ensures.value, c.as_slice-3.ensures.value, c.in_ok-text.ensures, c.as_mut_slice.ensures.value, c.in_ok-draft.ensures.items, c.as_slice.ensures.value) at (c.in_err-commit_payment.ensures.cause clean)))
 
 pub returns-clause-paid : goal.returns-clause-paid
 returns-clause-paid g c =
-    let payment : Payment = paying c.args.account c.args.side c.args.amount c.args.moment in
+    let payment = c.args.payment in
+    let reference = c.args.reference.now in
     let old : Kept g.row.S.Denot = record { store = c.self.inside.store; starts = c.self.inside.starts; names = c.self.inside.names.items; amounts = c.self.inside.amounts.items } in
     let draft = c.in_ok-draft.draft in
     let drafted = c.commit_payment.new.draft in
@@ -44,11 +47,11 @@ returns-clause-paid g c =
     let new : Kept g.row.S.Denot = record { store = c.commit_payment.new.store; starts = c.self.inside.starts; names = c.self.inside.names.items; amounts = (with_items draft drafted).items } in
     let told = c.in_ok-commit_payment.ensures in
     let all : new.amounts ≡ paid_off old.amounts payment = same ∙ (rw (c.as_mut_slice.ensures.value, c.in_ok-draft.ensures.items, c.as_slice.ensures.value) at told.paid) in
-    let held : Holds (g.S.Store.view new.store) old.starts old.names (paid_off old.amounts payment) (with_payment (payments_in (g.S.Store.view old.store)) old.names payment) (c.self.inside.paid + 1) =
-    subst (λ a. Holds (g.S.Store.view new.store) old.starts old.names a (with_payment (payments_in (g.S.Store.view old.store)) old.names payment) (c.self.inside.paid + 1)) (sym same ∙ all) (rw (c.as_slice-2.ensures.value) at told.holds) in
-    let moment : BeforeOrAfter g.S.Store old (after_payment g.S.Store old payment) new = λ clean db may. rw (c.as_slice-2.ensures.value, c.as_mut_slice.ensures.value, c.in_ok-draft.ensures.items, c.as_slice.ensures.value) at (told.any_moment clean db may) in
-    subst (λ (k : Kept g.row.S.Denot). Makes g.S.Store k (after_payment g.S.Store k payment) new) c.self.view_is
-    (makes g.S.Store g.met.S.Store.settled old new (after_payment g.S.Store old payment) (c.self.inside.paid + 1) (refl, refl, all) held told.stays_open moment)
+    let held : Holds (g.S.Store.view new.store) old.starts old.names (paid_off old.amounts payment) (with_payment (payments_in (g.S.Store.view old.store)) old.names payment (entry_text payment.kind payment.side reference)) (next_tally c.self.inside.paid payment) =
+    subst (λ a. Holds (g.S.Store.view new.store) old.starts old.names a (with_payment (payments_in (g.S.Store.view old.store)) old.names payment (entry_text payment.kind payment.side reference)) (next_tally c.self.inside.paid payment)) (sym same ∙ all) (rw (c.as_slice-2.ensures.value, c.as_slice-3.ensures.value, c.in_ok-text.ensures) at told.holds) in
+    let moment : BeforeOrAfter g.S.Store old (after_payment g.S.Store old payment reference) new = λ clean db may. rw (c.as_slice-2.ensures.value, c.as_slice-3.ensures.value, c.in_ok-text.ensures, c.as_mut_slice.ensures.value, c.in_ok-draft.ensures.items, c.as_slice.ensures.value) at (told.any_moment clean db may) in
+    subst (λ (k : Kept g.row.S.Denot). Makes g.S.Store k (after_payment g.S.Store k payment reference) new) c.self.view_is
+    (makes g.S.Store g.met.S.Store.settled old new (after_payment g.S.Store old payment reference) (next_tally c.self.inside.paid payment) (refl, refl, all) held told.stays_open moment)
 
 pub invariant_of-self : goal.invariant_of-self
 invariant_of-self g c = (
@@ -59,11 +62,18 @@ invariant_of-self g c = (
 
 pub invariant_of-self-2 : goal.invariant_of-self-2
 invariant_of-self-2 g c =
+    let payment = c.args.payment in
+    let text = entry_text payment.kind payment.side c.args.reference.now in
+    let paid = payments_in (g.S.Store.view c.self.inside.store) in
+    let names = c.self.inside.names.items in
+    let new = g.S.Store.view c.commit_payment.new.store in
     let draft = c.in_ok-draft.draft in
     let drafted = c.commit_payment.new.draft in
     let same : (with_items draft drafted).items ≡ drafted = with_items_is draft drafted (omega (arith, c.commit_payment.auto.draft, c.as_mut_slice.ensures.len)) in
-    let next : c.self.inside.paid + 1 ≡ c.in-Some.next = omega (arith, c.in-Some.ensures) in (
-      subst (λ n. Holds (g.S.Store.view c.commit_payment.new.store) c.self.inside.starts c.self.inside.names.items (with_items draft drafted).items (payments_in (g.S.Store.view c.commit_payment.new.store)) n) next (holds_own _ _ _ _ (with_payment (payments_in (g.S.Store.view c.self.inside.store)) c.self.inside.names.items (paying c.args.account c.args.side c.args.amount c.args.moment)) _ (subst (λ a. Holds (g.S.Store.view c.commit_payment.new.store) c.self.inside.starts c.self.inside.names.items a (with_payment (payments_in (g.S.Store.view c.self.inside.store)) c.self.inside.names.items (paying c.args.account c.args.side c.args.amount c.args.moment)) (c.self.inside.paid + 1)) (sym same) (rw (c.as_slice-2.ensures.value) at c.in_ok-commit_payment.ensures.holds))),
+    let held : Holds new c.self.inside.starts names drafted (with_payment paid names payment text) (next_tally c.self.inside.paid payment) =
+    rw (c.as_slice-2.ensures.value, c.as_slice-3.ensures.value, c.in_ok-text.ensures) at c.in_ok-commit_payment.ensures.holds in (
+      subst (λ (t : Tally). Holds new c.self.inside.starts names (with_items draft drafted).items (payments_in new) t) (sym c.in-Some.ensures)
+          (holds_own _ _ _ _ (with_payment paid names payment text) _ (subst (λ a. Holds new c.self.inside.starts names a (with_payment paid names payment text) (next_tally c.self.inside.paid payment)) (sym same) held)),
       search rules,
       c.self.invariant.2,
     )

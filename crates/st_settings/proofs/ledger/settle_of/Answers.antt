@@ -1,6 +1,6 @@
 use Rattle.std.proofs.Common.{◌≡◌, [], ◌∷◌, Bor, List, ℕ, codes, refl, ap, ◌∙◌, get_or, rules}
 use Rattle.st_settings.proofs.Lines.{three_words}
-use Rattle.st_settings.proofs.ledger.payment_of.Goals as goal
+use Rattle.st_settings.proofs.ledger.settle_of.Goals as goal
 
 pub returns : goal.returns
 returns c =
@@ -13,4 +13,6 @@ returns c =
       words_are = words ∙ ap (λ (w : List ℕ). w ∷ (get_or c.args.words.now 1 d).now ∷ (get_or c.args.words.now 2 d).now ∷ []) is;
       name_is = (refl, search rules);
       amount_is = c.in_ok-side.ensures;
+      kind_is = refl;
+      alone = refl;
     }

@@ -1,0 +1,4 @@
+-- The text of the view, in pieces.
+use Rattle.std.proofs.Common.{append_assoc}
+
+pub ruleset pieces = (append_assoc)
