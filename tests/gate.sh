@@ -51,7 +51,7 @@ program() {
         step 5 tests/opens.py
         step 5 tests/control.py
         step 10 tests/causes.py
-        step 10 tests/ledger.py --kills=12
+        step 20 tests/ledger.py --kills=12
         step 10 tests/payments.py --kills=8
         step 10 tests/examples.py
         step 10 tests/scaling.py

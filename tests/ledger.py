@@ -1,15 +1,16 @@
 #!/usr/bin/env python3
 """Kills `connector --ledger` and starts it again, fills its disk, and gives it files that are damaged, taken or no books:
-ledger.py [PROGRAM [WORD]] [--kills=N] [--seed=N]. With a WORD, only the tests whose names have it. Two neighbours in Python send
+ledger.py [PROGRAM [WORD]] [--kills=N] [--seed=N] [--places=N]. With a WORD, only the tests whose names have it. Two neighbours in Python send
 each other Prepares through the connector and note which Fulfills they gave and took. Python's sqlite3 reads the books, from copies
 of both files. A line for each test says what was seen, or what is wrong; the last line counts them."""
-import collections, contextlib, itertools, os, random, re, shutil, socket, sqlite3, subprocess, threading, time
+import collections, concurrent.futures, contextlib, itertools, os, random, re, shutil, socket, sqlite3, subprocess, threading, time
 
 from peers import HOST, Peer, answer, ended, fields_at, free_port, fulfill, is_whole, listens, message, octets, prepare
 from peers import request, totals, use_up
 from play import PROGRAM, STAY, TOP, Skipped, Wrong, disk, main, option, shared_object, some_bytes, stands, test, until_it_listens, want
 
 KILLS = int(option("kills", "12"))
+PLACES = int(option("places", "100"))  # of all, in files with bits that are changed, and cuts
 SEED = option("seed", str(int(time.time())))
 SENDERS = 8  # threads of each neighbour that send, and workers of the connector
 LIMIT = 2**60
@@ -965,34 +966,41 @@ def history_of(path, room):
 
 
 class AnyBytes:
-    """Books with a bit changed, or cut, at each 512th byte of both files: what a read of them gives."""
+    """Books with a bit changed, or cut, at each 512th byte of both files, or at PLACES of these: what a read of them gives."""
 
     def __init__(self, play, hub):
         self.play, self.hub, self.rng, self.tally = play, hub, random.Random(SEED), collections.Counter()
+        self.serving = threading.Lock()
 
     def look(self, kind, path, moments):
         """Each has the sums of one of these moments, or is refused, with nothing written. A connector is tried at some."""
-        copy = f"{self.play.room}/damaged"
-        for file in "", "-wal":
-            for place in range(self.rng.randrange(512), os.path.getsize(path + file), 512):
-                bit = self.rng.randrange(8)
-                copied(path, copy)
-                flipped(copy + file, place, bit)
-                self.one(f"{kind}: bit {bit} at {place} of FILE{file}", copy, moments)
-                copied(path, copy)
-                os.truncate(copy + file, place)
-                self.one(f"{kind}: FILE{file} cut to {place} bytes", copy, moments)
+        places = [(file, place) for file in ("", "-wal") for place in range(self.rng.randrange(512), os.path.getsize(path + file), 512)]
+        some = sorted(self.rng.sample(places, min(len(places), PLACES)))
+        cases = [(*it, bit, self.rng.random() < 0.02) for it in some for bit in (self.rng.randrange(8), None)]
+        with concurrent.futures.ThreadPoolExecutor(4) as pool:
+            tried = [pool.submit(self.one, kind, path, f"{self.play.room}/damaged{at}", moments, *it) for at, it in enumerate(cases)]
+            self.tally.update(it.result() for it in tried)
 
-    def one(self, what, path, moments):
-        before = contents(path)
-        told, books = books_of(path)
-        self.tally[told] += 1
+    def one(self, kind, path, copy, moments, file, place, bit, serves):
+        copied(path, copy)
+        if bit is None:
+            os.truncate(copy + file, place)
+            what = f"seed {SEED}: {kind}: FILE{file} cut to {place} bytes"
+        else:
+            flipped(copy + file, place, bit)
+            what = f"seed {SEED}: {kind}: bit {bit} at {place} of FILE{file}"
+        before = contents(copy)
+        told, books = books_of(copy)
         if told == "0":
-            want(books in moments, f"seed {SEED}: {what}: {books} is of no moment of these books since the last fold")
-            return
-        want(told in REFUSALS and contents(path) == before, f"seed {SEED}: {what}: {told}, or the books were changed")
-        if self.rng.random() < 0.02:
-            refuses(self.hub, path, f"seed {SEED}: {what}", starts=True, wanted=REFUSALS)
+            want(books in moments, f"{what}: {books} is of no moment of these books since the last fold")
+        else:
+            want(told in REFUSALS and contents(copy) == before, f"{what}: {told}, or the books were changed")
+            if serves:
+                with self.serving:
+                    refuses(self.hub, copy, what, starts=True, wanted=REFUSALS)
+        for it in files_of(copy):
+            os.remove(it)
+        return told
 
     def told(self):
         return ", ".join(f"{told}: {count}" for told, count in sorted(self.tally.items()))
