@@ -16,6 +16,7 @@ from ilpstream import Code, End, IlpError, Request, Response, Role, Status, Whol
 
 SECONDS = 10
 MOST = 1_000_000
+FULFILL = b"\x0d"  # the first octet of a Fulfill (RFC 0027)
 
 
 def now():
@@ -42,6 +43,8 @@ class Wallet:
         self.end.set_receive_max(self.theirs, MOST)
         self.end.offer(self.stream, units)
         self.has_ended = False
+        # Whether the last exchange had no Fulfill.
+        self.is_failing = False
 
     # ---- what arrives
 
@@ -90,7 +93,9 @@ class Wallet:
             self.end.answer(prepare.flight, answer.body)
         else:
             self.end.fault(prepare.flight)
-            await asyncio.sleep(0.05)
+        self.is_failing = not isinstance(answer, Whole) or answer.body[:1] != FULFILL
+        if self.is_failing:
+            await asyncio.sleep(0.1)
         self.read()
         self.woken.set()
 
@@ -103,6 +108,8 @@ class Wallet:
                 self.woken.clear()
                 while prepare := self.end.send(os.urandom(12), now()):  # never an IV twice
                     group.create_task(self.exchange(prepare))
+                    if self.is_failing:  # the peer may not listen yet: one by one until it does
+                        break
                 try:
                     await asyncio.wait_for(self.woken.wait(), 0.2)
                 except TimeoutError:
