@@ -1,9 +1,9 @@
 -- Why a call of several steps refuses.
-use Rattle.std.proofs.Common.{Result, Ok, Err, IfErr, IsErrAnd, IsOk, OnOk, ◌≡◌, ◌⊎◌, inl, inr, ℕ, zero, suc, ◌+◌, ◌-◌, ◌^◌, ◌<◌, ◌≤◌, min, List, [], ◌∷◌, length, take, get_or, slice_get, Some, IsTrue, refl, sym, ap, subst, ◌∙◌, arith}
+use Rattle.std.proofs.Common.{Result, Ok, Err, IfErr, IsErrAnd, IsOk, OnOk, ◌≡◌, ◌⊎◌, inl, inr, ℕ, zero, suc, ◌+◌, ◌^◌, ◌<◌, ◌≤◌, List, [], ◌∷◌, length, take, get_or, slice_get, Some, IsTrue, refl, sym, ap, subst, ◌∙◌, arith}
 use Rattle.std.proofs.lemmas.Option.{same_Some}
 use Rattle.sqlite_disk.specs.Disk.{MoreFaults}
 use Rattle.sqlite_value.specs.Order.{Row}
-use Rattle.sqlite_trees.specs.View.{View, IsClean, HasCause, IsStorableRow}
+use Rattle.sqlite_trees.specs.View.{View, HasCause, IsStorableRow}
 use Rattle.sqlite_trees.specs.declared.error.StoreError.{StoreError}
 use Rattle.sqlite_trees.specs.declared.error.StoreError.TheVariants as stored
 use Rattle.st_books.specs.declared.error.BooksError.{BooksError}
@@ -13,9 +13,11 @@ use Rattle.st_booking.specs.declared.booking.Booking.{Booking}
 use Rattle.st_books.specs.declared.balance.Amounts.{Amounts}
 use Rattle.st_books.specs.Sums.{booked, IsOfNoAccount, Overflows}
 use Rattle.st_books.specs.declared.balance.Payment.{Payment}
+use Rattle.st_booking.specs.declared.booking.Proof.{Proof}
+use Rattle.st_books.specs.Fulfillments.{proof_line, proof_row, proof_tree}
 use Rattle.st_books.specs.Payments.{payment_line, name_at, IsUncountable}
 use Rattle.st_books.specs.Table.{line, payment_tree}
-use Rattle.st_books.specs.Reasons.{Excuses, excuses, Because, HasBadName, no_excuse}
+use Rattle.st_books.specs.Reasons.{Excuses, excuses, Because, HasBadName, HasBadProof, no_excuse}
 use Rattle.st_books.specs.Commits.{booking_excuses, payment_excuses}
 use Rattle.st_books.proofs.Steps.{at_ok}
 
@@ -106,18 +108,45 @@ pub bad_line : (old : View) (names : List (List ℕ)) (at : ℕ) (name : List �
 bad_line old names at name a row low is written bad =
     (at, name, a, get_at names at name low ∙ ap Some (sym is), subst (λ r. ¬ IsStorableRow (old.reals 0) r) written bad)
 
+pub bad_proof_since : (old new : View) (names : List (List ℕ)) (b : Booking) → new.reals ≡ old.reals → HasBadProof new names b → HasBadProof old names b
+bad_proof_since old new names b same bad = (bad.0, bad.1, bad.2, subst (λ reals. ¬ IsStorableRow (reals proof_tree) (proof_row bad.0 names b bad.1)) same bad.3)
+
+-- the proof of a booking's claim was refused, after the lines of its accounts were written
+pub because_unfiled : (was mid : View) (a b c : ℕ) (names : List (List ℕ)) (draft : List Amounts) (booking : Booking) (p : Proof) (id : ℕ) (name : List ℕ) (e : BooksError) → a ≤ b → mid.is_broken ≡ was.is_broken → mid.reals ≡ was.reals
+    → booking.proof ≡ Some p → name_at names booking.payer ≡ name → (2 ^ 63 ≤ booking.claim → Overflows draft booking)
+    → Because mid (MoreFaults b c) (excuses ⊥ (2 ^ 63 ≤ booking.claim) ⊥ (¬ IsStorableRow (mid.reals proof_tree) (proof_line id name p.condition p.fulfillment booking.claim p.moment))) e
+    → Because was (MoreFaults a c) (excuses (IsOfNoAccount draft booking) (Overflows draft booking) ⊥ (HasBadName was names ⊎ HasBadProof was names booking)) e
+because_unfiled was mid a b c names draft booking p id name e early sound reals proven is above h =
+    because_later was mid (MoreFaults b c) (MoreFaults a c) (excuses ⊥ (2 ^ 63 ≤ booking.claim) ⊥ (¬ IsStorableRow (mid.reals proof_tree) (proof_line id name p.condition p.fulfillment booking.claim p.moment)))
+    (excuses (IsOfNoAccount draft booking) (Overflows draft booking) ⊥ (HasBadName was names ⊎ HasBadProof was names booking)) e (λ broken. sym sound ∙ broken) (fault_since a b c early) (record {
+      no_account = λ x. absurd x;
+      too_much = above;
+      too_little = λ x. absurd x;
+      taken = λ x. absurd x;
+      bad_name = λ bad. inr (
+        id,
+        p,
+        proven,
+        subst (λ n. ¬ IsStorableRow (was.reals proof_tree) (proof_line id n p.condition p.fulfillment booking.claim p.moment)) (sym is)
+            (subst (λ r. ¬ IsStorableRow (r proof_tree) (proof_line id name p.condition p.fulfillment booking.claim p.moment)) reals bad),
+      );
+    }) h
+
 -- a booking was refused after those before it
 pub because_entered : (was mid : View) (a b c : ℕ) (names : List (List ℕ)) (all draft : List Amounts) (bookings : List Booking) (i : ℕ) (booking : Booking) (e : BooksError) → a ≤ b → mid.is_broken ≡ was.is_broken
     → mid.reals ≡ was.reals → draft ≡ booked all (take i bookings) → slice_get bookings i ≡ Some booking
-    → Because mid (MoreFaults b c) (excuses (IsOfNoAccount draft booking) (Overflows draft booking) ⊥ (HasBadName mid names)) e → Because was (MoreFaults a c) (booking_excuses was names all bookings) e
+    → Because mid (MoreFaults b c) (excuses (IsOfNoAccount draft booking) (Overflows draft booking) ⊥ (HasBadName mid names ⊎ HasBadProof mid names booking)) e → Because was (MoreFaults a c) (booking_excuses was names all bookings) e
 because_entered was mid a b c names all draft bookings i booking e early sound reals is here h =
-    because_later was mid (MoreFaults b c) (MoreFaults a c) (excuses (IsOfNoAccount draft booking) (Overflows draft booking) ⊥ (HasBadName mid names)) (booking_excuses was names all bookings) e
+    because_later was mid (MoreFaults b c) (MoreFaults a c) (excuses (IsOfNoAccount draft booking) (Overflows draft booking) ⊥ (HasBadName mid names ⊎ HasBadProof mid names booking)) (booking_excuses was names all bookings) e
     (λ broken. sym sound ∙ broken) (fault_since a b c early) (record {
       no_account = λ x. (i, booking, here, subst (λ d. IsOfNoAccount d booking) is x);
       too_much = λ x. (i, booking, here, subst (λ d. Overflows d booking) is x);
       too_little = λ x. x;
       taken = λ x. x;
-      bad_name = bad_name_since was mid names reals;
+      bad_name = λ bad. elim bad [
+        | inl name ↦ inl (bad_name_since was mid names reals name)
+        | inr proof ↦ inr (i, booking, here, bad_proof_since was mid names booking reals proof)
+      ];
     }) h
 
 pub none_excused : (x : Excuses) → Widens no_excuse x

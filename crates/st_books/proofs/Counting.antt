@@ -1,5 +1,5 @@
 -- A commit that writes the count of starts as it is.
-use Rattle.std.proofs.Common.{◌≡◌, ℕ, IsTrue, List, [], if◌then◌else◌, inl, inr, refl, sym, ap, ap₂, ◌∙◌, ne_eqb, eq-eqb}
+use Rattle.std.proofs.Common.{◌≡◌, ℕ, IsTrue, List, [], if◌then◌else◌, inl, inr, sym, ap, ap₂, ◌∙◌, ne_eqb, eq-eqb}
 use Rattle.std.proofs.lemmas.Bool.{cases_eq}
 use Rattle.std.proofs.Math.Path.{fun_ext}
 use Rattle.sqlite_value.specs.Order.{Row}

@@ -21,7 +21,7 @@ sum_in_frame log at n wide =
     be32-part log at n 20 (omega arith) ∙ sym (be32-part log (at + 16) 8 4 (omega arith) ∙ ap (be32 log) (omega arith)) in
     ap₂ pair first second
 
--- where a frame is past the end, so is each later one
+-- if a frame is past the end, so is each later one
 pub past_stays : (page_size : ℕ) (log : List ℕ) (i j : ℕ) → IsPast page_size log i → i ≤ j → ¬ Passes page_size log j
 past_stays page_size log i j past low passes = absurd (omega (arith, frames_len-le page_size i j low, passes.within))
 
@@ -119,7 +119,7 @@ other_fits ends page_size log i Broken h no' wanted = h wanted.0
 other_fits ends page_size log i Inner h no' wanted = wanted.1 (not-false ends no') h.1
 other_fits ends page_size log i Last h no' wanted = false≢true (sym no')
 
--- where a frame is past the end, none is wanted from there on
+-- if a frame is past the end, none is wanted from there on
 pub none_past : (ends : Bool) (page_size : ℕ) (log : List ℕ) (from i : ℕ) → IsPast page_size log i → ((j : ℕ) → from ≤ j → j < i → ¬ IsWanted ends page_size log j) → HasNoNext ends page_size log from
 none_past ends page_size log from i past before j low wanted = elim (cases_lt j i) [ inl high ↦ before j low high wanted | inr h ↦ past_stays page_size log i j past h wanted.0 ]
 

@@ -2,6 +2,7 @@ mod LineLemmas
 mod PaymentLemmas
 mod Distinct
 mod Steps
+mod ProofLemmas
 mod Counting
 mod Causes
 mod Calls

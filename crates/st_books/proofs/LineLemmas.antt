@@ -104,7 +104,7 @@ five (v0 ∷ v1 ∷ v2 ∷ []) id name a len c0 c1 c2 c3 c4 = absurd (omega arit
 five (v0 ∷ v1 ∷ v2 ∷ v3 ∷ []) id name a len c0 c1 c2 c3 c4 = absurd (omega arith)
 five (v0 ∷ v1 ∷ v2 ∷ v3 ∷ v4 ∷ v5 ∷ r) id name a len c0 c1 c2 c3 c4 = absurd (omega arith)
 
--- lines tell their names and amounts
+-- lines determine their names and amounts
 pub lines_apart : (id : ℕ) (names others : List (List ℕ)) (all more : List Amounts) → length names ≡ length all → length others ≡ length more
     → lines_from id names all ≡ lines_from id others more → (names ≡ others) × (all ≡ more)
 lines_apart id [] [] [] [] a b e = (refl, refl)

@@ -8,11 +8,13 @@ use Rattle.st_books.specs.declared.balance.Side.{Side}
 use Rattle.st_books.specs.declared.balance.Kind.{Kind}
 use Rattle.st_books.specs.declared.balance.Payment.{Payment}
 use Rattle.st_books.specs.declared.balance.Tally.{Tally}
-use Rattle.st_books.specs.Payments.{payment_line, IsEntryText, IsPaymentLine, ArePaymentsFrom, ArePayments, latest_in, moment_in, name_at, next_tally, payment_row, tally_of, with_payment}
+use Rattle.st_books.specs.Payments.{payment_line, IsEntryText, IsPaymentLine, ArePaymentsFrom, ArePayments, latest_in, moment_in, name_at, payment_row, with_payment}
+use Rattle.st_books.specs.Fulfillments.{last_id}
+use Rattle.st_books.specs.Trail.{Trail, next_tally, paid_alone, tally_of, with_entry}
 use Rattle.st_books.proofs.LineLemmas.{lower_id, snoc_append}
 
 module _ (name text : List ℕ) (amount moment : ℕ) where
-  -- written behind those that are there
+  -- written after those that are there
   put_behind : (id : ℕ) (paid : List Row) → ArePaymentsFrom id paid → put_row (payment_line (id + length paid) name text amount moment) paid ≡ paid ++ payment_line (id + length paid) name text amount moment ∷ []
   put_behind id [] all = refl
   put_behind id (row ∷ paid) all =
@@ -51,15 +53,20 @@ latest_of_last [] row = refl
 latest_of_last (r ∷ []) row = refl
 latest_of_last (r ∷ s ∷ paid) row = latest_of_last (s ∷ paid) row
 
-pub tally_more : (paid : List Row) (row : Row) → tally_of (paid ++ row ∷ []) ≡ record { lines = length paid + 1; latest = moment_in row }
+pub tally_more : (paid : List Row) (row : Row) → tally_of (paid_alone (paid ++ row ∷ [])) ≡ record { lines = length paid + 1; latest = moment_in row; filed = 0 }
 tally_more paid row =
     let lines : length (paid ++ row ∷ []) ≡ length paid + 1 = omega (arith, length-append paid (row ∷ [])) in
     let latest = latest_of_last paid row in
-    λ i. let t : Tally = record { lines = lines i; latest = latest i } in t
+    λ i. let t : Tally = record { lines = lines i; latest = latest i; filed = 0 } in t
 
 -- one payment more
-pub one_more : (paid : List Row) (names : List (List ℕ)) (p : Payment) (text : List ℕ) (count : Tally) → tally_of paid ≡ count → tally_of (with_payment paid names p text) ≡ next_tally count p
-one_more paid names p text count is = tally_more paid (payment_row paid names p text) ∙ ap (λ (t : Tally). next_tally t p) is
+pub one_more : (trail : Trail) (names : List (List ℕ)) (p : Payment) (text : List ℕ) (count : Tally) → tally_of trail ≡ count → tally_of (with_entry trail names p text) ≡ next_tally count p
+one_more trail names p text count is =
+    let row = payment_row trail.paid names p text in
+    let lines : length (trail.paid ++ row ∷ []) ≡ length trail.paid + 1 = omega (arith, length-append trail.paid (row ∷ [])) in
+    let latest = latest_of_last trail.paid row in
+    let now : tally_of (with_entry trail names p text) ≡ next_tally (tally_of trail) p = λ i. let t : Tally = record { lines = lines i; latest = latest i; filed = last_id trail.proofs } in t in
+    now ∙ ap (λ (t : Tally). next_tally t p) is
 
 -- a line more was read
 pub read_payment : (rows : List Row) (done : List Row) (row : Row) (left : List Row) (id : ℕ) → rows ≡ done ++ row ∷ left → length done + 1 ≡ id → ArePayments done → IsPaymentLine id row

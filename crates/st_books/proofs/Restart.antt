@@ -1,18 +1,16 @@
 -- What a crash leaves of books, the next open finds.
-use Rattle.std.proofs.Common.{◌≡◌, ◌⊎◌, inl, inr, ℕ, List, [], ◌∷◌, length, pos, IsTrue, refl, sym, ap, subst, ◌∙◌}
+use Rattle.std.proofs.Common.{◌≡◌, inl, inr, ℕ, length, sym, ◌∙◌}
 use Rattle.std.proofs.Math.Logic.{∥∥₁_map}
 use Rattle.sqlite_disk.specs.declared.Disk.{Ghosts}
-use Rattle.sqlite_wal.specs.Recovery.{Image}
 use Rattle.sqlite_trees.specs.Tree.{Trees}
 use Rattle.sqlite_trees.specs.Objects.{version_tree, version_rows}
-use Rattle.sqlite_store.specs.declared.store.FileStore.{FileStore}
-use Rattle.sqlite_store.specs.FileStore.{state as store_state, view, recovers}
+use Rattle.sqlite_store.specs.FileStore.{recovers}
 use Rattle.sqlite.specs.Held.{AreDatabases}
 use Rattle.sqlite.specs.Files.{file_state, over_files}
 use Rattle.sqlite.proofs.Theorems.{next_run}
-use Rattle.st_books.specs.Table.{lines, payment_tree}
-use Rattle.st_books.specs.Standing.{Kept, Sums, sums_of, AreSums}
-use Rattle.st_books.specs.Found.{FindsBooks, NextFinds}
+use Rattle.st_books.specs.Table.{lines}
+use Rattle.st_books.specs.Standing.{Sums, sums_of, AreSums, trail_of}
+use Rattle.st_books.specs.Found.{NextFinds}
 use Rattle.st_books.proofs.LineLemmas.{lines_apart}
 use Rattle.st_books.proofs.Sound.{sound}
 
@@ -20,12 +18,12 @@ same_starts : (m n : ℕ) → version_rows m ≡ version_rows n → m ≡ n
 same_starts m n e = cc
 
 -- a database is of one books
-only_sums : (db : Trees) (a b : Sums) → AreSums db a → length b.names ≡ length b.amounts → db 0 ≡ lines b.names b.amounts → db payment_tree ≡ b.paid → db version_tree ≡ version_rows b.starts → b ≡ a
+only_sums : (db : Trees) (a b : Sums) → AreSums db a → length b.names ≡ length b.amounts → db 0 ≡ lines b.names b.amounts → trail_of db ≡ b.trail → db version_tree ≡ version_rows b.starts → b ≡ a
 only_sums db a b is named rows audit starts =
     let both = lines_apart 1 b.names a.names b.amounts a.amounts named is.named (sym rows ∙ is.rows) in
     let first = same_starts b.starts a.starts (sym starts ∙ is.counted) in
-    let paid : b.paid ≡ a.paid = sym audit ∙ is.audit in
-    λ i. record { starts = first i; names = both.0 i; amounts = both.1 i; paid = paid i }
+    let trail : b.trail ≡ a.trail = sym audit ∙ (λ i. record { paid = is.audit i; proofs = is.filed i }) in
+    λ i. record { starts = first i; names = both.0 i; amounts = both.1 i; trail = trail i }
 
 pub next_finds : {D : Type 0} {g : Ghosts D} {E : Type 0} {h : Ghosts E} → NextFinds g h
 next_finds it before after numbered only left may again found =

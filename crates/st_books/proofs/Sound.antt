@@ -1,28 +1,29 @@
--- Books are a database that obeys its schema, so that the next open takes them.
-use Rattle.std.proofs.Common.{◌≡◌, ◌⊎◌, inl, inr, ℕ, zero, suc, slice_index, ◌+◌, ◌^◌, ◌<◌, pos, Bool, true, false, not, ◌&&◌, ◌||◌, List, [], ◌∷◌, filter, codes, Ok, None, Some, IsUtf8, refl, sym, ap, subst, ◌∙◌, arith}
-use Rattle.std.specs.List.{AllByRecursion, AllZip}
+-- Books are a database that obeys its schema, so that the next open accepts them.
+use Rattle.std.proofs.Common.{◌≡◌, ℕ, ℤ, zero, suc, slice_index, ◌+◌, ◌^◌, ◌<◌, pos, Bool, true, false, List, [], ◌∷◌, codes, Ok, None, Some, IsUtf8, refl, sym, ap, subst, ◌∙◌, arith}
+use Rattle.std.specs.List.{AllByRecursion}
 use Rattle.std.proofs.lemmas.Str.{IsUtf8-from_ascii}
 use Rattle.sqlite_value.specs.declared.value.Value.TheVariants.{Null, Int, Text as Words}
 use Rattle.sqlite_value.specs.declared.keys.Collation.TheVariants.{Binary}
-use Rattle.sqlite_value.specs.Order.{Row, column, value_cmp}
+use Rattle.sqlite_value.specs.Order.{Row, column}
 use Rattle.sqlite_value.proofs.OrderLemmas.{value_cmp-Text}
-use Rattle.sqlite_trees.specs.Tree.{Trees, rowid}
+use Rattle.sqlite_trees.specs.Tree.{Trees}
 use Rattle.sqlite_trees.specs.Objects.{catalog_tree, number_in}
 use Rattle.sqlite_schema.specs.declared.schema.Constraint.{Constraint}
 use Rattle.sqlite_schema.specs.declared.schema.Constraint.TheVariants.{Datatype, NotNull, Check, PrimaryKey, Unique, ForeignKey}
 use Rattle.sqlite_schema.specs.declared.schema.Kind.{Kind}
-use Rattle.sqlite_schema.specs.declared.schema.Kind.TheVariants.{Integer, Text}
+use Rattle.sqlite_schema.specs.declared.schema.Kind.TheVariants.{Integer, Text, Blob}
 use Rattle.sqlite_schema.specs.declared.schema.Column.{Column}
 use Rattle.sqlite_schema.specs.declared.schema.Table.{Table}
 use Rattle.sqlite_schema.specs.declared.schema.View.{View as Stored}
 use Rattle.sqlite_schema.specs.declared.schema.Schema.{Schema}
 use Rattle.sqlite_schema.specs.Names.{same_name}
 use Rattle.sqlite_schema.specs.Rules.{passes, Keeps, Obeys, table_reals}
-use Rattle.sqlite_catalog.specs.Listing.{IsSound, Lists, DefinesTable, is_formed, IsTableRow, IsIndexRow, IsViewRow, is_table_row, is_index_row, is_view_row, is_foreign_row}
+use Rattle.sqlite_catalog.specs.Listing.{IsSound, Lists, DefinesTable, is_formed, IsTableRow, IsViewRow, is_table_row, is_index_row, is_view_row, is_foreign_row}
 use Rattle.sqlite_resolve.specs.Compile.{table_defined_by}
 use Rattle.sqlite_tied.specs.Compute.{everything}
 use Rattle.st_books.specs.declared.balance.Amounts.{Amounts}
 use Rattle.st_books.specs.Payments.{payment_text, payment_line, ArePaymentsFrom}
+use Rattle.st_books.specs.Fulfillments.{proof_tree, proof_text, proof_line, AreProofs}
 use Rattle.st_books.specs.Stamp.{stamp_tree, IsStamped}
 use Rattle.st_books.specs.Table.{table_text, line, lines_from, payment_tree, IsListed, ListsTables}
 use Rattle.st_books.specs.Standing.{Sums, AreSums}
@@ -56,8 +57,12 @@ abbrev payments : ℕ → Table
 payments tree = table_of (codes "payment") tree
     (column_of (codes "id") Integer false ∷ column_of (codes "name") Text true ∷ column_of (codes "side") Text true ∷ column_of (codes "amount") Integer true ∷ column_of (codes "moment") Integer true ∷ [])
 
+abbrev proofs : ℕ → Table
+proofs tree = table_of (codes "fulfillment") tree
+    (column_of (codes "id") Integer false ∷ column_of (codes "name") Text true ∷ column_of (codes "condition") Blob true ∷ column_of (codes "fulfillment") Blob true ∷ column_of (codes "amount") Integer true ∷ column_of (codes "moment") Integer true ∷ [])
+
 abbrev books_schema : Schema
-books_schema = record { tables = account ∷ payments payment_tree ∷ []; indexes = []; views = [] }
+books_schema = record { tables = account ∷ payments payment_tree ∷ proofs proof_tree ∷ []; indexes = []; views = [] }
 
 -- ---- each line obeys it
 
@@ -88,11 +93,28 @@ payments_pass rule db id (row ∷ paid) all =
     let it = all.0 in
     (subst (λ r. passes rule books_schema db (payments payment_tree) r ≡ true) (sym it.is) (payment_passes rule db id it.name it.text it.amount it.moment), payments_pass rule db (suc id) paid all.1)
 
+proof_passes : (rule : Constraint) (db : Trees) (id : ℕ) (name condition fulfillment : List ℕ) (amount : ℕ) (moment : ℤ) → passes rule books_schema db (proofs proof_tree) (proof_line id name condition fulfillment amount moment) ≡ true
+proof_passes Datatype db id name condition fulfillment amount moment = refl
+proof_passes NotNull db id name condition fulfillment amount moment = refl
+proof_passes Check db id name condition fulfillment amount moment = refl
+proof_passes PrimaryKey db id name condition fulfillment amount moment = refl
+proof_passes Unique db id name condition fulfillment amount moment = refl
+proof_passes ForeignKey db id name condition fulfillment amount moment = refl
+
+proofs_pass : (rule : Constraint) (db : Trees) (rows : List Row) → AreProofs rows → AllByRecursion (λ row. passes rule books_schema db (proofs proof_tree) row ≡ true) rows
+proofs_pass rule db [] all = tt
+proofs_pass rule db (row ∷ rows) all =
+    let it = all.0 in
+    (subst (λ r. passes rule books_schema db (proofs proof_tree) r ≡ true) (sym it.is) (proof_passes rule db it.id it.name it.condition it.fulfillment it.amount it.moment), proofs_pass rule db rows all.1)
+
 books_obey : (db : Trees) (s : Sums) → AreSums db s → Obeys books_schema db
 books_obey db s books = record {
   rules = λ rule. (
     subst (λ rows. AllByRecursion (λ row. passes rule books_schema db account row ≡ true) rows) (sym books.rows) (lines_pass rule db 1 s.names s.amounts),
-    (subst (λ rows. AllByRecursion (λ row. passes rule books_schema db (payments payment_tree) row ≡ true) rows) (sym books.audit) (payments_pass rule db 1 s.paid books.payments), tt),
+    (
+      subst (λ rows. AllByRecursion (λ row. passes rule books_schema db (payments payment_tree) row ≡ true) rows) (sym books.audit) (payments_pass rule db 1 s.trail.paid books.payments),
+      (subst (λ rows. AllByRecursion (λ row. passes rule books_schema db (proofs proof_tree) row ≡ true) rows) (sym books.filed) (proofs_pass rule db s.trail.proofs books.proofs), tt),
+    ),
   );
   indexed = tt;
 }
@@ -103,7 +125,7 @@ abbrev stamp_view : (text : List ℕ) → Stored
 stamp_view text = record { name = codes "books"; tree = stamp_tree; sql = text; foreign = None; binds = false; is_bound = false }
 
 abbrev pub stamped_schema : (text : List ℕ) → Schema
-stamped_schema text = record { tables = account ∷ payments payment_tree ∷ []; indexes = []; views = stamp_view text ∷ [] }
+stamped_schema text = record { tables = account ∷ payments payment_tree ∷ proofs proof_tree ∷ []; indexes = []; views = stamp_view text ∷ [] }
 
 rules_stay : (text : List ℕ) (rule : Constraint) (db : Trees) → Keeps rule books_schema db → Keeps rule (stamped_schema text) db
 rules_stay text Datatype db h = h
@@ -126,6 +148,18 @@ defined = refl
 defined_next : table_defined_by payment_text ≡ Ok (payments 0)
 unfolding table_defined_by everything
 defined_next = refl
+
+defined_last : table_defined_by proof_text ≡ Ok (proofs 0)
+unfolding table_defined_by everything
+defined_last = refl
+
+apart_last : same_name (codes "account") (codes "fulfillment") ≡ false
+unfolding same_name
+apart_last = refl
+
+apart_next : same_name (codes "payment") (codes "fulfillment") ≡ false
+unfolding same_name
+apart_next = refl
 
 apart : same_name (codes "account") (codes "payment") ≡ false
 unfolding same_name
@@ -205,23 +239,27 @@ lists objects all =
     let r = all.account in
     let s = all.payment in
     let t = all.stamp in
+    let u = all.proof in
     let v = all.stamped in
     let a = all.accounts in
     let p = all.payments in
+    let q = all.proofs in
     let first = table_row_is 1 0 (codes "account") table_text account.columns r refl (omega arith) refl (account, defined, refl) refl
     (IsUtf8-from_ascii (codes "account") (ascii (codes "account") (omega arith, (omega arith, (omega arith, (omega arith, (omega arith, (omega arith, (omega arith, tt))))))))) a in
     let second = table_row_is 2 payment_tree (codes "payment") payment_text (payments 0).columns s refl (omega arith) refl (payments 0, defined_next, refl) refl
     (IsUtf8-from_ascii (codes "payment") (ascii (codes "payment") (omega arith, (omega arith, (omega arith, (omega arith, (omega arith, (omega arith, (omega arith, tt))))))))) p in
+    let third = table_row_is 4 proof_tree (codes "fulfillment") proof_text (proofs 0).columns u refl (omega arith) refl (proofs 0, defined_last, refl) refl
+    (IsUtf8-from_ascii (codes "fulfillment") (ascii (codes "fulfillment") (omega arith, (omega arith, (omega arith, (omega arith, (omega arith, (omega arith, (omega arith, (omega arith, (omega arith, (omega arith, (omega arith, tt))))))))))))) q in
     record {
       listed = record {
-        tables = rw (all.only, a_table r a.is.kind a.code, a_table s p.is.kind p.code, stamp_no_table t v.is.kind v.code) (first, (second, tt));
-        indexes = rw (all.only, no_index r a.is.kind a.code, no_index s p.is.kind p.code, stamp_no_index t v.is.kind v.code) tt;
-        views = rw (all.only, no_view r a.is.kind a.code, no_view s p.is.kind p.code, stamp_a_view t v.is.kind v.code) (stamp_row_is t v, tt);
+        tables = rw (all.only, a_table r a.is.kind a.code, a_table s p.is.kind p.code, stamp_no_table t v.is.kind v.code, a_table u q.is.kind q.code) (first, (second, (third, tt)));
+        indexes = rw (all.only, no_index r a.is.kind a.code, no_index s p.is.kind p.code, stamp_no_index t v.is.kind v.code, no_index u q.is.kind q.code) tt;
+        views = rw (all.only, no_view r a.is.kind a.code, no_view s p.is.kind p.code, stamp_a_view t v.is.kind v.code, no_view u q.is.kind q.code) (stamp_row_is t v, tt);
         owned = (tt, tt);
-        named = ((apart, tt), (tt, tt));
+        named = ((apart, (apart_last, tt)), ((apart_next, tt), (tt, tt)));
         loads = all.loads;
       };
-      guarded = ((λ at key e. absurd (let k = e in cc)), ((λ at key e. absurd (let k = e in cc)), tt));
+      guarded = ((λ at key e. absurd (let k = e in cc)), ((λ at key e. absurd (let k = e in cc)), ((λ at key e. absurd (let k = e in cc)), tt)));
     }
 
 pub sound : (db : Trees) (s : Sums) (books : AreSums db s) → IsSound (stamped_schema books.objects.stamped.is.text) db

@@ -10,22 +10,23 @@ use Rattle.st_booking.specs.declared.booking.Booking.{Booking}
 use Rattle.st_books.specs.Errors.{number}
 use Rattle.st_books.specs.declared.balance.Payment.{Payment}
 use Rattle.st_books.specs.Sums.{nothing, amounts_at, booked, IsOfNoAccount, IsAbove, Overflows, ForOne}
-use Rattle.st_books.specs.Payments.{changed, entry_text, paid_off, with_payment, IsShort, IsUncountable}
+use Rattle.st_books.specs.Payments.{changed, entry_text, paid_off, IsShort, IsUncountable}
+use Rattle.st_books.specs.Trail.{with_bookings, with_entry}
 use Rattle.st_books.specs.Table.{line}
-use Rattle.st_books.specs.Standing.{Kept, Sums, AreSums, sums_of, Tells, LeavesOnly, payments_in}
-use Rattle.st_books.specs.Reasons.{Excuses, Because, HasBadName, HasBadPayment}
+use Rattle.st_books.specs.Standing.{Kept, Sums, AreSums, sums_of, Tells, LeavesOnly, trail_in}
+use Rattle.st_books.specs.Reasons.{Excuses, Because, HasBadName, HasBadPayment, HasBadProofs}
 
 abbrev pub after_bookings : {S : Type 0} → Ghosts S → Kept S → List Booking → Sums
-after_bookings g k bookings = record { starts = k.starts; names = k.names; amounts = booked k.amounts bookings; paid = payments_in (g.view k.store) }
+after_bookings g k bookings = record { starts = k.starts; names = k.names; amounts = booked k.amounts bookings; trail = with_bookings (trail_in (g.view k.store)) k.names bookings }
 
 abbrev pub after_name : {S : Type 0} → Ghosts S → Kept S → List ℕ → Sums
-after_name g k name = record { starts = k.starts; names = k.names ++ name ∷ []; amounts = k.amounts ++ nothing ∷ []; paid = payments_in (g.view k.store) }
+after_name g k name = record { starts = k.starts; names = k.names ++ name ∷ []; amounts = k.amounts ++ nothing ∷ []; trail = trail_in (g.view k.store) }
 
 abbrev pub after_start : {S : Type 0} → Ghosts S → Kept S → Sums
-after_start g k = record { starts = k.starts + 1; names = k.names; amounts = k.amounts; paid = payments_in (g.view k.store) }
+after_start g k = record { starts = k.starts + 1; names = k.names; amounts = k.amounts; trail = trail_in (g.view k.store) }
 
 abbrev pub after_payment : {S : Type 0} → Ghosts S → Kept S → Payment → (reference : List ℕ) → Sums
-after_payment g k p reference = record { starts = k.starts; names = k.names; amounts = paid_off k.amounts p; paid = with_payment (payments_in (g.view k.store)) k.names p (entry_text p.kind p.side reference) }
+after_payment g k p reference = record { starts = k.starts; names = k.names; amounts = paid_off k.amounts p; trail = with_entry (trail_in (g.view k.store)) k.names p (entry_text p.kind p.side reference) }
 
 -- a crash at any moment since `old` leaves what it could leave then, or the books with the whole change
 abbrev pub BeforeOrAfter : {S : Type 0} → Ghosts S → Kept S → Sums → Kept S → Type 0
@@ -34,7 +35,7 @@ BeforeOrAfter g old after new = IsClean (g.view new.store) → (db : Trees) → 
 -- the change is made, and every crash leaves the changed books
 pub record Makes {S : Type 0} (g : Ghosts S) (old : Kept S) (after : Sums) (new : Kept S) : Type 0 where
   pub made : Tells new after
-  pub paid : IsClean (g.view new.store) → payments_in (g.view new.store) ≡ after.paid
+  pub trail : IsClean (g.view new.store) → trail_in (g.view new.store) ≡ after.trail
   pub durable : IsClean (g.view new.store) → LeavesOnly g new.store after
   pub any_moment : BeforeOrAfter g old after new
 
@@ -54,7 +55,7 @@ booking_excuses v names all bookings = record {
   too_much = ForOne Overflows all bookings;
   too_little = ⊥;
   taken = ⊥;
-  bad_name = HasBadName v names;
+  bad_name = HasBadName v names ⊎ HasBadProofs v names bookings;
 }
 
 abbrev pub name_excuses : View → List (List ℕ) → List ℕ → Excuses
@@ -84,7 +85,7 @@ IsBecause g old new x e = IsClean (g.view new.store) → Because (g.view old.sto
 -- Nothing was changed, and each crash leaves what it could leave before.
 pub record Rereads {S : Type 0} (g : Ghosts S) (old new : Kept S) : Type 0 where
   pub same : Tells new (sums_of g old)
-  pub paid : IsTrue (g.view new.store).is_open → payments_in (g.view new.store) ≡ payments_in (g.view old.store)
+  pub trail : IsTrue (g.view new.store).is_open → trail_in (g.view new.store) ≡ trail_in (g.view old.store)
   pub as_before : IsTrue (g.view new.store).is_open → LeavesOnly g new.store (sums_of g old)
   pub outcomes : (db : Trees) → g.recovers new.store db → g.recovers old.store db
 

@@ -13,7 +13,7 @@ IsWhole page = checksum false (0, 0) (take 4088 page) ≡ (le32 page 4088, le32 
 abbrev pub commits_in : List ℕ → ℕ
 commits_in page = be32 page 40
 
--- where the list of objects begins, which grows towards the front
+-- the start of the list of objects, which grows towards the front
 abbrev pub list_at : List ℕ → ℕ
 list_at page = slice_index page 105 * 0x100 + slice_index page 106
 

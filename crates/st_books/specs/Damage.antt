@@ -12,9 +12,9 @@ use Rattle.st_books.specs.declared.damage.Fit.TheVariants.{Absent, Broken, Inner
 abbrev pub Ends : ℕ → List ℕ → ℕ → Type 0
 Ends page_size log i = Passes page_size log i × (commit_size (frame page_size log i) ≢ 0)
 
--- Each commit is synced before the next one is written. So what a crash leaves behind the last whole commit is of one commit, whose
--- last frame alone ends a commit, and behind it no frame fits. Here a frame does not fit, behind it a commit ends, and behind that
--- another frame fits.
+-- Each commit is synced before the next one is written. So what a crash leaves after the last whole commit is part of one commit,
+-- whose last frame alone ends a commit, and no frame fits after it. Here a frame does not fit, after it a commit ends, and after
+-- that another frame fits.
 pub record IsBroken (page_size : ℕ) (log : List ℕ) : Type 0 where
   pub bad : ℕ
   pub last : ℕ
@@ -74,8 +74,8 @@ pub record IsFirstBroken (page_size : ℕ) (log : List ℕ) (n : ℕ) : Type 0 w
 abbrev pub IsUnwritten : List ℕ → Type 0
 IsUnwritten log = (length log ≤ 41) × (slice_index log 0 ≡ 0)
 
--- What there is before books are made, and what a crash leaves while they are: an empty file, or one of a byte beside a log that was
--- begun; or a log behind which no database was written, since its header is one that no later call writes.
+-- What the files are before books are made, and what a crash leaves while they are made: an empty database file, or one of a single
+-- byte with a log that was begun; or a log of which no database was written yet, since its header is one that no later call writes.
 abbrev pub IsUnmade : Image → Type 0
 IsUnmade image =
     (((length image.db ≡ 0) ⊎ ((length image.db ≡ 1) × (0 < length image.log))) × IsUnwritten image.log)

@@ -14,14 +14,14 @@ use Rattle.st_books.specs.Continuing.{IsContinued}
 use Rattle.st_books.specs.Table.{ListsTables, IsOf}
 use Rattle.st_books.specs.Standing.{Kept, Sums, AreSums, sums_of, Takes}
 
--- the files held a database of these books, and from now on each crash leaves them
+-- the files had a database of these books, and from now on each crash leaves them
 pub record FindsBooks {D : Type 0} {g : Ghosts D} (image : Image) (books : Kept (FileStore D g)) : Type 0 where
   pub opened : Held (FileStore D g)
   pub found : FindsIn image (file_state opened)
   pub takes : Takes over_files (file_state opened).committed.trees books
 
--- The log is not damaged, and continues the file. The tables were listed, or the books were still to be made; so where there is no
--- database beside the log of one, none are found. The books are of the connector of this address.
+-- The log is not damaged, and continues the file. The tables were listed, or the books were still to be made; so if a log is there
+-- without its database, none are found. The books are of the connector of this address.
 pub record FindsWhole {D : Type 0} {g : Ghosts D} (address : List ℕ) (image : Image) (books : Kept (FileStore D g)) : Type 0 where
   pub finds : FindsBooks image books
   pub whole : ¬ IsDamaged image.log
@@ -37,7 +37,7 @@ pub record FindsOld {D : Type 0} {g : Ghosts D} (image : Image) (books : Kept (F
   pub something : ¬ IsNothing image
   pub listed : ListsTables ((file_state finds.opened).committed.trees catalog_tree)
 
--- Where a crash leaves only one database of books, or one of two, the next open of what it left finds it, if it finds any.
+-- If a crash leaves only one database of books, or one of two, the next open of what it left finds it, if it finds any.
 abbrev pub NextFinds : {D : Type 0} → Ghosts D → {E : Type 0} → Ghosts E → Type 0
 NextFinds {D} g {E} h =
     (it : FileStore D g) (before after : Sums) → IsTrue (view it).is_numbered

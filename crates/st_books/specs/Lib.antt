@@ -1,5 +1,7 @@
 pub mod Sums
 pub mod Payments
+pub mod Fulfillments
+pub mod Trail
 pub mod Stamp
 pub mod Table
 pub mod Standing

@@ -10,7 +10,6 @@ use Rattle.st_books.specs.declared.balance.Side.TheVariants.{Claims, Dues}
 use Rattle.st_books.specs.declared.balance.Kind.{Kind}
 use Rattle.st_books.specs.declared.balance.Kind.TheVariants.{Paid, Adjusted}
 use Rattle.st_books.specs.declared.balance.Payment.{Payment}
-use Rattle.st_books.specs.declared.balance.Tally.{Tally}
 use Rattle.st_books.specs.declared.balance.Entry.{Entry}
 use Rattle.st_books.specs.Sums.{amounts_at}
 
@@ -22,12 +21,12 @@ abbrev pub on_side : Side → Amounts → ℕ
 on_side Claims a = a.claims
 on_side Dues a = a.dues
 
--- the amounts of an account, of which so much was paid on a side
+-- the amounts of an account, of which an amount was paid on a side
 abbrev pub less : Side → (amount : ℕ) → Amounts → Amounts
 less Claims amount a = record { claims = a.claims - amount; dues = a.dues }
 less Dues amount a = record { claims = a.claims; dues = a.dues - amount }
 
--- the same, to which so much was added
+-- the same, to which an amount was added
 abbrev pub more : Side → (amount : ℕ) → Amounts → Amounts
 more Claims amount a = record { claims = a.claims + amount; dues = a.dues }
 more Dues amount a = record { claims = a.claims; dues = a.dues + amount }
@@ -40,7 +39,7 @@ changed Adjusted = more
 abbrev pub paid_off : List Amounts → Payment → List Amounts
 paid_off all p = slice_set all p.account (changed p.kind p.side p.amount (amounts_at all p.account))
 
--- so much is owed, if it is to be taken off
+-- the amount is owed, if it is to be taken off
 abbrev pub Covers : Kind → Side → (amount : ℕ) → Amounts → Type 0
 Covers Paid side amount a = amount ≤ on_side side a
 Covers Adjusted side amount a = ⊤
@@ -68,8 +67,8 @@ abbrev pub side_text : Side → List ℕ
 side_text Claims = codes "claims"
 side_text Dues = codes "dues"
 
--- What stands in the column `side`: the side, with a plus in front where the amount was added, and behind it a space and the reference,
--- where it has one.
+-- The text of the column `side`: the side, with a plus in front if the amount was added, and after it a space and the reference, if it has
+-- one.
 abbrev pub sign_text : Kind → List ℕ
 sign_text Paid = []
 sign_text Adjusted = codes "+"
@@ -122,14 +121,6 @@ abbrev pub latest_in : List Row → ℕ
 latest_in [] = 0
 latest_in (row ∷ []) = moment_in row
 latest_in (row ∷ next ∷ rows) = latest_in (next ∷ rows)
-
--- how many there are, and the moment of the last one
-abbrev pub tally_of : List Row → Tally
-tally_of paid = record { lines = length paid; latest = latest_in paid }
-
--- and with one payment more
-abbrev pub next_tally : Tally → Payment → Tally
-next_tally t p = record { lines = t.lines + 1; latest = max t.latest p.moment }
 
 -- The row of one payment more, with this text. Its moment is not before the last one's.
 abbrev pub payment_row : List Row → List (List ℕ) → Payment → (text : List ℕ) → Row

@@ -6,6 +6,9 @@ use Rattle.st_books.specs.declared.error.BooksError.{BooksError}
 use Rattle.st_books.specs.declared.error.BooksError.TheVariants.{NoBooks, Taken, Device, Full, Damaged, Shut, NoAccount, TooMuch, NameTaken, BadName, NoMemory, TooLittle}
 use Rattle.st_books.specs.declared.balance.Payment.{Payment}
 use Rattle.st_books.specs.Payments.{payment_line, name_at}
+use Rattle.st_booking.specs.declared.booking.Booking.{Booking}
+use Rattle.st_booking.specs.declared.booking.Proof.{Proof}
+use Rattle.st_books.specs.Fulfillments.{proof_row, proof_tree}
 use Rattle.st_books.specs.Table.{line, payment_tree}
 
 -- what the bookings, the name or the payment of a call have to be for a refusal of them
@@ -45,3 +48,11 @@ HasBadName v names = (at : ℕ) × (name : List ℕ) × (a : Amounts) × (slice_
 -- SQLite cannot store the line of this payment, whatever its number and moment
 abbrev pub HasBadPayment : View → List (List ℕ) → Payment → (text : List ℕ) → Type 0
 HasBadPayment v names p text = (id : ℕ) × (moment : ℕ) × (¬ IsStorableRow (v.reals payment_tree) (payment_line id (name_at names p.account) text p.amount moment))
+
+-- SQLite cannot store the proof of this booking's claim, whatever its id
+abbrev pub HasBadProof : View → List (List ℕ) → Booking → Type 0
+HasBadProof v names b = (id : ℕ) × (p : Proof) × (b.proof ≡ Some p) × (¬ IsStorableRow (v.reals proof_tree) (proof_row id names b p))
+
+-- that of one of these
+abbrev pub HasBadProofs : View → List (List ℕ) → List Booking → Type 0
+HasBadProofs v names bookings = (n : ℕ) × (b : Booking) × (slice_get bookings n ≡ Some b) × HasBadProof v names b

@@ -5,15 +5,15 @@ use Rattle.sqlite_value.specs.Order.{Row, column}
 use Rattle.sqlite_trees.specs.Objects.{number_in}
 use Rattle.sqlite_resolve.specs.Compile.{view_defined_by}
 
--- the view is behind the two tables
+-- the view comes after the two tables
 abbrev pub stamp_tree : ℕ
 stamp_tree = 2
 
 -- the version of the tables, the identity that the books were made with, and the address of their connector
 abbrev pub stamp_text : (identity address : List ℕ) → List ℕ
-stamp_text identity address = codes "CREATE VIEW books AS SELECT 1 AS schema, '" ++ (identity ++ (codes "' AS identity, '" ++ (address ++ codes "' AS address")))
+stamp_text identity address = codes "CREATE VIEW books AS SELECT 2 AS schema, '" ++ (identity ++ (codes "' AS identity, '" ++ (address ++ codes "' AS address")))
 
--- the text says this address, and SQLite takes it as that of the view `books`
+-- the text says this address, and SQLite reads it as that of the view `books`
 pub record Stamps (address text : List ℕ) : Type 0 where
   pub identity : List ℕ
   pub is : text ≡ stamp_text identity address

@@ -31,7 +31,7 @@ booked = fold booked_one
 
 -- ---- bookings that do not fit
 
--- one of its two accounts is none of these
+-- one of its two accounts is not among these
 abbrev pub IsOfNoAccount : List Amounts → Booking → Type 0
 IsOfNoAccount all b = (length all ≤ b.payer) ⊎ (length all ≤ b.payee)
 

@@ -1,4 +1,4 @@
--- The books as rows of two tables that sqlite3 shows, and of a view.
+-- The books as rows of three tables that sqlite3 shows, and of a view.
 use Rattle.std.specs.Prelude.{◌≡◌, ◌≢◌, ℕ, suc, pos, true, List, [], ◌∷◌, length, codes, ⊤}
 use Rattle.std.specs.List.{AllByRecursion}
 use Rattle.sqlite_value.specs.declared.value.Value.TheVariants.{Null, Int, Text}
@@ -8,6 +8,8 @@ use Rattle.sqlite_trees.specs.Objects.{catalog_tree, version_tree, version_rows,
 use Rattle.sqlite_trees.specs.Sound.{is_sound_list}
 use Rattle.st_books.specs.declared.balance.Amounts.{Amounts}
 use Rattle.st_books.specs.Payments.{payment_text, ArePayments}
+use Rattle.st_books.specs.Fulfillments.{proof_tree, proof_text, AreProofs}
+use Rattle.st_books.specs.Trail.{Trail}
 use Rattle.st_books.specs.Stamp.{IsStamped}
 
 -- the accounts are tree 0 of the database, and the payments outside Interledger the next
@@ -17,7 +19,7 @@ payment_tree = 1
 abbrev pub table_text : List ℕ
 table_text = codes "CREATE TABLE account (id INTEGER PRIMARY KEY, name TEXT NOT NULL, claims INTEGER NOT NULL, dues INTEGER NOT NULL) STRICT"
 
--- a row of the table, whose first value is the id, and NULL stands in the column of the key
+-- a row of the table: its first value is the id, and the column of the key is NULL
 abbrev pub line : (id : ℕ) → List ℕ → Amounts → Row
 line id name a = Int (pos id) ∷ Null ∷ Text name ∷ Int (pos a.claims) ∷ Int (pos a.dues) ∷ []
 
@@ -30,7 +32,7 @@ lines_from id (name ∷ names) (a ∷ all) = line id name a ∷ lines_from (suc 
 abbrev pub lines : List (List ℕ) → List Amounts → List Row
 lines = lines_from 1
 
--- no name stands twice
+-- no name is there twice
 abbrev pub AreDistinct : List (List ℕ) → Type 0
 AreDistinct [] = ⊤
 AreDistinct (name ∷ names) = AllByRecursion (λ other. other ≢ name) names × AreDistinct names
@@ -55,15 +57,20 @@ IsAccountRow = IsTableRow 1 (codes "account") table_text
 abbrev pub IsPaymentRow : Row → Type 0
 IsPaymentRow = IsTableRow 2 (codes "payment") payment_text
 
--- the file has these two tables, the view of books and no other object
+abbrev pub IsProofRow : Row → Type 0
+IsProofRow = IsTableRow 4 (codes "fulfillment") proof_text
+
+-- the file has these three tables, the view of books and no other object
 pub record ListsTables (objects : List Row) : Type 0 where
   pub account : Row
   pub payment : Row
   pub stamp : Row
-  pub only : objects ≡ account ∷ payment ∷ stamp ∷ []
+  pub proof : Row
+  pub only : objects ≡ account ∷ payment ∷ stamp ∷ proof ∷ []
   pub accounts : IsListed 1 (codes "account") table_text account
   pub payments : IsListed 2 (codes "payment") payment_text payment
   pub stamped : IsStamped stamp
+  pub proofs : IsListed 4 (codes "fulfillment") proof_text proof
   pub loads : is_sound_list objects ≡ true
 
 -- the objects of the books of a connector with this address
@@ -72,10 +79,12 @@ pub record IsOf (address : List ℕ) (objects : List Row) : Type 0 where
   pub own : lists.stamped.is.address ≡ address
 
 -- The database is these books. SQLite's user version counts the starts.
-pub record AreBooks (db : Trees) (starts : ℕ) (names : List (List ℕ)) (all : List Amounts) (paid : List Row) : Type 0 where
+pub record AreBooks (db : Trees) (starts : ℕ) (names : List (List ℕ)) (all : List Amounts) (trail : Trail) : Type 0 where
   pub rows : db 0 ≡ lines names all
   pub named : length names ≡ length all
-  pub audit : db payment_tree ≡ paid
-  pub payments : ArePayments paid
+  pub audit : db payment_tree ≡ trail.paid
+  pub payments : ArePayments trail.paid
+  pub filed : db proof_tree ≡ trail.proofs
+  pub proofs : AreProofs trail.proofs
   pub counted : db version_tree ≡ version_rows starts
   pub objects : ListsTables (db catalog_tree)

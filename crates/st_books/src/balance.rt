@@ -16,7 +16,7 @@ pub struct Amounts {
     pub dues: u64,
 }
 
-/// What an entry by hand does to a sum.
+/// What a manual entry does to a sum.
 #[derive(Clone, Copy, Debug, PartialEq, Eq)]
 pub enum Kind {
     /// A payment outside Interledger: its amount is taken off.
@@ -58,16 +58,18 @@ pub struct Entry {
     pub amount: u64,
 }
 
-/// What is known of the lines of the second table.
+/// What is known of the payments and the fulfillments.
 #[derive(Clone, Copy, Debug, PartialEq, Eq)]
 pub(crate) struct Tally {
-    /// How many there are.
+    /// How many payments there are.
     pub(crate) lines: u64,
-    /// The moment of the last one, in milliseconds since 1970; 0 where there is none.
+    /// The moment of the last one, in milliseconds since 1970; 0 if there is none.
     pub(crate) latest: u64,
+    /// The id of the last fulfillment; 0 if there is none.
+    pub(crate) filed: u64,
 }
 
-/// What a payment leaves of an account's amounts, where they cover it.
+/// What a payment leaves of an account's amounts, if they cover it.
 fn take_off(amounts: Amounts, side: Side, amount: u64) -> Option<Amounts>
     ensures left { IfSome result (λ a. a ≡ less side amount amounts) }
     ensures covered { IfSome result (λ a. amount ≤ on_side side amounts) }
@@ -90,7 +92,7 @@ fn take_off(amounts: Amounts, side: Side, amount: u64) -> Option<Amounts>
     }
 }
 
-/// What an adjustment makes of an account's amounts, where they can be counted.
+/// What an adjustment makes of an account's amounts, if they can be counted.
 fn add_on(amounts: Amounts, side: Side, amount: u64) -> Option<Amounts>
     ensures more { IfSome result (λ a. a ≡ more side amount amounts) }
     ensures above { result ≡ None → IsAbove (more side amount amounts) }

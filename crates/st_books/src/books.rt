@@ -9,7 +9,7 @@ ghost use Rattle.sqlite_store.specs.FileStore.{view, recovers, log_frames, HasSp
 ghost use Rattle.st_books.specs.Errors.{number, told};
 ghost use Rattle.st_books.specs.Table.{AreDistinct};
 ghost use Rattle.st_books.specs.Payments.{entry_text, name_at, Finds, IsCovered};
-ghost use Rattle.st_books.specs.Standing.{Holds, payments_in};
+ghost use Rattle.st_books.specs.Standing.{Holds, trail_in};
 ghost use Rattle.st_books.specs.Commits.{Commits, Makes, Refuses, Rereads, IsBecause, KeepsFor, after_bookings, after_name, after_start, after_payment, booking_excuses, name_excuses, start_excuses, payment_excuses};
 
 use crate::balance::{Amounts, Entry, Kind, Payment, Side, Tally};
@@ -33,8 +33,8 @@ pub struct Books<S: Alter> {
     starts: u32,
     names: Vec<Bytes>,
     amounts: Vec<Amounts>,
-    // The lines of the second table.
-    paid: Tally,
+    // The payments and the fulfillments.
+    tally: Tally,
     row: Row,
     alloc: Global,
 }
@@ -42,13 +42,13 @@ pub struct Books<S: Alter> {
 impl<S: Alter> Model for Books<S> {
     ghost use Rattle.std.specs.Prelude.{◌≡◌, length};
     ghost use Rattle.st_books.specs.Table.{AreDistinct};
-    ghost use Rattle.st_books.specs.Standing.{Kept, Holds, payments_in};
+    ghost use Rattle.st_books.specs.Standing.{Kept, Holds, trail_in};
 
     ghost Value = { Kept S };
 
     ghost view = { λ b. record { store = b.store; starts = b.starts; names = b.names.items; amounts = b.amounts.items } };
 
-    ghost invariant = { λ b. Holds (S.Store.view b.store) b.starts b.names.items b.amounts.items (payments_in (S.Store.view b.store)) b.paid × (length b.names.items ≡ length b.amounts.items) × AreDistinct b.names.items };
+    ghost invariant = { λ b. Holds (S.Store.view b.store) b.starts b.names.items b.amounts.items (trail_in (S.Store.view b.store)) b.tally × (length b.names.items ≡ length b.amounts.items) × AreDistinct b.names.items };
 }
 
 // It is written out, so that a caller does not prove again how each part is dropped.
@@ -59,7 +59,7 @@ impl<S: Alter + Drop> Drop for Books<S> {
             starts: _,
             names: _,
             amounts: _,
-            paid: _,
+            tally: _,
             row: _,
             alloc: _,
         } = self;
@@ -75,9 +75,9 @@ impl<S: Alter> Books<S> {
         starts: u32,
         names: Vec<Bytes>,
         amounts: Vec<Amounts>,
-        paid: Tally,
+        tally: Tally,
     ) -> Books<S>
-        requires holds { Holds (S.Store.view store) starts names.items amounts.items (payments_in (S.Store.view store)) paid }
+        requires holds { Holds (S.Store.view store) starts names.items amounts.items (trail_in (S.Store.view store)) tally }
         requires named { length names.items ≡ length amounts.items }
         requires distinct { AreDistinct names.items }
         ensures { result ≡ record { store = store; starts = starts; names = names.items; amounts = amounts.items } }
@@ -87,7 +87,7 @@ impl<S: Alter> Books<S> {
             starts,
             names,
             amounts,
-            paid,
+            tally,
             row,
             alloc,
         }
@@ -128,7 +128,8 @@ impl<S: Alter> Books<S> {
         place_of(self.names.as_slice(), name.as_bytes())
     }
 
-    /// Counts one start more, and commits the count. To be called once, before the first Prepare is taken. Gives the count.
+    /// Counts one start more, and commits the count. To be called once, before the first Prepare is accepted. Returns the
+    /// count.
     pub fn begin_life(&mut self) -> Result<u64, BooksError>
         ensures count { IfOk result (λ n. n ≡ self.old.starts + 1) }
         ensures begun { OnOk result (Makes S.Store self.old (after_start S.Store self.old) self.new) }
@@ -143,14 +144,14 @@ impl<S: Alter> Books<S> {
             starts,
             names,
             amounts,
-            paid,
+            tally,
             ..
         } = self;
         commit_starts(
             store,
             *starts,
             next,
-            *paid,
+            *tally,
             names.as_slice(),
             amounts.as_slice(),
         )?;
@@ -158,20 +159,21 @@ impl<S: Alter> Books<S> {
         Ok(next as u64)
     }
 
-    /// Commits bookings, all of them or none, in one sync of the disk. At `Ok` each crash leaves books that have them; at
-    /// an error the books stand as before.
+    /// Commits bookings, all of them or none, in one sync of the disk. A booking with a proof leaves a line of it. At `Ok` each
+    /// crash leaves books that have them; at an error the books stay as before.
     pub fn book(&mut self, bookings: &[Booking]) -> Result<(), BooksError>
         ensures committed { OnOk result (Commits S.Store self.old bookings.now self.new) }
         ensures refused { OnErr result (Refuses S.Store self.old (after_bookings S.Store self.old bookings.now) self.new) }
         ensures cause { IfErr result (IsBecause S.Store self.old self.new (booking_excuses (S.Store.view self.old.store) self.old.names self.old.amounts bookings.now)) }
     {
         let mut draft = Vec::from_slice(self.alloc, self.amounts.as_slice())?;
+        let mut later = self.tally;
         let Books {
             store,
             starts,
             names,
             amounts,
-            paid,
+            tally,
             row,
             ..
         } = self;
@@ -179,26 +181,27 @@ impl<S: Alter> Books<S> {
             store,
             row,
             *starts,
-            *paid,
+            &mut later,
             names.as_slice(),
             draft.as_mut_slice(),
             bookings,
         )?;
         *amounts = draft;
+        *tally = later;
         Ok(())
     }
 
     /// Takes a payment outside Interledger off what an account owes, or is owed, or adds an adjustment; and keeps a line of it
-    /// with its reference, which may be empty, and its moment, or the last line's where that is later. Both are one commit.
-    /// Refuses with `TooLittle` a payment above what stands.
+    /// with its reference, which may be empty, and its moment, or the last line's if that is later. Both are one commit.
+    /// Refuses with `TooLittle` a payment above the sum that it is taken off.
     pub fn pay(&mut self, payment: Payment, reference: &str) -> Result<(), BooksError>
         ensures covered { OnOk result (IsCovered self.old.amounts payment) }
         ensures paid { OnOk result (Makes S.Store self.old (after_payment S.Store self.old payment reference.now) self.new) }
         ensures refused { OnErr result (Refuses S.Store self.old (after_payment S.Store self.old payment reference.now) self.new) }
         ensures cause { IfErr result (IsBecause S.Store self.old self.new (payment_excuses (S.Store.view self.old.store) self.old.names self.old.amounts payment (entry_text payment.kind payment.side reference.now))) }
     {
-        // No disk holds so many payments.
-        let Some(next) = next_tally(self.paid, payment) else {
+        // No disk has room for that number of payments.
+        let Some(next) = next_tally(self.tally, payment) else {
             return Err(BooksError::NoMemory);
         };
         let text = text_of(self.alloc, payment.kind, payment.side, reference)?;
@@ -208,7 +211,7 @@ impl<S: Alter> Books<S> {
             starts,
             names,
             amounts,
-            paid,
+            tally,
             row,
             ..
         } = self;
@@ -218,12 +221,12 @@ impl<S: Alter> Books<S> {
             *starts,
             names.as_slice(),
             draft.as_mut_slice(),
-            *paid,
+            *tally,
             payment,
             text.as_slice(),
         )?;
         *amounts = draft;
-        *paid = next;
+        *tally = next;
         Ok(())
     }
 
@@ -235,7 +238,7 @@ impl<S: Alter> Books<S> {
         reference: &str,
     ) -> Result<Option<Entry>, BooksError>
         requires { account < length self.old.names }
-        ensures found { IfOk result (λ e. IsClean (S.Store.view self.new.store) → Finds (payments_in (S.Store.view self.old.store)) (name_at self.old.names account) side reference.now e) }
+        ensures found { IfOk result (λ e. IsClean (S.Store.view self.new.store) → Finds (trail_in (S.Store.view self.old.store)).paid (name_at self.old.names account) side reference.now e) }
         ensures same { Rereads S.Store self.old self.new }
         ensures cause { IfErr result (λ e. (why : StoreError) × (e ≡ told why)) }
     {
@@ -280,7 +283,7 @@ impl<S: Alter> Books<S> {
             starts,
             names,
             amounts,
-            paid,
+            tally,
             row,
             ..
         } = self;
@@ -288,7 +291,7 @@ impl<S: Alter> Books<S> {
             store,
             row,
             *starts,
-            *paid,
+            *tally,
             names.as_slice(),
             amounts.as_slice(),
             &name,
@@ -300,7 +303,7 @@ impl<S: Alter> Books<S> {
 }
 
 impl<D: Disk + Drop> Books<FileStore<D>> {
-    /// Copies the log into the database file, and empties it. A crash in it leaves these books. Where it fails, the books are
+    /// Copies the log into the database file, and empties it. A crash in it leaves these books. If it fails, the books are
     /// shut, and have to be opened again.
     pub fn folded(self) -> Result<Books<FileStore<D>>, BooksError>
         ensures sums { IfOk result (λ b. (b.starts ≡ self.starts) × (b.names ≡ self.names) × (b.amounts ≡ self.amounts)) }
@@ -314,12 +317,12 @@ impl<D: Disk + Drop> Books<FileStore<D>> {
             starts,
             names,
             amounts,
-            paid,
+            tally,
             row,
             alloc,
         } = self;
         store.checkpoint()?;
-        Ok(Books::over(alloc, store, row, starts, names, amounts, paid))
+        Ok(Books::over(alloc, store, row, starts, names, amounts, tally))
     }
 }
 

@@ -21,10 +21,10 @@ use std::io;
 /// The bytes of a page that are not its sum.
 const USED: usize = 4088;
 
-/// Where the first page has the schema cookie, which counts the commits.
+/// The place of the schema cookie in the first page, which counts the commits.
 const COMMITS: usize = 40;
 
-/// Where the first page says at which of its bytes the list of objects begins.
+/// The place in the first page of the number that says at which of its bytes the list of objects begins.
 const LIST: usize = 105;
 
 /// Four bytes as a number, the lowest first.
@@ -64,7 +64,7 @@ fn counts_on(file: &[u8], first: &[u8], last: &[u8]) -> bool
     true
 }
 
-/// Whether one of the four bytes of a count, told by its unit, is that of one of two others.
+/// Whether one of the four bytes of a count, given by its unit, is that of one of two others.
 fn is_either(unit: u32, there: u32, before: u32, after: u32) -> bool
     requires { 0 < unit }
     ensures { IsTrue result → IsEither unit there before after }
@@ -105,7 +105,7 @@ fn counts_mixed(file: &[u8], first: &[u8], last: &[u8]) -> bool
     is_mixed(there, begun.wrapping_sub(1), ended)
 }
 
-/// Whether two first pages have the same bytes from where the list of objects begins in a third one.
+/// Whether two first pages have the same bytes from the start of the list of objects in a third one on.
 fn lists_same(page: &[u8], file: &[u8], last: &[u8]) -> bool
     requires page { length page.now ≡ 4096 }
     requires file { length file.now ≡ 4096 }
@@ -119,7 +119,7 @@ fn lists_same(page: &[u8], file: &[u8], last: &[u8]) -> bool
     file[at..USED] == last[at..USED]
 }
 
-/// Whether a log goes on from a file whose first page fits its sum.
+/// Whether a log continues a file whose first page fits its sum.
 fn continues_whole(file: &[u8], first: &[u8], last: &[u8]) -> bool
     requires file { length file.now ≡ 4096 }
     requires first { length first.now ≡ 4096 }
@@ -132,7 +132,7 @@ fn continues_whole(file: &[u8], first: &[u8], last: &[u8]) -> bool
     lists_same(file, file, last)
 }
 
-/// Whether a log goes on from a file whose first page was left unfinished by a fold of it.
+/// Whether a log continues a file whose first page was left unfinished by a fold of it.
 fn continues_torn(file: &[u8], first: &[u8], last: &[u8]) -> bool
     requires file { length file.now ≡ 4096 }
     requires first { length first.now ≡ 4096 }
@@ -185,7 +185,7 @@ fn last_one(numbers: &[u32]) -> Option<usize>
     None
 }
 
-/// The page of each frame that SQLite would take of the log.
+/// The page of each frame that SQLite would read from the log.
 fn frames_of<D: Disk>(alloc: Global, log: &mut D, size: PageSize) -> Result<Vec<u32>, BooksError>
     requires usable { IsTrue (D.Disk.is_usable log.old) }
     requires size { bytes_of size ≡ 4096 }
@@ -233,7 +233,7 @@ fn log_continues<D: Disk>(alloc: Global, log: &mut D, page: &[u8]) -> Result<boo
     Ok(continues(page, &first_page, &last_page))
 }
 
-/// Refuses a log that has a first page, where its file has none and no making was cut short.
+/// Refuses a log that has a first page, if its file has none and no making was cut short.
 fn refuse_pages<D: Disk>(alloc: Global, log: &mut D, begun: bool) -> Result<(), BooksError>
     requires usable { IsTrue (D.Disk.is_usable log.old) }
     ensures lacking { OnOk result (IsClean D.Disk log.new → IsTrue begun ⊎ LogSaysNothing (D.Disk.seen log.old)) }
@@ -250,7 +250,7 @@ fn refuse_pages<D: Disk>(alloc: Global, log: &mut D, begun: bool) -> Result<(), 
     }
 }
 
-/// Refuses a log that does not continue a file that begins with this page, where no making was cut short.
+/// Refuses a log that does not continue a file that begins with this page, if no making was cut short.
 fn refuse_others<D: Disk>(
     alloc: Global,
     log: &mut D,

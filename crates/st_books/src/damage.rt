@@ -1,5 +1,5 @@
-//! Damage in the log of books. A crash leaves a log that ends in part of one commit, and that is no damage. A frame that does
-//! not fit where a later commit follows is damage: SQLite would end the log there, and drop each commit behind it.
+//! Damage in the log of books. A crash leaves a log that ends in part of one commit; this does not count as damage. A frame
+//! that does not fit, with a later commit after it, is damage: SQLite would end the log there, and drop each commit after it.
 
 ghost use Rattle.std.specs.Prelude.{◌≡◌, ◌+◌, ◌<◌, ◌≤◌, ◌↔◌, ◌*◌, ◌^◌, length, IsTrue, IfOk, MatchOption};
 ghost use Rattle.sqlite_wal.specs.Format.{be32, IsSigned};
@@ -16,7 +16,7 @@ use sqlite_disk::Disk;
 use std::alloc::Global;
 use std::io;
 
-/// No log has so many frames.
+/// No log has this number of frames.
 pub(crate) const MOST_FRAMES: usize = 4_294_967_295;
 
 /// How a frame fits the header of the one before it.
@@ -26,13 +26,13 @@ pub(crate) enum Fit {
     Absent,
     /// It does not fit.
     Broken,
-    /// It fits, and its commit goes on.
+    /// It fits, and its commit continues.
     Inner,
     /// It fits, and ends its commit.
     Last,
 }
 
-/// The checksum that a frame goes on from, as it is stored before the frame.
+/// The checksum from which a frame continues, as it is stored before the frame.
 fn sum_before<D: Disk>(log: &mut D, head: &[u8; 32], page_size: usize, i: usize) -> io::Result<Sum>
     requires usable { IsTrue (D.Disk.is_usable log.old) }
     requires size { page_size ≤ 65536 }
@@ -152,7 +152,7 @@ fn next_frame<D: Disk>(
     Err(BooksError::Damaged)
 }
 
-/// Whether a frame does not fit, with the end of a commit behind it and a further frame behind that.
+/// Whether a frame does not fit, with the end of a commit after it and a further frame after that.
 fn is_broken<D: Disk>(
     log: &mut D,
     len: usize,

@@ -12,7 +12,7 @@ use thiserror::Error;
 /// Why a call was refused. The books are as they were before the call.
 #[derive(Clone, Copy, Debug, PartialEq, Eq, Error)]
 pub enum BooksError {
-    /// The file is no database, or has other tables or rows than books.
+    /// The file is not a database, or has other tables or rows than books.
     #[error("the file holds no books")]
     NoBooks,
     /// Another process has the file, or it cannot be opened.

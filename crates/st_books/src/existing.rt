@@ -59,7 +59,7 @@ pub fn open_existing_files<D: Disk + Drop>(
     books.folded()
 }
 
-/// Refuses where there is no file, or an empty one.
+/// Refuses if there is no file, or an empty one.
 fn require_file(rt: &HostRuntime, path: &str) -> Result<(), BooksError> {
     match fs::metadata(rt, path) {
         Ok(found) if found.len() == 0 => Err(BooksError::NoBooks),
@@ -106,10 +106,10 @@ pub(crate) fn files_at<S: Start>(
     }
 }
 
-/// Opens the books of a file, whatever address they say. Where there is no file, or it holds nothing, it refuses with `NoBooks`
-/// and makes nothing.
+/// Opens the books of a file, whatever address they say. If there is no file, or nothing is in it, it refuses with
+/// `NoBooks` and makes nothing.
 ///
-/// Else as `open`: it finds the books that a crash left, and refuses with `Taken` where another process has the file.
+/// Otherwise as `open`: it finds the books that a crash left, and refuses with `Taken` if another process has the file.
 pub fn open_existing<S: Start>(
     rt: &HostRuntime,
     path: &str,

@@ -15,7 +15,7 @@ pub(crate) const FRAME_HEADER_LEN: usize = 24;
 /// A running checksum.
 pub(crate) type Sum = (u32, u32);
 
-/// Where a frame begins.
+/// The place of a frame's first byte.
 pub(crate) fn frame_offset(page_size: usize, i: usize) -> usize
     requires size { page_size ≤ 65536 }
     requires few { i ≤ 0xffff_ffff }

@@ -1,4 +1,4 @@
-//! The two tables of books and their view: whether a store lists them, and how they are made.
+//! The three tables of books and their view: whether a store lists them, and how they are made.
 
 ghost use Rattle.std.specs.Prelude.{◌≡◌, ◌≢◌, ◌⊎◌, ◌<◌, ◌∷◌, [], false, true, pos, codes, List, ℕ, IsTrue, IfOk, IfSome, OnOk, OnErr};
 ghost use Rattle.std.specs.List.{AllByRecursion};
@@ -10,7 +10,9 @@ ghost use Rattle.sqlite_trees.specs.Sound.{is_sound_list};
 ghost use Rattle.sqlite_trees.specs.View.{IsClean, IsQuiet, KeepsCommitted};
 ghost use Rattle.sqlite_trees.specs.declared.store.Shape.TheVariants as shapes;
 ghost use Rattle.st_books.specs.Stamp.{stamp_tree, stamp_row, IsStampText, IsStampRow};
-ghost use Rattle.st_books.specs.Table.{payment_tree, AreBooks, IsTableRow, IsAccountRow, IsPaymentRow, ListsTables, IsOf};
+ghost use Rattle.st_books.specs.Fulfillments.{proof_tree};
+ghost use Rattle.st_books.specs.Trail.{no_trail};
+ghost use Rattle.st_books.specs.Table.{payment_tree, AreBooks, IsTableRow, IsAccountRow, IsPaymentRow, IsProofRow, ListsTables, IsOf};
 ghost use Rattle.st_books.specs.Standing.{IsReady};
 ghost use Rattle.st_books.specs.Made.{table_row, IsUnlaid, Lays};
 
@@ -30,6 +32,10 @@ const ACCOUNT: &str =
 /// The table of payments outside Interledger.
 const PAYMENT: &str =
     "CREATE TABLE payment (id INTEGER PRIMARY KEY, name TEXT NOT NULL, side TEXT NOT NULL, amount INTEGER NOT NULL, moment INTEGER NOT NULL) STRICT";
+
+/// The table of fulfillments.
+const FULFILLMENT: &str =
+    "CREATE TABLE fulfillment (id INTEGER PRIMARY KEY, name TEXT NOT NULL, condition BLOB NOT NULL, fulfillment BLOB NOT NULL, amount INTEGER NOT NULL, moment INTEGER NOT NULL) STRICT";
 
 /// Whether a column has this text.
 fn has_text(row: &Row, at: usize, text: &str) -> bool
@@ -75,17 +81,20 @@ fn is_stamp_row(alloc: Global, row: &Row, own: Option<&str>) -> Result<bool, Boo
     is_stamp(alloc, text, own)
 }
 
-/// Whether the list of objects is that of books: the two tables, and the view, which says this address, if one is asked for.
+/// Whether the list of objects is that of books: the three tables, and the view, which says this address, if one is asked for.
 fn is_listed(alloc: Global, objects: &[Row], own: Option<&str>) -> Result<bool, BooksError>
-    ensures { IfOk result (λ b. IsTrue b → (account : Values) × (payment : Values) × (row : Values) × (objects.now ≡ account ∷ payment ∷ row ∷ []) × IsAccountRow account × IsPaymentRow payment
+    ensures { IfOk result (λ b. IsTrue b → (account : Values) × (payment : Values) × (row : Values) × (proof : Values) × (objects.now ≡ account ∷ payment ∷ row ∷ proof ∷ []) × IsAccountRow account × IsPaymentRow payment × IsProofRow proof
         × ((stamp : IsStampRow row) × IfSome own.entry (λ a. stamp.address ≡ a.now))) }
 {
     match objects {
-        [account, payment, stamp] => {
+        [account, payment, stamp, proof] => {
             if !is_table_row(account, 1, "account", ACCOUNT) {
                 return Ok(false);
             }
             if !is_table_row(payment, 2, "payment", PAYMENT) {
+                return Ok(false);
+            }
+            if !is_table_row(proof, 4, "fulfillment", FULFILLMENT) {
                 return Ok(false);
             }
             is_stamp_row(alloc, stamp, own)
@@ -122,7 +131,7 @@ pub(crate) fn is_absent(shape: Shape) -> bool
     }
 }
 
-/// Whether a store lists the two tables of books and their view, and nothing else. The view says this address, if one is asked
+/// Whether a store lists the three tables of books and their view, and nothing else. The view says this address, if one is asked
 /// for.
 pub(crate) fn lists_books<S: Alter>(
     alloc: Global,
@@ -131,6 +140,7 @@ pub(crate) fn lists_books<S: Alter>(
 ) -> Result<bool, BooksError>
     ensures table { IfOk result (λ b. IsTrue b → (S.Store.view store.now).shape 0 ≡ shapes.Table) }
     ensures audit { IfOk result (λ b. IsTrue b → (S.Store.view store.now).shape payment_tree ≡ shapes.Table) }
+    ensures filed { IfOk result (λ b. IsTrue b → (S.Store.view store.now).shape proof_tree ≡ shapes.Table) }
     ensures listed { IfOk result (λ b. IsTrue b → IsClean (S.Store.view store.now) → (S.Store.view store.now).is_broken ≡ false
         → is_sound_list ((S.Store.view store.now).trees catalog_tree) ≡ true → ListsTables ((S.Store.view store.now).trees catalog_tree)) }
     ensures own { IfOk result (λ b. IsTrue b → IsClean (S.Store.view store.now) → (S.Store.view store.now).is_broken ≡ false
@@ -152,7 +162,14 @@ pub(crate) fn lists_books<S: Alter>(
     if stamp_reals != 0 {
         return Ok(false);
     }
+    let proof_reals = store.reals(3);
+    if proof_reals != 0 {
+        return Ok(false);
+    }
     if !is_table(store.shape(0)) {
+        return Ok(false);
+    }
+    if !is_table(store.shape(3)) {
         return Ok(false);
     }
     if !is_pageless(store.shape(2)) {
@@ -170,7 +187,8 @@ pub(crate) fn is_unlaid<S: Alter>(alloc: Global, store: &S) -> Result<bool, Book
     let accounts = is_absent(store.shape(0));
     let payments = is_absent(store.shape(1));
     let stamp = is_absent(store.shape(2));
-    Ok(objects.is_empty() && starts == 0 && accounts && payments && stamp)
+    let proofs = is_absent(store.shape(3));
+    Ok(objects.is_empty() && starts == 0 && accounts && payments && stamp && proofs)
 }
 
 /// Makes an empty table, and lists it with its text.
@@ -219,7 +237,7 @@ fn create_stamp<S: Alter>(store: &mut S, text: &str) -> Result<(), BooksError>
     Ok(())
 }
 
-/// Makes the two tables and the view.
+/// Makes the three tables and the view.
 fn create_tables<S: Alter>(store: &mut S, text: &str) -> Result<(), BooksError>
     requires unlaid { IsClean (S.Store.view store.old) → IsUnlaid (S.Store.view store.old) }
     requires stamps { IsStampText text.now }
@@ -228,18 +246,19 @@ fn create_tables<S: Alter>(store: &mut S, text: &str) -> Result<(), BooksError>
 {
     create_table(store, 0, "account", ACCOUNT)?;
     create_table(store, 1, "payment", PAYMENT)?;
-    create_stamp(store, text)
+    create_stamp(store, text)?;
+    create_table(store, 3, "fulfillment", FULFILLMENT)
 }
 
-/// Makes the two tables and the view in a store that lists nothing, in one commit. A crash at any moment of it leaves what could be left
+/// Makes the three tables and the view in a store that lists nothing, in one commit. A crash at any moment of it leaves what could be left
 /// before, or books without accounts.
 pub(crate) fn make<S: Alter>(store: &mut S, text: &str) -> Result<(), BooksError>
     requires unlaid { IsClean (S.Store.view store.old) → IsUnlaid (S.Store.view store.old) }
     requires stamps { IsStampText text.now }
     ensures ready { OnOk result (IsClean (S.Store.view store.new) → IsReady (S.Store.view store.new)) }
-    ensures made { OnOk result (IsClean (S.Store.view store.new) → AreBooks (S.Store.view store.new).trees 0 [] [] []) }
+    ensures made { OnOk result (IsClean (S.Store.view store.new) → AreBooks (S.Store.view store.new).trees 0 [] [] no_trail) }
     ensures clean { IsClean (S.Store.view store.new) → IsClean (S.Store.view store.old) }
-    ensures any_moment { IsClean (S.Store.view store.new) → (db : Trees) → S.Store.recovers store.new db → S.Store.recovers store.old db ⊎ AreBooks db 0 [] [] [] }
+    ensures any_moment { IsClean (S.Store.view store.new) → (db : Trees) → S.Store.recovers store.new db → S.Store.recovers store.old db ⊎ AreBooks db 0 [] [] no_trail }
 {
     let entered = create_tables(store, text);
     conclude(store, entered)

@@ -1,7 +1,7 @@
 //! What neighbours owe and are owed, in an SQLite database: the books.
 //!
-//! `Books::book` commits bookings: at `Ok` each crash leaves books that have them, and during the call a crash leaves the
-//! books from before or with all of them. `pay` takes a payment outside Interledger off a
+//! `Books::book` commits bookings, and keeps their proofs: at `Ok` each crash leaves books that have them, and during the call a
+//! crash leaves the books from before or with all of them. `pay` takes a payment outside Interledger off a
 //! sum, or adds an adjustment, and keeps a line of it, by whose reference `entered` finds it.
 //! `begin_life` counts the starts. `open` finds the books that a crash left.
 #![tactic(auto)]
@@ -12,6 +12,7 @@ mod continuing;
 mod damage;
 mod error;
 mod existing;
+mod filing;
 mod frames;
 mod laws;
 mod laying;

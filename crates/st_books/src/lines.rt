@@ -12,7 +12,7 @@ use crate::balance::{Amounts, Kind, Side};
 use sqlite_value::row::Row;
 use sqlite_value::value::ValueRef;
 
-/// The number in a column, where it is one and not below 0.
+/// The number in a column, if it is one and not below 0.
 pub(crate) fn count_in(row: &Row, at: usize) -> Option<u64>
     ensures { IfSome result (λ n. column row.now at ≡ Int (pos n)) }
 {
@@ -22,7 +22,7 @@ pub(crate) fn count_in(row: &Row, at: usize) -> Option<u64>
     }
 }
 
-/// The text in a column, where it is one.
+/// The text in a column, if it is one.
 pub(crate) fn text_in(row: &Row, at: usize) -> Option<&[u8]>
     ensures text { IfSome result (λ t. column row.now at ≡ Text t.now) }
     ensures none { result ≡ None → (t : List ℕ) → column row.now at ≢ Text t }
@@ -33,7 +33,7 @@ pub(crate) fn text_in(row: &Row, at: usize) -> Option<&[u8]>
     }
 }
 
-fn is_null(row: &Row, at: usize) -> bool
+pub(crate) fn is_null(row: &Row, at: usize) -> bool
     ensures { IsTrue result → column row.now at ≡ Null }
 {
     match row.get(at) {
@@ -42,7 +42,7 @@ fn is_null(row: &Row, at: usize) -> bool
     }
 }
 
-/// The name and the amounts of an account's line, where the row is the line at this place.
+/// The name and the amounts of an account's line, if the row is the line at this place.
 pub(crate) fn line_in(row: &Row, at: usize) -> Option<(&[u8], Amounts)>
     ensures { IfSome result (λ l. row.now ≡ line (at + 1) l.0.now l.1) }
 {
@@ -59,7 +59,7 @@ pub(crate) fn line_in(row: &Row, at: usize) -> Option<(&[u8], Amounts)>
     Some((name, Amounts { claims, dues }))
 }
 
-/// What a plus in front of the text of an entry says, and what is behind it.
+/// What a plus in front of the text of an entry says, and the rest of the text.
 fn kind_in(text: &[u8]) -> (Kind, &[u8])
     ensures { text.now ≡ sign_text result.0 ++ result.1.now }
 {
@@ -69,7 +69,7 @@ fn kind_in(text: &[u8]) -> (Kind, &[u8])
     }
 }
 
-/// The side that a text begins with, and what is behind it.
+/// The side that a text begins with, and the rest of the text.
 fn side_in(text: &[u8]) -> Option<(Side, &[u8])>
     ensures { IfSome result (λ s. text.now ≡ side_text s.0 ++ s.1.now) }
 {
@@ -94,7 +94,7 @@ pub(crate) struct PaymentLine<'a> {
     pub(crate) moment: u64,
 }
 
-/// Whether a row has six columns, and begins as the line behind so many.
+/// Whether a row has six columns, and begins as the line after `before` others.
 fn is_next(row: &Row, before: u64) -> bool
     ensures { IsTrue result → (length row.now ≡ 6) × (column row.now 0 ≡ Int (pos (before + 1))) × (column row.now 1 ≡ Null) }
 {
@@ -107,7 +107,7 @@ fn is_next(row: &Row, before: u64) -> bool
     before.checked_add(1) == Some(id)
 }
 
-/// What stands behind a side: nothing, or a space and the reference.
+/// The text after a side: nothing, or a space and the reference.
 fn reference_in(rest: &[u8]) -> Option<&[u8]>
     ensures { IfSome result (λ r. r.now ≡ rest.now) }
 {
@@ -117,7 +117,7 @@ fn reference_in(rest: &[u8]) -> Option<&[u8]>
     None
 }
 
-/// The parts of a payment's line, where the row is the line behind so many.
+/// The parts of a payment's line, if the row is the line after `before` others.
 pub(crate) fn payment_in(row: &Row, before: u64) -> Option<PaymentLine<'_>>
     ensures line { IfSome result (λ p. row.now ≡ payment_line (before + 1) p.name.now p.text.now p.amount p.moment) }
     ensures text { IfSome result (λ p. p.text.now ≡ sign_text p.kind ++ side_text p.side ++ p.rest.now) }

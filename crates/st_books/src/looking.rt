@@ -28,7 +28,7 @@ fn is_text(row: &Row, at: usize, text: &[u8]) -> bool
     }
 }
 
-/// The kind of the entry of a row, where it is of this account and has one of two texts.
+/// The kind of the entry of a row, if it is of this account and has one of two texts.
 fn kind_of(row: &Row, name: &[u8], paid: &[u8], adjusted: &[u8]) -> Option<Kind>
     ensures found { IfSome result (λ kind. HasText name.now (text_for paid.now adjusted.now kind) row.now) }
     ensures none { result ≡ None → (¬ HasText name.now paid.now row.now) × (¬ HasText name.now adjusted.now row.now) }

@@ -22,7 +22,7 @@ pub(crate) const NEW_SIZE: usize = 4096;
 /// The format's version in the header of a log.
 const VERSION: u32 = 3007000;
 
-/// The count of checkpoints in the header of a log behind which no database was written yet.
+/// The count of checkpoints in the header of a log of which no database was written yet.
 const BEGUN: u32 = 0xffff_ffff;
 
 /// The length of the header of a database file.
@@ -149,8 +149,8 @@ fn is_unmade<D: Disk>(files: &mut Files<D>, nothing: bool) -> io::Result<bool>
     is_unwritten(&mut files.log)
 }
 
-/// Whether books may be made in the files. Refuses with `NoBooks` where the log is damaged, and where there is no database
-/// beside the log of one.
+/// Whether books may be made in the files. Refuses with `NoBooks` if the log is damaged, and if a log is there without its
+/// database.
 pub(crate) fn may_make<D: Disk>(alloc: Global, files: &mut Files<D>) -> Result<bool, BooksError>
     requires log { IsTrue (D.Disk.is_usable files.old.log) }
     requires db { IsTrue (D.Disk.is_usable files.old.db) }

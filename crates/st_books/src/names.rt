@@ -28,7 +28,7 @@ pub(crate) fn place_of(names: &[Bytes], name: &[u8]) -> Option<usize>
     None
 }
 
-/// These names, and another behind them.
+/// These names, followed by another.
 pub(crate) fn with_name(
     alloc: Global,
     names: &[Bytes],

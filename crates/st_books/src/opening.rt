@@ -10,7 +10,9 @@ ghost use Rattle.sqlite_store.specs.FileStore.{view};
 ghost use Rattle.sqlite.specs.Files.{image_of};
 ghost use Rattle.sqlite.specs.State.{HasCleanDisk};
 ghost use Rattle.sqlite.specs.Held.{state};
-ghost use Rattle.st_books.specs.Payments.{ArePayments, tally_of};
+ghost use Rattle.st_books.specs.Payments.{ArePayments};
+ghost use Rattle.st_books.specs.Fulfillments.{proof_tree};
+ghost use Rattle.st_books.specs.Trail.{tally_of, paid_alone};
 ghost use Rattle.st_books.specs.Stamp.{IsStampText};
 ghost use Rattle.st_books.specs.Table.{payment_tree, lines, AreDistinct, ListsTables, IsOf};
 ghost use Rattle.st_books.specs.Standing.{IsReady, ReadsOnly, Takes};
@@ -21,6 +23,7 @@ use crate::books::Books;
 use crate::continuing::refuse_strange_log;
 use crate::error::BooksError;
 use crate::existing::{files_at, options_of, refuse_lone_log};
+use crate::filing::last_proof;
 use crate::laying::{is_absent, is_unlaid, lists_books, make};
 use crate::lines::{line_in, payment_in};
 use crate::making::may_make;
@@ -40,8 +43,8 @@ struct Lines {
     amounts: Vec<Amounts>,
 }
 
-/// Reads the lines of the table. Refuses with `NoBooks` where a row is no line or stands at another place than its id, and
-/// where a name stands twice.
+/// Reads the lines of the table. Refuses with `NoBooks` if a row is not a line or its place is not its id, and if a name
+/// is there twice.
 fn read_lines<S: Alter>(alloc: Global, store: &mut S, row: &mut Row) -> Result<Lines, BooksError>
     requires { IsClean (S.Store.view store.old) → (S.Store.view store.old).shape 0 ≡ shapes.Table }
     ensures found { IfOk result (λ r. IsClean (S.Store.view store.new) → (S.Store.view store.old).trees 0 ≡ lines r.names.items r.amounts.items) }
@@ -74,7 +77,7 @@ fn read_lines<S: Alter>(alloc: Global, store: &mut S, row: &mut Row) -> Result<L
 
 /// The store of a connection, with nothing that was not committed.
 fn let_go<S: Alter + Drop>(conn: Connection<S>) -> S
-    ensures ready { IsClean (S.Store.view result) → IsTrue (S.Store.view result).is_open → (S.Store.view result).shape 0 ≡ shapes.Table → (S.Store.view result).shape payment_tree ≡ shapes.Table → IsReady (S.Store.view result) }
+    ensures ready { IsClean (S.Store.view result) → IsTrue (S.Store.view result).is_open → (S.Store.view result).shape 0 ≡ shapes.Table → (S.Store.view result).shape payment_tree ≡ shapes.Table → (S.Store.view result).shape proof_tree ≡ shapes.Table → IsReady (S.Store.view result) }
     ensures fresh { IsClean (S.Store.view result) → IsTrue (S.Store.view result).is_open → IsFresh (S.Store.view result) }
     ensures same { IsTrue (S.Store.view result).is_open → (S.Store.view result).trees ≡ (state S.Store conn).committed.trees }
     ensures clean { IsClean (S.Store.view result) → HasCleanDisk (state S.Store conn) }
@@ -82,12 +85,12 @@ fn let_go<S: Alter + Drop>(conn: Connection<S>) -> S
     conn.into_store()
 }
 
-/// Counts the lines of the second table, and finds the moment of the last one. Refuses with `NoBooks` where a row is no line of a payment or stands at another place
-/// than its id.
+/// Counts the lines of the second table, and finds the moment of the last one. Refuses with `NoBooks` if a row is not a line of
+/// a payment or its place is not its id.
 fn count_payments<S: Alter>(store: &mut S, row: &mut Row) -> Result<Tally, BooksError>
     requires { IsClean (S.Store.view store.old) → (S.Store.view store.old).shape payment_tree ≡ shapes.Table }
     ensures lawful { OnOk result (IsClean (S.Store.view store.new) → ArePayments ((S.Store.view store.old).trees payment_tree)) }
-    ensures counted { IfOk result (λ t. IsClean (S.Store.view store.new) → tally_of ((S.Store.view store.old).trees payment_tree) ≡ t) }
+    ensures counted { IfOk result (λ t. IsClean (S.Store.view store.new) → tally_of (paid_alone ((S.Store.view store.old).trees payment_tree)) ≡ t) }
     ensures same { OnOk result (IsClean (S.Store.view store.new) → ReadsOnly (S.Store.view store.old) (S.Store.view store.new)) }
     ensures quiet { IsQuiet S.Store.view S.Store.faults S.Store.recovers S.Store.is_shielded store.old store.new }
 {
@@ -96,7 +99,11 @@ fn count_payments<S: Alter>(store: &mut S, row: &mut Row) -> Result<Tally, Books
     let mut latest = 0;
     'rows: for lines in 0..u64::MAX {
         if !store.next(0, row)? {
-            return Ok(Tally { lines, latest });
+            return Ok(Tally {
+                lines,
+                latest,
+                filed: 0,
+            });
         }
         let Some(line) = payment_in(row, lines) else {
             return Err(BooksError::NoBooks);
@@ -112,7 +119,7 @@ fn books_in<S: Alter + Drop>(
     mut store: S,
     own: Option<&str>,
 ) -> Result<Books<S>, BooksError>
-    requires { IsClean (S.Store.view store) → IsTrue (S.Store.view store).is_open → (S.Store.view store).shape 0 ≡ shapes.Table → (S.Store.view store).shape payment_tree ≡ shapes.Table → IsReady (S.Store.view store) }
+    requires { IsClean (S.Store.view store) → IsTrue (S.Store.view store).is_open → (S.Store.view store).shape 0 ≡ shapes.Table → (S.Store.view store).shape payment_tree ≡ shapes.Table → (S.Store.view store).shape proof_tree ≡ shapes.Table → IsReady (S.Store.view store) }
     ensures clean { IfOk result (λ b. IsClean (S.Store.view b.store) → IsClean (S.Store.view store)) }
     ensures taken { IfOk result (λ b. IsClean (S.Store.view b.store) → Takes S.Store (S.Store.view store).trees b) }
     ensures listed { IfOk result (λ b. IsClean (S.Store.view b.store) → ListsTables ((S.Store.view store).trees catalog_tree)) }
@@ -128,7 +135,13 @@ fn books_in<S: Alter + Drop>(
     let mut row = Row::new(alloc);
     let Lines { names, amounts } = read_lines(alloc, &mut store, &mut row)?;
     let paid = count_payments(&mut store, &mut row)?;
-    Ok(Books::over(alloc, store, row, starts, names, amounts, paid))
+    let filed = last_proof(&mut store, &mut row)?;
+    let tally = Tally {
+        lines: paid.lines,
+        latest: paid.latest,
+        filed,
+    };
+    Ok(Books::over(alloc, store, row, starts, names, amounts, tally))
 }
 
 /// New books, in a store that lists nothing and counts no start. This is the text of their view.
@@ -151,8 +164,8 @@ fn new_books<S: Alter + Drop>(
     books_in(alloc, store, own)
 }
 
-/// The books of a database, which are of this address, if one is asked for. Where it lists nothing they are made with this text
-/// of their view, if they may be.
+/// The books of a database, which are of this address, if one is asked for. If it lists nothing they are made with this text of
+/// their view, if they may be.
 pub(crate) fn books_of<S: Alter + Drop>(
     alloc: Global,
     conn: Connection<S>,
@@ -212,7 +225,7 @@ pub fn open_files<D: Disk + Drop>(
     books.folded()
 }
 
-/// Opens the books of a file, or makes them where neither the file nor its log is there, or the file is empty.
+/// Opens the books of a file, or makes them if neither the file nor its log is there, or the file is empty.
 ///
 /// Each page of a new file ends in a sum of its bytes, so that a changed byte is found: `Damaged`. An sqlite3 without the
 /// extension cksumvfs may read such a file, and must not write it.
@@ -221,9 +234,9 @@ pub fn open_files<D: Disk + Drop>(
 /// the address of the connector that keeps them. Those of another address or version, or without that view, are refused with
 /// `NoBooks`.
 ///
-/// After a crash it finds the books that the crash left. The log is then folded into the file. Refuses with `NoBooks` where the
-/// file holds something else, where the log is damaged, and where the log is there without its file, and leaves them; with
-/// `Taken` where another process has the file.
+/// After a crash it finds the books that the crash left. The log is then folded into the file. Refuses with `NoBooks` if the
+/// file has something else, if the log is damaged, and if the log is there without its file, and leaves them; with `Taken` if
+/// another process has the file.
 pub fn open<S: Start>(
     rt: &HostRuntime,
     path: &str,

@@ -7,9 +7,10 @@ ghost use Rattle.sqlite_trees.specs.Tree.{Trees, put_row};
 ghost use Rattle.sqlite_trees.specs.View.{IsClean, IsQuiet, OnlyWrites, SetsTree, IsStorableRow};
 ghost use Rattle.sqlite_trees.specs.declared.store.Shape.TheVariants as shapes;
 ghost use Rattle.st_books.specs.declared.error.BooksError.TheVariants.{NoMemory, TooMuch};
-ghost use Rattle.st_books.specs.Payments.{sign_text, side_text, entry_text, payment_line, paid_off, next_tally, tally_of, with_payment, IsCovered, IsEntryText, IsUncountable};
+ghost use Rattle.st_books.specs.Payments.{sign_text, side_text, entry_text, payment_line, paid_off, IsCovered, IsEntryText, IsUncountable};
+ghost use Rattle.st_books.specs.Trail.{Trail, next_tally, tally_of, with_entry};
 ghost use Rattle.st_books.specs.Table.{payment_tree, AreBooks};
-ghost use Rattle.st_books.specs.Standing.{Holds, Keeps, payments_in};
+ghost use Rattle.st_books.specs.Standing.{Holds, Keeps, trail_in};
 ghost use Rattle.st_books.specs.Reasons.{Because, excuses};
 ghost use Rattle.st_books.specs.Commits.{payment_excuses};
 
@@ -31,7 +32,7 @@ fn word_of(side: Side) -> &'static [u8]
     }
 }
 
-/// What stands in front of the word of a side.
+/// The text in front of the word of a side.
 fn sign_of(kind: Kind) -> &'static [u8]
     ensures { result.now ≡ sign_text kind }
 {
@@ -87,15 +88,17 @@ pub(crate) fn next_tally(before: Tally, payment: Payment) -> Option<Tally>
         return Some(Tally {
             lines,
             latest: before.latest,
+            filed: before.filed,
         });
     }
     Some(Tally {
         lines,
         latest: payment.moment,
+        filed: before.filed,
     })
 }
 
-/// Makes a row the line of a payment, behind those of so many.
+/// Makes a row the line of a payment, after those that are there.
 fn write_payment(
     row: &mut Row,
     before: Tally,
@@ -110,7 +113,7 @@ fn write_payment(
         return Err(BooksError::TooMuch);
     };
     let moment = moment_after(before.latest, payment.moment)?;
-    // No disk holds so many payments.
+    // No disk has room for that number of payments.
     let Some(next) = before.lines.checked_add(1) else {
         return Err(BooksError::NoMemory);
     };
@@ -165,8 +168,8 @@ fn enter_payment<S: Alter>(
     ensures covered { OnOk result (IsCovered draft.old payment) }
     ensures paid { OnOk result (draft.new ≡ paid_off draft.old payment) }
     ensures frame { OnOk result (IsClean (S.Store.view store.new) → OnlyWrites (S.Store.view store.old) (S.Store.view store.new)) }
-    ensures drawn { OnOk result (IsClean (S.Store.view store.new) → (starts : _) (paid : List Values) → tally_of paid ≡ before → AreBooks (S.Store.view store.old).trees starts names.now draft.old paid
-        → AreBooks (S.Store.view store.new).trees starts names.now draft.new (with_payment paid names.now payment text.now)) }
+    ensures drawn { OnOk result (IsClean (S.Store.view store.new) → (starts : _) (trail : Trail) → tally_of trail ≡ before → AreBooks (S.Store.view store.old).trees starts names.now draft.old trail
+        → AreBooks (S.Store.view store.new).trees starts names.now draft.new (with_entry trail names.now payment text.now)) }
     ensures keeps { Keeps (S.Store.view store.old) (S.Store.view store.new) }
     ensures quiet { IsQuiet S.Store.view S.Store.faults S.Store.recovers S.Store.is_shielded store.old store.new }
     ensures cause { IsClean (S.Store.view store.new) → IfErr result (Because (S.Store.view store.old) (MoreFaults (S.Store.faults store.old) (S.Store.faults store.new)) (payment_excuses (S.Store.view store.old) names.now draft.old payment text.now)) }
@@ -191,15 +194,15 @@ pub(crate) fn commit_payment<S: Alter>(
     payment: Payment,
     text: &[u8],
 ) -> Result<(), BooksError>
-    requires holds { Holds (S.Store.view store.old) _starts names.now draft.old (payments_in (S.Store.view store.old)) before }
+    requires holds { Holds (S.Store.view store.old) _starts names.now draft.old (trail_in (S.Store.view store.old)) before }
     requires named { length names.now ≡ length draft.old }
     requires words { IsEntryText payment.kind payment.side text.now }
     ensures covered { OnOk result (IsCovered draft.old payment) }
     ensures paid { OnOk result (draft.new ≡ paid_off draft.old payment) }
-    ensures holds { OnOk result (Holds (S.Store.view store.new) _starts names.now draft.new (with_payment (payments_in (S.Store.view store.old)) names.now payment text.now) (next_tally before payment)) }
+    ensures holds { OnOk result (Holds (S.Store.view store.new) _starts names.now draft.new (with_entry (trail_in (S.Store.view store.old)) names.now payment text.now) (next_tally before payment)) }
     ensures stays_open { OnOk result (IsClean (S.Store.view store.new) → IsTrue (S.Store.view store.new).is_open) }
-    ensures undone { OnErr result (Holds (S.Store.view store.new) _starts names.now draft.old (payments_in (S.Store.view store.old)) before) }
-    ensures any_moment { IsClean (S.Store.view store.new) → (db : Trees) → S.Store.recovers store.new db → S.Store.recovers store.old db ⊎ AreBooks db _starts names.now (paid_off draft.old payment) (with_payment (payments_in (S.Store.view store.old)) names.now payment text.now) }
+    ensures undone { OnErr result (Holds (S.Store.view store.new) _starts names.now draft.old (trail_in (S.Store.view store.old)) before) }
+    ensures any_moment { IsClean (S.Store.view store.new) → (db : Trees) → S.Store.recovers store.new db → S.Store.recovers store.old db ⊎ AreBooks db _starts names.now (paid_off draft.old payment) (with_entry (trail_in (S.Store.view store.old)) names.now payment text.now) }
     ensures cause { IsClean (S.Store.view store.new) → IfErr result (Because (S.Store.view store.old) (MoreFaults (S.Store.faults store.old) (S.Store.faults store.new)) (payment_excuses (S.Store.view store.old) names.now draft.old payment text.now)) }
 {
     let entered = enter_payment(store, row, names, draft, before, payment, text);

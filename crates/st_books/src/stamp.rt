@@ -29,12 +29,12 @@ fn text_of(alloc: Global, identity: &str, address: &str) -> Result<String, Alloc
     ensures { IfOk result (λ text. string_bytes text ≡ stamp_text identity.now address.now) }
 {
     let text = format!(in alloc;
-        "CREATE VIEW books AS SELECT 1 AS schema, '{identity}' AS identity, '{address}' AS address"
+        "CREATE VIEW books AS SELECT 2 AS schema, '{identity}' AS identity, '{address}' AS address"
     )?;
     Ok(text)
 }
 
-/// Whether SQLite takes a text as that of the view `books`.
+/// Whether SQLite reads a text as that of the view `books`.
 fn is_view(alloc: Global, text: &str) -> Result<bool, BooksError>
     ensures { IfOk result (λ b. IsTrue b → view_defined_by text.now ≡ Ok (codes "books")) }
 {
@@ -45,7 +45,7 @@ fn is_view(alloc: Global, text: &str) -> Result<bool, BooksError>
     }
 }
 
-/// The text of the view of new books. Refuses with `NoBooks` an address that SQLite does not take in it.
+/// The text of the view of new books. Refuses with `NoBooks` an address that SQLite does not accept in it.
 pub(crate) fn new_stamp(alloc: Global, identity: &str, address: &str) -> Result<String, BooksError>
     ensures stamps { IfOk result (λ text. IsStampText (string_bytes text)) }
     ensures made { IfOk result (λ text. string_bytes text ≡ stamp_text identity.now address.now) }

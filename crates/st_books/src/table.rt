@@ -1,6 +1,6 @@
 //! The table of accounts in a store.
 
-ghost use Rattle.std.specs.Prelude.{◌≡◌, ◌⊎◌, ◌+◌, ◌^◌, ◌<◌, ◌≤◌, ◌++◌, ◌∷◌, [], None, false, length, pos, slice_set, IsTrue, IsOk, IfOk, IfErr, IfSome, OnOk, OnErr};
+ghost use Rattle.std.specs.Prelude.{◌≡◌, ◌⊎◌, ◌+◌, ◌^◌, ◌<◌, ◌≤◌, ◌++◌, ◌∷◌, [], None, false, fold, length, pos, slice_set, IsTrue, IsOk, IfOk, IfErr, IfSome, OnOk, OnErr};
 ghost use Rattle.sqlite_disk.specs.Disk.{MoreFaults};
 ghost use Rattle.sqlite_trees.specs.Tree.{Trees, put_row};
 ghost use Rattle.sqlite_trees.specs.Objects.{version_tree, version_rows};
@@ -8,13 +8,16 @@ ghost use Rattle.sqlite_trees.specs.View.{IsClean, IsQuiet, IsRolledBack, Commit
 ghost use Rattle.sqlite_trees.specs.declared.store.Shape.TheVariants as shapes;
 ghost use Rattle.st_books.specs.declared.error.BooksError.TheVariants.{NoMemory, TooMuch};
 ghost use Rattle.st_books.specs.Sums.{nothing, booked, booked_one, IsAbove, IsOfNoAccount, Overflows};
+ghost use Rattle.st_books.specs.Fulfillments.{proof_tree, last_after};
+ghost use Rattle.st_books.specs.Trail.{later_tally, with_bookings};
 ghost use Rattle.st_books.specs.Table.{line, AreBooks};
-ghost use Rattle.st_books.specs.Standing.{Holds, Draws, Keeps, ReadsOnly, payments_in};
-ghost use Rattle.st_books.specs.Reasons.{Because, HasBadName, no_excuse, excuses};
+ghost use Rattle.st_books.specs.Standing.{Holds, Draws, Enters, Keeps, ReadsOnly, trail_in};
+ghost use Rattle.st_books.specs.Reasons.{Because, HasBadName, HasBadProof, no_excuse, excuses};
 ghost use Rattle.st_books.specs.Commits.{booking_excuses, name_excuses, start_excuses};
 
 use crate::balance::{Amounts, Tally};
 use crate::error::BooksError;
+use crate::filing::file_proof;
 use sqlite_trees::store::Alter;
 use sqlite_value::row::Row;
 use sqlite_value::value::{Bytes, ValueRef};
@@ -42,7 +45,7 @@ fn write_line(row: &mut Row, at: usize, name: &Bytes, amounts: Amounts) -> Resul
     let Some(dues) = counted(amounts.dues) else {
         return Err(BooksError::TooMuch);
     };
-    // No memory holds so many accounts.
+    // No memory has room for that number of accounts.
     let Some(next) = (at as u64).checked_add(1) else {
         return Err(BooksError::NoMemory);
     };
@@ -83,7 +86,7 @@ pub(crate) fn set_line<S: Alter>(
 }
 
 /// Writes what a booking makes of the lines of its two accounts.
-fn enter<S: Alter>(
+fn enter_sums<S: Alter>(
     store: &mut S,
     row: &mut Row,
     names: &[Bytes],
@@ -92,6 +95,7 @@ fn enter<S: Alter>(
 ) -> Result<(), BooksError>
     requires table { IsClean (S.Store.view store.old) → (S.Store.view store.old).shape 0 ≡ shapes.Table }
     requires named { length names.now ≡ length draft.old }
+    ensures known { OnOk result (booking.payer < length names.now) }
     ensures booked { OnOk result (draft.new ≡ booked_one draft.old booking) }
     ensures drawn { OnOk result (IsClean (S.Store.view store.new) → Draws (S.Store.view store.old) (S.Store.view store.new) names.now draft.old draft.new) }
     ensures keeps { Keeps (S.Store.view store.old) (S.Store.view store.new) }
@@ -103,6 +107,7 @@ fn enter<S: Alter>(
         claim,
         payee,
         due,
+        ..
     } = booking;
     if payer >= draft.len() || payee >= draft.len() {
         return Err(BooksError::NoAccount);
@@ -128,24 +133,55 @@ fn enter<S: Alter>(
     Ok(())
 }
 
+/// Writes what a booking makes of the lines of its two accounts, and its proof after the fulfillment of this id.
+fn enter<S: Alter>(
+    store: &mut S,
+    row: &mut Row,
+    names: &[Bytes],
+    draft: &mut [Amounts],
+    last: &mut u64,
+    booking: Booking,
+) -> Result<(), BooksError>
+    requires table { IsClean (S.Store.view store.old) → (S.Store.view store.old).shape 0 ≡ shapes.Table }
+    requires filed { IsClean (S.Store.view store.old) → (S.Store.view store.old).shape proof_tree ≡ shapes.Table }
+    requires named { length names.now ≡ length draft.old }
+    ensures booked { OnOk result (draft.new ≡ booked_one draft.old booking) }
+    ensures last { OnOk result (last.new ≡ last_after last.old booking) }
+    ensures entered { OnOk result (IsClean (S.Store.view store.new) → Enters (S.Store.view store.old) (S.Store.view store.new) names.now draft.old draft.new last.old (booking ∷ [])) }
+    ensures keeps { Keeps (S.Store.view store.old) (S.Store.view store.new) }
+    ensures quiet { IsQuiet S.Store.view S.Store.faults S.Store.recovers S.Store.is_shielded store.old store.new }
+    ensures cause { IsClean (S.Store.view store.new) → IfErr result (Because (S.Store.view store.old) (MoreFaults (S.Store.faults store.old) (S.Store.faults store.new)) (excuses (IsOfNoAccount draft.old booking) (Overflows draft.old booking) ⊥ (HasBadName (S.Store.view store.old) names.now ⊎ HasBadProof (S.Store.view store.old) names.now booking))) }
+{
+    enter_sums(store, row, names, draft, booking)?;
+    let Some(proof) = booking.proof else {
+        return Ok(());
+    };
+    let payer = booking.payer;
+    *last = file_proof(store, row, *last, &names[payer], booking.claim, proof)?;
+    Ok(())
+}
+
 /// Writes what bookings make of the table, one after another.
 fn enter_all<S: Alter>(
     store: &mut S,
     row: &mut Row,
     names: &[Bytes],
     draft: &mut [Amounts],
+    last: &mut u64,
     bookings: &[Booking],
 ) -> Result<(), BooksError>
     requires table { IsClean (S.Store.view store.old) → (S.Store.view store.old).shape 0 ≡ shapes.Table }
+    requires filed { IsClean (S.Store.view store.old) → (S.Store.view store.old).shape proof_tree ≡ shapes.Table }
     requires named { length names.now ≡ length draft.old }
     ensures booked { OnOk result (draft.new ≡ booked draft.old bookings.now) }
-    ensures drawn { OnOk result (IsClean (S.Store.view store.new) → Draws (S.Store.view store.old) (S.Store.view store.new) names.now draft.old draft.new) }
+    ensures last { OnOk result (last.new ≡ fold last_after last.old bookings.now) }
+    ensures entered { OnOk result (IsClean (S.Store.view store.new) → Enters (S.Store.view store.old) (S.Store.view store.new) names.now draft.old draft.new last.old bookings.now) }
     ensures keeps { Keeps (S.Store.view store.old) (S.Store.view store.new) }
     ensures quiet { IsQuiet S.Store.view S.Store.faults S.Store.recovers S.Store.is_shielded store.old store.new }
     ensures cause { IsClean (S.Store.view store.new) → IfErr result (Because (S.Store.view store.old) (MoreFaults (S.Store.faults store.old) (S.Store.faults store.new)) (booking_excuses (S.Store.view store.old) names.now draft.old bookings.now)) }
 {
     for booking in bookings {
-        enter(store, row, names, draft, *booking)?;
+        enter(store, row, names, draft, last, *booking)?;
     }
     Ok(())
 }
@@ -171,7 +207,7 @@ fn counted_commit<S: Alter>(
     Ok(())
 }
 
-/// Commits what was entered, or rolls back where something was refused.
+/// Commits what was entered, or rolls back if something was refused.
 pub(crate) fn conclude<S: Alter>(
     store: &mut S,
     entered: Result<(), BooksError>,
@@ -196,27 +232,27 @@ pub(crate) fn conclude<S: Alter>(
     }
 }
 
-/// Commits what bookings make of the table, or rolls back. The counts of starts and of payments serve the clauses
-/// alone.
+/// Commits what bookings make of the tables, or rolls back. The count of starts serves the clauses alone.
 pub(crate) fn commit_bookings<S: Alter>(
     store: &mut S,
     row: &mut Row,
     _starts: u32,
-    _paid: Tally,
+    tally: &mut Tally,
     names: &[Bytes],
     draft: &mut [Amounts],
     bookings: &[Booking],
 ) -> Result<(), BooksError>
-    requires holds { Holds (S.Store.view store.old) _starts names.now draft.old (payments_in (S.Store.view store.old)) _paid }
+    requires holds { Holds (S.Store.view store.old) _starts names.now draft.old (trail_in (S.Store.view store.old)) tally.old }
     requires named { length names.now ≡ length draft.old }
     ensures booked { OnOk result (draft.new ≡ booked draft.old bookings.now) }
-    ensures holds { OnOk result (Holds (S.Store.view store.new) _starts names.now draft.new (payments_in (S.Store.view store.old)) _paid) }
+    ensures tally { OnOk result (tally.new ≡ later_tally tally.old bookings.now) }
+    ensures holds { OnOk result (Holds (S.Store.view store.new) _starts names.now draft.new (with_bookings (trail_in (S.Store.view store.old)) names.now bookings.now) (later_tally tally.old bookings.now)) }
     ensures stays_open { OnOk result (IsClean (S.Store.view store.new) → IsTrue (S.Store.view store.new).is_open) }
-    ensures undone { OnErr result (Holds (S.Store.view store.new) _starts names.now draft.old (payments_in (S.Store.view store.old)) _paid) }
-    ensures any_moment { IsClean (S.Store.view store.new) → (db : Trees) → S.Store.recovers store.new db → S.Store.recovers store.old db ⊎ AreBooks db _starts names.now (booked draft.old bookings.now) (payments_in (S.Store.view store.old)) }
+    ensures undone { OnErr result (Holds (S.Store.view store.new) _starts names.now draft.old (trail_in (S.Store.view store.old)) tally.old) }
+    ensures any_moment { IsClean (S.Store.view store.new) → (db : Trees) → S.Store.recovers store.new db → S.Store.recovers store.old db ⊎ AreBooks db _starts names.now (booked draft.old bookings.now) (with_bookings (trail_in (S.Store.view store.old)) names.now bookings.now) }
     ensures cause { IsClean (S.Store.view store.new) → IfErr result (Because (S.Store.view store.old) (MoreFaults (S.Store.faults store.old) (S.Store.faults store.new)) (booking_excuses (S.Store.view store.old) names.now draft.old bookings.now)) }
 {
-    let entered = enter_all(store, row, names, draft, bookings);
+    let entered = enter_all(store, row, names, draft, &mut tally.filed, bookings);
     conclude(store, entered)
 }
 
@@ -244,17 +280,17 @@ pub(crate) fn commit_account<S: Alter>(
     store: &mut S,
     row: &mut Row,
     _starts: u32,
-    _paid: Tally,
+    _tally: Tally,
     names: &[Bytes],
     amounts: &[Amounts],
     name: &Bytes,
 ) -> Result<(), BooksError>
-    requires holds { Holds (S.Store.view store.old) _starts names.now amounts.now (payments_in (S.Store.view store.old)) _paid }
+    requires holds { Holds (S.Store.view store.old) _starts names.now amounts.now (trail_in (S.Store.view store.old)) _tally }
     requires named { length names.now ≡ length amounts.now }
-    ensures holds { OnOk result (Holds (S.Store.view store.new) _starts (names.now ++ name.now ∷ []) (amounts.now ++ nothing ∷ []) (payments_in (S.Store.view store.old)) _paid) }
+    ensures holds { OnOk result (Holds (S.Store.view store.new) _starts (names.now ++ name.now ∷ []) (amounts.now ++ nothing ∷ []) (trail_in (S.Store.view store.old)) _tally) }
     ensures stays_open { OnOk result (IsClean (S.Store.view store.new) → IsTrue (S.Store.view store.new).is_open) }
-    ensures undone { OnErr result (Holds (S.Store.view store.new) _starts names.now amounts.now (payments_in (S.Store.view store.old)) _paid) }
-    ensures any_moment { IsClean (S.Store.view store.new) → (db : Trees) → S.Store.recovers store.new db → S.Store.recovers store.old db ⊎ AreBooks db _starts (names.now ++ name.now ∷ []) (amounts.now ++ nothing ∷ []) (payments_in (S.Store.view store.old)) }
+    ensures undone { OnErr result (Holds (S.Store.view store.new) _starts names.now amounts.now (trail_in (S.Store.view store.old)) _tally) }
+    ensures any_moment { IsClean (S.Store.view store.new) → (db : Trees) → S.Store.recovers store.new db → S.Store.recovers store.old db ⊎ AreBooks db _starts (names.now ++ name.now ∷ []) (amounts.now ++ nothing ∷ []) (trail_in (S.Store.view store.old)) }
     ensures cause { IsClean (S.Store.view store.new) → IfErr result (Because (S.Store.view store.old) (MoreFaults (S.Store.faults store.old) (S.Store.faults store.new)) (name_excuses (S.Store.view store.old) names.now name.now)) }
 {
     let entered = add_line(store, row, names.len(), name);
@@ -277,15 +313,15 @@ pub(crate) fn commit_starts<S: Alter>(
     store: &mut S,
     _before: u32,
     starts: u32,
-    _paid: Tally,
+    _tally: Tally,
     names: &[Bytes],
     amounts: &[Amounts],
 ) -> Result<(), BooksError>
-    requires holds { Holds (S.Store.view store.old) _before names.now amounts.now (payments_in (S.Store.view store.old)) _paid }
-    ensures holds { OnOk result (Holds (S.Store.view store.new) starts names.now amounts.now (payments_in (S.Store.view store.old)) _paid) }
+    requires holds { Holds (S.Store.view store.old) _before names.now amounts.now (trail_in (S.Store.view store.old)) _tally }
+    ensures holds { OnOk result (Holds (S.Store.view store.new) starts names.now amounts.now (trail_in (S.Store.view store.old)) _tally) }
     ensures stays_open { OnOk result (IsClean (S.Store.view store.new) → IsTrue (S.Store.view store.new).is_open) }
-    ensures undone { OnErr result (Holds (S.Store.view store.new) _before names.now amounts.now (payments_in (S.Store.view store.old)) _paid) }
-    ensures any_moment { IsClean (S.Store.view store.new) → (db : Trees) → S.Store.recovers store.new db → S.Store.recovers store.old db ⊎ AreBooks db starts names.now amounts.now (payments_in (S.Store.view store.old)) }
+    ensures undone { OnErr result (Holds (S.Store.view store.new) _before names.now amounts.now (trail_in (S.Store.view store.old)) _tally) }
+    ensures any_moment { IsClean (S.Store.view store.new) → (db : Trees) → S.Store.recovers store.new db → S.Store.recovers store.old db ⊎ AreBooks db starts names.now amounts.now (trail_in (S.Store.view store.old)) }
     ensures cause { IsClean (S.Store.view store.new) → IfErr result (Because (S.Store.view store.old) (MoreFaults (S.Store.faults store.old) (S.Store.faults store.new)) no_excuse) }
 {
     let entered = set_starts(store, starts);

@@ -8,7 +8,7 @@ use Rattle.st_hop.specs.Hop.{Hop, Way}
 abbrev pub has_prefix : List ℕ → Way → Bool
 has_prefix prefix r = bytes_eq prefix r.prefix
 
--- no prefix stands twice
+-- no prefix occurs twice
 abbrev pub is_distinct : List Way → Bool
 is_distinct [] = true
 is_distinct (r ∷ rs) = not (list_any (has_prefix r.prefix) rs) && is_distinct rs

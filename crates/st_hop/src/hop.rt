@@ -98,8 +98,8 @@ fn onward<'b>(prepare: &Prepare<'b>, rate: Rate) -> Prepare<'b>
 impl<A: Allocator + Copy> HopState<A> {
     /// A hop with the ILP address `own`, these accounts and routes, and nothing owed yet. Accounts are numbered from 0.
     ///
-    /// Fails with `BadTable` where `own` or a prefix is not an ILP address, a route names an account that does not
-    /// exist, a prefix is given twice, or a limit is above 2^63 - 1. Otherwise with `NoMemory` where memory is refused.
+    /// Fails with `BadTable` if `own` or a prefix is not an ILP address, a route names an account that does not
+    /// exist, a prefix is given twice, or a limit is above 2^63 - 1. Otherwise with `NoMemory` if memory is refused.
     pub fn new(
         alloc: A,
         own: &str,
@@ -128,7 +128,7 @@ impl<A: Allocator + Copy> HopState<A> {
         })
     }
 
-    /// A hop with this address, these accounts and routes, which goes on with the books of an earlier one: the claims and
+    /// A hop with this address, these accounts and these routes, with the books of an earlier one: the claims and
     /// dues of each account, in the units of its link. No ticket is open. Its tickets are numbered from `next`, which has
     /// to be above each number that an earlier hop with these books gave out.
     ///
@@ -178,7 +178,7 @@ impl<A: Allocator + Copy> HopState<A> {
     /// What an account owes the hop: the sum of the amounts of the fulfilled Prepares that arrived from it, in the
     /// units of its link. Does not allocate.
     ///
-    /// Fails with `NoAccount` where there is no account with this index.
+    /// Fails with `NoAccount` if there is no account with this index.
     pub fn claims(&self, account: usize) -> Result<u64, HopError>
         ensures { result ≡ (if nat_lt account (length self.now.accounts) then Ok (slice_index self.now.claims account) else Err HopError.NoAccount) }
     {
@@ -188,7 +188,7 @@ impl<A: Allocator + Copy> HopState<A> {
     /// What the hop owes an account: the sum of the amounts of the fulfilled Prepares that were forwarded to it, in the
     /// units of its link. Does not allocate.
     ///
-    /// Fails with `NoAccount` where there is no account with this index.
+    /// Fails with `NoAccount` if there is no account with this index.
     pub fn dues(&self, account: usize) -> Result<u64, HopError>
         ensures { result ≡ (if nat_lt account (length self.now.accounts) then Ok (slice_index self.now.dues account) else Err HopError.NoAccount) }
     {
@@ -198,7 +198,7 @@ impl<A: Allocator + Copy> HopState<A> {
     /// What is reserved against an account: the sum of the amounts of the Prepares from it that wait for their answer,
     /// in the units of its link. Does not allocate.
     ///
-    /// Fails with `NoAccount` where there is no account with this index.
+    /// Fails with `NoAccount` if there is no account with this index.
     pub fn held(&self, account: usize) -> Result<u64, HopError>
         ensures { result ≡ (if nat_lt account (length self.now.accounts) then Ok (held_of self.now account) else Err HopError.NoAccount) }
     {
@@ -219,7 +219,7 @@ impl<A: Allocator + Copy> HopState<A> {
         self.all_dues
     }
 
-    /// The bytes of a Reject T00 (RFC 0027), ready for use where memory is refused. Does not allocate.
+    /// The bytes of a Reject T00 (RFC 0027), ready for use when memory is refused. Does not allocate.
     pub fn t00(&self) -> &[u8]
         ensures { result.now ≡ t00_text self.now.own }
     {
@@ -248,7 +248,7 @@ impl<A: Allocator + Copy> HopState<A> {
             || sent > u128::from(MAX_SUM - self.due)
     }
 
-    /// Where a Prepare is forwarded, or the first rule that rejects it.
+    /// The next hop of a Prepare, or the first rule that rejects it.
     fn judge(&self, account: usize, prepare: &Prepare<'_>, now: Moment) -> Result<NextHop, Refusal>
         requires { account < length self.now.accounts }
         ensures { result ≡ judged self.now account (prepare_seen prepare.now) now }
@@ -361,7 +361,7 @@ impl<A: Allocator + Copy> HopState<A> {
     /// rate of the route, rounded down; it may be 0. The ticket is open afterwards, as `settle` requires. Once 2^64 - 1
     /// tickets were given out, a Prepare that could otherwise be forwarded is answered with T00.
     ///
-    /// Fails with `NoAccount` where there is no account with this index, and otherwise with `NoMemory` where memory is
+    /// Fails with `NoAccount` if there is no account with this index, and otherwise with `NoMemory` if memory is
     /// refused.
     pub fn arrive(
         &mut self,
@@ -434,7 +434,7 @@ impl<A: Allocator + Copy> HopState<A> {
     /// Settles a ticket with the outcome of its Prepare, `now` being the current time (RFC 0027). Gives the bytes that
     /// answer the Prepare. Does not allocate.
     ///
-    /// The claim and the due are booked exactly where a Fulfill that fits the condition arrived before the forwarded
+    /// The claim and the due are booked exactly if a Fulfill that fits the condition arrived before the forwarded
     /// Prepare expired. Exactly then the answer is a Fulfill. The reserved amount is released in every case. Requires
     /// that the ticket is open at this hop, as `is_open` checks.
     pub fn settle(&mut self, ticket: Ticket, outcome: Outcome<A>, now: Moment) -> Vec<u8, A>
@@ -462,7 +462,7 @@ impl<A: Allocator + Copy> HopState<A> {
     }
 
     /// Ends all open tickets, as a restart with the same books does. Claims and dues stay, nothing is reserved any more,
-    /// and the numbers of tickets go on. Does not allocate.
+    /// and the numbers of tickets continue. Does not allocate.
     ///
     /// No later ticket has the number of one that was open, so an answer to an earlier Prepare settles nothing.
     pub fn restart(&mut self)

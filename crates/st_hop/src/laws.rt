@@ -30,8 +30,8 @@ pub fn every_run_is_lawful()
     ensures { (own : List ℕ) (accounts : List accounts.Account) (routes : List Way) (acts : List Act) → is_table own accounts routes ≡ true → IsLawful (run (new_hop own accounts routes) acts) }
 {}
 
-/// The books of any lawful hop are books with which a hop of its table can go on. That hop is the one that was restarted.
-/// A hop of another table of as many accounts that can have these books goes on with them too.
+/// The books of any lawful hop are books with which a hop of its table can continue. That hop is the one that was restarted.
+/// A hop of another table with the same number of accounts that can have these books continues with them too.
 pub fn books_go_on()
     ensures books { (h : Hop) → IsLawful h → AreBooks h.accounts h.claims h.dues }
     ensures same { (h : Hop) (next : ℕ) → restored (new_hop h.own h.accounts h.routes) h.claims h.dues next ≡ restarted h next }
@@ -39,7 +39,7 @@ pub fn books_go_on()
     ensures restored { (h : Hop) (accounts : List accounts.Account) (routes : List Way) (next : ℕ) → is_table h.own accounts routes ≡ true → AreBooks accounts h.claims h.dues → length accounts ≡ length h.accounts → h.next ≤ next → next ≤ last_next → GoesOn h (restored (new_hop h.own accounts routes) h.claims h.dues next) }
 {}
 
-/// The route to an address is the one with the longest prefix of it. There is none only where no prefix fits.
+/// The route to an address is the one with the longest prefix of it. There is none only if no prefix fits.
 pub fn longest_route_law()
     ensures { (routes : List Way) (address : List ℕ) → IsRouteTo routes address (route_to routes address) }
 {}
@@ -65,7 +65,7 @@ pub fn prepares_go_on_as_routed()
 {}
 
 /// Settling an open ticket adds the ticket's amount to the sum of all claims, and the forwarded amount to the sum of
-/// all dues, where the Prepare was fulfilled. Otherwise both stay. The answer is a Fulfill exactly where it booked. The
+/// all dues, if the Prepare was fulfilled. Otherwise both stay. The answer is a Fulfill exactly if it booked. The
 /// ticket is removed, and everything else stays.
 pub fn settlements_book()
     ensures claims { (h : Hop) (t : tickets.Open) (outcome : Option (List ℕ)) (now : ℤ) → IsLawful h → IsAmong h.tickets t → sum (settled h t outcome now).1.claims ≡ sum h.claims + claim_of t outcome now }

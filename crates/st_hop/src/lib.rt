@@ -1,7 +1,7 @@
 //! A hop: the connector between the sender and the receiver of an Interledger packet (RFC 0027).
 //!
-//! `arrive` takes the bytes of a Prepare. It gives a Reject that answers it, or the bytes to forward and a `Ticket`.
-//! `settle` ends the ticket with the answer that came back, and gives the bytes of the answer to the Prepare. Until
+//! `arrive` handles the bytes of a Prepare. It gives a Reject that answers it, or the bytes to forward and a `Ticket`.
+//! `settle` ends the ticket with the answer that arrived, and gives the bytes of the answer to the Prepare. Until
 //! then the hop reserves the amount against the account that the Prepare arrived from. The forwarded amount is that
 //! amount at the rate of the route. Claims are what an account owes the hop, dues what the hop owes it. Time, accounts
 //! and bytes are arguments: the crate uses no clock, socket or thread.

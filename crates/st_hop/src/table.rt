@@ -66,7 +66,7 @@ fn are_parts(own: &str, accounts: &[Account], routes: &[Route<'_>]) -> bool
 
 /// The routes of a table of which a hop can be made.
 ///
-/// Prefixes are compared with each other only where memory for them was refused.
+/// Prefixes are compared with each other only if memory for them was refused.
 pub(crate) fn routes_of<A: Allocator + Copy>(
     alloc: A,
     own: &str,

@@ -10,6 +10,7 @@ use Rattle.st_hop.specs.declared.ticket.Open.{Open}
 use Rattle.st_hop.specs.Hop.{held_for, due_for}
 use Rattle.st_hop.specs.Lawful.{IsNamed}
 use Rattle.st_booking.specs.declared.booking.Booking.{Booking}
+use Rattle.st_booking.specs.declared.booking.Proof.{Proof}
 use Rattle.st_books.specs.declared.balance.Amounts.{Amounts}
 use Rattle.st_books.specs.Sums.{nothing, amounts_at, with_claim, with_due, claimed, booked_one, booked}
 use Rattle.st_books.specs.Table.{AreDistinct}
@@ -51,7 +52,7 @@ later_line : (n to name : List ℕ) (o : Option ℕ) (line amount : ℕ) (b : Bo
 later_line n to name o line amount true same apart e = ap (λ (b : Bool). if b then amount else 0) (apart_later line) ∙ sym (ap (λ (c : Bool). if c then amount else 0) (unlike to name (λ is. apart ((bytes_eq-Decides n name).0 same ∙ sym is))))
 later_line n to name o line amount false same apart e = later_same o line amount ∙ e
 
--- the line of a name is that of a ticket's account where the account has this name
+-- the line of a name is that of a ticket's account if the account has this name
 amount_at : (table : Names) (line : ℕ) (to name : List ℕ) (amount : ℕ) → AreDistinct table → slice_get table line ≡ Some to
     → amount_for (line_of table name) line amount ≡ (if bytes_eq to name then amount else 0)
 unfolding line_of
@@ -64,7 +65,7 @@ amount_at (n ∷ ns) (suc line) to name amount apart here =
 
 -- ---- one booking
 
--- where a part of the amounts that are set is so much more, it is so much more at the name that is there
+-- if a part of the amounts that are set rises by `more`, it rises by `more` at the name that is there
 field_named : (f : Amounts → ℕ) (names : Names) (all : List Amounts) (at : ℕ) (to name : List ℕ) (a : Amounts) (more : ℕ) → AreDistinct names → length names ≡ length all → slice_get names at ≡ Some to
     → f a ≡ f (amounts_at all at) + more → f (amounts_of names (set all at a) name) ≡ f (amounts_of names all name) + (if bytes_eq to name then more else 0)
 field_named f names all at to name a more apart same here rises =
@@ -93,7 +94,7 @@ place_named names (t ∷ table) [] i none to is here = absurd (let e = ap length
 place_named names (t ∷ table) (p ∷ places) zero none to is here = ap (λ xs. get_or xs 0 None) is ∙ here
 place_named names (t ∷ table) (p ∷ places) (suc i) none to is here = place_named names table places i none to (ap rest_of is) here
 
--- books, a table and where its accounts are
+-- books, a table and the places of its accounts
 pub record IsOver (names table : Names) (places : List ℕ) (all : List Amounts) : Type 0 where
   names_apart : AreDistinct names
   table_apart : AreDistinct table
@@ -108,9 +109,9 @@ over_booked names table places all b o = record {
   places_are = o.places_are;
 }
 
-one_claims : (names table : Names) (places : List ℕ) (all : List Amounts) (none : ℕ) (t : Open) (name : List ℕ) → IsOver names table places all → IsNamed (length table) t
-    → (amounts_of names (booked_one all (booking_at places none t)) name).claims ≡ (amounts_of names all name).claims + amount_for (line_of table name) t.incoming t.amount_in
-one_claims names table places all none t name o is =
+one_claims : (names table : Names) (places : List ℕ) (all : List Amounts) (none : ℕ) (proves : Open → Option Proof) (t : Open) (name : List ℕ) → IsOver names table places all → IsNamed (length table) t
+    → (amounts_of names (booked_one all (booking_at places none proves t)) name).claims ≡ (amounts_of names all name).claims + amount_for (line_of table name) t.incoming t.amount_in
+one_claims names table places all none proves t name o is =
     let to = get_or table t.incoming [] in
     let on = get_or table t.outgoing [] in
     let p = get_or places t.incoming none in
@@ -125,9 +126,9 @@ one_claims names table places all none t name o is =
     let z = none_if (bytes_eq on name) in
     omega (arith, a, b, c, z)
 
-one_dues : (names table : Names) (places : List ℕ) (all : List Amounts) (none : ℕ) (t : Open) (name : List ℕ) → IsOver names table places all → IsNamed (length table) t
-    → (amounts_of names (booked_one all (booking_at places none t)) name).dues ≡ (amounts_of names all name).dues + amount_for (line_of table name) t.outgoing t.amount_out
-one_dues names table places all none t name o is =
+one_dues : (names table : Names) (places : List ℕ) (all : List Amounts) (none : ℕ) (proves : Open → Option Proof) (t : Open) (name : List ℕ) → IsOver names table places all → IsNamed (length table) t
+    → (amounts_of names (booked_one all (booking_at places none proves t)) name).dues ≡ (amounts_of names all name).dues + amount_for (line_of table name) t.outgoing t.amount_out
+one_dues names table places all none proves t name o is =
     let to = get_or table t.incoming [] in
     let on = get_or table t.outgoing [] in
     let p = get_or places t.incoming none in
@@ -156,18 +157,18 @@ none_more : (a : Amounts) (o : Option ℕ) → a ≡ gained a [] o
 none_more a None = same_amounts a (gained a [] None) (omega arith) (omega arith)
 none_more a (Some line) = same_amounts a (gained a [] (Some line)) (omega arith) (omega arith)
 
-pub all_booked : (names table : Names) (places : List ℕ) (all : List Amounts) (none : ℕ) (bag : List Open) (name : List ℕ) → IsOver names table places all → AllByRecursion (IsNamed (length table)) bag
-    → amounts_of names (booked all (map (booking_at places none) bag)) name ≡ gained (amounts_of names all name) bag (line_of table name)
-all_booked names table places all none [] name o named = none_more (amounts_of names all name) (line_of table name)
-all_booked names table places all none (t ∷ bag) name o named =
-    let b = booking_at places none t in
-    let rest = all_booked names table places (booked_one all b) none bag name (over_booked names table places all b o) named.1 in
-    let c = one_claims names table places all none t name o named.0 in
-    let d = one_dues names table places all none t name o named.0 in
+pub all_booked : (names table : Names) (places : List ℕ) (all : List Amounts) (none : ℕ) (proves : Open → Option Proof) (bag : List Open) (name : List ℕ) → IsOver names table places all → AllByRecursion (IsNamed (length table)) bag
+    → amounts_of names (booked all (map (booking_at places none proves) bag)) name ≡ gained (amounts_of names all name) bag (line_of table name)
+all_booked names table places all none proves [] name o named = none_more (amounts_of names all name) (line_of table name)
+all_booked names table places all none proves (t ∷ bag) name o named =
+    let b = booking_at places none proves t in
+    let rest = all_booked names table places (booked_one all b) none proves bag name (over_booked names table places all b o) named.1 in
+    let c = one_claims names table places all none proves t name o named.0 in
+    let d = one_dues names table places all none proves t name o named.0 in
     let h = held_more t bag (line_of table name) in
     let u = due_more t bag (line_of table name) in
     rest ∙ same_amounts (gained (amounts_of names (booked_one all b) name) bag (line_of table name)) (gained (amounts_of names all name) (t ∷ bag) (line_of table name)) (omega (arith, c, h)) (omega (arith, d, u))
 
-pub books_gain : (names table : Names) (places : List ℕ) (all : List Amounts) (none : ℕ) (bag : List Open) (name : List ℕ) → AreDistinct names → AreDistinct table → length names ≡ length all → ArePlaces names table places → AllByRecursion (IsNamed (length table)) bag
-    → amounts_of names (booked all (map (booking_at places none) bag)) name ≡ gained (amounts_of names all name) bag (line_of table name)
-books_gain names table places all none bag name apart lines same are named = all_booked names table places all none bag name (record { names_apart = apart; table_apart = lines; same = same; places_are = are }) named
+pub books_gain : (names table : Names) (places : List ℕ) (all : List Amounts) (none : ℕ) (proves : Open → Option Proof) (bag : List Open) (name : List ℕ) → AreDistinct names → AreDistinct table → length names ≡ length all → ArePlaces names table places → AllByRecursion (IsNamed (length table)) bag
+    → amounts_of names (booked all (map (booking_at places none proves) bag)) name ≡ gained (amounts_of names all name) bag (line_of table name)
+books_gain names table places all none proves bag name apart lines same are named = all_booked names table places all none proves bag name (record { names_apart = apart; table_apart = lines; same = same; places_are = are }) named

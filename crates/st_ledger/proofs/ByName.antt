@@ -1,4 +1,4 @@
--- Amounts by name, and by the place where the name stands.
+-- Amounts by name, and by the place of the name.
 use Rattle.std.proofs.Common.{◌≡◌, ◌≢◌, ℕ, zero, suc, ◌+◌, ◌<◌, ◌++◌, Bool, true, false, List, [], ◌∷◌, length, get_or, map, take, slice_get, Some, refl, sym, ap, subst, ◌∙◌, arith}
 use Rattle.std.specs.Prelude.{bytes_eq, if◌then◌else◌}
 use Rattle.std.specs.Bool.{Decides}
@@ -19,13 +19,13 @@ false_from_Decides false d refutes = refl
 pub unlike : (a b : List ℕ) → a ≢ b → bytes_eq a b ≡ false
 unlike a b apart = false_from_Decides (bytes_eq a b) (bytes_eq-Decides a b) apart
 
--- what holds of all holds of the one that stands here
+-- what holds of all holds of the one at this place
 pub all_at : {X : Type 0} (P : X → Type 0) (xs : List X) (i : ℕ) (x : X) → AllByRecursion P xs → slice_get xs i ≡ Some x → P x
 all_at P [] i x all here = absurd (none-some x here)
 all_at P (y ∷ xs) zero x all here = subst P (same_Some y x here) all.0
 all_at P (y ∷ xs) (suc i) x all here = all_at P xs i x all.1 here
 
--- names that stand once: the amounts of a name are those at its place
+-- names that are there once: the amounts of a name are those at its place
 pub found : (names : Names) (all : List Amounts) (at : ℕ) (name : List ℕ) (d : Amounts) → AreDistinct names → length names ≡ length all → slice_get names at ≡ Some name
     → amounts_of names all name ≡ get_or all at d
 unfolding amounts_of

@@ -59,7 +59,7 @@ added_placed g old new name (Ok at) makes is =
     ap (λ (l : Names). slice_get l at) makes.made.1 ∙ ap (slice_get (old.names ++ name ∷ [])) is ∙ last_of old.names name
 added_placed g old new name (Err e) makes is = tt
 
--- what stands at a place stands there still
+-- what is at a place stays there
 still_here : {X : Type 0} (xs more : List X) (i : ℕ) (x : X) → slice_get xs i ≡ Some x → slice_get (xs ++ more) i ≡ Some x
 still_here [] more i x here = absurd (none-some x here)
 still_here (y ∷ xs) more zero x here = here

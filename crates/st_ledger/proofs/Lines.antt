@@ -1,4 +1,4 @@
--- The lines of accounts, one behind the others.
+-- The lines of accounts, one after another.
 use Rattle.std.proofs.Common.{◌≡◌, ℕ, zero, suc, ◌+◌, ◌++◌, List, [], ◌∷◌, length, take, get_or, slice_get, Some, sym, ap, subst, ◌∙◌, append_assoc, arith}
 use Rattle.std.proofs.lemmas.List.{append-nil}
 use Rattle.std.proofs.lemmas.Option.{none-some, same_Some}

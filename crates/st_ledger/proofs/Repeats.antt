@@ -9,7 +9,7 @@ use Rattle.st_books.specs.declared.balance.Side.{Side}
 use Rattle.st_books.specs.declared.error.BooksError.{BooksError}
 use Rattle.st_books.specs.Errors.{told}
 use Rattle.st_books.specs.Payments.{Finds, IsCovered, entry_text, name_at, paying}
-use Rattle.st_books.specs.Standing.{Kept, Sums, payments_in}
+use Rattle.st_books.specs.Standing.{Kept, Sums, trail_in}
 use Rattle.st_books.specs.Commits.{IsBecause, Makes, Refuses, Rereads, after_payment, payment_excuses}
 use Rattle.st_ledger.specs.declared.error.LedgerError.TheVariants.{Books, Reused}
 use Rattle.st_ledger.specs.Settling.{IsEntered, IsUnsettled, WasThere, WhyNotOnce}
@@ -28,7 +28,7 @@ module _ {S : Type 0} (g : Ghosts S) (old new : Kept S) where
 
   -- it was there before
   pub once_before : (name : List ℕ) (side : Side) (entry found : Entry) (reference : List ℕ) (at : ℕ) → found ≡ entry → slice_get old.names at ≡ Some name
-      → (IsClean (g.view new.store) → Finds (payments_in (g.view old.store)) (name_at old.names at) side reference (Some found)) → Rereads g old new
+      → (IsClean (g.view new.store) → Finds (trail_in (g.view old.store)).paid (name_at old.names at) side reference (Some found)) → Rereads g old new
       → WasThere g old name side entry reference new
   once_before name side entry found reference at is named there same =
       subst (λ (e : Entry). WasThere g old name side e reference new) is (record { at = at; named = named; found = there; same = same })
@@ -36,7 +36,7 @@ module _ {S : Type 0} (g : Ghosts S) (old new : Kept S) where
   module _ (name : List ℕ) (side : Side) (entry : Entry) (moment : ℕ) (reference : List ℕ) where
     -- it was not, and is now
     pub once_now : (at : ℕ) (read : Kept S) → slice_get old.names at ≡ Some name
-        → (IsClean (g.view read.store) → Finds (payments_in (g.view old.store)) (name_at old.names at) side reference None) → Rereads g old read
+        → (IsClean (g.view read.store) → Finds (trail_in (g.view old.store)).paid (name_at old.names at) side reference None) → Rereads g old read
         → IsCovered read.amounts (paying entry.kind at side entry.amount moment) → Makes g read (after_payment g read (paying entry.kind at side entry.amount moment) reference) new
         → IsEntered g old name side entry moment reference new
     once_now at read named missing same covered made = record { at = at; named = named; read = read; missing = missing; same = same; covered = covered; made = made }
@@ -47,7 +47,7 @@ module _ {S : Type 0} (g : Ghosts S) (old new : Kept S) where
 
     -- another entry was there
     pub why_reused : (at : ℕ) (found : Entry) → found ≢ entry → slice_get old.names at ≡ Some name
-        → (IsClean (g.view new.store) → Finds (payments_in (g.view old.store)) (name_at old.names at) side reference (Some found)) → Rereads g old new
+        → (IsClean (g.view new.store) → Finds (trail_in (g.view old.store)).paid (name_at old.names at) side reference (Some found)) → Rereads g old new
         → WhyNotOnce g old name side entry moment reference new Reused
     why_reused at found other named there same = inr (inl (refl, (found, other, record { at = at; named = named; found = there; same = same })))
 

@@ -10,6 +10,7 @@ use Rattle.st_hop.specs.Hop.{Hop, Way, held_for, due_for, last_next}
 use Rattle.st_hop.specs.Runs.{Act, run, fulfilled}
 use Rattle.st_hop.specs.Table.{is_table, new_hop}
 use Rattle.st_booking.specs.declared.booking.Booking.{Booking}
+use Rattle.st_booking.specs.declared.booking.Proof.{Proof}
 use Rattle.st_books.specs.declared.balance.Amounts.{Amounts}
 use Rattle.st_books.specs.declared.balance.Side.{Side}
 use Rattle.st_books.specs.declared.balance.Side.TheVariants.{Claims, Dues}
@@ -100,7 +101,7 @@ AllFit owed (c ∷ cs) = Fits owed c × AllFit (after owed c) cs
 
 -- ---- sums
 
--- over the fulfilled Prepares of a life, where the name has a line
+-- over the fulfilled Prepares of a life, if the name has a line
 abbrev pub sum_at : (by : ℕ → Open → ℕ) → List Open → Option ℕ → ℕ
 sum_at by bag None = 0
 sum_at by bag (Some a) = sum_by (by a) bag
@@ -143,9 +144,10 @@ adjusted side name (c ∷ cs) = adjusted_in side name c + adjusted side name cs
 
 -- ---- the same in the books, by the places of accounts
 
--- what a fulfilled Prepare books, its accounts at their places in the books; none is that of no account
-abbrev pub booking_at : (places : List ℕ) (none : ℕ) → Open → Booking
-booking_at places none t = record { payer = slice_index_or places t.incoming none; claim = t.amount_in; payee = slice_index_or places t.outgoing none; due = t.amount_out }
+-- what a fulfilled Prepare books, its accounts at their places in the books; none is that of no account,
+-- and its proof is what this gives
+abbrev pub booking_at : (places : List ℕ) (none : ℕ) (proves : Open → Option Proof) → Open → Booking
+booking_at places none proves t = record { payer = slice_index_or places t.incoming none; claim = t.amount_in; payee = slice_index_or places t.outgoing none; due = t.amount_out; proof = proves t }
 
 -- the amounts of an account that earned these
 abbrev pub gained : Amounts → List Open → Option ℕ → Amounts

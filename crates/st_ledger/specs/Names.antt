@@ -1,4 +1,4 @@
--- What accounts owe and are owed, by their names: the order of lines in the table, or of accounts in the books, tells nothing.
+-- What accounts owe and are owed, by their names: the order of lines in the table, or of accounts in the books, has no meaning.
 use Rattle.std.specs.Prelude.{◌≡◌, ◌≢◌, ℕ, List, [], ◌∷◌, map, slice_get, Some, bytes_eq, if◌then◌else◌}
 use Rattle.std.specs.List.{AllByRecursion}
 use Rattle.st_books.specs.declared.balance.Amounts.{Amounts}
@@ -7,7 +7,7 @@ use Rattle.st_books.specs.Sums.{nothing, amounts_at}
 abbrev pub Names : Type 0
 Names = List (List ℕ)
 
--- the amounts of the account of this name: nothing where the books have none
+-- the amounts of the account of this name: nothing if the books have none
 unfoldable pub amounts_of : Names → List Amounts → List ℕ → Amounts
 amounts_of [] all name = nothing
 amounts_of (n ∷ names) [] name = nothing

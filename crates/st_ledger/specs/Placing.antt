@@ -1,4 +1,4 @@
--- What a connector that is started with books and a table goes on with.
+-- What a connector continues with that is started with books and a table.
 use Rattle.std.specs.Prelude.{◌≡◌, ◌⊎◌, ℕ, ◌+◌, ◌-◌, ◌*◌, ◌^◌, ◌<◌, ◌≤◌, List, ◌++◌, length, replicate, slice_index, slice_index_or, sum, ⊤}
 use Rattle.st_hop.specs.declared.account.Account.{Account}
 use Rattle.st_hop.specs.Hop.{no_account}
@@ -15,11 +15,11 @@ use Rattle.st_ledger.specs.Names.{Names, HasUnlisted, claims_of, dues_of}
 abbrev pub first_of : (starts : ℕ) → ℕ
 first_of starts = 2 ^ 44 * starts
 
--- so many starts have first numbers below 2^64
+-- the greatest number of starts whose first numbers are below 2^64
 abbrev pub most_starts : ℕ
 most_starts = 2 ^ 20 - 1
 
--- new names behind the others, at which nothing is owed
+-- new names after the others, at which nothing is owed
 pub record Grows {S : Type 0} (old new : Kept S) : Type 0 where
   pub more : Names
   pub names : new.names ≡ old.names ++ more
@@ -58,7 +58,7 @@ IsOfStep Reused = ⊥
 IsOfStep (Books e) = IsOfDisk e
 IsOfStep NoMemory = ⊤
 
--- why books do not go on with a table
+-- why books do not fit a table
 abbrev pub WhyBooks : (starts : ℕ) → (claims dues : List ℕ) → BooksError → Type 0
 WhyBooks starts claims dues books.TooMuch = (most_starts ≤ starts) ⊎ IsTooMuch claims dues
 WhyBooks starts claims dues books.Device = ⊤

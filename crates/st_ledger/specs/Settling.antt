@@ -11,7 +11,7 @@ use Rattle.st_books.specs.declared.error.BooksError.{BooksError}
 use Rattle.st_books.specs.declared.error.BooksError.TheVariants as books
 use Rattle.st_books.specs.Errors as errors
 use Rattle.st_books.specs.Payments.{Finds, IsCovered, entry_text, name_at, paying}
-use Rattle.st_books.specs.Standing.{Kept, Tells, payments_in, sums_of}
+use Rattle.st_books.specs.Standing.{Kept, Tells, trail_in, sums_of}
 use Rattle.st_books.specs.Commits.{IsBecause, Makes, Rereads, after_payment, payment_excuses}
 use Rattle.st_ledger.specs.declared.error.LedgerError.{LedgerError}
 use Rattle.st_ledger.specs.declared.error.LedgerError.TheVariants.{Books, Reused}
@@ -41,7 +41,7 @@ WhyUnsettled g old name side amount moment new e =
 pub record WasThere {S : Type 0} (g : Ghosts S) (old : Kept S) (name : List ℕ) (side : Side) (entry : Entry) (reference : List ℕ) (new : Kept S) : Type 0 where
   pub at : ℕ
   pub named : slice_get old.names at ≡ Some name
-  pub found : IsClean (g.view new.store) → Finds (payments_in (g.view old.store)) (name_at old.names at) side reference (Some entry)
+  pub found : IsClean (g.view new.store) → Finds (trail_in (g.view old.store)).paid (name_at old.names at) side reference (Some entry)
   pub same : Rereads g old new
 
 -- it has none, the books were only read until then, and the entry was made with it
@@ -49,7 +49,7 @@ pub record IsEntered {S : Type 0} (g : Ghosts S) (old : Kept S) (name : List ℕ
   pub at : ℕ
   pub named : slice_get old.names at ≡ Some name
   pub read : Kept S
-  pub missing : IsClean (g.view read.store) → Finds (payments_in (g.view old.store)) (name_at old.names at) side reference None
+  pub missing : IsClean (g.view read.store) → Finds (trail_in (g.view old.store)).paid (name_at old.names at) side reference None
   pub same : Rereads g old read
   pub covered : IsCovered read.amounts (paying entry.kind at side entry.amount moment)
   pub made : Makes g read (after_payment g read (paying entry.kind at side entry.amount moment) reference) new
@@ -58,8 +58,8 @@ abbrev pub IsOnce : {S : Type 0} → Ghosts S → (repeated : Bool) → (old : K
 IsOnce g true old name side entry moment reference new = WasThere g old name side entry reference new
 IsOnce g false old name side entry moment reference new = IsEntered g old name side entry moment reference new
 
--- Why nothing was entered: no account of the books has this name; another entry stands under the reference; the lines were not read;
--- or what the books say of the payment.
+-- Why nothing was entered: no account of the books has this name; another entry has the reference; the lines were not read; or what the
+-- books say of the payment.
 abbrev pub WhyNotOnce : {S : Type 0} → Ghosts S → (old : Kept S) → (name : List ℕ) → Side → Entry → (moment : ℕ) → (reference : List ℕ) → (new : Kept S) → LedgerError → Type 0
 WhyNotOnce {S} g old name side entry moment reference new e =
     ((e ≡ Books books.NoAccount) × IsNone old.names name × (new ≡ old))

@@ -17,7 +17,7 @@ pub enum LedgerError {
     /// An account owes more than its limit in the table and what it is owed.
     #[error("an account owes more than its limit")]
     BelowOwed,
-    /// Another amount stands under the reference, or the same one the other way round.
+    /// Another amount has the reference, or the same one the other way round.
     #[error("another entry has this reference")]
     Reused,
     /// The books refused.
@@ -42,7 +42,7 @@ impl LedgerError {
         }
     }
 
-    /// The number that a wrapped error carries. `None` where there is none.
+    /// The number that a wrapped error carries. `None` if there is none.
     pub fn inner(&self) -> Option<u64>
         ensures { result ≡ errors.inner self.now }
     {

@@ -1,10 +1,11 @@
 //! Laws of the books of a connector.
 
-ghost use Rattle.std.specs.Prelude.{◌≡◌, ◌+◌, ◌++◌, ℕ, List, length, map, replicate, slice_get, Some};
+ghost use Rattle.std.specs.Prelude.{◌≡◌, ◌+◌, ◌++◌, ℕ, List, length, map, replicate, slice_get, Option, Some};
 ghost use Rattle.std.specs.List.{AllByRecursion};
 ghost use Rattle.st_hop.specs.declared.ticket.Open.{Open};
 ghost use Rattle.st_hop.specs.Lawful.{IsNamed};
 ghost use Rattle.st_hop.specs.Hop.{held_for, due_for};
+ghost use Rattle.st_booking.specs.declared.booking.Proof.{Proof};
 ghost use Rattle.st_books.specs.declared.balance.Amounts.{Amounts};
 ghost use Rattle.st_books.specs.Sums.{booked, nothing};
 ghost use Rattle.st_books.specs.declared.balance.Side.TheVariants.{Claims, Dues};
@@ -39,5 +40,5 @@ pub fn entries_are_by_name()
 /// States a law; it does nothing. Books that booked fulfilled Prepares of a table's accounts, at the places of these, have at each
 /// name what the hop has there: what was owed before, and the amounts of those that arrived from it or were forwarded to it.
 pub fn bookings_are_by_name()
-    ensures { (names table : Names) (places : List ℕ) (all : List Amounts) (none : ℕ) (bag : List Open) (name : List ℕ) → AreDistinct names → AreDistinct table → length names ≡ length all → ArePlaces names table places → AllByRecursion (IsNamed (length table)) bag → amounts_of names (booked all (map (booking_at places none) bag)) name ≡ gained (amounts_of names all name) bag (line_of table name) }
+    ensures { (names table : Names) (places : List ℕ) (all : List Amounts) (none : ℕ) (proves : Open → Option Proof) (bag : List Open) (name : List ℕ) → AreDistinct names → AreDistinct table → length names ≡ length all → ArePlaces names table places → AllByRecursion (IsNamed (length table)) bag → amounts_of names (booked all (map (booking_at places none proves) bag)) name ≡ gained (amounts_of names all name) bag (line_of table name) }
 {}

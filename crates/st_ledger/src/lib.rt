@@ -1,5 +1,5 @@
-//! The books of a connector beside its table: which account of the books a line of the table is, what a connector that is
-//! started with books goes on with, and how books are printed.
+//! The books of a connector with its table: which account of the books a line of the table is, what a connector continues with that
+//! is started with books, and how books are printed.
 //!
 //! `place` compares the books with the table, by names, before anything is written, adds the names that the books lack, and
 //! counts the start. `Placed` is the `Keeper` of a till: it books the accounts of the table at their places in the books.

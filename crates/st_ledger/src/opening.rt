@@ -14,25 +14,25 @@ pub trait OpensBooks {
     /// What the books are kept in.
     type Store: Alter + Send + Drop;
 
-    /// What looks at the files of the books by their names.
+    /// What inspects the files of the books by their names.
     type Watcher: Watcher + Send + Drop;
 
     /// What is known of the books that it opens at a path.
     ghost finds: { Self → List ℕ → Kept Self.Store → Type 0 };
 
-    /// What is known of those that it opens where they have to be there.
+    /// What is known of those that it opens if they have to be there.
     ghost finds_existing: { Self → List ℕ → Kept Self.Store → Type 0 };
 
-    /// Opens the books of a file, or makes them where there is no file, or it holds nothing. They say the address of the
+    /// Opens the books of a file, or makes them if there is no file, or nothing is in it. They say the address of the
     /// connector that keeps them; those of another address are refused with `NoBooks`.
     fn open(&self, path: &str, own: &str) -> Result<Books<Self::Store>, BooksError>
         ensures { IfOk result (finds self.now path.now) };
 
-    /// Opens the books of a file. Refuses with `NoBooks` where there is no file, or it holds nothing, and makes none.
+    /// Opens the books of a file. Refuses with `NoBooks` if there is no file, or nothing is in it, and makes none.
     fn open_existing(&self, path: &str) -> Result<Books<Self::Store>, BooksError>
         ensures { IfOk result (finds_existing self.now path.now) };
 
-    /// What looks at the files of books that were opened at a path. Fails where memory is refused.
+    /// What inspects the files of books that were opened at a path. Fails if memory is refused.
     fn watcher(&self, path: &str) -> Result<Self::Watcher, AllocError>;
 }
 

@@ -1,4 +1,4 @@
-//! What the accounts of a table owe and are owed by the books, and whether a connector can go on with it.
+//! What the accounts of a table owe and are owed by the books, and whether a connector can continue with it.
 
 ghost use Rattle.std.specs.Prelude.{◌≡◌, ◌≢◌, ◌↔◌, ◌≤◌, ◌<◌, ◌+◌, ◌^◌, true, false, Some, slice_get, length, map, sum, IsTrue, IfOk, string_bytes};
 ghost use Rattle.st_hop.specs.Books.{AreWithin};
@@ -19,7 +19,7 @@ pub(crate) struct Owed {
     pub(crate) dues: Vec<u64>,
 }
 
-/// What the account of this name owes and is owed: nothing where the books have none.
+/// What the account of this name owes and is owed: nothing if the books have none.
 pub(crate) fn amounts_of<S: Alter>(books: &Books<S>, name: &str) -> Amounts
     ensures { result ≡ by_name.amounts_of books.now.names books.now.amounts name.now }
 {
@@ -29,7 +29,7 @@ pub(crate) fn amounts_of<S: Alter>(books: &Books<S>, name: &str) -> Amounts
     }
 }
 
-/// What the accounts of a table owe and are owed. Fails where memory is refused.
+/// What the accounts of a table owe and are owed. Fails if memory is refused.
 pub(crate) fn owed_by<S: Alter>(
     alloc: Global,
     books: &Books<S>,
@@ -113,7 +113,7 @@ pub(crate) fn are_within(accounts: &[Account], owed: &Owed) -> bool
     true
 }
 
-/// Whether amounts come to less than 2^63.
+/// Whether the sum of amounts is less than 2^63.
 pub(crate) fn is_countable(amounts: &[u64]) -> bool
     ensures yes { result ≡ true → sum amounts.now < 2 ^ 63 }
     ensures no { result ≡ false → 2 ^ 63 ≤ sum amounts.now }

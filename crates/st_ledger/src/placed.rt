@@ -9,10 +9,12 @@ use st_books::{Books, BooksError};
 use std::alloc::{AllocError, Global};
 use std::marker::Model;
 
-/// Books, and the place in them of each account of a table. It takes bookings of the table's accounts.
+/// Books, and the place in them of each account of a table. It accepts bookings of the table's accounts.
 pub struct Placed<S: Alter> {
     books: Books<S>,
     places: Vec<usize>,
+    // Whether what proves a claim is kept.
+    keeps: bool,
     alloc: Global,
 }
 
@@ -21,7 +23,7 @@ impl<S: Alter> Model for Placed<S> {
 
     ghost Value = { Placing S };
 
-    ghost view = { λ p. record { books = p.books; places = p.places.items } };
+    ghost view = { λ p. record { books = p.books; places = p.places.items; keeps = p.keeps } };
 }
 
 // It is written out, so that a caller does not prove again how each part is dropped.
@@ -30,24 +32,32 @@ impl<S: Alter + Drop> Drop for Placed<S> {
         let Placed {
             books: _,
             places: _,
+            keeps: _,
             alloc: _,
         } = self;
     }
 }
 
 impl<S: Alter> Placed<S> {
-    /// Books with these places of the table's accounts, as `place` gives them.
-    pub fn new(alloc: Global, books: Books<S>, places: Vec<usize>) -> Placed<S>
-        ensures { result ≡ record { books = books; places = places.items } }
+    /// Books with these places of the table's accounts, as `place` gives them. They keep the fulfillments that prove claims, if
+    /// they are asked to.
+    pub fn new(
+        alloc: Global,
+        books: Books<S>,
+        places: Vec<usize>,
+        keeps_fulfillments: bool,
+    ) -> Placed<S>
+        ensures { result ≡ record { books = books; places = places.items; keeps = keeps_fulfillments } }
     {
         Placed {
             books,
             places,
+            keeps: keeps_fulfillments,
             alloc,
         }
     }
 
-    /// The place in the books of the table's account of this number: none of the books' where the table lacks it.
+    /// The place in the books of the table's account of this number: none of the books' if the table lacks it.
     fn place_at(&self, account: usize) -> usize
         ensures { result ≡ place_at self.now account }
     {
@@ -57,7 +67,7 @@ impl<S: Alter> Placed<S> {
         }
     }
 
-    /// A booking of accounts of the table, as the books take it.
+    /// A booking of accounts of the table, as the books need it.
     fn in_books(&self, booking: Booking) -> Booking
         ensures { result ≡ in_books self.now booking }
     {
@@ -66,6 +76,7 @@ impl<S: Alter> Placed<S> {
             claim: booking.claim,
             payee: self.place_at(booking.payee),
             due: booking.due,
+            proof: if self.keeps { booking.proof } else { None },
         }
     }
 

@@ -21,7 +21,7 @@ const MOST_STARTS: u64 = (1 << 20) - 1;
 /// How many tickets a life can number: 2^44.
 const TICKETS: u64 = 1 << 44;
 
-/// What a connector goes on with that is started with books. The lists are in the order of its table.
+/// What a connector continues with that is started with books. The lists are in the order of its table.
 #[derive(Drop)]
 pub struct Life {
     /// The place in the books of each account.
@@ -62,7 +62,7 @@ fn compare<S: Alter>(
     Ok(owed)
 }
 
-/// The place of the account of this name, which is added where the books lack it.
+/// The place of the account of this name, which is added if the books lack it.
 fn place_or_add<S: Alter>(books: &mut Books<S>, name: &str) -> Result<usize, BooksError>
     ensures placed { IfOk result (λ at. slice_get books.new.names at ≡ Some name.now) }
     ensures grows { Grows books.old books.new }
@@ -113,10 +113,10 @@ fn begin<S: Alter>(books: &mut Books<S>) -> Result<u64, LedgerError>
 /// by their names, so the order of the lines may change. Names that the books lack are added, and the start is counted. At
 /// `Ok` all of it is on the disk.
 ///
-/// Before anything is written it refuses with `Unlisted` where the table lacks an account of the books at which something is
-/// owed, with `BelowOwed` where an account owes more than its limit above what it is owed, and with the books' `TooMuch`
-/// where all claims or all dues come to 2^63 or more, or 2^20 - 1 starts are counted. It fails with what the books refuse,
-/// and with `NoMemory`.
+/// Before anything is written it refuses with `Unlisted` if the table lacks an account of the books at which something is
+/// owed, with `BelowOwed` if an account owes more than its limit above what it is owed, and with the books' `TooMuch` if all
+/// claims or all dues come to 2^63 or more, or 2^20 - 1 starts are counted. It fails with what the books refuse, and with
+/// `NoMemory`.
 pub fn place<S: Alter>(
     alloc: Global,
     books: &mut Books<S>,

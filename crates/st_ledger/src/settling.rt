@@ -13,17 +13,18 @@ use st_books::{Amounts, Books, BooksError, Entry, Kind, Payment, Side};
 /// What was entered under a reference, now or before.
 #[derive(Clone, Copy, Debug, PartialEq, Eq)]
 pub struct Once {
-    /// What stands at the account.
+    /// What the account owes and is owed then.
     pub amounts: Amounts,
     /// Whether it was entered before: nothing is changed then.
     pub repeated: bool,
 }
 
 /// Books a payment outside Interledger: takes it off what the account of this name owes, or off what it is owed, and keeps a
-/// line of it with its moment, in milliseconds since 1970, or the last line's where that is later. Gives what stands then.
+/// line of it with its moment, in milliseconds since 1970, or the last line's if that is later. Returns what it owes and is
+/// owed then.
 ///
-/// Fails with the books' `NoAccount` where they have no such name, with their `TooLittle` where less is owed, and with what
-/// else they refuse. The books are then as before.
+/// Fails with the books' `NoAccount` if they have no such name, with their `TooLittle` if less is owed, and with what else
+/// they refuse. The books are then as before.
 pub fn settle<S: Alter>(
     books: &mut Books<S>,
     name: &str,
@@ -62,7 +63,7 @@ fn is_same(one: Entry, other: Entry) -> bool
 /// Enters a payment or an adjustment under a reference, once however often it is asked for: as `settle` does, unless the books
 /// have an entry of this account and side with this reference. Then nothing is changed.
 ///
-/// Fails with `Reused` where that entry is of another amount, or of the other kind; else as `settle`. The books are then as
+/// Fails with `Reused` if that entry is of another amount, or of the other kind; otherwise as `settle`. The books are then as
 /// before.
 #[tactic(auto, using(crate::proofs::Repeats::place_within, crate::proofs::Repeats::reread_unsettled, crate::proofs::Repeats::refused_unsettled, crate::proofs::Repeats::once_before, crate::proofs::Repeats::once_now, crate::proofs::Repeats::why_unread, crate::proofs::Repeats::why_reused, crate::proofs::Repeats::why_unpaid))]
 pub fn settle_once<S: Alter>(

@@ -7,7 +7,7 @@ use sqlite_trees::store::Alter;
 use st_books::{Amounts, Books};
 use std::alloc::{AllocError, Global};
 
-/// The line of an account: `account alice claims 500 dues 0`. Fails where memory is refused.
+/// The line of an account: `account alice claims 500 dues 0`. Fails if memory is refused.
 #[tactic(auto, using(crate::proofs::Pieces::pieces))]
 pub fn account_text(alloc: Global, name: &[u8], amounts: Amounts) -> Result<Vec<u8>, AllocError>
     ensures { IfOk result (λ line. line.items ≡ texts.account_text name.now amounts) }
@@ -20,7 +20,7 @@ pub fn account_text(alloc: Global, name: &[u8], amounts: Amounts) -> Result<Vec<
     Ok(line)
 }
 
-/// The line of an account without its newline. Fails where memory is refused.
+/// The line of an account without its newline. Fails if memory is refused.
 #[tactic(auto, using(crate::proofs::Pieces::pieces))]
 fn sums_text(alloc: Global, name: &[u8], amounts: Amounts) -> Result<Vec<u8>, AllocError>
     ensures { IfOk result (λ line. line.items ≡ texts.sums_text name.now amounts) }
@@ -33,7 +33,7 @@ fn sums_text(alloc: Global, name: &[u8], amounts: Amounts) -> Result<Vec<u8>, Al
     Ok(line)
 }
 
-/// The line of an account whose entry was booked before: `account alice claims 500 dues 0 booked before`. Fails where memory is
+/// The line of an account whose entry was booked before: `account alice claims 500 dues 0 booked before`. Fails if memory is
 /// refused.
 #[tactic(auto, using(crate::proofs::Pieces::pieces))]
 pub fn repeated_text(alloc: Global, name: &[u8], amounts: Amounts) -> Result<Vec<u8>, AllocError>
@@ -69,7 +69,7 @@ fn starts_text(alloc: Global, starts: u64) -> Result<String, AllocError>
     Ok(text)
 }
 
-/// A line for each account, and one for the starts, as `ilpstream ledger` prints them. Fails where memory is refused.
+/// A line for each account, and one for the starts, as `ilpstream ledger` prints them. Fails if memory is refused.
 pub fn ledger_text<S: Alter>(alloc: Global, books: &Books<S>) -> Result<Vec<u8>, AllocError>
     ensures { IfOk result (λ text. text.items ≡ texts.ledger_text books.now.starts books.now.names books.now.amounts) }
 {

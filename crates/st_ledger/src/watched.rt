@@ -1,4 +1,4 @@
-//! Books whose files are looked at before and after each commit.
+//! Books whose files are inspected before and after each commit.
 
 ghost use Rattle.std.specs.Prelude.{◌≡◌, ◌⊎◌};
 
@@ -9,7 +9,7 @@ use std::fs::{Files, Metadata};
 use std::marker::Model;
 use std::os::unix::fs::MetadataExt;
 
-/// Which file stands at a name, how long it is in bytes, and when it was written.
+/// Which file a name leads to, how long it is in bytes, and when it was written.
 #[derive(Clone, Copy, Debug, PartialEq, Eq)]
 struct Standing {
     device: u64,
@@ -39,7 +39,7 @@ impl Standing {
     }
 }
 
-/// What stands at the names of books: the file, and its log.
+/// The files at the names of books: the file, and its log.
 #[derive(Clone, Copy, Debug, PartialEq, Eq)]
 pub struct Look {
     file: Standing,
@@ -55,8 +55,8 @@ impl Look {
             && self.log.len == before.log.len
     }
 
-    /// Whether these are the same two files after a commit. It makes none of them shorter, but that the log begins anew where it was
-    /// folded, which writes the file.
+    /// Whether these are the same two files after a commit. A commit makes neither of them shorter, unless the log was folded: then
+    /// it begins anew, and the file was written.
     fn follows(self, before: Look) -> bool {
         self.file.is_same(before.file)
             && self.log.is_same(before.log)
@@ -65,9 +65,9 @@ impl Look {
     }
 }
 
-/// What looks at the files of books by their names. What it finds there no clause can say.
+/// What inspects the files of books by their names. No clause can say what it finds there.
 pub trait Watcher {
-    /// What stands at the names now. `None` where a file is gone, or cannot be looked at.
+    /// The files at the names now. `None` if a file is gone, or cannot be inspected.
     fn look(&self) -> Option<Look>;
 }
 
@@ -80,7 +80,8 @@ pub struct FileNames<F> {
 }
 
 impl<F: Files + Drop> FileNames<F> {
-    /// The names of the books that were opened at a path. As for SQLite, the log lies beside the file to which a link leads.
+    /// The names of the books that were opened at a path. As for SQLite, the log lies next to the file to which a link
+    /// leads.
     pub fn new(files: F, alloc: Global, path: &str) -> Result<FileNames<F>, AllocError> {
         let file = format!(in alloc; "{path}")?;
         let log = match files.canonicalize(alloc, path) {
@@ -105,13 +106,13 @@ impl<F: Files> Watcher for FileNames<F> {
     }
 }
 
-/// Books in a file and its log. Before a commit both have to stand at their names as the last one left them, and after it they have
-/// to be the same files. Where one was removed, replaced or cut, the books refuse with 112. A cut within a commit is seen where it
-/// takes more than the commit wrote.
+/// Books in a file and its log. Before a commit the names have to lead to both as the last one left them, and after it to the same
+/// files. If one was removed, replaced or cut, the books refuse with 112. A cut within a commit is seen if it removes more than the
+/// commit wrote.
 #[derive(Drop)]
 pub struct Watched<W, K> {
     watcher: W,
-    /// What stood at the names after the last commit.
+    /// The files at the names after the last commit.
     stood: Option<Look>,
     books: K,
 }

@@ -50,7 +50,7 @@ within b first n q l h = grind (arith, nat_tests)
 pub get-table_in : (f : ℕ → Option ℕ) (first n q : ℕ) → first ≤ q → q < first + n → map.get (table f first n) q ≡ f q
 get-table_in f first n q l h = get-table f first n q ∙ within (f q) first n q l h
 
--- where the table has a value
+-- q is one of the n numbers from first on, and f has a value there
 pub record IsInside (f : ℕ → Option ℕ) (first n q : ℕ) : Type 0 where
   pub from : first ≤ q
   pub before : q < first + n
@@ -63,7 +63,7 @@ inside_of (Some x) first n q h = (grind (arith, nat_tests), grind (arith, nat_te
 pub table-inside : (f : ℕ → Option ℕ) (first n q : ℕ) → IsSome (map.get (table f first n) q) → IsInside f first n q
 table-inside f first n q h = let w = inside_of (f q) first n q (subst IsSome (get-table f first n q) h) in record { from = w.0; before = w.1; some = w.2 }
 
--- a map is a table where it has the table's values
+-- a map is a table if it has the table's values
 pub table_is : (f : ℕ → Option ℕ) (first n : ℕ) (m : map.FinMap nat_cmp ℕ) → ((q : ℕ) → cond (is_between first (first + n) q) (f q) None ≡ map.get m q) → table f first n ≡ m
 table_is f first n m h = map.same_map nat_cmp_total map.nat_cmp-IsAntisymmetric (table f first n) m (λ q. get-table f first n q ∙ h q)
 

@@ -7,12 +7,12 @@ use Rattle.std.specs.FinMap.{FinMap, empty, insert}
 abbrev pub is_between : ℕ → ℕ → ℕ → Bool
 is_between low high q = nat_le low q && nat_lt q high
 
--- the map with a value put in, where there is one
+-- the map with a value put in, if there is one
 abbrev pub put_if : Option ℕ → ℕ → FinMap nat_cmp ℕ → FinMap nat_cmp ℕ
 put_if None q m = m
 put_if (Some b) q m = insert m q b
 
--- the values of f at the n numbers from first on, where it has one
+-- the values of f at the n numbers from first on, if it has one there
 unfoldable pub table : (ℕ → Option ℕ) → ℕ → ℕ → FinMap nat_cmp ℕ
 table f first zero = empty
 table f first (suc n) = put_if (f (first + n)) (first + n) (table f first n)

@@ -1,4 +1,4 @@
-use Rattle.std.proofs.Common.{◌≡◌, ◌+◌}
+use Rattle.std.proofs.Common.{◌+◌}
 use Rattle.st_books.proofs.PaymentLemmas.{six}
 use Rattle.st_books.proofs.lines.payment_in.Goals as goal
 

@@ -2,7 +2,8 @@ use Rattle.std.proofs.lemmas.Option.{same_Some}
 use Rattle.std.proofs.Common.{◌≡◌, ◌+◌, ◌++◌, ◌∷◌, [], rules, arith, refl, sym, ap, ◌∙◌}
 use Rattle.sqlite_trees.specs.View.{View}
 use Rattle.st_books.specs.declared.balance.Tally.{Tally}
-use Rattle.st_books.specs.Payments.{IsPaymentLine, moment_in, tally_of}
+use Rattle.st_books.specs.Payments.{IsPaymentLine, moment_in}
+use Rattle.st_books.specs.Trail.{paid_alone, tally_of}
 use Rattle.st_books.specs.Table.{payment_tree}
 use Rattle.st_books.proofs.LineLemmas.{from_no_key}
 use Rattle.st_books.proofs.PaymentLemmas.{read_payment, tally_more}
@@ -32,8 +33,8 @@ rows-preserved g c = (
       let more = read_payment _ was.0 row step.0 (c.rows.lines + 1) (rw left at was.3) (omega (arith, so_far)) was.5 line in
       let lines = ap (λ n. n + 1) so_far in
       let latest = ap moment_in line.is in
-      let counted : tally_of (was.0 ++ row ∷ []) ≡ record { lines = c.rows.lines + 1; latest = p.moment } =
-      tally_more was.0 row ∙ (λ i. let t : Tally = record { lines = lines i; latest = latest i } in t) in
+      let counted : tally_of (paid_alone (was.0 ++ row ∷ [])) ≡ record { lines = c.rows.lines + 1; latest = p.moment; filed = 0 } =
+      tally_more was.0 row ∙ (λ i. let t : Tally = record { lines = lines i; latest = latest i; filed = 0 } in t) in
       (was.0 ++ row ∷ [], step.0, ap (λ (v : View). v.cursors 0) step.2, more.0, counted, more.1),
   search rules,
   search rules,

@@ -1,7 +1,8 @@
-use Rattle.std.proofs.Common.{IsTrue, sym, ◌∙◌}
+use Rattle.std.proofs.Common.{◌≡◌, IsTrue, sym, ◌∙◌}
 use Rattle.sqlite_trees.specs.View.{IsClean}
+use Rattle.st_books.specs.Fulfillments.{proof_tree}
 use Rattle.st_books.specs.Table.{payment_tree}
-use Rattle.st_books.specs.Standing.{Kept, Takes}
+use Rattle.st_books.specs.Standing.{Kept, Takes, trail_of}
 use Rattle.st_books.proofs.Steps.{open_sound, ok_both, absent_empty}
 use Rattle.st_books.proofs.opening.new_books.Goals as goal
 
@@ -24,7 +25,11 @@ returns-clause-taken g c =
     record {
       rows = absent_empty (was.shape 0) (was.trees 0) bare.accounts (g.met.S.Store.ordered store fresh.sound 0) ∙ (sym made.rows ∙ t.rows);
       named = t.named;
-      audit = absent_empty (was.shape payment_tree) (was.trees payment_tree) bare.payments (g.met.S.Store.ordered store fresh.sound payment_tree) ∙ (sym made.audit ∙ t.audit);
+      audit =
+          let paid = absent_empty (was.shape payment_tree) (was.trees payment_tree) bare.payments (g.met.S.Store.ordered store fresh.sound payment_tree) ∙ sym made.audit in
+          let proofs = absent_empty (was.shape proof_tree) (was.trees proof_tree) bare.proofs (g.met.S.Store.ordered store fresh.sound proof_tree) ∙ sym made.filed in
+          let same : trail_of was.trees ≡ trail_of (g.S.Store.view c.make.new.store).trees = λ i. record { paid = paid i; proofs = proofs i } in
+          same ∙ t.audit;
       starts = bare.unstarted ∙ (sym made.counted ∙ t.starts);
       remains = t.remains;
     }) c.books_in.ensures.taken c.books_in.ensures.clean

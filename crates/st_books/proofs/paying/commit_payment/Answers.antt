@@ -1,11 +1,11 @@
-use Rattle.std.proofs.Common.{◌≡◌, ◌+◌, ◌++◌, ◌∷◌, [], ℕ, List, length, length-append, arith, ap, subst, sym, ◌∙◌}
+use Rattle.std.proofs.Common.{arith, ap, subst}
 use Rattle.std.proofs.lemmas.Result.{on_ok_weaker, on_err_weaker}
-use Rattle.sqlite_value.specs.Order.{Row}
 use Rattle.sqlite_trees.specs.View.{View, IsClean, OnlyWrites}
-use Rattle.st_books.specs.Payments.{next_tally, paid_off, with_payment}
+use Rattle.st_books.specs.Payments.{paid_off}
+use Rattle.st_books.specs.Trail.{next_tally, with_entry}
 use Rattle.st_books.specs.Table.{AreBooks}
-use Rattle.st_books.specs.Standing.{payments_in}
-use Rattle.st_books.proofs.Steps.{at_ok, clean_open, held_undone, told_holds, told_open, told_crash, on_ok_both}
+use Rattle.st_books.specs.Standing.{trail_in}
+use Rattle.st_books.proofs.Steps.{clean_open, held_undone, told_holds, told_open, told_crash, on_ok_both}
 use Rattle.st_books.proofs.PaymentLemmas.{one_more}
 use Rattle.st_books.proofs.Causes.{because_ended, same_excuses}
 use Rattle.st_books.proofs.paying.commit_payment.Goals as goal
@@ -17,10 +17,10 @@ returns-clause-holds g c =
     let new = g.S.Store.view c.conclude.new.store in
     let entered = c.enter_payment-entered in
     let names = c.args.names.now in
-    let paid = payments_in was in
-    told_holds was mid new c.args._starts c.args._starts names names c.args.draft.now entered.new.draft paid (with_payment paid names c.args.payment c.args.text.now) c.args.before (next_tally c.args.before c.args.payment) c.requires.holds c.conclude.ensures.clean
+    let trail = trail_in was in
+    told_holds was mid new c.args._starts c.args._starts names names c.args.draft.now entered.new.draft trail (with_entry trail names c.args.payment c.args.text.now) c.args.before (next_tally c.args.before c.args.payment) c.requires.holds c.conclude.ensures.clean
     (λ now. omega (arith, entered.ensures.quiet.clean, now)) (g.met.S.Store.broken_if_shut c.args.store.now) entered.result entered.ensures.frame
-    (on_ok_weaker entered.result (λ d now. d now c.args._starts paid) entered.ensures.drawn) (one_more paid names c.args.payment c.args.text.now c.args.before)
+    (on_ok_weaker entered.result (λ d now. d now c.args._starts trail) entered.ensures.drawn) (one_more trail names c.args.payment c.args.text.now c.args.before)
     (clean_open new (g.met.S.Store.shut_if_dirty c.conclude.new.store)) c.conclude.result c.conclude.ensures.entered c.conclude.ensures.committed
 
 pub returns-clause-undone : goal.returns-clause-undone
@@ -30,7 +30,7 @@ returns-clause-undone g c =
     let new = g.S.Store.view c.conclude.new.store in
     let entered = c.enter_payment-entered in
     on_err_weaker c.conclude.result (λ undone.
-    held_undone was mid new c.args._starts c.args.names.now c.args.draft.now (payments_in was) c.args.before c.requires.holds (λ _. entered.ensures.keeps) undone c.conclude.ensures.clean (λ now. omega (arith, entered.ensures.quiet.clean, now))
+    held_undone was mid new c.args._starts c.args.names.now c.args.draft.now (trail_in was) c.args.before c.requires.holds (λ _. entered.ensures.keeps) undone c.conclude.ensures.clean (λ now. omega (arith, entered.ensures.quiet.clean, now))
     (clean_open new (g.met.S.Store.shut_if_dirty c.conclude.new.store))) c.conclude.ensures.undone
 
 pub returns-clause-stays_open : goal.returns-clause-stays_open
@@ -40,10 +40,10 @@ returns-clause-stays_open g c =
     let new = g.S.Store.view c.conclude.new.store in
     let entered = c.enter_payment-entered in
     let names = c.args.names.now in
-    let paid = payments_in was in
-    told_open was mid new c.args._starts c.args._starts names names c.args.draft.now entered.new.draft paid (with_payment paid names c.args.payment c.args.text.now) c.args.before (next_tally c.args.before c.args.payment) c.requires.holds c.conclude.ensures.clean
+    let trail = trail_in was in
+    told_open was mid new c.args._starts c.args._starts names names c.args.draft.now entered.new.draft trail (with_entry trail names c.args.payment c.args.text.now) c.args.before (next_tally c.args.before c.args.payment) c.requires.holds c.conclude.ensures.clean
     (λ now. omega (arith, entered.ensures.quiet.clean, now)) (g.met.S.Store.broken_if_shut c.args.store.now) entered.result entered.ensures.frame
-    (on_ok_weaker entered.result (λ d now. d now c.args._starts paid) entered.ensures.drawn) (one_more paid names c.args.payment c.args.text.now c.args.before)
+    (on_ok_weaker entered.result (λ d now. d now c.args._starts trail) entered.ensures.drawn) (one_more trail names c.args.payment c.args.text.now c.args.before)
     c.conclude.result c.conclude.ensures.entered c.conclude.ensures.committed
 
 pub returns-clause-cause : goal.returns-clause-cause
@@ -62,8 +62,8 @@ returns-clause-any_moment g c now db may =
     let new = g.S.Store.view c.conclude.new.store in
     let entered = c.enter_payment-entered in
     let names = c.args.names.now in
-    let paid = payments_in was in
-    told_crash was mid new c.args._starts c.args._starts names names c.args.draft.now (paid_off c.args.draft.now c.args.payment) paid (with_payment paid names c.args.payment c.args.text.now) c.args.before (next_tally c.args.before c.args.payment) c.requires.holds
+    let trail = trail_in was in
+    told_crash was mid new c.args._starts c.args._starts names names c.args.draft.now (paid_off c.args.draft.now c.args.payment) trail (with_entry trail names c.args.payment c.args.text.now) c.args.before (next_tally c.args.before c.args.payment) c.requires.holds
     c.conclude.ensures.clean (λ now. omega (arith, entered.ensures.quiet.clean, now)) (g.met.S.Store.broken_if_shut c.args.store.now) entered.result entered.ensures.frame
-    (on_ok_both entered.result (λ d is now n h. subst (λ k. AreBooks mid.trees c.args._starts names k (with_payment paid names c.args.payment c.args.text.now)) is (d now c.args._starts paid n h)) entered.ensures.drawn entered.ensures.paid)
-    (one_more paid names c.args.payment c.args.text.now c.args.before) entered.ensures.quiet.outcomes db now (c.conclude.ensures.crash now db may)
+    (on_ok_both entered.result (λ d is now n h. subst (λ k. AreBooks mid.trees c.args._starts names k (with_entry trail names c.args.payment c.args.text.now)) is (d now c.args._starts trail n h)) entered.ensures.drawn entered.ensures.paid)
+    (one_more trail names c.args.payment c.args.text.now c.args.before) entered.ensures.quiet.outcomes db now (c.conclude.ensures.crash now db may)

@@ -11,10 +11,10 @@ returns-clause-drawn g c =
     let names = c.args.names.now in
     let p = c.args.payment in
     let name = c.index-names-at.result in
-    on_ok_weaker c.add_payment.result (λ put clean starts paid count h.
+    on_ok_weaker c.add_payment.result (λ put clean starts trail count h.
     let early : IsClean mid = omega (arith, c.add_payment.ensures.quiet.clean, clean) in
-    payment_drawn mid (g.S.Store.view c.add_payment.new.store) starts names c.set_line.new.draft paid p c.args.text.now c.args.before name c.requires.words count (name_here names p.account name (omega (arith, c.requires.named, c.if-at-draft.false)) c.index-names-at.is) (put clean)
-    ((c.in_ok-set_line.ensures.drawn early).books starts paid h)) c.add_payment.ensures.put
+    payment_drawn mid (g.S.Store.view c.add_payment.new.store) starts names c.set_line.new.draft trail p c.args.text.now c.args.before name c.requires.words count (name_here names p.account name (omega (arith, c.requires.named, c.if-at-draft.false)) c.index-names-at.is) (put clean)
+    ((c.in_ok-set_line.ensures.drawn early).books starts trail h)) c.add_payment.ensures.put
 
 pub returns-clause-cause : goal.returns-clause-cause
 returns-clause-cause g c clean =

@@ -1,65 +1,62 @@
-use Rattle.std.proofs.Common.{◌+◌, ◌++◌, ◌∷◌, [], length, arith, ap, subst, sym, ◌∙◌, length-append}
+use Rattle.std.proofs.Common.{◌++◌, ◌∷◌, [], arith, ap}
 use Rattle.std.proofs.lemmas.Result.{on_ok_weaker, on_err_weaker}
 use Rattle.sqlite_trees.specs.View.{View, IsClean, OnlyWrites}
-use Rattle.sqlite_trees.specs.Tree.{put_row}
 use Rattle.st_books.specs.Sums.{nothing}
-use Rattle.st_books.specs.Table.{AreBooks, line}
-use Rattle.st_books.proofs.LineLemmas.{put_end}
-use Rattle.st_books.specs.Standing.{payments_in}
-use Rattle.st_books.proofs.Steps.{clean_open, held_undone, told_holds, told_open, told_crash, line_added, starts_counted, sets_only}
-use Rattle.st_books.proofs.Causes.{because_ended, same_excuses}
+use Rattle.st_books.specs.Standing.{trail_in}
+use Rattle.st_books.proofs.Steps.{clean_open, held_undone, told_holds, told_open, told_crash, line_added}
+use Rattle.st_books.proofs.Causes.{because_ended}
 use Rattle.st_books.proofs.table.commit_account.Goals as goal
 
 pub returns-clause-holds : goal.returns-clause-holds
 returns-clause-holds g c =
     let was = g.S.Store.view c.args.store.now in
-    let paid = payments_in was in
+    let trail = trail_in was in
     let mid = g.S.Store.view c.add_line-entered.new.store in
     let new = g.S.Store.view c.conclude.new.store in
     let entered = c.add_line-entered in
     let names = c.args.names.now in
     let all = c.args.amounts.now in
     let name = c.args.name.now in
-    told_holds was mid new c.args._starts c.args._starts names (names ++ name ∷ []) all (all ++ nothing ∷ []) paid paid c.args._paid c.args._paid c.requires.holds c.conclude.ensures.clean (λ now. omega (arith, entered.ensures.quiet.clean, now))
+    told_holds was mid new c.args._starts c.args._starts names (names ++ name ∷ []) all (all ++ nothing ∷ []) trail trail c.args._tally c.args._tally c.requires.holds c.conclude.ensures.clean (λ now. omega (arith, entered.ensures.quiet.clean, now))
     (g.met.S.Store.broken_if_shut c.args.store.now) entered.result entered.ensures.frame
-    (on_ok_weaker entered.result (λ put now _ h. line_added was mid c.args._starts names all paid name (put now) h) entered.ensures.put) (λ counted. counted)
+    (on_ok_weaker entered.result (λ put now _ h. line_added was mid c.args._starts names all trail name (put now) h) entered.ensures.put) (λ counted. counted)
     (clean_open new (g.met.S.Store.shut_if_dirty c.conclude.new.store)) c.conclude.result c.conclude.ensures.entered c.conclude.ensures.committed
 
 pub returns-clause-undone : goal.returns-clause-undone
 returns-clause-undone g c =
     let was = g.S.Store.view c.args.store.now in
-    let paid = payments_in was in
+    let trail = trail_in was in
     let mid = g.S.Store.view c.add_line-entered.new.store in
     let new = g.S.Store.view c.conclude.new.store in
     let entered = c.add_line-entered in
     on_err_weaker c.conclude.result (λ undone.
-    held_undone was mid new c.args._starts c.args.names.now c.args.amounts.now paid c.args._paid c.requires.holds (λ _. entered.ensures.keeps) undone c.conclude.ensures.clean (λ now. omega (arith, entered.ensures.quiet.clean, now))
+    held_undone was mid new c.args._starts c.args.names.now c.args.amounts.now trail c.args._tally c.requires.holds (λ _. entered.ensures.keeps) undone c.conclude.ensures.clean (λ now. omega (arith, entered.ensures.quiet.clean, now))
     (clean_open new (g.met.S.Store.shut_if_dirty c.conclude.new.store))) c.conclude.ensures.undone
 
 pub returns-clause-any_moment : goal.returns-clause-any_moment
 returns-clause-any_moment g c now db may =
     let was = g.S.Store.view c.args.store.now in
-    let paid = payments_in was in
+    let trail = trail_in was in
     let mid = g.S.Store.view c.add_line-entered.new.store in
     let new = g.S.Store.view c.conclude.new.store in
     let entered = c.add_line-entered in
     let names = c.args.names.now in
     let all = c.args.amounts.now in
     let name = c.args.name.now in
-    told_crash was mid new c.args._starts c.args._starts names (names ++ name ∷ []) all (all ++ nothing ∷ []) paid paid c.args._paid c.args._paid c.requires.holds c.conclude.ensures.clean (λ now. omega (arith, entered.ensures.quiet.clean, now))
+    told_crash was mid new c.args._starts c.args._starts names (names ++ name ∷ []) all (all ++ nothing ∷ []) trail trail c.args._tally c.args._tally c.requires.holds c.conclude.ensures.clean (λ now. omega (arith, entered.ensures.quiet.clean, now))
     (g.met.S.Store.broken_if_shut c.args.store.now) entered.result entered.ensures.frame
-    (on_ok_weaker entered.result (λ put now _ h. line_added was mid c.args._starts names all paid name (put now) h) entered.ensures.put) (λ counted. counted)
+    (on_ok_weaker entered.result (λ put now _ h. line_added was mid c.args._starts names all trail name (put now) h) entered.ensures.put) (λ counted. counted)
     entered.ensures.quiet.outcomes db now (c.conclude.ensures.crash now db may)
 
 pub returns-clause-stays_open : goal.returns-clause-stays_open
 returns-clause-stays_open g c =
     let was = g.S.Store.view c.args.store.now in
-    let paid = payments_in was in
+    let trail = trail_in was in
     let mid = g.S.Store.view c.add_line-entered.new.store in
     let new = g.S.Store.view c.conclude.new.store in
     let entered = c.add_line-entered in
-    told_open was mid new c.args._starts c.args._starts c.args.names.now (c.args.names.now ++ c.args.name.now ∷ []) c.args.amounts.now (c.args.amounts.now ++ nothing ∷ []) paid paid c.args._paid c.args._paid c.requires.holds c.conclude.ensures.clean (λ now. omega (arith, entered.ensures.quiet.clean, now))
-    (g.met.S.Store.broken_if_shut c.args.store.now) entered.result entered.ensures.frame (on_ok_weaker entered.result (λ put now _ h. line_added was mid c.args._starts c.args.names.now c.args.amounts.now paid c.args.name.now (put now) h) entered.ensures.put) (λ counted. counted)
+    told_open was mid new c.args._starts c.args._starts c.args.names.now (c.args.names.now ++ c.args.name.now ∷ []) c.args.amounts.now (c.args.amounts.now ++ nothing ∷ []) trail trail c.args._tally c.args._tally c.requires.holds c.conclude.ensures.clean (λ now. omega (arith, entered.ensures.quiet.clean, now))
+    (g.met.S.Store.broken_if_shut c.args.store.now) entered.result entered.ensures.frame (on_ok_weaker entered.result (λ put now _ h. line_added was mid c.args._starts c.args.names.now c.args.amounts.now trail c.args.name.now (put now) h) entered.ensures.put) (λ counted. counted)
     c.conclude.result c.conclude.ensures.entered c.conclude.ensures.committed
 
 pub returns-clause-cause : goal.returns-clause-cause

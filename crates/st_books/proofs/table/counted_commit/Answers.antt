@@ -1,4 +1,4 @@
-use Rattle.std.proofs.Common.{◌≡◌, refl, arith, inr, sym, ◌∙◌}
+use Rattle.std.proofs.Common.{arith}
 use Rattle.sqlite_trees.specs.View.{IsClean}
 use Rattle.st_books.proofs.Steps.{open_sound}
 use Rattle.st_books.proofs.Counting.{set_reads, reads_keep}

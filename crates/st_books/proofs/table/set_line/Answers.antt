@@ -1,4 +1,4 @@
-use Rattle.std.proofs.Common.{◌+◌, slice_set, length, length-set, arith, ap, subst, sym, ◌∙◌}
+use Rattle.std.proofs.Common.{◌+◌, slice_set, length-set, arith, ap, subst, sym, ◌∙◌}
 use Rattle.sqlite_trees.specs.View.{View, IsStorableRow}
 use Rattle.sqlite_trees.specs.Tree.{put_row}
 use Rattle.st_books.specs.Table.{AreBooks, line}
@@ -11,15 +11,15 @@ use Rattle.st_books.proofs.table.set_line.Goals as goal
 pub returns-clause-drawn : goal.returns-clause-drawn
 returns-clause-drawn g c clean = record {
   frame = c.in_ok-put.ensures.frame clean;
-  books = λ starts paid h.
+  books = λ starts trail h.
       let was = (g.S.Store.view c.args.store.now).trees in
       let name = c.index-names-at.result in
       let names = c.args.names.now in
       let draft = c.args.draft.now in
       let at = c.args.at in
       let a = c.args.amounts in
-      subst (λ db. AreBooks db starts names (slice_set draft at a) paid) (sym (ap (λ (v : View). v.trees) (c.in_ok-put.ensures.ok clean).is))
-      (lines_written was (put_row c.write_line.new.row (was 0)) starts names names draft (slice_set draft at a) paid h
+      subst (λ db. AreBooks db starts names (slice_set draft at a) trail) (sym (ap (λ (v : View). v.trees) (c.in_ok-put.ensures.ok clean).is))
+      (lines_written was (put_row c.write_line.new.row (was 0)) starts names names draft (slice_set draft at a) trail h
       (ap (λ r. put_row r (was 0)) c.in_ok-write_line.ensures.line
       ∙ (ap (put_row (line (at + 1) name a)) h.rows ∙ put_at names draft at name a c.requires.place c.requires.named c.index-names-at.is))
       (omega (arith, c.requires.named, length-set draft at a)));

@@ -2,7 +2,7 @@ use Rattle.std.proofs.Common.{Option, subst}
 use Rattle.sqlite_trees.specs.View.{IsClean}
 use Rattle.st_books.specs.declared.balance.Entry.{Entry}
 use Rattle.st_books.specs.Payments.{Finds, name_at}
-use Rattle.st_books.specs.Standing.{payments_in}
+use Rattle.st_books.specs.Standing.{trail_in}
 use Rattle.st_ledger.proofs.Repeats.{once_now, why_unpaid}
 use Rattle.st_ledger.proofs.settling.settle_once.Goals as goal
 
@@ -15,5 +15,5 @@ pub returns-in-Ok-clause-once : goal.returns-in-Ok-clause-once
 returns-in-Ok-clause-once g c =
     once_now g.S.Store c.args.books.now c.pay.new.self c.args.name.now c.args.side c.args.entry c.args.moment c.args.reference.now c.in-Some.at c.entered.new.self
     c.in-Some.ensures.found
-    (λ clean. subst (λ (o : Option Entry). Finds (payments_in (g.S.Store.view c.args.books.now.store)) (name_at c.args.books.now.names c.in-Some.at) c.args.side c.args.reference.now o) c.in-Ok-None.field-0-is (c.in-Ok-None.ensures.found clean))
+    (λ clean. subst (λ (o : Option Entry). Finds (trail_in (g.S.Store.view c.args.books.now.store)).paid (name_at c.args.books.now.names c.in-Some.at) c.args.side c.args.reference.now o) c.in-Ok-None.field-0-is (c.in-Ok-None.ensures.found clean))
     c.in-Ok-None.ensures.same c.in-Ok.ensures.covered c.in-Ok.ensures.paid

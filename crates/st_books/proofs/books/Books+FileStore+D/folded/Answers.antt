@@ -14,7 +14,7 @@ invariant_of-store g c =
 
 pub over-requires-clause-holds : goal.over-requires-clause-holds
 over-requires-clause-holds g c =
-    folded_holds (view c.self.inside.store) (view c.checkpoint.new.self) c.self.inside.starts c.self.inside.names.items c.self.inside.amounts.items c.self.inside.paid c.self.invariant.0 c.in_ok-checkpoint.ensures.open c.in_ok-checkpoint.ensures.same
+    folded_holds (view c.self.inside.store) (view c.checkpoint.new.self) c.self.inside.starts c.self.inside.names.items c.self.inside.amounts.items c.self.inside.tally c.self.invariant.0 c.in_ok-checkpoint.ensures.open c.in_ok-checkpoint.ensures.same
 
 pub returns-clause-same : goal.returns-clause-same
 returns-clause-same g c =
