@@ -1,4 +1,4 @@
--- What a quiet run needs at most, where a Prepare carries at least a unit and a frame at least a byte.
+-- What a lossless run needs at most, if a Prepare carries at least a unit and a frame at least a byte.
 use Rattle.std.proofs.Common.{◌≡◌, ℕ, zero, suc, ◌+◌, ◌-◌, ◌*◌, ◌/◌, ◌<◌, ◌≤◌, ◌^◌, List, [], ◌∷◌, length, map, sum, arith}
 use Rattle.std.specs.Prelude.{max}
 use Rattle.std.proofs.lemmas.List.Sums.{sum_by-cons}

@@ -1,4 +1,4 @@
--- What a run that is played to its end by a list of fates says, where nothing had happened before it.
+-- What follows from a run that is played to its end by a list of fates, from a world in which nothing has happened.
 use Rattle.std.proofs.Common.{◌≡◌, ℕ, ◌+◌, ◌<◌, ◌≤◌, ◌^◌, Bool, true, false, List, length, sym, ap, subst, ◌∙◌, arith, Result, Ok, Err, is_ok}
 use Rattle.std.specs.Prelude.{IfErr, OnOk}
 use Rattle.st_end.specs.Calls.{open_stream}
@@ -73,7 +73,7 @@ to_its_end input money most course count nodes many sends told (Err Refused) w v
 to_its_end input money most course count nodes many sends told (Err NoStream) w v free short recorded calm e = absurd (free e.stops.why)
 to_its_end input money most course count nodes many sends told (Err Endless) w v free short recorded calm e = absurd (short e.stops.why)
 
--- ---- from where nothing has happened
+-- ---- from a world in which nothing has happened
 
 above : (n m : ℕ) → m ≤ n → n < m → ⊥
 above n m a b = omega (arith, a, b)

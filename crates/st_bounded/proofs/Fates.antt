@@ -154,7 +154,7 @@ fate_on course hops before w v x =
     then w r.sent v (met_on (Send Client r.iv r.now ∷ []) w r.sent (r.sent, Sent, r.lawful, r.goes, refl))
     (then r.sent r.passed v (met_on (following (course before) (puts_by course before) (gives_by hops course before) hops r.now) r.sent r.passed r.passes) (met_on (reads read_limit 0 65) r.passed v r.reads_each))
 
--- ---- so many of them
+-- ---- a number of Sends
 
 pub fates_on : (course : ℕ → Course) (hops first count carried : ℕ) (w v : World) → NumberedFates course hops first count carried w v → Continues w v
 fates_on course hops first zero carried w v run = still w v run.1

@@ -33,7 +33,7 @@ long : (n : ℕ) (accounts : List Account) → length (tables_from n (map one_to
 long n [] = refl
 long n (a ∷ more) = ap suc (long (n + 1) more)
 
--- an account that takes a Prepare of so much, and has room for so much
+-- an account that accepts a Prepare of `most`, and has room for `left`
 abbrev pub Suffices : (most left : ℕ) → Account → Type 0
 Suffices most left a = (most ≤ a.max_packet) × (left ≤ a.limit)
 

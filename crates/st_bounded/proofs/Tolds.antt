@@ -1,4 +1,4 @@
--- What an event told, and what of it was met.
+-- What an event reported, and whether it succeeded.
 use Rattle.std.proofs.Common.{◌≡◌, ℕ, Bool, true, false, List, [], ◌∷◌, refl, sym, ap, subst, ◌∙◌, ℤ, inl, inr, Option, None, Some, Result, Ok, Err, is_ok}
 use Rattle.std.specs.Prelude.{MatchBool}
 use Rattle.st_end.specs.declared.error.EndError.{EndError}
@@ -10,7 +10,7 @@ use Rattle.st_world.specs.Steps.{Happens, Step}
 use Rattle.st_bounded.specs.declared.stop.Stop.TheVariants.{Refused}
 use Rattle.st_bounded.specs.Playing.{OpensNone, Sends, SendsNone, Stops, Tells, is_sent, iv_of, opened_in}
 
--- where the world tells of no want of memory, the event was met
+-- if the world notes no lack of memory, the event succeeded
 pub tells_met : (w v : World) (event : Event) (told : Told) → Happens w event told v → v.refused ≡ false → Tells event told w v
 tells_met w v event told h none = elim h.1 [
   | inl met ↦ (h.0, met)

@@ -1,4 +1,4 @@
--- What a run that is played to its end says, where nothing had happened before it.
+-- What follows from a run that is played to its end, from a world in which nothing has happened.
 use Rattle.std.proofs.Common.{◌≡◌, ℕ, ◌+◌, ◌<◌, ◌≤◌, Bool, true, false, ◌&&◌, List, length, sym, ap, subst, ◌∙◌, arith, Result, Ok, Err, is_ok, nat_eq, nat_le}
 use Rattle.std.specs.Prelude.{IfErr, OnOk}
 use Rattle.std.proofs.lemmas.Bool.{and_parts}
@@ -64,7 +64,7 @@ pub ends_on : {X : Type 0} (input : ℕ → List ℕ) (money : ℕ → ℕ) (cou
 ends_on input money count nodes most sends (Ok x) w v e = played_on input money count nodes sends w v e.played
 ends_on input money count nodes most sends (Err why) w v e = e.stops.goes_on
 
--- neither want of memory nor anything else ended it
+-- neither lack of memory nor anything else ended it
 to_its_end : {X : Type 0} (input : ℕ → List ℕ) (money : ℕ → ℕ) (count nodes most sends : ℕ) (r : Result X Stop) (w v : World) → (IsStuckAfter input money count w → ⊥) → (IsEndlessAfter input money count nodes most w → ⊥) → is_unrecorded r ≡ false → v.refused ≡ false
     → Ends input money count nodes most sends r w v → IsPlayed input money count nodes sends w v
 to_its_end input money count nodes most sends (Ok x) w v free short told calm e = e.played
@@ -73,7 +73,7 @@ to_its_end input money count nodes most sends (Err Refused) w v free short told 
 to_its_end input money count nodes most sends (Err NoStream) w v free short told calm e = absurd (free e.stops.why)
 to_its_end input money count nodes most sends (Err Endless) w v free short told calm e = absurd (short e.stops.why)
 
--- ---- from where nothing has happened
+-- ---- from a world in which nothing has happened
 
 few_of : (n m : ℕ) → (nat_eq n m && nat_le 1 n && nat_le n 32) ≡ true → n ≤ 32
 few_of n m e = let all = and_parts (nat_eq n m && nat_le 1 n) (nat_le n 32) e in let c : nat_le n 32 ≡ true = all.1 in grind (arith, nat_tests)

@@ -52,13 +52,13 @@ carried_with (AnswerLost link) before after = after - before
 
 -- ---- rounds
 
--- a Send and what becomes of it, behind so many: it has the next number, and all of it is at moment 0
+-- a Send after `before` others and what becomes of it: it has the next number, and all of it is at moment 0
 pub record NumberedFate (course : ℕ → Course) (hops before : ℕ) (w v : World) : Type 0 where
   pub round : FatedRound read_limit hops course before w v
   pub numbered : round.iv ≡ iv_of (suc before)
   pub at_start : round.now ≡ pos 0
 
--- so many of them, after others, and how much the lost answers carried
+-- `more` of them, after `before` others, and how much the lost answers carried
 abbrev pub NumberedFates : (course : ℕ → Course) → (hops before more carried : ℕ) → World → World → Type 0
 NumberedFates course hops before zero carried w v = (carried ≡ 0) × (v ≡ w)
 NumberedFates course hops before (suc m) carried w v =
@@ -70,7 +70,7 @@ pub record GoesOnFated (course : ℕ → Course) (hops before after carried : �
   pub round : NumberedFate course hops before w v
   pub carried_is : carried ≡ carried_in (course before) w v
 
--- so many that a number tells what the lost answers carried, if it is a number of 64 bits
+-- `sends` of them; `told` is what the lost answers carried, if that is a number of 64 bits
 pub record HasPlayed (course : ℕ → Course) (hops sends told : ℕ) (w v : World) : Type 0 where
   pub carried : ℕ
   pub rounds : NumberedFates course hops 0 sends carried w v
@@ -87,7 +87,7 @@ pub record IsPlayedFated (input : ℕ → List ℕ) (money most : ℕ → ℕ) (
   pub none : GoesNone (end_at ended Client)
   pub reads_each : Met ended (reads read_limit 0 65) v
 
--- ---- why it ends before its end: so many Sends there were
+-- ---- why it ends before its end: there were `most` Sends
 
 pub record IsEndlessFated (course : ℕ → Course) (hops most : ℕ) (w : World) : Type 0 where
   pub ended : World
@@ -108,8 +108,8 @@ pub record IsEndlessAfterFated (input : ℕ → List ℕ) (money most : ℕ → 
 
 -- ---- what is promised of it
 
--- what the outcome tells is left by a world to which a whole run by these fates led, where all was delivered, where the
--- server's credit is all money and what the lost answers carried, and where so many Prepares went
+-- the outcome's trace is that of a world to which a whole run by these fates led. All was delivered there, the server's
+-- credit is all money and what the lost answers carried, and the client sent this number of Prepares
 pub record DeliversFated (limit : ℕ) (xs : List (List ℕ)) (ms rs : List ℕ) (fates : List Fate) (w : World) (q : LossyOutcome) : Type 0 where
   pub world : World
   pub left : q.trace ≡ left_of world

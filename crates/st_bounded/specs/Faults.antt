@@ -1,4 +1,4 @@
--- Why a quiet run could not be played, by number. The numbers are this profile's own.
+-- Why a lossless run could not be played, by this profile's own numbers.
 use Rattle.std.specs.Prelude.{ℕ, Option, None}
 use Rattle.st_bounded.specs.declared.fault.Fault.{Fault}
 use Rattle.st_bounded.specs.declared.fault.Fault.TheVariants.{NoMemory, BadInput}

@@ -1,4 +1,4 @@
--- What is played of a world: the events of a quiet run, and why they end before its end.
+-- What is played of a world: the events of a lossless run, and why they end before its end.
 use Rattle.std.specs.Prelude.{◌≡◌, ⊤, ℕ, zero, suc, ◌<◌, ℤ, pos, Bool, true, false, List, ◌∷◌, map, is_ok, Ok}
 use Rattle.std.specs.Int.{w64, to_be_bytes}
 use Rattle.std.specs.Borrow.{Bor}
@@ -26,11 +26,11 @@ pub record Outcome : Type 0 where
 abbrev pub bytes_of : List (Bor (List ℕ)) → List (List ℕ)
 bytes_of xs = map (λ x. x.now) xs
 
--- so many bytes are read at once: more than one Prepare brings
+-- how many bytes are read at once: more than one Prepare brings
 abbrev pub read_limit : ℕ
 read_limit = 65536
 
--- ---- what an event told
+-- ---- what an event reported
 
 -- it was met as it should be
 abbrev pub Tells : Event → Told → World → World → Type 0
@@ -50,7 +50,7 @@ OpensNone w = is_ok (open_stream (end_at w Client)).0 ≡ false
 
 -- ---- parts of a run
 
--- the IV of a Send: its number, behind four bytes that are 0
+-- the IV of a Send: four bytes that are 0, then its number
 abbrev pub iv_of : ℕ → List ℕ
 iv_of n = 0 ∷ 0 ∷ 0 ∷ 0 ∷ to_be_bytes w64 n
 
@@ -64,13 +64,13 @@ pub record SendsNone (w v : World) : Type 0 where
   pub none : GoesNone (end_at w Client)
   pub same : v ≡ w
 
--- a round after so many Sends: its Send has the next number, and all of it is at moment 0
+-- a round after `before` Sends: its Send has the next number, and all of it is at moment 0
 pub record NumberedRound (input : ℕ → List ℕ) (hops before : ℕ) (w v : World) : Type 0 where
   pub round : Round input read_limit hops before w v
   pub numbered : round.iv ≡ iv_of (suc before)
   pub at_start : round.now ≡ pos 0
 
--- so many of them, after others
+-- `more` of them, after `before` others
 abbrev pub NumberedRounds : (ℕ → List ℕ) → (hops before more : ℕ) → World → World → Type 0
 NumberedRounds input hops before zero w v = v ≡ w
 NumberedRounds input hops before (suc m) w v = (mid : World) × NumberedRound input hops before w mid × NumberedRounds input hops (suc before) m mid v
@@ -80,7 +80,7 @@ pub record GoesOn (input : ℕ → List ℕ) (hops before after : ℕ) (w v : Wo
   pub counted : after ≡ suc before
   pub round : NumberedRound input hops before w v
 
--- or no Prepare went
+-- or no Prepare was sent
 pub record IsOver (before after : ℕ) (w v : World) : Type 0 where
   pub counted : after ≡ before
   pub none : SendsNone w v
@@ -89,7 +89,7 @@ pub record IsOver (before after : ℕ) (w v : World) : Type 0 where
 unfoldable pub WritesAll : (input : ℕ → List ℕ) → World → World → Type 0
 WritesAll input w v = Writes input 0 65 w v
 
--- a whole run: the opening, rounds until no Prepare goes, and a last read of each stream
+-- a whole run: the opening, rounds until no Prepare is sent, and a last read of each stream
 pub record IsPlayed (input : ℕ → List ℕ) (money : ℕ → ℕ) (count hops sends : ℕ) (w v : World) : Type 0 where
   pub allowed : World
   pub begun : World
@@ -106,8 +106,8 @@ pub record IsPlayed (input : ℕ → List ℕ) (money : ℕ → ℕ) (count hops
 abbrev pub Continues : World → World → Type 0
 Continues w v = (events : List Event) × Run w events v
 
--- memory for the world's own record was refused; a call found none, which the world tells; or what may be so where no stream
--- could be opened, and where there were too many rounds
+-- memory for the world's own record was refused; a call ran out of memory, which the world notes; or what holds if no stream
+-- could be opened, or if there were too many rounds
 abbrev pub Why : (stuck endless : Type 0) → Stop → World → Type 0
 Why stuck endless NoMemory v = ⊤
 Why stuck endless Refused v = v.refused ≡ true
@@ -126,7 +126,7 @@ pub record IsStuck (input : ℕ → List ℕ) (money : ℕ → ℕ) (count : ℕ
   pub begins_each : BeginsEach input money opened w begun
   pub none : OpensNone begun
 
--- so many rounds there were
+-- there were `most` rounds
 pub record IsEndless (input : ℕ → List ℕ) (hops most : ℕ) (w : World) : Type 0 where
   pub ended : World
   pub rounds : NumberedRounds input hops 0 most w ended

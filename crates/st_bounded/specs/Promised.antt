@@ -13,8 +13,8 @@ abbrev pub is_unrecorded : {X : Type 0} → Result X Stop → Bool
 is_unrecorded (Err NoMemory) = true
 is_unrecorded r = false
 
--- what the outcome tells is left by a world to which a whole run led, where all was delivered, where the server's credit is
--- all money, and where so many Prepares went
+-- the outcome's trace is that of a world to which a whole run led. All was delivered there, the server's credit is all
+-- money, and the client sent this number of Prepares
 pub record Delivers (xs : List (List ℕ)) (ms : List ℕ) (w : World) (q : Outcome) : Type 0 where
   pub world : World
   pub left : q.trace ≡ left_of world

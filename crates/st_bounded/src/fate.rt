@@ -5,7 +5,7 @@ ghost use Rattle.st_passage.specs.LostWorlds.{course_at, gives_on, puts_on};
 ghost use Rattle.st_bounded.specs.Fates.{course_of, courses_of, lost_by};
 
 /// What becomes of a Send of a run that is played. Links are numbered from that of the client on, which is 0. A number
-/// past the last link stands for the last one.
+/// past the last link means the last one.
 #[derive(Clone, Copy, Debug, PartialEq, Eq)]
 pub enum Fate {
     /// The Prepare arrives over all links, and its answer returns over all of them.
@@ -17,7 +17,7 @@ pub enum Fate {
 }
 
 impl Fate {
-    /// How many Prepares it has put on a link: one, or none behind the link where its Prepare is lost.
+    /// How many Prepares it has put on a link: one, or none after the link that loses its Prepare.
     pub(crate) fn puts(&self, link: usize) -> usize
         ensures one { result ≡ puts_on (course_of self.now) link }
     {
@@ -28,8 +28,8 @@ impl Fate {
         }
     }
 
-    /// How many answers are given on a link of a chain of `hops` hops: one, or none from the link on where its Prepare is
-    /// lost.
+    /// How many answers are given on a link of a chain of `hops` hops: one, or none on the link that loses its Prepare
+    /// and on those after it.
     pub(crate) fn gives(&self, hops: usize, link: usize) -> usize
         ensures one { result ≡ gives_on hops (course_of self.now) link }
     {
@@ -51,7 +51,7 @@ impl Fate {
     }
 }
 
-/// The fate of the Send behind `sends` others. Where the list has no more it is delivered.
+/// The fate of the Send after `sends` others. A Send past the end of the list is delivered.
 pub(crate) fn fate_at(fates: &[Fate], sends: usize) -> Fate
     ensures { course_of result ≡ course_at (courses_of fates.now) sends }
 {

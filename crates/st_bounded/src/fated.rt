@@ -24,7 +24,7 @@ fn credit<A: Allocator + Copy>(world: &World<A>) -> u64
     world.trace().end(Side::Server).totals().credited
 }
 
-/// What a Send's answer carried, where it was lost: by how much the server's credit rose.
+/// What a Send's answer carried, if it was lost: by how much the server's credit rose.
 fn carried(fate: Fate, before: u64, after: u64) -> u64
     ensures { result ≡ carried_with fate before after }
 {
@@ -34,8 +34,8 @@ fn carried(fate: Fate, before: u64, after: u64) -> u64
     }
 }
 
-/// A Send behind `sends` others, what becomes of it, and a read of each stream. Gives whether a Prepare was sent, and
-/// sets how much its answer carried where that was lost.
+/// A Send after `sends` others, what becomes of it, and a read of each stream. Gives whether a Prepare was sent, and
+/// sets how much its answer carried if that was lost.
 fn go_fated<A: Allocator + Copy>(
     world: &mut World<A>,
     fates: &[Fate],

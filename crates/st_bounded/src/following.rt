@@ -39,7 +39,7 @@ fn answers_before(fates: &[Fate], all: usize, sends: usize, link: usize) -> usiz
     count
 }
 
-/// The number of the Prepare that the Send behind `sends` others puts on a link.
+/// The number of the Prepare that the Send after `sends` others puts on a link.
 fn prepare(fates: &[Fate], sends: usize, link: usize) -> usize
     requires { sends + 1 < 2 ^ 64 }
     ensures { result ≡ suc (puts_by (course_at (courses_of fates.now)) sends link) }
@@ -55,7 +55,7 @@ fn answer(fates: &[Fate], all: usize, sends: usize, link: usize) -> usize
     answers_before(fates, all, sends, link) + 1
 }
 
-/// A Prepare goes over a link and over `hops` hops after it, and its answer returns to the first of them.
+/// A Prepare crosses a link and the `hops` hops after it, and its answer returns to the first of them.
 fn go<A: Allocator + Copy>(
     world: &mut World<A>,
     fates: &[Fate],
@@ -83,7 +83,7 @@ fn go<A: Allocator + Copy>(
     )
 }
 
-/// A Prepare is lost behind `past` of the `hops` hops after a link: each hop before that forwards it, and meets a fault.
+/// A Prepare is lost after `past` of the `hops` hops that follow a link: each of those forwards it, and meets a fault.
 fn lose<A: Allocator + Copy>(
     world: &mut World<A>,
     fates: &[Fate],
@@ -111,8 +111,8 @@ fn lose<A: Allocator + Copy>(
     take(world, &Event::Fault(link + 1, Way::ToServer, next, now))
 }
 
-/// A Prepare goes over a link and all `hops` hops after it, and its answer is lost behind `past` of them: it returns to
-/// those after that, and each hop before meets a fault.
+/// A Prepare crosses a link and all `hops` hops after it. Its answer does not reach the first `past` of them, which
+/// meet a fault: it returns to those after that.
 fn strand<A: Allocator + Copy>(
     world: &mut World<A>,
     fates: &[Fate],
@@ -141,7 +141,7 @@ fn strand<A: Allocator + Copy>(
     take(world, &Event::Fault(link + 1, Way::ToServer, next, now))
 }
 
-/// The client takes the answer that the first link carries.
+/// The client receives the answer that the first link carries.
 fn arrive<A: Allocator + Copy>(
     world: &mut World<A>,
     fates: &[Fate],
@@ -194,7 +194,7 @@ fn lose_answer<A: Allocator + Copy>(
     take(world, &Event::Fault(0, Way::ToServer, put, now))
 }
 
-/// What becomes of the Send behind `sends` others, on a chain of `all` hops.
+/// What becomes of the Send after `sends` others, on a chain of `all` hops.
 pub(crate) fn follow<A: Allocator + Copy>(
     world: &mut World<A>,
     fates: &[Fate],

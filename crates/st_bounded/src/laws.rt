@@ -12,7 +12,7 @@ ghost use Rattle.st_bounded.specs.Fates.{HasRoomToLose};
 ghost use Rattle.st_chain.specs.Chains.{chain_of, one_to_one};
 
 /// The conditions under which a chain that forwards amounts unchanged may play a lossless run. It has at most eight
-/// hops, and the least rate is 1 to 1. Each hop's account takes a Prepare of the packet limit, and its limit is at
+/// hops, and the least rate is 1 to 1. Each hop's account accepts a Prepare of the packet limit, and its limit is at
 /// least the sum of all amounts. All inputs together are below 2^63 bytes, and all amounts together below 2^63. The
 /// connection's number of Prepares suffices.
 pub fn a_chain_with_room_may_play()
@@ -21,9 +21,9 @@ pub fn a_chain_with_room_may_play()
         → MayPlay (chain_of (map one_to_one accounts) config) xs ms }
 {}
 
-/// The same with losses: where each hop's account has room for all amounts and for what the lost answers may carry, and
-/// each receive max has such room too. The connection's number of Prepares suffices for the losses, and no 200 Sends in
-/// a row are lost.
+/// The same with losses: each hop's account has room for all amounts and for what the lost answers may carry, and each
+/// receive max has such room too. The connection's number of Prepares suffices for the losses, and no 200 Sends in a
+/// row are lost.
 pub fn a_chain_with_room_may_lose()
     ensures { (accounts : List Account) (config : Config) (xs : List (List ℕ)) (ms rs : List ℕ) (fates : List Fate) → HasRoomToLose accounts config xs ms rs fates → MayPlayLossy (chain_of (map one_to_one accounts) config) xs ms rs fates }
 {}

@@ -59,8 +59,8 @@ impl<A: Allocator + Copy> LossyDelivery<A> {
         self.sends
     }
 
-    /// How much the lost answers carried: what the server credited beside the money that the client paid. Does not
-    /// allocate.
+    /// How much the lost answers carried: what the server credited in addition to the money that the client paid. Does
+    /// not allocate.
     pub fn carried(&self) -> u64
         ensures { result ≡ self.now.carried }
     {
@@ -159,10 +159,10 @@ fn play_lawful_fated<A: Allocator + Copy>(
     })
 }
 
-/// Plays a run like `quiet` in which some Sends are lost: one of `fates` for each Send of the client, in order. Sends
-/// behind the last of them are delivered. A hop or the client that waits for an answer that is lost meets a fault. Before
-/// the first Send the server raises the receive max of each stream to that of `receive_max`, and the client opens the
-/// streams, offers and writes. Of each stream at most 262,144 bytes are written, and nothing after the first Send.
+/// Plays a run like `quiet` in which some Sends are lost: one of `fates` for each Send of the client, in order. Later
+/// Sends are delivered. A hop or the client that waits for an answer that is lost meets a fault. Before the first Send
+/// the server raises the receive max of each stream to that of `receive_max`, and the client opens the streams, offers
+/// and writes. Of each stream at most 262,144 bytes are written, and nothing after the first Send.
 ///
 /// Fails with `BadInput` unless there are 1 to 32 streams, with an amount and a receive max for each, and with
 /// `NoMemory` as `quiet` does. Otherwise, under the premises of st_passage's `MayPlayLossy`, all was delivered. The run

@@ -42,7 +42,7 @@ fn go_over<A: Allocator + Copy>(
     )
 }
 
-/// A Prepare goes over all hops, and its answer comes back over all of them.
+/// A Prepare crosses all hops, and its answer returns over all of them.
 fn pass<A: Allocator + Copy>(
     world: &mut World<A>,
     hops: usize,
@@ -56,7 +56,7 @@ fn pass<A: Allocator + Copy>(
     take(world, &Event::AnswerArrives(0, Way::ToServer, which, now))
 }
 
-/// A read of a stream at the server. It is left out where the stream is not open there: it would be refused, and change
+/// A read of a stream at the server. It is left out if the stream is not open there: it would be refused, and change
 /// nothing.
 fn read_on<A: Allocator + Copy>(world: &mut World<A>, stream: u8) -> Result<(), Stop>
     ensures met { OnOk result (Met world.old (Read Server stream read_limit ∷ []) world.new) }

@@ -15,7 +15,7 @@ use st_ilp::Moment;
 use st_nodes::{Side, Told};
 use std::alloc::Allocator;
 
-/// One event, and what it told.
+/// Plays one event, and gives its report.
 fn meet<A: Allocator + Copy>(world: &mut World<A>, event: &Event<'_>) -> Result<Told<A>, Stop>
     ensures met { IfOk result (λ told. Tells (event_seen event.now) (told_seen told) world.old world.new) }
     ensures stops { IfErr result (λ e. Stops ⊥ ⊥ e world.old world.new) }
@@ -29,7 +29,7 @@ fn meet<A: Allocator + Copy>(world: &mut World<A>, event: &Event<'_>) -> Result<
     Ok(told)
 }
 
-/// One event, whatever it told.
+/// Plays one event, whatever it reports.
 pub(crate) fn take<A: Allocator + Copy>(world: &mut World<A>, event: &Event<'_>) -> Result<(), Stop>
     ensures met { OnOk result (Met world.old (event_seen event.now ∷ []) world.new) }
     ensures stops { IfErr result (λ e. Stops ⊥ ⊥ e world.old world.new) }
@@ -39,7 +39,7 @@ pub(crate) fn take<A: Allocator + Copy>(world: &mut World<A>, event: &Event<'_>)
     Ok(())
 }
 
-/// Whether a Prepare went.
+/// Whether a Prepare was sent.
 fn is_sent<A: Allocator + Copy>(told: &Told<A>) -> bool
     ensures { result ≡ is_sent (told_seen told.now) }
 {
@@ -55,7 +55,7 @@ fn iv_of(number: u64) -> [u8; 12]
     iv
 }
 
-/// The client sends, and this is the Send's number. Whether a Prepare went.
+/// The client sends, and this is the Send's number. Gives whether a Prepare was sent.
 pub(crate) fn send<A: Allocator + Copy>(
     world: &mut World<A>,
     number: u64,

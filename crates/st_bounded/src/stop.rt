@@ -5,7 +5,7 @@
 pub(crate) enum Stop {
     /// Memory for the world's own record was refused.
     NoMemory,
-    /// A call found no memory.
+    /// A call ran out of memory.
     Refused,
     /// No stream could be opened.
     NoStream,

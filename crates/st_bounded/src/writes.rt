@@ -20,7 +20,7 @@ const ROOM: usize = 262_144;
 /// A stream's number is below this one.
 pub(crate) const NUMBERS: u8 = 65;
 
-/// The input of a stream: none where it has none.
+/// The input of a stream; empty if it has none.
 pub(crate) fn input_at<'a>(input: &[&'a [u8]], stream: u8) -> &'a [u8]
     ensures { result.now ≡ input_of (bytes_of input.now) stream }
 {
@@ -34,7 +34,7 @@ pub(crate) fn input_at<'a>(input: &[&'a [u8]], stream: u8) -> &'a [u8]
     &[]
 }
 
-/// The money of a stream: 0 where it has none.
+/// The money of a stream: 0 if it has none.
 pub(crate) fn money_at(money: &[u64], stream: u8) -> u64
     ensures { result ≡ money_of money.now stream }
 {
@@ -71,8 +71,8 @@ fn fitting(input: &[u8], written: usize, read: usize) -> &[u8]
     &rest[..room.min(rest.len())]
 }
 
-/// Writes on a stream what fits of its input, and closes it at the input's end. Both are left out where the stream is
-/// not open: they would be refused, and change nothing.
+/// Writes on a stream what fits of its input, and closes it at the input's end. Both are left out if the stream is not
+/// open: they would be refused, and change nothing.
 pub(crate) fn write_on<A: Allocator + Copy>(
     world: &mut World<A>,
     stream: u8,

@@ -32,7 +32,7 @@ module _ (ends : Both Party) (ns : List Node) (lg : Both Led) (r : Bool) (t : Le
   same_parts m m' ks ks' b b' em ek eb =
       ap (λ (x : Node). of_parts ends (set ns i x) ks lg b) em ∙ ap (λ (k : Links). of_parts ends (set ns i m') k lg b) ek ∙ ap (of_parts ends (set ns i m') ks' lg) eb
 
-  -- a Prepare comes
+  -- a Prepare arrives
   pub hop_meets : (link next which : ℕ) (bytes : List ℕ) (now : ℤ) (p : Put) (told : Told) (m : Node) (ks : Links) (b : Bool) → link ≢ next → next ≡ next_link link way → bytes ≡ p.bytes → HopsMet link next way which bytes now told n m ls ks → b ≡ (r || lacks told)
       → MeetsAt (in_world t ls) link way which now p (AtHop i) told (in_world (left ends (set ns i m) lg b) ks)
   hop_meets link next which bytes now p told m ks b apart at_next same met is =
@@ -67,7 +67,7 @@ module _ (ends : Both Party) (ns : List Node) (lg : Both Led) (r : Bool) (t : Le
         ]
       ])
 
-  -- an outcome comes back
+  -- an outcome arrives
   pub back_hop_meets : (link prev j : ℕ) (now : ℤ) (z : Put) (outcome : Option (List ℕ)) (told : Told) (m : Node) (ks : Links) → link ≢ prev → prev ≡ prev_link link way → HopsBack link prev way z j outcome now told n m ls ks
       → BackAt (in_world t ls) link way j now z outcome (AtHop i) told (in_world (left ends (set ns i m) lg r) ks)
   back_hop_meets link prev j now z outcome told m ks apart at_prev met =

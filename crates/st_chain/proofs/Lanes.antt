@@ -34,7 +34,7 @@ any_or [] i d x l = absurd (omega (arith, l))
 any_or (y ∷ ys) zero d x l = refl
 any_or (y ∷ ys) (suc i) d x l = any_or ys i d x (omega (arith, l))
 
--- a link that stands there
+-- a link that is in the list
 pub is_link : (ls : Links) (i : ℕ) (x : Both Lane) → i < length ls → x ≡ get_or ls i x → get_or ls i no_lanes ≡ x
 is_link ls i x l e = any_or ls i no_lanes x l ∙ sym e
 
@@ -131,7 +131,7 @@ no_puts : (way : Side) (which : ℕ) → nth (at no_lanes way).puts which ≡ No
 no_puts Client which = nth_nothing which
 no_puts Server which = nth_nothing which
 
--- where a Prepare was put there is a link
+-- a Prepare was put on a link of the list
 pub puts_within : (ls : Links) (link : ℕ) (way : Side) (which : ℕ) (p : Put) → nth (lane_in ls link way).puts which ≡ Some p → link < length ls
 puts_within [] link way which p e = let n = no_puts way which in absurd (cc)
 puts_within (l ∷ ls) zero way which p e = omega arith

@@ -168,7 +168,7 @@ module _ (ends : Both Party) (ns : List Node) (lg : Both Led) (r : Bool) where
           ]
         ])
 
-    -- a Prepare comes to an end
+    -- a Prepare arrives at an end
     answered : (c : Side) (link : ℕ) (way : Side) (which : ℕ) (e : EndState) (x : EndEntry) (bytes : List ℕ)
         → of_parts (put ends c (with_answered (at ends c) e x)) ns (with_lane_in ls link way (with_given_in (lane_in ls link way) (given_by which bytes))) lg r ≡ answered_at_end w link way which c e x bytes
     answered Client link way which e x bytes = refl
@@ -190,7 +190,7 @@ module _ (ends : Both Party) (ns : List Node) (lg : Both Led) (r : Bool) where
           )
         ])
 
-    -- an outcome comes back to an end
+    -- an outcome arrives at an end
     ended_at : (link : ℕ) (way : Side) (j : ℕ) (z : Put) (outcome : Option (List ℕ)) (o : Option sender.Flight) (told : Told) (q : Party) (y : Lane) (ks : Links) → told ≡ cond (is_some o) (Took (pays (flight_of z) outcome)) Silent
         → q ≡ with_state (at ends a) (ended_with (at ends a).state (flight_of z) o outcome) → y ≡ with_taken_in (is_some o && pays (flight_of z) outcome) (lane_in ls link way) j → ks ≡ with_lane_in ls link way y
         → BackAtEnd w link way j z outcome a o told (of_parts (put ends a q) ns ks lg r)

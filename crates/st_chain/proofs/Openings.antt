@@ -132,7 +132,7 @@ chain_too_long ts config l = chain_lawful ts config ∙ ap (λ (b : Bool). b && 
 pub is_few : (n : ℕ) → n ≤ 8 → nat_le n 8 ≡ true
 is_few n l = grind (arith, nat_tests)
 
--- and one of hops whose limits are not reached can be made, where they are few
+-- and one of hops whose limits are not reached can be made, if they are few
 pub free_lawful : (n : ℕ) (config : Config) → n ≤ 8 → is_chain (chain_of (map one_to_one (replicate n free_account)) config) ≡ true
 free_lawful n config l =
     let ts = map one_to_one (replicate n free_account) in

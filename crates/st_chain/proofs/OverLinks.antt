@@ -1,4 +1,4 @@
--- What one place of the list of links, or two beside each other, become.
+-- What one place of the list of links, or two adjacent ones, become.
 use Rattle.std.proofs.Common.{◌≡◌, ℕ, ◌+◌, ◌<◌, List, ◌++◌, length, set, get_or, sym, subst, ◌∙◌, arith, ℤ, Option}
 use Rattle.st_world.specs.Sides.{Side, Both, at, put}
 use Rattle.st_world.specs.State.{Party, Node, Put, Lane}

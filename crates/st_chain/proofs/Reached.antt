@@ -1,4 +1,4 @@
--- Events by the place where they come, and runs.
+-- Events by the place of their arrival, and runs.
 use Rattle.std.proofs.Common.{◌≡◌, ℕ, zero, suc, ◌+◌, ◌<◌, ◌≤◌, Bool, true, false, cond, nat_eq, List, [], ◌∷◌, ◌++◌, length, take, get_or, refl, sym, ap, subst, ◌∙◌, arith, ℤ, Option, None, Some, inl, inr, is_some, nat_lt, slice_get}
 use Rattle.std.specs.Prelude.{MatchOption, IfSome}
 use Rattle.std.specs.Borrow.{Bor}
@@ -96,7 +96,7 @@ pub step_is : (t s : Left) (ls is ks us : Links) (old : World) (event : events.E
 step_is t s ls is ks us old event told e same was step =
     subst (λ (x : Links). Happens old event told (in_world s x)) (sym e) (subst (λ (x : World). Happens x event told (in_world s ks)) (ap (in_world t) same ∙ was) step)
 
--- what stands at a place of a list
+-- the element at a place of a list
 pub found_at : (o : Option (Bor Node)) (ns : List Node) (i : ℕ) → is_some o ≡ nat_lt i (length ns) → IfSome o (λ n. n.now ≡ get_or ns i n.now) → MatchOption o (slice_get ns i ≡ None) (λ n. slice_get ns i ≡ Some n.now)
 found_at None ns i e is = slice_get_past ns i (not_below i (length ns) (sym e))
 found_at (Some n) ns i e is = slice_get_read ns (length ns) i n.now refl (is_below i (length ns) (sym e)) is

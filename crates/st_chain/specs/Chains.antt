@@ -1,5 +1,5 @@
 -- The chain of a world: the two ends `test.a` and `test.b`, and between them the hops `test.h1`, `test.h2`, .., each with the
--- same terms towards both its neighbours, and a rate at which amounts go on to the server.
+-- same terms towards both its neighbours, and a rate at which amounts are forwarded to the server.
 use Rattle.std.specs.Prelude.{ℕ, ◌+◌, ◌-◌, ◌^◌, List, [], ◌∷◌, ◌++◌, replicate}
 use Rattle.st_oer.specs.Ratios.{Ratio, ratio}
 use Rattle.st_hop.specs.declared.account.Account.{Account}
@@ -48,7 +48,7 @@ chain_of terms config = record {
   config = config;
 }
 
--- amounts go on as they are
+-- amounts are forwarded as they are
 abbrev pub one_to_one : Account → Terms
 one_to_one a = (a, ratio 1 1)
 

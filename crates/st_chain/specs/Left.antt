@@ -27,8 +27,8 @@ abbrev pub lacks : Told → Bool
 lacks NoMemory = true
 lacks told = false
 
--- the event wants memory of an end or a hop: a close, an abort, an offer and a receive max want none. What comes back, a crash and a
--- refused call have no refusal for want of memory in the rule of an event
+-- the event may run out of memory at an end or a hop: a close, an abort, an offer and a receive max need none. The rule of an event
+-- has no refusal for lack of memory of an outcome, of a crash or of a refused call
 abbrev pub MayLack : Event → Type 0
 MayLack (OpenStream side) = Unit {0}
 MayLack (Write side k xs) = Unit {0}

@@ -65,7 +65,7 @@ impl<A: Allocator + Copy> Trace<A> {
         Ok(told)
     }
 
-    /// A Prepare comes to the far end of its link.
+    /// A Prepare arrives at the far end of its link.
     pub(crate) fn arrive(
         &mut self,
         links: &mut [Link<A>],
@@ -95,7 +95,7 @@ impl<A: Allocator + Copy> Trace<A> {
         }
     }
 
-    /// An outcome of a Prepare for the server comes back to whoever put it.
+    /// An outcome of a Prepare for the server arrives at whoever put it.
     fn back_for_server(
         &mut self,
         links: &mut [Link<A>],
@@ -121,7 +121,7 @@ impl<A: Allocator + Copy> Trace<A> {
         Ok(told)
     }
 
-    /// An outcome of a Prepare for the client comes back to whoever put it.
+    /// An outcome of a Prepare for the client arrives at whoever put it.
     fn back_for_client(
         &mut self,
         links: &mut [Link<A>],
@@ -147,7 +147,7 @@ impl<A: Allocator + Copy> Trace<A> {
         Ok(told)
     }
 
-    /// An outcome comes back to whoever put this Prepare.
+    /// An outcome arrives at whoever put this Prepare.
     fn back(
         &mut self,
         links: &mut [Link<A>],
@@ -179,7 +179,7 @@ impl<A: Allocator + Copy> Trace<A> {
         }
     }
 
-    /// An answer comes to whoever put its Prepare.
+    /// An answer arrives at whoever put its Prepare.
     pub(crate) fn answer(
         &mut self,
         links: &mut [Link<A>],
@@ -203,7 +203,7 @@ impl<A: Allocator + Copy> Trace<A> {
         Ok(told)
     }
 
-    /// Whoever put a Prepare learns that no answer comes.
+    /// Whoever put a Prepare learns that no answer will arrive.
     pub(crate) fn fault(
         &mut self,
         links: &mut [Link<A>],

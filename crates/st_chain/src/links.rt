@@ -147,7 +147,7 @@ pub(crate) fn meet_hop_down<A: Allocator + Copy>(
     Ok(told)
 }
 
-/// An outcome comes back to the hop that put a Prepare for the server on the link after this one.
+/// An outcome arrives at the hop that put a Prepare for the server on the link after this one.
 pub(crate) fn back_to_hop_up<A: Allocator + Copy>(
     node: &mut Node<A>,
     links: &mut [Link<A>],
@@ -177,7 +177,7 @@ pub(crate) fn back_to_hop_up<A: Allocator + Copy>(
     Ok(told)
 }
 
-/// An outcome comes back to the hop that put a Prepare for the client on this link.
+/// An outcome arrives at the hop that put a Prepare for the client on this link.
 pub(crate) fn back_to_hop_down<A: Allocator + Copy>(
     node: &mut Node<A>,
     links: &mut [Link<A>],

@@ -1,4 +1,4 @@
-//! The start of a world: a chain where nothing has happened.
+//! The start of a world: a chain in which nothing has happened.
 
 ghost use Rattle.std.specs.Prelude.{◌≡◌, ◌<◌, ◌≤◌, ◌+◌, true, replicate, length, map, IfOk, IsOkUnless, IsErrOf, MatchBool, nat_le, ◌&&◌};
 ghost use Rattle.std.specs.List.{list_all};
@@ -129,7 +129,7 @@ fn hops_of<A: Allocator + Copy>(
     Ok(hops)
 }
 
-/// So many links where nothing was put.
+/// `count` empty links.
 fn links_of<A: Allocator + Copy>(alloc: A, count: usize) -> Result<Vec<Link<A>, A>, AllocError>
     ensures { IfOk result (λ ls. ls.items ≡ replicate count no_lanes) }
 {
@@ -140,7 +140,7 @@ fn links_of<A: Allocator + Copy>(alloc: A, count: usize) -> Result<Vec<Link<A>, 
     Ok(links)
 }
 
-/// The client of a chain where nothing has happened.
+/// The client of a chain in which nothing has happened.
 fn client_of<A: Allocator + Copy>(alloc: A, config: EndConfig) -> Result<Party<A>, AllocError>
     ensures { IfOk result (λ p. p ≡ new_party (new_end Role.Client (keys_of (replicate 32 0)) client_name server_name config)) }
 {
@@ -157,7 +157,7 @@ fn client_of<A: Allocator + Copy>(alloc: A, config: EndConfig) -> Result<Party<A
     }
 }
 
-/// The server of a chain where nothing has happened.
+/// The server of a chain in which nothing has happened.
 fn server_of<A: Allocator + Copy>(alloc: A, config: EndConfig) -> Result<Party<A>, AllocError>
     ensures { IfOk result (λ p. p ≡ new_party (new_end Role.Server (keys_of (replicate 32 0)) server_name client_name config)) }
 {
@@ -174,7 +174,7 @@ fn server_of<A: Allocator + Copy>(alloc: A, config: EndConfig) -> Result<Party<A
     }
 }
 
-/// Both ends of a chain where nothing has happened: the client and the server.
+/// Both ends of a chain in which nothing has happened: the client and the server.
 fn ends_of<A: Allocator + Copy>(
     alloc: A,
     config: EndConfig,
@@ -186,7 +186,7 @@ fn ends_of<A: Allocator + Copy>(
     Ok((client, server))
 }
 
-/// What a chain where nothing has happened leaves.
+/// The result of a chain in which nothing has happened.
 fn nothing_left<A: Allocator + Copy>(
     alloc: A,
     terms: &[(Account, Rate)],
@@ -229,7 +229,7 @@ fn open<A: Allocator + Copy>(
 impl<A: Allocator + Copy> World<A> {
     /// A world of the client `test.a`, the server `test.b` and `hops` hops between them, `test.h1` and on. The hops
     /// forward amounts unchanged, and their limits are not reached. The shared secret is 32 bytes of 0. Fails with
-    /// `BadChain` where `hops` is above `MAX_HOPS`, otherwise with `NoMemory` where memory is refused.
+    /// `BadChain` if `hops` is above `MAX_HOPS`, otherwise with `NoMemory` if memory is refused.
     pub fn new(alloc: A, hops: usize, config: EndConfig) -> Result<World<A>, Fault>
         ensures opening { IfOk result (λ w. w ≡ opening (chain_of (map one_to_one (replicate hops free_account)) config)) }
         ensures refused { MatchBool (nat_le hops 8) (IsOkUnless result Fault.NoMemory) (IsErrOf result Fault.BadChain) }
@@ -243,8 +243,8 @@ impl<A: Allocator + Copy> World<A> {
 
     /// A world of the client `test.a`, the server `test.b` and one hop for each account, in the order from the client.
     /// Each hop has the terms of its account towards both its neighbours, and forwards amounts unchanged. The shared
-    /// secret is 32 bytes of 0. Fails with `BadChain` where there are more than `MAX_HOPS` accounts or a limit is above
-    /// 2^63 - 1, otherwise with `NoMemory` where memory is refused.
+    /// secret is 32 bytes of 0. Fails with `BadChain` if there are more than `MAX_HOPS` accounts or a limit is above
+    /// 2^63 - 1, otherwise with `NoMemory` if memory is refused.
     pub fn with_hops(alloc: A, accounts: &[Account], config: EndConfig) -> Result<World<A>, Fault>
         ensures opening { IfOk result (λ w. w ≡ opening (chain_of (map one_to_one accounts.now) config)) }
         ensures refused { MatchBool (is_chain (chain_of (map one_to_one accounts.now) config)) (IsOkUnless result Fault.NoMemory) (IsErrOf result Fault.BadChain) }
@@ -263,8 +263,8 @@ impl<A: Allocator + Copy> World<A> {
     /// A world of the client `test.a`, the server `test.b` and one hop for each pair of an account and a rate, in the
     /// order from the client. Each hop has the terms of its account towards both its neighbours. Amounts towards the
     /// server are multiplied by the rate, amounts towards the client by its inverse. The shared secret is 32 bytes of
-    /// 0. Fails with `BadChain` where there are more than `MAX_HOPS` pairs or a limit is above 2^63 - 1, otherwise with
-    /// `NoMemory` where memory is refused.
+    /// 0. Fails with `BadChain` if there are more than `MAX_HOPS` pairs or a limit is above 2^63 - 1, otherwise with
+    /// `NoMemory` if memory is refused.
     pub fn with_rates(
         alloc: A,
         terms: &[(Account, Rate)],

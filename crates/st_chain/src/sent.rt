@@ -9,7 +9,7 @@ use st_nodes::{Given, Put, Way};
 use std::alloc::Allocator;
 
 impl<A: Allocator + Copy> World<A> {
-    /// All Prepares that were ever sent over a link in this direction, in order. None where there is no such link. Does
+    /// All Prepares that were ever sent over a link in this direction, in order. None if there is no such link. Does
     /// not allocate.
     pub fn prepares(&self, link: usize, way: Way) -> &[Put<A>]
         ensures { result.now ≡ (lane_at self.now link (way_seen way)).puts }
@@ -20,8 +20,8 @@ impl<A: Allocator + Copy> World<A> {
         }
     }
 
-    /// All answers that were ever sent back to the Prepares of a link and this direction, in order. None where there is
-    /// no such link. Does not allocate.
+    /// All answers that were ever sent back to the Prepares of a link and this direction, in order. None if there is no
+    /// such link. Does not allocate.
     pub fn answers(&self, link: usize, way: Way) -> &[Given<A>]
         ensures { result.now ≡ (lane_at self.now link (way_seen way)).given }
     {
@@ -32,7 +32,7 @@ impl<A: Allocator + Copy> World<A> {
     }
 
     /// The Prepare number `which`, from 1, of a link and a direction: the one of `Event::Arrive` and `Event::Fault`.
-    /// `None` where there is none. Does not allocate.
+    /// `None` if there is none. Does not allocate.
     pub fn prepare(&self, link: usize, way: Way, which: usize) -> Option<&Put<A>>
         ensures { MatchOption result (nth (lane_at self.now link (way_seen way)).puts which ≡ None) (λ p. nth (lane_at self.now link (way_seen way)).puts which ≡ Some p.now) }
     {
@@ -42,8 +42,8 @@ impl<A: Allocator + Copy> World<A> {
         }
     }
 
-    /// The answer number `which`, from 1, of a link and a direction: the one of `Event::AnswerArrives`. `None` where
-    /// there is none. Does not allocate.
+    /// The answer number `which`, from 1, of a link and a direction: the one of `Event::AnswerArrives`. `None` if there
+    /// is none. Does not allocate.
     pub fn answer(&self, link: usize, way: Way, which: usize) -> Option<&Given<A>>
         ensures { MatchOption result (nth (lane_at self.now link (way_seen way)).given which ≡ None) (λ g. nth (lane_at self.now link (way_seen way)).given which ≡ Some g.now) }
     {

@@ -10,7 +10,7 @@ use st_nodes::{Ledger, Node, Party, Side};
 use std::alloc::Allocator;
 
 impl<A: Allocator + Copy> Trace<A> {
-    /// Whether some call of an end or a hop found no memory. Does not allocate.
+    /// Whether some call of an end or a hop ran out of memory. Does not allocate.
     pub fn refused(&self) -> bool
         ensures { result ≡ self.now.refused }
     {
@@ -34,8 +34,8 @@ impl<A: Allocator + Copy> Trace<A> {
         }
     }
 
-    /// A hop, with the Prepares that it answered. `place` 0 is the hop next to the client. `None` where there is no
-    /// such hop. Does not allocate.
+    /// A hop, with the Prepares that it answered. `place` 0 is the hop next to the client. `None` if there is no such
+    /// hop. Does not allocate.
     pub fn hop(&self, place: usize) -> Option<&Node<A>>
         ensures { MatchOption result (slice_get self.now.nodes place ≡ None) (λ n. slice_get self.now.nodes place ≡ Some n.now) }
     {
@@ -43,7 +43,7 @@ impl<A: Allocator + Copy> Trace<A> {
     }
 
     /// What was written and read of a stream that the end `side` writes, and how its reader learned of its end. `None`
-    /// where nothing was accepted or read of it. Does not allocate.
+    /// if nothing was accepted or read of it. Does not allocate.
     pub fn ledger(&self, side: Side, stream: u8) -> Option<&Ledger<A>>
         ensures { MatchOption result (fmap.get (at self.now.ledgers (side_seen side)) stream ≡ None) (λ x. fmap.get (at self.now.ledgers (side_seen side)) stream ≡ Some x.now) }
     {

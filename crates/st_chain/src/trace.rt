@@ -23,7 +23,7 @@ use std::alloc::{AllocError, Allocator};
 use std::marker::Model;
 
 /// The result of a run: both ends and the hops, each with the Prepares that it answered, what was written and read of
-/// each stream, and whether some call found no memory.
+/// each stream, and whether some call ran out of memory.
 #[derive(Drop)]
 pub struct Trace<A: Allocator + Copy> {
     pub(crate) client: Party<A>,
@@ -49,7 +49,7 @@ impl<A: Allocator + Copy> Model for Trace<A> {
     ghost view = { λ a. record { ends = record { client = a.client; server = a.server }; nodes = a.nodes.items; ledgers = record { client = a.from_client; server = a.from_server }; refused = a.refused } };
 }
 
-/// Notes whether a call found no memory.
+/// Notes whether a call ran out of memory.
 fn note<A: Allocator + Copy>(told: Told<A>, refused: &mut bool) -> Told<A>
     ensures told { told_seen result ≡ told_seen told }
     ensures refused { refused.new ≡ (refused.old || lacks (told_seen told)) }
@@ -78,7 +78,7 @@ impl<A: Allocator + Copy> Trace<A> {
         }
     }
 
-    /// An end takes bytes to be sent.
+    /// An end accepts bytes to be sent.
     pub(crate) fn write(
         &mut self,
         side: Side,
@@ -310,7 +310,7 @@ impl<A: Allocator + Copy> Trace<A> {
         Ok(note(told, &mut self.refused))
     }
 
-    /// An outcome comes back to an end.
+    /// An outcome arrives at an end.
     pub(crate) fn back_end(
         &mut self,
         links: &mut [Link<A>],
@@ -333,7 +333,7 @@ impl<A: Allocator + Copy> Trace<A> {
         }
     }
 
-    /// An outcome of a Prepare for the server comes back to the hop before its link.
+    /// An outcome of a Prepare for the server arrives at the hop before its link.
     pub(crate) fn back_up(
         &mut self,
         links: &mut [Link<A>],
@@ -355,7 +355,7 @@ impl<A: Allocator + Copy> Trace<A> {
         Ok(told)
     }
 
-    /// An outcome of a Prepare for the client comes back to the hop after its link.
+    /// An outcome of a Prepare for the client arrives at the hop after its link.
     pub(crate) fn back_down(
         &mut self,
         links: &mut [Link<A>],

@@ -60,8 +60,8 @@ impl<A: Allocator + Copy> World<A> {
         self.trace.end(side).is_failed()
     }
 
-    /// Whether a stream is open at an end. An event by which it is written, read or closed there is refused where it is
-    /// not, and changes nothing. Does not allocate.
+    /// Whether a stream is open at an end. If it is not, an event by which it is written, read or closed there is
+    /// refused, and changes nothing. Does not allocate.
     pub fn has_stream(&self, side: Side, stream: u8) -> bool
         ensures has { result ≡ has_stream (end_at self.now (side_seen side)) stream }
         ensures reads { (limit : ℕ) → is_ok (read (end_at self.now (side_seen side)) stream limit).0 ≡ result }
@@ -69,9 +69,9 @@ impl<A: Allocator + Copy> World<A> {
         self.trace.end(side).has_stream(stream)
     }
 
-    /// Plays one event, and gives the result of its call. It is `Told::NoMemory` where the call of the end or the hop
-    /// found no memory. The end or hop is then as before, except that the limits of an end may have risen. A close, an
-    /// abort, an offer and a receive max want no memory. Fails with `NoMemory` where memory for the world's own record of
+    /// Plays one event, and gives the result of its call. It is `Told::NoMemory` if the call of the end or the hop ran
+    /// out of memory. The end or hop is then as before, except that the limits of an end may have risen. A close, an
+    /// abort, an offer and a receive max do not allocate. Fails with `NoMemory` if memory for the world's own record of
     /// the event is refused, and then nothing has happened.
     pub fn step(&mut self, event: &Event<'_>) -> Result<Told<A>, Fault>
         ensures happens { IfOk result (λ told. Happens self.old (event_seen event.now) (told_seen told) self.new) }
@@ -83,9 +83,9 @@ impl<A: Allocator + Copy> World<A> {
         Ok(told)
     }
 
-    /// Plays a list of events, and gives the result of the run. Where an event could not be recorded, it gives the
-    /// error and the result of the events before it. What holds of every run (`every_run_holds` of st_world) holds of
-    /// the world that is left.
+    /// Plays a list of events, and gives the result of the run. If an event could not be recorded, it gives the error
+    /// and the result of the events before it. What holds of every run (`every_run_holds` of st_world) holds of the
+    /// world that is left.
     pub fn play(mut self, events: &[Event<'_>]) -> Result<Trace<A>, (Fault, Trace<A>)>
         ensures run { IfOk result (λ t. LeftBy self (events_seen events.now) t) }
         ensures part { IfErr result (λ e. (n : ℕ) × (n < length events.now) × LeftBy self (events_seen (take n events.now)) e.1) }

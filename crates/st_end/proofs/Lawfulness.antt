@@ -64,7 +64,7 @@ lawful_changed e s k f is l =
 pub lawful_received : (e : EndState) (r : Receiving) → receives r ≡ receives e.receiving → IsLawful e → IsLawful (record e { receiving = r })
 lawful_received e r same l = lawful_as e e.sending r refl (same ∙ both_open e l) l
 
--- ---- what answers and told limits leave as it is
+-- ---- what answers and advertised limits do not change
 
 with_same : (s : Sending) (k : ℕ) (f : Outgoing → Outgoing) (t : Sending) → Stays t s → Stays t (changed s k f)
 with_same s k f t h = (flights_stay s k f ∙ h.0, sends_stay s k f ∙ h.1)

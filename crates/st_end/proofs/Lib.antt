@@ -9,3 +9,4 @@ pub mod Taking
 pub mod Judging
 pub mod Going
 pub mod Sealing
+pub mod Room

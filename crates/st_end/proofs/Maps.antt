@@ -1,4 +1,4 @@
--- The map that a list of entries stands for, without those of one key.
+-- The map of a list of entries, without those of one key.
 use Rattle.std.proofs.Common.{◌≡◌, ℕ, Bool, true, false, cond, not, Option, Some, None, refl, ap, ◌∙◌, sym, List, [], ◌∷◌, filter, nat_eq, arith}
 use Rattle.std.specs.Ordering.{nat_cmp, eq_by_cmp}
 use Rattle.std.specs.Cmp.{nat_cmp_total}

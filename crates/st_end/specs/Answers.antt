@@ -1,4 +1,4 @@
--- What comes back to a flight, from its bytes (RFC 0027).
+-- What an answer does to a flight, from its bytes (RFC 0027).
 use Rattle.std.specs.Prelude.{ℕ, Bool, false, List, bytes_eq, nat_eq, length, if◌then◌else◌, Result, Ok, Err}
 use Rattle.std.specs.declared.option.Option.{Option}
 use Rattle.std.specs.declared.option.Option.TheVariants.{None, Some}
@@ -23,7 +23,7 @@ use Rattle.st_end.specs.Failed.{Failed, Lost, Unreadable, Unfit, rejected_by}
 use Rattle.st_end.specs.State.{EndState}
 use Rattle.st_end.specs.Sending.{open_flight}
 
--- a Fulfill fits a flight where its digest is the condition
+-- a Fulfill fits a flight if its digest is the condition
 abbrev pub fits : Open → (fulfillment : List ℕ) → Bool
 fits flight fulfillment = bytes_eq (condition fulfillment) flight.condition
 
@@ -57,13 +57,13 @@ answered_by keys s flight p (Ok (Rejected code by message payload)) =
     raised (after_failed s p (failure_of code payload)) flight.sequence (opened keys reject_kind payload)
 answered_by keys s flight p (Err fault) = after_failed s p Plain
 
--- why it fails its flight, where it does
+-- why it fails its flight, if it does
 abbrev pub failed_by : Open → Result AnswerPacket IlpError → Option Failed
 failed_by flight (Ok (Fulfilled fulfillment payload)) = if fits flight fulfillment then None else Some Unfit
 failed_by flight (Ok (Rejected code by message payload)) = Some (rejected_by code by message)
 failed_by flight (Err fault) = Some Unreadable
 
--- the same for the bytes that came back, or where none did
+-- the same for the bytes of an answer, or if there was no answer
 abbrev pub failure : Open → (outcome : Option (List ℕ)) → Option Failed
 failure flight (Some bytes) = failed_by flight (answer_at bytes)
 failure flight None = Some Lost
@@ -72,7 +72,7 @@ abbrev pub outcome_left : EndState → Open → sender.Flight → (outcome : Opt
 outcome_left e flight p (Some bytes) = answered_by e.keys e.sending flight p (answer_at bytes)
 outcome_left e flight p None = after_failed e.sending p Plain
 
--- the end after the bytes that came back to a flight that carries p, or after a fault where none did
+-- the end after the bytes of an answer to a flight that carries p, or after a fault if there was no answer
 abbrev pub after_outcome : EndState → Open → sender.Flight → (outcome : Option (List ℕ)) → EndState
 after_outcome e flight p outcome = record e {
   sending = outcome_left e flight p outcome;
@@ -88,7 +88,7 @@ ended_with e flight (Some p) outcome = after_outcome e flight p outcome
 abbrev pub ended : EndState → Open → (outcome : Option (List ℕ)) → EndState
 ended e flight outcome = ended_with e flight (open_flight e flight) outcome
 
--- whether they paid it: a fitting Fulfill was taken
+-- whether they paid it: they are a fitting Fulfill
 abbrev pub pays_by : Open → Result AnswerPacket IlpError → Bool
 pays_by flight (Ok (Fulfilled fulfillment payload)) = fits flight fulfillment
 pays_by flight (Ok (Rejected code by message payload)) = false

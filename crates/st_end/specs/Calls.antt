@@ -26,7 +26,7 @@ wrapped_too (Some why) = Some (wrapped why)
 abbrev pub connection_refusal : EndState → Option EndError
 connection_refusal e = if e.sending.failed then Some ConnectionFailed else (if e.receiving.closed then Some Closed else None)
 
--- the connection's own rules stand between the stream's number and the rules of the sending side
+-- the connection's own rules come between the stream's number and the rules of the sending side
 abbrev pub refusal_at : EndState → Option Outgoing → (of_sender : Option OutboxError) → Option EndError
 refusal_at e None of_sender = Some NoStream
 refusal_at e (Some x) of_sender = option_or (connection_refusal e) (wrapped_too of_sender)
@@ -102,13 +102,13 @@ set_receive_max e k amount =
     if may_name e.receiving k then (Ok tt, record e { receiving = with_receive_max e.receiving k amount })
     else (Err NoStream, e)
 
--- ---- want of memory
+-- ---- out of memory
 
--- a call answered as it is defined, or, where that is no refusal, wanted memory and changed nothing
+-- a call that answered as it is defined, or, instead of a success, ran out of memory and changed nothing
 abbrev pub OrWants : {A : Type 0} → EndState → (defined got : Result A EndError × EndState) → Type 0
 OrWants e defined got = (got ≡ defined) ⊎ ((is_ok defined.0 ≡ true) × (got ≡ (Err NoMemory, e)))
 
--- ---- what is told without a change
+-- ---- what is reported without a change
 
 -- both directions of a stream are open
 abbrev pub has_stream : EndState → (stream : ℕ) → Bool

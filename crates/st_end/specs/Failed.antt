@@ -2,7 +2,7 @@
 use Rattle.std.specs.Prelude.{ℕ, List, take}
 
 pub data Failed : Type 0 where
-  Lost : Failed  -- no bytes came back
+  Lost : Failed  -- no bytes were returned
   Unreadable : Failed  -- bytes that are neither a Fulfill nor a Reject
   Unfit : Failed  -- a Fulfill whose digest is not the condition
   Rejected : (code by message : List ℕ) → Failed  -- a Reject; `by` is triggeredBy

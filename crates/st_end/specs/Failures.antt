@@ -27,7 +27,7 @@ code_of Unreadable = None
 code_of Unfit = None
 code_of (Rejected code by message) = Some code
 
--- its triggeredBy, and nothing of what is no Reject
+-- its triggeredBy, and nothing if there was no Reject
 abbrev pub by_of : Failed → List ℕ
 by_of Lost = []
 by_of Unreadable = []

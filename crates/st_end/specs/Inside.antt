@@ -1,4 +1,4 @@
--- What the code reads off an answer before it opens its data in place, what became of a packet, and a load in its Prepare.
+-- What the code reads off an answer before it opens its data in place, what became of a packet, and the Prepare of a packet.
 use Rattle.std.specs.Prelude.{◌≡◌, ◌≤◌, ℕ, ℤ, ◌+ℤ◌, List, false, drop, length, None, Some, Ok, Err}
 use Rattle.std.specs.List.{AllByRecursion}
 use Rattle.st_ilp.specs.Packets.{Fulfilled, Rejected}
@@ -27,7 +27,7 @@ use Rattle.st_end.specs.declared.receive.Judged.TheVariants as packets
 use Rattle.st_end.specs.declared.back.Back.{Back}
 use Rattle.st_end.specs.declared.back.Back.TheVariants.{Fulfill, Reject, Unreadable}
 
--- what bytes say, and from where on they are its data
+-- what bytes say, and the start of their data
 abbrev pub IsBack : List ℕ → Back → Type 0
 IsBack bytes (Fulfill fulfillment start) = (start ≤ length bytes) × (answer_at bytes ≡ Ok (Fulfilled fulfillment (drop start bytes)))
 IsBack bytes (Reject code by message start) =
@@ -48,7 +48,7 @@ IsJudged keys q p s r t u (packets.Taken bytes peer) =
     × (bytes.items ≡ answer_text (Fulfilled (fulfillment keys q.payload) (reply_payload keys fulfill_kind q p (effect r p q.amount))))
     × ((old : List ℕ) → text_or old peer ≡ new_peer old (frames_of p))
 
--- a load whose packet can be written
+-- a packet that can be written
 pub record IsSpellable (p : Load) : Type 0 where
   pub writable : AllByRecursion (λ f. is_unwritable f ≡ false) p.frames
   pub short : packet_length p.sequence p.least p.frames ≤ max_packet
@@ -63,7 +63,7 @@ prepare_to keys peer now amount payload = record {
   payload = payload;
 }
 
--- the flight of a load that these keys seal, and the bytes of its Prepare
+-- the flight of a packet that these keys seal, and the bytes of its Prepare
 pub record IsSpelled (keys : DerivedKeys) (peer iv : List ℕ) (now : ℤ) (p : Load) (flight : Open) (bytes : List ℕ) : Type 0 where
   pub payload : List ℕ
   pub spells : Spells p

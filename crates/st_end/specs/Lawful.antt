@@ -12,6 +12,6 @@ pub record IsLawful (e : EndState) : Type 0 where
   pub peer : is_address e.peer ≡ true
   -- a condition is kept of what is in flight
   pub kept : (n : ℕ) → is_some (get e.conditions n) ≡ true → is_some (flight_at e.sending.flights n) ≡ true
-  -- a stream is open for receiving exactly where it is open for sending, and each side has as many places for streams
+  -- a stream is open for receiving exactly if it is open for sending, and both sides have equally many places
   pub both : (k : ℕ) → is_open e.receiving k ≡ has_stream e k
   pub places : length e.receiving.streams ≡ length e.sending.streams

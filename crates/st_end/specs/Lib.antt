@@ -7,6 +7,7 @@ pub mod Sending
 pub mod Answers
 pub mod Receiving
 pub mod Reading
+pub mod Ready
 pub mod Totals
 pub mod Lawful
 pub mod Seen

@@ -1,5 +1,5 @@
 -- The answer to bytes that come to an end, from bytes to bytes, and the end after it. Codes are those of RFC 0027; the order
--- in which rules are looked at, and the numbers of reasons, are this profile's own.
+-- in which rules are checked, and the numbers of reasons, are this profile's own.
 use Rattle.std.specs.Prelude.{ℕ, Bool, true, false, not, ◌&&◌, List, [], ◌∷◌, bit_xor, bytes_eq, int_le, ℤ, pos, is_some, nat_eq, if◌then◌else◌, Result, Ok, Err}
 use Rattle.std.specs.List.{fold, range_with_len}
 use Rattle.std.specs.declared.option.Option.{Option}
@@ -87,7 +87,7 @@ opened_at r s k = if is_open r k && not (is_some (outgoing_at s k)) then with_ou
 unfoldable pub opened_too : Receiving → Sending → Sending
 opened_too r s = fold (opened_at r) s (range_with_len 1 64)
 
--- a frame tells the limit at which another says Blocked
+-- a frame reports the limit at which another says Blocked
 abbrev pub tells_blocked : (blocked : Known) → Known → Bool
 tells_blocked (ConnectionDataBlocked m) (ConnectionMaxData n) = true
 tells_blocked (StreamDataBlocked k m) (StreamMaxData l n) = nat_eq k l
@@ -98,7 +98,7 @@ abbrev pub marked_if : Sending → Bool → Known → Sending
 marked_if s true g = after_marked s g
 marked_if s false g = s
 
--- a Blocked frame marks its limit at the value that the reply tells, which stands after the call
+-- a Blocked frame marks its limit at the value that the reply reports, the one after the call
 abbrev pub marked : (reply : List Known) → Sending → (blocked : Known) → Sending
 marked reply s f = fold (λ t g. marked_if t (tells_blocked f g) g) s reply
 
@@ -116,8 +116,8 @@ new_peer peer (f ∷ fs) = new_peer peer fs
 abbrev pub told : EndState → Packet → EndState
 told e p = record e { sending = after_all_told e.sending (frames_of p) }
 
--- where the packet is fulfilled its streams are opened before its limits are looked at. The Blocked frames and a new address
--- count there alone
+-- if the packet is fulfilled its streams are opened before its limits are read. The Blocked frames and a new address
+-- count only then
 abbrev pub fulfilled : EndState → Packet → Receiving → EndState
 fulfilled e p r = record e {
   sending = all_marked (reply_frames r (frames_of p)) (after_all_told (opened_too r e.sending) (frames_of p)) (frames_of p);
@@ -142,7 +142,7 @@ abbrev pub payload_or_none : Result (List ℕ) KeyError → List ℕ
 payload_or_none (Ok payload) = payload
 payload_or_none (Err fault) = []
 
--- the reply repeats the request's sequence, and tells the amount that arrived (RFC 0029, section 5.2)
+-- the reply repeats the request's sequence, and reports the amount that arrived (RFC 0029, section 5.2)
 unfoldable pub reply_payload : DerivedKeys → (kind : ℕ) → PreparePacket → Packet → Receiving → List ℕ
 reply_payload keys kind q p r = payload_or_none (sealed_packet keys (reply_iv (iv_of q.payload)) kind p.sequence q.amount (reply_frames r (frames_of p)))
 
@@ -165,7 +165,7 @@ sequence_of (Unread code reason) = None
 sequence_of (Rejects p reason) = Some p.sequence
 sequence_of (Fulfills p r) = Some p.sequence
 
--- where bytes are no Prepare their answer rests on nothing in them
+-- if bytes are not a Prepare their answer depends on nothing in them
 abbrev pub no_prepare : PreparePacket
 no_prepare = record { amount = 0; expiry = pos 0; condition = []; destination = []; payload = [] }
 
@@ -181,7 +181,7 @@ pub record Received : Type 0 where
   pub bytes : List ℕ  -- of the Fulfill or Reject
   pub reason : ℕ  -- of the Reject, and 0 for a Fulfill
   pub amount : ℕ  -- of the Prepare
-  pub sequence : Option ℕ  -- of the packet, where it opened
+  pub sequence : Option ℕ  -- of the packet, if it opened
 
 abbrev pub received_as : EndState → PreparePacket → Verdict → Received × EndState
 received_as e q v = (record { bytes = answer_text (answer_for e q v); reason = reason_of v; amount = q.amount; sequence = sequence_of v }, after_verdict e v)
@@ -190,6 +190,6 @@ received_as e q v = (record { bytes = answer_text (answer_for e q v); reason = r
 abbrev pub received : EndState → (bytes : List ℕ) → (now : ℤ) → Received × EndState
 received e bytes now = received_as e (prepare_in bytes) (verdict e bytes now)
 
--- the Reject that stands ready for where memory is wanting
+-- the Reject that is ready for use when memory runs out
 unfoldable pub t00_text : (own : List ℕ) → List ℕ
 t00_text own = answer_text (Rejected reasons.t00 own [] [])

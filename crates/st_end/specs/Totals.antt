@@ -14,7 +14,7 @@ pub record Totals : Type 0 where
   pub credited : ℕ  -- the amounts of Prepares that it fulfilled
   pub paid : ℕ  -- the amounts of Prepares whose Fulfill it took
 
--- none is told past 2 ^ 64 - 1
+-- no total is reported past 2 ^ 64 - 1
 abbrev pub totals : EndState → Totals
 totals e = record {
   accepted = capped (all_accepted e.sending.streams);

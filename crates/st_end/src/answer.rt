@@ -21,7 +21,7 @@ use std::alloc::Allocator;
 /// By what code a fault, an unreadable answer and a Fulfill that does not fit count.
 const TEMPORARY: [u8; 3] = *b"T00";
 
-/// A Reject fails what went by a sequence.
+/// A Reject fails what was sent by a sequence.
 fn take_reject<A: Allocator + Copy>(
     outbox: &mut Outbox<A>,
     sequence: u64,
@@ -37,7 +37,7 @@ fn take_reject<A: Allocator + Copy>(
     }
 }
 
-/// Takes the bytes that came back to a flight, notes why they fail it, and tells whether they are a Fulfill that fits.
+/// Handles the bytes of an answer to a flight, notes why they fail it, and says whether they are a Fulfill that fits.
 fn take_answer<A: Allocator + Copy>(
     outbox: &mut Outbox<A>,
     last: &mut Option<Failed>,
@@ -80,7 +80,7 @@ fn take_answer<A: Allocator + Copy>(
 }
 
 impl<A: Allocator + Copy> EndState<A> {
-    /// Whether a flight is one of this end that was not taken yet: a Prepare with its sequence and its condition is in
+    /// Whether a flight is one of this end that has no outcome yet: a Prepare with its sequence and its condition is in
     /// flight here. Does not allocate.
     #[tactic(auto, using(crate::proofs::Lawfulness::kept_is_open))]
     pub fn is_open(&self, flight: &Flight) -> bool
@@ -90,12 +90,12 @@ impl<A: Allocator + Copy> EndState<A> {
         self.conditions.has(flight.sequence, flight.condition)
     }
 
-    /// Takes the bytes that came back for an open flight (RFC 0027), and says whether they are its Fulfill: one whose
+    /// Handles the bytes that were returned for an open flight (RFC 0027), and says whether they are its Fulfill: one whose
     /// fulfillment has the flight's condition as its SHA-256. Everything else counts as a failure of the Prepare, and
     /// what it carried can be sent again.
     ///
-    /// The answer's data are decrypted in place. Where they are a packet (RFC 0029, section 5) of this flight's
-    /// sequence, the limits in it are taken. The flight must be open here, as `is_open` says. Does not allocate.
+    /// The answer's data are decrypted in place. If they are a packet (RFC 0029, section 5) of this flight's
+    /// sequence, the limits in it are applied. The flight must be open here, as `is_open` says. Does not allocate.
     #[tactic(auto, using(crate::proofs::Lawfulness::open_found))]
     pub fn answer(&mut self, flight: Flight, bytes: &mut [u8]) -> bool
         requires { sending.is_open self.old flight ≡ true }
@@ -107,7 +107,7 @@ impl<A: Allocator + Copy> EndState<A> {
         take_answer(&mut self.outbox, &mut self.last, &self.keys, flight, bytes)
     }
 
-    /// Takes that no bytes came back for an open flight: what the Prepare carried can be sent again. The flight must be
+    /// Handles an open flight without an answer: what the Prepare carried can be sent again. The flight must be
     /// open here, as `is_open` says. Does not allocate.
     #[tactic(auto, using(crate::proofs::Lawfulness::open_found))]
     pub fn fault(&mut self, flight: Flight)

@@ -1,4 +1,4 @@
-//! The bytes that came back for a Prepare.
+//! The bytes that were returned for a Prepare.
 
 ghost use Rattle.std.specs.Prelude.{◌≡◌, ◌≤◌, ◌-◌, length};
 ghost use Rattle.st_keys.specs.Sealed.{opened};
@@ -15,7 +15,7 @@ use st_oer::Cut;
 use st_sender::Outbox;
 use std::alloc::Allocator;
 
-/// An answer, and from where on its bytes are its data.
+/// An answer, and the index in its bytes at which its data start.
 #[derive(Clone, Copy)]
 pub(crate) enum Back<'a> {
     /// A Fulfill.
@@ -66,7 +66,7 @@ pub(crate) fn read_back(bytes: &[u8]) -> Back<'_>
     }
 }
 
-/// The received and the maximum amount in the data of F08 (RFC 0027), where they are exactly two UInt64.
+/// The received and the maximum amount in the data of F08 (RFC 0027), if they are exactly two UInt64.
 pub(crate) fn amounts_in(payload: &[u8]) -> Option<(u64, u64)>
     ensures { result ≡ answers.amounts_in payload.now }
 {
@@ -83,7 +83,7 @@ pub(crate) fn amounts_in(payload: &[u8]) -> Option<(u64, u64)>
     Some((received, maximum))
 }
 
-/// Takes the limits that frames tell.
+/// Applies the limits that frames report.
 pub(crate) fn raise_all<A: Allocator + Copy>(outbox: &mut Outbox<A>, mut frames: Frames<'_>)
     ensures { outbox.new ≡ after_all_told outbox.old (map frame_of frames.entry) }
 {
@@ -92,7 +92,7 @@ pub(crate) fn raise_all<A: Allocator + Copy>(outbox: &mut Outbox<A>, mut frames:
     }
 }
 
-/// Takes the limits that an answer's data tell, where they open as a packet of this kind with this sequence.
+/// Applies the limits in an answer's data, if they open as a packet of this kind with this sequence.
 pub(crate) fn raise_from<A: Allocator + Copy>(
     outbox: &mut Outbox<A>,
     keys: &Keys,

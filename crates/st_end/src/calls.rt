@@ -4,6 +4,7 @@ ghost use Rattle.std.specs.Prelude.{◌≡◌, ◌≢◌, ◌<◌, true, OnErr, 
 ghost use Rattle.st_sender.specs.Sending.{outgoing_at};
 ghost use Rattle.st_end.specs.Calls as calls;
 ghost use Rattle.st_end.specs.Calls.{OrWants};
+ghost use Rattle.st_end.specs.Ready.{TellsRoom};
 
 use crate::end::EndState;
 use crate::error::EndError;
@@ -34,8 +35,8 @@ impl<A: Allocator + Copy> EndState<A> {
     }
 
     /// Queues bytes to be sent on a stream: all of them, or none. Fails with the first of these that applies:
-    /// `NoStream` where the stream is not open; `ConnectionFailed`; `Closed` where the peer closed the connection, or
-    /// after a close or an abort of the stream; `Full` where too many bytes would be unacknowledged; `NoMemory` where
+    /// `NoStream` if the stream is not open; `ConnectionFailed`; `Closed` if the peer closed the connection, or
+    /// after a close or an abort of the stream; `Full` if too many bytes would be unacknowledged; `NoMemory` if
     /// memory is refused. Nothing has changed then.
     #[tactic(auto)]
     pub fn write(&mut self, stream: u8, bytes: &[u8]) -> Result<(), EndError>
@@ -47,9 +48,19 @@ impl<A: Allocator + Copy> EndState<A> {
         Ok(())
     }
 
+    /// How many bytes `write` takes of a stream at most: a longer one is `Full`, and a shorter one is not refused but for
+    /// memory. Fails as `write` does with no bytes: `NoStream`, `ConnectionFailed`, `Closed`. Does not allocate.
+    #[tactic(auto, using(crate::proofs::Room::is_room, crate::proofs::Room::no_room, crate::proofs::Room::not_open))]
+    pub fn room(&self, stream: u8) -> Result<u64, EndError>
+        ensures { TellsRoom self.now stream result }
+    {
+        self.check_stream(stream)?;
+        Ok(self.outbox.room(stream)?)
+    }
+
     /// Closes a stream cleanly. Its StreamClose with code 1 (RFC 0029, section 5.3) is sent once all its bytes are
-    /// acknowledged and all its money is fulfilled. Fails with the first of these that applies: `NoStream` where the
-    /// stream is not open; `ConnectionFailed`; `Closed` where the peer closed the connection, or after a close or an
+    /// acknowledged and all its money is fulfilled. Fails with the first of these that applies: `NoStream` if the
+    /// stream is not open; `ConnectionFailed`; `Closed` if the peer closed the connection, or after a close or an
     /// abort of the stream. Nothing has changed then. Does not allocate.
     #[tactic(auto)]
     pub fn close(&mut self, stream: u8) -> Result<(), EndError>
@@ -61,8 +72,8 @@ impl<A: Allocator + Copy> EndState<A> {
     }
 
     /// Aborts a stream with a code of RFC 0029, section 5.3, other than 1. What is not acknowledged is dropped. Fails
-    /// with the first of these that applies: `NoStream` where the stream is not open; `ConnectionFailed`; `Closed`
-    /// where the peer closed the connection, or after an abort of the stream. Nothing has changed then. Does not
+    /// with the first of these that applies: `NoStream` if the stream is not open; `ConnectionFailed`; `Closed`
+    /// if the peer closed the connection, or after an abort of the stream. Nothing has changed then. Does not
     /// allocate.
     pub fn abort(&mut self, stream: u8, code: u8) -> Result<(), EndError>
         requires { code ≢ 1 }
@@ -74,8 +85,8 @@ impl<A: Allocator + Copy> EndState<A> {
     }
 
     /// Offers `amount` more units of this end's asset on a stream. Fails with the first of these that applies:
-    /// `NoStream` where the stream is not open; `ConnectionFailed`; `Closed` where the peer closed the connection, or
-    /// after a close or an abort of the stream; `AmountTooLarge` where all offers together would be 2^63 or more.
+    /// `NoStream` if the stream is not open; `ConnectionFailed`; `Closed` if the peer closed the connection, or
+    /// after a close or an abort of the stream; `AmountTooLarge` if all offers together would be 2^63 or more.
     /// Nothing has changed then. Does not allocate.
     pub fn offer(&mut self, stream: u8, amount: u64) -> Result<(), EndError>
         ensures answers { calls.offer self.old stream amount ≡ (result, self.new) }
@@ -87,7 +98,7 @@ impl<A: Allocator + Copy> EndState<A> {
 
     /// Raises a stream's receive max (RFC 0029, section 5.3) to `amount`, in units of this end's asset. It is the most
     /// that the stream may receive in all. A smaller amount than before changes nothing. For a stream that the peer has
-    /// not opened yet, it is kept until the stream opens. Fails with `NoStream` alone, where the stream is not open and
+    /// not opened yet, it is kept until the stream opens. Fails with `NoStream` alone, if the stream is not open and
     /// the peer may not open one of this number. Does not allocate.
     pub fn set_receive_max(&mut self, stream: u8, amount: u64) -> Result<(), EndError>
         ensures answers { calls.set_receive_max self.old stream amount ≡ (result, self.new) }
@@ -116,8 +127,8 @@ impl<A: Allocator + Copy> EndState<A> {
     }
 
     /// Opens the next of this end's own streams and gives its number: 1, 3, .. 63 at a client, 2, 4, .. 64 at a server
-    /// (RFC 0029, section 4.1). Fails with the first of these that applies: `NoStream` where no number is left;
-    /// `ConnectionFailed`; `Closed` where the peer closed the connection; `NoMemory` where memory is refused. Nothing
+    /// (RFC 0029, section 4.1). Fails with the first of these that applies: `NoStream` if no number is left;
+    /// `ConnectionFailed`; `Closed` if the peer closed the connection; `NoMemory` if memory is refused. Nothing
     /// has changed then.
     pub fn open_stream(&mut self) -> Result<u8, EndError>
         ensures answers { OrWants self.old (calls.open_stream self.old) (result, self.new) }

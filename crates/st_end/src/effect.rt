@@ -17,7 +17,7 @@ use st_receiver::{Intake, Plan};
 use st_sender::Outbox;
 use std::alloc::Allocator;
 
-/// A stream that is open for receiving opens for sending, where it was not open.
+/// A stream that is open for receiving opens for sending, if it was not open.
 fn open_one<A: Allocator + Copy>(outbox: &mut Outbox<A>, intake: &Intake<A>, stream: u8)
     requires { stream < 65 }
     ensures { outbox.new ≡ receiving.opened_at intake.now.state outbox.old stream }
@@ -37,7 +37,7 @@ pub(crate) fn open_too<A: Allocator + Copy>(outbox: &mut Outbox<A>, intake: &Int
     }
 }
 
-/// Whether a frame tells the limit at which another says Blocked.
+/// Whether a frame reports the limit at which another says Blocked.
 fn tells_blocked(blocked: &Frame<'_>, told: &Frame<'_>) -> bool
     ensures { result ≡ receiving.tells_blocked (seen blocked.now) (seen told.now) }
 {
@@ -58,7 +58,7 @@ fn tells_blocked(blocked: &Frame<'_>, told: &Frame<'_>) -> bool
     }
 }
 
-/// A frame marks the limit that it tells, where another says Blocked at it.
+/// A frame marks the limit that it reports, if another says Blocked at it.
 fn mark_if<A: Allocator + Copy>(outbox: &mut Outbox<A>, blocked: &Frame<'_>, told: &Frame<'_>)
     ensures { outbox.new ≡ receiving.marked_if outbox.old (receiving.tells_blocked (seen blocked.now) (seen told.now)) (seen told.now) }
 {
@@ -67,7 +67,7 @@ fn mark_if<A: Allocator + Copy>(outbox: &mut Outbox<A>, blocked: &Frame<'_>, tol
     }
 }
 
-/// A Blocked frame marks its limit at the value that the reply tells.
+/// A Blocked frame marks its limit at the value that the reply reports.
 fn mark<A: Allocator + Copy>(outbox: &mut Outbox<A>, reply: &[Frame<'_>], blocked: &Frame<'_>)
     ensures { outbox.new ≡ receiving.marked (map seen reply.now) outbox.old (seen blocked.now) }
 {
@@ -89,7 +89,7 @@ pub(crate) fn mark_all<A: Allocator + Copy>(
     }
 }
 
-/// The address that a frame tells, where it is one.
+/// The address in a frame, if it is a ConnectionNewAddress with a valid address. Otherwise the one before.
 fn address_in<'f>(frame: Frame<'f>, before: Option<&'f str>) -> Option<&'f str>
     ensures { (peer : List ℕ) → address_or peer result ≡ receiving.new_peer (address_or peer before.entry) (seen frame.entry ∷ []) }
 {
@@ -117,7 +117,7 @@ pub(crate) fn last_address<'f>(mut frames: Frames<'f>) -> Option<&'f str>
 }
 
 /// Makes a packet take effect by the plan that was made for it, whose reply has these frames. Its streams are opened before
-/// its limits are taken. Does not allocate.
+/// its limits are applied. Does not allocate.
 pub(crate) fn take_effect<A: Allocator + Copy>(
     outbox: &mut Outbox<A>,
     intake: &mut Intake<A>,

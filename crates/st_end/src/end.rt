@@ -57,7 +57,7 @@ impl<A: Allocator + Copy> Model for EndState<A> {
 
 impl<A: Allocator + Copy> EndState<A> {
     /// An end with no open stream, with these keys, its own address and its peer's. `own` and `peer` must be ILP
-    /// addresses (RFC 0015). Fails with `NoMemory` where memory is refused.
+    /// addresses (RFC 0015). Fails with `NoMemory` if memory is refused.
     pub fn new(
         alloc: A,
         role: Role,

@@ -16,13 +16,13 @@ const MAX_MESSAGE: usize = 255;
 /// In what way a Prepare failed.
 #[derive(Clone, Copy, Debug, PartialEq, Eq)]
 pub enum FailedKind {
-    /// No bytes came back.
+    /// No bytes were returned.
     Lost,
-    /// Bytes came back that are neither a Fulfill nor a Reject (RFC 0027).
+    /// The bytes of the answer are neither a Fulfill nor a Reject (RFC 0027).
     Unreadable,
-    /// A Fulfill came back whose fulfillment does not have the Prepare's condition as its SHA-256.
+    /// The answer is a Fulfill whose fulfillment does not have the Prepare's condition as its SHA-256.
     Unfit,
-    /// A Reject came back.
+    /// The answer is a Reject.
     Rejected,
 }
 
@@ -40,7 +40,7 @@ pub(crate) enum Why {
 }
 
 /// Why a Prepare failed: the kind, and of a Reject (RFC 0027) its code, its triggeredBy and the first 255 bytes of its
-/// message. It is held without allocation.
+/// message. It is kept without allocation.
 #[derive(Drop)]
 pub struct Failed {
     why: Why,
@@ -56,7 +56,7 @@ impl Model for Failed {
 }
 
 impl Failed {
-    /// No bytes came back.
+    /// No bytes were returned.
     pub(crate) fn lost() -> Failed
         ensures { result ≡ failures.Lost }
     {
@@ -105,7 +105,7 @@ impl Failed {
         }
     }
 
-    /// The code of the Reject, as `T04`. `None` where it was none.
+    /// The code of the Reject, as `T04`. `None` if there was no Reject.
     pub fn code(&self) -> Option<[u8; 3]>
         ensures { result ≡ seen.code_of self.now }
     {
@@ -115,8 +115,8 @@ impl Failed {
         }
     }
 
-    /// The triggeredBy of the Reject: the ILP address (RFC 0015) of whoever refused. Empty where the Reject does not
-    /// tell it, and where it was none. At most 1,023 bytes.
+    /// The triggeredBy of the Reject: the ILP address (RFC 0015) of whoever refused. Empty if the Reject does not
+    /// have it, and if there was no Reject. At most 1,023 bytes.
     pub fn by(&self) -> &[u8]
         ensures by { result.now ≡ seen.by_of self.now }
         ensures short { length result.now ≤ 1023 }
@@ -127,8 +127,8 @@ impl Failed {
         }
     }
 
-    /// The first 255 bytes of the Reject's message, or all where it has fewer. Its UTF-8 may be cut inside a character.
-    /// Whoever refused chose it: it may have any characters. Empty where it was no Reject.
+    /// The first 255 bytes of the Reject's message, or all if it has fewer. Its UTF-8 may be cut inside a character.
+    /// Whoever refused chose it: it may have any characters. Empty if there was no Reject.
     pub fn message(&self) -> &[u8]
         ensures message { result.now ≡ seen.message_of self.now }
         ensures short { length result.now ≤ 255 }

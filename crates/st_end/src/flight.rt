@@ -49,7 +49,7 @@ impl Flight {
         open
     }
 
-    /// Gives the flight up where no outcome will be reported: what the Prepare carried stays in flight.
+    /// Gives the flight up if no outcome will be reported: what the Prepare carried stays in flight.
     pub fn abandon(self) {
         let Flight { open: _ } = self;
     }

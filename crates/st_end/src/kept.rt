@@ -22,7 +22,7 @@ impl<const N: usize> Model for Kept<N> {
 }
 
 impl<const N: usize> Kept<N> {
-    /// The first of these bytes, as many as there is room for.
+    /// The first of these bytes, at most `N`.
     pub(crate) fn first_of(from: &[u8]) -> Kept<N>
         ensures { result ≡ take N from.now }
     {

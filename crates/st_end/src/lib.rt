@@ -1,10 +1,10 @@
-//! An end of a STREAM connection (RFC 0029), from bytes to bytes. `EndState` opens streams, takes bytes and money to be
-//! sent, and closes. `send` gives the bytes of the next Prepare and its `Flight`; `answer` and `fault` take what came
-//! back for it. `receive` gives the answer to the bytes of a Prepare, and `read` gives what arrived. There is no I/O
+//! An end of a STREAM connection (RFC 0029), from bytes to bytes. `EndState` opens streams, accepts bytes and money to
+//! send, and closes. `send` gives the bytes of the next Prepare and its `Flight`; `answer` and `fault` handle its
+//! outcome. `receive` gives the answer to the bytes of a Prepare, and `read` gives what arrived. There is no I/O
 //! and no clock here. A call that fails changes nothing, and each error has a number, `number`.
 //!
 //! `specs/State.antt` defines an end, `Calls` and `Reading` the calls, `Receiving` the answer to bytes that arrived,
-//! `Answers` the effect of bytes that came back, `Failed` why a Prepare failed, `Sending` the Prepare that is sent.
+//! `Answers` the effect of an answer's bytes, `Failed` why a Prepare failed, `Sending` the Prepare that is sent.
 //! `Lawful` says what holds of every end, and `Laws` what holds of every reply.
 #![tactic(auto)]
 

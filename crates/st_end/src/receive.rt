@@ -34,7 +34,7 @@ use st_receiver::{Decision, Intake, Plan, Reason};
 use st_sender::Outbox;
 use std::alloc::Allocator;
 
-/// A Fulfill, with the frames that it tells and the peer's new address, where it has one.
+/// A Fulfill, with the frames of its reply and the peer's new address, if it has one.
 #[derive(Drop)]
 struct Reply<'f, A: Allocator + Copy> {
     bytes: Vec<u8, A>,
@@ -81,11 +81,11 @@ fn fulfill_reply<'f, A: Allocator + Copy>(
 enum Judged<A: Allocator + Copy> {
     /// It breaks a rule, whose reason has this number.
     Rejected(u8),
-    /// It took effect: its Fulfill, and the peer's new address, where it has one.
+    /// It took effect: its Fulfill, and the peer's new address, if it has one.
     Taken(Vec<u8, A>, Option<String<A>>),
 }
 
-/// Judges a packet, and makes it take effect where it breaks no rule. Its Fulfill has this fulfillment. All memory is taken
+/// Judges a packet, and makes it take effect if it breaks no rule. Its Fulfill has this fulfillment. All memory is allocated
 /// before anything changes.
 fn judge_packet<A: Allocator + Copy>(
     alloc: A,
@@ -122,7 +122,7 @@ fn judge_packet<A: Allocator + Copy>(
     }
 }
 
-/// The peer's new address, where it has one.
+/// The peer's new address, if it has one.
 fn take_peer<A: Allocator + Copy>(peer: &mut String<A>, new: Option<String<A>>)
     ensures { string_bytes peer.new ≡ text_or (string_bytes peer.old) new }
 {
@@ -152,7 +152,7 @@ impl<A: Allocator + Copy> EndState<A> {
         })
     }
 
-    /// Rejects a packet that opened: its limits alone are taken.
+    /// Rejects a packet that opened: its limits alone are applied.
     fn reject(
         &mut self,
         prepare: &Prepare<'_>,
@@ -254,16 +254,16 @@ impl<A: Allocator + Copy> EndState<A> {
         self.receive_payload(prepare, &mut payload)
     }
 
-    /// Takes bytes that arrived at this end, at the moment `now`, and gives the Fulfill or Reject that answers them
-    /// (RFC 0027, RFC 0029). A Prepare that breaks no rule is fulfilled: its data are taken first, then its money, then
-    /// its closes. The limits in a packet that decrypts are taken even where the Prepare is rejected. Those of a stream that
-    /// the packet opens are taken where it is fulfilled.
+    /// Handles bytes that arrived at this end, at the moment `now`, and gives the Fulfill or Reject that answers them
+    /// (RFC 0027, RFC 0029). A Prepare that breaks no rule is fulfilled: its data are applied first, then its money, then
+    /// its closes. The limits in a packet that decrypts are applied even if the Prepare is rejected. Those of a stream that
+    /// the packet opens are applied if it is fulfilled.
     ///
-    /// `reason` is 0 where the Prepare was fulfilled. Otherwise it is the number of the first rule that applies. 10 to
-    /// 17: the bytes are no Prepare. 56: it has another destination. 57: it expired. 30 to 32: its payload does not
+    /// `reason` is 0 if the Prepare was fulfilled. Otherwise it is the number of the first rule that applies. 10 to
+    /// 17: the bytes are not a Prepare. 56: it has another destination. 57: it expired. 30 to 32: its payload does not
     /// decrypt to a packet. 55: its condition is not that of the payload. 60 to 66: a `Reason` of `st_receiver`.
     ///
-    /// Fails with `NoMemory` alone, where memory is refused. Nothing has changed then, and the caller may answer with
+    /// Fails with `NoMemory` alone, if memory is refused. Nothing has changed then, and the caller may answer with
     /// `t00`.
     #[tactic(auto, using(crate::proofs::Taking::received_read, crate::proofs::Taking::received_unread))]
     pub fn receive(&mut self, bytes: &[u8], now: Moment) -> Result<Received<A>, EndError>
@@ -277,7 +277,7 @@ impl<A: Allocator + Copy> EndState<A> {
         }
     }
 
-    /// The answer to bytes that are no Prepare.
+    /// The answer to bytes that are not a Prepare.
     fn unreadable(&self, reason: u8) -> Result<Received<A>, EndError>
         ensures only_memory { IsOkUnless result EndError.NoMemory }
         ensures answers { IfOk result (λ r. received_as self.now no_prepare (Unread f01 reason) ≡ (received_seen r, self.now)) }

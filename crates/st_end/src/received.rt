@@ -9,8 +9,8 @@ pub struct Received<A: Allocator + Copy> {
     pub bytes: Vec<u8, A>,
     /// The number of the reason of a Reject; 0 for a Fulfill.
     pub reason: u8,
-    /// The amount of the Prepare in units of this end's asset; 0 where the bytes are no Prepare.
+    /// The amount of the Prepare in units of this end's asset; 0 if the bytes are not a Prepare.
     pub amount: u64,
-    /// The sequence of its packet (RFC 0029, section 5.2), where its payload was decrypted.
+    /// The sequence of its packet (RFC 0029, section 5.2), if its payload was decrypted.
     pub sequence: Option<u64>,
 }

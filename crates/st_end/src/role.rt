@@ -14,7 +14,7 @@ pub enum Role {
 }
 
 impl Role {
-    /// Of its own stream numbers: 1 where they are odd.
+    /// Of its own stream numbers: 1 if they are odd.
     pub(crate) fn parity(self) -> u8
         ensures { result ≡ parity self }
     {

@@ -7,6 +7,7 @@ ghost use Rattle.st_receiver.specs.Reading.{got_count};
 ghost use Rattle.st_sender.specs.Stops.{blocked_at};
 ghost use Rattle.st_end.specs.Calls.{OrWants};
 ghost use Rattle.st_end.specs.Reading as reading;
+ghost use Rattle.st_end.specs.Ready.{is_ready};
 ghost use Rattle.st_end.specs.Seen.{read_seen, totals_seen};
 ghost use Rattle.st_end.specs.Totals as totals;
 
@@ -30,7 +31,7 @@ pub struct Totals {
     pub paid: u64,
 }
 
-/// A count as it is told.
+/// A count as it is reported.
 fn capped(count: u128) -> u64
     ensures { result ≡ limits.capped count }
 {
@@ -85,8 +86,8 @@ impl<A: Allocator + Copy> EndState<A> {
         self.outbox.packet_limit()
     }
 
-    /// The limit of the peer at which bytes or money wait, where the Prepare of this flight carries a Blocked frame
-    /// (RFC 0029, section 5.3). `None` where it carries none, and once its outcome was reported. Does not allocate.
+    /// The limit of the peer at which bytes or money wait, if the Prepare of this flight carries a Blocked frame
+    /// (RFC 0029, section 5.3). `None` if it carries none, and once its outcome was reported. Does not allocate.
     pub fn blocked_at(&self, flight: &Flight) -> Option<Blocked>
         ensures { result ≡ blocked_at self.now.sending.flights flight.now.sequence }
     {
@@ -100,10 +101,18 @@ impl<A: Allocator + Copy> EndState<A> {
         self.outbox.is_failed()
     }
 
-    /// Reads the first bytes that can be read on a stream, at most `max` of them, where `max` is at least 1. Where
+    /// Whether `read` gives anything on a stream but `Nothing`: bytes, the end, or an abort. `false` if the stream is not
+    /// open. Does not allocate.
+    pub fn is_ready(&self, stream: u8) -> bool
+        ensures { result ≡ is_ready self.now stream }
+    {
+        self.intake.is_ready(u64::from(stream))
+    }
+
+    /// Reads the first bytes that can be read on a stream, at most `max` of them; `max` must be at least 1. If
     /// there are none, it gives `End` once all bytes were read, else `Nothing`. After an abort it gives `Aborted` with
-    /// the code. No read gives more than 65,536 bytes, a stream's window. Fails with `NoStream` where the stream is not
-    /// open, and with `NoMemory` where memory is refused. Nothing has changed then.
+    /// the code. No read gives more than 65,536 bytes, a stream's window. Fails with `NoStream` if the stream is not
+    /// open, and with `NoMemory` if memory is refused. Nothing has changed then.
     pub fn read(&mut self, stream: u8, max: usize) -> Result<Got<A>, EndError>
         requires { 1 ≤ max }
         ensures answers { OrWants self.old (reading.read self.old stream max) (read_seen result, self.new) }

@@ -1,4 +1,4 @@
--- The ledgers that stand in a list by number, as a map.
+-- Ledgers in a list, each at the place of its number, as a map.
 use Rattle.std.proofs.Common.{◌≡◌, ◌≢◌, ℕ, zero, suc, ◌+◌, ◌<◌, List, [], ◌∷◌, length, set, get_or, refl, sym, ap, subst, ◌∙◌, arith, Option, None, Some, replicate}
 use Rattle.std.specs.Ordering.{nat_cmp}
 use Rattle.std.specs.Cmp.{nat_cmp_total}
@@ -77,7 +77,7 @@ none_from (suc n) k = none_from n (k + 1)
 pub no_ledger : (os : List (Option Ledger)) (n : ℕ) → os ≡ replicate n None → all_from 0 os ≡ fmap.empty
 no_ledger os n e = ap (all_from 0) e ∙ none_from n 0
 
--- a place that is set to what stands there
+-- a place that is set to what it has
 pub set_same : {X : Type 0} (xs : List X) (k : ℕ) (d x : X) → x ≡ get_or xs k d → set xs k x ≡ xs
 set_same [] k d x e = refl
 set_same (y ∷ ys) zero d x e = ap (λ z. z ∷ ys) e

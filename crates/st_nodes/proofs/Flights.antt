@@ -1,4 +1,4 @@
--- The flights of an end that are not spent, beside the conditions that it keeps.
+-- The flights of an end that are not spent, and the conditions that it keeps.
 use Rattle.std.proofs.Common.{◌≡◌, ◌≢◌, ℕ, zero, suc, ◌+◌, ◌<◌, ◌≤◌, Bool, true, false, List, [], ◌∷◌, ◌++◌, length, get_or, slice_get, refl, sym, ap, subst, ◌∙◌, arith, ℤ, Option, None, Some, inl, inr, ◌⊎◌, is_some, bytes_eq, nat_eq, ◌&&◌}
 use Rattle.std.specs.List.{remove}
 use Rattle.std.specs.Ordering.{nat_cmp}
@@ -76,7 +76,7 @@ stays_at [] x i w e = absurd (cc)
 stays_at (y ∷ ys) x zero w e = e
 stays_at (y ∷ ys) x (suc i) w e = stays_at ys x i w e
 
--- another one stays where one is taken out
+-- removing one leaves the others
 left_at : (xs : List Open) (i j : ℕ) (w : Open) → i ≢ j → slice_get xs j ≡ Some w → Stands (remove xs i) w
 left_at [] i j w n e = absurd (cc)
 left_at (x ∷ xs) zero zero w n e = absurd (n refl)

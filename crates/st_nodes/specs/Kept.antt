@@ -1,4 +1,4 @@
--- What is kept beside its owner: values that are to be spent once, and the ledgers of streams by number.
+-- What is kept with its owner: values that are to be spent once, and the ledgers of streams by number.
 use Rattle.std.specs.Prelude.{◌≡◌, ℕ, ◌+◌, List, [], ◌∷◌, nat_eq, slice_get}
 use Rattle.std.specs.List.{remove}
 use Rattle.std.specs.declared.option.Option.{Option}
@@ -11,15 +11,15 @@ use Rattle.st_hop.specs.Tickets.{ticket_at}
 use Rattle.st_end.specs.declared.flight.Open as flights
 use Rattle.st_world.specs.Ledgers.{Ledger}
 
--- x stands in the list
+-- x is in the list
 abbrev pub Stands : {A : Type 0} → List A → A → Type 0
 Stands xs x = (i : ℕ) × (slice_get xs i ≡ Some x)
 
--- the flight of each condition that an end keeps stands there
+-- the flight of each condition that an end keeps is in the list
 abbrev pub AreKept : fmap.FinMap nat_cmp (List ℕ) → List flights.Open → Type 0
 AreKept conditions kept = (n : ℕ) (condition : List ℕ) → fmap.get conditions n ≡ Some condition → Stands kept (record { sequence = n; condition = condition })
 
--- x was taken out of xs
+-- x was removed from xs
 abbrev pub IsTaken : {A : Type 0} → (xs : List A) → A → (ys : List A) → Type 0
 IsTaken xs x ys = (i : ℕ) × (slice_get xs i ≡ Some x) × (ys ≡ remove xs i)
 

@@ -141,8 +141,8 @@ fn read_slot<A: Allocator + Copy>(
 }
 
 /// Calls `EndState::write` at an end. `ledgers` are those of the streams that this end writes. The answer is in
-/// `Told::Call`, or `Told::NoMemory` where the call found no memory. Fails where memory for the record is refused, and
-/// then nothing has changed.
+/// `Told::Call`, or `Told::NoMemory` if the call ran out of memory. Fails if memory for the record is refused, and then
+/// nothing has changed.
 pub fn write_at<A: Allocator + Copy>(
     party: &mut Party<A>,
     ledgers: &mut Ledgers<A>,
@@ -204,8 +204,8 @@ pub fn offer_at<A: Allocator + Copy>(
 }
 
 /// Calls `EndState::read` at an end, of at most `max` bytes. `ledgers` are those of the streams that its peer writes.
-/// The result is in `Told::Gave`, or `Told::NoMemory` where the call found no memory. Fails where memory for the record
-/// is refused, and then nothing has changed. That is room for the lesser of `max` and 65,536 bytes: no read gives more.
+/// The result is in `Told::Gave`, or `Told::NoMemory` if the call ran out of memory. Fails if memory for the record is
+/// refused, and then nothing has changed. That is room for the lesser of `max` and 65,536 bytes: no read gives more.
 pub fn read_at<A: Allocator + Copy>(
     party: &mut Party<A>,
     ledgers: &mut Ledgers<A>,
@@ -222,8 +222,7 @@ pub fn read_at<A: Allocator + Copy>(
     Ok(told)
 }
 
-/// Calls `EndState::open_stream` at an end. The result is in `Told::Opened`, or `Told::NoMemory` where the call found
-/// no memory.
+/// Calls `EndState::open_stream` at an end. The result is in `Told::Opened`, or is `Told::NoMemory` if memory ran out.
 pub fn open_at<A: Allocator + Copy>(party: &mut Party<A>) -> Told<A>
     ensures { OpenMet (calls.open_stream party.old.state) (told_seen result) party.old party.new }
 {

@@ -37,7 +37,7 @@ impl Model for HopEntry {
 pub struct EndEntry {
     /// Its amount in units of the end's asset.
     pub amount: u64,
-    /// The sequence of its packet (RFC 0029, section 5.2), where its payload was decrypted.
+    /// The sequence of its packet (RFC 0029, section 5.2), if its payload was decrypted.
     pub sequence: Option<u64>,
     /// Whether it was fulfilled.
     pub fulfilled: bool,
@@ -53,7 +53,7 @@ impl Model for EndEntry {
     ghost inverse = { λ e. record { amount = e.amount; sequence = e.sequence; fulfilled = e.fulfilled } };
 }
 
-/// The amount of a Prepare's bytes: 0 where they are none.
+/// The amount of a Prepare's bytes: 0 if they are not a valid Prepare.
 pub(crate) fn amount_in(bytes: &[u8]) -> u64
     ensures { result ≡ (prepare_in bytes.now).amount }
 {

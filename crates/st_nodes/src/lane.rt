@@ -187,7 +187,7 @@ impl<A: Allocator + Copy> Lane<A> {
         self.given.as_slice()
     }
 
-    /// The Prepare of this number, from 1. `None` where there is none.
+    /// The Prepare of this number, from 1. `None` if there is none.
     pub fn prepare(&self, which: usize) -> Option<&Put<A>>
         ensures { MatchOption result (nth self.now.puts which ≡ None) (λ p. nth self.now.puts which ≡ Some p.now) }
     {
@@ -195,7 +195,7 @@ impl<A: Allocator + Copy> Lane<A> {
         self.puts.get(place)
     }
 
-    /// The answer of this number, from 1. `None` where there is none.
+    /// The answer of this number, from 1. `None` if there is none.
     pub fn answer(&self, which: usize) -> Option<&Given<A>>
         ensures { MatchOption result (nth self.now.given which ≡ None) (λ g. nth self.now.given which ≡ Some g.now) }
     {
@@ -247,8 +247,8 @@ impl<A: Allocator + Copy> Link<A> {
     }
 }
 
-/// A copy of the Prepare number `which`, from 1, of a link and a direction. `None` where there is none. Fails where
-/// memory is refused.
+/// A copy of the Prepare number `which`, from 1, of a link and a direction. `None` if there is none. Fails if memory
+/// is refused.
 pub fn copy_put<A: Allocator + Copy>(
     alloc: A,
     links: &[Link<A>],
@@ -272,8 +272,8 @@ pub fn copy_put<A: Allocator + Copy>(
     }))
 }
 
-/// A copy of the answer number `which`, from 1, of a link and a direction. `None` where there is none. Fails where
-/// memory is refused.
+/// A copy of the answer number `which`, from 1, of a link and a direction. `None` if there is none. Fails if memory
+/// is refused.
 pub fn copy_given<A: Allocator + Copy>(
     alloc: A,
     links: &[Link<A>],
@@ -296,7 +296,7 @@ pub fn copy_given<A: Allocator + Copy>(
     }))
 }
 
-/// Notes that the j-th answer, from 1, was booked as a Fulfill, where it was.
+/// Notes that the j-th answer, from 1, was booked as a Fulfill, if it was.
 pub(crate) fn mark_taken<A: Allocator + Copy>(
     given: &mut Vec<Given<A>, A>,
     which: usize,

@@ -134,7 +134,7 @@ impl<A: Allocator + Copy> Model for Ledgers<A> {
     ghost invariant = { λ a. length a.slots.items ≡ 256 };
 }
 
-/// So many places of ledgers that are not there.
+/// Places for ledgers, all empty.
 fn no_ledgers<A: Allocator + Copy>(alloc: A, places: usize) -> Result<Vec<Slot<A>, A>, AllocError>
     ensures { IfOk result (λ v. v.items ≡ replicate places None) }
 {
@@ -149,7 +149,7 @@ fn no_ledgers<A: Allocator + Copy>(alloc: A, places: usize) -> Result<Vec<Slot<A
 }
 
 impl<A: Allocator + Copy> Ledgers<A> {
-    /// The ledgers of streams on which nothing was written or read. Fails where memory is refused.
+    /// The ledgers of streams on which nothing was written or read. Fails if memory is refused.
     pub fn new(alloc: A) -> Result<Ledgers<A>, AllocError>
         ensures { IfOk result (λ l. l ≡ fmap.empty) }
     {
@@ -158,7 +158,7 @@ impl<A: Allocator + Copy> Ledgers<A> {
         })
     }
 
-    /// The ledger of a stream. `None` where nothing was accepted or read of it.
+    /// The ledger of a stream. `None` if nothing was accepted or read of it.
     pub fn get(&self, stream: u8) -> Option<&Ledger<A>>
         ensures { MatchOption result (fmap.get self.now stream ≡ None) (λ x. fmap.get self.now stream ≡ Some x.now) }
     {

@@ -3,8 +3,8 @@
 //! sent over it. `Ledgers` have what was written and read of each stream. Each function is the effect of one event on
 //! one of these: the call of the end or of the hop, and its record.
 //!
-//! `specs/Parts.antt` defines the effects. All memory by which a record may grow is taken before the call, so that
-//! nothing has happened where memory is refused.
+//! `specs/Parts.antt` defines the effects. All memory by which a record may grow is reserved before the call, so that
+//! nothing has happened if memory is refused.
 #![tactic(auto)]
 
 mod calls;

@@ -19,7 +19,7 @@ use std::alloc::{AllocError, Allocator};
 use std::hash::{BuildHasherDefault, FoldHasher};
 use std::marker::Model;
 
-/// A ticket that waits for its answer. Where its owner ends it is abandoned.
+/// A ticket that waits for its answer. If its owner ends, it is abandoned.
 pub(crate) struct KeptTicket {
     ticket: Ticket,
 }
@@ -74,7 +74,7 @@ fn take_ticket<A: Allocator + Copy>(kept: &mut Tickets<A>, number: u64) -> Optio
     Some(kept.swap_remove(&number)?.spend())
 }
 
-/// A hop (RFC 0027), its open tickets, and the Prepares that it answered. A ticket stands for a Prepare that was
+/// A hop (RFC 0027), its open tickets, and the Prepares that it answered. A ticket represents a Prepare that was
 /// forwarded and has no outcome yet.
 #[derive(Drop)]
 pub struct Node<A: Allocator + Copy> {
@@ -101,8 +101,8 @@ impl<A: Allocator + Copy> Model for Node<A> {
 
 impl<A: Allocator + Copy> Node<A> {
     /// A hop at the address `own`, with an account to each of its two neighbours. Both have the terms of `account`, and
-    /// nothing is owed. Fails with `BadTable` where no hop can be made of the table, and with `NoMemory` where memory
-    /// is refused.
+    /// nothing is owed. Fails with `BadTable` if no hop can be made of the table, and with `NoMemory` if memory is
+    /// refused.
     pub fn new(
         alloc: A,
         own: &str,
@@ -121,7 +121,7 @@ impl<A: Allocator + Copy> Node<A> {
         })
     }
 
-    /// What an account owes the hop, in units of that account's asset. Fails with `NoAccount` where there is no such
+    /// What an account owes the hop, in units of that account's asset. Fails with `NoAccount` if there is no such
     /// account. Does not allocate.
     pub fn claims(&self, account: usize) -> Result<u64, HopError>
         ensures { result ≡ (if nat_lt account (length self.now.state.accounts) then Ok (slice_index self.now.state.claims account) else Err HopError.NoAccount) }
@@ -129,7 +129,7 @@ impl<A: Allocator + Copy> Node<A> {
         self.state.claims(account)
     }
 
-    /// What the hop owes an account, in units of that account's asset. Fails with `NoAccount` where there is no such
+    /// What the hop owes an account, in units of that account's asset. Fails with `NoAccount` if there is no such
     /// account. Does not allocate.
     pub fn dues(&self, account: usize) -> Result<u64, HopError>
         ensures { result ≡ (if nat_lt account (length self.now.state.accounts) then Ok (slice_index self.now.state.dues account) else Err HopError.NoAccount) }
@@ -145,7 +145,7 @@ impl<A: Allocator + Copy> Node<A> {
     }
 
     /// The hop crashes, and is started again with its books: what is owed stays owed, and each ticket that it gave out and that
-    /// is not spent is gone. No memory.
+    /// is not spent is gone. Does not allocate.
     pub fn crash(&mut self)
         ensures { HopCrashed self.old self.new }
     {
@@ -155,8 +155,8 @@ impl<A: Allocator + Copy> Node<A> {
 }
 
 /// A Prepare arrives at a hop, at the moment `now`. The hop forwards it on the lane `next`, or answers it on the lane
-/// `back`, from which it arrived as the Prepare number `which`. Where the call finds no memory, the answer is a Reject
-/// T00 and the result `Told::NoMemory`. Fails where memory for the record is refused, and then nothing has changed.
+/// `back`, from which it arrived as the Prepare number `which`. If the call runs out of memory, the answer is a Reject
+/// T00 and the result `Told::NoMemory`. Fails if memory for the record is refused, and then nothing has changed.
 pub fn arrive_at<A: Allocator + Copy>(
     node: &mut Node<A>,
     next: &mut Lane<A>,
@@ -212,9 +212,9 @@ pub fn arrive_at<A: Allocator + Copy>(
     }
 }
 
-/// The outcome of a Prepare that a hop sent on the lane `from`. Where its ticket is open, it is settled, and the answer
-/// is sent on the lane `back`. Where the outcome is the answer number `which` of `from` and the hop booked it, that is
-/// noted. Fails where memory for the record is refused, and then nothing has changed.
+/// The outcome of a Prepare that a hop sent on the lane `from`. If its ticket is open, it is settled, and the answer is
+/// sent on the lane `back`. If the outcome is the answer number `which` of `from` and the hop booked it, that is noted.
+/// Fails if memory for the record is refused, and then nothing has changed.
 pub fn settle_at<A: Allocator + Copy>(
     node: &mut Node<A>,
     from: &mut Lane<A>,

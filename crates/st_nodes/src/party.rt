@@ -27,7 +27,7 @@ use st_sender::EndConfig;
 use std::alloc::{AllocError, Allocator};
 use std::marker::Model;
 
-/// A flight that waits for its answer. Where its owner ends it is abandoned.
+/// A flight that waits for its answer. If its owner ends, it is abandoned.
 pub(crate) struct KeptFlight {
     flight: Flight,
 }
@@ -76,7 +76,7 @@ impl KeptFlight {
     }
 }
 
-/// Where a flight stands.
+/// The index of a flight.
 fn place_of(kept: &[KeptFlight], wanted: Open) -> Option<usize>
     ensures found { IfSome result (λ i. slice_get kept.now i ≡ Some wanted) }
     ensures absent { IsNone result → (i : ℕ) → slice_get kept.now i ≢ Some wanted }
@@ -102,7 +102,7 @@ fn is_open_at<A: Allocator + Copy>(
     kept[place].is_open(state)
 }
 
-/// Where an open flight stands.
+/// The index of an open flight.
 fn open_place<A: Allocator + Copy>(
     state: &EndState<A>,
     kept: &[KeptFlight],
@@ -128,7 +128,7 @@ fn take_flight<A: Allocator>(kept: &mut Vec<KeptFlight, A>, place: usize, wanted
     kept.remove(place).spend()
 }
 
-/// An end (RFC 0029), its open flights, and the Prepares that it answered. A flight stands for a Prepare that was sent
+/// An end (RFC 0029), its open flights, and the Prepares that it answered. A flight represents a Prepare that was sent
 /// and has no outcome yet.
 #[derive(Drop)]
 pub struct Party<A: Allocator + Copy> {
@@ -154,8 +154,8 @@ impl<A: Allocator + Copy> Model for Party<A> {
 }
 
 impl<A: Allocator + Copy> Party<A> {
-    /// An end that has done nothing yet. `own` and `peer` must be ILP addresses (RFC 0015). Fails with `NoMemory`
-    /// alone, where memory is refused.
+    /// An end that has done nothing yet. `own` and `peer` must be ILP addresses (RFC 0015). Its one error is
+    /// `NoMemory`, if memory is refused.
     pub fn new(
         alloc: A,
         role: Role,
@@ -210,8 +210,8 @@ impl<A: Allocator + Copy> Party<A> {
 }
 
 /// Calls `EndState::send` at an end, under this IV and at the moment `now`. Its Prepare is recorded on the lane, and
-/// the result is `Told::Sent`. It is `Told::Nothing` where there is none to send, and `Told::NoMemory` where the call
-/// found no memory. Fails where memory for the record is refused, and then nothing has changed.
+/// the result is `Told::Sent`. It is `Told::Nothing` if there is none to send, and `Told::NoMemory` if the call ran out
+/// of memory. Fails if memory for the record is refused, and then nothing has changed.
 pub fn send_from<A: Allocator + Copy>(
     party: &mut Party<A>,
     lane: &mut Lane<A>,
@@ -237,8 +237,8 @@ pub fn send_from<A: Allocator + Copy>(
 }
 
 /// A Prepare arrives at an end, at the moment `now`: its answer is sent back on the lane, on which it is the Prepare
-/// number `which`, and it is recorded. Where the call finds no memory, the answer is a Reject T00 and the result
-/// `Told::NoMemory`. Fails where memory for the record is refused, and then nothing has changed.
+/// number `which`, and it is recorded. If the call runs out of memory, the answer is a Reject T00 and the result
+/// `Told::NoMemory`. Fails if memory for the record is refused, and then nothing has changed.
 pub fn arrive_at_end<A: Allocator + Copy>(
     party: &mut Party<A>,
     lane: &mut Lane<A>,
@@ -281,9 +281,9 @@ pub fn arrive_at_end<A: Allocator + Copy>(
     }
 }
 
-/// The outcome of a Prepare that an end sent on the lane. Where its flight is open, the outcome is taken, and the
-/// result is `Told::Took`. Where it is the answer number `which` of the lane and was taken as the Fulfill, that is
-/// noted. Does not allocate.
+/// The outcome of a Prepare that an end sent on the lane. If its flight is open, the outcome is applied, and the result
+/// is `Told::Took`. If it is the answer number `which` of the lane and was booked as the Fulfill, that is noted. Does
+/// not allocate.
 pub fn settle_at_end<A: Allocator + Copy>(
     party: &mut Party<A>,
     lane: &mut Lane<A>,

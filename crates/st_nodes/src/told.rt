@@ -27,13 +27,13 @@ pub enum Told<A: Allocator + Copy> {
         reason: u8,
         /// The amount of the Prepare, in units of the end's asset.
         amount: u64,
-        /// The sequence of its packet (RFC 0029, section 5.2), where its payload was decrypted.
+        /// The sequence of its packet (RFC 0029, section 5.2), if its payload was decrypted.
         sequence: Option<u64>,
     },
     /// A hop sent an answer back.
     Replied,
     /// A hop forwarded the Prepare over the next link.
     Went,
-    /// The call found no memory.
+    /// The call ran out of memory.
     NoMemory,
 }

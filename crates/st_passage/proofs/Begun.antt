@@ -1,4 +1,4 @@
--- How many streams are open once a client opened so many, and what is left on them.
+-- How many streams are open once a client opened `count` streams, and what is left on them.
 use Rattle.std.proofs.Common.{◌≡◌, ℕ, zero, suc, ◌+◌, ◌-◌, ◌*◌, ◌<◌, ◌≤◌, Bool, true, false, cond, List, [], length, map, sum, is_some, refl, sym, ap, subst, ◌∙◌, arith, Option, None, Some, Ok, inl, inr}
 use Rattle.std.specs.List.{range_with_len}
 use Rattle.std.proofs.lemmas.Bool.{cases_lt}
@@ -47,7 +47,7 @@ opens_all keys own peer config input money (suc j) few modest modest_money =
     subst (OpenTo (suc j)) (sym (begin_last input money j (new_end roles.Client keys own peer config)))
     (subst (λ n. OpenTo n (begun input money (open_stream e))) (let same : j + 1 ≡ suc j = omega arith in same) next)
 
--- ---- what is left, of inputs and amounts that stand in lists
+-- ---- what is left, of inputs and amounts in lists
 
 close_most : (b : Bool) → cond b 0 1 ≤ 1
 close_most true = omega arith

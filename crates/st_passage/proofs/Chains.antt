@@ -1,4 +1,4 @@
--- A chain of calm hops: to both ends it is as if nothing stood between them.
+-- A chain of calm hops: to both ends it is as if nothing were between them.
 use Rattle.std.proofs.Common.{◌≡◌, ℕ, ◌+◌, true, false, List, [], ◌∷◌, length, refl, sym, ap, subst, ◌∙◌, arith, ℤ, Ok}
 use Rattle.std.specs.Prelude.{int_le, pos, ◌-ℤ◌, ◌≤ℤ◌}
 use Rattle.std.specs.List.{AllByRecursion}
@@ -29,7 +29,7 @@ still_time hops expiry now late = let l = not_le_is (less_time hops expiry) now 
 abbrev pub Gives : EndState → PreparePacket → (now : ℤ) → Received × EndState → Type 0
 Gives f p now r = (expiry : ℤ) → is_expiry expiry ≡ true → int_le expiry now ≡ false → received f (prepare_text (record p { expiry = expiry })) now ≡ r
 
--- what went over hops and back
+-- what crossed the hops and returned over them
 pub record Comes (destination : List ℕ) (sent most left : ℕ) (hops : List Hop) (r : Received × EndState) (c : Crossed) : Type 0 where
   pub answer : c.answer ≡ r.0.bytes
   pub end : c.end ≡ r.1

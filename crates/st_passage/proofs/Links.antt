@@ -1,4 +1,4 @@
--- What the events of a Prepare leave of a world where it is lost on its way, or its answer is: whoever waits meets a fault.
+-- What the events of a Prepare leave of a world if it is lost on its way, or its answer is: whoever waits meets a fault.
 use Rattle.std.proofs.Common.{◌≡◌, ◌≢◌, ℕ, zero, suc, ◌+◌, ◌-◌, ◌<◌, ◌≤◌, Bool, true, false, cond, List, [], ◌∷◌, ◌++◌, length, length-set, map, drop, set, slice_get, min, refl, sym, ap, subst, ◌∙◌, arith, ℤ, None, Some, inl, inr, nat_le, nat_lt}
 use Rattle.std.proofs.lemmas.Bool.{cases_eq}
 use Rattle.std.proofs.lemmas.Bool.Decides.{nat_tests}
@@ -23,7 +23,7 @@ use Rattle.st_passage.specs.Worlds.{AllForward, HasGone, IsSettled, Met, state_o
 use Rattle.st_passage.specs.LostWorlds.{AnswerLost, PrepareLost, following, gives_on, going_by, losing_by, puts_on, stranding_by}
 use Rattle.st_passage.proofs.Worlds.{IsBack, IsOn, WentOn, at_hop, at_server, drop_at, drop_set, ends_faulted, get_set, get_set_apart, last_at, length_push, met_both, met_one, over_links, sent_on_link, sent_put}
 
--- all but the outcome on a link, where so many Prepares and answers went over each link after it
+-- all but the outcome on a link, if p and g count the Prepares and answers of each link after it
 pub record IsGone (i : ℕ) (w v : World) (p g : ℕ → ℕ) (b : Beyond) : Type 0 where
   pub client : end_at v Client ≡ end_at w Client
   pub ledgers : v.ledgers ≡ w.ledgers

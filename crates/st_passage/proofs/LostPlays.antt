@@ -225,7 +225,7 @@ behind_all [] i l = refl
 behind_all (x ∷ xs) zero l = absurd (omega (arith, l))
 behind_all (x ∷ xs) (suc i) l = behind_all xs i (omega (arith, l))
 
--- nothing is paid where there is no money
+-- without money nothing is paid
 none_paid : (few limit money most : ℕ) → money ≡ 0 → money + few * min limit money ≤ most
 none_paid few limit money most e =
     let none : min limit money ≡ 0 = omega (arith, e) in
@@ -288,7 +288,7 @@ module _ (c : Chain) (xs : List (List ℕ)) (ms rs : List ℕ) (lawful : are_law
     all = (let m : answers * c.config.packet_limit ≤ lost_answers fates * c.config.packet_limit = mul-le-mul_right c.config.packet_limit l in let all = may.all in omega (arith, m, all, money_is));
   }
 
-  -- a stream opens where fewer than these are open
+  -- a stream opens if fewer than these are open
   pub lossy_stream_opens : (opened : ℕ) (allowed begun : World) → Met (opening c) (allows (money_of rs) 0 65) allowed → BeginsEach (input_of xs) (money_of ms) opened allowed begun → opened < length xs → is_ok (open_stream (end_at begun Client)).0 ≡ true
   lossy_stream_opens opened allowed begun allows_each begins_each fewer =
       let b = lossy_begun c (input_of xs) (money_of ms) (money_of rs) opened (lost_answers fates) allowed begun may.may_send modest_input modest_most (may_lose (lost_answers fates) (omega arith)) allows_each begins_each in

@@ -1,4 +1,4 @@
--- One Send of a lossy run: what stands before it stands after it.
+-- One Send of a lossy run keeps the invariant.
 use Rattle.std.proofs.Common.{◌≡◌, ℕ, zero, suc, ◌+◌, ◌-◌, ◌<◌, ◌≤◌, false, List, [], ◌∷◌, length, max, refl, sym, ap, subst, ◌∙◌, arith, Option, None, Some}
 use Rattle.std.specs.List.{AllByRecursion}
 use Rattle.st_hop.specs.Hop.{Hop}
@@ -24,7 +24,7 @@ use Rattle.st_passage.proofs.LostRuns.{AreRoomy, crossing_trip, fate_spare}
 use Rattle.st_passage.proofs.LostCrosses.{fated_cross}
 use Rattle.st_passage.proofs.Whole.{AreWhole}
 
--- what stands between two Sends, where the rest of them have these fates
+-- the invariant between two Sends, if the rest of them have these fates
 pub record Stays (input : ℕ → List ℕ) (c : Tally) (fates : List Fate) (in_row : ℕ) (e : EndState) (hops : List Hop) (f : EndState) : Type 0 where
   pub quiet : IsQuiet (lengths input) e.sending
   pub ahead : IsAhead (lengths input) c e.sending f.receiving
@@ -75,7 +75,7 @@ try_credits AnswerLost n s r t u quiet x =
     by : (now before amount left had : ℕ) → now ≡ before + amount → left ≡ had → now + left ≡ before + had + (now - before)
     by now before amount left had a b = omega arith
 
--- ---- a Send leaves all that stood
+-- ---- a Send keeps the invariant
 
 pub record StaysOn (input : ℕ → List ℕ) (c : Tally) (fate : Fate) (fates : List Fate) (e f client : EndState) (others : List Hop) (server : EndState) : Type 0 where
   pub tally : Tally

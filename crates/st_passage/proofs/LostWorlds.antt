@@ -134,7 +134,7 @@ pub record IsFated (chain : Chain) (input : ℕ → List ℕ) (limit all : ℕ) 
   pub is_reached : IsReachedBy chain v
   pub copies : Copies input w → Copies input v
 
--- what a Send of a lossy run has beside its course
+-- what a Send of a lossy run has in addition to its course
 record Sends (input : ℕ → List ℕ) (e : EndState) (hops : List Hop) (iv : List ℕ) (now : ℤ) : Type 0 where
   long : length iv ≡ 12
   moment : pos 0 ≤ℤ now
@@ -249,7 +249,7 @@ round_fates chain input limit all course count fates in_row e hops f w v room sa
     let passes : Met x.sent (following (course count) p g (length hops) x.now) x.passed = subst (λ k. Met x.sent (following (course count) p g k x.now) x.passed) same x.passes in
     subst (λ k. IsFated chain input limit k (course count) e hops f p g w v) (sym same) (fated_by chain input limit (course count) fates in_row e hops f p g w x.sent x.passed v x.iv x.now room s sends rest x.goes passes x.reads_each read_reached)
 
--- ---- so many of them
+-- ---- m rounds
 
 pub record AreFated (chain : Chain) (input : ℕ → List ℕ) (limit all : ℕ) (course : ℕ → Course) (count m : ℕ) (e : EndState) (hops : List Hop) (f : EndState) (w v : World) (run : FatedRounds limit all course count m w v) : Type 0 where
   pub client : EndState
@@ -318,7 +318,7 @@ rounds_fates chain input limit all course (suc m) count in_row c e hops f w v ro
 
 -- ---- from the opening on
 
--- a client that opened so many streams, and a server that lets their money come and what lost answers may carry
+-- a client that opened `streams` streams, and a server that accepts their money and what lost answers may carry
 pub record LossyBegun (c : Chain) (input : ℕ → List ℕ) (money : ℕ → ℕ) (streams answers : ℕ) (e : EndState) (hops : List Hop) (f : EndState) (begun : World) : Type 0 where
   pub opens : Opens (lengths input) money c.config answers e f
   pub begins : IsBegun 1 (lengths input) money c.config e

@@ -1,4 +1,4 @@
--- Each opening opens the client's next stream, so that so many are open.
+-- Each opening opens the client's next stream, so that `count` openings open `count` streams.
 use Rattle.std.proofs.Common.{◌≡◌, ℕ, zero, suc, ◌+◌, ◌-◌, ◌*◌, ◌<◌, ◌≤◌, Bool, true, false, List, length, length-set, map, is_some, refl, sym, ap, subst, ◌∙◌, arith, Option, None, Some, Result, Ok, inl, inr, nat_eq}
 use Rattle.std.specs.List.{range_with_len}
 use Rattle.std.proofs.lemmas.Bool.{cases_eq, cases_lt}

@@ -1,4 +1,4 @@
--- A played run is a quiet run, so it is as short, and delivers as much.
+-- A played run is a lossless run, so it has the same bound, and delivers the same.
 use Rattle.std.proofs.Common.{◌≡◌, ℕ, ◌+◌, ◌-◌, ◌*◌, ◌/◌, ◌^◌, ◌<◌, ◌≤◌, true, ◌&&◌, List, [], length, is_ok, max, sum, refl, sym, ap, subst, ◌∙◌, arith, nat_eq, nat_le}
 use Rattle.std.specs.List.{AllByRecursion}
 use Rattle.std.proofs.lemmas.Bool.{and_parts}
@@ -99,7 +99,7 @@ module _ (c : Chain) (xs : List (List ℕ)) (ms : List ℕ) (lawful : are_lawful
       below : (a b d : ℕ) → a ≤ b → b < d → a < d
       below a b d l m = omega arith
 
-  -- a stream opens where fewer than these are open
+  -- a stream opens if fewer than these are open
   pub played_opens : (opened : ℕ) (allowed begun : World) → Met (opening c) (allows (money_of ms) 0 65) allowed → BeginsEach (input_of xs) (money_of ms) opened allowed begun → opened < length xs → is_ok (open_stream (end_at begun Client)).0 ≡ true
   played_opens opened allowed begun allows_each begins_each fewer =
       let e = opening_client c (input_of xs) (money_of ms) opened in

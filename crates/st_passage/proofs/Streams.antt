@@ -41,7 +41,7 @@ past_all (x ∷ xs) (suc i) past = past_all xs i (omega (arith, past))
 
 -- ---- sums
 
--- where nothing stands at even places
+-- a sum over all places, if the values at even ones are 0
 odd_places : (f : ℕ → ℕ) → ((i : ℕ) → f (2 * i) ≡ 0) → (a m b n : ℕ) → b ≡ 2 * a → n ≡ 2 * m + 1 → sum (map f (range_with_len b n)) ≡ sum (map (λ i. f (2 * i + 1)) (range_with_len a m))
 odd_places f none a m b zero from long = absurd (omega (arith, long))
 odd_places f none a zero b (suc zero) from long = let here : f b ≡ 0 = ap f from ∙ none a in omega (arith, here, sum_next (f b) [])

@@ -1,4 +1,5 @@
--- Where a read of a stream tells its end, reads of all streams tell it, and leave its bytes and all money as they were.
+-- If a read of a stream returns `End`, so do reads of all streams for that stream. They leave its bytes and all money
+-- as they were.
 use Rattle.std.proofs.Common.{◌≡◌, ◌≢◌, ℕ, zero, suc, ◌+◌, ◌<◌, ◌≤◌, Bool, true, false, List, [], ◌∷◌, take, is_some, refl, sym, ap, subst, ◌∙◌, arith, cond, Option, None, Some, Result, Ok, Err, inl, inr}
 use Rattle.std.proofs.lemmas.Bool.{cases_eq}
 use Rattle.st_reassembly.specs.Held.{Held, nothing_held}
@@ -20,11 +21,11 @@ use Rattle.st_quiet.proofs.Receiving.{replaced_here}
 use Rattle.st_passage.specs.Worlds.{Met}
 use Rattle.st_passage.specs.Rounds.{reads}
 
--- a read of it tells the end
+-- a read of it returns `End`
 abbrev pub TellsEnd : (stream : ℕ) → World → Type 0
 TellsEnd k w = (most : ℕ) → got most (incoming_at (end_at w Server).receiving k).held ≡ End
 
--- ---- the stream is open, and a read that tells its end takes nothing
+-- ---- the stream is open, and a read that returns `End` removes nothing
 
 nothing_ends : (xs : List ℕ) (b : Bool) → got_bytes nothing_held xs ≡ End → b ≡ true
 nothing_ends [] b e = absurd (let no : ◌≡◌ {A = Got} Nothing End = e in cc)

@@ -31,7 +31,7 @@ use Rattle.st_quiet.proofs.Beginning.{IsBegun}
 use Rattle.st_quiet.proofs.Trips.{both_came, packet_of_load}
 use Rattle.st_quiet.proofs.LostTrips.{goes_faulted}
 
--- all input of each stream was taken, and it was closed
+-- all input of each stream was accepted, and it was closed
 abbrev pub AreWhole : (input : ℕ → List ℕ) → Sending → Type 0
 AreWhole input s = (k : ℕ) (x : Outgoing) → outgoing_at s k ≡ Some x → (x.accepted ≡ length (input k)) × (x.clean ≡ true)
 
@@ -112,7 +112,7 @@ whole_answered input s p told k y (Some x) e whole here =
       ap (λ (z : Outgoing). z.clean) (sym same) ∙ only.clean ∙ kept.clean ∙ old.1,
     )
 
--- its answer came back
+-- its answer arrived
 pub answered_whole : {c : Tally} (n : ℕ → ℕ) (input : ℕ → List ℕ) (e f : EndState) → IsQuiet n e.sending → IsAhead n c e.sending f.receiving → AreJoined e f → CanTell f.receiving → AreWhole input e.sending → (w : Passage e) → AreWhole input (once_answered f w).sending
 answered_whole n input e f quiet ahead joined tellable whole w =
     let p = w.goes.load in

@@ -1,4 +1,4 @@
--- A quiet run of a world from its opening on is a run of crossings, so it is as short, and delivers as much.
+-- A lossless run of a world from its opening is a run of crossings, so it has the same bound, and delivers the same.
 use Rattle.std.proofs.Common.{max, is_some, ◌*◌, ◌++◌, append-nil, length-append, ◌≡◌, ℕ, Bool, zero, suc, ◌+◌, ◌^◌, ◌<◌, ◌≤◌, true, false, List, [], ◌∷◌, length, map, replicate, refl, sym, ap, subst, ◌∙◌, arith, ℤ, Option, None, Some, Result, Ok, inl, inr, take, cond, nat_eq}
 use Rattle.std.specs.List.{AllByRecursion}
 use Rattle.std.proofs.lemmas.Bool.{cases_lt}
@@ -324,7 +324,7 @@ calm_tables destination sent most left all (t ∷ ts) few modest room = (
 no_reads : (input : ℕ → List ℕ) (e f : EndState) → Stands input e f → NoAcks e → NoReads f
 no_reads input e f s none k = sym (acked_from input e f s k) ∙ none k
 
--- where so many streams were opened
+-- once `count` streams were opened
 pub begun_rests : (c : Chain) (input : ℕ → List ℕ) (money : ℕ → ℕ) (count : ℕ) (allowed begun : World) → MaySend c.config → IsModest (lengths input) → IsModest money → Met (opening c) (allows money 0 65) allowed → BeginsEach input money count allowed begun
     → (let e = opening_client c input money count in let f = allow_each money 0 65 (new_end roles.Server (keys_of c.secret) c.server c.client c.config) in
     IsAtRest begun e (map state_of (map new_node c.hops)) f 0 × IsReachedBy c begun × OpenTo (0 + count) e)
@@ -414,7 +414,7 @@ turns_abreast input limit m e f g h modest s run =
     let exchanges = trips_exchanges n m e f g h modest s.quiet s.abreast s.joined s.tellable trips in
     (exchanges_rounds n m e.sending f.receiving g.sending h.receiving modest s.quiet s.abreast exchanges).1
 
--- a read of a direction that was read to its end tells the end
+-- a read of a direction that was read to its end returns `End`
 nothing_long : (xs : List ℕ) → length xs ≡ 0 → xs ≡ []
 nothing_long [] e = refl
 nothing_long (x ∷ xs) e = absurd (omega (arith, e))

@@ -80,7 +80,7 @@ split_nodes ns (n ∷ more) i h others e m =
 
 -- ---- before and after a part of the way
 
--- so many Prepares and answers went over each link before; then a Prepare was put on a link, before these hops and this end
+-- a Prepare was put on link i, before these hops and this end; p and g count the earlier Prepares and answers of each link
 pub record IsOn (i : ℕ) (w : World) (hops : List Hop) (f : EndState) (p g : ℕ → ℕ) (text : List ℕ) : Type 0 where
   pub server : end_at w Server ≡ f
   pub nodes : map state_of (drop i w.nodes) ≡ hops
@@ -222,7 +222,7 @@ at_hop i w v h after others f p g text onward t account now told on forwards ste
       };
     }
 
--- an answer that is taken changes no other lane, and no length
+-- an answer that is booked changes no other lane, and no length
 pub record Takes (w v : World) (l : ℕ) : Type 0 where
   pub ends : v.ends ≡ w.ends
   pub ledgers : v.ledgers ≡ w.ledgers
@@ -322,7 +322,7 @@ over_links (h ∷ others) i w v f p g text now on forward run =
     subst (IsBack i w v p g) (sym (ap (over_one (λ bytes. crossed others f bytes now) others f now) forward.4))
     (back_at_hop i w mid both.0 v after others f t p g text onward (h ∷ others) (crossed others f onward now) now last.0 on went forward.5 back last.1)
 
--- the same where as many went over all links
+-- the same, if all links have the same number of packets
 pub going_same : (link hops n : ℕ) (now : ℤ) → going_over link hops (suc n) now ≡ going_by (λ l. n) (λ l. n) link hops now
 unfolding going_over going_by
 going_same link zero n now = refl
@@ -366,7 +366,7 @@ ends_as w v gone flight n p answer told (Some flown) client same inside back =
       ]);
     }
 
--- a fault there takes no answer
+-- a fault there books no answer
 pub ends_faulted : (w v : World) (gone : EndState) (flight : flights.Open) (p : Put) (told : Told) (o : Option Flight) → end_at w Client ≡ gone → flight_of p ≡ flight → BackAtEnd w 0 Client 0 p None Client o told v → Ends w v (ended_with gone flight o None)
 ends_faulted w v gone flight p told None client same back = record {
   client = ap (λ z. end_at z Client) back.1 ∙ client;

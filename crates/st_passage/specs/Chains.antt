@@ -1,4 +1,4 @@
--- A quiet run of two ends with hops between them.
+-- A lossless run of two ends with hops between them.
 use Rattle.std.specs.Prelude.{◌≡◌, ℕ, zero, suc, pos, ◌≤ℤ◌, ◌+ℤ◌, int_le, false, List}
 use Rattle.std.specs.declared.option.Option.TheVariants.{Some}
 use Rattle.st_hop.specs.Hop.{Hop}
@@ -19,7 +19,7 @@ pub record Stands (input : ℕ → List ℕ) (e f : EndState) : Type 0 where
   pub tellable : CanTell f.receiving
   pub held_back : AreHeldBack (lengths input) e.sending
 
--- what goes crosses the hops at the moment at which it comes
+-- the Prepare crosses all hops at the moment at which it arrives
 abbrev pub over : {e : EndState} → List Hop → (f : EndState) → Passage e → Crossed
 over hops f w = crossed hops f w.bytes w.later
 
@@ -33,7 +33,7 @@ pub record Crossing (input : ℕ → List ℕ) (limit : ℕ) (e : EndState) (hop
   pub reads : h ≡ take_each limit 0 65 (over hops f passage).end
   pub writes : g ≡ write_each input 0 65 (ended passage.gone passage.flight (Some (over hops f passage).answer))
 
--- so many of them
+-- `count` of them
 abbrev pub Crossings : (ℕ → List ℕ) → (limit count : ℕ) → EndState → List Hop → EndState → EndState → List Hop → EndState → Type 0
 Crossings input limit zero e hops f g others h = (g ≡ e) × (others ≡ hops) × (h ≡ f)
 Crossings input limit (suc m) e hops f g others h =

@@ -17,7 +17,7 @@ use Rattle.st_passage.specs.Worlds.{Met}
 use Rattle.st_passage.specs.Rounds.{BeginsEach, HasRoomFor, all_of, allows, opening_client, reads}
 use Rattle.st_passage.specs.Plays.{are_lawful, sends_needed}
 
--- what becomes of a Send: its Prepare, or its answer, is lost on this link. A link that is not there stands for the last one
+-- what becomes of a Send: its Prepare, or its answer, is lost on this link. A link past the last one counts as the last
 pub data Course : Type 0 where
   Arrives : Course
   PrepareLost : (link : ℕ) → Course
@@ -36,13 +36,13 @@ puts_on Arrives link = 1
 puts_on (PrepareLost at) link = if nat_le link at then 1 else 0
 puts_on (AnswerLost at) link = 1
 
--- an answer, or the Reject of the hop behind the link, once that hop meets a fault
+-- an answer, or the Reject of the hop after the link, once that hop meets a fault
 abbrev pub gives_on : (hops : ℕ) → Course → (link : ℕ) → ℕ
 gives_on hops Arrives link = 1
 gives_on hops (PrepareLost at) link = if nat_lt link (min at hops) then 1 else 0
 gives_on hops (AnswerLost at) link = 1
 
--- of so many Sends
+-- of a number of Sends
 abbrev pub puts_by : (course : ℕ → Course) → (sends link : ℕ) → ℕ
 puts_by course zero link = 0
 puts_by course (suc n) link = puts_by course n link + puts_on (course n) link
@@ -51,9 +51,9 @@ abbrev pub gives_by : (hops : ℕ) → (course : ℕ → Course) → (sends link
 gives_by hops course zero link = 0
 gives_by hops course (suc n) link = gives_by hops course n link + gives_on hops (course n) link
 
--- ---- the events of a Send, behind so many Prepares and answers on each link
+-- ---- the events of a Send, after those Prepares and answers on each link
 
--- from a link on, over so many hops: all but that the answer comes back over the first of these links
+-- from a link over `hops` hops: all but the last event, the answer's arrival over the first of these links
 unfoldable pub going_by : (prepares answers : ℕ → ℕ) → (link hops : ℕ) → (now : ℤ) → List Event
 going_by p g link zero now = Arrive link Client (suc (p link)) now ∷ []
 going_by p g link (suc more) now = Arrive link Client (suc (p link)) now ∷ going_by p g (suc link) more now ++ AnswerArrives (suc link) Client (suc (g (suc link))) now ∷ []
@@ -61,7 +61,7 @@ going_by p g link (suc more) now = Arrive link Client (suc (p link)) now ∷ goi
 abbrev pub passing_by : (prepares answers : ℕ → ℕ) → (hops : ℕ) → (now : ℤ) → List Event
 passing_by p g hops now = going_by p g 0 hops now ++ AnswerArrives 0 Client (suc (g 0)) now ∷ []
 
--- the Prepare is lost behind so many of the hops: all but the fault on the first of these links
+-- the Prepare is lost after it crossed `past` of the hops: all but the fault on the first of these links
 unfoldable pub losing_by : (prepares : ℕ → ℕ) → (link past hops : ℕ) → (now : ℤ) → List Event
 losing_by p link zero hops now = []
 losing_by p link (suc past) zero now = []
@@ -90,16 +90,16 @@ pub record FatedRound (limit hops : ℕ) (course : ℕ → Course) (count : ℕ)
   pub passes : Met sent (following (course count) (puts_by course count) (gives_by hops course count) hops now) passed
   pub reads_each : Met passed (reads limit 0 65) v
 
--- so many of them, after others: one course for each Send, in order
+-- `more` of them, after `count` others: one course for each Send, in order
 abbrev pub FatedRounds : (limit hops : ℕ) → (course : ℕ → Course) → (count more : ℕ) → World → World → Type 0
 FatedRounds limit hops course count zero w v = v ≡ w
 FatedRounds limit hops course count (suc m) w v = (mid : World) × FatedRound limit hops course count w mid × FatedRounds limit hops course (suc count) m mid v
 
--- one of a list for each Send; the Sends behind them arrive
+-- one of a list for each Send; later Sends arrive
 abbrev pub course_at : List Course → (send : ℕ) → Course
 course_at courses send = slice_index_or courses send Arrives
 
--- the fates of so many Sends, after others
+-- the fates of `more` Sends, after `count` others
 abbrev pub fates_of : (course : ℕ → Course) → (count more : ℕ) → List losses.Fate
 fates_of course count zero = []
 fates_of course count (suc m) = fate_of (course count) ∷ fates_of course (suc count) m
@@ -114,7 +114,7 @@ abbrev pub carried_by : (limit hops : ℕ) (course : ℕ → Course) (count more
 carried_by limit hops course count zero w v run = 0
 carried_by limit hops course count (suc m) w v run = carried_in (course count) w run.0 + carried_by limit hops course (suc count) m run.0 v run.2
 
--- from where nothing has happened: the receive maxes, the streams with their money and input, and so many Sends
+-- from a world in which nothing has happened: the receive maxes, the streams with their money and input, and the Sends
 pub record LossyRun (c : Chain) (input : ℕ → List ℕ) (money most : ℕ → ℕ) (streams limit : ℕ) (course : ℕ → Course) (sends : ℕ) (v : World) : Type 0 where
   pub allowed : World
   pub begun : World
@@ -124,7 +124,7 @@ pub record LossyRun (c : Chain) (input : ℕ → List ℕ) (money most : ℕ →
 
 -- ---- its premises
 
--- a stream's input is taken whole before the first Send
+-- a stream's input is accepted whole before the first Send
 abbrev pub IsShort : List ℕ → Type 0
 IsShort bytes = length bytes ≤ 262144
 
@@ -159,8 +159,8 @@ pub record MayPlayLossy (c : Chain) (xs : List (List ℕ)) (ms rs : List ℕ) (f
 abbrev pub are_lawful_lossy : List (List ℕ) → (ms rs : List ℕ) → Bool
 are_lawful_lossy xs ms rs = are_lawful xs ms && nat_eq (length rs) (length xs)
 
--- a stream's bytes were all written and read, its end told, and its money credited, with no more beside it than so many lost
--- answers may have carried
+-- a stream's bytes were all written and read, its end was reported, and its money credited, with at most `most` in addition
+-- that lost answers carried
 pub record HasAllLossy (bytes : List ℕ) (money most stream : ℕ) (w : World) : Type 0 where
   pub written : (ledger_at w Client stream).written ≡ bytes
   pub read : (ledger_at w Client stream).read ≡ bytes

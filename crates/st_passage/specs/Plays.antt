@@ -1,4 +1,4 @@
--- A quiet run by its arguments: bytes and an amount for each stream that the client opens.
+-- A lossless run by its arguments: bytes and an amount for each stream that the client opens.
 use Rattle.std.specs.Prelude.{◌≡◌, ℕ, ◌+◌, ◌-◌, ◌*◌, ◌/◌, ◌%◌, ◌^◌, ◌<◌, ◌≤◌, Bool, true, ◌&&◌, List, [], length, map, max, sum, nat_eq, nat_le, slice_index_or, if◌then◌else◌}
 use Rattle.std.specs.List.{AllByRecursion}
 use Rattle.st_receiver.specs.Streams.{incoming_at}
@@ -38,7 +38,7 @@ prepares_for limit money = (money + limit - 1) / limit
 abbrev pub most_sends : (limit : ℕ) → List (List ℕ) → List ℕ → ℕ
 most_sends limit xs ms = all_frames xs + prepares_for limit (sum ms) + 2 * length xs + 2
 
--- data and money go together, then the closes
+-- a packet carries data and money together, and closes are sent afterwards
 abbrev pub sends_needed : (limit : ℕ) → List (List ℕ) → List ℕ → ℕ
 sends_needed limit xs ms = max (all_frames xs) (prepares_for limit (sum ms)) + length xs
 
@@ -54,7 +54,7 @@ pub record MayPlay (c : Chain) (xs : List (List ℕ)) (ms : List ℕ) : Type 0 w
 
 -- ---- what it leaves
 
--- a stream's bytes were all written and read, its end told, and its money credited
+-- a stream's bytes were all written and read, its end was reported, and its money credited
 pub record HasAll (bytes : List ℕ) (money stream : ℕ) (w : World) : Type 0 where
   pub written : (ledger_at w Client stream).written ≡ bytes
   pub read : (ledger_at w Client stream).read ≡ bytes

@@ -1,4 +1,4 @@
--- A quiet run in a world of st_world, by its events: the opening, and round by round a Send, its passing, reads and writes.
+-- A lossless run in a world of st_world, by its events: the opening, and per round a Send, its passing, reads and writes.
 use Rattle.std.specs.Prelude.{◌≡◌, ℕ, zero, suc, ◌+◌, ◌-◌, ◌<◌, ◌≤◌, Bool, ℤ, List, [], ◌∷◌, length, map, take, drop, sum, nat_eq, if◌then◌else◌, Ok}
 use Rattle.std.specs.List.{AllByRecursion, range_with_len}
 use Rattle.st_keys.specs.Keys.{keys_of}
@@ -16,7 +16,7 @@ use Rattle.st_quiet.specs.Calls.{MaySend, begin_each, lengths}
 use Rattle.st_passage.specs.Calm.{LeadsOn}
 use Rattle.st_passage.specs.Worlds.{Met, passing}
 
--- a read of each stream at the server, of at most so many bytes
+-- a read of each stream at the server, of at most `limit` bytes
 unfoldable pub reads : (limit first count : ℕ) → List Event
 reads limit first zero = []
 reads limit first (suc m) = Read Server first limit ∷ reads limit (first + 1) m
@@ -25,7 +25,7 @@ reads limit first (suc m) = Read Server first limit ∷ reads limit (first + 1) 
 abbrev pub fits : List ℕ → Ledger → List ℕ
 fits xs l = take (length l.read + 262144 - length l.written) (drop (length l.written) xs)
 
--- a write of it, and a close where that is its end
+-- a write of it, and a close if that is its end
 abbrev pub close_if : Bool → (stream : ℕ) → List Event
 close_if b k = if b then Close Client k ∷ [] else []
 
@@ -37,7 +37,7 @@ abbrev pub Writes : (input : ℕ → List ℕ) → (first count : ℕ) → World
 Writes input first zero w v = v ≡ w
 Writes input first (suc m) w v = (mid : World) × Met w (writes (input first) first (ledger_at w Client first)) mid × Writes input (first + 1) m mid v
 
--- what goes over so many hops, all at one moment
+-- a Prepare that crosses `hops` hops, all at one moment
 pub record Round (input : ℕ → List ℕ) (limit hops count : ℕ) (w v : World) : Type 0 where
   pub iv : List ℕ
   pub now : ℤ
@@ -50,14 +50,14 @@ pub record Round (input : ℕ → List ℕ) (limit hops count : ℕ) (w v : Worl
   pub reads_each : Met passed (reads limit 0 65) read
   pub writes_each : Writes input 0 65 read v
 
--- so many of them, after others
+-- `more` of them, after `count` others
 abbrev pub Rounds : (ℕ → List ℕ) → (limit hops count more : ℕ) → World → World → Type 0
 Rounds input limit hops count zero w v = v ≡ w
 Rounds input limit hops count (suc m) w v = (mid : World) × Round input limit hops count w mid × Rounds input limit hops (suc count) m mid v
 
 -- ---- the opening
 
--- the server lets so much come on each stream that may be opened
+-- the server accepts this money on each stream that may be opened
 unfoldable pub allows : (money : ℕ → ℕ) → (first count : ℕ) → List Event
 allows money first zero = []
 allows money first (suc m) = ReceiveMax Server first (money first) ∷ allows money (first + 1) m
@@ -71,12 +71,12 @@ pub record Begins (input : ℕ → List ℕ) (money : ℕ → ℕ) (w v : World)
   pub offers : Met opened (Offer Client stream (money stream) ∷ []) offered
   pub writes_first : Met offered (writes (input stream) stream (ledger_at offered Client stream)) v
 
--- so many of them
+-- `count` of them
 abbrev pub BeginsEach : (ℕ → List ℕ) → (ℕ → ℕ) → (count : ℕ) → World → World → Type 0
 BeginsEach input money zero w v = v ≡ w
 BeginsEach input money (suc m) w v = (mid : World) × Begins input money w mid × BeginsEach input money m mid v
 
--- a run of a chain from where nothing has happened, of so many rounds
+-- a run of a chain from a world in which nothing has happened, of `more` rounds
 pub record QuietRun (c : Chain) (input : ℕ → List ℕ) (money : ℕ → ℕ) (count limit more : ℕ) (v : World) : Type 0 where
   pub allowed : World
   pub begun : World

@@ -1,4 +1,4 @@
--- A quiet run in a world of st_world: which events a Prepare and its answer are, and what they leave.
+-- A lossless run in a world of st_world: which events a Prepare and its answer are, and what they leave.
 use Rattle.std.specs.Prelude.{◌≡◌, ℕ, zero, suc, ◌+◌, ◌≤◌, ℤ, List, [], ◌∷◌, ◌++◌, length, map}
 use Rattle.std.specs.declared.option.Option.TheVariants.{Some}
 use Rattle.st_hop.specs.declared.ticket.Open.{Open}
@@ -25,17 +25,17 @@ Met w (event ∷ events) after = (mid : World) × (told : Told) × IsEvent event
 abbrev pub state_of : Node → Hop
 state_of n = n.state
 
--- so many Prepares were put on a lane, and so many answers were given on it
+-- how many Prepares were put on a lane, and how many answers were given on it
 pub record HasGone (prepares answers : ℕ) (lane : Lane) : Type 0 where
   pub puts : length lane.puts ≡ prepares
   pub given : length lane.given ≡ answers
 
--- so many Prepares went over a lane, and each was answered
+-- `count` Prepares crossed a lane, and each was answered
 abbrev pub HasPassed : (count : ℕ) → Lane → Type 0
 HasPassed count lane = HasGone count count lane
 
--- the client is e, the server f, the hops between them are these, and so many Prepares and answers went over each link, of
--- those towards the server
+-- the client is e, the server f, and the hops between them are these; on each link's lane towards the server these numbers
+-- of Prepares were put, and of answers given
 pub record IsSettled (w : World) (e : EndState) (hops : List Hop) (f : EndState) (prepares answers : ℕ → ℕ) : Type 0 where
   pub client : end_at w Client ≡ e
   pub server : end_at w Server ≡ f
@@ -47,9 +47,9 @@ pub record IsSettled (w : World) (e : EndState) (hops : List Hop) (f : EndState)
 abbrev pub IsAtRest : World → EndState → List Hop → EndState → (count : ℕ) → Type 0
 IsAtRest w e hops f count = IsSettled w e hops f (λ link. count) (λ link. count)
 
--- ---- a Prepare goes over all links, and its answer comes back
+-- ---- a Prepare crosses all links, and its answer is returned
 
--- from a link on, over so many hops: all but that the answer comes back over the first of these links
+-- from a link over `hops` hops: all but the last event, the answer's arrival over the first of these links
 unfoldable pub going_over : (link hops which : ℕ) → (now : ℤ) → List Event
 going_over link zero which now = Arrive link Client which now ∷ []
 going_over link (suc more) which now = Arrive link Client which now ∷ going_over (suc link) more which now ++ AnswerArrives (suc link) Client which now ∷ []
@@ -64,8 +64,8 @@ AllForward [] text now = Unit {0}
 AllForward (h ∷ others) text now =
     (t : Open) × (account : ℕ) × (onward : List ℕ) × (after : Hop) × (arrived h 0 text now ≡ (Forwards t account onward, after)) × (ticket_at after.tickets t.number ≡ Some t) × AllForward others onward now
 
--- from this world the client sent, and what went came over all hops to the server, and its answer back; nothing was written
--- or read. So many Prepares and answers had gone over each link before
+-- from this world the client sent, the Prepare crossed all hops to the server, and the client received its answer; nothing
+-- was written or read. These numbers of Prepares and answers had crossed each link before
 pub record HasCrossedBy (w : World) (e : EndState) (hops : List Hop) (f : EndState) (prepares answers : ℕ → ℕ) (iv : List ℕ) (now : ℤ) (v : World) : Type 0 where
   pub flight : flights.Open
   pub bytes : List ℕ

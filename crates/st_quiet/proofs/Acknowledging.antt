@@ -1,4 +1,4 @@
--- What a Fulfill leaves of one stream: the frames of a load, as that stream sees them.
+-- What a Fulfill leaves of one stream: the frames of a `Load`, as that stream sees them.
 use Rattle.std.proofs.Common.{◌≡◌, ◌≢◌, ℕ, ◌+◌, Bool, true, false, cond, List, [], ◌∷◌, length, max, refl, sym, ◌∙◌, arith, Option, None, Some, inl, inr, nat_eq, map}
 use Rattle.std.proofs.lemmas.Bool.{cases_eq}
 use Rattle.std.proofs.lemmas.Bool.Decides.{nat_tests}

@@ -87,7 +87,7 @@ sends_bounded n config m s t opening run =
     counts : (m last first most : ℕ) → m + last ≤ first → first + 1 ≤ most → m + 1 ≤ most
     counts m last first most l b = omega arith
 
--- ---- where nothing is left, all is done
+-- ---- when no work is left, every stream is done
 
 not_false : (b : Bool) → b ≢ false → b ≡ true
 not_false true n = refl

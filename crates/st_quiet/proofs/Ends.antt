@@ -1,4 +1,4 @@
--- The ends of streams, where nothing flies.
+-- The ends of streams while nothing is in flight.
 use Rattle.std.proofs.Common.{◌≡◌, ◌≢◌, ℕ, zero, suc, ◌+◌, ◌-◌, ◌≤◌, List, [], ◌∷◌, length, max, refl, sym, ap, arith, Some, map}
 use Rattle.std.specs.Prelude.{Contains}
 use Rattle.st_frames.specs.Frames.{Known, StreamData}

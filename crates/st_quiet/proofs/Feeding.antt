@@ -77,7 +77,7 @@ Within n s = (k : ℕ) → accepted_of (outgoing_at s k) ≤ n k
 pub room_left : (n : ℕ → ℕ) (s : Sending) (k : ℕ) (x : Outgoing) → length s.streams ≡ 65 → IsModest n → Within n s → outgoing_at s k ≡ Some x → all_accepted s.streams + (n k - x.accepted) < 2 ^ 63
 room_left n s k x slots modest within e = room_of accepted_of all_accepted refl (λ o xs. refl) n s.streams k x slots modest within e
 
--- ---- a call that is taken, and one that is refused
+-- ---- a call that is accepted, and one that is refused
 
 pub call_taken : (e : EndState) (k : ℕ) (x : Outgoing) (o : Option OutboxError) (f : Outgoing → Outgoing) → outgoing_at e.sending k ≡ Some x → e.sending.failed ≡ false → e.receiving.closed ≡ false → o ≡ None
     → (done e (refusal e k o) (changed e.sending k f)).1 ≡ record e { sending = with_outgoing e.sending k (f x) }

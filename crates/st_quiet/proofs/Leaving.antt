@@ -1,4 +1,4 @@
--- What a load leaves of the receiver: every read count, and every direction that goes on.
+-- What an outgoing packet leaves unchanged at the receiver: every read count, and whether a stream is aborted.
 use Rattle.std.proofs.Common.{◌≡◌, ℕ, zero, suc, Bool, true, false, cond, List, [], ◌∷◌, length, refl, ap, ◌∙◌, None, Some, nat_eq, nat_lt, slice_index}
 use Rattle.std.specs.List.{AllByRecursion}
 use Rattle.std.proofs.lemmas.List.{length-set}
@@ -58,7 +58,7 @@ unfolding after_closes
 closes_read r [] k = refl
 closes_read r (f ∷ fs) k = closes_read (after_close r f) fs k ∙ one_close_reads r f k
 
--- a close of a quiet run is clean
+-- a close of a lossless run is clean
 pub one_close_keeps : {A : Type 0} (g : Held → A) → ((h : Held) → g (after_finish h) ≡ g h) → (n : ℕ → ℕ) (s : Sending) (limits : List Known) (r : Receiving) (f : Known) (k : ℕ) → IsQuiet n s → IsDue s limits f
     → g (incoming_at (after_close r f) k).held ≡ g (incoming_at r k).held
 one_close_keeps g keeps n s limits r (StreamClose j code message) k quiet due =
@@ -83,7 +83,7 @@ unfolding after_closes
 closes_slots r [] = refl
 closes_slots r (f ∷ fs) = closes_slots (after_close r f) fs ∙ one_close_slots r f
 
--- a load closes no connection
+-- an outgoing packet closes no connection
 no_connection_close : (s : Sending) (limits : List Known) (r : Receiving) (f : Known) → IsDue s limits f → after_connection_close r f ≡ r
 no_connection_close s limits r (ConnectionClose code message) due = absurd due
 no_connection_close s limits r f due = refl
@@ -93,7 +93,7 @@ unfolding after_connection_closes
 no_connection_closes s limits r [] due = refl
 no_connection_closes s limits r (f ∷ fs) due = ap (λ t. after_connection_closes t fs) (no_connection_close s limits r f due.0) ∙ no_connection_closes s limits r fs due.1
 
--- what a load leaves of the receiver has every read count as it was
+-- an outgoing packet leaves every read count of the receiver as it was
 pub effect_reads : (s : Sending) (limits : List Known) (r : Receiving) (amount : ℕ) (fs : List Known) (k : ℕ) → AllByRecursion (IsDue s limits) fs → (incoming_at (after_all r amount fs) k).held.read ≡ (incoming_at r k).held.read
 effect_reads s limits r amount fs k due =
     ap (λ t. (incoming_at t k).held.read) (no_connection_closes s limits (after_closes (after_money (after_frames r fs) amount fs) fs) fs due)
@@ -101,7 +101,7 @@ effect_reads s limits r amount fs k due =
     ∙ ap (λ (h : Held). h.read) (money_held (after_frames r fs) amount fs k)
     ∙ (frames_opened r fs).reads k
 
--- of what is held, money and closes change the end alone
+-- of the receive buffer, money and closes change the end alone
 pub effect_held : {A : Type 0} (g : Held → A) → ((h : Held) → g (after_finish h) ≡ g h) → (n : ℕ → ℕ) (s : Sending) (limits : List Known) (r : Receiving) (amount : ℕ) (fs : List Known) (k : ℕ) → IsQuiet n s → AllByRecursion (IsDue s limits) fs
     → g (incoming_at (after_all r amount fs) k).held ≡ g (incoming_at (after_frames r fs) k).held
 effect_held g keeps n s limits r amount fs k quiet due =
@@ -109,7 +109,7 @@ effect_held g keeps n s limits r amount fs k quiet due =
     ∙ closes_keep g keeps n s limits (after_money (after_frames r fs) amount fs) fs k quiet due
     ∙ ap g (money_held (after_frames r fs) amount fs k)
 
--- and every direction that goes on
+-- and no stream becomes aborted
 pub effect_alive : (n : ℕ → ℕ) (s : Sending) (limits : List Known) (r : Receiving) (amount : ℕ) (fs : List Known) (k : ℕ) → IsQuiet n s → AllByRecursion (IsDue s limits) fs
     → (incoming_at (after_all r amount fs) k).held.aborted ≡ (incoming_at r k).held.aborted
 effect_alive n s limits r amount fs k quiet due =

@@ -1,4 +1,4 @@
--- Each Send of a quiet run lowers what is left; while something is left one goes, and then none.
+-- Each Send of a lossless run lowers what is left. While something is left there is a Send, and then there is none.
 use Rattle.std.proofs.Common.{◌≡◌, ◌≢◌, ℕ, zero, suc, ◌+◌, ◌-◌, ◌/◌, ◌<◌, ◌≤◌, Bool, true, false, cond, List, [], ◌∷◌, length, map, max, min, sum, replicate, slice_get, refl, sym, ap, ◌∙◌, arith, Option, None, Some, ◌⊎◌, inl, inr}
 use Rattle.std.specs.FinMap as fmap
 use Rattle.std.specs.List.{list_any, range_with_len, AllByRecursion}

@@ -1,4 +1,4 @@
--- What came is held, and one read of enough bytes takes it all.
+-- Received bytes are buffered, and one read of enough bytes returns them all.
 use Rattle.std.proofs.Common.{◌≡◌, ℕ, ◌+◌, ◌-◌, ◌<◌, ◌≤◌, true, cond, List, [], ◌∷◌, zero, suc, length, slice_get, refl, sym, ◌∙◌, arith, Option, None, Some, inl, inr, nat_le}
 use Rattle.std.specs.Option.{option_or}
 use Rattle.std.specs.FinMap as fmap
@@ -21,7 +21,7 @@ either_has : (g h : Option ℕ) → (b : ℕ) × (h ≡ Some b) → (b : ℕ) ×
 either_has None h one = one
 either_has (Some b) h one = (b, refl)
 
--- each byte of a piece past the read count is held
+-- each byte of a chunk past the read count is buffered
 pub insert_has : (xs : List ℕ) (o q : ℕ) (s : Held) → IsOn s → s.read ≤ q → o ≤ q → q < o + length xs → (b : ℕ) × (fmap.get (after_insert o xs s).bytes q ≡ Some b)
 insert_has xs o q s on unread from till =
     let here = has_byte xs (q - o) (omega (arith, from, till)) in
@@ -31,7 +31,7 @@ insert_has xs o q s on unread from till =
     let got = either_has (fmap.get s.bytes q) (cond (is_wanted s q) (piece_at o xs q) None) (here.0, brings) in
     (got.0, (joins_after o xs s).bytes q ∙ got.1)
 
--- a run takes all that is held in a row
+-- a run has all bytes that are buffered without a gap
 pub run_is_all : (s : Held) (run : List ℕ) (end : ℕ) → IsRun s run → s.read ≤ end → ((q : ℕ) → s.read ≤ q → q < end → (b : ℕ) × (fmap.get s.bytes q ≡ Some b)) → ((q : ℕ) → end ≤ q → fmap.get s.bytes q ≡ None) → s.read + length run ≡ end
 run_is_all s run end is_run l held none = elim (cases_lt (s.read + length run) end) [
   | inl short ↦ absurd (let got = held (s.read + length run) (omega arith) short in let stops = is_run.longest in let clash : ◌≡◌ {A = Option ℕ} None (Some got.0) = sym stops ∙ got.1 in cc)

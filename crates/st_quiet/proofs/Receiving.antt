@@ -1,4 +1,4 @@
--- A receiver takes the frames of a quiet load: none breaks a rule.
+-- A receiver accepts the frames of a lossless run: none breaks a rule.
 use Rattle.std.proofs.Common.{◌≡◌, ℕ, zero, suc, ◌+◌, ◌-◌, ◌*◌, ◌/◌, ◌^◌, ◌<◌, ◌≤◌, Bool, true, false, not, ◌&&◌, ◌||◌, cond, List, [], ◌∷◌, length, map, max, sum, set, refl, sym, ap, subst, ◌∙◌, arith, Option, None, Some, ◌⊎◌, inl, inr, nat_eq, nat_lt, nat_le}
 use Rattle.std.specs.Prelude.{is_err, is_some, slice_index, ◌%◌}
 use Rattle.std.proofs.lemmas.List.{length-set}
@@ -38,7 +38,7 @@ pub record IsOpened (r t : Receiving) : Type 0 where
   pub reads : (k : ℕ) → (incoming_at t k).held.read ≡ (incoming_at r k).held.read
   pub aborted : (k : ℕ) → (incoming_at t k).held.aborted ≡ (incoming_at r k).held.aborted
 
--- ---- the split: where what comes is what was sent, each stream gets its shares
+-- ---- the split: if the amount that arrives is the amount that was sent, each stream gets its shares
 
 rounded_same : (all : ℕ) (ms : List ℕ) → 0 < all → rounded all all ms ≡ ms
 rounded_same all [] some = refl

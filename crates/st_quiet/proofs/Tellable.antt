@@ -11,7 +11,7 @@ use Rattle.st_receiver.specs.Streams.{Incoming, Receiving, incoming_at, may_name
 use Rattle.st_receiver.specs.Limits.{capped, connection_limit, named_limits, reply_frames, told_by}
 use Rattle.st_quiet.proofs.Lengths.{octets_short, var_uint_small}
 
--- frames that can be written, in so many bytes
+-- frames that can be written, in at most `most` bytes
 pub record Writes (most : ℕ) (fs : List Known) : Type 0 where
   pub fit : AllFit fs
   pub writable : AllByRecursion (λ f. is_unwritable f ≡ false) fs
@@ -50,7 +50,7 @@ writes_joined m n fs gs a b = record {
   short = (let e = text_joined fs gs in let x = a.short in let y = b.short in omega (arith, e, x, y));
 }
 
--- ---- the frames that tell limits
+-- ---- the frames that advertise limits
 
 capped_fits : (n : ℕ) → capped n < 2 ^ 64
 capped_fits n = omega arith

@@ -1,4 +1,4 @@
--- The calls of two ends by which a quiet run opens, and by which the input is written on.
+-- The calls by which two ends open a lossless run, and by which the input is written on.
 use Rattle.std.specs.Prelude.{◌≡◌, ℕ, zero, suc, ◌+◌, ◌-◌, ◌<◌, ◌≤◌, Bool, true, false, List, length, take, drop, nat_eq, if◌then◌else◌, Result, Ok, Err}
 use Rattle.std.specs.declared.option.Option.{Option}
 use Rattle.std.specs.declared.option.Option.TheVariants.{None, Some}
@@ -28,7 +28,7 @@ abbrev pub written_at : List ℕ → EndState → ℕ → Option Outgoing → En
 written_at xs e k None = e
 written_at xs e k (Some x) = closed_if (nat_eq (x.accepted + length (fitting xs x)) (length xs)) (write e k (fitting xs x)).1 k
 
--- a write of it, and a close where that was the end
+-- a write of what fits, and a close if that was the end
 abbrev pub written_on : List ℕ → EndState → ℕ → EndState
 written_on xs e k = written_at xs e k (outgoing_at e.sending k)
 
@@ -59,7 +59,7 @@ pub record CanWrite (n : ℕ → ℕ) (e : EndState) : Type 0 where
   pub modest : IsModest n
   pub streams : (k : ℕ) (x : Outgoing) → outgoing_at e.sending k ≡ Some x → IsFed (n k) x
 
--- a read of each open stream, of at most so many bytes
+-- a read of each open stream, of at most `limit` bytes
 unfoldable pub take_each : (limit first count : ℕ) → EndState → EndState
 take_each limit first zero e = e
 take_each limit first (suc m) e = take_each limit (first + 1) m (read e first limit).1
@@ -71,12 +71,12 @@ abbrev pub begun : (input : ℕ → List ℕ) → (money : ℕ → ℕ) → Resu
 begun input money (Ok k, e) = written_on (input k) (offer e k (money k)).1 k
 begun input money (Err why, e) = e
 
--- so many of them
+-- `count` streams
 unfoldable pub begin_each : (input : ℕ → List ℕ) → (money : ℕ → ℕ) → (count : ℕ) → EndState → EndState
 begin_each input money zero e = e
 begin_each input money (suc m) e = begin_each input money m (begun input money (open_stream e))
 
--- the other end lets so much come on each stream that may be opened there
+-- the other end accepts this money on each stream that may be opened there
 unfoldable pub allow_each : (money : ℕ → ℕ) → (first count : ℕ) → EndState → EndState
 allow_each money first zero e = e
 allow_each money first (suc m) e = allow_each money (first + 1) m (set_receive_max e first (money first)).1

@@ -1,4 +1,5 @@
--- A quiet run of both sides: each load is fulfilled, its reply told, all of it read, and the input written on.
+-- A lossless run of both sides: each outgoing packet is fulfilled, the reply's limits are applied, all of it is read,
+-- and the input is written on.
 use Rattle.std.specs.Prelude.{◌≡◌, ℕ, zero, suc, ◌+◌, ◌^◌, ◌<◌, ◌≤◌, true, List, map, slice_index, sum, if◌then◌else◌}
 use Rattle.std.specs.List.{range_with_len}
 use Rattle.std.specs.declared.option.Option.TheVariants.{Some}
@@ -26,7 +27,7 @@ pub record Exchange (n : ℕ → ℕ) (s : Sending) (r : Receiving) (t : Sending
   pub reads : IsReadOut (effect r packet load.amount) u
   pub writes : IsWritten n (after_all_told (once_fulfilled s load) (reply_frames (effect r packet load.amount) (frames_of packet))) t
 
--- so many of them
+-- m of them
 abbrev pub Exchanges : (ℕ → ℕ) → ℕ → Sending → Receiving → Sending → Receiving → Type 0
 Exchanges n zero s r t u = (t ≡ s) × (u ≡ r)
 Exchanges n (suc m) s r t u = (mid : Sending) × (between : Receiving) × Exchange n s r mid between × Exchanges n m mid between t u
@@ -39,13 +40,13 @@ IsModest n = sum (map n (range_with_len 0 65)) < 2 ^ 63
 abbrev pub opened_receiving : (parity : ℕ) → (kept : List ℕ) → Receiving
 opened_receiving parity kept = record (new_receiving parity) { kept = kept }
 
--- it lets all that is offered come on streams that the sender opened
+-- it accepts all that is offered, on streams that the sender opened
 pub record AllowsAll (s : Sending) (r : Receiving) : Type 0 where
   pub named : (k : ℕ) (x : Outgoing) → outgoing_at s k ≡ Some x → may_name r k ≡ true
   pub most : (k : ℕ) (x : Outgoing) → outgoing_at s k ≡ Some x → x.offered ≤ slice_index r.kept k
   pub credit : all_money_left s < 2 ^ 63
 
--- a read of each open stream, of at most so many bytes
+-- a read of each open stream, of at most `limit` bytes
 abbrev pub read_open : (limit : ℕ) → Receiving → ℕ → Receiving
 read_open limit r k = if is_open r k then after_got r k limit else r
 

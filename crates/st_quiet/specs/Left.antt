@@ -33,7 +33,7 @@ closes_left (Some x) = if x.clean_settled then 0 else 1
 abbrev pub all_closes_left : Sending → ℕ
 all_closes_left s = sum (map (λ k. closes_left (outgoing_at s k)) (range_with_len 0 65))
 
--- data and money go together, then the closes
+-- a packet carries data and money together, and closes are sent afterwards
 abbrev pub work_left : (ℕ → ℕ) → Sending → ℕ
 work_left n s = max (all_frames_left n s) (prepares_left s) + all_closes_left s
 

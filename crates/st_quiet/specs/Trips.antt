@@ -1,4 +1,4 @@
--- A quiet run of two ends with nothing between them, from bytes to bytes.
+-- A lossless run of two ends with nothing between them, from bytes to bytes.
 use Rattle.std.specs.Prelude.{◌≡◌, ℕ, zero, suc, ◌+◌, ◌^◌, ◌<◌, ◌≤◌, ℤ, ◌+ℤ◌, int_le, false, List, length}
 use Rattle.std.specs.declared.option.Option.TheVariants.{Some}
 use Rattle.st_reassembly.specs.Run.{run}
@@ -34,7 +34,7 @@ pub record Passage (e : EndState) : Type 0 where
   pub in_time : int_le (now +ℤ answer_time) later ≡ false
   pub left : e.sending.last + 1 < e.sending.config.packets  -- the Prepares of the connection are not used up
 
--- the second end once it came, and the first once the answer came back
+-- the second end once the Prepare arrived, and the first once the answer arrived
 abbrev pub once_received : {e : EndState} → (f : EndState) → Passage e → EndState
 once_received f w = (received f w.bytes w.later).1
 
@@ -49,19 +49,19 @@ pub record Trip (n : ℕ → ℕ) (e f g h : EndState) : Type 0 where
   pub writes : IsWritten n (once_answered f passage).sending g.sending
   pub written_alone : g ≡ record (once_answered f passage) { sending = g.sending }
 
--- so many of them
+-- m of them
 abbrev pub Trips : (ℕ → ℕ) → ℕ → (e f g h : EndState) → Type 0
 Trips n zero e f g h = (g ≡ e) × (h ≡ f)
 Trips n (suc m) e f g h = (mid : EndState) × (between : EndState) × Trip n e f mid between × Trips n m mid between g h
 
--- a trip by calls: a read of each stream that has room for all that is held in a row, and a write on each of what fits
+-- a trip by calls: a read of each stream, with room for its contiguous bytes, and a write on each of what fits
 pub record Turn (input : ℕ → List ℕ) (limit : ℕ) (e f g h : EndState) : Type 0 where
   pub passage : Passage e
   pub room : (k : ℕ) → length (run (incoming_at (once_received f passage).receiving k).held) ≤ limit
   pub reads : h ≡ take_each limit 0 65 (once_received f passage)
   pub writes : g ≡ write_each input 0 65 (once_answered f passage)
 
--- so many of them
+-- `count` of them
 abbrev pub Turns : (ℕ → List ℕ) → (limit count : ℕ) → (e f g h : EndState) → Type 0
 Turns input limit zero e f g h = (g ≡ e) × (h ≡ f)
 Turns input limit (suc m) e f g h = (mid : EndState) × (between : EndState) × Turn input limit e f mid between × Turns input limit m mid between g h

@@ -69,7 +69,7 @@ no_bit_from word s i e l = moved word s i l ∙ ap (λ n. has_bit n (i - s)) e �
 one_not_zero : (b : ℕ) → b ≡ 0 → b ≡ 1 → ⊥
 one_not_zero b e f = omega arith
 
--- the lowest bit from s on, where there is one
+-- the lowest bit from s on, if there is one
 pub record IsLowest (word s at : ℕ) : Type 0 where
   pub within : at < 64
   pub found : has_bit word at ≡ true

@@ -1,4 +1,4 @@
--- Pieces put into places, place by place and offset by offset.
+-- Chunks put into places, place by place and offset by offset.
 use Rattle.std.proofs.Common.{◌≡◌, ℕ, ◌+◌, ◌-◌, ◌<◌, ◌≤◌, Bool, true, false, ◌||◌, List, length, Option, Some, None, max, min, refl, ap, ◌∙◌, sym, arith}
 use Rattle.std.specs.Prelude.{nat_lt, slice_index, if◌then◌else◌}
 use Rattle.std.specs.Option.{option_or}
@@ -26,7 +26,7 @@ or_none (Some x) = refl
 pub index_range : (xs : List ℕ) (a b i j : ℕ) → a ≤ b → b ≤ length xs → i < b - a → j ≡ a + i → slice_index (slice_range xs a b) i ≡ slice_index xs j
 index_range xs a b i j l m h e = get_or-between xs a b i 0 (omega arith) ∙ ap (slice_index xs) (sym e)
 
--- the part of a piece for the places from `first` on and before `last`, written over them
+-- the part of a chunk for the places from `first` on and before `last`, written over them
 module _ (new old piece : List ℕ) (at first last k : ℕ) (l : at ≤ first) (m : first ≤ last) (h : last ≤ at + length piece)
     (written : slice_index new k ≡ (if is_between first (first + length (slice_range piece (first - at) (last - at))) k then slice_index (slice_range piece (first - at) (last - at)) (k - first) else slice_index old k)) where
   part_end : first + length (slice_range piece (first - at) (last - at)) ≡ last
@@ -46,7 +46,7 @@ module _ (new old piece : List ℕ) (at first last k : ℕ) (l : at ≤ first) (
   pub written_out : is_between first last k ≡ false → slice_index new k ≡ slice_index old k
   written_out e = by_ends ∙ ap (λ b. if b then slice_index (slice_range piece (first - at) (last - at)) (k - first) else slice_index old k) e
 
--- one offset of a window after the part of a piece between its bounds was laid
+-- one offset of a window after the part of a chunk between its bounds was laid
 pub laid_at : (old new : Option ℕ) (offset n low high q x y : ℕ)
     → max offset low < min high (offset + n) → low ≤ q → q < low + 65536
     → (max offset low ≤ q → new ≡ option_or old (if is_between (max offset low) (min high (offset + n)) q then Some x else None))

@@ -66,7 +66,7 @@ module _ (marks base : List ℕ) (from to w p old : ℕ) (small : p < 2 ^ 64) (w
         | inr n ↦ set_apart marks w (bit_and old (18446744073709551615 - p)) k n ∙ h ∙ ap (λ b. not (is_between from to k && b) && is_marked base k) (other_word k w n)
       ]
 
--- once each word up to the end has been gone over
+-- once each word up to the end is done
 none_after : (from to k n : ℕ) → to ≤ 64 * n → (is_between from to k && nat_lt k (64 * n)) ≡ is_between from to k
 none_after from to k n l = grind (arith, nat_tests)
 

@@ -3,16 +3,17 @@ use Rattle.std.proofs.Common.{◌≡◌, ℕ, ◌+◌, ◌-◌, ◌<◌, ◌≤�
 use Rattle.std.specs.Prelude.{if◌then◌else◌, nat_le, nat_lt, slice_index, is_none, is_some, not, [], ◌∷◌, ◌||◌}
 use Rattle.std.specs.Option.{option_or, unwrap_or}
 use Rattle.std.specs.FinMap as map
+use Rattle.std.specs.Ordering.{nat_cmp}
 use Rattle.std.proofs.lemmas.Bool.{cases_lt}
 use Rattle.std.proofs.lemmas.Bool.Decides.{nat_tests}
-use Rattle.st_reassembly.specs.Held.{Held, is_before, is_over, with_byte, after_insert, after_read}
+use Rattle.st_reassembly.specs.Held.{Held, is_before, is_over, is_wanted, with_byte, after_insert, after_read}
 use Rattle.st_tables.specs.Table.{is_between, table}
 use Rattle.st_reassembly.specs.Ring.{byte_at, cell, IsSound}
 use Rattle.st_reassembly.specs.Run.{run, past}
-use Rattle.st_reassembly.specs.Closing.{past_all, after_finish, after_abort}
+use Rattle.st_reassembly.specs.Closing.{past_all, after_finish, after_abort, is_at_end, is_spent}
 use Rattle.st_reassembly.proofs.Pointwise.{piece_at-byte_at, joins_is, reads_is}
 use Rattle.st_reassembly.proofs.Runs.{length-run, take-run, held_below, past-within}
-use Rattle.st_tables.proofs.Tables.{get-table, get-table_in, table-empty, table-inside}
+use Rattle.st_tables.proofs.Tables.{get-table, get-table_in, table-empty, table-inside, table_is}
 
 -- the model's value over what the window has at each offset, and the other fields
 abbrev pub shown_by : (ℕ → Option ℕ) → ℕ → Option ℕ → Option ℕ → Held
@@ -29,7 +30,7 @@ pub record IsKept (f : ℕ → Option ℕ) (read top : ℕ) : Type 0 where
   pub below : (q : ℕ) → read ≤ q → q < read + 65536 → IsSome (f q) → q < top
   pub least : read < top → IsSome (f (top - 1))
 
--- one offset that a piece joins
+-- one offset that a chunk joins
 joins_at : (old new : Option ℕ) (b lt : Bool) (read o n q v : ℕ)
     → (read ≤ q → q < read + 65536 → new ≡ option_or old (cond lt (cond (is_between o (o + n) q) (Some v) None) None))
     → (q < o + n → lt ≡ b)
@@ -98,7 +99,7 @@ still : (old new : Option ℕ) (read n q : ℕ) → read + n ≤ q → q < read 
 still None new read n q l h kept is = absurd (grind (arith, nat_tests))
 still (Some x) new read n q l h kept is = (grind (arith, nat_tests), refl)
 
--- bytes that are held in a row lie below the top
+-- bytes that are buffered in a row lie below the top
 pub reached : (f : ℕ → Option ℕ) (read top n : ℕ) → IsKept f read top → n ≤ 65536 → ((k : ℕ) → k < n → IsSome (f (read + k))) → read + n ≤ top
 reached f read top n kept small held =
     let from : read ≤ top = kept.from in
@@ -157,7 +158,7 @@ pub drawn_at : (m : Bool) (x y : ℕ) → IsSome (if m then Some x else None) �
 drawn_at true x y h e = ap (λ n. Some n) (sym e)
 drawn_at false x y h e = absurd cc
 
--- the whole effect of an insert that is not refused, where nothing was aborted
+-- the whole effect of an insert that is not refused, if nothing was aborted
 same_end : (finished : Bool) (top past : ℕ) → (finished ≡ true → past ≤ top) → end_shown finished (max top past) ≡ end_shown finished top
 same_end true top past h = let l : past ≤ top = h refl in ap (λ n. Some n) (let e : max top past ≡ top = omega arith in e)
 same_end false top past h = refl
@@ -188,33 +189,107 @@ inserted_held s f g finished b read top offset high past None xs view on near fe
     ∙ inserted_view f g finished read top offset xs near close (subst (λ h. (q : ℕ) → read ≤ q → q < read + 65536 → g q ≡ option_or (f q) (if nat_lt q h then byte_at offset xs q else None)) high_is joins)
     ∙ ap (after_insert offset xs) view
 
--- nothing joins after an abort
-never : (a b c : Bool) → ((a && (b && false)) && c) ≡ false
-never true true c = refl
-never true false c = refl
-never false b c = refl
+-- nothing joins once an inbox is spent
+never : (a b : Bool) → (a && (b && false)) ≡ false
+never true true = refl
+never true false = refl
+never false b = refl
 
-none_not : (o : Option ℕ) → is_some o ≡ true → is_none o ≡ false
-none_not None e = absurd cc
-none_not (Some x) e = refl
+unwanted : (read q : ℕ) (end aborted : Option ℕ) → (is_some aborted || is_at_end read end) ≡ true → (nat_le read q && (is_before q end && is_none aborted)) ≡ false
+unwanted read q end (Some code) e = never (nat_le read q) (is_before q end)
+unwanted read q None None e = absurd cc
+unwanted read q (Some f) None e = grind (arith, nat_tests)
 
-not_joined : (o x : ℕ) (s : Held) → is_none s.aborted ≡ false → with_byte o x s ≡ s
-not_joined o x s e =
-    ap (λ n. cond ((nat_le s.read o && (is_before o s.end && n)) && is_none (map.get s.bytes o)) (record s { bytes = map.insert s.bytes o x }) s) e
-    ∙ ap (λ n. cond n (record s { bytes = map.insert s.bytes o x }) s) (never (nat_le s.read o) (is_before o s.end) (is_none (map.get s.bytes o)))
+not_joined : (o x : ℕ) (s : Held) → is_wanted s o ≡ false → with_byte o x s ≡ s
+not_joined o x s e = ap (λ n. cond (n && is_none (map.get s.bytes o)) (record s { bytes = map.insert s.bytes o x }) s) e
 
-unjoined : (o : ℕ) (xs : List ℕ) (s : Held) → is_none s.aborted ≡ false → after_insert o xs s ≡ s
+unjoined : (o : ℕ) (xs : List ℕ) (s : Held) → is_spent s ≡ true → after_insert o xs s ≡ s
 unfolding after_insert
 unjoined o [] s e = refl
-unjoined o (x ∷ xs) s e = ap (after_insert (o + 1) xs) (not_joined o x s e) ∙ unjoined (o + 1) xs s e
+unjoined o (x ∷ xs) s e = ap (after_insert (o + 1) xs) (not_joined o x s (unwanted s.read o s.end s.aborted e)) ∙ unjoined (o + 1) xs s e
 
-pub inserted_nowhere : (s : Held) (o : ℕ) (xs : List ℕ) (aborted : Option ℕ) → aborted ≡ s.aborted → is_some aborted ≡ true → s ≡ after_insert o xs s
-inserted_nowhere s o xs aborted same e = sym (unjoined o xs s (none_not s.aborted (ap is_some (sym same) ∙ e)))
+pub inserted_nowhere : (s : Held) (o : ℕ) (xs : List ℕ) → is_spent s ≡ true → s ≡ after_insert o xs s
+inserted_nowhere s o xs e = sym (unjoined o xs s e)
 
-pub kept_of : (bytes marks : List ℕ) (read top : ℕ) → IsSound bytes marks read top → IsKept (cell bytes marks) read top
-kept_of bytes marks read top s = record { from = s.from; near = s.near; below = s.below; least = s.least }
+pub not_aborted : (o : Option ℕ) (b : Bool) → (is_some o || b) ≡ false → is_some o ≡ false
+not_aborted None b e = refl
+not_aborted (Some x) b e = absurd cc
 
--- a clean close and an abort, where neither came before
+pub contrary : {X : Type 0} (b : Bool) → b ≡ true → b ≡ false → X
+contrary b e f = absurd cc
+
+pub kept_of : {spent : Bool} {bytes marks : List ℕ} {room read top : ℕ} → IsSound spent bytes marks room read top → IsKept (cell bytes marks) read top
+kept_of s = record { from = s.from; near = s.near; below = s.below; least = s.least }
+
+none_is : (o : Option ℕ) → (IsSome o → ⊥) → o ≡ None
+none_is None h = refl
+none_is (Some x) h = absurd (h refl)
+
+-- no byte lies past the top
+pub none_past_top : (f : ℕ → Option ℕ) (read top : ℕ) → IsKept f read top → (q : ℕ) → top ≤ q → q < read + 65536 → f q ≡ None
+none_past_top f read top kept q l m = none_is (f q) (λ h. let from : read ≤ top = kept.from in let below : q < top = kept.below q (omega arith) m h in omega arith)
+
+pub none_at_read : (f : ℕ → Option ℕ) (read top : ℕ) (end aborted : Option ℕ) → IsKept f read top → top ≡ read → 0 ≡ length (run (shown_by f read end aborted))
+none_at_read f read top end aborted kept e = length_view f read 0 end aborted (omega arith) (λ k l. absurd (omega arith)) (inr (none_past_top f read top kept (read + 0) (omega arith) (omega arith)))
+
+-- a read of what is spent
+pub nothing_taken : (f : ℕ → Option ℕ) (read top max : ℕ) (end aborted : Option ℕ) → IsKept f read top → top ≡ read → [] ≡ take max (run (shown_by f read end aborted))
+nothing_taken f read top max end aborted kept e =
+    taken_view f read max 0 end aborted [] (omega arith) (omega arith) (λ k l. absurd (omega arith)) (λ k l. absurd (omega arith)) (inr (none_past_top f read top kept (read + 0) (omega arith) (omega arith)))
+
+pub nothing_left : (f : ℕ → Option ℕ) (read : ℕ) (end aborted : Option ℕ) → shown_by f read end aborted ≡ after_read 0 (shown_by f read end aborted)
+nothing_left f read end aborted = (reads_is 0 (shown_by f read end aborted) (shown_by f read end aborted)).0 (record {
+  bytes = λ q. get-table f read 65536 q ∙ from_first (f q) read q ∙ ap (λ b. cond (nat_le (read + 0) q) b None) (sym (get-table f read 65536 q));
+  read = omega arith;
+  end = refl;
+  aborted = refl;
+})
+  where
+    from_first : (o : Option ℕ) (read q : ℕ) → cond (is_between read (read + 65536) q) o None ≡ cond (nat_le (read + 0) q) (cond (is_between read (read + 65536) q) o None) None
+    from_first o read q = grind (arith, nat_tests)
+
+-- the window is freed once the last byte was read
+pub at_top : (finished : Bool) (top read last : ℕ) (aborted : Option ℕ) → (is_some aborted || is_at_end read (end_shown finished top)) ≡ false → (is_some aborted || is_at_end last (end_shown finished top)) ≡ true → top ≡ last
+at_top finished top read last (Some x) e f = absurd cc
+at_top true top read last None e f = grind (arith, nat_tests)
+at_top false top read last None e f = absurd cc
+
+pub none_left : (f g : ℕ → Option ℕ) (read top n : ℕ) → IsKept f read top → top ≡ read + n → ((q : ℕ) → g q ≡ None)
+    → (q : ℕ) → read + n ≤ q → q < read + n + 65536 → g q ≡ (if nat_lt q (read + 65536) then f q else None)
+none_left f g read top n kept e none q l m = none q ∙ either_none (nat_lt q (read + 65536)) (f q) (λ b. none_past_top f read top kept q (omega arith) (inside_of q (read + 65536) b))
+  where
+    inside_of : (q e : ℕ) → nat_lt q e ≡ true → q < e
+    inside_of q e b = grind (arith, nat_tests)
+
+    either_none : (b : Bool) (o : Option ℕ) → (b ≡ true → o ≡ None) → None ≡ (if b then o else None)
+    either_none true o h = sym (h refl)
+    either_none false o h = refl
+
+-- an empty window shows the same as one in which no byte is buffered
+always_none : (b : Bool) (o : Option ℕ) → (b ≡ true → o ≡ None) → cond b o None ≡ None
+always_none true o h = h refl
+always_none false o h = refl
+
+at_between : (read q : ℕ) → is_between read (read + 65536) q ≡ true → (read ≤ q) × (q < read + 65536)
+at_between read q b = (grind (arith, nat_tests), grind (arith, nat_tests))
+
+pub same_shown : (f g : ℕ → Option ℕ) (read top : ℕ) (end aborted : Option ℕ) → IsKept f read top → top ≡ read → ((q : ℕ) → g q ≡ None) → shown_by g read end aborted ≡ shown_by f read end aborted
+same_shown f g read top end aborted kept e none =
+    ap (λ m. record { bytes = m; read = read; end = end; aborted = aborted })
+    (table-empty g read 65536 none ∙ sym (table_is f read 65536 map.empty (λ q. always_none (is_between read (read + 65536) q) (f q) (λ b. none_past_top f read top kept q (omega (arith, (at_between read q b).0)) (at_between read q b).1) ∙ sym (map.get-empty nat_cmp q))))
+
+pub none_kept : (g : ℕ → Option ℕ) (read top : ℕ) → ((q : ℕ) → g q ≡ None) → top ≡ read → IsKept g read top
+none_kept g read top none e = record {
+  from = omega arith;
+  near = omega arith;
+  below = λ q l m h. absurd (clash (g q) (none q) h);
+  least = λ l. absurd (omega arith);
+}
+  where
+    clash : (o : Option ℕ) → o ≡ None → IsSome o → ⊥
+    clash o e h = cc
+
+-- a clean close and an abort, if neither came before
 pub finished_held : (s : Held) (f : ℕ → Option ℕ) (finished : Bool) (read top : ℕ) (aborted : Option ℕ) → shown_by f read (end_shown finished top) aborted ≡ s → is_over s ≡ false → IsKept f read top
     → shown_by f read (end_shown true top) aborted ≡ after_finish s
 finished_held s f finished read top aborted view on kept =

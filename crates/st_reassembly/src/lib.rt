@@ -1,5 +1,5 @@
 //! The receive buffer of one direction of a stream. Chunks arrive at any offset, in any order and more than once. Their
-//! bytes are buffered until they can be read without a gap. Where an offset arrives more than once, its first byte is
+//! bytes are buffered until they can be read without a gap. If an offset arrives more than once, its first byte is
 //! the one that is read.
 //!
 //! The contracts describe the buffer as the finite map of `specs/Held.antt`, and each call as a function of it.

@@ -1,5 +1,5 @@
 //! A window of places, in which the byte at an offset lies at the remainder of the offset.
-ghost use Rattle.std.specs.Prelude.{◌≡◌, ℕ, ◌+◌, ◌-◌, ◌^◌, ◌%◌, ◌<◌, ◌≤◌, ◌⊎◌, if◌then◌else◌, length, max, min, None, nat_lt, IfOk, IsSome, slice_index};
+ghost use Rattle.std.specs.Prelude.{◌≡◌, ℕ, true, ◌+◌, ◌-◌, ◌^◌, ◌%◌, ◌<◌, ◌≤◌, ◌⊎◌, if◌then◌else◌, length, max, min, vec_capacity, None, nat_lt, IfOk, IsSome, slice_index};
 ghost use Rattle.std.specs.Option.{option_or};
 ghost use Rattle.st_tables.specs.Table.{is_between};
 ghost use Rattle.st_reassembly.specs.Ring.{byte_at, cell, place};
@@ -22,7 +22,7 @@ pub struct Ring<A: Allocator> {
     pub marks: Vec<u64, A>,
 }
 
-/// A window with no byte in it. Fails where memory is refused.
+/// A window with no byte in it. Fails if memory is refused.
 pub fn empty<A: Allocator + Copy>(alloc: A) -> Result<Ring<A>, AllocError>
     ensures size { IfOk result (λ r. length r.bytes.items ≡ 65536) }
     ensures words { IfOk result (λ r. length r.marks.items ≡ 1024) }
@@ -33,7 +33,7 @@ pub fn empty<A: Allocator + Copy>(alloc: A) -> Result<Ring<A>, AllocError>
     Ok(Ring { bytes, marks })
 }
 
-/// Where the byte at an offset lies.
+/// The place of the byte at an offset.
 fn place_of(offset: u64) -> usize
     ensures { result ≡ offset % 65536 }
 {
@@ -49,7 +49,7 @@ fn write_at<A: Allocator>(bytes: &mut Vec<u8, A>, at: usize, piece: &[u8])
     bytes[at..at + piece.len()].copy_from_slice(piece);
 }
 
-/// Puts each byte of `piece` into its place, from `at` on, where the place is empty.
+/// Puts each byte of `piece` into its place, from `at` on, if the place is empty.
 fn fill<A: Allocator>(ring: &mut Ring<A>, at: usize, piece: &[u8])
     requires size { length ring.old.bytes.items ≡ 65536 }
     requires words { length ring.old.marks.items ≡ 1024 }
@@ -69,7 +69,7 @@ fn fill<A: Allocator>(ring: &mut Ring<A>, at: usize, piece: &[u8])
     }
 }
 
-/// Puts each byte of `piece` into its place, where the place is empty.
+/// Puts each byte of `piece` into its place, if the place is empty.
 fn lay<A: Allocator>(ring: &mut Ring<A>, offset: u64, piece: &[u8])
     requires size { length ring.old.bytes.items ≡ 65536 }
     requires words { length ring.old.marks.items ≡ 1024 }
@@ -85,8 +85,8 @@ fn lay<A: Allocator>(ring: &mut Ring<A>, offset: u64, piece: &[u8])
     fill(ring, 0, &piece[front..]);
 }
 
-/// Puts each byte of `piece` whose offset is from `low` on and below `high` into its place, where the place is empty.
-/// Gives the offset past the last such byte, or 0 where there is none.
+/// Puts each byte of `piece` whose offset is from `low` on and below `high` into its place, if the place is empty.
+/// Returns the offset past the last such byte, or 0 if there is none.
 pub fn join<A: Allocator>(ring: &mut Ring<A>, offset: u64, piece: &[u8], low: u64, high: u64) -> u64
     requires size { length ring.old.bytes.items ≡ 65536 }
     requires words { length ring.old.marks.items ≡ 1024 }
@@ -158,12 +158,41 @@ pub fn forget<A: Allocator>(ring: &mut Ring<A>, first: u64, count: usize)
     unmark(&mut ring.marks, 0, count - front);
 }
 
-/// Empties each place.
-pub fn clear<A: Allocator>(ring: &mut Ring<A>)
-    requires words { length ring.old.marks.items ≡ 1024 }
-    ensures bytes { ring.new.bytes.items ≡ ring.old.bytes.items }
-    ensures words { length ring.new.marks.items ≡ 1024 }
-    ensures empty { (q : ℕ) → cell ring.new.bytes.items ring.new.marks.items q ≡ None }
+/// A window without memory.
+pub fn none<A: Allocator + Copy>(alloc: A) -> Ring<A>
+    ensures freed { vec_capacity result.bytes + vec_capacity result.marks ≡ 0 }
+    ensures empty { (q : ℕ) → cell result.bytes.items result.marks.items q ≡ None }
 {
-    unmark(&mut ring.marks, 0, PLACES);
+    Ring {
+        bytes: Vec::new(alloc),
+        marks: Vec::new(alloc),
+    }
+}
+
+/// The memory of the window, in bytes.
+pub fn room<A: Allocator>(ring: &Ring<A>) -> usize
+    ensures { vec_capacity ring.now.bytes + vec_capacity ring.now.marks ≡ 0 → result ≡ 0 }
+{
+    ring.bytes
+        .capacity()
+        .saturating_add(ring.marks.capacity().saturating_mul(8))
+}
+
+/// A second window with the same bytes, or without memory if the first has none.
+pub fn copy<A: Allocator + Copy>(
+    alloc: A,
+    ring: &Ring<A>,
+    freed: bool,
+) -> Result<Ring<A>, AllocError>
+    requires { freed ≡ true → vec_capacity ring.now.bytes + vec_capacity ring.now.marks ≡ 0 }
+    ensures bytes { IfOk result (λ r. r.bytes.items ≡ ring.now.bytes.items) }
+    ensures marks { IfOk result (λ r. r.marks.items ≡ ring.now.marks.items) }
+    ensures freed { IfOk result (λ r. freed ≡ true → vec_capacity r.bytes + vec_capacity r.marks ≡ 0) }
+{
+    if freed {
+        return Ok(none(alloc));
+    }
+    let bytes = ring.bytes.clone()?;
+    let marks = ring.marks.clone()?;
+    Ok(Ring { bytes, marks })
 }

@@ -33,7 +33,7 @@ shown parity ss kept fulfilled credit closed = record { parity = parity; streams
 abbrev pub standing : Receiving → ℕ → Slots Held → Standing
 standing r room windows = record { state = r; room = room; windows = windows }
 
--- the stream that was drawn is the one that stands or opens
+-- the stream that was drawn is the current one, or the one that opens
 pub drawn_is : (s : Standing) (parity : ℕ) (ss : Slots Incoming) (kept : List ℕ) (fulfilled : FinSet nat_cmp) (credit : ℕ) (closed : Bool) (room : ℕ) (windows : Slots Held) (k : ℕ) (x : Incoming)
     → standing (shown parity ss kept fulfilled credit closed) room windows ≡ s → x ≡ incoming_or (fresh_incoming (slice_index kept k)) (slot ss k) → x ≡ incoming_at s.state k
 drawn_is s parity ss kept fulfilled credit closed room windows k x e is = is ∙ ap (λ (t : Standing). incoming_at t.state k) e
@@ -50,7 +50,7 @@ or_true : (b : Bool) → (b || true) ≡ true
 or_true true = refl
 or_true false = refl
 
--- and nothing that another may need is taken
+-- and nothing that another stream may need is used up
 pub changed_keeps : (s : Standing) (parity : ℕ) (ss left : Slots Incoming) (kept : List ℕ) (fulfilled : FinSet nat_cmp) (credit : ℕ) (closed : Bool) (room : ℕ) (windows after : Slots Held) (k : ℕ) (y : Incoming)
     → standing (shown parity ss kept fulfilled credit closed) room windows ≡ s → left ≡ set ss k None → k < length ss → ((j : ℕ) → j ≢ k → slot after j ≡ slot windows j)
     → Keeps s (standing (shown parity (set left k (Some y)) kept fulfilled credit closed) room after)

@@ -217,7 +217,7 @@ over_one r fs amount k len l =
     let same = frames_money r fs k in
     over_slot (slice_index t.kept k) (slot t.streams k) p (closed_part r fs amount k len l) ∙ (λ i. nat_lt (same.receive_max i) (same.credited i + p))
 
--- the streams as they were tell as well whether a part is past what its stream may receive
+-- the streams as they were also decide whether a part is past what its stream may receive
 over_same : (r : Receiving) (fs : List Known) (amount : ℕ) (b : Bool) → length r.streams ≡ 65 → IsOverAt r (parts amount (shares fs)) b → any_over_max (after_frames r fs).streams (parts amount (shares fs)) ≡ b
 over_same r fs amount true len h =
     let both : length (parts amount (shares fs)) ≡ length (after_frames r fs).streams = length-parts amount (shares fs) ∙ length_shares fs ∙ sym (frames_length r fs ∙ len) in
@@ -227,7 +227,7 @@ over_same r fs amount false len h =
     none_over (after_frames r fs).streams (parts amount (shares fs)) both (λ k l.
     let m : k < 65 = subst (λ n. k < n) (frames_length r fs ∙ len) l in over_one r fs amount k len m ∙ h k m)
 
--- where no part is past in all, none is by itself
+-- if no part is past in all, none is by itself
 pub fits_over : (r : Receiving) (fs : List Known) (amount : ℕ) → length r.streams ≡ 65 → any_over_max (after_frames r fs).streams (parts amount (shares fs)) ≡ false → IsOverAt r (parts amount (shares fs)) false
 fits_over r fs amount len e k l =
     let within : k < length (after_frames r fs).streams = subst (λ n. k < n) (sym (frames_length r fs ∙ len)) l in

@@ -1,4 +1,4 @@
--- While a direction is not over, its highest byte end received is the least offset past every byte held or read.
+-- While a direction is not over, its highest byte end received is the least offset past every byte buffered or read.
 use Rattle.std.proofs.Common.{◌≡◌, ℕ, zero, suc, ◌+◌, ◌-◌, ◌<◌, ◌≤◌, Bool, true, false, ◌&&◌, ◌||◌, cond, List, [], ◌∷◌, length, take, refl, sym, ap, subst, ◌∙◌, arith, Option, None, Some, ◌⊎◌, inl, inr, max, nat_lt, nat_le, nat_eq}
 use Rattle.std.specs.Prelude.{is_some, is_none, IsSome, slice_get}
 use Rattle.std.specs.Option.{option_or}
@@ -70,7 +70,7 @@ piece_within o q xs true true e h = let l = get_within xs (q - o) h in let m : o
 piece_within o q xs true false e h = absurd (cc)
 piece_within o q xs false b e h = absurd (cc)
 
--- what is held after an insert was held, or is of the piece
+-- what is buffered after an insert was buffered before it, or is of the chunk
 which : (g p : Option ℕ) → IsSome (option_or g p) → IsSome g ⊎ IsSome p
 which None p h = inr h
 which (Some x) p h = inl refl

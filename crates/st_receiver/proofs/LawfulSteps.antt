@@ -266,6 +266,6 @@ none_received (suc n) = let h = none_received n in let a = sum-cons 0 (map credi
 pub new_lawful : (parity : ℕ) → IsLawful (new_receiving parity)
 new_lawful parity = record { places = refl; ends = none_open 65; credits = none_received 65 }
 
--- where a clean close fixes the end
+-- if a clean close fixes the end
 pub close_at : (x : Incoming) → EndsAtHighest x → is_over x.held ≡ false → (with_close 1 x).held.end ≡ Some x.highest
 close_at x h over = ap (λ b. (cond b x.held (record x.held { end = Some (past_all x.held) })).end) over ∙ ap (λ n. Some n) (sym (h over))

@@ -1,4 +1,4 @@
--- What a packet's effect leaves of all that the limits tell: read counts, receive maxima, credits and which streams may be named.
+-- What a packet's effect leaves of all that the limits depend on: read counts, receive maxima, credits and which streams may be named.
 use Rattle.std.proofs.Common.{◌≡◌, ℕ, zero, suc, ◌%◌, Bool, true, false, not, ◌&&◌, ◌||◌, cond, List, [], ◌∷◌, length, map, Option, Some, None, refl, sym, ap, ◌∙◌, subst, arith, nat_eq, nat_lt, nat_le, inl, inr}
 use Rattle.std.specs.Prelude.{is_some, slice_index}
 use Rattle.std.specs.List.{list_any}
@@ -143,7 +143,7 @@ effect_names r amount fs j len e =
     ∙ closes_names m fs j (money_length (nat_lt 0 amount) (after_frames r fs).streams _ ∙ t.len) (λ k o. pays k ∙ t.names k ∙ tracked_named r r (map received_of r.streams) fs k e (tracks-itself r len) o)
     ∙ pays j ∙ t.names j
 
--- ---- what of a stream its limits tell
+-- ---- what of a stream its limits depend on
 
 pub record SameTold (x y : Incoming) : Type 0 where
   pub read : y.held.read ≡ x.held.read

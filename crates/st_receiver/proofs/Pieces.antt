@@ -1,4 +1,4 @@
--- A piece that an inbox takes.
+-- A chunk that an inbox accepts.
 use Rattle.std.proofs.Common.{◌≡◌, ◌+◌, ◌-◌, ◌^◌, ◌<◌, ◌≤◌, ℕ, Bool, true, false, cond, List, length, arith, refl, sym, ap, ◌∙◌, Result, Ok, Err, IsOk}
 use Rattle.std.specs.Prelude.{is_err, nat_le, nat_lt, not, ◌&&◌}
 use Rattle.std.proofs.lemmas.Bool.Decides.{nat_tests}
@@ -57,7 +57,7 @@ err_by false false false t u e = refl
 err_by false true false t u e = absurd (cc)
 err_by false false true t u e = absurd (cc)
 
--- whether it is refused goes by how the direction stands alone
+-- whether it is refused depends on the state of the direction alone
 pub err_same : (offset : ℕ) (xs : List ℕ) (s t : Held) → (not (is_over s) && nat_lt (s.read + 65536) (offset + length xs)) ≡ (not (is_over t) && nat_lt (t.read + 65536) (offset + length xs)) → is_err (inserted offset xs s) ≡ is_err (inserted offset xs t)
 unfolding inserted
 err_same offset xs s t e = err_by (nat_le (2 ^ 64) (offset + length xs)) _ _ (after_insert offset xs s) (after_insert offset xs t) e

@@ -1,4 +1,4 @@
--- Runs of sequences: what each change of one leaves, and the set that they stand for.
+-- Runs of sequences: what each change of one leaves, and the set of their numbers.
 use Rattle.std.proofs.Common.{◌≡◌, ◌≢◌, ◌↔◌, ℕ, zero, suc, ◌+◌, ◌-◌, ◌/◌, ◌<◌, ◌≤◌, Bool, true, false, ◌&&◌, ◌||◌, List, [], ◌∷◌, ◌++◌, length, set, get_or, insert, remove, inl, inr, refl, sym, ap, ◌∙◌, subst, arith, nat_eq, nat_le}
 use Rattle.std.specs.List.{flat_map, range_with_len, list_any}
 use Rattle.std.specs.Ordering.{nat_cmp, eq_by_cmp}
@@ -34,7 +34,7 @@ rise_from : (low low2 : ℕ) (rs : List Run) → (0 < length rs → low2 ≤ fir
 rise_from low low2 [] l h = h
 rise_from low low2 (r ∷ rs) l h = (l (omega arith), h.1, h.2)
 
--- where a run ends is no less than where it begins
+-- the end of a run is no less than its start
 pub rise_fits : (low : ℕ) (rs : List Run) (k : ℕ) → Rise low rs → k < length rs → first_at rs k ≤ last_at rs k
 rise_fits low [] k h l = absurd (omega arith)
 rise_fits low (r ∷ rs) zero h l = h.1
@@ -52,7 +52,7 @@ rise_apart low (r ∷ rs) i zero h l m = absurd (omega arith)
 rise_apart low (r ∷ rs) zero (suc k) h l m = let a = rise_low (r.last + 2) rs k h.2 (omega arith) in omega (arith, a)
 rise_apart low (r ∷ rs) (suc i) (suc k) h l m = rise_apart (r.last + 2) rs i k h.2 (omega arith) (omega arith)
 
--- ---- a run that is made longer behind
+-- ---- a run that is made longer at its end
 
 longer_in : (a b s q : ℕ) → a ≤ b → b + 1 ≡ s → (nat_le a q && nat_le q s) ≡ (nat_eq q s || (nat_le a q && nat_le q b))
 longer_in a b s q l e = grind (arith, nat_tests)
@@ -180,12 +180,12 @@ set_of-nil = refl
 same_test : (q s : ℕ) → nat_eq q s ≡ eq_by_cmp nat_cmp q s
 same_test q s = grind (arith, nat_tests)
 
--- runs with one number more stand for the set with it
+-- runs with one number more have the set with it
 pub set_of_more : (rs ts : List Run) (s : ℕ) → Rise 0 rs → Rise 0 ts → ((q : ℕ) → is_among q ts ≡ (nat_eq q s || is_among q rs)) → set_of ts ≡ fset.insert (set_of rs) s
 set_of_more rs ts s h k is = fset.same_set nat_cmp_total fset.nat_cmp-IsAntisymmetric (set_of ts) (fset.insert (set_of rs) s)
     (λ q. contains_runs ts q k ∙ is q ∙ ap (λ b. nat_eq q s || b) (sym (contains_runs rs q h)) ∙ ap (λ b. b || fset.contains (set_of rs) q) (same_test q s) ∙ sym (fset.contains-insert nat_cmp_total (set_of rs) s q))
 
--- ---- as the code looks at runs
+-- ---- as the code reads runs
 
 pub run_at : (rs : List Run) (i : ℕ) (r : Run) → i < length rs → r ≡ get_or rs i r → (r.first ≡ first_at rs i) × (r.last ≡ last_at rs i)
 run_at [] i r l e = absurd (omega arith)
@@ -217,7 +217,7 @@ begins_later rs i s p f l = not_yet (first_at rs i) s (sym (among_here rs i s p 
 begins_apart : (rs : List Run) (i s : ℕ) → IsPlace rs i s → is_among s rs ≡ false → (i < length rs → s + 1 ≢ first_at rs i) → i < length rs → s + 1 < first_at rs i
 begins_apart rs i s p f n l = let later = begins_later rs i s p f l in let other = n l in omega (arith, later, other)
 
--- and right behind none
+-- and right after none
 ends_apart : (rs : List Run) (p s : ℕ) → IsPlace rs p s → (0 < p → last_at rs (p - 1) + 1 ≢ s) → (k : ℕ) → k < p → last_at rs k + 1 < s
 ends_apart rs p s pl n k l =
     let within : p - 1 < length rs = let w = pl.within in omega (arith, w, l) in

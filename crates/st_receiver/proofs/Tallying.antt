@@ -113,7 +113,7 @@ over_paid : (o : Option Incoming) (p : ℕ) → over_of (with_credit o p) ≡ ov
 over_paid None p = refl
 over_paid (Some x) p = refl
 
--- once data and money came, the ends have risen alone
+-- once data and money are applied, the ends have risen alone
 pub counts_start : (r : Receiving) (amount : ℕ) (fs : List Known) (t : Tally) → length r.streams ≡ 65 → frames_fault r fs ≡ None
     → t.ends ≡ map received_of (after_frames r fs).streams → t.reads ≡ map read_of r.streams → t.over ≡ map over_of r.streams → Counts (after_money (after_frames r fs) amount fs) t
 counts_start r amount fs t len e ends reads over =
@@ -152,7 +152,7 @@ map_of_map : (f : Option Incoming → ℕ) (g : Option Incoming → Option Incom
 map_of_map f g h e [] = refl
 map_of_map f g h e (s ∷ ss) = let first = e s in let rest = map_of_map f g h e ss in λ i. first i ∷ rest i
 
--- what counts as read once the ConnectionClose frames of a packet came
+-- what counts as read once the ConnectionClose frames of a packet are applied
 abbrev pub reads_by : Bool → Slots Incoming → List ℕ
 reads_by b ss = cond b (map aborted_read ss) (map read_of ss)
 

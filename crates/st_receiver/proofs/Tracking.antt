@@ -163,7 +163,7 @@ pub may_alone : (a : Bool) → cond a None (Some StreamId) ≡ None → a ≡ tr
 may_alone true e = refl
 may_alone false e = absurd cc
 
--- a frame that is taken is counted
+-- a frame that breaks no rule is counted
 pub tracks-next : (r cur : Receiving) (ends : List ℕ) (limit : ℕ) (f : Known) → told_fault r ends limit f ≡ None → Tracks r cur ends → Tracks r (after_frame cur f) (ends_after r ends f)
 tracks-next r cur ends limit (StreamData k o xs) e t = tracks-data r cur ends k o xs (may_of (may_name r k) (piece_fault r ends limit k o xs) e) t
 tracks-next r cur ends limit (StreamMoney k n) e t = tracks-open r cur ends k (may_alone (may_name r k) e) t
@@ -234,6 +234,6 @@ both_none : (a b : Option Reason) → option_or a b ≡ None → (a ≡ None) ×
 both_none None b e = (refl, e)
 both_none (Some x) b e = absurd cc
 
--- where no frame of a list breaks a rule
+-- if no frame of a list breaks a rule
 pub frames_none : (cur : Receiving) (f : Known) (fs : List Known) → frames_fault cur (f ∷ fs) ≡ None → (frame_fault cur f ≡ None) × (frames_fault (after_frame cur f) fs ≡ None)
 frames_none cur f fs e = both_none (frame_fault cur f) (frames_fault (after_frame cur f) fs) (sym (fault-cons cur f fs) ∙ e)

@@ -11,7 +11,7 @@ use Rattle.st_receiver.specs.declared.reason.Reason.TheVariants.{FlowControl, St
 use Rattle.st_receiver.specs.Streams.{Incoming, Receiving, incoming_at, with_incoming, opened_stream, may_name, all_received}
 use Rattle.st_receiver.specs.Limits.{connection_limit}
 
--- the highest byte end, which data that are dropped do not raise; an empty piece has no byte
+-- the highest byte end, which data that are dropped do not raise; an empty chunk has no byte
 abbrev pub raised_to : ℕ → List ℕ → Incoming → ℕ
 raised_to offset xs x = if is_over x.held || nat_eq (length xs) 0 then x.highest else max x.highest (offset + length xs)
 
@@ -21,7 +21,7 @@ with_data offset xs x = record x { held = after_insert offset xs x.held; highest
 abbrev pub after_data : Receiving → (stream offset : ℕ) → List ℕ → Receiving
 after_data r stream offset xs = with_incoming r stream (with_data offset xs (incoming_at r stream))
 
--- bytes that count, and that end past the connection's limit as it is told
+-- bytes that count, and that end past the connection's limit as it is advertised
 abbrev pub is_past_connection : Receiving → (stream offset : ℕ) → List ℕ → Bool
 is_past_connection r stream offset xs =
     not (is_over (incoming_at r stream).held || nat_eq (length xs) 0)

@@ -18,13 +18,13 @@ pub record IsPlanFor (s : Standing) (p : Packet) (plan : Plan) : Type 0 where
   pub lawful : fault_of s.state p plan.amount ≡ None
   pub room : HasRoom s p
 
--- the packet may take effect, or a reason stands: want of memory only where no other reason does
+-- the packet may take effect, or there is a reason: out of memory only if no other reason applies
 abbrev pub IsDecision : Standing → Packet → (amount : ℕ) → Decision → Type 0
 IsDecision s p amount (Fulfill plan) = (plan.amount ≡ amount) × IsPlanFor s p plan
 IsDecision s p amount (Reject code reason) =
     (code ≡ code_of reason) × ((fault_of s.state p amount ≡ Some reason) ⊎ ((reason ≡ NoMemory) × (fault_of s.state p amount ≡ None)))
 
--- what stands once the answer to a packet was chosen: what the packet leaves, where a plan lets it take effect
+-- the state once the answer to a packet was chosen: what the packet leaves, if a plan lets it take effect
 abbrev pub state_by : Receiving → Packet → Option Plan → Receiving
 state_by r p None = r
 state_by r p (Some plan) = effect r p plan.amount

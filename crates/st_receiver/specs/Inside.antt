@@ -24,11 +24,11 @@ held_or (Some x) = x.held
 abbrev pub held_at : Receiving → ℕ → Held
 held_at r k = held_or (slot r.streams k)
 
--- a piece has bytes that count for the connection
+-- a chunk has bytes that count for the connection
 abbrev pub counts : Held → List ℕ → Bool
 counts h xs = not (is_over h || nat_eq (length xs) 0)
 
--- the highest byte end once a piece came
+-- the highest byte end once a chunk arrived
 abbrev pub raised : Held → (highest offset : ℕ) → List ℕ → ℕ
 raised h highest offset xs = if is_over h || nat_eq (length xs) 0 then highest else max highest (offset + length xs)
 
@@ -75,7 +75,7 @@ unfoldable pub with_all_shares : List ℕ → List Known → List ℕ
 with_all_shares ms [] = ms
 with_all_shares ms (f ∷ fs) = with_all_shares (with_shares ms f) fs
 
--- shares for a stream, where there are any
+-- shares for a stream, if there are any
 abbrev pub plus : List ℕ → Option (ℕ × ℕ) → List ℕ
 plus ms None = ms
 plus ms (Some x) = slice_set ms x.0 (slice_index ms x.0 + x.1)
@@ -99,9 +99,9 @@ mix zero gs os = os
 mix (suc k) (g ∷ gs) (o ∷ os) = g ∷ mix k gs os
 mix (suc k) gs os = os
 
--- ---- what a reply tells
+-- ---- what a reply reports
 
--- the highest byte ends once frames came, or why they are not taken
+-- the highest byte ends once frames arrived, or why they are rejected
 abbrev pub IsEnds : Receiving → List Known → Result (List ℕ) Reason → Type 0
 IsEnds r fs result = MatchResult result (λ ends. (frames_fault r fs ≡ None) × (ends ≡ map received_of (after_frames r fs).streams)) (λ fault. frames_fault r fs ≡ Some fault)
 
@@ -116,7 +116,7 @@ pub record Counts (r : Receiving) (t : Tally) : Type 0 where
   pub over : t.over ≡ map over_of r.streams
   pub len : length r.streams ≡ 65
 
--- the first close stands, and with another code than 1 all counts as read
+-- the first close counts, and with another code than 1 all counts as read
 abbrev pub closed_at : Tally → (stream code : ℕ) → Tally
 closed_at t k code = record t {
   reads = (if slice_index_or t.over k false || nat_eq code 1 then t.reads else slice_set t.reads k (slice_index t.ends k));

@@ -12,7 +12,7 @@ use Rattle.st_receiver.specs.Data.{frames_fault, after_frames}
 use Rattle.st_receiver.specs.Money.{money_fault, after_money}
 use Rattle.st_receiver.specs.Closes.{after_closes, after_connection_closes}
 
--- the reason of a Reject, where a packet came with this amount
+-- the reason of a Reject, if a packet arrived with this amount
 abbrev pub fault_of : Receiving → Packet → (amount : ℕ) → Option Reason
 fault_of r p amount =
     if r.closed then Some ConnectionClosed

@@ -5,7 +5,7 @@ use Rattle.st_reassembly.specs.Held.{is_over}
 use Rattle.st_reassembly.specs.Closing.{past_all}
 use Rattle.st_receiver.specs.Streams.{Incoming, Receiving, all_credited}
 
--- while a direction is not over, its highest byte end received is past every byte held or read, and the least such
+-- while a direction is not over, its highest byte end received is the least one past every byte buffered or read
 abbrev pub EndsAtHighest : Incoming → Type 0
 EndsAtHighest x = is_over x.held ≡ false → x.highest ≡ past_all x.held
 

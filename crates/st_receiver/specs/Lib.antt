@@ -6,6 +6,7 @@ pub mod Closes
 pub mod Judged
 pub mod Limits
 pub mod Reading
+pub mod Ready
 pub mod Sequences
 pub mod Standing
 pub mod Decided

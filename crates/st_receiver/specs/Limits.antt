@@ -1,4 +1,4 @@
--- The limits that stand at the receiver, as frames (RFC 0029, section 5.3). The sizes of the windows are this profile's own.
+-- The receiver's current limits, as frames (RFC 0029, section 5.3). The sizes of the windows are this profile's own.
 use Rattle.std.specs.Prelude.{ℕ, ◌+◌, ◌-◌, ◌^◌, List, [], ◌∷◌, min, if◌then◌else◌}
 use Rattle.std.specs.List.{flat_map, range_with_len, list_any}
 use Rattle.st_frames.specs.Frames.{Known, ConnectionMaxData, StreamMaxMoney, StreamMaxData}
@@ -16,7 +16,7 @@ connection_limit r = capped (all_read r + 1048576)
 abbrev pub told_by : (stream : ℕ) → Incoming → List Known
 told_by k x = StreamMaxData k (capped (x.held.read + 65536)) ∷ StreamMaxMoney k x.receive_max x.credited ∷ []
 
--- where it is open or the peer may open it
+-- if it is open or the peer may open it
 abbrev pub limits_of : Receiving → ℕ → List Known
 limits_of r k = if may_name r k then told_by k (incoming_at r k) else []
 
@@ -24,7 +24,7 @@ limits_of r k = if may_name r k then told_by k (incoming_at r k) else []
 unfoldable pub limits : Receiving → List Known
 limits r = ConnectionMaxData (connection_limit r) ∷ flat_map (limits_of r) (range_with_len 1 64)
 
--- those that a reply tells: of the streams that the request's frames name
+-- those in a reply: of the streams that the request's frames name
 abbrev pub named_limits : Receiving → List Known → ℕ → List Known
 named_limits r fs k = if list_any (names k) fs then limits_of r k else []
 

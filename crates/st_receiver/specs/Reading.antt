@@ -22,7 +22,7 @@ abbrev pub is_read : ℕ → Option ℕ → Bool
 is_read read None = false
 is_read read (Some end) = nat_eq end read
 
--- where no byte can be read: the end, if all before it was read
+-- if no byte can be read: the end, if all before it was read
 abbrev pub got_none : Held → Got
 got_none h = if is_read h.read h.end then End else Nothing
 
@@ -34,7 +34,7 @@ abbrev pub got_by : Option ℕ → (limit : ℕ) → Held → Got
 got_by (Some code) limit h = Aborted code
 got_by None limit h = got_bytes h (take limit (run h))
 
--- the first bytes of the run, as many as the lesser of the limit and the run; where there is none the end, or nothing
+-- the first bytes of the run, at most `limit`; if there are none the end, or nothing
 abbrev pub got : (limit : ℕ) → Held → Got
 got limit h = got_by h.aborted limit h
 
@@ -42,7 +42,7 @@ abbrev pub after_bytes : (limit : ℕ) → Held → List ℕ → Held
 after_bytes limit h [] = h
 after_bytes limit h (x ∷ xs) = after_take limit h
 
--- what was read is held no longer
+-- what was read is buffered no longer
 abbrev pub after_got_by : Option ℕ → (limit : ℕ) → Held → Held
 after_got_by (Some code) limit h = h
 after_got_by None limit h = after_bytes limit h (take limit (run h))

@@ -26,7 +26,7 @@ f99 = 70 ∷ 57 ∷ 57 ∷ []
 abbrev pub t00 : List ℕ
 t00 = 84 ∷ 48 ∷ 48 ∷ []
 
--- a want of memory may pass, so the sender may try again; the packet itself is at fault in all else
+-- memory may be available later, so the sender may try again; the packet itself is at fault in all else
 abbrev pub code_of : Reason → List ℕ
 code_of Repeated = f99
 code_of AmountTooSmall = f99

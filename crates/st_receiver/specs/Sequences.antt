@@ -16,7 +16,7 @@ is_among q rs = list_any (is_in q) rs
 abbrev pub numbers : Run → List ℕ
 numbers r = range_with_len r.first (r.last + 1 - r.first)
 
--- the set that runs stand for
+-- the set of the runs' numbers
 unfoldable pub set_of : List Run → FinSet nat_cmp
 set_of rs = from_list (flat_map numbers rs)
 
@@ -25,19 +25,19 @@ abbrev pub Rise : ℕ → List Run → Type 0
 Rise low [] = Unit {0}
 Rise low (r ∷ rs) = (low ≤ r.first) × (r.first ≤ r.last) × Rise (r.last + 2) rs
 
--- where the run at a place ends
+-- the end of the run at a place
 abbrev pub last_at : List Run → ℕ → ℕ
 last_at [] k = 0
 last_at (r ∷ rs) zero = r.last
 last_at (r ∷ rs) (suc k) = last_at rs k
 
--- and where it begins
+-- and its start
 abbrev pub first_at : List Run → ℕ → ℕ
 first_at [] k = 0
 first_at (r ∷ rs) zero = r.first
 first_at (r ∷ rs) (suc k) = first_at rs k
 
--- so many runs end before a number, and they rise
+-- `place` runs end before a number, and they rise
 pub record IsPlace (rs : List Run) (place q : ℕ) : Type 0 where
   pub rise : Rise 0 rs
   pub within : place ≤ length rs

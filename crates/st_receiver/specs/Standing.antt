@@ -1,4 +1,4 @@
--- What an end received, with the memory that was taken in advance: it changes nothing that is received.
+-- What an end received, with memory allocated in advance: it changes nothing that is received.
 use Rattle.std.specs.Prelude.{◌≡◌, ◌≤◌, ℕ, Bool, true, false, ◌||◌, List, is_some, nat_eq}
 use Rattle.std.specs.List.{list_any}
 use Rattle.std.specs.Ordering.{nat_cmp}
@@ -22,7 +22,7 @@ pub record Standing : Type 0 where
 abbrev pub is_ready : Standing → ℕ → Bool
 is_ready s k = is_some (slot s.state.streams k) || is_some (slot s.windows k)
 
--- a frame that opens its stream where it is not open
+-- a frame that opens its stream if it is not open
 abbrev pub opens : ℕ → Known → Bool
 opens k (StreamData stream offset bytes) = nat_eq stream k
 opens k (StreamMoney stream shares) = nat_eq stream k

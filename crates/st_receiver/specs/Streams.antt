@@ -83,7 +83,7 @@ credited_of (Some x) = x.credited
 abbrev pub all_credited : Receiving → ℕ
 all_credited r = sum (map credited_of r.streams)
 
--- the greater of the old and the new receive max stands
+-- the greater of the old and the new receive max is kept
 abbrev pub with_max : ℕ → Incoming → Incoming
 with_max amount x = record x { receive_max = max x.receive_max amount }
 

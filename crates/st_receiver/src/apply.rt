@@ -56,7 +56,7 @@ pub(crate) fn drawn<A: Allocator + Copy>(
 }
 
 impl<A: Allocator + Copy> Intake<A> {
-    /// Bytes come on a stream, which opens where it was not open.
+    /// Bytes arrive on a stream, which opens if it was not open.
     fn take_data(&mut self, stream: u64, offset: u64, bytes: &[u8])
         requires ready { is_ready self.old stream ≡ true }
         requires lawful { is_err (inserted offset bytes.now (incoming_at self.old.state stream).held) ≡ false }
@@ -69,7 +69,7 @@ impl<A: Allocator + Copy> Intake<A> {
         self.slots[k] = Some(incoming);
     }
 
-    /// A stream opens where it was not open.
+    /// A stream opens if it was not open.
     pub(crate) fn open_ready(&mut self, stream: u64)
         requires ready { is_ready self.old stream ≡ true }
         ensures state { self.new.state ≡ opened_stream self.old.state stream }
@@ -127,7 +127,7 @@ impl<A: Allocator + Copy> Intake<A> {
         self.slots[k] = Some(incoming);
     }
 
-    /// A frame closes its stream, where it is a StreamClose.
+    /// A frame closes its stream, if it is a StreamClose.
     fn take_close(&mut self, frame: Frame<'_>)
         requires ready { (k : ℕ) → opens k (seen frame) ≡ true → is_ready self.old k ≡ true }
         ensures state { self.new.state ≡ after_close self.old.state (seen frame.entry) }
@@ -189,7 +189,7 @@ impl<A: Allocator + Copy> Intake<A> {
         self.closed = true;
     }
 
-    /// A frame closes the connection, where it is a ConnectionClose.
+    /// A frame closes the connection, if it is a ConnectionClose.
     fn take_connection_close(&mut self, frame: Frame<'_>)
         ensures state { self.new.state ≡ after_connection_close self.old.state (seen frame.entry) }
         ensures room { self.new.room ≡ self.old.room }

@@ -75,8 +75,8 @@ impl<A: Allocator + Copy> Intake<A> {
         self.credit
     }
 
-    /// Opens a stream of this end's own, of a number below 65. Where it is open already, it stays as it is. Fails with
-    /// `NoMemory` where memory is refused, and then nothing has changed.
+    /// Opens a stream of this end's own, of a number below 65. If it is open already, it stays as it is. Fails with
+    /// `NoMemory` if memory is refused, and then nothing has changed.
     pub fn open(&mut self, stream: u64) -> Result<(), Reason>
         requires { stream < 65 }
         ensures only_memory { IsOkUnless result Reason.NoMemory }
@@ -88,7 +88,7 @@ impl<A: Allocator + Copy> Intake<A> {
         Ok(())
     }
 
-    /// The amount credited on a stream, in units of this end's asset: 0 where the stream is not open. Does not
+    /// The amount credited on a stream, in units of this end's asset: 0 if the stream is not open. Does not
     /// allocate.
     pub fn credited_to(&self, stream: u64) -> u64
         ensures { result ≡ credited_of (slot self.now.state.streams stream) }
@@ -134,9 +134,9 @@ impl<A: Allocator + Copy> Intake<A> {
         }
     }
 
-    /// Reads the first bytes that can be read on an open stream, at most `max` of them. Where there are none, it gives
+    /// Reads the first bytes that can be read on an open stream, at most `max` of them. If there are none, it gives
     /// `End` once all bytes were read, else `Nothing`. After an abort it gives `Aborted` with the code. Fails with
-    /// `NoMemory` where memory is refused, and then nothing has changed.
+    /// `NoMemory` if memory is refused, and then nothing has changed.
     pub fn read(&mut self, stream: u64, max: usize) -> Result<Got<A>, Reason>
         requires { is_open self.old.state stream ≡ true }
         ensures only_memory { IsOkUnless result Reason.NoMemory }

@@ -66,7 +66,7 @@ fn any_closes(mut frames: Frames<'_>) -> bool
 }
 
 impl Tally {
-    /// A stream is closed: the first close stands, and with another code than 1 all counts as read.
+    /// A stream is closed: the first close counts, and with another code than 1 all counts as read.
     fn close(&mut self, stream: u64, code: u8)
         requires { stream < 65 }
         ensures { self.new ≡ inside.closed_at self.old stream code }
@@ -78,7 +78,7 @@ impl Tally {
         self.over[k] = true;
     }
 
-    /// A frame closes its stream, where it is a StreamClose.
+    /// A frame closes its stream, if it is a StreamClose.
     fn take_close(&mut self, frame: Frame<'_>)
         ensures { (r : Receiving) → inside.Counts r self.old → inside.Counts (after_close r (seen frame.entry)) self.new }
     {

@@ -78,7 +78,7 @@ fn all_received<A: Allocator + Copy>(slots: &Vec<Option<Incoming<A>>, A>) -> [u6
     ends
 }
 
-/// A limit as it is told: none goes past the greatest offset.
+/// A limit as it is advertised: at most the greatest offset.
 pub(crate) fn capped(limit: u128) -> u64
     ensures { result ≡ limits.capped limit }
 {
@@ -89,7 +89,7 @@ pub(crate) fn capped(limit: u128) -> u64
     }
 }
 
-/// The limit of the connection as it is told, by what counts as read on each stream.
+/// The limit of the connection as it is advertised, by what counts as read on each stream.
 pub(crate) fn limit_by(reads: &[u64; 65]) -> u64
     ensures { result ≡ limits.capped (sum reads.now + 1048576) }
 {
@@ -116,7 +116,7 @@ fn read_count<A: Allocator + Copy>(slot: &Option<Incoming<A>>) -> u64
     }
 }
 
-/// A piece ends past the greatest offset or past the stream's window.
+/// A chunk ends past the greatest offset or past the stream's window.
 #[tactic(auto, using(crate::proofs::Pieces::pieces))]
 fn is_past<A: Allocator + Copy>(slot: &Option<Incoming<A>>, offset: u64, bytes: &[u8]) -> bool
     ensures { result ≡ is_err (inserted offset bytes.now (inside.held_or slot.now)) }
@@ -127,14 +127,14 @@ fn is_past<A: Allocator + Copy>(slot: &Option<Incoming<A>>, offset: u64, bytes: 
     !is_over(slot) && WINDOW < end.saturating_sub(read_count(slot))
 }
 
-/// A piece has bytes that count for the connection.
+/// A chunk has bytes that count for the connection.
 fn counts<A: Allocator + Copy>(slot: &Option<Incoming<A>>, bytes: &[u8]) -> bool
     ensures { result ≡ inside.counts (inside.held_or slot.now) bytes.now }
 {
     !(is_over(slot) || bytes.is_empty())
 }
 
-/// A highest byte end once a piece came.
+/// A highest byte end once a chunk arrived.
 fn raised<A: Allocator + Copy>(
     slot: &Option<Incoming<A>>,
     highest: u64,
@@ -151,7 +151,7 @@ fn raised<A: Allocator + Copy>(
 }
 
 impl<A: Allocator + Copy> Intake<A> {
-    /// The limit of the connection as it is told.
+    /// The limit of the connection as it is advertised.
     pub(crate) fn connection_limit(&self) -> u64
         ensures { result ≡ limits.connection_limit self.now.state }
     {
@@ -168,7 +168,7 @@ impl<A: Allocator + Copy> Intake<A> {
         Some(Reason::StreamId)
     }
 
-    /// Why a piece is not taken on a stream that may be named. Where it is, its end counts from now on.
+    /// Why a chunk is refused on a stream that may be named. If it is not, its end counts from now on.
     fn piece_fault(
         &self,
         ends: &mut [u64; 65],
@@ -193,7 +193,7 @@ impl<A: Allocator + Copy> Intake<A> {
         None
     }
 
-    /// Why a frame is not taken. Where it is, its data count from now on.
+    /// Why a frame is refused. If it is not, its data count from now on.
     fn frame_fault(&self, ends: &mut [u64; 65], limit: u64, frame: Frame<'_>) -> Option<Reason>
         ensures fault { result ≡ inside.told_fault self.now.state ends.old limit (seen frame.entry) }
         ensures next { result ≡ None → ends.new ≡ inside.ends_after self.now.state ends.old (seen frame.entry) }
@@ -220,7 +220,7 @@ impl<A: Allocator + Copy> Intake<A> {
         }
     }
 
-    /// The highest byte ends once the frames of a packet came, or why they are not taken: the first that breaks a rule
+    /// The highest byte ends once a packet's frames arrived, or why they are refused: the first that breaks a rule
     /// decides.
     pub(crate) fn ends_after(&self, mut frames: Frames<'_>) -> Result<[u64; 65], Reason>
         ensures { inside.IsEnds self.now.state (map frame_of frames.entry) result }
@@ -235,7 +235,7 @@ impl<A: Allocator + Copy> Intake<A> {
         Ok(ends)
     }
 
-    /// Why the frames of a packet are not taken.
+    /// Why the frames of a packet are refused.
     pub(crate) fn frames_fault(&self, frames: Frames<'_>) -> Option<Reason>
         ensures { result ≡ taken.frames_fault self.now.state (map frame_of frames.entry) }
     {

@@ -10,6 +10,7 @@ ghost use Rattle.std.specs.Prelude.{Some};
 ghost use Rattle.st_reassembly.specs.Closing.{after_abort};
 ghost use Rattle.st_reassembly.specs.Run.{run, after_take};
 ghost use Rattle.st_receiver.specs.Reading.{Bytes, is_read, got_count, got_none, got, after_get};
+ghost use Rattle.st_receiver.specs.Ready.{is_some_got};
 ghost use Rattle.st_receiver.specs.Decided.{got_seen};
 
 use crate::got::Got;
@@ -40,7 +41,7 @@ impl<A: Allocator + Copy> Model for Window<A> {
 }
 
 impl<A: Allocator + Copy> Window<A> {
-    /// Takes the memory for all that a stream will hold.
+    /// Allocates the memory for all that a stream will buffer.
     pub(crate) fn new(alloc: A) -> Result<Window<A>, InboxError>
         ensures only_memory { IsOkUnless result InboxError.NoMemory }
     {
@@ -131,7 +132,7 @@ impl<A: Allocator + Copy> Incoming<A> {
         self.inbox.end_at().is_some() || self.inbox.abort_code().is_some()
     }
 
-    /// The highest byte end once a piece came.
+    /// The highest byte end once a chunk arrived.
     fn raised(&self, offset: u64, bytes: &[u8]) -> u64
         requires { offset + length bytes.now < 2 ^ 64 }
         ensures { result ≡ raised_to offset bytes.now self.now }
@@ -142,7 +143,7 @@ impl<A: Allocator + Copy> Incoming<A> {
         self.highest.max(offset + bytes.len() as u64)
     }
 
-    /// Takes a piece that ends within the window.
+    /// Buffers a chunk that ends within the window.
     #[tactic(auto, using(crate::proofs::Pieces::pieces))]
     pub(crate) fn put(&mut self, offset: u64, bytes: &[u8])
         requires { is_err (inserted offset bytes.now self.old.held) ≡ false }
@@ -196,7 +197,7 @@ impl<A: Allocator + Copy> Incoming<A> {
         }
     }
 
-    /// What can be told where no byte can be read.
+    /// What can be reported if no byte can be read.
     fn get_none(&self) -> Got<A>
         ensures told { got_seen result ≡ got_none self.now.held }
         ensures none { got_count (got_seen result) ≡ 0 }
@@ -208,7 +209,7 @@ impl<A: Allocator + Copy> Incoming<A> {
         }
     }
 
-    /// The first bytes of the run, where there are any.
+    /// The first bytes of the run, if there are any.
     fn get_some(&mut self, max: usize) -> Result<Got<A>, Reason>
         ensures only_memory { IsOkUnless result Reason.NoMemory }
         ensures got { IfOk result (λ g. got_seen g ≡ Bytes (take max (run self.old.held))) }
@@ -220,6 +221,19 @@ impl<A: Allocator + Copy> Incoming<A> {
             Ok(bytes) => Ok(Got::Bytes(bytes)),
             Err(_) => Err(Reason::NoMemory),
         }
+    }
+
+    /// Whether a read gives anything.
+    pub(crate) fn is_ready(&self) -> bool
+        ensures { result ≡ is_some_got (got 1 self.now.held) }
+    {
+        if self.inbox.abort_code().is_some() {
+            return true;
+        }
+        if self.inbox.run_length().min(1) == 0 {
+            return self.is_read();
+        }
+        true
     }
 
     /// A read, of at most `max` bytes.

@@ -25,7 +25,7 @@ pub struct Intake<A: Allocator + Copy> {
     pub(crate) alloc: A,
     /// Of this end's own stream numbers: 1 for a client, 0 for a server.
     pub(crate) parity: u8,
-    /// The streams by number, where they are open.
+    /// The streams by number, if they are open.
     pub(crate) slots: Vec<Option<Incoming<A>>, A>,
     /// The empty windows that wait for streams that are not open.
     pub(crate) windows: Vec<Option<Window<A>>, A>,
@@ -86,7 +86,7 @@ fn no_places<T: Drop, A: Allocator>(alloc: A) -> Result<Vec<Option<T>, A>, Reaso
 
 impl<A: Allocator + Copy> Intake<A> {
     /// A receiving side with no open stream. `parity` is that of this end's own stream numbers (RFC 0029, section 4.1):
-    /// 1 for a client, 0 for a server. Fails with `NoMemory` where memory is refused.
+    /// 1 for a client, 0 for a server. Fails with `NoMemory` if memory is refused.
     pub fn new(alloc: A, parity: u8) -> Result<Intake<A>, Reason>
         ensures only_memory { IsOkUnless result Reason.NoMemory }
         ensures empty { IfOk result (λ s. s.state ≡ new_receiving parity) }

@@ -39,7 +39,7 @@ impl<A: Allocator + Copy> Intake<A> {
         Ok(())
     }
 
-    /// Takes the memory for the stream that a frame opens, where it is not open.
+    /// Allocates the memory for the stream that a frame opens, if it is not open.
     fn make_frame_ready(&mut self, frame: Frame<'_>) -> Result<(), Reason>
         ensures only_memory { IsOkUnless result Reason.NoMemory }
         ensures state { self.new.state ≡ self.old.state }
@@ -62,7 +62,7 @@ impl<A: Allocator + Copy> Intake<A> {
         }
     }
 
-    /// Takes the memory for each stream that the frames open, where it is not open.
+    /// Allocates the memory for each stream that the frames open, if it is not open.
     fn make_all_ready(&mut self, mut frames: Frames<'_>) -> Result<(), Reason>
         requires lawful { taken.frames_fault self.old.state (map frame_of frames) ≡ None }
         ensures only_memory { IsOkUnless result Reason.NoMemory }
@@ -86,7 +86,7 @@ impl<A: Allocator + Copy> Intake<A> {
         Ok(())
     }
 
-    /// Takes all memory that a packet's effect will want.
+    /// Allocates all memory that a packet's effect will need.
     fn reserve(&mut self, packet: &StreamPacket<'_>) -> Result<(), Reason>
         requires lawful { taken.frames_fault self.old.state (map frame_of packet.now.frames) ≡ None }
         ensures only_memory { IsOkUnless result Reason.NoMemory }
@@ -119,8 +119,8 @@ impl<A: Allocator + Copy> Intake<A> {
     }
 
     /// Decides on a packet (RFC 0029, section 5) whose Prepare has this amount, in units of this end's asset. It
-    /// changes nothing that was received, but takes all memory that the packet's effect needs. The reason of a Reject
-    /// is the first rule that the packet breaks. It is `NoMemory` only where the packet breaks no rule and memory is
+    /// changes nothing that was received, but allocates all memory that the packet's effect needs. The reason of a
+    /// Reject is the first rule that the packet breaks. It is `NoMemory` only if the packet breaks no rule and memory is
     /// refused.
     pub fn judge(&mut self, packet: &StreamPacket<'_>, amount: u64) -> Decision
         ensures state { self.new.state ≡ self.old.state }

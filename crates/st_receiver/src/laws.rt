@@ -10,7 +10,7 @@ ghost use Rattle.st_receiver.specs.Judged.{fault_of, effect};
 ghost use Rattle.st_receiver.specs.Reading.{after_got};
 ghost use Rattle.st_receiver.specs.Lawful.{EndsAtHighest, IsLawful};
 
-/// The parts of an amount that is split by shares add up to it, where any share is above 0.
+/// The parts of an amount that is split by shares add up to it, if any share is above 0.
 pub fn parts_add_up()
     ensures { (amount : ℕ) (shares : List ℕ) → 0 < sum shares → sum (parts amount shares) ≡ amount }
 {}

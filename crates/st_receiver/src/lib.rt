@@ -5,8 +5,8 @@
 //!
 //! `specs/Judged.antt` defines the decision and the effect as functions of the state. `specs/Data.antt`,
 //! `specs/Money.antt` and `specs/Closes.antt` define their parts, `specs/Limits.antt` the limits that are advertised.
-//! Memory that was taken in advance is no part of the state (`specs/Standing.antt`). The functions of `laws` state what
-//! every state keeps.
+//! Memory that was allocated in advance is not part of the state (`specs/Standing.antt`). The functions of `laws` state
+//! what every state keeps.
 #![tactic(auto)]
 
 mod apply;
@@ -20,6 +20,7 @@ mod intake;
 mod judge;
 mod laws;
 mod money;
+mod ready;
 mod reason;
 mod reply;
 mod sequences;

@@ -35,7 +35,7 @@ fn shares_of(frame: Frame<'_>) -> Option<(usize, u64)>
     }
 }
 
-/// The shares of each stream, by number, where their sum is below 2^64.
+/// The shares of each stream, by number, if their sum is below 2^64.
 fn shares_in(mut frames: Frames<'_>) -> Option<[u64; 65]>
     ensures { MatchOption result (2 ^ 64 ≤ sum (shares (map frame_of frames.entry))) (λ ms. (ms ≡ shares (map frame_of frames.entry)) × (sum ms < 2 ^ 64)) }
 {
@@ -186,7 +186,7 @@ impl<A: Allocator + Copy> Intake<A> {
         false
     }
 
-    /// Why the money of a packet is not taken, where its frames are.
+    /// Why the money of a packet is refused, if its frames are not.
     pub(crate) fn money_fault(&self, frames: Frames<'_>, amount: u64) -> Option<Reason>
         requires { taken.frames_fault self.now.state (map frame_of frames) ≡ None }
         ensures { result ≡ money.money_fault (taken.after_frames self.now.state (map frame_of frames.entry)) amount (map frame_of frames.entry) }

@@ -8,7 +8,7 @@ use st_reassembly::InboxError;
 use std::alloc::{AllocError, AllocFailed};
 use thiserror::Error;
 
-/// Why a packet is rejected. `NoMemory` is also the error of a call that found no memory.
+/// Why a packet is rejected. `NoMemory` is also the error of a call that ran out of memory.
 #[derive(Clone, Copy, Debug, PartialEq, Eq, Error)]
 pub enum Reason {
     /// A Prepare with this packet's sequence was fulfilled before.

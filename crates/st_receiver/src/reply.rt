@@ -69,7 +69,7 @@ impl<A: Allocator + Copy> Intake<A> {
 
     /// The limits for the reply to a packet (RFC 0029, section 5.3): that of the connection, and those of each stream
     /// that the packet's frames name. Without a plan they are as they are now. With the plan that `judge` gave, they
-    /// are as they will be after `commit`. Nothing changes. Fails with `NoMemory` where memory is refused.
+    /// are as they will be after `commit`. Nothing changes. Fails with `NoMemory` if memory is refused.
     pub fn reply_frames<'f>(
         &self,
         packet: &StreamPacket<'_>,

@@ -15,7 +15,7 @@ struct Run {
     last: u64,
 }
 
-/// A set of sequences, with room for more that was taken in advance.
+/// A set of sequences, with room for more that was allocated in advance.
 #[derive(Drop)]
 pub(crate) struct Sequences<A: Allocator + Copy> {
     runs: Vec<Run, A>,
@@ -77,7 +77,7 @@ fn joins_before<A: Allocator>(runs: &Vec<Run, A>, place: usize, sequence: u64) -
     sequence.saturating_sub(runs[place - 1].last) == 1
 }
 
-/// Whether the run at a place begins right behind a sequence.
+/// Whether the run at a place begins right after a sequence.
 fn joins_behind<A: Allocator>(runs: &Vec<Run, A>, place: usize, sequence: u64) -> bool
     ensures { (result ≡ true) ↔ ((place < length runs.now.items) × (sequence + 1 ≡ first_at runs.now.items place)) }
 {

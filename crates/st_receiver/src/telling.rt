@@ -17,7 +17,7 @@ use std::alloc::Allocator;
 /// How far past what was read the bytes of a stream may reach.
 const STREAM_WINDOW: u128 = 65_536;
 
-/// The limits of a stream, as it is or as it would open, with a total of what it was credited, behind those that are there.
+/// Appends the limits of a stream, as it is or as it would open, with a total of what it was credited.
 fn push_both<'f, A: Allocator + Copy>(
     frames: &mut Vec<Frame<'f>, A>,
     stream: u64,
@@ -45,7 +45,7 @@ fn push_both<'f, A: Allocator + Copy>(
 }
 
 impl<A: Allocator + Copy> Intake<A> {
-    /// The limits of a stream, behind those that are there.
+    /// Appends the limits of a stream.
     fn push_stream<'f>(
         &self,
         frames: &mut Vec<Frame<'f>, A>,
@@ -60,7 +60,7 @@ impl<A: Allocator + Copy> Intake<A> {
         push_both(frames, stream, &self.slots[k], self.kept[k], total_received)
     }
 
-    /// Appends the limits of a stream where it is named, and is open or the peer may open it.
+    /// Appends the limits of a stream if it is named, and is open or the peer may open it.
     fn push_limits<'f>(
         &self,
         frames: &mut Vec<Frame<'f>, A>,
@@ -99,7 +99,7 @@ impl<A: Allocator + Copy> Intake<A> {
     }
 
     /// The current limits (RFC 0029, section 5.3): that of the connection, and those of each stream that is open or
-    /// that the peer may open. Fails with `NoMemory` where memory is refused.
+    /// that the peer may open. Fails with `NoMemory` if memory is refused.
     pub fn limits<'f>(&self) -> Result<Vec<Frame<'f>, A>, Reason>
         ensures only_memory { IsOkUnless result Reason.NoMemory }
         ensures told { IfOk result (λ frames. map seen frames.items ≡ limits self.now.state) }

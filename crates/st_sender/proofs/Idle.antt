@@ -1,9 +1,9 @@
--- The numbers by which a frame may go, and the limits that stand.
+-- The numbers by which a frame may be sent, and the current limits.
 use Rattle.std.proofs.Common.{◌≡◌, ◌≢◌, ℕ, zero, suc, ◌+◌, ◌/◌, ◌<◌, ◌≤◌, Bool, true, false, cond, ◌||◌, List, [], ◌∷◌, length, max, slice_get, refl, sym, ap, subst, ◌∙◌, arith, Option, None, Some, inl, inr, eqb}
 use Rattle.std.specs.Prelude.{is_some, slice_index, IsSome}
 use Rattle.std.specs.List.{list_any, sum_by}
 use Rattle.std.specs.FinMap as fmap
-use Rattle.std.proofs.lemmas.Bool.{cases_lt, cases_eq}
+use Rattle.std.proofs.lemmas.Bool.{cases_eq}
 use Rattle.std.proofs.lemmas.Bool.Decides.{nat_tests}
 use Rattle.st_frames.specs.Frames.{Known, ConnectionClose, ConnectionNewAddress, ConnectionMaxData, ConnectionDataBlocked, StreamClose, StreamMoney, StreamMaxMoney, StreamMoneyBlocked, StreamData, StreamMaxData, StreamDataBlocked}
 use Rattle.st_tables.specs.Slots.{Slots, slot}
@@ -11,7 +11,7 @@ use Rattle.st_sender.specs.Sending.{Outgoing, Data, Whole, Flown, Flight, Sendin
 use Rattle.st_sender.specs.Flights.{any_frame, carries, due_at, sent_end, flying_end, highest_end, all_ends, flying_least, room_for, due_money}
 use Rattle.st_sender.specs.Due.{IsDueData, IsDueMoney, IsDueClose}
 use Rattle.st_sender.specs.Loads.{Fits, MoneyFits, least_of, load_with}
-use Rattle.st_sender.specs.Plain.{IsFilled, IsIdleOf}
+use Rattle.st_sender.specs.Plain.{IsIdleOf}
 use Rattle.st_oer.specs.Ratios.{Ratio, IsRatio, exchanged}
 use Rattle.st_frames.specs.Told.{money_of, money_in, shares_of}
 use Rattle.std.proofs.lemmas.List.Sums.{sum_by-cons}
@@ -53,7 +53,7 @@ flown_test : (b c : Bool) (n : ℕ) (r : Option ℕ) → is_some r ≡ c → is_
 flown_test true c n r e = refl
 flown_test false c n r e = e
 
--- a byte is in flight where some flight carries it
+-- a byte is in flight exactly if some flight carries it
 pub flown : (k : ℕ) (ps : List Flight) (o : ℕ) → is_some (flying_by k ps o) ≡ any_frame (carries k o) ps
 flown k [] o = refl
 flown k (p ∷ ps) o = flown_test (list_any (carries k o) p.frames) (any_frame (carries k o) ps) p.sequence (flying_by k ps o) (flown k ps o)
@@ -164,7 +164,7 @@ module _ (s : Sending) (lanes : Slots Lane) (room : ℕ) (is : s.streams ≡ out
         room_left = omega (arith, size, data_packet (s.last + 1) k o xs, data_rises (s.last + 1) k o o n (length xs) (omega arith) short);
       }
 
-  -- where no byte is ready by the numbers, no due data fits
+  -- if no byte is ready by the numbers, no bytes that are due fit
   pub no_data : lane_ends lanes s.flights 0 65 ≤ s.told → NoneReady lanes s.flights b 65 → (k o : ℕ) (xs : List ℕ) → IsDueData s k o xs → Fits s room (load_with s (data_alone k o xs)) → ⊥
   no_data under none k o xs due fits =
       let found = lane_open k due.stream due.is_open in
@@ -173,8 +173,8 @@ module _ (s : Sending) (lanes : Slots Lane) (room : ℕ) (is : s.streams ≡ out
       let at : o + 0 ≡ o = omega arith in
       none k l (within k l found.1) found.1 o first.0 (rw at at (due_lane k o xs due l found.1 0 first.0 first.1)) (allowed_by k o xs l found.1 under fits 1 (omega (arith, due.some)))
 
-  -- where not even one unit may go, no due money fits
-  no_unit : IsRatio s.config.least → NoneUnit lanes s.flights s.config.least s.packet_limit b 65 → (k n : ℕ) → IsDueMoney s k n → Fits s room (load_with s (StreamMoney k n ∷ [])) → ⊥
+  -- if not even one unit may be sent, no due money fits
+  pub no_unit : IsRatio s.config.least → NoneUnit lanes s.flights s.config.least s.packet_limit b 65 → (k n : ℕ) → IsDueMoney s k n → Fits s room (load_with s (StreamMoney k n ∷ [])) → ⊥
   no_unit ratio none k n due fits =
       let found = lane_open k due.stream due.is_open in
       let l = found.0 in
@@ -247,22 +247,6 @@ module _ (s : Sending) (lanes : Slots Lane) (room : ℕ) (is : s.streams ≡ out
         money = λ m y at. no_money s y.told_money (flying_least s m);
         room_left = (let size = rw (sym long) at a.room_left in length_free s (s.last + 1) room (data_alone k o xs) (omega (arith, size, data_packet (s.last + 1) k o xs)));
       }
-
-  pub data_filled : lane_ends lanes s.flights 0 65 ≤ s.told → (k o n : ℕ) (r : IsReadyAt lanes s.flights b k o n) (xs : List ℕ) → length xs ≡ n → IsFilled s room (StreamData k o xs)
-  data_filled under k o n r xs long = (
-    λ p byte h due.
-        let at : p + 0 ≡ p = omega arith in
-        let d : due_in r.lane p ≡ Some byte = rw at at (due_lane k p (byte ∷ []) due r.lane r.is_open 0 byte refl) in
-        let z = r.ready.none_below p h in
-        cc,
-    λ ys due fits. elim (cases_lt n (length ys)) [
-      | inl h ↦ (let next = byte_at ys n h in
-          let d = due_lane k o ys due r.lane r.is_open n next.0 next.1 in
-          let z = r.ready.full (omega (arith, due.short)) (allowed_by k o ys r.lane r.is_open under fits (n + 1) (omega arith)) in
-          absurd (cc))
-      | inr h ↦ omega (arith, long)
-    ],
-  )
 
   pub close_due : (k code : ℕ) → IsFinishedAt lanes s.flights b k code → IsDueClose s k code
   close_due k code r = record { stream = r.lane.out; is_open = seen_open k r.lane r.is_open; idle = r.finished.idle; asked = r.finished.asked }

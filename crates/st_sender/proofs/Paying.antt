@@ -1,17 +1,17 @@
 -- One payment more, or none, at the next stream.
-use Rattle.std.proofs.Common.{◌≡◌, ◌≢◌, ℕ, ◌+◌, ◌-◌, ◌*◌, ◌/◌, ◌<◌, ◌≤◌, List, [], ◌∷◌, ◌++◌, length, get_or, map, min, sum, refl, sym, ap, subst, ◌∙◌, arith, Option, None, Some, inl, inr, length-append}
+use Rattle.std.proofs.Common.{◌≡◌, ℕ, ◌+◌, ◌-◌, ◌/◌, ◌<◌, ◌≤◌, List, [], ◌∷◌, ◌++◌, length, get_or, map, min, sum, refl, sym, ap, subst, ◌∙◌, arith, Option, inl, inr, length-append}
 use Rattle.std.specs.List.{AllByRecursion, range_with_len}
 use Rattle.std.proofs.lemmas.Bool.{cases_lt, cases_eq}
 use Rattle.std.proofs.lemmas.List.Sums.{sum_by_push}
 use Rattle.std.proofs.lemmas.List.FromFn.{map-range_with_len_more}
 use Rattle.st_oer.specs.Ratios.{Ratio}
-use Rattle.st_tables.specs.Slots.{Slots, slot}
+use Rattle.st_tables.specs.Slots.{Slots}
 use Rattle.st_sender.specs.declared.load.Payment.{Payment}
 use Rattle.st_sender.specs.Sending.{Flight}
 use Rattle.st_sender.specs.Lanes.{Lane}
 use Rattle.st_sender.specs.declared.bounds.Bounds.{Bounds}
 use Rattle.st_sender.specs.Allowed.{NoneUnit, least_for, unit_size}
-use Rattle.st_sender.specs.Paying.{total, paid_to, amount_to, payable, payable_at, all_payable, IsPayment, Pays}
+use Rattle.st_sender.specs.Paying.{total, payable, payable_at, all_payable, IsPayment, Pays}
 use Rattle.st_sender.proofs.Money.{total_push, paid_push, own_amount, other_amount}
 use Rattle.st_sender.proofs.Totals.{found_at}
 
@@ -82,7 +82,7 @@ none_unit_more lanes ps r limit b n before here k h some any = elim (cases_lt k 
 pub pays_all : (lanes : Slots Lane) (r : Ratio) (ps : List Flight) (limit room n : ℕ) (ms : List Payment) → n ≡ 65 → Pays lanes r ps limit room n ms → Pays lanes r ps limit room 65 ms
 pays_all lanes r ps limit room n ms e p = subst (λ i. Pays lanes r ps limit room i ms) e p
 
--- how much may go and goes on a stream, by what stands at its place
+-- how much money may be sent and is sent on a stream, by what is at its place
 pub due_at : (lanes : Slots Lane) (r : Ratio) (ps : List Flight) (n : ℕ) (o : Option Lane) (due : ℕ) → n < length lanes → o ≡ get_or lanes n o → due ≡ payable r ps n o → due ≡ payable_at lanes r ps n
 due_at lanes r ps n o due lt at is = is ∙ ap (payable r ps n) (sym (found_at lanes n o lt at))
 

@@ -9,7 +9,7 @@ use Rattle.st_sender.specs.declared.bounds.Bounds.{Bounds}
 use Rattle.st_sender.specs.Allowed.{IsAllowed, IsStopped, IsFinished, NoneReady, NoneFinished, IsNone, IsFinishedAt, bounds, lane_ends}
 use Rattle.st_sender.proofs.Lengths.{data_rises}
 
--- where the lowest due byte may not go, none may
+-- if the lowest byte that is due may not be sent, none may
 pub stopped_by : (flights : List Flight) (b : Bounds) (k : ℕ) (l : Lane) (low : ℕ) → ((p : ℕ) → p < low → due_in l p ≡ None) → ¬ IsAllowed flights b k l low 1 → IsStopped flights b k l
 stopped_by flights b k l low below stopped o byte e a = elim (cases_lt o low) [
   | inl h ↦ (let n = below o h in absurd (cc))

@@ -1,4 +1,4 @@
--- How much money a receive max that the peer told lets go.
+-- How much money may be sent below a receive max that the peer advertised.
 use Rattle.std.proofs.Common.{◌≡◌, ℕ, suc, ◌+◌, ◌*◌, ◌<◌, ◌≤◌, List, [], ◌∷◌, length, subst, sym, arith, Option, Some}
 use Rattle.std.specs.List.{sum_by}
 use Rattle.std.proofs.lemmas.List.Sums.{sum_by-cons}
@@ -25,7 +25,7 @@ keeps r is left amount h = record {
   beyond = (let q = mul-le (exchanged r amount) r.den left r.den (omega (arith, h)) (omega arith) in omega (arith, q, less_than_next r is amount));
 }
 
--- one load more
+-- one packet more
 more_paid : (m rest counted others loads num den : ℕ) → m * num + 1 ≤ counted * den + den → rest * num + loads ≤ (others + loads) * den → (m + rest) * num + suc loads ≤ ((counted + others) + suc loads) * den
 more_paid m rest counted others loads num den one all = omega (arith, one, all)
 

@@ -25,6 +25,14 @@ pub sum_rises : (g h : ℕ → ℕ) (first n : ℕ) → ((k : ℕ) → first ≤
 sum_rises g h first zero l = omega arith
 sum_rises g h first (suc n) l = let here = l first (omega arith) in let rest = sum_rises g h (first + 1) n (λ k m. l k (omega arith)) in omega (arith, here, rest, sum_more g first n, sum_more h first n)
 
+-- a summand is no more than the sum
+pub sum_has : (g : ℕ → ℕ) (k first n : ℕ) → first ≤ k → k < first + n → g k ≤ sum_over g first n
+sum_has g k first zero l m = absurd (omega arith)
+sum_has g k first (suc n) l m = elim (cases_eq k first) [
+  | inl same ↦ rw same (omega (arith, sum_more g first n))
+  | inr apart ↦ omega (arith, sum_has g k (first + 1) n (omega arith) (omega arith), sum_more g first n)
+]
+
 -- one summand changed
 pub sum_with : (g h : ℕ → ℕ) (k first n : ℕ) → first ≤ k → k < first + n → ((j : ℕ) → j ≢ k → h j ≡ g j) → sum_over h first n + g k ≡ sum_over g first n + h k
 sum_with g h k first zero l m e = absurd (omega arith)

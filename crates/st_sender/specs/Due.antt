@@ -44,12 +44,12 @@ pub record IsDueClose (s : Sending) (k code : ℕ) : Type 0 where
   pub idle : any_frame (closes k code) s.flights ≡ false
   pub asked : IsAbort stream code ⊎ IsCleanClose stream code
 
--- limits only rise, so the highest of those for which a Blocked was fulfilled tells them all
+-- limits only rise, so the highest of those for which a Blocked was fulfilled covers them all
 abbrev pub was_blocked : Option ℕ → ℕ → Bool
 was_blocked None limit = false
 was_blocked (Some highest) limit = nat_le limit highest
 
--- a Blocked goes where something waits beyond the limit and nothing is in flight, once for each limit
+-- a Blocked is sent when something waits beyond the limit and nothing is in flight, once for each limit
 pub record IsDueDataBlocked (s : Sending) (k limit : ℕ) : Type 0 where
   pub stream : Outgoing
   pub is_open : outgoing_at s k ≡ Some stream
@@ -75,13 +75,13 @@ pub record IsDueMoneyBlocked (s : Sending) (k limit total : ℕ) : Type 0 where
   pub first : was_blocked stream.blocked_money limit ≡ false
   pub waits : limit - received < room_for s.config.least (due_money s k stream)
 
--- a limit of this end goes as it stands, where it is above the peer's mark
+-- a limit of this end is sent with its current value, if that is above the peer's mark
 pub record IsDueLimit (s : Sending) (limits : List Known) (mark : Option ℕ) (value : ℕ) (f : Known) : Type 0 where
   pub stands : Contains limits f
   pub marked : (m : ℕ) × (mark ≡ Some m) × (m < value)
   pub idle : any_frame (tells f) s.flights ≡ false
 
--- a frame that is due, where these are this end's own limits. Messages are empty
+-- a frame that is due, given this end's own limits. Messages are empty
 abbrev pub IsDue : Sending → (limits : List Known) → Known → Type 0
 IsDue s limits (StreamData k offset xs) = IsDueData s k offset xs
 IsDue s limits (StreamMoney k amount) = IsDueMoney s k amount

@@ -9,7 +9,7 @@ use Rattle.st_frames.specs.Frames.{Known, ConnectionMaxData, StreamClose, Stream
 use Rattle.st_frames.specs.Told.{money_of}
 use Rattle.st_sender.specs.Sending.{Outgoing, Load, Flown, Data, Whole, Flight, Sending, outgoing_at}
 
--- a frame once it flies, and a load
+-- a frame once it is in flight, and a packet
 abbrev pub flown : Known → Flown
 flown (StreamData stream offset xs) = Data stream offset (length xs)
 flown f = Whole f
@@ -44,7 +44,7 @@ abbrev pub closes : (stream code : ℕ) → Flown → Bool
 closes k c (Data stream offset count) = false
 closes k c (Whole f) = is_close k c f
 
--- a frame that tells the same limit, whatever its value
+-- a frame that reports the same limit, whatever its value
 abbrev pub same_limit : Known → Known → Bool
 same_limit (ConnectionMaxData m) (ConnectionMaxData n) = true
 same_limit (StreamMaxData k m) (StreamMaxData l n) = nat_eq k l
@@ -99,7 +99,7 @@ least_part s k p = exchanged s.config.least (part_of k p)
 abbrev pub flying_least : Sending → ℕ → ℕ
 flying_least s k = sum_by (least_part s k) s.flights
 
--- what has to be left of the peer's receive max for an amount to go: what of it should arrive at least, and a unit where
+-- what has to be left of the peer's receive max to send an amount: what of it should arrive at least, and a unit if
 -- there is any
 abbrev pub room_for : Ratio → (amount : ℕ) → ℕ
 room_for r n = max (exchanged r n) (min 1 n)

@@ -33,7 +33,7 @@ abbrev pub changed_to : Slots Lane → ℕ → (Lane → Lane) → Option Lane �
 changed_to lanes k f None = lanes
 changed_to lanes k f (Some l) = with_slot lanes k (f l)
 
--- a change of a stream, where it is open
+-- a change of a stream, if it is open
 abbrev pub changed_lane : Slots Lane → ℕ → (Lane → Lane) → Slots Lane
 changed_lane lanes k f = changed_to lanes k f (slot lanes k)
 
@@ -49,7 +49,7 @@ abbrev pub flying_by : ℕ → List Flight → ℕ → Option ℕ
 flying_by k [] o = None
 flying_by k (p ∷ ps) o = if list_any (carries k o) p.frames then Some p.sequence else flying_by k ps o
 
--- the sequence by which a byte is in flight as the stream knows it, and none where the stream is not open
+-- the sequence by which a byte is in flight as the stream knows it, and none if the stream is not open
 abbrev pub flying_in : Option Lane → ℕ → Option ℕ
 flying_in None o = None
 flying_in (Some l) o = get l.flying o

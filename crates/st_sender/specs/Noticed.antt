@@ -1,5 +1,5 @@
--- By which numbers a notice goes, a frame that goes alone: a Blocked, or a limit of this end's. And what one that was
--- fulfilled leaves of the marks.
+-- By which numbers a notice goes: a Blocked, which goes alone, or a limit of this end's. And what one that was fulfilled
+-- leaves of the marks.
 use Rattle.std.specs.Prelude.{◌≡◌, ℕ, ◌+◌, ◌-◌, ◌^◌, ◌<◌, ◌≤◌, Bool, true, false, List, [], ◌∷◌, length, max, nat_lt, slice_set}
 use Rattle.std.specs.List.{AllByRecursion}
 use Rattle.std.specs.declared.option.Option.{Option}
@@ -143,9 +143,9 @@ abbrev pub all_highest_flown : Option ℕ → List Flown → Option ℕ
 all_highest_flown highest [] = highest
 all_highest_flown highest (f ∷ fs) = all_highest_flown (highest_flown highest f) fs
 
--- ---- a load of one notice
+-- ---- a packet of one notice
 
--- nothing bars a load from going: how much may go is said by these bounds
+-- nothing bars a packet from being sent: these bounds say how much may be sent
 pub record IsUnbarred (s : Sending) (b : Bounds) : Type 0 where
   pub alive : s.failed ≡ false
   pub flights : length s.flights < s.config.in_flight

@@ -1,4 +1,4 @@
--- Money that rides along: how much may go on each stream, and what goes.
+-- Money in a packet with other frames: how much may be sent on each stream, and what is sent.
 use Rattle.std.specs.Prelude.{◌≡◌, ℕ, ◌+◌, ◌-◌, ◌*◌, ◌/◌, ◌<◌, ◌≤◌, List, length, map, min, sum, is_some, nat_eq, if◌then◌else◌}
 use Rattle.std.specs.List.{sum_by, range_with_len, AllByRecursion}
 use Rattle.std.specs.declared.option.Option.{Option}
@@ -32,12 +32,12 @@ flown_least r k ps = sum_by (λ (p : Flight). exchanged r (part_of k p)) ps
 abbrev pub open_money : List Flight → ℕ → Outgoing → ℕ
 open_money ps k x = if is_some x.abort then 0 else x.offered - x.fulfilled - flown_money k ps
 
--- the greatest amount that may go where this much is left of the receive max: at most this much of it should arrive, and
--- nothing goes where nothing is left
+-- the greatest amount that may be sent if this much is left of the receive max: at most this much of it should arrive, and
+-- nothing is sent if nothing is left
 abbrev pub most_for : Ratio → ℕ → ℕ
 most_for r left = if nat_eq left 0 then 0 else (left * r.den + (r.den - 1)) / r.num
 
--- and what of it may go: no limit before the peer told one
+-- and what of it may be sent: no limit before the peer advertised one
 abbrev pub allowed_money : Ratio → Option (ℕ × ℕ) → (flying due : ℕ) → ℕ
 allowed_money r None flying due = due
 allowed_money r (Some told) flying due = min (most_for r (told.0 - told.1 - flying)) due

@@ -1,4 +1,4 @@
--- Why a call on a stream is refused: the first rule that applies. Want of memory comes only where none does.
+-- Why a call on a stream is refused: the first rule that applies. The call is out of memory only if no rule applies.
 use Rattle.std.specs.Prelude.{◌≡◌, ◌⊎◌, ℕ, ◌+◌, ◌^◌, Bool, ◌||◌, [], ◌∷◌, is_some, nat_lt, nat_le, if◌then◌else◌, Result, Ok, Err}
 use Rattle.std.specs.declared.option.Option.{Option}
 use Rattle.std.specs.declared.option.Option.TheVariants.{None, Some}
@@ -29,7 +29,7 @@ all_offered (x ∷ xs) = offered_of x + all_offered xs
 abbrev pub is_aborted : Outgoing → Bool
 is_aborted x = is_some x.abort
 
--- nothing more is taken but an abort
+-- nothing more is accepted but an abort
 abbrev pub is_closed : Outgoing → Bool
 is_closed x = is_some x.abort || x.clean
 
@@ -62,12 +62,12 @@ abort_refusal s k = refusal_at (outgoing_at s k) is_aborted no_more
 abbrev pub offer_refusal : Sending → (stream amount : ℕ) → Option OutboxError
 offer_refusal s k amount = refusal_at (outgoing_at s k) is_closed (too_much (all_offered s.streams) amount)
 
--- the answer is this refusal, where there is one, and else none
+-- the answer is this refusal, if there is one, and otherwise success
 abbrev pub Answers : Option OutboxError → Result (Unit {0}) OutboxError → Type 0
 Answers None r = r ≡ Ok tt
 Answers (Some e) r = r ≡ Err e
 
--- or, where there is none, want of memory
+-- or, if there is none, also out of memory
 abbrev pub AnswersOrWants : Option OutboxError → Result (Unit {0}) OutboxError → Type 0
 AnswersOrWants None r = (r ≡ Ok tt) ⊎ (r ≡ Err NoMemory)
 AnswersOrWants (Some e) r = r ≡ Err e

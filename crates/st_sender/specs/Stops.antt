@@ -1,4 +1,4 @@
--- The Blocked frame that a Prepare carries, which tells the limit of the peer at which this end waits (RFC 0029, section 5.3).
+-- The Blocked frame that a Prepare carries, which has the limit of the peer at which this end waits (RFC 0029, section 5.3).
 use Rattle.std.specs.Prelude.{ℕ, List, [], ◌∷◌}
 use Rattle.std.specs.Option.{option_or}
 use Rattle.std.specs.declared.option.Option.{Option}

@@ -1,4 +1,4 @@
-//! The Blocked frames: where a limit of the peer stops this end (RFC 0029, section 5.3).
+//! The Blocked frames: a limit of the peer stops this end (RFC 0029, section 5.3).
 
 ghost use Rattle.std.specs.Prelude.{◌≡◌, true, false, ◌<◌, ◌^◌, length, MatchOption};
 ghost use Rattle.st_frames.specs.Frames.{ConnectionDataBlocked};
@@ -25,7 +25,7 @@ pub fn was_blocked(highest: Option<u64>, limit: u64) -> bool
     }
 }
 
-/// The Blocked frame of the first stream, by number, that is stopped by a limit of the peer. `None` where no stream has
+/// The Blocked frame of the first stream, by number, that is stopped by a limit of the peer. `None` if no stream has
 /// one to send. `streams` has 65 places, one for each number from 0 to 64.
 pub fn first_blocked<A: Allocator + Copy>(
     streams: &[Option<Stream<A>>],
@@ -67,8 +67,8 @@ fn is_any_held<A: Allocator + Copy>(
     false
 }
 
-/// The ConnectionDataBlocked frame, where bytes wait beyond `told`, the peer's limit on the sum of the streams' ends.
-/// `None` where no bytes wait beyond it, where one was fulfilled for this limit, or where the packet has no room.
+/// The ConnectionDataBlocked frame, if bytes wait beyond `told`, the peer's limit on the sum of the streams' ends.
+/// `None` if no bytes wait beyond it, if one was fulfilled for this limit, or if the packet has no room.
 /// `streams` has 65 places, one for each number from 0 to 64.
 pub fn connection_blocked<A: Allocator + Copy>(
     streams: &[Option<Stream<A>>],

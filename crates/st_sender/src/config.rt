@@ -40,7 +40,7 @@ impl Model for EndConfig {
 impl EndConfig {
     /// A configuration of `in_flight` Prepares in flight at once, 1 to `MAX_IN_FLIGHT`, and `packets` Prepares in all,
     /// 1 to `MAX_PACKETS`. `packet_limit` is the greatest amount of one Prepare at the start, in units of the sender's
-    /// asset, 1 to `MAX_PACKET_LIMIT`. `None` exactly where one of them is outside its range. The prepare amount is the
+    /// asset, 1 to `MAX_PACKET_LIMIT`. `None` exactly if one of them is outside its range. The prepare amount is the
     /// whole amount of a packet, unless `with_least` sets another rate.
     pub fn new(in_flight: usize, packets: u64, packet_limit: u64) -> Option<EndConfig>
         ensures { MatchOption result (¬ IsConfig (config in_flight packets packet_limit)) (λ c. (c ≡ config in_flight packets packet_limit) × IsConfig c) }

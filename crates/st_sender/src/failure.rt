@@ -14,7 +14,7 @@ pub enum Failure {
     Plain,
     /// A Reject with a code that begins with F, other than F08 and F99 (RFC 0027): the connection fails.
     Final,
-    /// A Reject F08 (amount too large, RFC 0027), with the received and the maximum amount where its data have them.
+    /// A Reject F08 (amount too large, RFC 0027), with the received and the maximum amount if its data have them.
     TooLarge(Option<(u64, u64)>),
 }
 
@@ -43,7 +43,7 @@ fn smaller(sent: u64, told: Option<(u64, u64)>) -> u128
 }
 
 impl Failure {
-    /// The failure that a Reject of this code is (RFC 0027). F08 is taken without its amounts.
+    /// The failure that a Reject of this code is (RFC 0027). F08 is read without its amounts.
     pub fn of(code: [u8; 3]) -> Failure
         ensures { why result ≡ failure_of code }
     {
@@ -69,7 +69,7 @@ impl Failure {
         }
     }
 
-    /// The packet limit after this failure of a Prepare of amount `sent`, where it was `limit` before. F08 may lower
+    /// The packet limit after this failure of a Prepare of amount `sent`, if it was `limit` before. F08 may lower
     /// it, to 1 at least; other failures leave it.
     pub fn limit_after(self, limit: u64, sent: u64) -> u64
         ensures { result ≡ limit_after limit sent (why self) }

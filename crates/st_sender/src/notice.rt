@@ -9,8 +9,8 @@ ghost use Rattle.st_sender.specs.Stops.{stops_at};
 
 use st_frames::Frame;
 
-/// A frame that is sent in a packet of its own (RFC 0029, section 5.3): a Blocked frame for a limit of the peer, or the
-/// value of a limit of this end.
+/// A frame about a limit (RFC 0029, section 5.3): a Blocked frame for a limit of the peer, which is sent in a packet of its
+/// own, or the value of a limit of this end.
 #[derive(Clone, Copy, Debug, PartialEq, Eq)]
 pub enum Notice {
     /// Bytes wait beyond the peer's limit on the sum of the streams' ends, which is `max_offset`.
@@ -45,7 +45,7 @@ pub enum Notice {
     },
 }
 
-/// A limit of the peer at which bytes or money of this end wait, as a Blocked frame tells it (RFC 0029, section 5.3).
+/// A limit of the peer at which bytes or money of this end wait, as a Blocked frame reports it (RFC 0029, section 5.3).
 #[derive(Clone, Copy, Debug, PartialEq, Eq)]
 pub enum Blocked {
     /// The limit on the sum of the streams' ends: ConnectionDataBlocked.
@@ -67,7 +67,7 @@ pub enum Blocked {
 }
 
 impl Notice {
-    /// The limit of the peer that it tells. `None` where it tells one of this end.
+    /// The limit of the peer that it reports. `None` if it reports one of this end.
     pub fn stops_at(self) -> Option<Blocked>
         ensures { result ≡ stops_at (telling self) }
     {

@@ -46,8 +46,8 @@ pub fn without_least<A: Allocator + Copy>(
     rest as u64
 }
 
-/// The greatest amount that may be sent where `left` units are left of the peer's receive max: its prepare amount is at
-/// most `left`, and where nothing is left it is 0. `least` is the rate of the prepare amount.
+/// The greatest amount that may be sent if `left` units are left of the peer's receive max: its prepare amount is at
+/// most `left`, and if nothing is left it is 0. `least` is the rate of the prepare amount.
 pub fn most_for(least: Rate, left: u64) -> u128
     ensures { result ≡ most_for least left }
 {
@@ -58,7 +58,7 @@ pub fn most_for(least: Rate, left: u64) -> u128
         / u128::from(least.num())
 }
 
-/// What has to be left of the peer's receive max for an amount to be sent: its prepare amount, and a unit where the
+/// What has to be left of the peer's receive max to send an amount: its prepare amount, and a unit if the
 /// amount is above 0. `least` is the rate of the prepare amount.
 pub fn room_for(least: Rate, amount: u64) -> u128
     ensures { result ≡ room_for least amount }
@@ -73,7 +73,7 @@ pub fn least_for(least: Rate, amount: u64) -> u64
     least.of(amount).min(u128::from(u64::MAX)) as u64
 }
 
-/// How much money may go on a stream.
+/// How much money may be sent on a stream.
 fn payable_at<A: Allocator + Copy>(
     place: &Option<Stream<A>>,
     flights: &[Flight<A>],
@@ -89,7 +89,7 @@ fn payable_at<A: Allocator + Copy>(
 }
 
 /// The money of all streams that one packet carries: at most `limit` units in all, and no more payments than fit in
-/// `room` bytes. `streams` has 65 places, one for each number from 0 to 64. Fails where memory is refused.
+/// `room` bytes. `streams` has 65 places, one for each number from 0 to 64. Fails if memory is refused.
 pub fn payments<A: Allocator + Copy>(
     streams: &[Option<Stream<A>>],
     flights: &[Flight<A>],
@@ -117,8 +117,8 @@ pub fn payments<A: Allocator + Copy>(
     Ok(payments)
 }
 
-/// One unit of money of the first stream that may send one, where the packet has room for no more. `None` where no
-/// stream may, or where it does not fit.
+/// One unit of money of the first stream that may send one, if the packet has room for no more. `None` if no
+/// stream may, or if it does not fit.
 pub fn unit<A: Allocator + Copy>(
     streams: &[Option<Stream<A>>],
     flights: &[Flight<A>],

@@ -8,6 +8,12 @@ ghost use Rattle.st_sender.specs.Allowed.{packet_size, data_contents, close_cont
 use crate::notice::Notice;
 use st_oer::{length_size, var_uint_size};
 
+/// The most bytes by which a StreamClose makes a packet longer: its frame has at most 13 bytes, and the packet's number of
+/// frames grows by at most 7 (RFC 0029, section 5.2; RFC 0030).
+pub const CLOSE_SIZE: usize = 20;
+/// And by which a limit does: its frame has at most 29 bytes.
+pub const LIMIT_SIZE: usize = 36;
+
 #[tactic(auto, unfolding(crate::specs::Allowed::packet_size))]
 fn packet_size(sequence: u64, least: u64, contents: usize) -> usize
     requires { contents < 2 ^ 62 }

@@ -1,19 +1,20 @@
 //! The streams by number: 65 places for the numbers 0 to 64. Place 0 stays empty.
 
-ghost use Rattle.std.specs.Prelude.{true, false, ◌≡◌, ◌≢◌, ℕ, ◌+◌, ◌<◌, ◌≤◌, ◌^◌, None, Some, length, nat_le, slice_set, OnOk, OnErr, IfOk};
+ghost use Rattle.std.specs.Prelude.{true, false, ◌≡◌, ◌≢◌, ℕ, ◌+◌, ◌<◌, ◌≤◌, ◌^◌, None, Some, length, nat_le, slice_set, ◌-◌, OnOk, OnErr, IfOk};
 ghost use Rattle.st_tables.specs.Slots.{slot, with_slot, no_slots};
 ghost use Rattle.st_sender.specs.Accepting.{after_write, after_clean, after_stream_abort, after_offer};
 ghost use Rattle.st_sender.specs.Answering.{told_data, told_receive_max, is_settled};
 ghost use Rattle.st_sender.specs.Lanes.{changed_lane, on_out, out_of, outs, new_lane};
 ghost use Rattle.st_sender.specs.Refusals.{refusal_at, is_closed, is_aborted, no_more, full, too_much, Answers, AnswersOrWants, accepted_of, offered_of};
 ghost use Rattle.st_sender.specs.Refusals as specs;
+ghost use Rattle.st_sender.specs.Room.{TellsRoom};
 ghost use Rattle.st_sender.specs.Waiting.{is_waiting};
 
 use crate::error::OutboxError;
 use crate::stream::Stream;
 use std::alloc::{AllocError, Allocator};
 
-/// 65 places without a stream. Fails where memory is refused.
+/// 65 places without a stream. Fails if memory is refused.
 pub fn no_streams<A: Allocator + Copy>(alloc: A) -> Result<Vec<Option<Stream<A>>, A>, AllocError>
     ensures { IfOk result (λ v. v.items ≡ no_slots) }
 {
@@ -24,7 +25,7 @@ pub fn no_streams<A: Allocator + Copy>(alloc: A) -> Result<Vec<Option<Stream<A>>
     Ok(slots)
 }
 
-/// 65 places without a mark. Fails where memory is refused.
+/// 65 places without a mark. Fails if memory is refused.
 pub fn no_marks<A: Allocator + Copy>(alloc: A) -> Result<Vec<Option<u64>, A>, AllocError>
     ensures { IfOk result (λ v. v.items ≡ no_slots) }
 {
@@ -127,6 +128,39 @@ fn is_too_much(all: u128, more: u64) -> bool
     ensures { result ≡ nat_le (2 ^ 63) (all + more) }
 {
     all.saturating_add(u128::from(more)) >= 1 << 63
+}
+
+/// How many more bytes all streams together accept: those that were ever accepted stay below 2^63.
+fn left_in_all(all: u128) -> u64
+    ensures { result ≡ 2 ^ 63 - 1 - all }
+{
+    9_223_372_036_854_775_807_u128.saturating_sub(all) as u64
+}
+
+/// How many bytes a write of a stream may have. The errors are those of `Outbox::accept` for no bytes.
+#[tactic(auto, using(crate::proofs::Room::is_room))]
+pub fn room<A: Allocator + Copy>(
+    streams: &Vec<Option<Stream<A>>, A>,
+    stream: u8,
+) -> Result<u64, OutboxError>
+    ensures { TellsRoom (out_of (slot streams.now.items stream)) (specs.all_accepted (outs streams.now.items)) result }
+{
+    if stream as usize >= streams.len() {
+        return Err(OutboxError::NoStream);
+    }
+    let all = all_accepted(streams);
+    match &streams[stream as usize] {
+        None => Err(OutboxError::NoStream),
+        Some(found) => {
+            if found.is_closed() {
+                return Err(OutboxError::Closed);
+            }
+            if found.is_full_with(0) || is_too_much(all, 0) {
+                return Err(OutboxError::Full);
+            }
+            Ok(found.room().min(left_in_all(all)))
+        }
+    }
 }
 
 /// Queues bytes on a stream: all of them, or none. The errors are those of `Outbox::accept`.
@@ -266,7 +300,7 @@ pub fn raise_money<A: Allocator + Copy>(
     }
 }
 
-/// Sets the mark of a stream. Where there is no such place, nothing changes.
+/// Sets the mark of a stream. If there is no such place, nothing changes.
 pub fn set_mark<A: Allocator + Copy>(marks: &mut Vec<Option<u64>, A>, stream: u64, value: u64)
     ensures { marks.new.items ≡ slice_set marks.old.items stream (Some value) }
 {

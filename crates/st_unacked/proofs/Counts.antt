@@ -31,7 +31,7 @@ counted-few p first (suc n) = one (p (first + n)) (counted p first n) n (counted
     one true c n l = omega arith
     one false c n l = omega arith
 
--- so many more, of which all or none pass
+-- k more, of which all or none pass
 pub counted-more : (p : ℕ → Bool) (b : Bool) (first n k : ℕ) → ((q : ℕ) → first + n ≤ q → q < first + n + k → p q ≡ b) → counted p first (n + k) ≡ counted p first n + (if b then k else 0)
 unfolding counted
 counted-more p b first n zero same = ap (counted p first) (let e : n + 0 ≡ n = omega arith in e) ∙ none b (counted p first n)
@@ -100,7 +100,7 @@ len-put_bytes (x ∷ xs) m o none =
     other : (g : Option ℕ) (x o q : ℕ) → o + 1 ≤ q → g ≡ None → cond (eq_by_cmp nat_cmp q o) (Some x) g ≡ None
     other g x o q l e = grind (arith, nat_tests)
 
--- what is left of a table, and what goes
+-- what is left of a table, and what is removed
 still : (h b : Bool) (o : Option ℕ) → cond h (if b then o else None) None ≡ cond b (cond h o None) None
 still true b o = refl
 still false true o = refl
@@ -153,7 +153,7 @@ below q e l = grind (arith, nat_tests)
 not_below : (q e : ℕ) → e ≤ q → nat_lt q e ≡ false
 not_below q e l = grind (arith, nat_tests)
 
--- the runs go on with this one from start on
+-- the runs continue with this one from start on
 module _ (runs items : List Run) (same : items ≡ runs) (i : ℕ) (d : Run) (first start past : ℕ) (here : i < length items) (from : first ≤ start) (rest : (q : ℕ) → start ≤ q → status_at runs q ≡ status_at (drop i runs) q)
     (further : past ≡ max start (get_or items i d).end) where
   abbrev one : Run

@@ -1,4 +1,4 @@
--- Where what a sequence carries ends, and that a claim can be taken back.
+-- The end of what a sequence carries, and that a claim can be taken back.
 use Rattle.std.proofs.Common.{◌≡◌, ℕ, ◌+◌, ◌-◌, ◌<◌, ◌≤◌, Bool, true, false, cond, List, length, Option, Some, None, IsSome, refl, ap, ◌∙◌, sym, arith, inl, inr}
 use Rattle.std.specs.Prelude.{not, nat_eq}
 use Rattle.std.specs.Cmp.{nat_cmp_total}

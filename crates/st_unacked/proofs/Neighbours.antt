@@ -44,7 +44,7 @@ rise_freed sequence first rs h = rise_map (failed_run sequence) (λ r. run_end (
 pub rise_dropped : (first : ℕ) (rs : List Run) → Parted first rs → Rise first (map dropped_run rs)
 rise_dropped first rs h = rise_map dropped_run (λ r. refl) first rs (parted_rise first rs h)
 
--- ---- where the last run ends
+-- ---- the end of the last run
 
 pub end_last : (first : ℕ) (rs : List Run) (n : ℕ) (d : Run) → length rs ≡ suc n → end_of first rs ≡ (get_or rs n d).end
 end_last first [] n d l = absurd cc
@@ -81,7 +81,7 @@ parted_longer first (x ∷ []) (suc n) d r l e m h = absurd (omega arith)
 parted_longer first (x ∷ y ∷ rs) zero d r l e m h = absurd (omega arith)
 parted_longer first (x ∷ y ∷ rs) (suc n) d r l e m h = (h.0, still x.status (y ∷ rs) n d r (omega arith) e h.1, parted_longer x.end (y ∷ rs) n d r (omega arith) e m h.2)
 
--- ---- a run that is put behind so many
+-- ---- a run that is put after the first `count` runs
 
 pub put_first : (first : ℕ) (rs : List Run) (count : ℕ) (r : Run) → count ≡ 0 → 0 < length rs → end_of first (take count rs) < r.end → HasMore first (take count rs) r (take 1 (set rs 0 r))
 put_first first rs count r none l m =
@@ -206,7 +206,7 @@ status_of s t e = ap (λ (o : Option Status). or_else o) e
     or_else None = s
     or_else (Some x) = x
 
--- the first run's status stands at the first offset
+-- the first run's status is that of the first offset
 leads : (r : Run) (rs : List Run) (q : ℕ) → q < r.end → status_at (r ∷ rs) q ≡ Some r.status
 leads r rs q l = ap (λ b. cond b (Some r.status) (status_at rs q)) (below q r.end l)
 
@@ -271,8 +271,8 @@ claimed_gone true sequence None h = absurd cc
 claimed_gone true sequence (Some s) h = absurd (let z : Some sequence ≡ None = ap flight_of h in cc)
 claimed_gone false sequence s h = h
 
-pub tidy_claimed : (rs ts : List Run) (first n sequence from to : ℕ) → Parted first ts → ((q : ℕ) → first ≤ q → status_at ts q ≡ claimed sequence from to q (status_at rs q)) → IsTidy rs first n → IsTidy ts first n
-tidy_claimed rs ts first n sequence from to parted claims t = record {
+pub tidy_claimed : (rs ts : List Run) (first n room sequence from to : ℕ) → Parted first ts → ((q : ℕ) → first ≤ q → status_at ts q ≡ claimed sequence from to q (status_at rs q)) → IsTidy rs first n room → IsTidy ts first n room
+tidy_claimed rs ts first n room sequence from to parted claims t = record {
   tiled = record {
     inside = λ q l m. subst IsSome (sym (claims q l)) (claimed_some (is_between from to q) sequence (status_at rs q) (t.tiled.inside q l m));
     outside = λ q l. claims q (omega arith) ∙ claimed_none (is_between from to q) sequence (status_at rs q) (t.tiled.outside q l);
@@ -280,6 +280,7 @@ tidy_claimed rs ts first n sequence from to parted claims t = record {
   };
   parted = parted;
   few = few_less rs ts first n n (omega arith) (λ q l e. claimed_gone (is_between from to q) sequence (status_at rs q) (sym (claims q l) ∙ e)) t.few;
+  freed = t.freed;
 }
 
 -- ---- more bytes
@@ -289,9 +290,9 @@ more_gone true None e = absurd (let z : true ≡ false = ap is_kept e in cc)
 more_gone false None e = absurd cc
 more_gone b (Some s) e = e
 
-pub tidy_accepted : (rs ts : List Run) (first n m : ℕ) → first + n + m < 2 ^ 64 → Parted first ts
-    → ((q : ℕ) → first ≤ q → status_at ts q ≡ option_or (status_at rs q) (if nat_lt q (first + n + m) then Some (record { flight = None; kept = true }) else None)) → IsTidy rs first n → IsTidy ts first (n + m)
-tidy_accepted rs ts first n m fits parted appends t = record {
+pub tidy_accepted : (rs ts : List Run) (first n m room wider : ℕ) → first + n + m < 2 ^ 64 → Parted first ts
+    → ((q : ℕ) → first ≤ q → status_at ts q ≡ option_or (status_at rs q) (if nat_lt q (first + n + m) then Some (record { flight = None; kept = true }) else None)) → (n + m ≡ 0 → wider ≡ 0) → IsTidy rs first n room → IsTidy ts first (n + m) wider
+tidy_accepted rs ts first n m room wider fits parted appends freed t = record {
   tiled = record {
     inside = λ q l k. subst IsSome (sym (appends q l ∙ ap (λ b. option_or (status_at rs q) (if b then Some (record { flight = None; kept = true }) else None)) (below q (first + n + m) (omega arith)))) (either (status_at rs q));
     outside = λ q l. appends q (omega arith) ∙ ap (λ b. option_or (status_at rs q) (if b then Some (record { flight = None; kept = true }) else None)) (not_below q (first + n + m) (omega arith))
@@ -300,6 +301,7 @@ tidy_accepted rs ts first n m fits parted appends t = record {
   };
   parted = parted;
   few = few_less rs ts first n (n + m) (omega arith) (λ q l e. more_gone (nat_lt q (first + n + m)) (status_at rs q) (sym (appends q l) ∙ e)) t.few;
+  freed = freed;
 }
   where
     either : (s : Option Status) → IsSome (option_or s (Some (record { flight = None; kept = true })))

@@ -1,4 +1,4 @@
--- An answer by what stands at each offset, and as a function: one and the same.
+-- An answer by the status at each offset, and as a function: one and the same.
 use Rattle.std.proofs.Common.{◌≡◌, ℕ, Bool, true, false, cond, Option, None, refl, ◌∙◌, sym, subst}
 use Rattle.std.specs.Prelude.{not}
 use Rattle.std.specs.Ordering.{nat_cmp}

@@ -1,5 +1,5 @@
 -- What a model shows, against the runs and the bytes.
-use Rattle.std.proofs.Common.{◌≡◌, ℕ, ◌+◌, ◌-◌, ◌^◌, ◌<◌, ◌≤◌, Bool, true, false, cond, ◌&&◌, List, [], ◌∷◌, ◌++◌, length, map, drop, Option, Some, None, IsSome, refl, ap, ◌∙◌, sym, subst, arith, inl, inr, length-append}
+use Rattle.std.proofs.Common.{◌≡◌, ℕ, ◌+◌, ◌-◌, ◌^◌, ◌*◌, ◌<◌, ◌≤◌, Bool, true, false, cond, ◌&&◌, List, [], ◌∷◌, ◌++◌, length, map, drop, Option, Some, None, IsSome, refl, ap, ◌∙◌, sym, subst, arith, inl, inr, length-append}
 use Rattle.std.specs.Prelude.{if◌then◌else◌, not, is_some, is_none, nat_lt, slice_index}
 use Rattle.std.specs.Option.{option_or}
 use Rattle.std.specs.Ordering.{nat_cmp}
@@ -13,7 +13,7 @@ use Rattle.st_unacked.specs.declared.run.Run.{Run}
 use Rattle.st_unacked.specs.declared.run.Status.{Status}
 use Rattle.st_tables.specs.Table.{is_between, table}
 use Rattle.st_unacked.specs.Sent.{Sent, nothing_sent, due_at, is_by, after_accept, after_claim, after_acknowledged, after_failed, after_drop, IsLowestDue, IsPastDue}
-use Rattle.st_unacked.specs.Runs.{status_at, flight_of, is_kept, is_due, byte_at, flight_at, shown_by, IsTiled, flown, claimed, acknowledged_run, failed_run, dropped_run}
+use Rattle.st_unacked.specs.Runs.{status_at, flight_of, is_kept, is_due, byte_at, flight_at, shown_by, IsTiled, IsTidy, gone_byte, flown, claimed, acknowledged_run, failed_run, dropped_run}
 use Rattle.st_tables.proofs.Tables.{get-table, get-table_in, table_is, table-inside, get-put_bytes, get-put_same, get-kept}
 
 pub same_sent : (s t : Sent) → s.unacked ≡ t.unacked → s.flying ≡ t.flying → s.accepted ≡ t.accepted → s ≡ t
@@ -388,7 +388,7 @@ piece_byte runs bytes first from to k l m h some =
     (there runs bytes first (from + k) some).byte
     ∙ ap (λ x. Some x) (ap (slice_index bytes) (let same : from + k - first ≡ from - first + k = omega arith in same) ∙ sym (get_or-between bytes (from - first) (to - first) k 0 (omega arith)))
 
--- the offsets of a part whose bytes are each unacknowledged, against where the bytes lie
+-- the offsets of a part whose bytes are each unacknowledged, against the places of the bytes
 module _ (s : Sent) (runs : List Run) (bytes : List ℕ) (first from to : ℕ) (view : shown_by runs bytes first ≡ s) (order : from < to) (some : (q : ℕ) → from ≤ q → q < to → IsSome (fmap.get s.unacked q)) where
   some_shown : (q : ℕ) → from ≤ q → q < to → IsSome (fmap.get (table (byte_at runs bytes first) first (length bytes)) q)
   some_shown q l m = subst (λ (t : Sent). IsSome (fmap.get t.unacked q)) (sym view) (some q l m)
@@ -455,7 +455,7 @@ gone_within runs first end n t l gone =
     clash : (s : Option Status) {t : Status} → s ≡ None → s ≡ Some t → ⊥
     clash s e f = cc
 
--- where no byte is kept, and where one is
+-- if no byte is kept, and if one is
 gone : (b k : Bool) (x : ℕ) → (b ≡ true → k ≡ false) → cond b (if k then Some x else None) None ≡ None
 gone true k x h = ap (λ c. if c then Some x else None) (h refl)
 gone false k x h = refl
@@ -479,3 +479,22 @@ some_kept runs bytes first t q l k e = elim (cases_lt q (first + length bytes)) 
       (sym (get-table_in (byte_at runs bytes first) first (length bytes) q l m) ∙ ap (λ n. fmap.get n q) e ∙ fmap.get-empty nat_cmp q)
   | inr m ↦ none_kept (status_at runs q) k (t.outside q m)
 ]
+
+-- if no byte is kept and none is in flight, all are gone
+gone_is : (s : Option Status) → IsSome s → is_kept s ≡ false → flight_of s ≡ None → s ≡ gone_byte
+gone_is None h k f = absurd cc
+gone_is (Some s) h k f = ap (λ a. Some (record { flight = a; kept = s.kept })) f ∙ ap (λ b. Some (record { flight = None; kept = b })) k
+
+not_kept : (k : Bool) (x : ℕ) → (if k then Some x else None) ≡ None → k ≡ false
+not_kept true x e = absurd cc
+not_kept false x e = refl
+
+pub no_room : (runs : List Run) (bytes : List ℕ) (first room : ℕ) → IsTidy runs first (length bytes) room → (shown_by runs bytes first).unacked ≡ fmap.empty → (shown_by runs bytes first).flying ≡ fmap.empty → room ≡ 0
+no_room runs bytes first room tidy none still =
+    let few : 2 * (first + length bytes - first) ≤ length bytes = tidy.few (first + length bytes) (omega arith) all in
+    tidy.freed (omega (arith, few))
+  where
+    all : (q : ℕ) → first ≤ q → q < first + length bytes → status_at runs q ≡ gone_byte
+    all q l m = gone_is (status_at runs q) (tidy.tiled.inside q l m)
+        (not_kept (is_kept (status_at runs q)) (slice_index bytes (q - first)) (sym (get-table_in (byte_at runs bytes first) first (length bytes) q l m) ∙ ap (λ n. fmap.get n q) none ∙ fmap.get-empty nat_cmp q))
+        (sym (get-table_in (flight_at runs) first (length bytes) q l m) ∙ ap (λ n. fmap.get n q) still ∙ fmap.get-empty nat_cmp q)

@@ -1,9 +1,9 @@
--- What an answer leaves by what stands at each offset, and that a failure gives back what a claim changed.
+-- What an answer leaves at each offset, and that a failure gives back what a claim changed.
 use Rattle.std.specs.Prelude.{◌≡◌, ◌↔◌, ℕ, ◌+◌, ◌<◌, ◌≤◌, Bool, true, false, ◌&&◌, if◌then◌else◌, None}
 use Rattle.std.specs.FinMap.{get}
 use Rattle.st_unacked.specs.Sent.{Sent, is_by, after_claim, after_acknowledged, after_failed}
 
--- t is s after a sequence's answer: what it carried is no longer in flight, and no longer unacknowledged where it was fulfilled
+-- t is s after a sequence's answer: what it carried is no longer in flight, and no longer unacknowledged if it was fulfilled
 pub record Answers (sequence : ℕ) (fulfilled : Bool) (s t : Sent) : Type 0 where
   pub unacked : (q : ℕ) → get t.unacked q ≡ (if fulfilled && is_by sequence (get s.flying q) then None else get s.unacked q)
   pub flying : (q : ℕ) → get t.flying q ≡ (if is_by sequence (get s.flying q) then None else get s.flying q)

@@ -1,4 +1,4 @@
--- Runs of offsets, each up to its end, and what stands about the bytes there.
+-- Runs of offsets, each up to its end, and the status of the bytes there.
 use Rattle.std.specs.Prelude.{◌≡◌, ◌≢◌, ℕ, zero, suc, ◌+◌, ◌-◌, ◌*◌, ◌^◌, ◌<◌, ◌≤◌, Bool, false, ◌&&◌, nat_lt, is_none, List, [], ◌∷◌, length, drop, Option, Some, None, IsSome, slice_index, if◌then◌else◌}
 use Rattle.std.specs.Option.{option_or}
 use Rattle.st_unacked.specs.declared.run.Run.{Run}
@@ -6,7 +6,7 @@ use Rattle.st_unacked.specs.declared.run.Status.{Status}
 use Rattle.st_tables.specs.Table.{is_between, table}
 use Rattle.st_unacked.specs.Sent.{Sent, is_by}
 
--- what stands about the byte at an offset: the first run that ends past it says so
+-- the status of the byte at an offset: that of the first run that ends past it
 abbrev pub status_at : List Run → ℕ → Option Status
 status_at [] q = None
 status_at (r ∷ rs) q = if nat_lt q r.end then Some r.status else status_at rs q
@@ -26,7 +26,7 @@ abbrev pub is_due : Option Status → Bool
 is_due None = false
 is_due (Some s) = s.kept && is_none s.flight
 
--- the byte at an offset, where the first byte kept lies at `first`
+-- the byte at an offset, if the first byte kept lies at `first`
 abbrev pub byte_at : List Run → List ℕ → ℕ → ℕ → Option ℕ
 byte_at runs bytes first q = if is_kept (status_at runs q) then Some (slice_index bytes (q - first)) else None
 
@@ -41,13 +41,13 @@ shown_by runs bytes first = record {
   accepted = first + length bytes;
 }
 
--- the runs tell of each byte that is there and of no other
+-- the runs cover each byte that is there and no other
 pub record IsTiled (runs : List Run) (first n : ℕ) : Type 0 where
   pub inside : (q : ℕ) → first ≤ q → q < first + n → IsSome (status_at runs q)
   pub outside : (q : ℕ) → first + n ≤ q → status_at runs q ≡ None
   pub fits : first + n < 2 ^ 64
 
--- a status differs from that of the run behind it
+-- a status differs from that of the run after it
 abbrev pub Differs : Status → List Run → Type 0
 Differs s [] = Unit {0}
 Differs s (r ∷ rs) = s ≢ r.status
@@ -57,26 +57,27 @@ abbrev pub Parted : ℕ → List Run → Type 0
 Parted first [] = Unit {0}
 Parted first (r ∷ rs) = (first < r.end) × Differs r.status rs × Parted r.end rs
 
--- what stands about a byte that is neither kept nor in flight
+-- the status of a byte that is neither kept nor in flight
 abbrev pub gone_byte : Option Status
 gone_byte = Some (record { flight = None; kept = false })
 
--- where the bytes from the first on and below an offset are all gone, they are at most half of all
+-- if the bytes from the first on and below an offset are all gone, they are at most half of all
 abbrev pub FewGone : List Run → ℕ → ℕ → Type 0
 FewGone runs first n = (q : ℕ) → first ≤ q → ((p : ℕ) → first ≤ p → p < q → status_at runs p ≡ gone_byte) → 2 * (q - first) ≤ n
 
--- the runs tell of each byte, are as few as can be, and few bytes are gone in front
-pub record IsTidy (runs : List Run) (first n : ℕ) : Type 0 where
+-- the runs cover each byte and are as few as can be, few bytes are gone in front, and room, the memory of the bytes, is 0 if none is left
+pub record IsTidy (runs : List Run) (first n room : ℕ) : Type 0 where
   pub tiled : IsTiled runs first n
   pub parted : Parted first runs
   pub few : FewGone runs first n
+  pub freed : n ≡ 0 → room ≡ 0
 
 -- no run is empty
 abbrev pub Rise : ℕ → List Run → Type 0
 Rise first [] = Unit {0}
 Rise first (r ∷ rs) = (first < r.end) × Rise r.end rs
 
--- where the last run ends
+-- the end of the last run
 abbrev pub end_of : ℕ → List Run → ℕ
 end_of first [] = first
 end_of first (r ∷ rs) = end_of r.end rs
@@ -86,13 +87,13 @@ pub record IsJoined (first : ℕ) (rs ts : List Run) : Type 0 where
   pub parted : Parted first ts
   pub same : (q : ℕ) → status_at ts q ≡ status_at rs q
 
--- runs with one more, which is joined with the last where both have the same status
+-- runs with one more, which is joined with the last if both have the same status
 pub record HasMore (first : ℕ) (rs : List Run) (r : Run) (ts : List Run) : Type 0 where
   pub parted : Parted first ts
   pub ends : end_of first ts ≡ r.end
   pub status : (q : ℕ) → status_at ts q ≡ option_or (status_at rs q) (if nat_lt q r.end then Some r.status else None)
 
--- so many runs in front have bytes that are gone, up to an end, and the next one has others
+-- the first `count` runs have bytes that are gone, up to an end, and the next one has others
 pub record IsGoneFront (runs : List Run) (first count end : ℕ) : Type 0 where
   pub within : count ≤ length runs
   pub from : first ≤ end

@@ -55,19 +55,19 @@ carried sequence s = retain_keys s.unacked (λ q. is_by sequence (get s.flying q
 abbrev pub IsPastFlight : ℕ → Sent → ℕ → Type 0
 IsPastFlight sequence s end = (q : ℕ) → is_by sequence (get s.flying q) ≡ true → q < end
 
--- end is the least such offset: 0 where nothing is in flight by the sequence
+-- end is the least such offset: 0 if nothing is in flight by the sequence
 pub record IsFlightEnd (sequence : ℕ) (s : Sent) (end : ℕ) : Type 0 where
   pub past : IsPastFlight sequence s end
   pub least : (f : ℕ) → IsPastFlight sequence s f → end ≤ f
 
--- from and to are the ends of the lowest row of due bytes
+-- from and to are the ends of the lowest row of queued bytes
 pub record IsLowestDue (s : Sent) (from to : ℕ) : Type 0 where
   pub some : from < to
   pub due : (q : ℕ) → from ≤ q → q < to → IsSome (due_at s q)
   pub none_below : (q : ℕ) → q < from → due_at s q ≡ None
   pub ends : due_at s to ≡ None
 
--- end is past the highest due byte: 0 where none is due
+-- end is past the highest queued byte: 0 if none is queued
 pub record IsPastDue (s : Sent) (end : ℕ) : Type 0 where
   pub past : (q : ℕ) → IsSome (due_at s q) → q < end
   pub last : 0 < end → IsSome (due_at s (end - 1))

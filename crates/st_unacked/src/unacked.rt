@@ -1,8 +1,9 @@
 //! The bytes of one outgoing stream until they are acknowledged.
-ghost use Rattle.std.specs.Prelude.{◌≡◌, ◌≢◌, true, false, ℕ, ◌+◌, ◌-◌, ◌^◌, ◌<◌, ◌≤◌, IfOk, OnErr, OnOk, MatchOption, IsSome, None, Some, drop, length, slice_index};
+ghost use Rattle.std.specs.Prelude.{◌≡◌, ◌≢◌, true, false, ℕ, ◌+◌, ◌-◌, ◌^◌, ◌<◌, ◌≤◌, IfOk, OnErr, OnOk, MatchOption, IsSome, None, Some, drop, length, slice_index, vec_capacity, nat_lt, if◌then◌else◌, ◌++◌};
 ghost use Rattle.std.specs.FinMap.{get, empty, len};
 ghost use Rattle.std.specs.List.{slice_range};
-ghost use Rattle.st_unacked.specs.Runs.{shown_by, IsTiled, IsTidy, Parted, Rise};
+ghost use Rattle.std.specs.Option.{option_or};
+ghost use Rattle.st_unacked.specs.Runs.{shown_by, status_at, IsTiled, IsTidy, Parted, Rise};
 ghost use Rattle.st_unacked.specs.Sent.{nothing_sent, due_at, after_accept, after_claim, after_acknowledged, after_failed, after_drop, carried, IsFlightEnd, IsLowestDue, IsPastDue};
 
 use crate::run::{
@@ -31,13 +32,44 @@ fn part<A: Allocator>(bytes: &Vec<u8, A>, from: usize, to: usize) -> &[u8]
     &bytes[from..to]
 }
 
+/// Frees the memory if no byte is left.
+fn give_back<A: Allocator>(bytes: &mut Vec<u8, A>)
+    ensures same { bytes.new.items ≡ bytes.old.items }
+    ensures freed { length bytes.new.items ≡ 0 → vec_capacity bytes.new ≡ 0 }
+{
+    if bytes.is_empty() {
+        bytes.shrink_to_fit();
+    }
+}
+
+/// Appends bytes, which are queued up to `end`: all of them, or none if memory is refused.
+fn add<A: Allocator>(
+    bytes: &mut Vec<u8, A>,
+    runs: &mut Vec<Run, A>,
+    first: u64,
+    end: u64,
+    more: &[u8],
+) -> Result<(), AllocError>
+    requires { Parted first runs.old.items }
+    ensures adds { OnOk result (bytes.new.items ≡ bytes.old.items ++ more.now) }
+    ensures parted { OnOk result (Parted first runs.new.items) }
+    ensures appends { OnOk result ((q : ℕ) → first ≤ q → status_at runs.new.items q ≡ option_or (status_at runs.old.items q) (if nat_lt q end then Some (record { flight = None; kept = true }) else None)) }
+    ensures bytes { OnErr result (bytes.new.items ≡ bytes.old.items) }
+    ensures runs { OnErr result (runs.new.items ≡ runs.old.items) }
+{
+    bytes.reserve(more.len())?;
+    append(runs, first, end, DUE)?;
+    bytes.extend_from_slice(more).unwrap();
+    Ok(())
+}
+
 /// Gives up the bytes at the front that are neither kept nor in flight once they are half of all, so that each byte is
 /// moved about once. Gives the offset of the first byte then.
 fn trim<A: Allocator>(bytes: &mut Vec<u8, A>, runs: &mut Vec<Run, A>, first: u64) -> u64
     requires tiled { IsTiled runs.old.items first (length bytes.old.items) }
     requires parted { Parted first runs.old.items }
     ensures same { shown_by runs.new.items bytes.new.items result ≡ shown_by runs.old.items bytes.old.items first }
-    ensures tidy { IsTidy runs.new.items result (length bytes.new.items) }
+    ensures tidy { IsTidy runs.new.items result (length bytes.new.items) (vec_capacity bytes.new) }
 {
     let (count, end) = gone_front(runs, first);
     let gone = (end - first) as usize;
@@ -46,6 +78,7 @@ fn trim<A: Allocator>(bytes: &mut Vec<u8, A>, runs: &mut Vec<Run, A>, first: u64
     }
     cut_front(runs, count);
     cut_front(bytes, gone);
+    give_back(bytes);
     end
 }
 
@@ -55,14 +88,14 @@ fn tidy<A: Allocator>(bytes: &mut Vec<u8, A>, runs: &mut Vec<Run, A>, first: u64
     requires tiled { IsTiled runs.old.items first (length bytes.old.items) }
     requires rise { Rise first runs.old.items }
     ensures same { shown_by runs.new.items bytes.new.items result ≡ shown_by runs.old.items bytes.old.items first }
-    ensures tidy { IsTidy runs.new.items result (length bytes.new.items) }
+    ensures tidy { IsTidy runs.new.items result (length bytes.new.items) (vec_capacity bytes.new) }
 {
     join(runs);
     trim(bytes, runs, first)
 }
 
 /// The send buffer of one outgoing stream: the accepted bytes from the lowest unacknowledged one on, each queued, in
-/// flight or acknowledged.
+/// flight or acknowledged. Its memory is given back once all are acknowledged.
 #[derive(Drop)]
 pub struct Unacked<A: Allocator + Copy> {
     /// The bytes from `first` on.
@@ -83,12 +116,12 @@ impl<A: Allocator + Copy> Model for Unacked<A> {
 
     ghost coded = { Prim.hlevel (codes, map.code) };
 
-    ghost use Rattle.std.specs.Prelude.{length};
+    ghost use Rattle.std.specs.Prelude.{length, vec_capacity};
     ghost use Rattle.st_unacked.specs.Runs.{IsTidy, shown_by};
 
     ghost view = { λ s. shown_by s.runs.items s.bytes.items s.first };
 
-    ghost invariant = { λ s. IsTidy s.runs.items s.first (length s.bytes.items) };
+    ghost invariant = { λ s. IsTidy s.runs.items s.first (length s.bytes.items) (vec_capacity s.bytes) };
 }
 
 impl<A: Allocator + Copy> Unacked<A> {
@@ -102,6 +135,13 @@ impl<A: Allocator + Copy> Unacked<A> {
             alloc,
             first: 0,
         }
+    }
+
+    /// The memory that is kept for bytes, in bytes. It is 0 once no byte is unacknowledged or in flight.
+    pub fn room(&self) -> usize
+        ensures { self.now.unacked ≡ empty → self.now.flying ≡ empty → result ≡ 0 }
+    {
+        self.bytes.capacity()
     }
 
     /// The total number of bytes that were accepted. It is also the offset of the next byte.
@@ -120,7 +160,7 @@ impl<A: Allocator + Copy> Unacked<A> {
 
     /// Appends bytes to the stream and queues them: all of them, or none.
     ///
-    /// Fails with `AllocError` where memory is refused. The buffer then stays as it was. Requires that the total stays
+    /// Fails with `AllocError` if memory is refused. The buffer then stays as it was. Requires that the total stays
     /// below 2^64.
     pub fn accept(&mut self, bytes: &[u8]) -> Result<(), AllocError>
         requires { self.old.accepted + length bytes.now < 2 ^ 64 }
@@ -129,13 +169,15 @@ impl<A: Allocator + Copy> Unacked<A> {
         ensures unchanged { OnErr result (self.new ≡ self.old) }
     {
         let end = self.accepted() + bytes.len() as u64;
-        self.bytes.reserve(bytes.len())?;
-        append(&mut self.runs, self.first, end, DUE)?;
-        self.bytes.extend_from_slice(bytes).unwrap();
+        let Ok(()) = add(&mut self.bytes, &mut self.runs, self.first, end, bytes) else {
+            give_back(&mut self.bytes);
+            return Err(AllocError);
+        };
+        give_back(&mut self.bytes);
         Ok(())
     }
 
-    /// The lowest range of queued bytes: its first offset and the offset past its last byte. `None` where nothing is
+    /// The lowest range of queued bytes: its first offset and the offset past its last byte. `None` if nothing is
     /// queued.
     pub fn lowest_due(&self) -> Option<(u64, u64)>
         ensures { MatchOption result ((q : ℕ) → due_at self.now q ≡ None) (λ r. IsLowestDue self.now r.0 r.1) }
@@ -146,7 +188,7 @@ impl<A: Allocator + Copy> Unacked<A> {
         Some((from, due_end(&self.runs, from)))
     }
 
-    /// The offset past the highest queued byte, or 0 where nothing is queued.
+    /// The offset past the highest queued byte, or 0 if nothing is queued.
     pub fn past_due(&self) -> u64
         ensures { IsPastDue self.now result }
     {
@@ -181,7 +223,7 @@ impl<A: Allocator + Copy> Unacked<A> {
 
     /// Marks the queued bytes from offset `from` on and below `to` as in flight under the sequence number.
     ///
-    /// Fails with `AllocError` where memory is refused. The buffer then stays as it was. Requires that each of the
+    /// Fails with `AllocError` if memory is refused. The buffer then stays as it was. Requires that each of the
     /// bytes is queued.
     pub fn claim(&mut self, sequence: u64, from: u64, to: u64) -> Result<(), AllocError>
         requires order { from ≤ to }
@@ -195,7 +237,7 @@ impl<A: Allocator + Copy> Unacked<A> {
 
     /// Handles a Fulfill: the bytes carried by the sequence number are acknowledged. Does not allocate.
     ///
-    /// Gives the offset past the last byte that it carried, dropped ones included, or 0 where it carried none.
+    /// Returns the offset past the last byte that it carried, dropped ones included, or 0 if it carried none.
     pub fn acknowledged(&mut self, sequence: u64) -> u64
         ensures acknowledges { self.new ≡ after_acknowledged sequence self.old }
         ensures end { IsFlightEnd sequence self.old result }

@@ -104,7 +104,7 @@ ArrivalIs h way bytes (Forwards t outgoing next) after =
     (t.number ≡ h.next) × (t.incoming ≡ account_from way) × (t.outgoing ≡ outgoing) × (t.amount_in ≡ (prepare_in bytes).amount) × (t.amount_out ≡ (prepare_in next).amount)
     × ((prepare_in next).payload ≡ (prepare_in bytes).payload) × IsSpelled next × (after ≡ holding h t)
 
--- a route that is told, or a refusal
+-- the outcome of forwarding: a next hop, or a refusal
 sent_cond : (h : Hop) (way : Side) (bytes : List ℕ) (p : PreparePacket) (b : Bool) (x y : Result NextHop _) → ArrivalIs h way bytes (sent_on h (account_from way) p x).0 (sent_on h (account_from way) p x).1 → (b ≡ false → ArrivalIs h way bytes (sent_on h (account_from way) p y).0 (sent_on h (account_from way) p y).1) → ArrivalIs h way bytes (sent_on h (account_from way) p (cond b x y)).0 (sent_on h (account_from way) p (cond b x y)).1
 sent_cond h way bytes p true x y f g = f
 sent_cond h way bytes p false x y f g = g refl
@@ -209,7 +209,7 @@ settles_is : (h : Hop) (t : Open) (o : Option (List ℕ)) (now : ℤ) → let r 
 settles_is h t None now = refused_closes h t None _
 settles_is h t (Some bytes) now = answer_closes h t bytes now (answer_at bytes) refl
 
--- a hop books where a Fulfill goes back
+-- a hop books if it returns a Fulfill
 refused_books : (h : Hop) (t : Open) (o : Option (List ℕ)) (refusal : _) → books (Err refusal) ≡ is_fulfill_text (closed h t o (Err refusal)).0
 refused_books h t o refusal = sym (reject_text_fails h.own refusal)
 

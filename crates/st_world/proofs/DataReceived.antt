@@ -22,7 +22,7 @@ use Rattle.st_tables.proofs.SlotLemmas.{slot_cases, slot_here, slot_apart, slot_
 abbrev pub fresh_at : Receiving → ℕ → Incoming
 fresh_at s k = fresh_incoming (get_or s.kept k 0)
 
--- each held byte is the one that was written there
+-- each buffered byte is the one that was written at its offset
 abbrev pub HeldFine : List ℕ → Held → Type 0
 HeldFine w h = (o b : ℕ) → fmap.get h.bytes o ≡ Some b → slice_get w o ≡ Some b
 
@@ -88,13 +88,13 @@ pub read-abort : (h : Held) (code : ℕ) → (after_abort code h).read ≡ h.rea
 read-abort h code =
     read_cond (is_over h) h (record h { bytes = fmap.empty; aborted = Some code }) h.read refl refl
 
--- one incoming stream: what is held was written there, and what was read is as long as the count
+-- one incoming stream: what is buffered was written there, and what was read is as long as the count
 pub record StreamFine (w r : List ℕ) (h : Held) : Type 0 where
   pub held : HeldFine w h
   pub count : length r ≡ h.read
   pub is_prefix : IsPrefixOf r w
 
--- a change of a held stream that reads nothing
+-- a change of a receive buffer that reads nothing
 same_read : (w r : List ℕ) (h g : Held) → StreamFine w r h → HeldFine w g → g.read ≡ h.read → StreamFine w r g
 same_read w r h g fine held e = record { held = held; count = fine.count ∙ sym e; is_prefix = fine.is_prefix }
 

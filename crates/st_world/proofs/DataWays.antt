@@ -136,7 +136,7 @@ read_recv v w r u s k n run l is_run same here apart fine =
     (λ j n. same_stream (v j) (w j) (r j) (u j) (incoming_at s j).held (same j) (apart j n) (fine j))
     (same_stream (v k) (w k) (r k ++ take n run) (u k) _ (same k) here (stream-read (v k) (r k) run (incoming_at s k).held n (fine k) is_run))
 
--- an end by itself: what it sends stands in one list, what it holds and was read of it in another
+-- an end by itself: what it sends is in one list, what it buffers and what was read of it in another
 pub record EndFine (keys : DerivedKeys) (w v r : ℕ → List ℕ) (e : EndState) : Type 0 where
   pub send : SendFine w e.sending
   pub recv : RecvFine v r e.receiving

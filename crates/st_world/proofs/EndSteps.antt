@@ -49,7 +49,7 @@ module _ (P : Sending → Type 0) where
   marked_keeps step reply (f ∷ fs) s h =
       marked_keeps step reply fs (marked reply s f) (fold_keeps P (λ t g. marked_if t (tells_blocked f g) g) (λ t g. mark_if step t (tells_blocked f g) g) reply s h)
 
--- what an end keeps as it is, and with a new stream, it keeps where one may open
+-- if an end has a property before an opening and with the new stream, it has it after the call, refused or not
 pub opening_either : (P : EndState → Type 0) (e : EndState) (k : ℕ) (o : Option EndError) → P e → P (with_stream e k) → P (opened_unless e k o).1
 opening_either P e k None f g = g
 opening_either P e k (Some why) f g = f

@@ -1,4 +1,4 @@
--- What calls, answers and told limits leave of an end's flights, and of its keys.
+-- What calls, answers and advertised limits leave of an end's flights, and of its keys.
 use Rattle.std.proofs.Common.{◌≡◌, ℕ, ◌+◌, Result, Ok, Err, Bool, true, false, cond, List, [], ◌∷◌, refl, ◌∙◌, arith, Option, None, Some, nat_eq}
 use Rattle.st_ilp.specs.Packets.{AnswerPacket, Fulfilled, Rejected}
 use Rattle.st_ilp.specs.Reading.{answer_at}
@@ -23,7 +23,7 @@ use Rattle.st_world.proofs.Moves.{Turns, opens, raises, Replied, rejected, risen
 use Rattle.st_world.proofs.EndSteps.{opened_keeps, marked_keeps, opening_either}
 use Rattle.st_receiver.specs.Limits.{reply_frames}
 
--- what answers and told limits leave as it is
+-- what answers and advertised limits leave as it is
 pub record Flies (s t : Sending) : Type 0 where
   pub flights : t.flights ≡ s.flights
   pub last : t.last ≡ s.last

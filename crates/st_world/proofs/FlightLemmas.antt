@@ -111,7 +111,7 @@ pushed_flight ps p q low last h s e =
       | inr new ↦ new.1
     ]
 
--- what went last is found by its sequence
+-- what was sent last is found by its sequence
 pub load_at_end : (ps : List Flight) (p : Flight) (low last : ℕ) → IsSequenced low ps last → p.sequence ≡ last + 1 → flight_at (ps ++ p ∷ []) p.sequence ≡ Some p
 load_at_end [] p low last h s = flight_here p [] p.sequence refl
 load_at_end (q ∷ ps) p low last h s =

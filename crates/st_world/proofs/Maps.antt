@@ -51,7 +51,7 @@ prefix_from_gets (x ∷ xs) (y ∷ ys) h =
 pub prefix_append : (xs ys more : List ℕ) → IsPrefixOf xs ys → IsPrefixOf xs (ys ++ more)
 prefix_append xs ys more p = (p.0 ++ more, sym (append_assoc xs p.0 more) ∙ ap (λ l. l ++ more) p.1)
 
--- a prefix goes on by the bytes that stand after it
+-- a prefix grows by the bytes that follow it
 pub prefix_more : (r w xs : List ℕ) → IsPrefixOf r w → Within w (length r) xs → IsPrefixOf (r ++ xs) w
 prefix_more r w xs p within =
     let next = prefix_from_gets xs p.0 (λ i b e. sym (got_after r p.0 i) ∙ ap (λ l. slice_get l (length r + i)) p.1 ∙ within i b e) in
@@ -73,7 +73,7 @@ found_in xs ys j p e h = rw e at h
 pub none_in : {A : Type 0} (xs : List A) (j : ℕ) (p : A) → xs ≡ [] → slice_get xs j ≡ Some p → ⊥
 none_in xs j p e h = let none : slice_get xs j ≡ None = ap (λ ys. slice_get ys j) e in cc
 
--- what is found where a place was set is what was put there, or was there
+-- what is found after a place was set is what was put there, or was there
 pub set_got : {A : Type 0} (xs : List A) (i : ℕ) (x : A) (j : ℕ) (y : A) → slice_get (set xs i x) j ≡ Some y → ((i ≡ j) × (x ≡ y)) ⊎ (slice_get xs j ≡ Some y)
 set_got [] i x j y e = inr e
 set_got (z ∷ xs) zero x zero y e = inl (refl, cc)

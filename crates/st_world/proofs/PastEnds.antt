@@ -1,4 +1,4 @@
--- While a direction is not over, its highest byte end received is the least offset past every byte held or read.
+-- While a direction is not over, its highest byte end received is the least offset past every byte buffered or read.
 use Rattle.std.proofs.Common.{◌≡◌, ◌≢◌, ℕ, zero, suc, ◌+◌, ◌-◌, ◌<◌, ◌≤◌, Bool, true, false, ◌&&◌, ◌||◌, cond, List, [], ◌∷◌, length, refl, sym, ap, subst, ◌∙◌, arith, Option, None, Some, ◌⊎◌, inl, inr, max, nat_lt, nat_le, nat_eq, is_some, is_none}
 use Rattle.std.specs.Ordering.{nat_cmp}
 use Rattle.std.specs.FinMap as fmap
@@ -15,7 +15,7 @@ use Rattle.st_world.proofs.Maps.{got_insert, got_retain, get_here, get_apart}
 use Rattle.st_world.proofs.DataReceived.{insert_keeps}
 use Rattle.st_world.proofs.Truths.{or_false}
 
--- the least offset past every byte held or read
+-- the least offset past every byte buffered or read
 pub record IsPast (s : Held) (end : ℕ) : Type 0 where
   pub read : s.read ≤ end
   pub above : (q : ℕ) → end ≤ q → fmap.get s.bytes q ≡ None
@@ -25,7 +25,7 @@ byte_back : (c : Bool) (h : Held) (o x q b : ℕ) → fmap.get (cond c (record h
 byte_back true h o x q b e = elim (got_insert h.bytes o x q b e) [ inl p ↦ inr p.0 | inr old ↦ inl old ]
 byte_back false h o x q b e = inl e
 
--- what is held after an insert was held, or is of the piece
+-- what is buffered after an insert was buffered before, or is of the chunk
 pub held_back : (xs : List ℕ) (h : Held) (o q b : ℕ) → fmap.get (after_insert o xs h).bytes q ≡ Some b → (fmap.get h.bytes q ≡ Some b) ⊎ ((o ≤ q) × (q < o + length xs))
 unfolding after_insert
 held_back [] h o q b e = inl e
@@ -47,7 +47,7 @@ byte_stays true h o x q b f e =
       | inr n ↦ get_apart h.bytes o x q n ∙ e
     ]
 
--- bytes that are held stay
+-- buffered bytes stay
 pub held_stays : (xs : List ℕ) (h : Held) (o q b : ℕ) → fmap.get h.bytes q ≡ Some b → fmap.get (after_insert o xs h).bytes q ≡ Some b
 unfolding after_insert
 held_stays [] h o q b e = e
@@ -62,7 +62,7 @@ byte_there true h o x (Some b) w e = (b, e)
 byte_there true h o x None w e = (x, get_here h.bytes o x)
 byte_there false h o x f w e = absurd (cc)
 
--- a byte of the piece that is wanted is held
+-- a byte of the chunk that is wanted is buffered
 pub held_new : (xs : List ℕ) (h : Held) (o q : ℕ) → is_wanted h q ≡ true → o ≤ q → q < o + length xs → (b : ℕ) × (fmap.get (after_insert o xs h).bytes q ≡ Some b)
 unfolding after_insert
 held_new [] h o q w l m = absurd (omega arith)
@@ -203,7 +203,7 @@ held_before h e q p s =
       | inr below ↦ below
     ]
 
--- it is where a clean close fixes the end
+-- it is the end that a clean close fixes
 pub past_is : (h : Held) (e : ℕ) → IsPast h e → past_all h ≡ e
 past_is h e p =
     let few : past (fmap.keys h.bytes) ≤ e = past-within h e (λ q s. held_before h e q p s) in

@@ -1,4 +1,4 @@
--- Closes: where End was told all was read, and nothing is read once End or an abort was told. What a receiver keeps.
+-- Closes at a receiver: a read returns `End` only after all bytes, and nothing is read after `End` or an abort.
 use Rattle.std.proofs.Common.{◌≡◌, ◌≢◌, ℕ, zero, suc, ◌+◌, ◌-◌, ◌<◌, ◌≤◌, Bool, true, false, ◌&&◌, ◌||◌, cond, List, [], ◌∷◌, map, length, slice_get, max, refl, sym, ap, subst, ◌∙◌, arith, Option, None, Some, ◌⊎◌, inl, inr, nat_le, nat_eq, is_some}
 use Rattle.std.specs.List.{AllByRecursion}
 use Rattle.std.specs.FinMap as fmap
@@ -36,7 +36,7 @@ OutWhole l n None = (l.clean ≡ false) × (l.aborted ≡ false) × (l.written �
 OutWhole l n (Some y) = OutSome l n y
 
 -- one incoming stream: a fixed end is the length of what was written, and while none is fixed the highest byte end is
--- where a clean close would fix it
+-- the end that a clean close would fix
 pub record InWhole (l : Ledger) (x : Incoming) : Type 0 where
   pub ends : (n : ℕ) → x.held.end ≡ Some n → (n ≡ length l.written) × (x.highest ≡ length l.written) × (l.clean ≡ true)
   pub drops : is_some x.held.aborted ≡ true → l.aborted ≡ true
@@ -62,7 +62,7 @@ rise_same r k = (omega arith, λ e. e)
 pub rise_join : (r s t : Receiving) → Rise r s → Rise s t → Rise r t
 rise_join r s t f g k = (let a : (incoming_at r k).highest ≤ (incoming_at s k).highest = (f k).0 in let b : (incoming_at s k).highest ≤ (incoming_at t k).highest = (g k).0 in omega arith, λ e. (g k).1 ((f k).1 e))
 
--- frames of a packet that was sent, and those of one that was taken
+-- frames of a packet that was sent, and those of one that was accepted
 abbrev pub FrameSound : (ℕ → Ledger) → Receiving → Known → Type 0
 FrameSound l r (StreamClose k code message) = (code ≡ 1 → ((l k).clean ≡ true) × (length (l k).written ≤ (incoming_at r k).highest)) × (code ≢ 1 → (l k).aborted ≡ true)
 FrameSound l r (ConnectionClose code message) = ⊥
@@ -123,7 +123,7 @@ pub taken_flown : (r : Receiving) (fs : List Known) → FramesTaken r fs → All
 taken_flown r [] h = tt
 taken_flown r (f ∷ fs) h = (frame_flown r f h.0, taken_flown r fs h.1)
 
--- ledgers and receivers that go on
+-- later states of ledgers and receivers
 pub record Onward (l m : ℕ → Ledger) (r t : Receiving) : Type 0 where
   pub clean : (k : ℕ) → (l k).clean ≡ true → ((m k).clean ≡ true) × ((m k).written ≡ (l k).written)
   pub aborted : (k : ℕ) → (l k).aborted ≡ true → (m k).aborted ≡ true
@@ -259,7 +259,7 @@ data_in l x o xs h w =
       elim d.3 [ inl e ↦ inl (ap (λ z. is_some z) drop ∙ e) | inr f ↦ inr f ],
     )
 
--- the receiver is right, has risen, and these frames are taken
+-- the receiver is right, has risen, and has accepted these frames
 pub record Good (l : ℕ → Ledger) (r : Receiving) (fs : List Known) (t : Receiving) : Type 0 where
   pub recv : RecvWhole l t
   pub rise : Rise r t

@@ -57,7 +57,7 @@ out_changed_at l r s k f (Some x) e keeps h =
 out_changed : (l : ℕ → Ledger) (r : Receiving) (s : Sending) (k : ℕ) (f : Outgoing → Outgoing) → ((x : Outgoing) → OutSome (l k) (incoming_at r k).highest x → OutSome (l k) (incoming_at r k).highest (f x)) → SendWhole l r s → SendWhole l r (changed s k f)
 out_changed l r s k f keeps h = out_changed_at l r s k f (outgoing_at s k) refl keeps h
 
--- an acknowledged byte was taken
+-- an acknowledged byte was accepted
 retained_by : (m : fmap.FinMap nat_cmp ℕ) (p : ℕ → Bool) (q : ℕ) (b : Bool) → p q ≡ b → fmap.get (fmap.retain_keys m p) q ≡ None → (fmap.get m q ≡ None) ⊎ (p q ≡ false)
 retained_by m p q true h e = inl (grind (arith, common_steps, fmap.gets, fmap.get-retain_keys))
 retained_by m p q false h e = inr h
@@ -240,7 +240,7 @@ turns_good own peer t e f (raises k n) s r =
     either_good {A = Answer} own peer t e.receiving (may_name e.receiving k) (Ok tt, record e { receiving = with_receive_max e.receiving k n }) (Err NoStream, e)
     (record { send = s; recv = alike_whole peer e.receiving (with_receive_max e.receiving k n) a r; rise = alike_rise e.receiving (with_receive_max e.receiving k n) a }) (same_good own peer t e s r)
 
--- an answer to a Prepare: where it is a Fulfill, the packet's frames are taken
+-- an answer to a Prepare: if it is a Fulfill, the packet's frames are accepted
 pub record AnswerGood (own peer : ℕ → Ledger) (t old : Receiving) (keys : DerivedKeys) (bytes answer : List ℕ) (e : EndState) : Type 0 where
   pub good : EndGood own peer t old e
   pub taken : is_fulfill_text answer ≡ true → (q : Packet) → opened keys 12 (prepare_in bytes).payload ≡ Ok q → FramesTaken e.receiving (frames_of q)

@@ -36,7 +36,7 @@ pub record StateWhole (l : ℕ → Ledger) (s : Sending) (r : Receiving) : Type 
 abbrev pub StatesOf : Both Party → Ledgers → Type 0
 StatesOf b g = (a : Side) → StateWhole (ledger_in g a) (at b a).state.sending (at b (other a)).state.receiving
 
--- what was told stays told, and then no more is read
+-- an end or abort that was reported stays so, and then no more is read
 abbrev pub StaysTold : Ledger → Ledger → Type 0
 StaysTold l m = (l.told_end || l.told_abort) ≡ true → ((m.told_end || m.told_abort) ≡ true) × (m.read ≡ l.read)
 

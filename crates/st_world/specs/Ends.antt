@@ -27,7 +27,7 @@ accepted_at (Err why) w side k x = w
 abbrev pub Calls : World → Side → ℕ → Answer × EndState → Ledger → Told → World → Type 0
 Calls w side k r x told after = (told ≡ Call r.0) × (after ≡ accepted_at r.0 (with_end w side r.1) side k x)
 
--- an abort with code 1 is no call
+-- an abort with code 1 makes no call
 abbrev pub AbortsAt : World → Side → (stream code : ℕ) → Bool → Told → World → Type 0
 AbortsAt w side k code true told after = (told ≡ Silent) × (after ≡ w)
 AbortsAt w side k code false told after = Calls w side k (abort (end_at w side) k code) (given_up (ledger_at w side k)) told after
@@ -36,13 +36,13 @@ abbrev pub read_at : Result Got EndError → World → Side → ℕ → World
 read_at (Err why) w side k = w
 read_at (Ok g) w side k = with_ledger w side k (got g (ledger_at w side k))
 
--- a read of at most 0 bytes is no call
+-- a read of at most 0 bytes makes no call
 abbrev pub ReadsAt : World → Side → (stream limit : ℕ) → Told → World → Type 0
 ReadsAt w side k zero told after = (told ≡ Silent) × (after ≡ w)
 ReadsAt w side k (suc n) told after =
     let r = read (end_at w side) k (suc n) in (told ≡ Gave r.0) × (after ≡ read_at r.0 (with_end w side r.1) (other side) k)
 
--- ---- a Send gives none, or its Prepare goes on the first link
+-- ---- a Send gives none, or its Prepare is put on the first link
 
 abbrev pub put_by : flights.Open → List ℕ → Put
 put_by flight bytes = record { bytes = bytes; name = flight.sequence; condition = flight.condition; cause = 0 }
@@ -53,7 +53,7 @@ SendsAt w side iv now told after =
     ⊎ ((flight : flights.Open) × (bytes : List ℕ) × (e : EndState) × Goes (end_at w side) iv now flight bytes e × (told ≡ Sent)
     × (after ≡ with_put (with_end w side e) (first_link w side) side (put_by flight bytes)))
 
--- ---- a Prepare comes to an end
+-- ---- a Prepare arrives at an end
 
 abbrev pub end_entry : Received → EndEntry
 end_entry r = record { amount = r.amount; sequence = r.sequence; fulfilled = is_fulfill_text r.bytes }
@@ -73,7 +73,7 @@ abbrev pub ArrivesAtEnd : World → (link : ℕ) → (way : Side) → (which : �
 ArrivesAtEnd w link way which p now side told after =
     let r = received (end_at w side) p.bytes now in (told ≡ Answered r.0.reason r.0.amount r.0.sequence) × (after ≡ answered_at_end w link way which side r.1 (end_entry r.0) r.0.bytes)
 
--- ---- an outcome comes back to an end. The answer, if it is one, has this place in the list
+-- ---- an outcome arrives at an end. The answer, if it is one, has this place in the list
 
 abbrev pub took : Given → Given
 took g = record g { taken = true }

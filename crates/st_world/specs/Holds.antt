@@ -14,11 +14,11 @@ use Rattle.st_world.specs.Ledgers.{Ledger}
 abbrev pub ReadsPrefix : World → Type 0
 ReadsPrefix w = (side : Side) (k : ℕ) → IsPrefixOf (ledger_at w side k).read (ledger_at w side k).written
 
--- where End was told, a clean close was accepted and all was read
+-- if a read returned `End`, a clean close was accepted and all was read
 abbrev pub EndsWhole : World → Type 0
 EndsWhole w = (side : Side) (k : ℕ) → (ledger_at w side k).told_end ≡ true → ((ledger_at w side k).clean ≡ true) × ((ledger_at w side k).read ≡ (ledger_at w side k).written)
 
--- once End or an abort was told no more is read: a fact of two worlds of one run
+-- once a read returned `End` or an abort no more is read: a fact of two worlds of one run
 abbrev pub StaysRead : Ledger → Ledger → Type 0
 StaysRead old new = (old.told_end || old.told_abort) ≡ true → new.read ≡ old.read
 
@@ -61,7 +61,7 @@ pub record IsBalanced (n : Node) : Type 0 where
   pub claims : (a : ℕ) → slice_index n.state.claims a ≡ sum_by (claim_of a) n.bag
   pub dues : (a : ℕ) → slice_index n.state.dues a ≡ sum_by (due_of a) n.bag
 
--- link agreement: the claimer's claims less the payer's dues are the Fulfills that were given and not taken
+-- link agreement: the claimer's claims less the payer's dues are the Fulfills that were given and not booked
 abbrev pub amount_of : Option Put → ℕ
 amount_of None = 0
 amount_of (Some p) = (prepare_in p.bytes).amount

@@ -1,4 +1,4 @@
--- What was accepted and read of one stream in one direction, and what the reader was told.
+-- What was accepted and read of one stream in one direction, and whether its reader was given `End` or an abort.
 use Rattle.std.specs.Prelude.{Bool, true, false, ℕ, List, [], ◌++◌}
 use Rattle.std.specs.declared.option.Option.{Option}
 use Rattle.std.specs.declared.option.Option.TheVariants.{None, Some}

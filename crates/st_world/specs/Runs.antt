@@ -54,7 +54,7 @@ role_of Server = roles.Server
 abbrev pub new_party : EndState → Party
 new_party e = record { state = e; bag = [] }
 
--- where nothing has happened
+-- a world in which nothing has happened
 abbrev pub opening : Chain → World
 opening c = record {
   ends = record {

@@ -10,10 +10,10 @@ use Rattle.st_end.specs.State.{EndState}
 use Rattle.st_world.specs.Ledgers.{Ledger, ledger_or}
 use Rattle.st_world.specs.Sides.{Side, Client, Server, other, Both, at, put}
 
--- an answered Prepare at an end, and at a hop: one that was rejected on arrival went nowhere
+-- an answered Prepare at an end, and at a hop: one that was rejected on arrival was not forwarded
 pub record EndEntry : Type 0 where
   pub amount : ℕ
-  pub sequence : Option ℕ  -- where it opened
+  pub sequence : Option ℕ  -- if it opened
   pub fulfilled : Bool
 
 pub record HopEntry : Type 0 where
@@ -33,7 +33,7 @@ pub record Node : Type 0 where
   pub bag : List HopEntry
 
 -- a Prepare that was put on a link: its flight at the end or ticket at the hop that put it, by sequence or number and
--- condition; and for a hop, which Prepare of the link before it goes on
+-- condition; and for a hop, which Prepare of the link before it was forwarded so
 pub record Put : Type 0 where
   pub bytes : List ℕ
   pub name : ℕ

@@ -15,13 +15,13 @@ ghost use Rattle.st_world.specs.Crashes.{LosesTickets, WasPut, HasNoTicket, HasT
 ghost use Rattle.std.specs.List.{sum_by};
 ghost use Rattle.st_end.specs.Receiving.{prepare_in};
 
-/// What holds after any list of calls, arrivals, answers, faults and crashes of hops over any chain of hops, where
+/// What holds after any list of calls, arrivals, answers, faults and crashes of hops over any chain of hops, in which
 /// Prepares and answers may be lost, repeated and reordered:
 ///
-/// - What was read of each stream is a prefix of what was written, and all of it where a read gave the end.
+/// - What was read of each stream is a prefix of what was written, and all of it if a read gave the end.
 /// - Each end's credit is the sum of the Prepares that it fulfilled, each sequence once.
 /// - Each hop's claims and dues are the sums of the Prepares that were fulfilled over it.
-/// - On each link the claims less the dues are the Fulfills that were sent and not taken.
+/// - On each link the claims less the dues are the Fulfills that were sent and not yet booked.
 ///
 /// Once a read gave the end or an abort of a stream, no run reads more of it.
 pub fn every_run_holds()
@@ -32,8 +32,8 @@ pub fn every_run_holds()
 /// A crash of a hop costs its open tickets, and no more. It is possible at any moment (`any_moment`).
 ///
 /// - All claims, dues and credits stay, and all that was sent on any link. No ticket is open at the hop (`books`).
-/// - From then on, whatever comes back for a Prepare that the hop sent before the crash changes nothing (`late`). So no
-///   late answer settles a ticket that was given out since.
+/// - From then on, no answer to a Prepare that the hop sent before the crash changes anything, and no fault (`late`).
+///   So no late answer settles a ticket that was given out since.
 /// - A Prepare whose ticket was not open before the crash was lost without it (`spent`).
 /// - The amount of an open ticket is that of its Prepare (`amount`).
 pub fn crashes_cost_open_tickets()
@@ -45,7 +45,7 @@ pub fn crashes_cost_open_tickets()
 {}
 
 /// All Fulfills that are ever sent for the Prepares that are pending at a hop towards one neighbour are together at most
-/// the amount that is pending there. After a crash none of them is taken, so a crash costs at most that amount.
+/// the amount that is pending there. After a crash none of them is booked, so a crash costs at most that amount.
 pub fn what_is_pending_bounds_the_cost()
     ensures { (c : Chain) (events more : List Event) (w u : World) → Run (opening c) events w → Run w more u → (link i : ℕ) (way : Side) (n : Node) → link < length w.nodes + 1 → near w link way ≡ AtHop i → slice_get w.nodes i ≡ Some n → sum_by (fulfilled_due n.state.tickets (lane_at w link way).puts) (lane_at u link way).given ≤ pending_to n.state (account_to way) }
 {}
@@ -56,8 +56,8 @@ pub fn prepares_are_fulfilled_once()
     ensures { (c : Chain) (events : List Event) (w : World) → Run (opening c) events w → FulfillsOnce w }
 {}
 
-/// A world notes that a call of an end or a hop found no memory. An event whose call found memory leaves the note as it
-/// was, and one whose call found none sets it.
+/// A world notes that a call of an end or a hop ran out of memory. An event whose call did not leaves the note as it
+/// was, and one whose call did sets it.
 pub fn want_of_memory_is_noted()
     ensures met { (c : Chain) (events : List Event) (w : World) → Run (opening c) events w → (event : Event) (told : Told) (v : World) → IsEvent event → Step w event told v → v.refused ≡ w.refused }
     ensures refused { (w : World) → (noted w).refused ≡ true }

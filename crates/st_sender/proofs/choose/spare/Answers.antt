@@ -1,4 +1,4 @@
-use Rattle.std.proofs.Common.{◌≡◌, ◌∙◌, ap, sym, arith}
+use Rattle.std.proofs.Common.{arith}
 use Rattle.st_sender.proofs.choose.spare.Goals as goal
 
 pub returns-then-total-from : goal.returns-then-total-from

@@ -1,5 +1,4 @@
-use Rattle.std.proofs.Common.{◌≡◌, ◌∙◌, sym, ap, arith}
-use Rattle.st_sender.specs.declared.notice.Notice.{Notice}
+use Rattle.std.proofs.Common.{ap, arith}
 use Rattle.st_sender.proofs.Lengths.{said_long, notice_long}
 use Rattle.st_sender.proofs.sizes.notice_contents.Goals as goal
 

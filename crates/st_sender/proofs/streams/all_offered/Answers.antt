@@ -1,4 +1,4 @@
-use Rattle.std.proofs.Common.{◌∙◌, None, refl, arith, ap}
+use Rattle.std.proofs.Common.{◌∙◌, refl, arith, ap}
 use Rattle.std.specs.declared.option.Option.{Option}
 use Rattle.st_tables.specs.Slots.{Slots}
 use Rattle.st_sender.specs.Lanes.{Lane, outs, out_of}

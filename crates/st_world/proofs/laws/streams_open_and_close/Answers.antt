@@ -10,7 +10,7 @@ use Rattle.st_world.specs.Runs.{Chain, opening}
 use Rattle.st_world.proofs.DataWays.{ledger_here}
 use Rattle.st_world.proofs.laws.streams_open_and_close.Goals as goal
 
--- the world after both calls, where the first names this stream
+-- the world after both calls, if the first names this stream
 opened_by : Chain → Option ℕ → World
 opened_by c o = with_end (opening c) Client (opening_as (end_at (opening c) Client) o).1
 

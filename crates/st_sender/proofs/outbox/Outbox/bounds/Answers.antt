@@ -1,4 +1,4 @@
-use Rattle.std.proofs.Common.{rules, ◌≡◌, ◌<◌, ◌^◌, ◌∙◌, length, refl, sym, ap, arith}
+use Rattle.std.proofs.Common.{rules, ◌<◌, ◌^◌, ◌∙◌, length, refl, sym, ap}
 use Rattle.st_sender.proofs.Said.{barred_by, unbarred_by}
 use Rattle.st_sender.proofs.Planned.{below, small_last}
 use Rattle.st_sender.proofs.outbox.Outbox.bounds.Goals as goal

@@ -1,7 +1,4 @@
-use Rattle.std.proofs.Common.{◌≡◌, ◌∙◌, ap}
 use Rattle.st_frames.specs.Seen.{seen}
-use Rattle.st_sender.specs.Sending.{Marks, Sending}
-use Rattle.st_sender.specs.Answering.{after_marked}
 use Rattle.st_sender.proofs.Said.{marked_view}
 use Rattle.st_sender.proofs.outbox.Outbox.mark.Goals as goal
 

@@ -1,4 +1,4 @@
-use Rattle.std.proofs.Common.{◌≡◌, ◌∙◌, [], length, refl, sym, ap, arith}
+use Rattle.std.proofs.Common.{◌∙◌, length, refl, sym, ap}
 use Rattle.st_sender.specs.Shown.{telling}
 use Rattle.st_sender.proofs.Planned.{either_is}
 use Rattle.st_sender.proofs.Said.{alone_is, no_flights, first_due, connection_said, none_found}

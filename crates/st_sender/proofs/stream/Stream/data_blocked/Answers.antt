@@ -1,4 +1,4 @@
-use Rattle.std.proofs.Common.{◌≡◌, ◌≤◌, ◌-◌, ◌∙◌, ℕ, [], ◌∷◌, refl, sym, ap, subst, arith}
+use Rattle.std.proofs.Common.{◌≤◌, ◌-◌, ◌∙◌, ℕ, [], ◌∷◌, sym, ap, subst, arith}
 use Rattle.std.specs.Prelude.{IsSome}
 use Rattle.st_frames.specs.Frames.{StreamDataBlocked}
 use Rattle.st_frames.specs.Written.{packet_length}

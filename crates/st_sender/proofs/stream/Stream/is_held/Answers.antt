@@ -1,4 +1,4 @@
-use Rattle.std.proofs.Common.{◌+◌, ◌-◌, ◌<◌, subst, arith}
+use Rattle.std.proofs.Common.{◌+◌, ◌-◌, subst, arith}
 use Rattle.std.specs.Prelude.{IsSome}
 use Rattle.st_sender.specs.Lanes.{Lane, due_in}
 use Rattle.st_sender.proofs.Said.{lt_of, byte_beyond}
