@@ -38,7 +38,7 @@ fails c i gt = by_value (hex_digit_value c) refl gt
     by_value (Some v) e gt = absurd (omega (arith, value-small c v e, gt))
     by_value None e gt = refl
 
--- two characters of which one is no digit
+-- two characters, one of which is not a digit
 pub pair_fails : (a b i : ℕ) → (15 < digit_code a) ⊎ (15 < digit_code b) → (e : FromHexError) × (pair_value a b i ≡ Err e)
 pair_fails a b i either = elim either [
   | inl high ↦ (InvalidHexCharacter a i, rw (fails a i high) refl)

@@ -1,4 +1,4 @@
--- What the line so far stands for.
+-- What the kept state says of the line so far.
 use Rattle.std.proofs.Common.{◌≡◌, ◌≢◌, ◌↔◌, ◌<◌, ◌≤◌, ℕ, zero, suc, nat_eq, ◌+◌, ◌-◌, ◌*◌, ◌%◌, ◌==◌, nat_lt, true, false, if◌then◌else◌, List, [], ◌∷◌, ◌++◌, length, take, drop, slice_index, Result, Ok, Err, refl, sym, ap, subst, ◌∙◌, inl, inr, arith, append-nil}
 use Rattle.std.specs.List.{All, AllPass}
 use Rattle.std.specs.Bool.{IsTrue}
@@ -144,7 +144,7 @@ spoiled_after text b =
       no_end = inr (omega (arith, all));
     }
 
--- a byte that is no digit, after digits
+-- a byte that is not a digit, after digits
 pub stands_with_other : (s t : LineState) (line : List ℕ) (b : ℕ) → s.shape ≡ shape.Digits → t ≡ record s { shape = shape.NotHex } → is_ascii_hexdigit b ≡ false → b ≢ 13 → b ≢ 10
     → StandsFor s line → StandsFor t (line ++ b ∷ [])
 stands_with_other s t line b e made hex return ne h =
@@ -167,7 +167,7 @@ stands_spoiled s t line b other made ne h = rw made (record { one_line = one_mor
 pub stands_empty : (s : LineState) → s ≡ no_line → StandsFor s []
 stands_empty s e = rw e (record { one_line = λ k d lt. absurd (omega arith); shape = record { hex = λ k d lt. absurd (omega arith); count = refl; kept = refl } })
 
--- the last character of digits is no carriage return
+-- the last character of digits is not a carriage return
 strip-digits : (text : List ℕ) → AllPass is_hex_digit text → strip_carriage_return text ≡ text
 strip-digits [] h = refl
 strip-digits (b ∷ text) h = elim (cases_eq (slice_index (b ∷ text) (length (b ∷ text) - 1)) 13) [
@@ -201,7 +201,7 @@ other_at_end s line e h =
     let at : slice_index (had.0 ++ 13 ∷ []) (length had.0) ≡ 13 = get_or-append_seam had.0 13 [] 0 in
     rw had.1 (record { place = length had.0; within = omega (arith, length-append had.0 (13 ∷ [])); no_digit = rw at refl })
 
--- no character goes with the carriage return but itself
+-- a line that is spoiled has another character in its text too
 other_in_text : (line : List ℕ) (end : LineEnd) → IsSpoiled line → HasOther (text_of_line end line)
 other_in_text line InputEnd h = record { place = h.place; within = h.within; no_digit = h.no_digit }
 other_in_text line Newline h = elim (cases_eq (slice_index line (length line - 1)) 13) [
@@ -224,7 +224,7 @@ other_in_text line Newline h = elim (cases_eq (slice_index line (length line - 1
 pub other_of_text : (s : LineState) (line : List ℕ) (end : LineEnd) → s.shape ≡ shape.NotHex → StandsFor s line → HasOther (text_of_line end line)
 other_of_text s line end e h = other_in_text line end (in_shape s line shape.NotHex e h)
 
--- text with another character is no packet
+-- text with another character is not a packet
 pub no_packet : (text : List ℕ) → HasOther text → packet_of_line text ≡ Err NotHex
 unfolding packet_of_line
 no_packet text h = by_answer (decode_of text) refl

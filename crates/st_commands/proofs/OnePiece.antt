@@ -1,4 +1,4 @@
--- A piece that goes into its stream's inbox, with no draft.
+-- A chunk that is put into its stream's inbox, without a draft.
 use Rattle.std.proofs.Common.{◌≡◌, ◌<◌, ℕ, zero, suc, List, [], ◌∷◌, length, get_or, set, Option, Some, None, inl, inr, refl, sym, ap, ◌∙◌}
 use Rattle.std.specs.Prelude.{true, Result, Ok, Err, IfErr, OnOk, ◌-◌}
 use Rattle.std.specs.Option.{unwrap_or}
@@ -31,7 +31,7 @@ refused_there xs ss stream place offset bytes here held error same l known at is
 pub no_room : (meant : Result Inboxes LineError) (error : InboxError) → error ≡ inbox.NoMemory → (e : LineError) → e ≡ Inbox error → IsPieceError meant e
 no_room meant error is e named = inr (named ∙ ap Inbox is)
 
--- what is put back where it stood changes nothing
+-- putting a value back at its place changes nothing
 pub set_there : {X : Type 0} (xs : List X) (place : ℕ) (x : X) → x ≡ get_or xs place x → set xs place x ≡ xs
 set_there [] place x is = refl
 set_there (y ∷ ys) zero x is = ap (λ z. z ∷ ys) is

@@ -1,4 +1,4 @@
--- Drafts over the inboxes that stand.
+-- Drafts laid over the current inboxes.
 use Rattle.std.proofs.Common.{◌≡◌, ◌<◌, ◌≤◌, ℕ, zero, suc, ◌+◌, List, [], ◌∷◌, length, replicate, get_or, set, Option, Some, None, inl, inr, refl, sym, ap, ◌∙◌, arith}
 use Rattle.std.specs.Prelude.{true, Result, Ok, Err, ◌-◌}
 use Rattle.std.specs.Option.{option_or, unwrap_or}
@@ -24,7 +24,7 @@ get-over (d ∷ ds) [] i h = absurd (omega arith)
 get-over (d ∷ ds) (s ∷ ss) zero h = refl
 get-over (d ∷ ds) (s ∷ ss) (suc i) h = get-over ds ss i (omega arith)
 
--- a draft is what stands over its place
+-- a draft takes the place of the inbox below it
 pub over-set : (ds ss : Inboxes) (i : ℕ) (x : Held) → length ds ≡ length ss → over (set ds i (Some x)) ss ≡ set (over ds ss) i (Some x)
 over-set [] [] i x h = refl
 over-set [] (s ∷ ss) i x h = absurd (omega arith)
@@ -32,7 +32,7 @@ over-set (d ∷ ds) [] i x h = absurd (omega arith)
 over-set (d ∷ ds) (s ∷ ss) zero x h = refl
 over-set (d ∷ ds) (s ∷ ss) (suc i) x h = ap (λ (l : Inboxes). option_or d s ∷ l) (over-set ds ss i x (omega arith))
 
--- a draft that moves to where it stands over leaves all as it was
+-- moving a draft to its place leaves the whole as it was
 pub over-adopt : (ds ss : Inboxes) (i : ℕ) (draft : Option Held) → length ds ≡ length ss → i < length ds → draft ≡ get_or ds i draft
     → over (set ds i None) (set ss i (option_or draft (get_or ss i None))) ≡ over ds ss
 over-adopt [] ss i draft h lt e = absurd (omega arith)
@@ -40,7 +40,7 @@ over-adopt (d ∷ ds) [] i draft h lt e = absurd (omega arith)
 over-adopt (d ∷ ds) (s ∷ ss) zero draft h lt e = ap (λ (o : Option Held). option_or o s ∷ over ds ss) e
 over-adopt (d ∷ ds) (s ∷ ss) (suc i) draft h lt e = ap (λ (l : Inboxes). option_or d s ∷ l) (over-adopt ds ss i draft (omega arith) (omega arith) e)
 
--- with no draft there is what stands
+-- without a draft there are the current inboxes
 pub over-none : (ds ss : Inboxes) → length ds ≡ length ss → ((k : ℕ) → k < length ds → get_or ds k None ≡ None) → over ds ss ≡ ss
 over-none [] [] h none = refl
 over-none [] (s ∷ ss) h none = absurd (omega arith)
@@ -54,7 +54,7 @@ over-opening ss h =
     let n : length opening ≡ 64 = length-replicate {A = Option Held} 64 None in
     over-none opening ss (n ∙ sym h) (λ k lt. get_or-replicate {A = Option Held} 64 k None None (omega (arith, n)))
 
--- what a draft's inbox answers to a piece
+-- what a draft's inbox answers to a chunk
 answered : (ds ss : Inboxes) (stream place offset : ℕ) (bytes : List ℕ) (held : Held) (answer : Result Held InboxError) → length ds ≡ 64 → length ss ≡ 64
     → is_stream stream ≡ true → place ≡ stream - 1 → held ≡ unwrap_or (option_or (get_or ds place None) (get_or ss place None)) nothing_held
     → inserted offset bytes held ≡ answer → after_piece (over ds ss) stream offset bytes ≡ with_answer (over ds ss) stream answer
@@ -87,13 +87,13 @@ moved_more ds i lt moved k h = elim (cases_lt k i) [
       rw e (get_or-set_same ds i None None lt)
 ]
 
--- with fresh drafts there is what stands
+-- with fresh drafts there are the current inboxes
 pub over-fresh : (ds xs ss : Inboxes) → ds ≡ opening → xs ≡ ss → length xs ≡ 64 → over ds ss ≡ ss
 over-fresh ds xs ss fresh same n = rw (fresh, ← same) (over-opening xs n)
 
 pub length-opening : length opening ≡ 64
 length-opening = length-replicate {A = Option Held} 64 None
 
--- so many streams that were not named are all
+-- if no stream up to n was named, and n is 64, none was
 pub counted_none : (xs : Inboxes) (n : ℕ) → 64 ≤ n → n ≤ 64 → xs ≡ replicate n None → xs ≡ opening
 counted_none xs n l m e = e ∙ ap (λ k. replicate {A = Option Held} k None) (let all : n ≡ 64 = omega arith in all)

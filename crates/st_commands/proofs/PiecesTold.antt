@@ -1,4 +1,4 @@
--- Frames that bring no piece change nothing.
+-- Frames that bring no chunk change nothing.
 use Rattle.std.proofs.Common.{◌≡◌, ℕ, List, [], ◌∷◌, refl, ap, ◌∙◌}
 use Rattle.std.specs.Prelude.{Result, Ok, Err}
 use Rattle.st_frames.specs.declared.frame.Frame.{Frame}
@@ -25,7 +25,7 @@ stand_for_more None frame other index rest all h = λ s. h s ∙ passed_over (se
 stand_for_more (One stream offset bytes) frame other index rest all h = λ s. h s ∙ passed_over (seen frame) index rest (after_piece s stream offset bytes.now) (no_change frame other)
 stand_for_more Several frame other index rest all h = tt
 
--- with no frame left there is what the pieces do
+-- with no frame left there is what the chunks do
 pub none_left : (r : Result Inboxes LineError) → frames_from r [] ≡ r
 none_left (Ok s) = refl
 none_left (Err e) = refl

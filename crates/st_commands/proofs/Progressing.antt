@@ -102,7 +102,7 @@ answers_newline s t said fresh answers = λ line stands. (
       (a.0, rw first a.1, a.2 ∙ f.2),
 )
 
--- a line of which nothing came before, and its newline
+-- a line of which nothing was read before, and its newline
 pub answers_whole : (s t : State) (bytes said : List ℕ) → t.line ≡ no_line → ((line : List ℕ) → StandsFor s.line line → line ≡ []) → All (λ b. (b == 10) ≡ false) bytes
     → AnswersLine s (strip_carriage_return bytes) said t → AnswersPiece s (bytes ++ 10 ∷ []) said t
 answers_whole s t bytes said fresh none one answers = λ line stands. (
@@ -115,7 +115,7 @@ answers_whole s t bytes said fresh none one answers = λ line stands. (
       (a.0, rw (all, first) a.1, a.2 ∙ f.2),
 )
 
--- a piece after a piece
+-- two chunks of the input, one after the other
 pub answers_more : (s t r : State) (piece more said also : List ℕ) → AnswersPiece s piece said t → AnswersPiece t more also r → AnswersPiece s (piece ++ more) (said ++ also) r
 answers_more s t r piece more said also first second = λ line stands.
     let one = first line stands in
@@ -153,7 +153,7 @@ begins_piece s t piece said left answers = λ line stands.
     let f = some_follows t a.0 left in
     (f.0, f.1, a.2 left f.0 f.1 f.2)
 
--- what ended the input goes on with the runs
+-- after what ended the input, the runs follow
 pub begins_ended : (s t : State) (said : List ℕ) → ((line : List ℕ) → StandsFor s.line line → MayFollow s line [] (said ++ runs_text t.inboxes) t.refused) → MayBegin s [] said
 begins_ended s t said follows = λ line stands. (runs_text t.inboxes, t.refused, follows line stands)
 
@@ -181,7 +181,7 @@ covers_start (Some input) before s e = ([], stands_empty s.line (ap (λ (x : Sta
     starts : (text : List ℕ) (any : Bool) → MayFollow at_start [] input text any → IsAnswer input ([] ++ text) any
     starts text any f = subst (λ (x : Bool). Answered 1 opening (lines input) text x) f.2 f.1
 
--- after a piece
+-- after a chunk of the input
 pub covers_piece : (input left rest before now after : Option (List ℕ)) (s t : State) (piece said : List ℕ) → Covers input left before now s → Consumes left rest piece → Appends now after said
     → AnswersPiece s piece said t → Covers input rest before after t
 covers_piece None left rest before now after s t piece said h took put answers = tt
@@ -218,7 +218,7 @@ covers_end (Some input) (Some left) before now after s t said h end put follows 
       rw (append_assoc d.0 said (runs_text t.inboxes)) (d.2 (said ++ runs_text t.inboxes) t.refused (rw end (follows h.0 h.1))),
     )
 
--- at the end, which a read of nothing told
+-- at the end, which an empty read showed
 pub covers_ended : (input left rest before now after : Option (List ℕ)) (s t : State) (said piece : List ℕ) → piece ≡ [] → Covers input left before now s → Consumes left rest piece → IsAtEnd rest
     → Appends now after said → ((line : List ℕ) → StandsFor s.line line → MayFollow s line [] (said ++ runs_text t.inboxes) t.refused) → CoversLines input before after t
 covers_ended input left rest before now after s t said piece none h took end put follows =
@@ -257,7 +257,7 @@ begins input left before now s h = begins_part input left before now now s [] h 
     nothing None = tt
     nothing (Some bytes) = begins_nothing s bytes
 
--- a piece was read, and the first bytes of what it made known were written
+-- a chunk was read, and the first bytes of what it made known were written
 pub begins_in_piece : (input left rest before now after : Option (List ℕ)) (s : State) (piece said : List ℕ) → Covers input left before now s → Consumes left rest piece
     → ((more : List ℕ) → MayBegin s (piece ++ more) said) → WritesPart said now after → IfSome input (λ bytes. BeginsAnswer bytes before after)
 begins_in_piece input left rest before now after s piece said h took begins part = begins_part input left before now after s said h (at left rest took) part
@@ -267,7 +267,7 @@ begins_in_piece input left rest before now after s piece said h took begins part
     at (Some bytes) None e = absurd e
     at (Some bytes) (Some more) e = rw e (begins more)
 
--- the same at the end, which a read of nothing told
+-- the same at the end, which an empty read showed
 pub begins_at_end : (input left rest before now after : Option (List ℕ)) (s : State) (piece said : List ℕ) → piece ≡ [] → Covers input left before now s → Consumes left rest piece → IsAtEnd rest
     → MayBegin s [] said → WritesPart said now after → IfSome input (λ bytes. BeginsAnswer bytes before after)
 begins_at_end input left rest before now after s piece said none h took end begins part = begins_part input left before now after s said h (at left rest took end) part
@@ -305,7 +305,7 @@ pub some_text : (l : List ℕ) → (length l ≡ 0 → ⊥) → 0 < length l
 some_text [] h = absurd (h refl)
 some_text (b ∷ l) h = omega arith
 
--- a text was answered in steps: a after its packet, n after it was told, t with the next line
+-- a text was answered in steps: a after its packet, n after it was reported, t with the next line
 text_answered : (s a n t : State) (text : List ℕ) (refusal : Option LineError) → a.index ≡ s.index → a.refused ≡ s.refused → n ≡ record a { refused = a.refused || is_some refusal }
     → t ≡ record n { line = no_line; index = n.index + 1 } → HasEffect s.inboxes text refusal a.inboxes → AnswersLine s text (told s.index refusal) t
 text_answered s a n t text refusal index flag noted next effect =
@@ -322,7 +322,7 @@ pub text_ended : (s a n t : State) (text before after : List ℕ) (refusal : Opt
 text_ended s a n t text before after refusal index flag noted next put effect =
     (told s.index refusal, put ∙ ap (λ (i : ℕ). before ++ told i refusal) index, text_answered s a n t text refusal index flag noted next effect)
 
--- the same of each line that the state may stand for
+-- the same of each line that the state may mean
 pub line_ended : (s a n t : State) (end : LineEnd) (before after : List ℕ) (refusal : Option LineError) → a.index ≡ s.index → a.refused ≡ s.refused
     → n ≡ record a { refused = a.refused || is_some refusal } → t ≡ record n { line = no_line; index = n.index + 1 } → after ≡ before ++ told a.index refusal
     → ((line : List ℕ) → StandsFor s.line line → HasEffect s.inboxes (text_of_line end line) refusal a.inboxes)
@@ -333,11 +333,11 @@ line_ended s a n t end before after refusal index flag noted next put effect = (
   λ line stands. text_answered s a n t (text_of_line end line) refusal index flag noted next (effect line stands),
 )
 
--- a piece was taken so far
+-- the chunk was processed so far
 abbrev pub TakesTo : State → List ℕ → List ℕ → List ℕ → State → Type 0
 TakesTo s piece before after t = (said : List ℕ) × (after ≡ before ++ said) × AnswersPiece s piece said t
 
--- a piece of which the first i bytes were taken before a call that said nothing
+-- a chunk of which the first i bytes were processed before a call that wrote nothing
 pub begins_taken : (s t : State) (piece : List ℕ) (i : ℕ) (before now after : List ℕ) → TakesTo s (take i piece) before now t → after ≡ now
     → (said : List ℕ) × (after ≡ before ++ said) × ((left : List ℕ) → MayBegin s (piece ++ left) said)
 begins_taken s t piece i before now after h same = (
@@ -357,7 +357,7 @@ takes_part s t r piece i n out next last first second =
       rw one (answers_more s t r (take i piece) (take n (drop i piece)) first.0 second.0 first.2 second.2),
     )
 
--- so much was written of the runs, of which those from place i on are left
+-- the runs were written up to place i, and those from there on are left
 abbrev pub WritesRuns : Option (List ℕ) → Option (List ℕ) → List ℕ → ℕ → Inboxes → Type 0
 WritesRuns before now all i s = (done : List ℕ) × Appends before now done × (done ++ runs_from (i + 1) (drop i s) ≡ all)
 
@@ -389,7 +389,7 @@ writes_all before now all i s past h =
     let whole : h.0 ≡ all = sym (append-nil h.0) ∙ (ap (λ (l : Inboxes). h.0 ++ runs_from (i + 1) l) (sym none) ∙ h.2) in
     subst (Appends before now) whole h.1
 
--- the same, where the streams and the flag are known by other names
+-- the same with other names for the streams and the flag
 pub answers_all_as : (input before now after : Option (List ℕ)) (s : State) (streams : Inboxes) (flag : Bool) → s.inboxes ≡ streams → s.refused ≡ flag → CoversLines input before now s
     → Appends now after (runs_text streams) → IfSome input (λ bytes. WritesAnswer bytes flag before after)
 answers_all_as input before now after s streams flag same is h put =

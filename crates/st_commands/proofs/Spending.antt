@@ -1,4 +1,4 @@
--- Turns that were taken one after another, and whose fault a call ended with.
+-- Calls that were counted one after another, and whose fault a call ended with.
 use Rattle.std.proofs.Common.{◌≡◌, ℕ, ◌+◌, ◌-◌, ◌<◌, refl, ap, arith}
 use Rattle.std.specs.Prelude.{◌≢◌, Option, Some, None, unwrap_or}
 use Rattle.st_oer.specs.Faults.{count_after}
@@ -11,11 +11,11 @@ use Rattle.st_commands.specs.Endings.{HasEnded, SpendsTurns, StaysFlushed, most_
 pub spends_nothing : (r w : Tally) (n : ℕ) → SpendsTurns r r w w n n
 spends_nothing r w n = (0, 0, omega arith, omega arith, omega arith)
 
--- then so many calls of the writer
+-- then c calls of the writer
 pub spends_writes : (r s w k v : Tally) (a b c : ℕ) → SpendsTurns r s w k a b → TakesTurns k v b c → SpendsTurns r s w v a c
 spends_writes r s w k v a b c h writes = (h.0, h.1 + (b - c), omega (arith, h.2, writes.fewer), h.3, omega (arith, h.4, writes.calls, writes.fewer))
 
--- then a read, and so many calls of the writer
+-- then a read, and c calls of the writer
 pub spends_turn : (r m s w k v : Tally) (a b c : ℕ) → SpendsTurns r m w k a b → 0 < b → s.calls ≡ count_after 1 m.calls → TakesTurns k v (b - 1) c → SpendsTurns r s w v a c
 spends_turn r m s w k v a b c h some read writes =
     (h.0 + 1, h.1 + (b - 1 - c), omega (arith, h.2, some, writes.fewer), omega (arith, h.3, read), omega (arith, h.4, writes.calls, writes.fewer))

@@ -20,7 +20,7 @@ by_packet (Err e) = Err (line.Packet e)
 abbrev pub prepare : ℕ
 prepare = 12
 
--- the packet in the bytes of hexadecimal text, where it has any
+-- the packet in the bytes of hexadecimal text, if it has any
 abbrev pub packet_of_bytes : Result (List ℕ) FromHexError → Result Packet LineError
 packet_of_bytes (Ok bytes) = by_packet (packet_at prepare bytes)
 packet_of_bytes (Err e) = Err line.NotHex
@@ -33,8 +33,8 @@ packet_of_line text = packet_of_bytes (decode_of text)
 unfoldable pub after_line : Inboxes → List ℕ → Result Inboxes LineError
 after_line s text = after_packet s (packet_of_line text)
 
--- what may be written for the lines from line i on, and whether one of them is refused. A line with no text is
--- skipped; a line that can be read may meet want of memory, and then it too changes nothing.
+-- what may be written for the lines from line i on, and whether one of them is refused. A line with no text is skipped; a line that can be
+-- read may be refused memory, and then it too changes nothing.
 pub data Answered : ℕ → Inboxes → List (List ℕ) → List ℕ → Bool → Type 0 where
   ended : (i : ℕ) (s : Inboxes) → Answered i s [] (runs_text s) false
   skipped : (i : ℕ) (s : Inboxes) (ls : List (List ℕ)) (text : List ℕ) (any : Bool) → Answered (i + 1) s ls text any → Answered i s ([] ∷ ls) text any

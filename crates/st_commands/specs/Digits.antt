@@ -17,7 +17,7 @@ digit_codes = map digit_code (range_with_len 0 256)
 abbrev pub DoesNotDecode : Result (List ℕ) FromHexError → Type 0
 DoesNotDecode answer = (e : FromHexError) × (answer ≡ Err e)
 
--- the bytes that a text spells, where it spells any
+-- the bytes that a text spells, if it spells any
 abbrev pub Decodes : {X : Type 0} → (X → List ℕ) → List ℕ → Option X → Type 0
 Decodes bytes_of text None = DoesNotDecode (decode_of text)
 Decodes bytes_of text (Some x) = decode_of text ≡ Ok (bytes_of x)

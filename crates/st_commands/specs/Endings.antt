@@ -50,12 +50,12 @@ writer_faults (Some fault.Output) count = count_after 1 count
 writer_faults (Some fault.Turns) count = count
 writer_faults (Some fault.NoMemory) count = count
 
--- each call of the reader, r before and s now, and of the writer, w before and v now, took one turn, and turns were taken by
--- calls alone
+-- each call of the reader, r before and s now, and of the writer, w before and v now, used up one of the calls that were left, and nothing
+-- else did
 abbrev pub SpendsTurns : Tally → Tally → Tally → Tally → ℕ → ℕ → Type 0
 SpendsTurns r s w v before after = (reads : ℕ) × (writes : ℕ) × (before ≡ after + reads + writes) × (s.calls ≡ count_after reads r.calls) × (v.calls ≡ count_after writes w.calls)
 
--- where nothing waited for a flush before, nothing does now
+-- if nothing waited for a flush before, nothing does now
 abbrev pub StaysFlushed : Tally → Tally → Type 0
 StaysFlushed w v = w.flushed ≡ true → v.flushed ≡ true
 

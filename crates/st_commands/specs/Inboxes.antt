@@ -10,7 +10,7 @@ use Rattle.st_commands.specs.declared.error.LineError.{LineError}
 use Rattle.st_commands.specs.declared.error.LineError.TheVariants.{StreamId, Inbox}
 use Rattle.st_commands.specs.Texts.{stream_text}
 
--- what is held of stream n at place n - 1, and nothing there where no frame named it
+-- what is buffered of stream n at place n - 1, and `None` there if no frame named it
 abbrev pub Inboxes : Type 0
 Inboxes = List (Option Held)
 
@@ -18,7 +18,7 @@ Inboxes = List (Option Held)
 abbrev pub opening : Inboxes
 opening = replicate 64 None
 
--- what is held of a stream
+-- what is buffered of a stream
 abbrev pub held_of : Inboxes → ℕ → Held
 held_of s stream = unwrap_or (slice_index_or s (stream - 1) None) nothing_held
 
@@ -31,7 +31,7 @@ with_answer s stream (Err e) = Err (Inbox e)
 abbrev pub is_stream : ℕ → Bool
 is_stream stream = nat_le 1 stream && nat_le stream 64
 
--- a piece of a stream
+-- a chunk of a stream
 abbrev pub after_piece : Inboxes → ℕ → ℕ → List ℕ → Result Inboxes LineError
 after_piece s stream offset bytes = if is_stream stream then with_answer s stream (inserted offset bytes (held_of s stream)) else Err StreamId
 
@@ -49,12 +49,12 @@ frames_from (Ok s) (f ∷ fs) = frames_from (after_frame s f.1) fs
 abbrev pub after_frames : Inboxes → List (ℕ × Known) → Result Inboxes LineError
 after_frames s fs = frames_from (Ok s) fs
 
--- a packet, where there is one
+-- a packet, if there is one
 abbrev pub after_packet : Inboxes → Result Packet LineError → Result Inboxes LineError
 after_packet s (Ok packet) = after_frames s packet.frames
 after_packet s (Err e) = Err e
 
--- the longest run of stream n, where it was named
+-- the longest run of stream n, if it was named
 abbrev pub run_line : ℕ → Option Held → List ℕ
 run_line n None = []
 run_line n (Some held) = stream_text n (run held)

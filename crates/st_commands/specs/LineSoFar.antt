@@ -1,4 +1,4 @@
--- What is kept of the line that is being read, and which lines it stands for.
+-- What is kept of the line that is being read, and which lines this may be.
 use Rattle.std.specs.Prelude.{◌≡◌, ◌≢◌, ℕ, ◌+◌, ◌-◌, ◌*◌, ◌<◌, ◌⊎◌, false, ◌==◌, nat_lt, if◌then◌else◌, List, [], ◌∷◌, ◌++◌, length, take, slice_index, Result, Ok, Err}
 use Rattle.std.specs.List.{All, AllPass}
 use Rattle.std.specs.Str.Lines.{strip_carriage_return}
@@ -11,7 +11,7 @@ use Rattle.st_commands.specs.declared.line.Shape.{Shape}
 use Rattle.st_commands.specs.declared.line.Shape.TheVariants.{Digits, DigitsAndReturn, NotHex}
 use Rattle.st_commands.specs.Answers.{packet_of_line}
 
--- the digits that are kept, how many came, and what the line looks like
+-- the digits that are kept, how many there were, and what the line looks like
 pub record LineState : Type 0 where
   pub digits : List ℕ
   pub count : ℕ
@@ -39,13 +39,13 @@ pub record AreDigits (s : LineState) (text : List ℕ) : Type 0 where
   pub count : s.count ≡ length text
   pub kept : s.digits ≡ take most_digits text
 
--- some character of the text is no digit
+-- some character of the text is not a digit
 pub record HasOther (text : List ℕ) : Type 0 where
   pub place : ℕ
   pub within : place < length text
   pub no_digit : is_hex_digit (slice_index text place) ≡ false
 
--- a character that is no digit stands in the line, and it is no carriage return at its end
+-- a character of the line is not a digit, nor a carriage return at its end
 pub record IsSpoiled (line : List ℕ) : Type 0 where
   pub place : ℕ
   pub within : place < length line
@@ -62,7 +62,7 @@ pub record StandsFor (s : LineState) (line : List ℕ) : Type 0 where
   pub one_line : All (λ b. (b == 10) ≡ false) line
   pub shape : HasShape s.shape s line
 
--- the line's text: a carriage return before the newline is no part of it
+-- the line's text, without a carriage return before the newline
 abbrev pub text_of_line : LineEnd → List ℕ → List ℕ
 text_of_line Newline line = strip_carriage_return line
 text_of_line InputEnd line = line

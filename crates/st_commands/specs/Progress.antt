@@ -1,4 +1,4 @@
--- How far the answer has come, in the middle of the input.
+-- The part of the answer so far, in the middle of the input.
 use Rattle.std.specs.Prelude.{◌≡◌, ◌⊎◌, ◌<◌, length, Result, Ok, Err, IsOk, ℕ, Bool, true, false, ◌||◌, List, [], ◌∷◌, ◌++◌, Option, Some, None, ⊤}
 use Rattle.std.specs.Io.KnownBytes.{Appends}
 use Rattle.std.specs.Str.Lines.{lines}
@@ -26,7 +26,7 @@ abbrev pub told : ℕ → Option LineError → List ℕ
 told i None = []
 told i (Some e) = line_text i e
 
--- what a packet, where there is one, does to the inboxes, and whether it is refused
+-- what a packet, if there is one, does to the inboxes, and whether it is refused
 abbrev pub HasPacketEffect : Inboxes → Result Packet LineError → Option LineError → Inboxes → Type 0
 HasPacketEffect s packet None t = after_packet s packet ≡ Ok t
 HasPacketEffect s packet (Some e) t = (t ≡ s) × IsPacketError s packet e
@@ -41,11 +41,11 @@ abbrev pub AnswersLine : State → List ℕ → List ℕ → State → Type 0
 AnswersLine s l said t = (ls : List (List ℕ)) (text : List ℕ) (later : Bool) → Answered t.index t.inboxes ls text later
     → (all : Bool) × Answered s.index s.inboxes (l ∷ ls) (said ++ text) all × ((s.refused || all) ≡ (t.refused || later))
 
--- after a line so far, this text may follow for the bytes that are left; `any` tells whether some line of the input is refused
+-- after a line so far, this text may follow for the bytes that are left; `any` says whether some line of the input is refused
 abbrev pub MayFollow : State → List ℕ → List ℕ → List ℕ → Bool → Type 0
 MayFollow s line left text any = (later : Bool) × Answered s.index s.inboxes (lines (line ++ left)) text later × ((s.refused || later) ≡ any)
 
--- a piece takes s to t, and `said` is written for it
+-- a chunk of the input takes s to t, and `said` is written for it
 abbrev pub AnswersPiece : State → List ℕ → List ℕ → State → Type 0
 AnswersPiece s piece said t = (line : List ℕ) → StandsFor s.line line → (next : List ℕ) × StandsFor t.line next
     × ((left text : List ℕ) (any : Bool) → MayFollow t next left text any → MayFollow s line (piece ++ left) (said ++ text) any)
@@ -66,7 +66,7 @@ abbrev pub CoversLines : Option (List ℕ) → Option (List ℕ) → Option (Lis
 CoversLines None before now s = ⊤
 CoversLines (Some input) before now s = (done : List ℕ) × Appends before now done × IsAnswer input (done ++ runs_text s.inboxes) s.refused
 
--- after a turn, which may have been the last
+-- after a read, which may have been the last
 abbrev pub AfterTurn : Bool → Option (List ℕ) → Option (List ℕ) → Option (List ℕ) → Option (List ℕ) → State → Type 0
 AfterTurn false input left before now s = Covers input left before now s
 AfterTurn true input left before now s = CoversLines input before now s

@@ -20,7 +20,7 @@ numbered_text i n (Some m) = wrapped_text i n m
 abbrev pub line_text : ℕ → LineError → List ℕ
 line_text i e = numbered_text i (number e) (inner e)
 
--- the bytes of a run in hexadecimal, or `-` where there are none
+-- the bytes of a run in hexadecimal, or `-` if there are none
 abbrev pub run_text : List ℕ → List ℕ
 run_text bytes = if length bytes == 0 then codes "-" else encode_lower bytes
 

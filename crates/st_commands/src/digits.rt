@@ -45,7 +45,7 @@ fn value_of(character: u8) -> u8
     values()[character as usize]
 }
 
-/// The number of digits before the first character that is none.
+/// The number of digits before the first character that is not one.
 pub fn digits_before(text: &[u8]) -> usize
     ensures within { result ≤ length text.now }
     ensures digits { AllPass is_hex_digit (take result text.now) }
@@ -58,7 +58,7 @@ pub fn digits_before(text: &[u8]) -> usize
     count
 }
 
-/// Writes the byte of each two digits. Whether all characters are digits; where they are not, what the bytes are is not
+/// Writes the byte of each two digits. Returns whether all characters are digits; if not, what the bytes are is not
 /// specified.
 fn decode_into(text: &[u8], bytes: &mut [u8]) -> bool
     requires { length text.now ≡ 2 * length bytes.old }
@@ -76,8 +76,8 @@ fn decode_into(text: &[u8], bytes: &mut [u8]) -> bool
     true
 }
 
-/// The bytes that a text spells, two digits to a byte. `None` where the number of its characters is odd or one of them is
-/// no digit. Fails where memory is refused.
+/// The bytes that a text spells, two digits to a byte. `None` if the number of its characters is odd or one of them is
+/// not a digit. Fails if memory is refused.
 pub fn decode<A: Allocator>(alloc: A, text: &[u8]) -> Result<Option<Vec<u8, A>>, AllocError>
     ensures { IfOk result (λ bytes. Decodes (λ v. v.items) text.now bytes) }
 {
@@ -92,7 +92,7 @@ pub fn decode<A: Allocator>(alloc: A, text: &[u8]) -> Result<Option<Vec<u8, A>>,
     }
 }
 
-/// A line's text: a carriage return at its end is no part of it.
+/// A line's text: without a carriage return at its end.
 pub fn without_return(line: &[u8]) -> &[u8]
     ensures { result.now ≡ strip_carriage_return line.now }
 {

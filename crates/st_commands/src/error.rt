@@ -38,7 +38,7 @@ impl LineError {
         }
     }
 
-    /// The number that the wrapped error carries, where there is one.
+    /// The number that the wrapped error carries, if there is one.
     pub fn inner(&self) -> Option<u64>
         ensures { result ≡ inner self.now }
     {

@@ -77,7 +77,7 @@ impl<A: Allocator + Copy> Reader<A> {
         })
     }
 
-    /// Takes a packet, or says why it is refused.
+    /// Accepts a packet, or says why it is refused.
     fn take_packet(&mut self, bytes: &[u8]) -> Option<LineError>
         ensures effect { HasPacketEffect self.old.inboxes (by_packet (packet_at prepare bytes.now)) result self.new.inboxes }
         ensures rest { (self.new.index ≡ self.old.index) × (self.new.refused ≡ self.old.refused) }
@@ -88,7 +88,7 @@ impl<A: Allocator + Copy> Reader<A> {
         }
     }
 
-    /// Takes the line's packet, or says why it is refused.
+    /// Accepts the line's packet, or says why it is refused.
     fn answer(&mut self, end: LineEnd) -> Result<Option<LineError>, AllocError>
         ensures effect { IfOk result (λ refusal. (line : List ℕ) → StandsFor self.old.line line
             → HasEffect self.old.inboxes (text_of_line end line) refusal self.new.inboxes) }
@@ -196,7 +196,7 @@ impl<A: Allocator + Copy> Reader<A> {
         Ok(())
     }
 
-    /// Takes the bytes up to the first newline with it, or all of them where there is none. Returns how many it took.
+    /// Reads the bytes up to the first newline with it, or all of them if there is none. Returns how many it read.
     fn take_part(&mut self, out: &mut Vec<u8, A>, bytes: &[u8]) -> Result<usize, AllocError>
         requires some { 0 < length bytes.now }
         requires budget { self.old.index + self.old.line.count + length bytes.now < 2 ^ 64 }
@@ -217,7 +217,7 @@ impl<A: Allocator + Copy> Reader<A> {
         }
     }
 
-    /// Takes a piece of the input, and appends what it makes known.
+    /// Reads a chunk of the input, and appends what it makes known.
     fn feed(&mut self, out: &mut Vec<u8, A>, piece: &[u8]) -> Result<(), AllocError>
         requires { self.old.index + self.old.line.count + length piece.now < 2 ^ 64 }
         ensures answered { OnOk result ((said : List ℕ) × (out.new.items ≡ out.old.items ++ said) × AnswersPiece self.old piece.now said self.new) }
@@ -313,7 +313,7 @@ fn answer_lines<A: Allocator + Copy, R: Read, W: Write>(
     Err(Fault::Turns)
 }
 
-/// Writes the run of the stream at a place, where it was named.
+/// Writes the run of the stream at a place, if it was named.
 fn put_run<A: Allocator + Copy, W: Write>(
     alloc: A,
     streams: &mut Streams<A>,
@@ -365,9 +365,9 @@ fn put_runs<A: Allocator + Copy, W: Write>(
 /// run of each stream that a StreamData frame of an accepted line named. Each call of a device takes one of `turns`,
 /// which is below 2^32.
 ///
-/// Fails with `Input` or `Output` exactly where the reader or the writer counted an error in this call, with `Turns`
-/// only where no call is left, and with `NoMemory` where memory is refused. What was written by then is the beginning
-/// of the answer.
+/// Fails with `Input` or `Output` exactly if the reader or the writer counted an error in this call, with `Turns` only
+/// if no call is left, and with `NoMemory` if memory is refused. What was written by then is the beginning of the
+/// answer.
 pub fn answer_frames<A: Allocator + Copy, R: Read, W: Write>(
     alloc: A,
     reader: &mut CountRead<R>,
@@ -414,9 +414,9 @@ pub fn tell_fault<E: Write>(errors: &mut CountWrite<E>, fault: Fault) -> u8
     1
 }
 
-/// Runs the command `frames` and returns its exit status: 0 where each line was accepted, and else 1. A fault is
+/// Runs the command `frames` and returns its exit status: 0 if each line was accepted, and otherwise 1. A fault is
 /// reported on `errors` by its number. It makes at most 2^31 - 1 calls of the reader and the writer, and reports fault
-/// 93 where it used all of them.
+/// 93 if it used all of them.
 pub fn run_frames<A: Allocator + Copy, R: Read, W: Write, E: Write>(
     alloc: A,
     reader: &mut CountRead<R>,

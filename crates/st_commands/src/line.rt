@@ -84,7 +84,7 @@ impl<A: Allocator + Copy> LineSoFar<A> {
         }
     }
 
-    /// Appends bytes of the line. Fails where memory is refused.
+    /// Appends bytes of the line. Fails if memory is refused.
     pub fn extend(&mut self, bytes: &[u8]) -> Result<(), AllocError>
         requires bytes { All (λ b. (b == 10) ≡ false) bytes.now }
         requires count { self.old.count + length bytes.now < 2 ^ 64 }
@@ -202,8 +202,8 @@ impl<A: Allocator + Copy> LineSoFar<A> {
         self.count == 0
     }
 
-    /// The bytes that the line, ended in this way, spells. The inner error is `NotHex`, or `Packet` where the line is
-    /// longer than any packet. The outer error comes where memory is refused.
+    /// The bytes that the line, ended in this way, spells. The inner error is `NotHex`, or `Packet` if the line is
+    /// longer than any packet. The outer error says that memory is refused.
     pub fn bytes(&self, end: LineEnd) -> Result<Result<Vec<u8, A>, LineError>, AllocError>
         ensures { IfOk result (λ answer. (line : List ℕ) → StandsFor self.now line → Spells (λ v. v.items) (text_of_line end line) answer) }
     {

@@ -32,7 +32,7 @@ fn flush<W: Write>(writer: &mut CountWrite<W>, turns: &mut u64) -> Result<(), Fa
 
 /// Writes all of a text and flushes the writer. Each call of the writer takes one of `turns`; an empty text takes none.
 ///
-/// Fails with `Output` where the writer fails, and with `Turns` where no call is left.
+/// Fails with `Output` if the writer fails, and with `Turns` if no call is left.
 pub fn put<W: Write>(writer: &mut CountWrite<W>, text: &[u8], turns: &mut u64) -> Result<(), Fault>
     ensures whole { OnOk result (Appends (W.contents (device_of writer.old)) (W.contents (device_of writer.new)) text.now) }
     ensures part { WritesPart text.now (W.contents (device_of writer.old)) (W.contents (device_of writer.new)) }

@@ -46,7 +46,7 @@ impl<A: Allocator + Copy> Model for Streams<A> {
     ghost invariant = { λ s. length s.inboxes.items ≡ 64 };
 }
 
-/// The pieces of a packet's frames.
+/// The chunks of data that a packet's frames bring: none, one, or several.
 #[derive(Clone, Copy)]
 enum Pieces<'a> {
     None,
@@ -58,7 +58,7 @@ enum Pieces<'a> {
     Several,
 }
 
-/// A frame's piece beside those of the frames before it.
+/// Adds a frame's chunk, if it has one, to those of the frames before it.
 fn with_piece<'a>(pieces: Pieces<'a>, frame: Frame<'a>) -> Pieces<'a>
     ensures { (index : ℕ) (rest all : List (ℕ × Known)) → StandFor pieces.entry ((index, seen frame.entry) ∷ rest) all → StandFor result rest all }
 {
@@ -80,7 +80,7 @@ fn with_piece<'a>(pieces: Pieces<'a>, frame: Frame<'a>) -> Pieces<'a>
     }
 }
 
-/// Which pieces these frames bring.
+/// The chunks that these frames bring.
 fn pieces_of(frames: Frames<'_>) -> Pieces<'_>
     ensures { StandFor result [] frames.entry }
 {
@@ -103,7 +103,7 @@ fn none_named<A: Allocator + Copy>(alloc: A) -> Result<Vec<Option<Inbox<A>>, A>,
 }
 
 impl<A: Allocator + Copy> Streams<A> {
-    /// Makes the state in which no frame has named a stream. Fails where memory is refused.
+    /// Makes the state in which no frame has named a stream. Fails if memory is refused.
     pub fn new(alloc: A) -> Result<Streams<A>, AllocError>
         ensures { IfOk result (λ s. s ≡ opening) }
     {
@@ -111,7 +111,7 @@ impl<A: Allocator + Copy> Streams<A> {
         Ok(Streams { inboxes, alloc })
     }
 
-    /// Where a stream's inbox stands.
+    /// The place of a stream's inbox.
     fn place_of(&self, stream: u64) -> Option<usize>
         ensures all { length self.now ≡ 64 }
         ensures place { MatchOption result (is_stream stream ≡ false) (λ place. (is_stream stream ≡ true) × (place ≡ stream - 1) × (place < 64)) }
@@ -135,7 +135,7 @@ impl<A: Allocator + Copy> Streams<A> {
         }
     }
 
-    /// The draft of the inbox at a place, taken out, or a copy of what stands there.
+    /// The draft of the inbox at a place, taken out, or a copy of the inbox there.
     fn take_draft(
         &self,
         drafts: &mut Vec<Option<Inbox<A>>, A>,
@@ -153,7 +153,7 @@ impl<A: Allocator + Copy> Streams<A> {
         }
     }
 
-    /// Puts a piece into the draft of its stream's inbox.
+    /// Puts a chunk into the draft of its stream's inbox.
     fn put_piece(
         &self,
         drafts: &mut Vec<Option<Inbox<A>>, A>,
@@ -179,7 +179,7 @@ impl<A: Allocator + Copy> Streams<A> {
         }
     }
 
-    /// Puts a frame's piece, where it has one, into the draft of its stream's inbox.
+    /// Puts a frame's chunk, if it has one, into the draft of its stream's inbox.
     fn put_frame(
         &self,
         drafts: &mut Vec<Option<Inbox<A>>, A>,
@@ -215,7 +215,7 @@ impl<A: Allocator + Copy> Streams<A> {
         Ok(drafts)
     }
 
-    /// The draft, where there is one, takes its place.
+    /// The draft, if there is one, takes its place.
     fn adopt_one(&mut self, place: usize, draft: Option<Inbox<A>>)
         requires { place < 64 }
         ensures { self.new ≡ slice_set self.old place (option_or draft (slice_index_or self.old place None)) }
@@ -237,7 +237,7 @@ impl<A: Allocator + Copy> Streams<A> {
         }
     }
 
-    /// Puts a piece into its stream's inbox. Nothing is copied: an inbox takes a piece whole or not at all.
+    /// Puts a chunk into its stream's inbox. Nothing is copied: an inbox accepts all of a chunk or nothing.
     fn put_one(&mut self, stream: u64, offset: u64, bytes: &[u8]) -> Result<(), LineError>
         ensures put { OnOk result (after_piece self.old stream offset bytes.now ≡ Ok self.new) }
         ensures refused { IfErr result (IsPieceError (after_piece self.old stream offset bytes.now)) }
@@ -255,7 +255,7 @@ impl<A: Allocator + Copy> Streams<A> {
         Ok(())
     }
 
-    /// Puts in the pieces of these frames, by drafts: all of them, or none.
+    /// Puts in the chunks of these frames, by drafts: all of them, or none.
     fn put_all(&mut self, frames: Frames<'_>) -> Result<(), LineError>
         ensures put { OnOk result (after_frames self.old frames.entry ≡ Ok self.new) }
         ensures refused { IfErr result (IsPieceError (after_frames self.old frames.entry)) }
@@ -266,10 +266,10 @@ impl<A: Allocator + Copy> Streams<A> {
         Ok(())
     }
 
-    /// Takes the packet of a line: the bytes of all its StreamData frames, or none of them (RFC 0029).
+    /// Accepts the packet of a line: the bytes of all its StreamData frames, or none of them (RFC 0029).
     ///
-    /// Fails with `Packet` where the bytes are not a plain packet, with `StreamId` where a frame names a stream outside
-    /// 1 to 64, and with `Inbox` where an inbox refuses the bytes or memory is refused. Then nothing has changed.
+    /// Fails with `Packet` if the bytes are not a plain packet, with `StreamId` if a frame names a stream outside 1 to
+    /// 64, and with `Inbox` if an inbox refuses the bytes or memory is refused. Then nothing has changed.
     pub fn take_packet(&mut self, bytes: &[u8]) -> Result<(), LineError>
         ensures taken { OnOk result (after_packet self.old (by_packet (packet_at prepare bytes.now)) ≡ Ok self.new) }
         ensures refused { IfErr result (IsPacketError self.old (by_packet (packet_at prepare bytes.now))) }
@@ -295,8 +295,8 @@ impl<A: Allocator + Copy> Streams<A> {
         self.inboxes.len()
     }
 
-    /// The longest run of the stream at a place, where a frame named the stream: its bytes from offset 0 up to the
-    /// first gap. The stream counts as not named afterwards. Fails where memory is refused.
+    /// The longest run of the stream at a place, if a frame named the stream: its bytes from offset 0 up to the first
+    /// gap. The stream counts as not named afterwards. Fails if memory is refused.
     pub fn take_run(&mut self, place: usize) -> Result<Option<Vec<u8, A>>, AllocError>
         requires { place < 64 }
         ensures run { IfOk result (λ bytes. option_map (λ v. v.items) bytes ≡ option_map run (slice_index_or self.old place None)) }

@@ -7,7 +7,7 @@ ghost use Rattle.st_commands.specs.Texts.{fault_text, line_text, numbered_text, 
 use crate::error::{Fault, LineError};
 use std::alloc::{AllocError, Allocator};
 
-/// The line that reports a refused line of input, by its index and the number of its error. Fails where memory is
+/// The line that reports a refused line of input, by its index and the number of its error. Fails if memory is
 /// refused.
 pub fn refused_line<A: Allocator + Copy>(
     alloc: A,
@@ -58,7 +58,7 @@ fn wrapped_line<A: Allocator + Copy>(
     Ok(text)
 }
 
-/// The line that reports a stream: its number, the length of its run in bytes, and the run in hexadecimal. Fails where
+/// The line that reports a stream: its number, the length of its run in bytes, and the run in hexadecimal. Fails if
 /// memory is refused.
 #[tactic(auto, using(crate::proofs::Pieces::pieces))]
 pub fn stream_line<A: Allocator + Copy>(

@@ -1,4 +1,4 @@
--- A batch that takes the bookings of a board, and one that is told.
+-- A batch that collects the bookings of a board, and one whose fates are reported.
 use Rattle.std.proofs.Common.{◌≡◌, ℕ, zero, suc, ◌+◌, ◌<◌, ◌≤◌, Bool, true, false, List, [], ◌∷◌, ◌++◌, length, set, map, slice_get, Option, Some, None, refl, sym, ap, subst, ◌∙◌, arith}
 use Rattle.std.specs.Option.{IsSome, option_to_list, unwrap_or}
 use Rattle.std.proofs.lemmas.List.{map-append, length-append}
@@ -59,7 +59,7 @@ steps old l m now new k false is takes_it leaves_it = leaves old l m now new k i
 pub ends : (old : List Slot) (l : Lists) (new : List Slot) (k last : ℕ) → IsBatch old l new k → k ≤ last → IsBatch old l new last
 ends old l new k last is le = record { rising = rising_later 0 l.places k last is.rising le; waited = is.waited; untold = is.untold; away = is.away }
 
--- the last place of a batch, told first
+-- the last place of a batch, reported first
 pub told_last : (slots : List Slot) (ps : List ℕ) (p : ℕ) (ts : List (Option Booking)) (t : Option Booking) (is_known : Bool) → length ts ≡ length ps
     → with_told slots (ps ++ p ∷ []) (ts ++ t ∷ []) is_known ≡ with_told (set slots p (Told (fate_by t is_known))) ps ts is_known
 told_last slots [] p [] t is_known e = refl
@@ -67,7 +67,7 @@ told_last slots [] p (u ∷ ts) t is_known e = absurd (omega (arith, e))
 told_last slots (q ∷ ps) p [] t is_known e = absurd (omega (arith, e))
 told_last slots (q ∷ ps) p (u ∷ ts) t is_known e = ap (λ s. set s q (Told (fate_by u is_known))) (told_last slots ps p ts t is_known (omega (arith, e)))
 
--- one turn of the loop that tells a batch from its end on
+-- one step of the loop that reports the fates of a batch, from its end on
 pub told_one : (slots : List Slot) (ps : List ℕ) (p : ℕ) (places : List ℕ) (ts : List (Option Booking)) (o : Option (Option Booking)) (tokens : List (Option Booking)) (is_known : Bool)
     → places ≡ ps ++ p ∷ [] → tokens ≡ ts ++ option_to_list o → (0 < length tokens → IsSome o) → length tokens ≡ length places
     → (length ts ≡ length ps) × (with_told (set slots p (Told (fate_by (unwrap_or o None) is_known))) ps ts is_known ≡ with_told slots places tokens is_known)

@@ -1,6 +1,8 @@
 -- What answers a Prepare, by the fate of what it books.
-use Rattle.std.proofs.Common.{IfOk, ◌≡◌, ℕ, ℤ, Bool, true, false, not, ◌&&◌, List, [], Option, None, Some, Result, Ok, Err, nat_eq, if◌then◌else◌, refl, subst, arith}
+use Rattle.std.proofs.Common.{IfOk, MatchOption, ap, ◌∙◌, ◌≡◌, ℕ, ℤ, Bool, true, false, not, ◌&&◌, List, [], Option, None, Some, Result, Ok, Err, nat_eq, if◌then◌else◌, refl, subst, arith}
 use Rattle.std.proofs.lemmas.Bool.Decides.{nat_tests}
+use Rattle.std.specs.Cmp.{signed_Decides}
+use Rattle.std.proofs.lemmas.Slice.Eq.{bytes_eq-Decides}
 use Rattle.st_ilp.specs.Packets.{PreparePacket}
 use Rattle.st_ilp.specs.Reading.{prepare_at, is_fulfill_text}
 use Rattle.st_ilp.specs.declared.error.IlpError.{IlpError}
@@ -13,8 +15,11 @@ use Rattle.st_hop.specs.declared.refusal.Refusal.{Refusal}
 use Rattle.st_hop.specs.declared.route.NextHop.{NextHop}
 use Rattle.st_hop.specs.declared.ticket.Open.{Open}
 use Rattle.st_booking.specs.declared.booking.Booking.{Booking}
-use Rattle.st_desk.specs.Serving.{IsOf}
-use Rattle.st_desk.specs.Stored.{booking_of, is_same, is_stored, counted}
+use Rattle.st_desk.specs.Serving.{AnswersBy, IsOf, IsTokenOf}
+use Rattle.st_desk.specs.declared.stored.Fate.{Fate}
+use Rattle.st_desk.specs.declared.stored.Fate.TheVariants.{Stored, Refused, Unknown}
+use Rattle.st_booking.specs.declared.booking.Proof.{Proof}
+use Rattle.st_desk.specs.Stored.{booking_of, is_same, are_same_proofs, is_stored, counted, IsFateOf}
 
 pub reject_fails : (own : List ℕ) (r : Refusal) → is_fulfill_text (reject_text own r) ≡ false
 unfolding reject_text
@@ -35,8 +40,12 @@ arrived_of h k account bytes now v e =
 own : (n : ℕ) → nat_eq n n ≡ true
 own n = grind (arith, nat_tests)
 
+own_proofs : (p : Option Proof) → are_same_proofs p p ≡ true
+own_proofs None = refl
+own_proofs (Some p) = rw ((bytes_eq-Decides p.condition p.condition).1 refl, (bytes_eq-Decides p.fulfillment p.fulfillment).1 refl, (signed_Decides p.moment p.moment).1 refl) refl
+
 same_own : (b : Booking) → is_same b b ≡ true
-same_own b = rw (own b.payer, own b.claim, own b.payee, own b.due) refl
+same_own b = rw (own b.payer, own b.claim, own b.payee, own b.due, own_proofs b.proof) refl
 
 stays : (t : Open) (outcome : Option (List ℕ)) (now : ℤ) (books stored : Bool) → stored ≡ true → is_booked t outcome now ≡ true → is_booked t (if books && not stored then None else outcome) now ≡ true
 stays t outcome now true true s e = e
@@ -44,8 +53,8 @@ stays t outcome now false true s e = e
 stays t outcome now books false s e = absurd (cc)
 
 -- what is stored is passed back
-pub passed : (t : Open) (outcome : Option (List ℕ)) (now : ℤ) → is_booked t outcome now ≡ true → is_booked t (counted t outcome now (Some (booking_of t))) now ≡ true
-passed t outcome now e = stays t outcome now (is_booked t outcome now) (is_stored t (Some (booking_of t))) (same_own (booking_of t)) e
+pub passed : (t : Open) (outcome : Option (List ℕ)) (now : ℤ) → is_booked t outcome now ≡ true → is_booked t (counted t outcome now (Some (booking_of t outcome now))) now ≡ true
+passed t outcome now e = stays t outcome now (is_booked t outcome now) (is_stored t outcome now (Some (booking_of t outcome now))) (same_own (booking_of t outcome now)) e
 
 goes : (t : Open) (outcome : Option (List ℕ)) (now : ℤ) (books : Bool) → is_booked t outcome now ≡ books → is_booked t (if books && not false then None else outcome) now ≡ false
 goes t outcome now true e = refl
@@ -66,3 +75,16 @@ ok_one (Err e) f p = tt
 pub ok_two : {A E : Type 0} {P Q R : A → Type 0} (r : Result A E) → ((a : A) → P a → Q a → R a) → IfOk r P → IfOk r Q → IfOk r R
 ok_two (Ok a) f p q = f a p q
 ok_two (Err e) f p q = tt
+
+-- what answers the Prepare, by the fate of what it books and by the token that settled it
+pub settled_by : (fate : Option Fate) (token : Option Booking) (t : Open) (outcome : Option (List ℕ)) (now : ℤ) (answer : List ℕ)
+    → MatchOption fate (is_booked t outcome now ≡ false) (λ f. (is_booked t outcome now ≡ true) × IsFateOf (booking_of t outcome now) f) → IsTokenOf fate token
+    → is_fulfill_text answer ≡ is_booked t (counted t outcome now token) now → MatchOption fate (is_fulfill_text answer ≡ false) (λ f. AnswersBy f (Some answer))
+settled_by None (Some b) t outcome now answer asked is same = absurd is
+settled_by None None t outcome now answer asked is same = same ∙ held_back t outcome now
+settled_by (Some (Stored b)) None t outcome now answer asked is same = absurd is
+settled_by (Some (Stored b)) (Some token) t outcome now answer asked is same =
+    same ∙ (ap (λ (x : Booking). is_booked t (counted t outcome now (Some x)) now) (is ∙ asked.1) ∙ passed t outcome now asked.0)
+settled_by (Some Refused) (Some b) t outcome now answer asked is same = absurd is
+settled_by (Some Refused) None t outcome now answer asked is same = same ∙ held_back t outcome now
+settled_by (Some Unknown) token t outcome now answer asked is same = absurd is

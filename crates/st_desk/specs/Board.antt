@@ -59,7 +59,7 @@ waits_at (Some Empty) is_busy = is_busy
 waits_at (Some (Waits b)) is_busy = is_busy
 waits_at (Some Away) is_busy = is_busy
 
--- ---- a turn of a thread that waited
+-- ---- what a thread that waited does next
 
 -- a thread that leads commits all that waits for which there is memory; if there is none, its own booking is refused
 abbrev pub IsLed : {A : Type 0} → List Slot → (place : ℕ) → (busy : Bool) → Turn A → List Slot → Bool → Type 0
@@ -70,7 +70,7 @@ IsLed old place busy (turn.Told fate) new is_busy = (fate ≡ Refused) × (new �
 abbrev pub IsUnknown : {A : Type 0} → List Slot → Bool → Turn A → List Slot → Bool → Type 0
 IsUnknown old busy result new is_busy = (result ≡ turn.Told Unknown) × (new ≡ old) × (is_busy ≡ busy)
 
--- who is told gives up the place; whose booking waits leads
+-- a thread whose fate is known gives up its place; one whose booking waits leads
 abbrev pub IsTurn : {A : Type 0} → List Slot → (place : ℕ) → (busy : Bool) → Option Slot → Turn A → List Slot → Bool → Type 0
 IsTurn old place busy None result new is_busy = IsUnknown old busy result new is_busy
 IsTurn old place busy (Some (Told fate)) result new is_busy = (result ≡ turn.Told fate) × (new ≡ slice_set old place Empty) × (is_busy ≡ busy)

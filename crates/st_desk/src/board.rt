@@ -10,7 +10,7 @@ use st_booking::{Booked, Booking};
 use std::alloc::{AllocError, Allocator};
 use std::mem;
 
-/// What lies at one place of the board.
+/// The content of one place of the board.
 #[derive(Drop)]
 enum Slot {
     Empty,
@@ -22,7 +22,7 @@ enum Slot {
     Told(Fate),
 }
 
-/// What one commit takes, with the places that it was taken from.
+/// What one commit stores, with the places of the bookings on the board.
 #[derive(Drop)]
 pub(crate) struct Batch<A: Allocator> {
     pub(crate) bookings: Vec<Booking, A>,
@@ -30,8 +30,8 @@ pub(crate) struct Batch<A: Allocator> {
     pub(crate) places: Vec<usize, A>,
 }
 
-/// What a commit made of a batch: the tokens of its bookings, and the places of these. Without a token a booking is not stored
-/// where that is known; else it may be.
+/// What a commit made of a batch: the tokens of its bookings, and the places of these. A booking without a token is not stored
+/// if `is_known`; otherwise it may be.
 #[derive(Drop)]
 pub(crate) struct Ended<A: Allocator> {
     pub(crate) tokens: Vec<Option<Booked>, A>,
@@ -80,7 +80,7 @@ impl<A: Allocator + Copy> Batch<A> {
 }
 
 impl<A: Allocator + Copy> Board<A> {
-    /// A board with so many places. Fails where memory is refused.
+    /// A board with this number of places. Fails if memory is refused.
     pub(crate) fn new(alloc: A, places: usize) -> Result<Board<A>, AllocError>
         ensures empty { IfOk result (λ board. (board.slots.items ≡ replicate places slot.Empty) × (board.is_busy ≡ false)) }
     {
@@ -94,7 +94,7 @@ impl<A: Allocator + Copy> Board<A> {
         })
     }
 
-    /// Puts a booking at a place that is free, and gives the place. `None` where all are taken.
+    /// Puts a booking at a place that is free, and gives the place. `None` if all are in use.
     pub(crate) fn put(&mut self, booking: Booking) -> Option<usize>
         ensures put { (place : ℕ) → result ≡ Some place → (slice_get self.old.slots.items place ≡ Some slot.Empty) × (self.new.slots.items ≡ slice_set self.old.slots.items place (slot.Waits booking)) }
         ensures full { result ≡ None → (self.new.slots.items ≡ self.old.slots.items) × ((place : ℕ) → slice_get self.old.slots.items place ≢ Some slot.Empty) }
@@ -109,7 +109,7 @@ impl<A: Allocator + Copy> Board<A> {
         None
     }
 
-    /// Whether a thread has to wait: a commit is under way, and it was not told yet.
+    /// Whether a thread has to wait: a commit is under way, and the fate of the thread's booking is not known yet.
     pub(crate) fn is_waiting(&self, place: usize) -> bool
         ensures { result ≡ waits_at (slice_get self.now.slots.items place) self.now.is_busy }
     {
@@ -152,7 +152,7 @@ impl<A: Allocator + Copy> Board<A> {
         batch
     }
 
-    /// Has the thread of a place commit all that waits. If there is no memory to take anything, its own booking is refused.
+    /// Has the thread of a place commit all that waits. If there is no memory for the batch, its own booking is refused.
     fn lead(&mut self, alloc: A, place: usize) -> Turn<A>
         ensures { IsLed self.old.slots.items place self.old.is_busy result self.new.slots.items self.new.is_busy }
     {
@@ -182,8 +182,8 @@ impl<A: Allocator + Copy> Board<A> {
         }
     }
 
-    /// What the thread of a place that waited is to do: take the fate of its booking, or commit what waits. Of a place that has no
-    /// booking nothing is known.
+    /// What the thread of a place that waited is to do: return the fate of its booking, or commit what waits. Of a place that has
+    /// no booking nothing is known.
     pub(crate) fn turn(&mut self, alloc: A, place: usize) -> Turn<A>
         ensures { IsTurn self.old.slots.items place self.old.is_busy (slice_get self.old.slots.items place) result self.new.slots.items self.new.is_busy }
     {

@@ -33,7 +33,7 @@ pub struct HopDesk<C: Ledger, D: Ledger, A: Allocator + Copy> {
     hop: HopState<A>,
     claims: Book<C>,
     dues: Book<D>,
-    // What was never given out, with what came back.
+    // What was never given out, and what was given back.
     spare_claims: Share<C>,
     spare_dues: Share<D>,
     // How many shares are out: at most 63.
@@ -122,7 +122,7 @@ impl<C: Ledger, D: Ledger, A: Allocator + Copy> HopDesk<C, D, A> {
 
     /// Gives the shares for one thread that settles, with nothing booked. Does not allocate.
     ///
-    /// Fails with `NoShareLeft` where 63 are outstanding; then nothing has changed.
+    /// Fails with `NoShareLeft` if 63 are outstanding; then nothing has changed.
     pub fn shares(&mut self) -> Result<AccountShares<C, D>, DeskError>
         ensures given { IfOk result (λ s. (s ≡ record { claims = 0; dues = 0 }) × (self.old.out < 63) × (self.new ≡ record self.old { out = self.old.out + 1 })) }
         ensures none_left { IfErr result (λ e. (e ≡ NoShareLeft) × (self.old.out ≡ 63) × (self.new ≡ self.old)) }
@@ -142,11 +142,11 @@ impl<C: Ledger, D: Ledger, A: Allocator + Copy> HopDesk<C, D, A> {
         Ok(AccountShares { claims, dues })
     }
 
-    /// Takes the bytes of a Prepare that arrived from an account at the moment `now`, as `HopState::arrive` does (RFC
+    /// Processes the bytes of a Prepare that arrived from an account at the moment `now`, as `HopState::arrive` does (RFC
     /// 0027). Returns that account and the verdict: a Reject that answers the Prepare, or a Prepare to forward with a
     /// ticket for its answer. It books nothing in the ledgers.
     ///
-    /// Fails with `HopError::NoAccount` where there is no such account, and otherwise with `HopError::NoMemory` where
+    /// Fails with `HopError::NoAccount` if there is no such account, and otherwise with `HopError::NoMemory` if
     /// memory is refused. At an error nothing has changed.
     pub fn arrive(
         &mut self,
@@ -168,14 +168,14 @@ impl<C: Ledger, D: Ledger, A: Allocator + Copy> HopDesk<C, D, A> {
         }
     }
 
-    /// Ends a ticket with what came back for it at the moment `now`, as `HopState::settle` does: returns the bytes that
+    /// Ends a ticket with the outcome of its exchange at the moment `now`, as `HopState::settle` does: returns the bytes that
     /// answer the Prepare (RFC 0027). The claim and the due that the hop books are also booked in `shares`. Does not
     /// allocate.
     ///
     /// A Fulfill is passed back and booked only with the token of what this ticket books (`booking_of`), which says that this
     /// was stored before. Without it the Fulfill counts as no answer: nothing is booked, and the Prepare is answered with T01.
     ///
-    /// Fails with `Stranger` where the ticket is not open at this desk. Then nothing has changed, and the ticket is
+    /// Fails with `Stranger` if the ticket is not open at this desk. Then nothing has changed, and the ticket is
     /// spent.
     pub fn settle(
         &mut self,
@@ -189,7 +189,7 @@ impl<C: Ledger, D: Ledger, A: Allocator + Copy> HopDesk<C, D, A> {
         ensures claims { OnOk result (shares.new.claims ≡ shares.old.claims + claim_of ticket (counted ticket (outcome_seen outcome) now token) now) }
         ensures dues { OnOk result (shares.new.dues ≡ shares.old.dues + due_of ticket (counted ticket (outcome_seen outcome) now token) now) }
         ensures fulfills { IfOk result (λ v. is_fulfill_text v.items ≡ is_booked ticket (counted ticket (outcome_seen outcome) now token) now) }
-        ensures stored { IfOk result (λ v. is_fulfill_text v.items ≡ true → token ≡ Some (booking_of ticket)) }
+        ensures stored { IfOk result (λ v. is_fulfill_text v.items ≡ true → token ≡ Some (booking_of ticket (outcome_seen outcome) now)) }
         ensures rest { self.new ≡ record self.old { hop = self.new.hop } }
         ensures stranger { IfErr result (λ e. (e ≡ Stranger) × (¬ (IsAmong self.old.hop.tickets ticket)) × (self.new ≡ self.old) × (shares.new ≡ shares.old)) }
     {
@@ -219,7 +219,7 @@ impl<C: Ledger, D: Ledger, A: Allocator + Copy> HopDesk<C, D, A> {
     /// Takes all shares back and returns what is owed. Each of the two sums is the sum of what was booked in the
     /// shares.
     ///
-    /// Fails with `MissingShare`, and gives the shares back, where an outstanding one is not among them.
+    /// Fails with `MissingShare`, and gives the shares back, if an outstanding one is not among them.
     pub fn gather(
         &mut self,
         shares: Vec<AccountShares<C, D>, A>,
@@ -255,14 +255,14 @@ impl<C: Ledger, D: Ledger, A: Allocator + Copy> HopDesk<C, D, A> {
         })
     }
 
-    /// A complete Reject with code T00 (RFC 0027), kept ready as the answer where memory is refused. Does not allocate.
+    /// A complete Reject with code T00 (RFC 0027), kept ready as the answer if memory is refused. Does not allocate.
     pub fn t00(&self) -> &[u8]
         ensures { result.now ≡ t00_text self.now.hop.own }
     {
         self.hop.t00()
     }
 
-    /// A copy of `t00`. Fails with `NoMemory` where memory is refused.
+    /// A copy of `t00`. Fails with `NoMemory` if memory is refused.
     pub(crate) fn copy_of_t00(&self) -> Result<Vec<u8, A>, DeskError>
         ensures copied { IfOk result (λ v. v.items ≡ t00_text self.now.hop.own) }
         ensures only_memory { IsOkUnless result NoMemory }

@@ -1,7 +1,7 @@
 //! A hop that several threads serve: its state under one lock, with two ledgers of what is booked there.
 //!
 //! `HopDesk` is the lock's value. Each thread books its settlements in `AccountShares` of its own. `gather` shows that
-//! the sum of all shares is what all accounts owe the hop and what the hop owes them. `serve` takes a Prepare under the
+//! the sum of all shares is what all accounts owe the hop and what the hop owes them. `serve` admits a Prepare under the
 //! lock, exchanges it over a `Link` with the lock open, stores in `Books` what it books, and settles it under the lock again.
 #![tactic(auto)]
 

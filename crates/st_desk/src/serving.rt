@@ -1,12 +1,13 @@
 //! How one thread serves a hop.
 
-ghost use Rattle.std.specs.Prelude.{◌≡◌, ◌≤ℤ◌, ◌<ℤ◌, pos, true, false, None, IfOk, IfSome, MatchOption};
+ghost use Rattle.std.specs.Prelude.{◌≡◌, ◌≤ℤ◌, ◌<ℤ◌, pos, true, false, None, Some, IfOk, IfSome, MatchOption};
 ghost use Rattle.st_ilp.specs.Reading.{is_fulfill_text};
 ghost use Rattle.st_hop.specs.Seen.{verdict_seen, outcome_seen};
 ghost use Rattle.st_hop.specs.Settling.{is_booked};
 ghost use Rattle.st_desk.specs.Answers.{told};
 ghost use Rattle.st_desk.specs.Deadlines.{deadline};
-ghost use Rattle.st_desk.specs.Serving.{AnswersBy, IsAnswered, IsOf, IsServed, IsUnfulfilled};
+ghost use Rattle.st_desk.specs.Serving.{AnswersBy, IsAnswered, IsOf, IsServed, IsTokenOf, IsUnfulfilled};
+ghost use Rattle.st_desk.specs.declared.stored.Fate.TheVariants as fated;
 ghost use Rattle.st_desk.specs.Stored as stored;
 
 use crate::desk::{AccountShares, Arrived, HopDesk};
@@ -20,7 +21,7 @@ use std::alloc::Allocator;
 use std::sync::ledger::Ledger;
 use std::sync::{Mutex, Wait};
 
-// Each function here that takes the lock lets it go before it returns, so that no exchange is made under it.
+// Each function here that acquires the lock releases it before it returns, so that no exchange is made under it.
 
 fn arrive<C: Ledger, D: Ledger, A: Allocator + Copy>(
     rt: &impl Wait,
@@ -63,8 +64,8 @@ fn t00<C: Ledger, D: Ledger, A: Allocator + Copy>(
 /// The last `Moment`, in milliseconds since the start of 1970.
 const LAST: i64 = 253_402_300_000_000;
 
-/// The moment from which on an answer to this ticket's Prepare is too late: its expiry, and the last `Moment` where the expiry
-/// is later than that. `now` where the expiry is before 1970.
+/// The moment from which on an answer to this ticket's Prepare is too late: its expiry, and the last `Moment` if the expiry
+/// is later than that. `now` if the expiry is before 1970.
 fn deadline_of(ticket: &Ticket, now: Moment) -> Moment
     ensures lesser { pos 0 ≤ℤ ticket.now.expiry → result ≡ deadline ticket.now.expiry }
     ensures before_1970 { ticket.now.expiry <ℤ pos 0 → result ≡ now }
@@ -80,15 +81,15 @@ fn deadline_of(ticket: &Ticket, now: Moment) -> Moment
 /// How a Prepare was answered.
 #[derive(Drop)]
 pub struct Served<A: Allocator + Copy> {
-    /// The index of the account that the Prepare arrived from, and against which its amount was reserved where the hop
+    /// The index of the account that the Prepare arrived from, and against which its amount was reserved if the hop
     /// forwarded it.
     pub account: usize,
-    /// The bytes that answer the Prepare (RFC 0027). `None` where nobody knows whether what it books is stored, or where that is
+    /// The bytes that answer the Prepare (RFC 0027). `None` if nobody knows whether what it books is stored, or if that is
     /// stored and its ticket is not open any more: then there is no answer that is right.
     pub answer: Option<Vec<u8, A>>,
 }
 
-/// The fate of what this outcome books. `None` where it books nothing.
+/// The fate of what this outcome books. `None` if it books nothing.
 fn fate_of<A: Allocator + Copy, B: Books>(
     books: &mut B,
     ticket: &Ticket,
@@ -96,15 +97,27 @@ fn fate_of<A: Allocator + Copy, B: Books>(
     now: Moment,
 ) -> Option<Fate>
     ensures asked { MatchOption result ((is_booked ticket.now (outcome_seen outcome.now) now ≡ false) × (books.new ≡ books.old))
-        (λ fate. (is_booked ticket.now (outcome_seen outcome.now) now ≡ true) × B.stores books.old (stored.booking_of ticket.now) fate books.new × stored.IsFateOf (stored.booking_of ticket.now) fate) }
+        (λ fate. (is_booked ticket.now (outcome_seen outcome.now) now ≡ true) × B.stores books.old (stored.booking_of ticket.now (outcome_seen outcome.now) now) fate books.new × stored.IsFateOf (stored.booking_of ticket.now (outcome_seen outcome.now) now) fate) }
 {
     if !outcome.books(ticket, now) {
         return None;
     }
-    Some(books.store(booking_of(ticket)))
+    Some(books.store(booking_of(ticket, outcome, now)))
 }
 
-/// Ends a ticket by the fate of what it books, and gives what answers its Prepare. Where nobody knows that fate the ticket stays
+/// The token that a fate leaves, by which the ticket is settled. `None` if the fate is not known.
+fn token_of(fate: Option<Fate>) -> Option<Option<Booked>>
+    ensures { MatchOption result (fate ≡ Some fated.Unknown) (λ token. IsTokenOf fate token) }
+{
+    match fate {
+        Some(Fate::Stored(token)) => Some(Some(token)),
+        Some(Fate::Refused) => Some(None),
+        Some(Fate::Unknown) => None,
+        None => Some(None),
+    }
+}
+
+/// Ends a ticket by the fate of what it books, and gives what answers its Prepare. If nobody knows that fate the ticket stays
 /// open, with its amount reserved, and there is no answer.
 fn end<C: Ledger, D: Ledger, A: Allocator + Copy>(
     rt: &impl Wait,
@@ -116,16 +129,12 @@ fn end<C: Ledger, D: Ledger, A: Allocator + Copy>(
     fate: Option<Fate>,
 ) -> Result<Option<Vec<u8, A>>, DeskError>
     requires { MatchOption fate (is_booked ticket (outcome_seen outcome) now ≡ false)
-        (λ fate. (is_booked ticket (outcome_seen outcome) now ≡ true) × stored.IsFateOf (stored.booking_of ticket) fate) }
+        (λ fate. (is_booked ticket (outcome_seen outcome) now ≡ true) × stored.IsFateOf (stored.booking_of ticket (outcome_seen outcome) now) fate) }
     ensures { IfOk result (λ answer. MatchOption fate (IsUnfulfilled (told answer)) (λ fate. AnswersBy fate (told answer))) }
 {
-    let token = match fate {
-        Some(Fate::Unknown) => {
-            ticket.abandon();
-            return Ok(None);
-        }
-        Some(Fate::Stored(token)) => Some(token),
-        Some(Fate::Refused) | None => None,
+    let Some(token) = token_of(fate) else {
+        ticket.abandon();
+        return Ok(None);
     };
     let is_stored = token.is_some();
     match settle(rt, desk, shares, ticket, outcome, now, token) {
@@ -135,7 +144,7 @@ fn end<C: Ledger, D: Ledger, A: Allocator + Copy>(
     }
 }
 
-/// What answers a Prepare that arrived: the hop's own Reject, or what comes back over the links.
+/// What answers a Prepare that arrived: the hop's own Reject, or the answer that arrives over the links.
 fn answer_to<C: Ledger, D: Ledger, A: Allocator + Copy, T: Links<A>, B: Books, K: Clock>(
     rt: &impl Wait,
     desk: &Mutex<HopDesk<C, D, A>>,
@@ -167,15 +176,15 @@ fn answer_to<C: Ledger, D: Ledger, A: Allocator + Copy, T: Links<A>, B: Books, K
     }
 }
 
-/// Answers a Prepare that an account sent. Where the hop forwards it, the answer is what comes back over the link of the
+/// Answers a Prepare that an account sent. If the hop forwards it, the answer is the one that arrives over the link of the
 /// account to which it is sent (`links`, by account), and what is booked is added to the shares. The result names the
 /// account from which the desk let the Prepare arrive.
 ///
-/// The desk's lock is taken to let the Prepare arrive and to settle it; the shares are locked while it is settled. No lock is
-/// held during the exchange, nor while `books` store what the Fulfill books. A Fulfill is passed back only once that is stored.
-/// Where it is not stored the answer is T01. Where nobody knows, there is no answer: it is lost, as an answer is that the
-/// neighbour does not take, and the amount stays reserved until the process ends. The answer is T00 (RFC 0027) where memory was
-/// refused on arrival, where there is no such account, or where the ticket is not open any more. Fails with `NoMemory` where
+/// The desk is locked to let the Prepare arrive and to settle it; the shares are locked while it is settled. No lock is
+/// kept during the exchange, nor while `books` store what the Fulfill books. A Fulfill is passed back only once that is stored.
+/// If it is not stored the answer is T01. If nobody knows, there is no answer: it is lost, like an answer that does not
+/// reach the neighbour, and the amount stays reserved until the process ends. The answer is T00 (RFC 0027) if memory was
+/// refused on arrival, if there is no such account, or if the ticket is not open any more. Fails with `NoMemory` if
 /// there is no memory for T00 either. It waits for the locks.
 pub fn serve<C: Ledger, D: Ledger, A: Allocator + Copy, T: Links<A>, B: Books, K: Clock>(
     rt: &impl Wait,

@@ -7,9 +7,9 @@ ghost use Rattle.st_desk.specs.Stored as stored;
 ghost use Rattle.st_desk.specs.declared.stored.Fate as fates;
 ghost use Rattle.st_desk.specs.declared.stored.Fate.TheVariants as fated;
 
-use st_booking::{Booked, Booking, Keeper, commit_one};
+use st_booking::{Booked, Booking, Keeper, Proof, commit_one};
 use st_hop::{Outcome, Ticket};
-use st_ilp::Moment;
+use st_ilp::{Answer, Moment, read_answer};
 use std::alloc::Allocator;
 
 /// The fate of a booking that was to be stored.
@@ -25,7 +25,7 @@ pub enum Fate {
 }
 
 impl Fate {
-    /// The fate of a booking that a commit gave this token, or none. Without one it is known only where no commit had the booking.
+    /// The fate of a booking that a commit gave this token, or none. Without one it is known only if no commit had the booking.
     pub(crate) fn new(token: Option<Booked>, is_known: bool) -> Fate
         ensures { result ≡ stored.fate_by token is_known }
     {
@@ -37,7 +37,7 @@ impl Fate {
     }
 }
 
-/// Where the desk of a hop stores what a Fulfill books, before it settles the ticket and passes the Fulfill on.
+/// The store in which the desk of a hop books a Fulfill, before it settles the ticket and passes the Fulfill on.
 pub trait Books {
     // What a booking with this fate made of the books.
     ghost stores: { Self → bookings.Booking → fates.Fate → Self → Type 0 } = { λ _ _ _ _. ⊤ };
@@ -74,10 +74,44 @@ impl Books for NoBooks {
     }
 }
 
-/// What is booked where this ticket ends fulfilled. The account from which the Prepare arrived owes the incoming amount more,
-/// and the account to which it was forwarded is owed the outgoing amount more, each in the units of its link.
-pub fn booking_of(ticket: &Ticket) -> Booking
-    ensures { result ≡ stored.booking_of ticket.now }
+/// What proves the claim of a ticket that ends so: `None` if the outcome is not a Fulfill.
+fn proof_of<A: Allocator + Copy>(
+    ticket: &Ticket,
+    outcome: &Outcome<A>,
+    now: Moment,
+) -> Option<Proof>
+    ensures { result ≡ stored.proof_of ticket.now (outcome_seen outcome.now) now }
+{
+    match outcome {
+        Outcome::Answered(bytes) => match read_answer(bytes) {
+            Ok(
+                Answer::Fulfill {
+                    fulfillment,
+                    payload: _,
+                },
+            ) => {
+                let condition = ticket.read().condition;
+                Some(Proof {
+                    condition,
+                    fulfillment,
+                    moment: now.ms(),
+                })
+            }
+            _ => None,
+        },
+        Outcome::Fault => None,
+    }
+}
+
+/// What is booked if this ticket ends fulfilled, by this outcome at the moment `now`. The account from which the Prepare
+/// arrived owes the incoming amount more, which the condition and the fulfillment prove, and the account to which it was
+/// forwarded is owed the outgoing amount more, each in the units of its link.
+pub fn booking_of<A: Allocator + Copy>(
+    ticket: &Ticket,
+    outcome: &Outcome<A>,
+    now: Moment,
+) -> Booking
+    ensures { result ≡ stored.booking_of ticket.now (outcome_seen outcome.now) now }
 {
     let open = ticket.read();
     Booking {
@@ -85,6 +119,24 @@ pub fn booking_of(ticket: &Ticket) -> Booking
         claim: open.amount_in,
         payee: open.outgoing,
         due: open.amount_out,
+        proof: proof_of(ticket, outcome, now),
+    }
+}
+
+fn is_same_proof(one: &Proof, other: &Proof) -> bool
+    ensures { result ≡ stored.is_same_proof one.now other.now }
+{
+    (one.condition == other.condition && one.fulfillment == other.fulfillment)
+        && one.moment == other.moment
+}
+
+fn are_same_proofs(one: &Option<Proof>, other: &Option<Proof>) -> bool
+    ensures { result ≡ stored.are_same_proofs one.now other.now }
+{
+    match (one, other) {
+        (None, None) => true,
+        (Some(one), Some(other)) => is_same_proof(one, other),
+        _ => false,
     }
 }
 
@@ -92,16 +144,22 @@ pub fn booking_of(ticket: &Ticket) -> Booking
 pub(crate) fn is_same(one: Booking, other: Booking) -> bool
     ensures { result ≡ stored.is_same one other }
 {
-    (one.payer == other.payer && one.claim == other.claim)
-        && (one.payee == other.payee && one.due == other.due)
+    ((one.payer == other.payer && one.claim == other.claim)
+        && (one.payee == other.payee && one.due == other.due))
+        && are_same_proofs(&one.proof, &other.proof)
 }
 
 /// Whether this is the token of what the ticket books.
-fn is_stored(ticket: &Ticket, token: &Option<Booked>) -> bool
-    ensures { result ≡ stored.is_stored ticket.now token.now }
+fn is_stored<A: Allocator + Copy>(
+    ticket: &Ticket,
+    outcome: &Outcome<A>,
+    now: Moment,
+    token: &Option<Booked>,
+) -> bool
+    ensures { result ≡ stored.is_stored ticket.now (outcome_seen outcome.now) now token.now }
 {
     match token {
-        Some(token) => is_same(token.booking(), booking_of(ticket)),
+        Some(token) => is_same(token.booking(), booking_of(ticket, outcome, now)),
         None => false,
     }
 }
@@ -115,7 +173,7 @@ pub(crate) fn counted<A: Allocator + Copy>(
 ) -> Outcome<A>
     ensures { outcome_seen result ≡ stored.counted ticket.now (outcome_seen outcome) now token.now }
 {
-    if outcome.books(ticket, now) && !is_stored(ticket, token) {
+    if outcome.books(ticket, now) && !is_stored(ticket, &outcome, now, token) {
         return Outcome::Fault;
     }
     outcome

@@ -9,7 +9,7 @@ use st_booking::{Booking, Keeper, commit_all};
 use std::alloc::{AllocError, Allocator};
 use std::sync::{Condvar, Mutex, Wait};
 
-/// What the till's threads share beside the board: the books, and the first number with which they refused.
+/// What the till's threads share in addition to the board: the books, and the first number with which they refused.
 #[derive(Drop)]
 struct Drawer<K: Keeper> {
     books: K,
@@ -28,7 +28,7 @@ pub struct Till<K: Keeper, A: Allocator> {
 }
 
 impl<K: Keeper, A: Allocator + Copy> Till<K, A> {
-    /// A till over these books, for so many threads at once. Fails where memory is refused.
+    /// A till over these books, for `threads` threads at once. Fails if memory is refused.
     pub fn new(alloc: A, books: K, threads: usize) -> Result<Till<K, A>, AllocError>
     where
         K: Drop,
@@ -74,7 +74,7 @@ impl<K: Keeper> Drawer<K> {
     }
 }
 
-// Each function here that takes a lock lets it go before it returns.
+// Each function here that acquires a lock releases it before it returns.
 
 fn put<K: Keeper, A: Allocator + Copy>(
     rt: &impl Wait,
@@ -84,7 +84,7 @@ fn put<K: Keeper, A: Allocator + Copy>(
     till.board.lock(rt).put(booking)
 }
 
-/// Waits for the end of a commit that is under way, unless the thread was told.
+/// Waits for the end of a commit that is under way, unless the thread's fate is known already.
 fn turn<K: Keeper, A: Allocator + Copy, R: Wait>(
     rt: &R,
     till: &Till<K, A>,
@@ -149,7 +149,7 @@ fn finish<K: Keeper, A: Allocator + Copy>(rt: &impl Wait, till: &Till<K, A>, end
     till.turned.notify_all();
 }
 
-/// The fate, where it is that of this booking: of the token of another one nothing is known.
+/// The fate, if it is that of this booking: of the token of another one nothing is known.
 fn own_fate(fate: Fate, booking: Booking) -> Fate
     ensures { IsFateOf booking result }
 {
@@ -162,8 +162,8 @@ fn own_fate(fate: Fate, booking: Booking) -> Fate
 }
 
 /// Has the books of a till commit a booking, together with those of other threads that wait, and gives its fate. It is unknown
-/// where the books refused the commit that had it. It is not stored where they refused one before, where memory is refused, or
-/// where more threads wait than the till is for. It waits for the commit.
+/// if the books refused the commit that had it. It is not stored if they refused one before, if memory is refused, or
+/// if more threads wait than the till is for. It waits for the commit.
 pub fn deposit<K: Keeper, A: Allocator + Copy, R: Wait>(
     rt: &R,
     till: &Till<K, A>,

@@ -101,7 +101,7 @@ over_grows text more (inl found) =
     inl (found.0, omega (arith, found.1, length-append text more), subst (λ t. IsTrue (ends_head t)) (sym (take-append-le found.0 text more found.1)) found.2)
 over_grows text more (inr long) = inr (omega (arith, long, length-append text more))
 
--- what is no head stays none
+-- what is not a head does not become one
 pub no_head_grows : (expected : Expected) (text more : List ℕ) → IsNoHead expected text → IsNoHead expected (text ++ more)
 no_head_grows expected text more is =
     (over_grows text more is.0, λ a rest x. let early = shortened expected text more a rest x is.0 in is.1 a early.0 early.1)
@@ -168,6 +168,6 @@ refused_at_end response head e (inl found) ended short =
 refused_at_end response head e (inr none) ended short =
     inr ((over_at_end head ended, λ a rest x. none.0 x.0 (response_head_of head rest x.0 x.1 ended)), (let same = none.1 in cc))
 
--- bytes up to the limit, in which no empty line has come
+-- bytes up to the limit, without an empty line
 pub refused_at_limit : (expected : Expected) (head : List ℕ) → IsOpen head → head_limit ≤ length head → IsRefused expected head (no_head expected)
 refused_at_limit expected head open_ long = inr ((inr long, λ a rest x. not_open head rest (front_of expected head a rest x) open_), refl)

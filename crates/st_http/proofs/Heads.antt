@@ -1,4 +1,4 @@
--- What the parser found in bytes up to an empty line is all of them, and its fields are such as the map takes.
+-- What the parser found in bytes up to an empty line is all of them, and the map accepts its fields.
 use Rattle.std.proofs.Common.{◌≡◌, ◌≤◌, ℕ, List, ◌++◌, length, take, ap, ◌∙◌, inl, arith, Result, Ok, Err, IfOk}
 use Rattle.std.specs.Prelude.{map, All}
 use Rattle.std.proofs.lemmas.List.{length-map, length-take, drop_all}

@@ -27,7 +27,7 @@ named_value p = (lowercase p.0, plain_value p.1)
 differ : (a b : List ℕ) → bytes_eq a b ≡ false → a ≢ b
 differ a b apart same = let yes = (bytes_eq-Decides a b).1 same in cc
 
--- one more field stands behind those of its name, and under no other
+-- one more field follows those of its name, and is under no other name
 under-append : (m : Entries FieldValue) (p : Pair) (name : List ℕ) → under (append m (lowercase p.0) (plain_value p.1)) name ≡ under m name ++ values_of name (p ∷ [])
 under-append m p name = elim (cases_Bool (bytes_eq (lowercase p.0) name)) [
   | inl same ↦
@@ -94,7 +94,7 @@ has_room fields name few (inr refuses) = elim refuses.1 [
   | inr full ↦ omega (arith, few, full, count-append_all [] fields)
 ]
 
--- ---- the grammar's fields have names and values that the map takes
+-- ---- the grammar's fields have names and values that the map accepts
 
 name_bytes : (bytes : List ℕ) → IsToken bytes → (0 < length bytes) × All (λ b. IsTrue (is_name_byte b)) bytes
 unfolding is_token_byte is_name_byte

@@ -16,7 +16,7 @@ use Rattle.st_http.proofs.Walks.{both}
 use Rattle.st_http.specs.Head.{ends_head, ends_line, is_text_byte}
 use Rattle.st_http.specs.Phases.{IsEnded}
 
--- what the bytes so far are: empty lines alone, a line that has text or has gone wrong, the beginning of a line, a CR
+-- what the bytes so far are: empty lines alone, a line that has text or is malformed, the beginning of a line, a CR
 -- there, or bytes that an empty line has ended
 data Line : Type 0 where
   blank inside fresh cut ended : Line
@@ -38,7 +38,7 @@ stays_ended : (bytes : List ℕ) → walk ended bytes ≡ ended
 stays_ended [] = refl
 stays_ended (b ∷ bytes) = stays_ended bytes
 
--- text has come
+-- there was text
 abbrev has_begun : Line → Bool
 has_begun blank = false
 has_begun inside = true
@@ -83,7 +83,7 @@ begun s [] = sym (or_false (has_begun s))
 begun s (b ∷ bytes) =
     begun (step s b) bytes ∙ ap (λ x. x || list_any is_text_byte bytes) (begun_after s b) ∙ or_assoc (has_begun s) (is_text_byte b) (list_any is_text_byte bytes)
 
--- an empty line behind text ends the walk
+-- an empty line after text ends the walk
 two_ends : (s : Line) → has_begun s ≡ true → walk s (10 ∷ 10 ∷ []) ≡ ended
 two_ends blank is = absurd (no is)
   where
@@ -111,7 +111,7 @@ before bytes needle ends =
     let tail : needle ≡ drop at bytes = same_text needle (drop at bytes) (sym ends) in
     sym (take-append-drop at bytes) ∙ ap (λ l. take at bytes ++ l) (sym tail)
 
--- a text's end, which is no text, put away
+-- if the tail has no text byte, those of the whole are in its front
 text_before : (front tail : List ℕ) → list_any is_text_byte tail ≡ false → list_any is_text_byte (front ++ tail) ≡ true → list_any is_text_byte front ≡ true
 text_before front tail none some =
     sym (or_false (list_any is_text_byte front)) ∙ ap (λ x. list_any is_text_byte front || x) (sym none) ∙ sym (list_any-append is_text_byte front tail) ∙ some
@@ -129,7 +129,7 @@ either : (a b : Bool) → (a || b) ≡ true → (a ≡ true) ⊎ (b ≡ true)
 either true b e = inl refl
 either false b e = inr e
 
--- where an empty line has come behind text, the walk has ended
+-- if an empty line follows text, the walk has ended
 walk_of_head : (bytes : List ℕ) → ends_head bytes ≡ true → walk blank bytes ≡ ended
 unfolding ends_head
 walk_of_head bytes ends =
@@ -141,7 +141,7 @@ walk_of_head bytes ends =
 
 -- ---- the converse, where a line begins
 
--- a walk that comes to the beginning of a line has come by LF
+-- a walk that reaches the beginning of a line has read an LF
 fresh_by : (s : Line) (b : ℕ) → step s b ≡ fresh → b ≡ 10
 fresh_by s b is = elim (cases_Bool (b == 10)) [ inl same ↦ eqb-true b 10 same | inr apart ↦ absurd (other s apart is) ]
   where
@@ -181,7 +181,7 @@ ends_line_of front crlf =
     rw (append_assoc front (10 ∷ []) (13 ∷ 10 ∷ []), ends_with-append front (10 ∷ 13 ∷ 10 ∷ [])) (or_true (ends_with nat_eq (front ++ 10 ∷ 13 ∷ 10 ∷ []) (10 ∷ 10 ∷ [])))
 ends_line_of front lf = rw (append_assoc front (10 ∷ []) (10 ∷ []), ends_with-append front (10 ∷ 10 ∷ [])) refl
 
--- ---- a head whose lines a walk comes through, and an empty line
+-- ---- a head whose lines a walk passes through, and an empty line
 
 -- the last line without its LF
 abbrev opening : LineEnd → List ℕ

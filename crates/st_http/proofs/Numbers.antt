@@ -1,4 +1,4 @@
--- The numbers that digits write: equal where the digits are, but for the zeros in front.
+-- The numbers that digits write: equal if and only if the digits are, leading zeros aside.
 use Rattle.std.proofs.Common.{◌≡◌, ℕ, ◌+◌, ◌-◌, ◌*◌, ◌≤◌, ◌<◌, zero, suc, List, [], ◌∷◌, ◌++◌, length, take, drop, refl, sym, ap, ◌∙◌, inl, inr, arith, rules, true, false, take-append-drop, subst, ◌⊎◌}
 use Rattle.std.specs.Prelude.{fold, nat_le, if◌then◌else◌, ◌==◌, ◌↔◌, bytes_eq}
 use Rattle.std.proofs.lemmas.Slice.Eq.{bytes_eq-Decides}
@@ -55,7 +55,7 @@ digits-pad (suc k) ds all = digits-pad k ds all
 digit_bounds : (d : ℕ) → is_ascii_digit d ≡ true → (48 ≤ d) × (d ≤ 57)
 digit_bounds d is = (grind (arith, rules), grind (arith, rules))
 
--- as many digits behind two numbers: the numbers are equal and so are the digits
+-- the same number of digits after two numbers: the numbers are equal and so are the digits
 same_length : (n m : ℕ) (a b : List ℕ) → length a ≡ length b → list_all is_ascii_digit a ≡ true → list_all is_ascii_digit b ≡ true
     → fold (λ m d. 10 * m + (d - 48)) n a ≡ fold (λ m d. 10 * m + (d - 48)) m b → (n ≡ m) × (a ≡ b)
 same_length n m [] [] long one other same = (same, refl)

@@ -9,7 +9,7 @@ use Rattle.st_http.specs.Verdict.{Expected, Begins, no_head}
 use Rattle.st_http.specs.Message.{Says, IsRefused, IsNoHead, Standing, unfinished, whole, refused}
 use Rattle.st_http.proofs.Begins.{one_beginning, grown, front_of, not_open, no_head_grows, over_grows}
 
--- bytes in which no empty line has come, nor in what follows
+-- if a text has no empty line, neither has its front
 open_in_front : (text more : List ℕ) → IsOpen (text ++ more) → IsOpen text
 open_in_front text more open_ = λ k within.
     let inside : k ≤ length (text ++ more) = omega (arith, length-append text more) in
@@ -35,7 +35,7 @@ rules_once expected text more e rest (whole account body) x y = let same = (one_
 rules_once expected text more e rest (unfinished w) x (inl y) = absurd (begun_is_not_open expected text more (Err e) rest x y.0)
 rules_once expected text more e rest (unfinished w) x (inr y) = let same = (one_beginning expected text more (Err e) (Ok y.1) rest y.0 x y.2).0 in cc
 
--- what is no head is all that is said, whatever follows
+-- a text that is not a head has no other meaning, whatever follows
 no_head_once : (expected : Expected) (text more : List ℕ) (e : HttpError) (t : Standing) → IsNoHead expected text → e ≡ no_head expected → Says expected (text ++ more) t → refused e ≡ t
 no_head_once expected text more e (refused f) is by (inl y) = absurd ((no_head_grows expected text more is).1 (Err f) y.0 y.1)
 no_head_once expected text more e (refused f) is by (inr y) = let other = y.1 in cc

@@ -18,12 +18,12 @@ use Rattle.st_http.proofs.Begins.{grown, no_head_grows}
 use Rattle.st_http.specs.Progress.{Progress, IsTaken, Refuses}
 use Rattle.st_http.specs.Reads.{Reads, ReadsRefusal, ReadsPart, ExplainsRead, IsRefusal, IsStatus}
 
--- a request is taken at an account, or refused by a status
+-- a request is accepted for an account, or refused by a status
 abbrev pub RequestAnswer : Result Lawful HttpError → Type 0
 RequestAnswer (Ok l) = (account : ℕ) × (l.account ≡ Some account)
 RequestAnswer (Err e) = IsStatus e
 
--- a response is taken at no account, or refused
+-- a response is accepted without an account, or refused
 abbrev pub ResponseAnswer : Result Lawful HttpError → Type 0
 ResponseAnswer (Ok l) = l.account ≡ None
 ResponseAnswer (Err e) = IsRefusal e
@@ -86,7 +86,7 @@ pub refused_stays : (expected : Expected) (text more : List ℕ) (e : HttpError)
 refused_stays expected text more e (inl by_rules) = inl (by_rules.0 ++ more, grown expected text more (Err e) by_rules.0 by_rules.1)
 refused_stays expected text more e (inr no_head_) = inr (no_head_grows expected text more no_head_.0, no_head_.1)
 
--- what was read with the piece says it too
+-- what was read, together with the chunk, is refused by the same error
 pub refused_with_piece : (expected : Expected) (old text piece : List ℕ) (e : HttpError) (n : ℕ) → text ≡ old ++ take n piece → IsRefused expected text e → IsRefused expected (old ++ piece) e
 refused_with_piece expected old text piece e n is refusal =
     let all : text ++ drop n piece ≡ old ++ piece =
@@ -109,7 +109,7 @@ explained expected r Cut is refusal = absurd is
 explained expected r Turns is refusal = absurd is
 explained expected r NoMemory is refusal = tt
 
--- why a read that was refused came to no message
+-- why a read that was refused gave no message
 pub explains_refusal : (expected : Expected) (r : Reads) (middle : Option (List ℕ)) (old new : Progress) (piece : List ℕ) (e : HttpError)
     → new.expected ≡ expected → Consumes r.before middle old.taken → Consumes middle r.after piece → Says new.expected new.taken new.standing → Refuses old new piece e
     → ExplainsRead expected r e
@@ -118,7 +118,7 @@ explains_refusal expected r middle old new piece e same first second says refuse
     explained expected r e (refused_is_refusal expected new.taken e refusal)
     (old.taken ++ piece, Consumes-trans r.before middle r.after old.taken piece first second, refused_with_piece expected old.taken new.taken piece e refuses.bytes.0 refuses.bytes.2 refusal)
 
--- what was read so far is no whole message yet
+-- what was read so far is not a whole message yet
 pub reads_part : (expected : Expected) (r : Reads) (p : Progress) → p.expected ≡ expected → Consumes r.before r.after p.taken
     → Says p.expected p.taken p.standing → IsTaken p.standing → (wants_of p.standing ≡ 0 → ⊥) → ReadsPart expected r
 reads_part expected r p same read says taken some =

@@ -1,4 +1,4 @@
--- Turns taken one after the other.
+-- Calls of a stream, counted one after the other.
 use Rattle.std.proofs.Common.{ℕ, arith}
 use Rattle.st_oer.specs.Tallies.{TakesTurns}
 use Rattle.st_oer.specs.declared.tally.Tally.{Tally}

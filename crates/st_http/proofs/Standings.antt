@@ -22,7 +22,7 @@ take_sum s zero n = rw zero-add refl
 take_sum [] (suc i) n = ap (λ l. l) (take-nil {A = ℕ} n) ∙ sym (take-nil {A = ℕ} (suc i + n))
 take_sum (a ∷ s) (suc i) n = rw suc-add (ap (λ l. a ∷ l) (take_sum s i n))
 
--- two pieces of one piece, taken one after the other
+-- two parts of one chunk, read one after the other
 pub taken_in_two : (head body piece : List ℕ) (t m : ℕ) → body ≡ [] → (head ++ take t piece) ++ take m (drop t piece) ≡ (head ++ body) ++ take (t + m) piece
 taken_in_two head body piece t m none =
     rw (none, append-nil head, append_assoc head (take t piece) (take m (drop t piece)), take_sum piece t m) refl

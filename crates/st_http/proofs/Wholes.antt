@@ -9,7 +9,7 @@ use Rattle.st_http.specs.Serves.{IsCalled, IsDue}
 use Rattle.st_http.proofs.Refusals.{request_answers, response_answers}
 use Rattle.st_http.proofs.Standings.{open_nothing}
 
--- no byte says that a message may come
+-- the empty text is an unfinished message
 pub begins : (expected : Expected) → Says expected [] (unfinished 1)
 begins expected = inl (open_nothing, omega arith, refl)
 

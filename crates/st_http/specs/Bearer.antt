@@ -5,7 +5,7 @@ use Rattle.std.specs.List.{position_from}
 use Rattle.std.specs.Str.{str_to_ascii_lowercase}
 use Rattle.st_http.specs.Fields.{Pair, values_of}
 
--- the bytes from the first that is no space
+-- the bytes from the first one that is not a space
 abbrev pub without_spaces : List ℕ → List ℕ
 without_spaces [] = []
 without_spaces (b ∷ bytes) = if b == 32 then without_spaces bytes else b ∷ bytes

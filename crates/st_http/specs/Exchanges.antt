@@ -7,7 +7,7 @@ use Rattle.st_http.specs.declared.error.HttpError.TheVariants.{NoMemory}
 use Rattle.st_http.specs.Verdict.{response}
 use Rattle.st_http.specs.Reads.{Reads, ReadsMessage, ExplainsRead, ExplainsWrite}
 
--- what is known of a stream: the bytes written to it, and the bytes still to come from it
+-- what is known of a stream: the bytes written to it, and the bytes that remain to be read from it
 pub record Known (S : Type 0) : Type 0 where
   pub contents : S → Option (List ℕ)
   pub remaining : S → Option (List ℕ)
@@ -19,7 +19,7 @@ known contents remaining = record { contents = contents; remaining = remaining }
 abbrev pub reads : {S : Type 0} → Known S → S → S → Reads
 reads k from to = record { before = k.remaining from; after = k.remaining to }
 
--- the stream took the request whole, and then gave exactly one response, with this body
+-- the whole request was written to the stream, which then gave exactly one response, with this body
 abbrev pub IsExchanged : {S : Type 0} → Known S → S → S → List ℕ → List ℕ → Type 0
 IsExchanged {S} k old new request answer =
     (sent : S) × Appends (k.contents old) (k.contents sent) request × ReadsMessage response (reads k sent new) None answer

@@ -1,4 +1,4 @@
--- Where the head of a message is over: at its first empty line, or at the limit.
+-- The end of a message's head: its first empty line, or the limit.
 use Rattle.std.specs.Prelude.{◌≡◌, ℕ, ◌≤◌, ◌⊎◌, Bool, false, ◌&&◌, ◌||◌, ◌==◌, not, List, [], ◌∷◌, length, take, nat_eq, IsTrue}
 use Rattle.std.specs.List.{list_any, ends_with}
 
@@ -22,10 +22,10 @@ ends_line bytes = ends_with nat_eq bytes (10 ∷ 10 ∷ []) || ends_with nat_eq 
 unfoldable pub ends_head : List ℕ → Bool
 ends_head bytes = list_any is_text_byte bytes && ends_line bytes
 
--- no empty line behind a line has come yet
+-- no empty line after text so far
 abbrev pub IsOpen : List ℕ → Type 0
 IsOpen text = (k : ℕ) → k ≤ length text → ends_head (take k text) ≡ false
 
--- an empty line behind a line has come, or as many bytes as a head may have
+-- an empty line follows text, or there are as many bytes as a head may have
 abbrev pub IsOver : List ℕ → Type 0
 IsOver text = ((k : ℕ) × (k ≤ length text) × IsTrue (ends_head (take k text))) ⊎ (head_limit ≤ length text)

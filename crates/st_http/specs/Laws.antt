@@ -1,4 +1,4 @@
--- What a text says is one thing, so a message in any pieces has the answer of the whole; where a head ends; when two
+-- A text says one thing, so a message in any chunks has the answer of the whole; the end of a head; when two
 -- lengths are equal.
 use Rattle.std.specs.Prelude.{◌≡◌, ◌↔◌, ℕ, ◌≤◌, List, [], ◌++◌, length, Option, IsTrue}
 use Rattle.std.specs.Char.{is_ascii_digit}
@@ -30,7 +30,7 @@ abbrev pub HeadsEndAtTheirFirstEmptyLine : Type 0
 HeadsEndAtTheirFirstEmptyLine =
     ((h : RequestHead) → IsRequestHead h → IsEnded (print_request h)) × ((h : ResponseHead) → IsResponseHead h → IsEnded (print_response h))
 
--- two texts of digits write one number exactly where they are equal without the zeros in front
+-- two texts of digits write one number if and only if they are equal without the zeros in front
 abbrev pub EqualNumbersHaveEqualDigits : Type 0
 EqualNumbersHaveEqualDigits = (a b : List ℕ) → IsTrue (list_all is_ascii_digit a) → IsTrue (list_all is_ascii_digit b)
     → (number a ≡ number b) ↔ (without_zeros a ≡ without_zeros b)

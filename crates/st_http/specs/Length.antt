@@ -1,4 +1,4 @@
--- The length of a body, as the fields of a head give it (RFC 9112, section 6; that equal lengths may stand twice is RFC
+-- The length of a body, as the fields of a head give it (RFC 9112, section 6; that equal lengths may be given twice is RFC
 -- 9110, section 8.6).
 use Rattle.std.specs.Prelude.{ℕ, ◌+◌, ◌-◌, ◌*◌, Bool, ◌&&◌, ◌==◌, nat_lt, nat_le, List, [], ◌∷◌, length, fold, if◌then◌else◌, codes}
 use Rattle.std.specs.List.{list_all}
@@ -33,12 +33,12 @@ length_said [] = Missing
 length_said (value ∷ values) =
     if is_number value && list_all (is_number_of (number value)) values then length_up_to (number value) else Malformed
 
--- the same where there are these values of Transfer-Encoding: with one there is no length
+-- the same if there are these values of Transfer-Encoding: with one there is no length
 abbrev pub length_beside : List (List ℕ) → List (List ℕ) → Length
 length_beside [] lengths = length_said lengths
 length_beside (coding ∷ codings) lengths = Missing
 
--- the length of the body behind these fields
+-- the length of the body after these fields
 abbrev pub length_by : List Pair → Length
 length_by fields = length_beside (values_of (codes "transfer-encoding") fields) (values_of (codes "content-length") fields)
 

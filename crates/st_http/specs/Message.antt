@@ -7,7 +7,7 @@ use Rattle.st_http.specs.Verdict.{Expected, Begins, no_head}
 
 -- what a text says
 pub data Standing : Type 0 where
-  -- a message that wants at least so many bytes more
+  -- a message that needs at least this number of bytes more
   unfinished : ℕ → Standing
   -- a whole message, of this account and body
   whole : Option ℕ → List ℕ → Standing
@@ -22,11 +22,11 @@ IsMessage expected text account body = Begins expected text (Ok (record { accoun
 abbrev pub IsNoHead : Expected → List ℕ → Type 0
 IsNoHead expected text = IsOver text × ((verdict : Result Lawful HttpError) (rest : List ℕ) → ¬ (Begins expected text verdict rest))
 
--- the rules refuse the head that the text begins with, or it is no head
+-- the rules refuse the head that the text begins with, or the text is not a head
 abbrev pub IsRefused : Expected → List ℕ → HttpError → Type 0
 IsRefused expected text e = ((rest : List ℕ) × Begins expected text (Err e) rest) ⊎ (IsNoHead expected text × (e ≡ no_head expected))
 
--- the head is not over, or it is lawful and the body wants so many bytes more
+-- the head is not over, or it is lawful and the body needs `wants` more bytes
 abbrev pub IsUnfinished : Expected → List ℕ → ℕ → Type 0
 IsUnfinished expected text wants =
     (IsOpen text × (length text < head_limit) × (wants ≡ 1))

@@ -1,4 +1,4 @@
--- How a Reading keeps what it took: the head and the body in two vectors, and what it found of the head.
+-- How a Reading keeps what it read: the head and the body in two vectors, and what it found of the head.
 use Rattle.std.specs.Prelude.{◌≡◌, ℕ, ◌-◌, ◌<◌, ◌≤◌, ◌⊎◌, false, List, [], length, map, take, nat_lt, if◌then◌else◌, IsTrue, Result, Ok, Err}
 use Rattle.httparse.specs.Grammar.{RequestHead, ResponseHead, ReadsRequest, ReadsResponse, status_code}
 use Rattle.httparse.specs.Spans.{name_and_value}
@@ -63,7 +63,7 @@ IsInside expected Head head body = IsOpen head × (length head < head_limit) × 
 IsInside expected (Body l) head body = IsLawful expected l head body
 IsInside expected (Refused e) head body = IsRefused expected head e × (body ≡ [])
 
--- no further byte is taken
+-- no further byte is accepted
 abbrev pub IsDone : Phase → List ℕ → Type 0
 IsDone Head body = ⊥
 IsDone (Body l) body = length body ≡ l.size

@@ -9,7 +9,7 @@ use Rattle.st_http.specs.declared.error.HttpError.TheVariants.{ReadFault, WriteF
 use Rattle.st_http.specs.Verdict.{Expected}
 use Rattle.st_http.specs.Message.{Says, unfinished, whole, refused}
 
--- a stream's bytes still to come before and after the reads
+-- a stream's remaining bytes before and after the reads
 pub record Reads : Type 0 where
   pub before : Option (List ℕ)
   pub after : Option (List ℕ)
@@ -18,7 +18,7 @@ pub record Reads : Type 0 where
 abbrev pub ReadsRefusal : Expected → Reads → HttpError → Type 0
 ReadsRefusal expected r e = (text : List ℕ) × Consumes r.before r.after text × Says expected text (refused e)
 
--- what was read is no whole message yet
+-- what was read is not a whole message yet
 abbrev pub ReadsPart : Expected → Reads → Type 0
 ReadsPart expected r = (text : List ℕ) × (wants : ℕ) × Consumes r.before r.after text × Says expected text (unfinished wants)
 
@@ -26,8 +26,8 @@ ReadsPart expected r = (text : List ℕ) × (wants : ℕ) × Consumes r.before r
 abbrev pub ReadsMessage : Expected → Reads → Option ℕ → List ℕ → Type 0
 ReadsMessage expected r account body = (text : List ℕ) × Consumes r.before r.after text × Says expected text (whole account body)
 
--- why a message was not read: what was read is refused; or it is no whole message yet, and the input has ended, a read
--- failed, or the turns were used up; or there was no memory
+-- why a message was not read: what was read is refused; or it is not a whole message yet, and the input has ended, a read
+-- failed, or the allowed calls were used up; or there was no memory
 abbrev pub ExplainsRead : Expected → Reads → HttpError → Type 0
 ExplainsRead expected r ReadFault = ReadsPart expected r
 ExplainsRead expected r (WriteFault sent) = ⊥
@@ -42,7 +42,7 @@ ExplainsRead expected r NoMemory = ⊤
 abbrev pub WritesPart : Option (List ℕ) → Option (List ℕ) → List ℕ → ℕ → Type 0
 WritesPart before after text sent = (sent ≤ length text) × Appends before after (take sent text)
 
--- a text was not written whole: as much as a fault tells, or the turns were used up
+-- a text was not written whole: only the part that a fault reports, or the allowed calls were used up
 abbrev pub ExplainsWrite : Option (List ℕ) → Option (List ℕ) → List ℕ → HttpError → Type 0
 ExplainsWrite before after text (WriteFault sent) = WritesPart before after text sent
 ExplainsWrite before after text Turns = (sent : ℕ) × WritesPart before after text sent
@@ -53,7 +53,7 @@ ExplainsWrite before after text TooLong = ⊥
 ExplainsWrite before after text Cut = ⊥
 ExplainsWrite before after text NoMemory = ⊥
 
--- the stream's count of errors after a call: one more where a fault is told, and there alone
+-- the stream's count of errors after a call: one more if the call reports a fault, and the same otherwise
 abbrev pub faults_told : {T : Type 0} → Result T HttpError → ℕ → ℕ
 faults_told (Ok x) count = count
 faults_told (Err ReadFault) count = count_after 1 count
@@ -65,7 +65,7 @@ faults_told (Err Cut) count = count
 faults_told (Err Turns) count = count
 faults_told (Err NoMemory) count = count
 
--- each call of the stream took one of the turns; where they are said to be used up, none is left
+-- each call of the stream uses up one of `turns`; if the result says that they were used up, none is left
 abbrev pub SpendsTurns : {T : Type 0} → Result T HttpError → Tally → Tally → ℕ → Type 0
 SpendsTurns result old new turns = (left : ℕ) × TakesTurns old new turns left × IfErr result (λ e. e ≡ Turns → left ≡ 0)
 

@@ -20,13 +20,13 @@ abbrev pub response_text : Option (List ℕ) → List ℕ
 response_text None = refusal_text 500
 response_text (Some body) = answer_text body
 
--- the answerer went from old to new by its answer to the message, and this is the response
+-- the answerer changed from old to new by its answer to the message, and this is the response
 abbrev pub IsCalled : {T : Type 0} → (T → ℕ → List ℕ → Option (List ℕ) → T → Type 0) → Standing → T → T → List ℕ → Type 0
 IsCalled gives message old new text =
     (account : ℕ) × (body : List ℕ) × (answer : Option (List ℕ))
     × (account_of message ≡ Some account) × (body_of message ≡ Some body) × gives old account body answer new × (text ≡ response_text answer)
 
--- a lawful request was read, the answerer went from old to new by its answer, and this is the response
+-- a lawful request was read, the answerer changed from old to new by its answer, and this is the response
 abbrev pub IsAnswered : {T : Type 0} → (T → ℕ → List ℕ → Option (List ℕ) → T → Type 0) → List (List ℕ) → Reads → T → T → List ℕ → Type 0
 IsAnswered gives tokens r old new text =
     (account : ℕ) × (body : List ℕ) × (answer : Option (List ℕ))
@@ -40,7 +40,7 @@ IsTurnedDown tokens r old new text = (code : ℕ) × ReadsRefusal (request token
 abbrev pub IsDue : {T : Type 0} → (T → ℕ → List ℕ → Option (List ℕ) → T → Type 0) → List (List ℕ) → Reads → T → T → List ℕ → Type 0
 IsDue gives tokens r old new text = IsAnswered gives tokens r old new text ⊎ IsTurnedDown tokens r old new text
 
--- a refusal that no response tells
+-- a refusal for which there is no response
 abbrev pub IsLoss : HttpError → Type 0
 IsLoss ReadFault = ⊤
 IsLoss (WriteFault sent) = ⊤
@@ -51,7 +51,7 @@ IsLoss Cut = ⊤
 IsLoss Turns = ⊤
 IsLoss NoMemory = ⊤
 
--- the stream gave a message, and then took the response that it asks for
+-- the stream gave a message, and then the response that it asks for was written to it
 abbrev pub IsServed : {S T : Type 0} → Known S → (T → ℕ → List ℕ → Option (List ℕ) → T → Type 0) → List (List ℕ) → S → S → T → T → Type 0
 IsServed {S} {T} k gives tokens began now old new =
     (asked : S) × (text : List ℕ) × IsDue gives tokens (reads k began asked) old new text × Appends (k.contents asked) (k.contents now) text
@@ -69,7 +69,7 @@ ExplainsServe {S} {T} k gives tokens began now old new e =
     ⊎ ((asked : S) × (text : List ℕ) × IsDue gives tokens (reads k began asked) old new text
     × ExplainsWrite (k.contents asked) (k.contents now) text e)
 
--- a response was written whole; or there was no memory for it, or a write failed, or the turns were used up
+-- a response was written whole; or there was no memory for it, or a write failed, or the allowed calls were used up
 abbrev pub Responds : {T : Type 0} → (before after : Option (List ℕ)) → (text : List ℕ) → Result T HttpError → Type 0
 Responds before after text (Ok x) = Appends before after text
 Responds before after text (Err NoMemory) = after ≡ before

@@ -66,7 +66,7 @@ Begins (request tokens) text verdict rest =
 Begins response text verdict rest =
     (h : ResponseHead) × IsResponse text h rest × (verdict ≡ response_verdict (status_code h) (map name_and_value h.fields))
 
--- the refusal of what is no head
+-- the refusal of a text that is not a head
 abbrev pub no_head : Expected → HttpError
 no_head (request tokens) = Status 400
 no_head response = BadHead

@@ -6,7 +6,7 @@ ghost use Rattle.st_http.specs.Kept.{under};
 
 use http_header::{AUTHORIZATION, HeaderMap};
 
-/// The bytes from the first that is no space.
+/// The bytes from the first one that is not a space.
 fn without_spaces(bytes: &[u8]) -> &[u8]
     ensures { result.now ≡ spec.without_spaces bytes.now }
 {
@@ -45,7 +45,7 @@ fn place_of(tokens: &[&str], value: &[u8]) -> Option<usize>
 }
 
 /// The account of a request: the first place in `tokens` of a bearer token in its Authorization fields (RFC 0035, RFC
-/// 6750). The first field whose token is listed decides. `None` where none is.
+/// 6750). The first field whose token is listed decides. `None` if none is.
 pub fn account(tokens: &[&str], fields: &HeaderMap) -> Option<usize>
     ensures { result ≡ spec.account_said (map (λ t. t.now) tokens.now) (under fields.now (codes "authorization")) }
 {

@@ -15,7 +15,7 @@ use std::alloc::{Allocator, Global};
 use std::io::{Read, Write};
 
 /// Sends one request with the packet `body` over a stream, and returns the body of the response (RFC 0035, the
-/// synchronous mode). `host` and `token` are texts that `is_field_text` accepts. Each call of the stream takes one of
+/// synchronous mode). `host` and `token` are texts that `is_field_text` accepts. Each call of the stream uses up one of
 /// `turns`. The fields of the response are stored by `global` while they are checked, and all else by `alloc`.
 ///
 /// Fails with `ReadFault`, `WriteFault`, `BadHead`, `Status`, `TooLong`, `Cut`, `Turns` or `NoMemory`, as `HttpError`
@@ -31,7 +31,7 @@ pub fn exchange<S: Read + Write, A: Allocator + Copy>(
 ) -> Result<Vec<u8, A>, HttpError>
     requires host { IsTrue (texts.is_field_text host.now) }
     requires token { IsTrue (texts.is_field_text token.now) }
-    // The stream had taken the request, and then gave the response.
+    // The request was written to the stream, which then gave the response.
     ensures answer { IfOk result (λ answer. IsExchanged (known S.contents S.remaining) (device_of stream.old) (device_of stream.new)
         (texts.request_text host.now token.now body.now) answer.items) }
     ensures why { IfErr result (ExplainsExchange (known S.contents S.remaining) (device_of stream.old) (device_of stream.new)

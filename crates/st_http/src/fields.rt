@@ -16,7 +16,7 @@ use http_header::{
 use httparse::spans::HeaderSpan;
 use std::alloc::{AllocError, Global};
 
-/// Keeps a field behind the others.
+/// Appends a field to the others.
 fn keep(global: Global, fields: &mut HeaderMap, name: &[u8], value: &[u8]) -> Result<(), AllocError>
     requires name { IsFieldName name.now }
     requires value { IsFieldValue value.now }
@@ -40,8 +40,8 @@ fn keep(global: Global, fields: &mut HeaderMap, name: &[u8], value: &[u8]) -> Re
     }
 }
 
-/// The header fields of a head, by their names, in their order. `spans` says where in `head` each name and value stand.
-/// Fails where memory is refused.
+/// The header fields of a head, by their names, in their order. `spans` gives the place in `head` of each name and value.
+/// Fails if memory is refused.
 pub fn fields_of(global: Global, head: &[u8], spans: &[HeaderSpan]) -> Result<HeaderMap, AllocError>
     requires within { All (IsHeaderWithin (length head.now)) spans.now }
     requires lawful { All IsPair (map (header_bytes head.now) spans.now) }

@@ -93,7 +93,7 @@ impl<A: Allocator> Head<A> {
     }
 
     /// Appends the bytes of a chunk that belong to the head: up to its end, or up to `MAX_HEAD` bytes. Returns how many
-    /// they were, and whether the head has ended. Fails where memory is refused, and then nothing has changed.
+    /// they were, and whether the head has ended. Fails if memory is refused, and then nothing has changed.
     pub fn take(&mut self, piece: &[u8]) -> Result<(usize, bool), AllocError>
         requires open { IsOpen self.old }
         requires short { length self.old < spec.head_limit }

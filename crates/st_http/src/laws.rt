@@ -25,7 +25,7 @@ pub fn heads_end_at_their_first_empty_line()
     ensures { HeadsEndAtTheirFirstEmptyLine }
 {}
 
-/// States a law; it does nothing. Two texts of digits write the same number exactly where they are equal without
+/// States a law; it does nothing. Two texts of digits write the same number if and only if they are equal without
 /// leading zeros, however long they are.
 pub fn equal_numbers_have_equal_digits()
     ensures { EqualNumbersHaveEqualDigits }

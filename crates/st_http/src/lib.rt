@@ -1,7 +1,7 @@
 //! ILP over HTTP (RFC 0035, the synchronous mode): one request and one response over a stream, each with a head of at
 //! most 8,192 bytes and a body of at most 65,535 bytes.
 //!
-//! `Reading` takes a message in chunks of any size; `exchange` and `serve_one` are loops over it. What a byte list
+//! `Reading` reads a message in chunks of any size; `exchange` and `serve_one` are loops over it. What a byte list
 //! means as a request or as a response is in specs/Message.antt; the bytes that are written are in specs/Texts.antt.
 //! Each stream carries one exchange. There is no keep-alive, no chunked body, no interim response and no TLS; a proxy
 //! in front may do TLS. The stream is never flushed, so it has to pass on what it was given.

@@ -24,18 +24,18 @@ enum Side<'t> {
     Response,
 }
 
-/// How far the message has come.
+/// How far the message has been read.
 #[derive(Clone, Copy, Debug, PartialEq, Eq)]
 enum Phase {
     /// Its head has not ended.
     Head,
     /// Its head is lawful.
     Body(Lawful),
-    /// It is none.
+    /// It is refused.
     Refused(HttpError),
 }
 
-/// What is said of bytes that should be a head and are none.
+/// The error for bytes that should be a head and are not.
 fn no_head(side: Side<'_>) -> HttpError
     ensures { result ≡ verdict.no_head (meant side.entry) }
 {
@@ -56,7 +56,7 @@ fn judge(global: Global, side: Side<'_>, head: &[u8]) -> Result<Verdict, AllocEr
     }
 }
 
-/// Takes what the body wants from the front of the piece, and answers how many bytes that was.
+/// Appends what the body still needs from the front of the chunk, and returns how many bytes that was.
 fn take_body<A: Allocator>(
     body: &mut Vec<u8, A>,
     size: usize,
@@ -73,8 +73,8 @@ fn take_body<A: Allocator>(
     Ok(wanted)
 }
 
-/// Judges a head that has ended, and takes what the body wants from the front of the bytes behind it. It answers how many
-/// bytes that was, and how far the message has come.
+/// Judges a head that has ended, and appends to the body what it needs from the front of the bytes after it. It returns
+/// how many bytes that was, and how far the message has been read.
 fn take_behind<A: Allocator>(
     global: Global,
     side: Side<'_>,
@@ -99,8 +99,8 @@ fn take_behind<A: Allocator>(
     }
 }
 
-/// Takes the bytes of the piece while the head has not ended, and what the body wants behind it. It answers how many
-/// bytes that was, and how far the message has come.
+/// Reads bytes of the chunk while the head has not ended, and what the body needs after it. It returns how many
+/// bytes that was, and how far the message has been read.
 fn take_front<A: Allocator>(
     global: Global,
     side: Side<'_>,
@@ -143,7 +143,7 @@ pub struct Reading<'t, A: Allocator + Copy> {
     phase: Phase,
     /// The bytes up to the head's end: at most `MAX_HEAD`.
     head: Head<A>,
-    /// The bytes behind it: at most as many as a lawful head says.
+    /// The bytes after it: at most the length that a lawful head gives.
     body: Vec<u8, A>,
 }
 
@@ -189,10 +189,10 @@ impl<'t, A: Allocator + Copy> Reading<'t, A> {
         }
     }
 
-    /// Takes bytes from the front of a chunk, and returns how many: all of them, but none past the end of the message.
+    /// Reads bytes from the front of a chunk, and returns how many: all of them, but none past the end of the message.
     ///
-    /// Fails with `Status` where a request is refused, by the status that answers it, and where a response has a status
-    /// other than 200; with `BadHead` or `TooLong` where a response is refused; with `NoMemory` where memory is
+    /// Fails with `Status` if a request is refused, by the status that answers it, and if a response has a status
+    /// other than 200; with `BadHead` or `TooLong` if a response is refused; with `NoMemory` if memory is
     /// refused. After `NoMemory` the reading is as it was. Each other error is returned again by each later call.
     pub fn feed(&mut self, piece: &[u8]) -> Result<usize, HttpError>
         ensures expected { self.new.expected ≡ self.old.expected }

@@ -17,9 +17,9 @@ use std::io::{Read, Write};
 /// The most bytes of one read.
 const PIECE: usize = 4_096;
 
-/// Reads one message from a stream, and no byte past it. Each read takes one of `turns`.
+/// Reads one message from a stream, and no byte past it. Each read uses up one of `turns`.
 ///
-/// Fails with `Turns` where none is left, `Cut` where the input ends early, `ReadFault` where a read fails, and with
+/// Fails with `Turns` if none is left, `Cut` if the input ends early, `ReadFault` if a read fails, and with
 /// what `Reading::feed` refuses.
 pub fn read_message<S: Read, A: Allocator + Copy>(
     stream: &mut Counting<S>,
@@ -63,9 +63,9 @@ pub fn read_message<S: Read, A: Allocator + Copy>(
     }
 }
 
-/// Writes all bytes of a message to a stream. Each write takes one of `turns`.
+/// Writes all bytes of a message to a stream. Each write uses up one of `turns`.
 ///
-/// Fails with `WriteFault` where a write fails, and with `Turns` where none is left.
+/// Fails with `WriteFault` if a write fails, and with `Turns` if none is left.
 pub fn write_message<S: Write>(
     stream: &mut Counting<S>,
     text: &[u8],

@@ -18,9 +18,9 @@ use st_oer::Counting;
 use std::alloc::{AllocError, Allocator, Global};
 use std::io::{Read, Write};
 
-/// Has a request answered that has come whole, and returns the response: that of `answer_text`, or of `refusal_text` with
-/// status 500 where there is no answer. Fails where memory for the response is refused. The answerer was asked once in any
-/// case.
+/// Has a request answered that has arrived intact, and returns the response: that of `answer_text`, or of `refusal_text`
+/// with status 500 if there is no answer. Fails if memory for the response is refused. The answerer was asked once in
+/// any case.
 fn answered<T: Answerer, A: Allocator + Copy>(
     alloc: A,
     reading: &Reading<'_, A>,
@@ -71,9 +71,9 @@ fn response_to_next<S: Read, T: Answerer, A: Allocator + Copy>(
     }
 }
 
-/// Reads one request from a stream, has it answered where it is valid, and writes the response (RFC 0035, the
+/// Reads one request from a stream, has it answered if it is valid, and writes the response (RFC 0035, the
 /// synchronous mode). A request that is refused is answered by its status: 400, 401, 404, 405, 411 or 413. `tokens` has
-/// the bearer token of each account. Each call of the stream takes one of `turns`. The header fields are stored by
+/// the bearer token of each account. Each call of the stream uses up one of `turns`. The header fields are stored by
 /// `global` while they are checked, and all else by `alloc`.
 ///
 /// Fails with `ReadFault`, `WriteFault`, `Cut`, `Turns` or `NoMemory`. After an error the stream is not to be used
@@ -86,7 +86,7 @@ pub fn serve_one<S: Read + Write, T: Answerer, A: Allocator + Copy>(
     answerer: &mut T,
     turns: u64,
 ) -> Result<(), HttpError>
-    // The stream had given a message, and then took the response that it asks for.
+    // The stream gave a message, and then the response that it asks for was written to it.
     ensures served { OnOk result (IsServed (known S.contents S.remaining) T.gives (map (λ t. t.now) tokens.now)
         (device_of stream.old) (device_of stream.new) answerer.old answerer.new) }
     ensures why { IfErr result (ExplainsServe (known S.contents S.remaining) T.gives (map (λ t. t.now) tokens.now)
@@ -101,9 +101,9 @@ pub fn serve_one<S: Read + Write, T: Answerer, A: Allocator + Copy>(
     }
 }
 
-/// Has a request answered that has come whole, and writes the response to a stream (RFC 0035, the synchronous mode). This
+/// Has a request answered that has arrived intact, and writes the response to a stream (RFC 0035, the synchronous mode). This
 /// is the second half of `serve_one`, for a caller that reads several requests at once. The answerer is asked once. Each
-/// call of the stream takes one of `turns`. The response is stored by `alloc`.
+/// call of the stream uses up one of `turns`. The response is stored by `alloc`.
 ///
 /// Fails with `WriteFault`, `Turns` or `NoMemory`. After an error the stream is not to be used again.
 pub fn respond<S: Write, T: Answerer, A: Allocator + Copy>(
@@ -128,7 +128,7 @@ pub fn respond<S: Write, T: Answerer, A: Allocator + Copy>(
 }
 
 /// Refuses a request by this status, which is not 200: writes a response with an empty body to a stream. Each call of the
-/// stream takes one of `turns`. The response is stored by `alloc`.
+/// stream uses up one of `turns`. The response is stored by `alloc`.
 ///
 /// Fails with `WriteFault`, `Turns` or `NoMemory`. After an error the stream is not to be used again.
 pub fn refuse<S: Write, A: Allocator + Copy>(

@@ -110,7 +110,7 @@ fn response_verdict(
 }
 
 /// Checks bytes up to an empty line as the head of a request (RFC 0035, RFC 9112). The inner error is `Status` with the
-/// status that answers the request. The outer error comes where memory is refused.
+/// status that answers the request. The outer error is given if memory is refused.
 pub fn judge_request(global: Global, tokens: &[&str], head: &[u8]) -> Result<Verdict, AllocError>
     requires { length head.now ≤ head_limit }
     ensures { IfOk result (IsVerdict (spec.request (map (λ t. t.now) tokens.now)) head.now) }
@@ -136,7 +136,7 @@ pub fn judge_request(global: Global, tokens: &[&str], head: &[u8]) -> Result<Ver
 }
 
 /// Checks bytes up to an empty line as the head of a response (RFC 0035, RFC 9112). The inner error is `Status` for a
-/// status other than 200, `BadHead` or `TooLong`. The outer error comes where memory is refused.
+/// status other than 200, `BadHead` or `TooLong`. The outer error is given if memory is refused.
 pub fn judge_response(global: Global, head: &[u8]) -> Result<Verdict, AllocError>
     requires { length head.now ≤ head_limit }
     ensures { IfOk result (IsVerdict spec.response head.now) }

@@ -44,7 +44,7 @@ write_ok e b k xs u h =
     (λ (w : (is_ok (write e k xs).0 ≡ true) × ◌≡◌ {A = Answer × EndState} (Ok u, b) (Err end_errors.NoMemory, e)). absurd (let f : ◌≡◌ {A = Answer} (Ok u) (Err end_errors.NoMemory) = ap (λ p. p.0) w.1 in cc))
     h
 
--- an error that is no want of memory is the one that is defined
+-- an error other than out of memory is the one that is defined
 pub wants_err : {X : Type 0} (e b : EndState) (defined : Result X EndError × EndState) (why : EndError) → why ≢ end_errors.NoMemory → OrWants e defined (Err why, b) → defined ≡ (Err why, b)
 wants_err {X} e b defined why ne h =
     ⊎_elim

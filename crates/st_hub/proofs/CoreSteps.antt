@@ -114,7 +114,7 @@ bytes_of reading.Nothing = []
 bytes_of reading.End = []
 bytes_of (reading.Aborted code) = []
 
--- so many bytes of the stream k are read
+-- n bytes of the stream k are read
 pub record ReadsBytes (k n : ℕ) (a b : EndState) : Type 0 where
   pub others : (i : ℕ) → i ≢ k → delivered_of (slot b.receiving.streams i) ≡ delivered_of (slot a.receiving.streams i)
   pub here : delivered_of (slot b.receiving.streams k) ≡ delivered_of (slot a.receiving.streams k) + n

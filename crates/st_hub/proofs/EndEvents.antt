@@ -111,7 +111,7 @@ opening_is e b k (Some j) none h = unless_is e b j k (connection_refusal e) (non
 pub opened_is : (e b : EndState) (k : ℕ) → open_stream e ≡ (Ok k, b) → Opened e b k
 opened_is e b k h = opening_is e b k (own_number e) (λ j is. (own_none e j is, λ low. number_within e j low is)) h
 
--- ---- turns
+-- ---- rounds
 
 pub goes_keeps : (e : EndState) (iv : List ℕ) (now : _) (flight : flights.Open) (bytes : List ℕ) (b : EndState) → Goes e iv now flight bytes b → Keeps 0 e b
 goes_keeps e iv now flight bytes b g =

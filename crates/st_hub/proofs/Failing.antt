@@ -1,5 +1,5 @@
--- What is told of a turn that ends.
-use Rattle.std.proofs.Common.{◌≡◌, ℕ, Bool, true, false, cond, List, Option, Some, None, Result, Ok, Err, refl, sym, ap, ◌∙◌}
+-- What is reported when a `Turn` ends.
+use Rattle.std.proofs.Common.{◌≡◌, ℕ, true, false, cond, List, Option, Some, None, Result, Ok, Err, refl, sym, ap, ◌∙◌}
 use Rattle.std.specs.Option.{option_or}
 use Rattle.std.proofs.lemmas.Bool.{false≢true}
 use Rattle.st_ilp.specs.Packets.{AnswerPacket, Fulfilled, Rejected}
@@ -13,7 +13,7 @@ use Rattle.st_end.specs.declared.flight.Open.{Open}
 use Rattle.st_end.proofs.Lawfulness.{open_found, ended_is}
 use Rattle.st_hub.specs.Causes.{Cause, cause_if, cause_of, cause_with}
 
--- a Fulfill that fits is no cause
+-- a Fulfill that fits is not reported as a failure
 paid_by : (f : Open) (a : Result AnswerPacket IlpError) → pays_by f a ≡ true → failed_by f a ≡ None
 paid_by f (Ok (Fulfilled fulfillment payload)) h = ap (λ b. cond {A = Option Failed} b None (Some Unfit)) h
 paid_by f (Ok (Rejected code by message payload)) h = absurd (false≢true h)

@@ -43,7 +43,7 @@ held_by : (o : Bool) (n : Bool) → n ≡ false → (o ≡ true → n ≡ true) 
 held_by true n off f = absurd (let e : n ≡ true = f refl in cc)
 held_by false n off f = refl
 
--- the other streams are open where they were
+-- the other streams are open if they were
 pub opened_others : (e b : EndState) (k : ℕ) → Opened e b k → (j : ℕ) → j ≢ k → IsKnown b j → IsKnown e j
 opened_others e b k o j ne at =
     elim (subst (λ (z : EndState). IsKnown z j) o.after at) [
@@ -111,7 +111,7 @@ module _ {A : Type 0} where
         | inr h ↦ ap (λ (y : Outlet A). y.put) h
       ]
 
-  -- the first writer of a stream and its reader are handed out, where the stream is open by now
+  -- the first writer of a stream and its reader are handed out, if the stream is open by now
   ends_tied : (a b : EndState) (xs : List (Inlet A)) (ys : List (Outlet A)) (s : ℕ) → Keeps 0 a b → AllTied (record { core = a; inlets = xs; outlets = ys }) → AllTied (record { core = b; inlets = writer_out xs (8 * s); outlets = reader_out ys s })
   ends_tied a b xs ys s k t = record {
     inlets = length-set xs (8 * s) _ ∙ t.inlets;

@@ -66,7 +66,7 @@ module _ {A : Type 0} where
   pub joined_more : (log : List (Took A)) (j : ℕ) (x : Item A) → joined (map item (log ++ (j, x) ∷ [])) ≡ joined (map item log) ++ joined (x ∷ [])
   joined_more log j x = ap joined (items-push log (j, x)) ∙ joined-append (map item log) (x ∷ [])
 
-  -- the numbers and the rings alone tell the merge
+  -- the numbers and the rings alone determine the merge
   pub told : (log : List (Took A)) (f : ℕ → List (Item A)) → MergeOf log f → merge (map number log) f ≡ map item log
   told [] f m = refl
   told (p ∷ log) f m =

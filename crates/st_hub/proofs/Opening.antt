@@ -280,7 +280,7 @@ module _ (Q : ℕ → Type 0) (p : ℕ) (peers : (k : ℕ) → k % 2 ≢ p → Q
 
 -- ---- the calls of an end
 
--- where it is one of the end's own, it was open before
+-- if it is one of the end's own, it was open before
 abbrev Was : EndState → ℕ → Type 0
 Was e k = IsOwn e k → IsKnown e k
 
@@ -352,7 +352,7 @@ ended_by e f (Some p) o = opens_by e (after_outcome e f p o) (outcome (Was e) e 
 pub ended_opens : (e : EndState) (f : flights.Open) (o : Option (List ℕ)) → OpensNoOwn e (ended e f o)
 ended_opens e f o = ended_by e f (open_flight e f) o
 
--- ---- a Prepare that comes
+-- ---- a Prepare that arrives
 
 fulfilled_opens : (e : EndState) (p : Packet) (amount : ℕ) (r : Receiving) → r ≡ effect e.receiving p amount → fault_of e.receiving p amount ≡ None → OpensNoOwn e (fulfilled e p r)
 fulfilled_opens e p amount r is none =

@@ -1,4 +1,4 @@
--- What an end keeps of what was read, where nothing is read.
+-- What an end keeps of what was read, if nothing is read.
 use Rattle.std.proofs.Common.{◌≡◌, ℕ, zero, suc, ◌+◌, Bool, true, false, cond, List, [], ◌∷◌, length, refl, ap, ◌∙◌, arith, Option, None, Some, inl, inr, nat_eq, nat_lt, length-set}
 use Rattle.std.proofs.lemmas.List.{length-map}
 use Rattle.std.specs.FinMap as fmap

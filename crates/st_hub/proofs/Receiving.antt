@@ -1,4 +1,4 @@
--- What a Prepare that comes leaves of an end's bytes, and what it credits.
+-- What a Prepare that arrives leaves of an end's bytes, and what it credits.
 use Rattle.std.proofs.Common.{◌≡◌, ℕ, ℤ, Bool, true, false, not, cond, List, refl, sym, subst, Option, None, Some, nat_eq, Result, Ok, Err}
 use Rattle.std.specs.Prelude.{int_le}
 use Rattle.st_oer.specs.Address.{is_within}

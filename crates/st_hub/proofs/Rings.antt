@@ -53,7 +53,7 @@ module _ {A : Type 0} where
     whole = subst (λ l. IsPrefix (ts ++ ks) (l ++ ls)) (sym same) (behind ts ks ls p);
   }
 
-  -- its first item is taken
+  -- its first item is removed
   pub longer_took : (ts ks us ls : List (Item A)) (x : Item A) → us ≡ ts ++ x ∷ [] → ks ≡ x ∷ ls → Longer ts ks us ls
   longer_took ts ks us ls x took is = record {
     taken = (x ∷ [], sym took);
@@ -78,7 +78,7 @@ module _ {A : Type 0} where
   pub fuller_put : (ds us : List (Delivery A)) (x : Delivery A) (n m k : ℕ) → us ≡ ds ++ x ∷ [] → n ≤ m → m ≡ k + 1 → Fuller ds n us k
   fuller_put ds us x n m k put le is = let e = one_put ds us x put in record { put = omega (arith, e); whole = omega (arith, e, le, is) }
 
-  -- ---- where the ring lies
+  -- ---- at which index the ring lies
 
   pub here_known : (xs : List (WriteLane A)) (r : ℕ) (x : WriteLane A) → slice_get xs r ≡ Some x → stands_at xs r ≡ known x.end
   here_known xs r x at = at_map known_of xs r x [] at
@@ -191,7 +191,7 @@ module _ {A : Type 0} where
   pub tried_here : (a b : Flow A) (ks : List (List (Item A))) (s j w : ℕ) → j ≡ w → Flows a b → Found b.core (s + 1) (inlet_at a.inlets (8 * s + w)).taken (known_at ks (8 * s + w)) (inlet_at b.inlets (8 * s + w)).taken → Tried a ks s j b
   tried_here a b ks s j w same f h = subst (λ n. Tried a ks s n b) (sym same) (tried_now a b ks s w f h)
 
-  -- a stream that was open to begin with is open when its turn comes
+  -- a stream that was open to begin with is open when it is tried
   pub tried_open : (a b c : Flow A) (ks ls : List (List (Item A))) (s t j : ℕ) → s ≡ t → Flows a b → Rises a.core b.core → ((r : ℕ) → Longer (inlet_at a.inlets r).taken (known_at ks r) (inlet_at b.inlets r).taken (known_at ls r))
       → has_stream a.core (s + 1) ≡ true → (has_stream b.core (t + 1) ≡ true → Tried b ls t j c) → Tried a ks s j c
   tried_open a b c ks ls s t j same f up grows on h = subst (λ n. Tried a ks n j c) (sym same) (tried_from a b c ks ls t j f (grows (8 * t + j)) (h (up.is_open (t + 1) (subst (λ n. has_stream a.core (n + 1) ≡ true) same on))))

@@ -1,4 +1,4 @@
--- What an end keeps of the bytes that it sends, where nothing is written.
+-- What an end keeps of the bytes that it sends, if nothing is written.
 use Rattle.std.proofs.Common.{◌≡◌, ℕ, Bool, true, false, cond, List, [], ◌∷◌, refl, sym, ap, subst, ◌∙◌, arith, Option, None, Some, inl, inr, nat_eq, Result, Ok, Err, length-set}
 use Rattle.std.specs.FinMap as fmap
 use Rattle.std.specs.Ordering.{nat_cmp}

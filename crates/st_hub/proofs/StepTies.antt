@@ -62,7 +62,7 @@ module _ {A : Type 0} where
         | inr h ↦ ap (λ (y : Outlet A). y.out) h
       ]
 
-  -- the rings of a stream after an item of the writer j of the stream s was taken
+  -- the rings of a stream after an item of the writer j of the stream s was removed
   rings_there : (a b : Flow A) (s j t : ℕ) (x : Item A) → j < 8 → t ≢ s → b.inlets ≡ with_item a.inlets (8 * s + j) x → (i : ℕ) → i < 8 → rings_of b.inlets t i ≡ rings_of a.inlets t i
   rings_there a b s j t x lj ne is i li = ap (λ xs. rings_of xs t i) is ∙ ap (λ (y : Inlet A). y.taken) (item_there a.inlets (8 * s + j) x (8 * t + i) (apart_streams s t i j li lj ne))
 

@@ -1,4 +1,4 @@
--- What keeps the tie of a hub's end and its rings, where nothing is moved.
+-- What keeps the tie of a hub's end and its rings, if nothing is moved.
 use Rattle.std.proofs.Common.{◌≡◌, ℕ, ◌+◌, ◌<◌, List, length, map, refl, sym, ap, subst, ◌∙◌, arith, Option}
 use Rattle.st_tables.specs.Slots.{slot}
 use Rattle.st_sender.specs.Sending.{Outgoing, outgoing_at}

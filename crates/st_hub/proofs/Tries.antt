@@ -1,4 +1,4 @@
--- One try to move an item, where its ring lies.
+-- One try to move an item, at the index of its ring.
 use Rattle.std.proofs.Common.{◌≡◌, ◌≢◌, ℕ, zero, suc, ◌+◌, ◌*◌, ◌<◌, Bool, true, false, not, ◌&&◌, nat_eq, List, [], ◌∷◌, ◌++◌, map, length, Some, slice_get, is_some, refl, sym, ap, subst, ◌∙◌, arith, Ok, inl, inr, ◌⊎◌, ⊎_elim}
 use Rattle.std.specs.Prelude.{slice_set, slice_index_or, Vec, MatchBool}
 use Rattle.std.proofs.lemmas.List.{map-set}
@@ -136,7 +136,7 @@ module _ {A : Type 0} where
       let same : outlet_of y ≡ outlet_of x = λ k. record { put = new k; out = o k } in
       map-set outlet_of xs s y ∙ ap (λ z. slice_set (map outlet_of xs) s z) (same ∙ sym was) ∙ put_back (map outlet_of xs) s no_outlet
 
-  -- ---- whether a writer is left once an end was taken
+  -- ---- whether a writer is left after the end of one was removed from its ring
 
   ended_writer : (xs : List (Inlet A)) (r : ℕ) → r < length xs → is_writing (inlet_at (with_item xs r item.End) r) ≡ false
   ended_writer xs r room =

@@ -1,15 +1,18 @@
--- One more IV, and one more turn.
-use Rattle.std.proofs.Common.{◌≡◌, ◌≤◌, ℕ, ◌+◌, ℤ, Bool, true, false, List, [], ◌∷◌, ◌++◌, length, map, Some, None, refl, sym, subst, ap, ◌∙◌, inl, inr, ⊎_elim, ◌⊎◌}
-use Rattle.std.specs.Prelude.{Option, Result}
+-- One more IV, and one more round of a worker.
+use Rattle.std.proofs.Common.{◌≡◌, ℕ, ◌+◌, ℤ, Bool, true, false, List, [], ◌∷◌, ◌++◌, Some, None, refl, sym, subst, ap, ◌∙◌, ⊎_elim}
+use Rattle.std.specs.Prelude.{Option, Result, flat_map}
 use Rattle.std.proofs.lemmas.Bool.{false≢true}
-use Rattle.std.proofs.lemmas.List.{map-append, append-nil, append_assoc, length-append}
+use Rattle.std.proofs.lemmas.List.{map-append, append-nil, length-append}
+use Rattle.std.proofs.lemmas.Grind.{flat_map-append}
 use Rattle.st_desk.specs.declared.link.LinkFault.{LinkFault}
-use Rattle.st_end.specs.declared.flight.Open.{Open}
 use Rattle.st_end.specs.State.{EndState}
 use Rattle.st_end.specs.Sending.{Goes}
-use Rattle.st_hub.specs.Begins.{Begins, EndsAt, Exchanged, Finds, FindsSome}
+use Rattle.st_sender.specs.Stops.{blocked_at}
+use Rattle.st_hub.specs.Begins.{Begins, Exchanged, FindsSome}
+use Rattle.st_hub.specs.Causes.{Cause, cause_of}
+use Rattle.st_hub.specs.Told.{Event, waits_of, fails_of}
 use Rattle.st_hub.specs.Turns.{Sent}
-use Rattle.st_hub.specs.Working.{Sealed, Turned, Seals, Gave, WentAt, Went, iv_in, ivs_of, in_hand, Fills, Works, EndsBy, stopped, found}
+use Rattle.st_hub.specs.Working.{Around, Sealed, Turned, Closes, Gave, WentAt, Went, iv_in, ivs_of, told_in, told_of, in_hand, Fills, Works, EndsBy, stopped, found}
 use Rattle.st_hub.specs.declared.workers.WorkEnd.{WorkEnd}
 use Rattle.st_hub.specs.declared.workers.WorkEnd.TheVariants as ends
 use Rattle.st_hub.specs.declared.workers.Begun.{Begun}
@@ -23,11 +26,21 @@ went_more : {L : Type 0} (exchanges : L → List ℕ → Result (List ℕ) LinkF
 went_more exchanges a [] m t b w h = (b, subst (λ z. WentAt exchanges z t.now t.sent b) w h, refl)
 went_more exchanges a (u ∷ us) m t b (n, first, rest) h = (n, first, went_more exchanges n us m t b rest h)
 
-ivs_more : (ts : List Turned) (t : Turned) → ivs_of (ts ++ t ∷ []) ≡ ivs_of ts ++ iv_in t.sent
-ivs_more [] t = append-nil (iv_in t.sent)
-ivs_more (u ∷ us) t = ap (λ zs. iv_in u.sent ++ zs) (ivs_more us t) ∙ sym (append_assoc (iv_in u.sent) (ivs_of us) (iv_in t.sent))
+gave_join : {I T : Type 0} (gives : I → T → I → Type 0) (a : I) (xs ys : List T) (m b : I) → Gave gives a xs m → Gave gives m ys b → Gave gives a (xs ++ ys) b
+gave_join gives a [] ys m b g h = subst (λ z. Gave gives z ys b) g h
+gave_join gives a (x ∷ xs) ys m b (n, first, rest) h = (n, first, gave_join gives n xs ys m b rest h)
 
--- how a turn begins, by what it found
+-- the items of the earlier rounds with those of one more
+each_more : {T : Type 0} (each : Turned → List T) (ts : List Turned) (t : Turned) → flat_map each (ts ++ t ∷ []) ≡ flat_map each ts ++ each t
+each_more each ts t = flat_map-append each ts (t ∷ []) ∙ ap (λ zs. flat_map each ts ++ zs) (append-nil (each t))
+
+ivs_more : (ts : List Turned) (t : Turned) → ivs_of (ts ++ t ∷ []) ≡ ivs_of ts ++ iv_in t.sent
+ivs_more = each_more (λ (t : Turned). iv_in t.sent)
+
+told_more : (ts : List Turned) (t : Turned) → told_of (ts ++ t ∷ []) ≡ told_of ts ++ told_in t.sent
+told_more = each_more (λ (t : Turned). told_in t.sent)
+
+-- whether a `Begun` ends the worker
 abbrev is_end : {A : Type 0} → Begun A → Bool
 is_end (Ends e) = true
 is_end Idle = false
@@ -38,14 +51,19 @@ end_in (Ends e) = e
 end_in Idle = ends.Turns
 end_in (Sends t) = ends.Turns
 
+-- an end sealed the packet of this round at this time
+abbrev SealedAs : (iv : List ℕ) → (now : ℤ) → Sent → Type 0
+SealedAs iv now t = (a b : EndState) × Goes a iv now t.flight t.bytes b × (t.stops ≡ blocked_at b.sending.flights t.flight.sequence)
+
 module _ {K A : Type 0} (reads : K → ℤ → K → Type 0) (c d : K) (hand after : Option (List ℕ)) (stream : ℕ) where
+  -- a round began: the packet, of which its link and its observer are not asked yet, is sealed under the IV in hand
   pub begun_sends : (t : Sent) → Begins {K = K} {A = A} reads c hand stream (Sends t) d after
-      → (now : ℤ) × reads c now d × (iv : List ℕ) × (hand ≡ Some iv) × Seals iv now t.bytes × (after ≡ None)
+      → (now : ℤ) × reads c now d × (iv : List ℕ) × (hand ≡ Some iv) × SealedAs iv now t × (after ≡ None)
   begun_sends t h = ⊎_elim
       (λ (s : (Sends t ≡ Ends ends.Stopped) × (d ≡ c) × (after ≡ hand)). absurd (false≢true (ap (is_end {A = A}) s.0)))
       (λ (f : (now : ℤ) × reads c now d × FindsSome {A = A} hand stream now (Sends t) after).
       let does = f.2.2.finds.1 in
-      (f.0, f.1, does.0, does.1, (f.2.2.pumped.flow.core, t.flight, f.2.1.flow.core, does.2), does.3))
+      (f.0, f.1, does.0, does.1, (f.2.2.pumped.flow.core, f.2.1.flow.core, does.2, does.4), does.3))
       h
 
   pub begun_idle : Begins {K = K} {A = A} reads c hand stream Idle d after → (now : ℤ) × reads c now d × (after ≡ hand)
@@ -54,61 +72,81 @@ module _ {K A : Type 0} (reads : K → ℤ → K → Type 0) (c d : K) (hand aft
       (λ (f : (now : ℤ) × reads c now d × FindsSome {A = A} hand stream now Idle after). (f.0, f.1, f.2.2.finds.1.3))
       h
 
-  pub begun_ends : {I : Type 0} (made most : ℕ) (ivs : I) (end : WorkEnd) → Begins {K = K} {A = A} reads c hand stream (Ends end) d after
-      → EndsBy reads stream made most hand ivs c end ivs d
-  begun_ends made most ivs end h = ⊎_elim
-      (λ (s : (Ends end ≡ Ends ends.Stopped) × (d ≡ c) × (after ≡ hand)). stopped (ap (end_in {A = A}) s.0) refl s.1)
+  pub begun_ends : {I L W : Type 0} (made most : ℕ) (ivs : I) (link : L) (watch : W) (end : WorkEnd) → Begins {K = K} {A = A} reads c hand stream (Ends end) d after
+      → EndsBy reads stream made most hand (record { ivs = ivs; link = link; clock = c; watch = watch }) end (record { ivs = ivs; link = link; clock = d; watch = watch })
+  begun_ends {I} {L} {W} made most ivs link watch end h = ⊎_elim
+      (λ (s : (Ends end ≡ Ends ends.Stopped) × (d ≡ c) × (after ≡ hand)).
+      stopped (ap (end_in {A = A}) s.0) (ap (λ (x : K). let r : Around I L K W = record { ivs = ivs; link = link; clock = x; watch = watch } in r) s.1))
       (λ (f : (now : ℤ) × reads c now d × FindsSome {A = A} hand stream now (Ends end) after). found f.0 f.2.2.pumped.flow.core f.1 f.2.2.finds.0 refl)
       h
 
-module _ {I L K : Type 0} (gives : I → List ℕ → I → Type 0) (exchanges : L → List ℕ → Result (List ℕ) LinkFault → L → Type 0) (reads : K → ℤ → K → Type 0) (i : I) (l : L) (c : K) where
-  pub works_none : Works gives exchanges reads i l c 0 None i l c
-  works_none = record { turns = []; counted = refl; gave = refl; went = refl; read = refl }
+-- the packet of this round, sealed: with what the link gave, and why it failed
+abbrev packet_of : (iv : List ℕ) → Sent → Result (List ℕ) LinkFault → Option Cause → Sealed
+packet_of iv t answer cause = record { iv = iv; flight = t.flight; bytes = t.bytes; stops = t.stops; answer = answer; cause = cause }
+
+module _ {I L K W : Type 0} (gives : I → List ℕ → I → Type 0) (exchanges : L → List ℕ → Result (List ℕ) LinkFault → L → Type 0) (reads : K → ℤ → K → Type 0) (hears : W → Event → W → Type 0) (a : Around I L K W) where
+  abbrev Worked : ℕ → Option (List ℕ) → I → L → K → W → Type 0
+  Worked n hand i l k w = Works gives exchanges reads hears a n hand (record { ivs = i; link = l; clock = k; watch = w })
+
+  pub works_none : Works gives exchanges reads hears a 0 None a
+  works_none = record { turns = []; counted = refl; gave = refl; went = refl; read = refl; told = refl }
+
+  -- the same with other names for the link and the observer
+  pub works_at : (n : ℕ) (hand : Option (List ℕ)) (i : I) (l m : L) (k : K) (v z : W) → m ≡ l → z ≡ v → Worked n hand i l k v → Worked n hand i m k z
+  works_at n hand i l m k v z link watch w = subst (λ (x : L). Worked n hand i x k z) (sym link) (subst (λ (x : W). Worked n hand i l k x) (sym watch) w)
 
   -- an IV more
-  works_take : (n : ℕ) (m b : I) (k : L) (d : K) (iv : List ℕ) → Works gives exchanges reads i l c n None m k d → gives m iv b → Works gives exchanges reads i l c n (Some iv) b k d
-  works_take n m b k d iv w h =
+  works_take : (n : ℕ) (i j : I) (l : L) (k : K) (v : W) (iv : List ℕ) → Worked n None i l k v → gives i iv j → Worked n (Some iv) j l k v
+  works_take n i j l k v iv w h =
       let ivs = ivs_of w.turns in
-      record { turns = w.turns; counted = w.counted; gave = gave_more gives i ivs m iv b (subst (λ (xs : List (List ℕ)). Gave gives i xs m) (append-nil ivs) w.gave) h; went = w.went; read = w.read }
+      record { turns = w.turns; counted = w.counted; gave = gave_more gives a.ivs ivs i iv j (subst (λ (xs : List (List ℕ)). Gave gives a.ivs xs i) (append-nil ivs) w.gave) h; went = w.went; read = w.read; told = w.told }
 
-  pub works_fill : (n : ℕ) (m b : I) (k : L) (d : K) (hand after : Option (List ℕ)) → Works gives exchanges reads i l c n hand m k d → Fills gives m hand b after → Works gives exchanges reads i l c n after b k d
-  works_fill n m b k d hand after w (iv, has, way) =
-      subst (λ (h : Option (List ℕ)). Works gives exchanges reads i l c n h b k d) (sym has) (⊎_elim
-      (λ (kept : (hand ≡ Some iv) × (b ≡ m)). subst (λ (x : I). Works gives exchanges reads i l c n (Some iv) x k d) (sym kept.1) (subst (λ (h : Option (List ℕ)). Works gives exchanges reads i l c n h m k d) kept.0 w))
-      (λ (took : (hand ≡ None) × gives m iv b). works_take n m b k d iv (subst (λ (h : Option (List ℕ)). Works gives exchanges reads i l c n h m k d) took.0 w) took.1)
+  pub works_fill : (n : ℕ) (i j : I) (l : L) (k : K) (v : W) (hand after : Option (List ℕ)) → Worked n hand i l k v → Fills gives i hand j after → Worked n after j l k v
+  works_fill n i j l k v hand after w (iv, has, way) =
+      subst (λ (h : Option (List ℕ)). Worked n h j l k v) (sym has) (⊎_elim
+      (λ (kept : (hand ≡ Some iv) × (j ≡ i)). subst (λ (x : I). Worked n (Some iv) x l k v) (sym kept.1) (subst (λ (h : Option (List ℕ)). Worked n h i l k v) kept.0 w))
+      (λ (took : (hand ≡ None) × gives i iv j). works_take n i j l k v iv (subst (λ (h : Option (List ℕ)). Worked n h i l k v) took.0 w) took.1)
       way)
 
-  -- a turn more, in which a packet was sent
-  works_send : (n : ℕ) (m : I) (k b : L) (d e : K) (now : ℤ) (x : Sealed) → Works gives exchanges reads i l c n (Some x.iv) m k d → Seals x.iv now x.bytes → exchanges k x.bytes x.answer b → reads d now e → Works gives exchanges reads i l c (n + 1) None m b e
-  works_send n m k b d e now x w s h r =
+  -- one more round, in which a packet was sent
+  works_send : (n : ℕ) (i : I) (l m : L) (k d : K) (v z : W) (now : ℤ) (x : Sealed) → Worked n (Some x.iv) i l k v → WentAt exchanges l now (Some x) m → reads k now d → Gave hears v (told_in (Some x)) z → Worked (n + 1) None i m d z
+  works_send n i l m k d v z now x w s r g =
       let t : Turned = record { now = now; sent = Some x } in
       let same : ivs_of w.turns ++ x.iv ∷ [] ≡ ivs_of (w.turns ++ t ∷ []) ++ [] = sym (append-nil _ ∙ ivs_more w.turns t) in
       record {
         turns = w.turns ++ t ∷ [];
         counted = length-append w.turns (t ∷ []) ∙ ap (λ z. z + 1) w.counted;
-        gave = subst (λ (xs : List (List ℕ)). Gave gives i xs m) same w.gave;
-        went = went_more exchanges l w.turns k t b w.went (s, h);
-        read = subst (λ (xs : List ℤ). Gave reads c xs e) (sym (map-append (λ (u : Turned). u.now) w.turns (t ∷ []))) (gave_more reads c _ d now e w.read r);
+        gave = subst (λ (xs : List (List ℕ)). Gave gives a.ivs xs i) same w.gave;
+        went = went_more exchanges a.link w.turns l t m w.went s;
+        read = subst (λ (xs : List ℤ). Gave reads a.clock xs d) (sym (map-append (λ (u : Turned). u.now) w.turns (t ∷ []))) (gave_more reads a.clock _ k now d w.read r);
+        told = subst (λ (xs : List Event). Gave hears a.watch xs z) (sym (told_more w.turns t)) (gave_join hears a.watch _ _ v z w.told g);
       }
 
-  -- a turn more, in which none was sent
-  pub works_keep : (n : ℕ) (m : I) (k : L) (d e : K) (hand after : Option (List ℕ)) → Works gives exchanges reads i l c n hand m k d
-      → ((now : ℤ) × reads d now e × (after ≡ hand)) → Works gives exchanges reads i l c (n + 1) after m k e
-  works_keep n m k d e hand after w (now, r, same) =
+  -- one more round, in which no packet was sent
+  pub works_keep : (n : ℕ) (i : I) (l : L) (k d : K) (v : W) (hand after : Option (List ℕ)) → Worked n hand i l k v
+      → ((now : ℤ) × reads k now d × (after ≡ hand)) → Worked (n + 1) after i l d v
+  works_keep n i l k d v hand after w (now, r, same) =
       let t : Turned = record { now = now; sent = None } in
       let ivs : ivs_of (w.turns ++ t ∷ []) ≡ ivs_of w.turns = ivs_more w.turns t ∙ append-nil _ in
-      subst (λ (h : Option (List ℕ)). Works gives exchanges reads i l c (n + 1) h m k e) (sym same) (record {
+      let told : told_of (w.turns ++ t ∷ []) ≡ told_of w.turns = told_more w.turns t ∙ append-nil _ in
+      subst (λ (h : Option (List ℕ)). Worked (n + 1) h i l d v) (sym same) (record {
         turns = w.turns ++ t ∷ [];
         counted = length-append w.turns (t ∷ []) ∙ ap (λ z. z + 1) w.counted;
-        gave = subst (λ (xs : List (List ℕ)). Gave gives i (xs ++ in_hand hand) m) (sym ivs) w.gave;
-        went = went_more exchanges l w.turns k t k w.went refl;
-        read = subst (λ (xs : List ℤ). Gave reads c xs e) (sym (map-append (λ (u : Turned). u.now) w.turns (t ∷ []))) (gave_more reads c _ d now e w.read r);
+        gave = subst (λ (xs : List (List ℕ)). Gave gives a.ivs (xs ++ in_hand hand) i) (sym ivs) w.gave;
+        went = went_more exchanges a.link w.turns l t l w.went refl;
+        read = subst (λ (xs : List ℤ). Gave reads a.clock xs d) (sym (map-append (λ (u : Turned). u.now) w.turns (t ∷ []))) (gave_more reads a.clock _ k now d w.read r);
+        told = subst (λ (xs : List Event). Gave hears a.watch xs v) (sym told) w.told;
       })
 
-  pub works_use : (n : ℕ) (m : I) (k b : L) (d e : K) (hand after : Option (List ℕ)) (bytes : List ℕ) (outcome : Option (List ℕ)) → Works gives exchanges reads i l c n hand m k d
-      → ((now : ℤ) × reads d now e × (iv : List ℕ) × (hand ≡ Some iv) × Seals iv now bytes × (after ≡ None))
-      → Exchanged exchanges k bytes outcome b → Works gives exchanges reads i l c (n + 1) after m b e
-  works_use n m k b d e hand after bytes outcome w (now, r, iv, has, seals, spent) (answer, over, seen) =
-      let x : Sealed = record { iv = iv; bytes = bytes; answer = answer } in
-      subst (λ (h : Option (List ℕ)). Works gives exchanges reads i l c (n + 1) h m b e) (sym spent)
-      (works_send n m k b d e now x (subst (λ (h : Option (List ℕ)). Works gives exchanges reads i l c n h m k d) has w) seals over r)
+  -- the packet of a round was exchanged and closed, and this was reported to the observer
+  pub works_use : (n : ℕ) (i : I) (l m : L) (k d : K) (v u z : W) (hand after : Option (List ℕ)) (t : Sent) (outcome : Option (List ℕ)) (cause : Option Cause) → Worked n hand i l k v
+      → ((now : ℤ) × reads k now d × (iv : List ℕ) × (hand ≡ Some iv) × SealedAs iv now t × (after ≡ None))
+      → Exchanged exchanges l t.bytes outcome m
+      → ((e : EndState) × (cause ≡ cause_of e t.flight outcome))
+      → Gave hears v (waits_of t.stops) u → Gave hears u (fails_of cause) z
+      → Worked (n + 1) after i m d z
+  works_use n i l m k d v u z hand after t outcome cause w (now, r, iv, has, seals, spent) (answer, over, seen) (e, is) waits fails =
+      let x = packet_of iv t answer cause in
+      let closes : Closes x = (e, is ∙ ap (cause_of e t.flight) seen) in
+      subst (λ (h : Option (List ℕ)). Worked (n + 1) h i m d z) (sym spent)
+      (works_send n i l m k d v z now x (subst (λ (h : Option (List ℕ)). Worked n h i l k v) has w) (seals, over, closes) r (gave_join hears v _ _ u z waits fails))

@@ -1,9 +1,8 @@
--- What a worker found to do, and what came of its exchange.
+-- What a worker found to do, and the outcome of its exchange.
 use Rattle.std.specs.Prelude.{◌≡◌, ◌⊎◌, ℕ, ℤ, true, false, List, Option, Some, None, Result, Ok, Err}
 use Rattle.st_end.specs.State.{EndState}
 use Rattle.st_end.specs.Totals.{settled}
 use Rattle.st_desk.specs.declared.link.LinkFault.{LinkFault}
-use Rattle.st_end.specs.Sending.{Goes}
 use Rattle.st_hub.specs.Steps.{Flows}
 use Rattle.st_hub.specs.Hub.{Hub, with_core}
 use Rattle.st_hub.specs.Stalls.{Does, IsStalled}
@@ -14,7 +13,7 @@ use Rattle.st_hub.specs.declared.workers.WorkEnd.TheVariants as ends
 use Rattle.st_hub.specs.declared.workers.Begun.{Begun}
 use Rattle.st_hub.specs.declared.workers.Begun.TheVariants.{Sends, Idle, Ends}
 
--- the connection works, and the stream's close is not fulfilled: a worker goes on
+-- the connection works, and the stream's close is not fulfilled: a worker continues
 pub record GoesOn (e : EndState) (stream : ℕ) : Type 0 where
   pub works : e.sending.failed ≡ false
   pub is_open : settled e stream ≡ false
@@ -30,8 +29,7 @@ EndsAt a stream ends.Stopped = ⊥
 EndsAt a stream ends.IvFault = ⊥
 EndsAt a stream ends.Turns = ⊥
 
--- what a worker finds at an end. Where it goes on it does what a step does. Where it sends nothing the end and the hand are as they
--- were
+-- what a worker finds at an end. If it continues it does what a step does. If it sends nothing the end and the hand are as they were
 abbrev pub FindsAt : {A : Type 0} → EndState → (hand : Option (List ℕ)) → (stream : ℕ) → (now : ℤ) → Begun A → EndState → (after : Option (List ℕ)) → Type 0
 FindsAt {A} a hand stream now (Sends t) b after = GoesOn a stream × Does {A = A} a hand stream now (step.Sends t) b after
 FindsAt {A} a hand stream now Idle b after = GoesOn a stream × Does {A = A} a hand stream now step.Idle b after
@@ -54,7 +52,7 @@ HadMemory (Ends ends.Stalled) = Unit {0}
 HadMemory Idle = Unit {0}
 HadMemory (Sends t) = Unit {0}
 
--- what a worker finds at a hub, once each ring was tried. Beside what was pumped, the hub changes as its end does
+-- what a worker finds at a hub, once each ring was tried. Apart from what was pumped, the hub changes as its end does
 pub record Finds {A : Type 0} (a : Hub A) (hand : Option (List ℕ)) (stream : ℕ) (now : ℤ) (found : Begun A) (b : Hub A) (after : Option (List ℕ)) : Type 0 where
   pub pumped : Hub A
   pub moves : Moves a pumped
@@ -66,18 +64,17 @@ pub record Finds {A : Type 0} (a : Hub A) (hand : Option (List ℕ)) (stream : �
 abbrev pub FindsSome : {A : Type 0} → (hand : Option (List ℕ)) → (stream : ℕ) → (now : ℤ) → Begun A → (after : Option (List ℕ)) → Type 0
 FindsSome {A} hand stream now found after = (a b : Hub A) × Finds a hand stream now found b after
 
--- how a turn begins: somebody asked to stop, and nothing was touched; or the worker read its clock once, and found this then at the
--- hub
+-- how a round begins: somebody asked to stop, and nothing was touched; or the worker read its clock once, and found this then at the hub
 abbrev pub Begins : {K A : Type 0} → (reads : K → ℤ → K → Type 0) → K → (hand : Option (List ℕ)) → (stream : ℕ) → Begun A → K → (after : Option (List ℕ)) → Type 0
 Begins {K} {A} reads clock hand stream found clock_after after =
     ((found ≡ Ends ends.Stopped) × (clock_after ≡ clock) × (after ≡ hand))
     ⊎ ((now : ℤ) × reads clock now clock_after × FindsSome {A = A} hand stream now found after)
 
--- the bytes that came back, where any did
+-- the bytes of an answer, if there is one
 abbrev pub bytes_back : Result (List ℕ) LinkFault → Option (List ℕ)
 bytes_back (Ok answer) = Some answer
 bytes_back (Err fault) = None
 
--- the bytes were sent over a link by its rule, and this is what came back
+-- the bytes were sent over a link by its rule, and this is the link's outcome
 abbrev pub Exchanged : {L : Type 0} → (L → List ℕ → Result (List ℕ) LinkFault → L → Type 0) → L → (bytes : List ℕ) → Option (List ℕ) → L → Type 0
 Exchanged rule old bytes outcome new = (answer : Result (List ℕ) LinkFault) × rule old bytes answer new × (outcome ≡ bytes_back answer)

@@ -1,4 +1,4 @@
--- What a worker tells of an exchange that brought no Fulfill.
+-- What a worker reports of an exchange that brought no Fulfill.
 use Rattle.std.specs.Prelude.{ℕ, Bool, true, false, List}
 use Rattle.std.specs.declared.option.Option.{Option}
 use Rattle.std.specs.declared.option.Option.TheVariants.{None, Some}
@@ -13,21 +13,21 @@ pub record Cause : Type 0 where
   pub failed : Failed
   pub limit : ℕ
 
--- of a turn that failed for this, or did not
+-- of an exchange that failed for this, or did not
 abbrev pub cause_with : (limit : ℕ) → Option Failed → Option Cause
 cause_with limit None = None
 cause_with limit (Some failed) = Some (record { failed = failed; limit = limit })
 
--- only an open turn fails
+-- only a `Turn` that is open fails
 abbrev pub cause_if : Bool → EndState → Open → (outcome : Option (List ℕ)) → Option Cause
 cause_if true e flight outcome = cause_with (ended e flight outcome).sending.packet_limit (failure flight outcome)
 cause_if false e flight outcome = None
 
--- what is told of a turn that ends with this outcome
+-- what is reported when a `Turn` ends with this outcome
 abbrev pub cause_of : EndState → Open → (outcome : Option (List ℕ)) → Option Cause
 cause_of e flight outcome = cause_if (is_open e flight) e flight outcome
 
--- an end after a turn with this outcome: only an open turn changes it
+-- an end after a `Turn` with this outcome: only one that is open changes it
 abbrev pub end_if : Bool → EndState → Open → (outcome : Option (List ℕ)) → EndState
 end_if true e flight outcome = ended e flight outcome
 end_if false e flight outcome = e

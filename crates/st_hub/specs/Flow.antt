@@ -1,4 +1,4 @@
--- A hub's end beside its rings, and what ties them.
+-- A hub's end with its rings, and what ties them.
 use Rattle.std.specs.Prelude.{◌≡◌, ℕ, ◌+◌, ◌*◌, ◌<◌, Bool, true, false, not, ◌&&◌, List, [], ◌∷◌, ◌++◌, length, map, slice_get, slice_index_or, slice_set}
 use Rattle.std.specs.declared.option.Option.{Option}
 use Rattle.std.specs.declared.option.Option.TheVariants.{None, Some}
@@ -45,7 +45,7 @@ module _ {A : Type 0} where
   abbrev pub outlet_at : List (Outlet A) → ℕ → Outlet A
   outlet_at xs s = slice_index_or xs s no_outlet
 
-  -- what was taken from the eight rings of the stream at a place
+  -- what was removed from the eight rings of the stream at a place
   abbrev pub rings_of : List (Inlet A) → (s j : ℕ) → List (Item A)
   rings_of xs s j = (inlet_at xs (8 * s + j)).taken
 
@@ -69,14 +69,14 @@ module _ {A : Type 0} where
   has_end (item_kinds.Chunk v ∷ xs) = has_end xs
   has_end (item_kinds.End ∷ xs) = true
 
-  -- an end or an abort is among them: the last that a reader is told
+  -- an end or an abort is among them: the last that a reader receives
   abbrev pub has_last : List (Delivery A) → Bool
   has_last [] = false
   has_last (delivery_kinds.Bytes v ∷ xs) = has_last xs
   has_last (delivery_kinds.End ∷ xs) = true
   has_last (delivery_kinds.Aborted code ∷ xs) = true
 
-  -- the end of a writer that was handed out was not taken yet
+  -- the writer was handed out, and its end was not removed from the ring yet
   abbrev pub is_writing : Inlet A → Bool
   is_writing x = x.out && not (has_end x.taken)
 
@@ -86,7 +86,7 @@ abbrev pub unacked_of : Option Outgoing → FinMap nat_cmp ℕ
 unacked_of None = empty
 unacked_of (Some x) = x.unacked
 
--- so many bytes were accepted, and each that is kept is that of its offset
+-- the number of accepted bytes is the length of the list, and each that is kept is that of its offset
 pub record IsSent (bytes : List ℕ) (x : Option Outgoing) : Type 0 where
   pub accepted : accepted_of x ≡ length bytes
   pub kept : (q b : ℕ) → get (unacked_of x) q ≡ Some b → slice_get bytes q ≡ Some b

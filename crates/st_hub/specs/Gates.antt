@@ -16,7 +16,7 @@ is_temporary_answer (Ok (Fulfilled fulfillment payload)) = false
 is_temporary_answer (Ok (Rejected code by message payload)) = is_temporary_code code
 is_temporary_answer (Err e) = true
 
--- no answer came, or one that cannot be read, or a Reject of class T
+-- there is no answer, or one that cannot be read, or a Reject of class T
 abbrev pub is_temporary : Option (List ℕ) → Bool
 is_temporary None = true
 is_temporary (Some bytes) = is_temporary_answer (answer_at bytes)

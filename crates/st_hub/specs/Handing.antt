@@ -42,8 +42,8 @@ module _ {A : Type 0} where
   abbrev pub IsTaken : Flow A → ℕ → Type 0
   IsTaken f s = has_stream f.core (s + 1) ≡ true → (outlet_at f.outlets s).out ≡ true
 
-  -- of a stream's first writer and its reader both were handed out or neither, and only where it is open; where it is one
-  -- of this end's own they were
+  -- of a stream's first writer and its reader both were handed out or neither, and only if it is open; if it is one of this end's own they
+  -- were
   pub record IsPaired (f : Flow A) (s : ℕ) : Type 0 where
     pub both : (inlet_at f.inlets (8 * s)).out ≡ (outlet_at f.outlets s).out
     pub is_open : (outlet_at f.outlets s).out ≡ true → has_stream f.core (s + 1) ≡ true
@@ -77,7 +77,7 @@ module _ {A : Type 0} where
   abbrev pub NoneOut : List (Inlet A) → (place : ℕ) → Type 0
   NoneOut xs s = (j : ℕ) → j < 8 → (inlet_at xs (8 * s + j)).out ≡ false
 
-  -- a writer was handed out, and the end of each that was is taken: the stream was closed with the last of them
+  -- a writer was handed out, and the end of each that was is removed from its ring: the stream was closed with the last of them
   abbrev pub IsTooLate : List (Inlet A) → (place : ℕ) → Type 0
   IsTooLate xs s = SomeOut xs s × NoneWrites xs s
 
@@ -115,7 +115,7 @@ module _ {A : Type 0} where
     pub fresh : IsFreshWriter (8 * (number - 1) + j) writer
     pub after : b ≡ record a { inlets = writer_out a.inlets (8 * (number - 1) + j) }
 
-  -- why none is given: the first cause that stands
+  -- why none is given: the first cause that applies
   abbrev pub RefusesWriter : Flow A → (number : ℕ) → HubError → Type 0
   RefusesWriter f k NoStream = ¬ (IsStream f.core k)
   RefusesWriter f k EightWriters = IsStream f.core k × AllOut f.inlets (k - 1)

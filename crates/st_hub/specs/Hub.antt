@@ -19,10 +19,10 @@ pub record IsNew (e : EndState) : Type 0 where
 
 pub record Hub (A : Type 0) : Type 0 where
   pub flow : Flow A
-  pub known : List (List (Item A))  -- by ring number: what is known to stand in a writer's ring, oldest first
+  pub known : List (List (Item A))  -- by ring number: what is known to be in a writer's ring, oldest first
   pub room : List ℕ  -- by place: for how many items a reader's ring is known to have room
   pub out : ℕ  -- how many shares are out
-  pub kept : ℕ  -- what the shares that came back were credited
+  pub kept : ℕ  -- what the returned shares were credited
 
 -- an end's totals, as a gauge shows them
 abbrev pub shown_of : EndState → shown.Totals

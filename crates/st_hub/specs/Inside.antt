@@ -32,7 +32,7 @@ module _ {A : Type 0} where
   abbrev pub beside_of : EndState → List (WriteLane A) → List (ReadLane A) → Beside A
   beside_of core writes reads = record { flow = flow_of core writes reads; known = map known_of writes; room = map room_of reads }
 
-  -- what was taken of a ring, and what is known to stand in it
+  -- what was removed from a ring, and what is known to be in it
   abbrev pub taken_at : List (WriteLane A) → (ring : ℕ) → List (Item A)
   taken_at xs r = (inlet_at (map inlet_of xs) r).taken
 
@@ -53,7 +53,7 @@ module _ {A : Type 0} where
   abbrev pub Fill : List (ReadLane A) → List (ReadLane A) → Type 0
   Fill xs ys = (s : ℕ) → Fuller (put_at xs s) (free_at xs s) (put_at ys s) (free_at ys s)
 
-  -- the hub's ring of the number k lies at k, and its lane knows whether its end was taken, or its last was put there
+  -- the hub's ring of the number k lies at k, and its lane knows whether its end was removed from it, or its last was put there
   pub record IsLane (ring : ℕ → RingId A) (k : ℕ) (x : WriteLane A) : Type 0 where
     pub number : x.end.ring ≡ k
     pub ours : IsOurs ring x
@@ -70,7 +70,7 @@ module _ {A : Type 0} where
   abbrev pub AllReadLanes : (ℕ → RingId A) → List (ReadLane A) → Type 0
   AllReadLanes ring xs = (length xs ≡ 64) × ((k : ℕ) (x : ReadLane A) → slice_get xs k ≡ Some x → IsReadLane ring k x)
 
--- the hub's end and rings fit: the rings are the hub's, and what went through them is the end's
+-- the hub's end and rings fit: the rings are the hub's, and what passed through them is the end's
 pub record IsSound {A : Type 0} (write_ring read_ring : ℕ → RingId A) (core : EndState) (writes : List (WriteLane A)) (reads : List (ReadLane A)) : Type 0 where
   pub lanes : AllLanes write_ring writes
   pub read_lanes : AllReadLanes read_ring reads

@@ -11,6 +11,7 @@ pub mod Turns
 pub mod Stalls
 pub mod Gates
 pub mod Causes
+pub mod Told
 pub mod Seen
 pub mod Begins
 pub mod Working

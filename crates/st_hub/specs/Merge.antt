@@ -1,9 +1,9 @@
--- What was taken from the eight rings of one stream, as one list.
+-- What was removed from the eight rings of one stream, as one list.
 use Rattle.std.specs.Prelude.{◌≡◌, ℕ, ◌<◌, List, [], ◌∷◌, ◌++◌, nat_eq, if◌then◌else◌}
 use Rattle.std.specs.List.{AllByRecursion}
 use Rattle.st_queues.specs.declared.items.Item.{Item}
 
--- an item, with the number of the writer among the stream's eight that it came from
+-- an item, with the number of its writer among the stream's eight
 abbrev pub Took : Type 0 → Type 0
 Took A = ℕ × Item A
 
@@ -34,12 +34,12 @@ module _ {A : Type 0} where
   abbrev pub without_first : (ℕ → List (Item A)) → ℕ → ℕ → List (Item A)
   without_first rings j i = if nat_eq j i then rest (rings i) else rings i
 
-  -- the merge that a list of writers' numbers tells: each takes the first item that its ring still has
+  -- the merge by a list of writers' numbers: each takes the first item that its ring still has
   abbrev pub merge : List ℕ → (ℕ → List (Item A)) → List (Item A)
   merge [] rings = []
   merge (j ∷ js) rings = first (rings j) ++ merge js (without_first rings j)
 
--- each ring's items stand there in their own order and whole, and no others do
+-- the merge has all items of each ring, in their order, and no others
 pub record MergeOf {A : Type 0} (log : List (Took A)) (rings : ℕ → List (Item A)) : Type 0 where
   pub numbers : AllByRecursion IsWriter log
   pub each : (j : ℕ) → j < 8 → of_writer j log ≡ rings j

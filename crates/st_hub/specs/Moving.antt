@@ -1,4 +1,4 @@
--- What one try to move an item came to.
+-- The result of one try to move an item.
 use Rattle.std.specs.Prelude.{◌≡◌, ◌⊎◌, ℕ, Bool, true, false, List, [], ◌∷◌, ◌++◌, Vec, Ok}
 use Rattle.st_receiver.specs.Reading as reading
 use Rattle.st_queues.specs.declared.items.Item.{Item}
@@ -18,7 +18,7 @@ ClosesIf true a k b = close a k ≡ (Ok tt, b)
 ClosesIf false a k b = b ≡ a
 
 module _ {A : Type 0} where
-  -- the first item of a ring, from which t was taken, and the end
+  -- the first item of a ring, from which t was removed, and the end
   abbrev pub AfterTake : (k : ℕ) (last : Bool) → EndState → List (Item A) → Pumped → EndState → List (Item A) → Type 0
   AfterTake k last a t Moved b u =
       ((v : Vec ℕ A) × (write a k v.items ≡ (Ok tt, b)) × (u ≡ t ++ item.Chunk v ∷ []))

@@ -1,4 +1,4 @@
--- When nothing goes any more, and what one step of a worker comes to.
+-- When nothing can be sent any more, and the result of one step of a worker.
 use Rattle.std.specs.Prelude.{◌≡◌, ℕ, ℤ, true, List}
 use Rattle.std.specs.declared.option.Option.{Option}
 use Rattle.std.specs.declared.option.Option.TheVariants.{None, Some}
@@ -16,8 +16,8 @@ pub record IsStalled (e : EndState) (stream : ℕ) : Type 0 where
   pub alone : in_flight e ≡ 0
   pub waits : waits e stream ≡ true
 
--- a Prepare is sent under the IV in hand, which is in hand no more, and the turn tells of its Blocked frame; else the end and the hand are as they were, and
--- `Stalled` is exactly where the end is
+-- a Prepare is sent under the IV in hand, which is used up, and the `Turn` has the limit of its Blocked frame; otherwise the end and the
+-- hand are as they were, and `Stalled` is returned exactly if the end is stalled
 abbrev pub Does : {A : Type 0} → EndState → (hand : Option (List ℕ)) → (stream : ℕ) → (now : ℤ) → Step A → EndState → (after : Option (List ℕ)) → Type 0
 Does a hand stream now (Sends t) b after = (iv : List ℕ) × (hand ≡ Some iv) × Goes a iv now t.flight t.bytes b × (after ≡ None) × (t.stops ≡ blocked_at b.sending.flights t.flight.sequence)
 Does a hand stream now Idle b after = GoesNone a × (¬ (IsStalled a stream)) × (b ≡ a) × (after ≡ hand)

@@ -27,13 +27,13 @@ pub record Takes {A : Type 0} (s j : ℕ) (a b : Flow A) : Type 0 where
   pub inlets : b.inlets ≡ with_item a.inlets (8 * s + j) (item.Chunk chunk)
   pub outlets : b.outlets ≡ a.outlets
 
--- a writer's end is taken. The stream is closed where no writer of it is left then
+-- a writer's end is removed from its ring. If no writer of the stream is left then, the stream is closed
 pub record Ends {A : Type 0} (s j : ℕ) (a b : Flow A) : Type 0 where
   pub inlets : b.inlets ≡ with_item a.inlets (8 * s + j) item.End
   pub closes : (NoneWrites b.inlets s × (close a.core (s + 1) ≡ (Ok tt, b.core))) ⊎ (SomeWrites b.inlets s × (b.core ≡ a.core))
   pub outlets : b.outlets ≡ a.outlets
 
--- what a read gave is delivered to the reader, after neither end nor abort; and where it gave nothing, nothing is
+-- what a read gave is delivered to the reader, after neither end nor abort; if it gave nothing, nothing is
 pub record Gives {A : Type 0} (s : ℕ) (a b : Flow A) : Type 0 where
   pub delivery : Delivery A
   pub goes_on : has_last (outlet_at a.outlets s).put ≡ false
@@ -53,7 +53,7 @@ pub data StepAt {A : Type 0} (s : ℕ) (a b : Flow A) : Type 0 where
   gives : Gives s a b → StepAt s a b
   gives_none : GivesNone s a b → StepAt s a b
 
--- so many steps, one after another
+-- n steps, one after another
 abbrev pub Steps : {A : Type 0} → ℕ → Flow A → Flow A → Type 0
 Steps zero a b = b ≡ a
 Steps {A} (suc n) a b = (c : Flow A) × (s : ℕ) × Steps n a c × (s < 64) × StepAt s c b
@@ -61,6 +61,6 @@ Steps {A} (suc n) a b = (c : Flow A) × (s : ℕ) × Steps n a c × (s < 64) × 
 abbrev pub Flows : {A : Type 0} → Flow A → Flow A → Type 0
 Flows a b = (n : ℕ) × Steps n a b
 
--- a merge of what was taken before goes on in what was taken since
+-- a merge of what was removed before is the beginning of one of what is removed by now
 abbrev pub Continues : {A : Type 0} → Flow A → Flow A → Type 0
 Continues {A} a b = (s : ℕ) (log : List (Took A)) → s < 64 → TiedBy a s log → (more : List (Took A)) × TiedBy b s (log ++ more)

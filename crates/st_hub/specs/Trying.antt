@@ -14,10 +14,10 @@ use Rattle.st_hub.specs.declared.pumping.Pumped.TheVariants.{Moved, Nothing, Stu
 use Rattle.st_hub.specs.Flow.{Flow, inlet_at, outlet_at, has_end, has_last}
 use Rattle.st_hub.specs.Steps.{Flows, read_limit}
 
--- a hub's end beside its rings, and what its ends of the rings know
+-- a hub's end with its rings, and what its ends of the rings know
 pub record Beside (A : Type 0) : Type 0 where
   pub flow : Flow A
-  pub known : List (List (Item A))  -- by ring number: what is known to stand in a writer's ring, oldest first
+  pub known : List (List (Item A))  -- by ring number: what is known to be in a writer's ring, oldest first
   pub room : List ℕ  -- by place: for how many items a reader's ring is known to have room
 
 -- no memory was refused
@@ -37,20 +37,20 @@ module _ {A : Type 0} where
   abbrev pub known_at : List (List (Item A)) → (ring : ℕ) → List (Item A)
   known_at ks r = slice_index_or ks r []
 
-  -- the end's answer to the item is an error. Want of memory is none of those that are defined
+  -- the end refuses the item with an error that is defined. Out of memory is not among these
   abbrev pub Refuses : EndState → (number : ℕ) → Item A → Type 0
   Refuses e k (item.Chunk v) = (why : EndError) × (write e k v.items ≡ (Err why, e))
   Refuses e k item.End = (why : EndError) × (close e k ≡ (Err why, e))
 
   -- ---- one try
 
-  -- what was taken of a ring, and what is known of it in all, only grow
+  -- what was removed from a ring, and what is known of it in all, only grow
   pub record Longer (ts ks us ls : List (Item A)) : Type 0 where
     pub taken : IsPrefix ts us
     pub whole : IsPrefix (ts ++ ks) (us ++ ls)
 
-  -- a try to take from a ring of which ts was taken: an item more is, or the writer's end was taken already, or nothing is
-  -- known to stand there, or the end refuses the first item
+  -- a try to remove an item from a ring of which ts was removed: one item more is, or the writer's end was removed already, or nothing is
+  -- known to be there, or the end refuses the first item
   abbrev pub Stops : (number : ℕ) → Pumped → (ts : List (Item A)) → EndState → (us ls : List (Item A)) → Type 0
   Stops k Moved ts b us ls = length ts + 1 ≤ length us
   Stops k Nothing ts b us ls = ⊥
@@ -72,8 +72,8 @@ module _ {A : Type 0} where
 
   -- ---- all tries of a ring
 
-  -- of a writer's ring ts was taken and ks was known to stand in it, and now us is taken: all of these, or the writer's end, or
-  -- all before an item that the end refuses, or 64 items more
+  -- of a writer's ring ts was removed and ks was known to be in it, and by now us is removed: all of these, or the writer's end, or all
+  -- before an item that the end refuses, or 64 items more
   pub data Found (e : EndState) (k : ℕ) (ts ks us : List (Item A)) : Type 0 where
     all : IsPrefix (ts ++ ks) us → Found e k ts ks us
     ended : has_end us ≡ true → Found e k ts ks us

@@ -1,4 +1,4 @@
--- A turn: a Prepare that goes, and what comes back to it.
+-- A `Turn`: a Prepare that is sent, and its answer.
 use Rattle.std.specs.Prelude.{◌≡◌, ℕ, ◌+◌, ℤ, List, Option, nat_eq, if◌then◌else◌, Result, Ok, Err}
 use Rattle.st_ilp.specs.Moments.{IsMoment}
 use Rattle.st_ilp.specs.Packets.{PreparePacket}
@@ -14,7 +14,7 @@ use Rattle.st_desk.specs.declared.link.LinkFault.TheVariants.{NoMemory}
 pub record Sent : Type 0 where
   pub flight : Open
   pub bytes : List ℕ  -- of the Prepare
-  pub stops : Option Blocked  -- the limit of the peer that its Blocked frame tells, where it carries one
+  pub stops : Option Blocked  -- the limit of the peer that its Blocked frame reports, if it carries one
 
 -- the bytes spell a Prepare with this expiry (RFC 0027)
 pub record ExpiresAt (bytes : List ℕ) (millis : ℤ) : Type 0 where
@@ -23,15 +23,15 @@ pub record ExpiresAt (bytes : List ℕ) (millis : ℤ) : Type 0 where
   pub spelled : bytes ≡ prepare_text prepare
   pub expiry : prepare.expiry ≡ millis
 
--- the moment is the expiry of the Prepare that the bytes spell, where that is a moment
+-- the moment is the expiry of the Prepare that the bytes spell, if that is a moment
 abbrev pub IsExpiryOf : (bytes : List ℕ) → (moment : ℤ) → Type 0
 IsExpiryOf bytes moment = (millis : ℤ) × ExpiresAt bytes millis × (IsMoment millis → moment ≡ millis)
 
--- what a Prepare credited: its amount where it was fulfilled, else nothing
+-- what a Prepare credited: its amount if it was fulfilled, otherwise nothing
 abbrev pub credited_by : Received → ℕ
 credited_by r = if nat_eq r.reason 0 then r.amount else 0
 
--- what an exchange over a link to a hub comes to: an end answered the bytes at some moment, and what it credited was booked
+-- the result of an exchange over a link to a hub: an end answered the bytes at some moment, and what it credited was booked
 -- with a share; or there was no memory for that, and nothing was booked
 abbrev pub AnswersOver : (booked : ℕ) → (bytes : List ℕ) → Result (List ℕ) LinkFault → (after : ℕ) → Type 0
 AnswersOver booked bytes (Ok answer) after =

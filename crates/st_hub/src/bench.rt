@@ -25,9 +25,9 @@ pub struct Bench<N: HubName<A>, A: Allocator + Copy> {
     /// The pause between two tries of all workers, while the last exchange failed for now.
     pub pause: Duration,
     pub(crate) gate: Mutex<Gate>,
-    // Signalled where a worker may find something to do.
+    // Signalled when a worker may find something to do.
     pub(crate) woken: Condvar,
-    // Signalled where the end took something out of a ring.
+    // Signalled when the end took something out of a ring.
     pub(crate) room: Condvar,
     // How many workers found nothing to do and are about to sleep, or sleep.
     pub(crate) idle: AtomicU64,
@@ -70,8 +70,8 @@ impl<N: HubName<A>, A: Allocator + Copy> Bench<N, A> {
         let _held = self.hub.lock(rt);
     }
 
-    /// Wakes one worker that sleeps, where there is one. A thread calls it after it wrote to a ring or read from one.
-    /// It waits for the hub's lock where a worker sleeps.
+    /// Wakes one worker that sleeps, if there is one. A thread calls it after it wrote to a ring or read from one. It
+    /// waits for the hub's lock if a worker sleeps.
     ///
     /// It adds 0 to the count of idle workers, and does not just read it: a plain read could come before the caller's
     /// write to the ring, also on x86-64. Of this addition and that of a worker which counts itself idle one is the
@@ -93,8 +93,9 @@ impl<N: HubName<A>, A: Allocator + Copy> Bench<N, A> {
 
     /// Waits until there may be room in a ring that was full, for at most `longest`. `known` is what the end had accepted
     /// before the ring was found full, as an earlier call returned it, or any lesser number. It moves what can be moved by
-    /// itself, and sleeps only where the end accepted nothing since: else room was made after the ring was found full, and
-    /// nobody would wake this thread again. Returns what the end has accepted. It may return where there is no room.
+    /// itself, and sleeps only if the end accepted nothing since: otherwise room was made after the ring was found full,
+    /// and nobody would wake this thread again. Returns what the end has accepted. It may return although there is no
+    /// room.
     pub fn await_room<R: Wait + Clock>(&self, rt: &R, longest: Duration, known: u64) -> u64 {
         let mut state = self.hub.lock(rt);
         let pumped = state.pump();

@@ -16,7 +16,7 @@ pub enum HubError {
     /// 63 shares are outstanding, the most that a hub has.
     #[error("no share is left")]
     NoShareLeft,
-    /// The turn is not open at this hub.
+    /// The `Turn` is not open at this hub.
     #[error("the turn is not open here")]
     Stranger,
     /// An outstanding share was not given back.

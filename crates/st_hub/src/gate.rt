@@ -11,8 +11,8 @@ use st_ilp::{Answer, read_answer};
 use std::alloc::Allocator;
 use std::time::{Clock, Duration, Instant};
 
-/// Whether an exchange failed for now: no answer came, or one that cannot be read, or a Reject whose code begins with
-/// `T`, a temporary error (RFC 0027).
+/// Whether an exchange failed for now: there is no answer, or one that cannot be read, or a Reject whose code begins
+/// with `T`, a temporary error (RFC 0027).
 pub(crate) fn is_temporary<A: Allocator + Copy>(outcome: &Outcome<A>) -> bool
     ensures { result ≡ is_temporary (outcome_seen outcome.now) }
 {
@@ -26,7 +26,7 @@ pub(crate) fn is_temporary<A: Allocator + Copy>(outcome: &Outcome<A>) -> bool
     }
 }
 
-/// What is left of a pause that began at a moment. `None` where it is over.
+/// What is left of a pause that began at this time. `None` if it is over.
 fn left_of(pause: Duration, begun: Instant, now: Instant) -> Option<Duration>
     ensures { MatchOption result
         (as_nanos pause ≤ instant_nanos now - instant_nanos begun)
@@ -40,7 +40,7 @@ fn left_of(pause: Duration, begun: Instant, now: Instant) -> Option<Duration>
 #[derive(Drop)]
 pub(crate) struct Gate {
     is_shut: bool,
-    // When it was shut, or let a try through last. `None` where the clock could not be read.
+    // When it was shut, or let a try through last. `None` if the clock could not be read.
     last: Option<Instant>,
 }
 
@@ -55,8 +55,8 @@ impl Gate {
         }
     }
 
-    /// How long the next try is still to wait where there is such a pause between two: what is left of it since the last
-    /// one. `None` where it may begin, and where the clock cannot be read.
+    /// How long the next try is still to wait if tries are this pause apart: what is left of it since the last one.
+    /// `None` if it may begin, and if the clock cannot be read.
     pub(crate) fn left(&self, rt: &impl Clock, pause: Duration) -> Option<Duration>
         ensures { IfSome result (λ left. (self.now.is_shut ≡ true) × (0 < as_nanos left) × (as_nanos left ≤ as_nanos pause)) }
     {

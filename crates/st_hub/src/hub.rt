@@ -25,7 +25,7 @@ use std::marker::Model;
 use std::sync::ledger::{Blank, Book, Share};
 
 /// An end of a connection with the rings of its streams, a gauge of its totals and the ledger of its credit: the value
-/// of one lock. Contracts see it as the end, the items taken from and put into each ring, what is known to stand in each
+/// of one lock. Contracts see it as the end, the items taken from and put into each ring, what is known to be in each
 /// writer's ring, the room that is known in each reader's ring, and the outstanding shares.
 #[derive(Drop)]
 pub struct HubState<N: HubName<A>, A: Allocator + Copy> {
@@ -33,7 +33,7 @@ pub struct HubState<N: HubName<A>, A: Allocator + Copy> {
     pub(crate) gauge: Gauge<N, A>,
     pub(crate) seat: HubSeat<N, A>,
     pub(crate) credit: Book<N>,
-    // What was never given out, with what came back.
+    // What was never given out, with what was returned.
     pub(crate) spare: Share<N>,
     // How many shares are out: at most 63.
     pub(crate) out: u64,
@@ -116,8 +116,8 @@ impl<N: HubName<A>, A: Allocator + Copy> HubState<N, A> {
 
     /// Opens the next stream of this end and returns its number, its first writer and its reader (RFC 0029).
     ///
-    /// Fails, in this order: `NoStream` after the end's last stream; `ConnectionFailed`; `Closed` where the peer closed
-    /// the connection; `NoMemory` where memory is refused. At an error no stream is opened.
+    /// Fails, in this order: `NoStream` after the end's last stream; `ConnectionFailed`; `Closed` if the peer closed
+    /// the connection; `NoMemory` if memory is refused. At an error no stream is opened.
     pub fn open_stream(&mut self) -> Result<(u8, StreamWriter<N, A>, StreamReader<N, A>), EndError>
         ensures answers { OrWants self.old.flow.core (calls.open_stream self.old.flow.core) (number_in result, self.new.flow.core) }
         ensures handed { IfOk result (λ x. (s : ℕ) × HandsOut self.old.flow self.new.flow x.0 x.1 x.2 s) }
@@ -136,7 +136,7 @@ impl<N: HubName<A>, A: Allocator + Copy> HubState<N, A> {
     }
 
     /// Returns the number, the first writer and the reader of the lowest open stream whose reader nobody took yet. Such
-    /// a stream is one that the peer opened. Returns `None` only where there is none. Does not allocate.
+    /// a stream is one that the peer opened. Returns `None` only if there is none. Does not allocate.
     pub fn take_stream(&mut self) -> Option<(u8, StreamWriter<N, A>, StreamReader<N, A>)>
         ensures taken { IfSome result (λ x. (s : ℕ) × TakesLeft self.old.flow self.new.flow x.0 x.1 x.2 s) }
         ensures none { IfNone result (((s : ℕ) → s < 64 → IsTaken self.old.flow s) × (self.new.flow ≡ self.old.flow)) }
@@ -148,8 +148,8 @@ impl<N: HubName<A>, A: Allocator + Copy> HubState<N, A> {
     /// Gives a further writer of a stream, with a ring of its own. A stream has at most eight writers. Does not
     /// allocate.
     ///
-    /// Fails, in this order: `NoStream` where no stream of this number is open; `EightWriters` where all writers were
-    /// handed out; `WriterTooLate` where each writer that was handed out has ended.
+    /// Fails, in this order: `NoStream` if no stream of this number is open; `EightWriters` if all writers were handed
+    /// out; `WriterTooLate` if each writer that was handed out has ended.
     pub fn add_writer(&mut self, stream: u8) -> Result<StreamWriter<N, A>, HubError>
         ensures added { IfOk result (λ w. (j : ℕ) × AddsWriter self.old.flow self.new.flow stream w j) }
         ensures refused { IfErr result (λ e. (self.new.flow ≡ self.old.flow) × RefusesWriter self.old.flow stream e) }
@@ -160,9 +160,8 @@ impl<N: HubName<A>, A: Allocator + Copy> HubState<N, A> {
 
     /// Adds `amount` units, in this end's asset, to the money that a stream is to send. Does not allocate.
     ///
-    /// Fails as `EndState::offer` does, in this order: `NoStream`; `ConnectionFailed`; `Closed` where the peer closed
-    /// the connection or the stream was closed or aborted; `AmountTooLarge` where all offers would come to 2^63 or
-    /// more.
+    /// Fails as `EndState::offer` does, in this order: `NoStream`; `ConnectionFailed`; `Closed` if the peer closed the
+    /// connection or the stream was closed or aborted; `AmountTooLarge` if all offers would come to 2^63 or more.
     pub fn offer(&mut self, stream: u8, amount: u64) -> Result<(), EndError>
         ensures answers { calls.offer self.old.flow.core stream amount ≡ (result, self.new.flow.core) }
         ensures rest { self.new ≡ with_core self.old self.new.flow.core }
@@ -199,16 +198,16 @@ impl<N: HubName<A>, A: Allocator + Copy> HubState<N, A> {
     }
 
     /// Moves items between the rings and the end. Whole chunks, and the ends of writers, move from the writers' rings
-    /// to the end where the end accepts them; one that it refuses stays in its ring. Bytes that can be read move to the
-    /// readers' rings where there is room. A stream is closed when the end of the last of its writers is moved.
+    /// to the end if the end accepts them; one that it refuses stays in its ring. Bytes that can be read move to the
+    /// readers' rings while there is room. A stream is closed when the end of the last of its writers is moved.
     ///
-    /// Each ring of each open stream is tried. All items that this hub knew to stand in a writer's ring are taken. It
+    /// Each ring of each open stream is tried. All items that this hub knew to be in a writer's ring are removed. It
     /// stops before only at the writer's end, at an item that the end refuses, or after 64 items. All room that it knew
-    /// of in a reader's ring is filled. It stops before only where nothing can be read, at the stream's end, or after
-    /// 64 items. `meet_writer` lets the hub know all that stands in a ring, and a pump looks for more too.
+    /// of in a reader's ring is filled. It stops before only if nothing can be read, at the stream's end, or after 64
+    /// items. `meet_writer` lets the hub know all that is in a ring, and a pump looks for more too.
     ///
-    /// Fails with `NoMemory` where memory is refused. What was moved before stays moved, and the next item is where it
-    /// was.
+    /// Fails with `NoMemory` if memory is refused. What was moved before stays moved, and the next item stays in its
+    /// place.
     pub fn pump(&mut self) -> Result<(), HubError>
         ensures flows { Flows self.old.flow self.new.flow }
         ensures continues { Continues self.old.flow self.new.flow }
@@ -275,7 +274,7 @@ impl<N: HubName<A>, A: Allocator + Copy> HubState<N, A> {
         self.streams.core().is_failed()
     }
 
-    /// Why the last Prepare of this end that failed did so, as `EndState::last_failure` tells it. Does not allocate.
+    /// Why the last Prepare of this end that failed did so, as `EndState::last_failure` returns it. Does not allocate.
     pub fn last_failure(&self) -> Option<Failed>
         ensures { result ≡ self.now.flow.core.last }
     {
@@ -289,7 +288,7 @@ impl<N: HubName<A>, A: Allocator + Copy> HubState<N, A> {
         self.streams.core().packet_limit()
     }
 
-    /// A complete Reject with code T00 (RFC 0027), kept ready as the answer where memory is refused. Does not allocate.
+    /// A complete Reject with code T00 (RFC 0027), kept ready as the answer if memory is refused. Does not allocate.
     pub fn t00(&self) -> &[u8]
         ensures { result.now ≡ t00_text self.now.flow.core.own }
     {

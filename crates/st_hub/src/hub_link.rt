@@ -64,7 +64,7 @@ impl<N: HubName<A>, A: Allocator + Copy, K: Clock, R: Wait> Link<A> for HubLink<
     ghost exchanges = { λ old bytes answer new. AnswersOver old.share bytes answer new.share };
 
     /// Gives the bytes of a packet to the hub and returns its answer. It waits for the hub's lock, and wakes a worker of
-    /// that hub. Fails with `LinkFault::NoMemory` where memory is refused.
+    /// that hub. Fails with `LinkFault::NoMemory` if memory is refused.
     fn exchange(&mut self, bytes: &[u8], _by: Moment) -> Result<Vec<u8, A>, LinkFault> {
         let now = self.clock.now();
         let taken = self.hub.lock(self.rt).incoming(&mut self.share, bytes, now);

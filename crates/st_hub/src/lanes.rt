@@ -10,7 +10,7 @@ use st_end::EndState;
 use st_queues::{HubName, ReadLane, StreamReader, StreamWriter, WriteLane};
 use std::alloc::Allocator;
 
-/// Hands out the writer of a ring, where it was not handed out before. Does not allocate.
+/// Hands out the writer of a ring, if it was not handed out before. Does not allocate.
 pub(crate) fn writer<N: HubName<A>, A: Allocator + Copy>(
     alloc: A,
     writes: &mut Vec<WriteLane<A>, A>,
@@ -26,7 +26,7 @@ pub(crate) fn writer<N: HubName<A>, A: Allocator + Copy>(
     lane.hand_out::<N>(alloc)
 }
 
-/// Hands out the reader of a stream, where it was not handed out before. Does not allocate.
+/// Hands out the reader of a stream, if it was not handed out before. Does not allocate.
 pub(crate) fn reader<N: HubName<A>, A: Allocator + Copy>(
     reads: &mut Vec<ReadLane<A>, A>,
     place: usize,

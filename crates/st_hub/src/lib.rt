@@ -1,9 +1,9 @@
 //! A hub: an end of a connection under one lock, with the rings of its writers and readers.
 //!
-//! `HubState` is the lock's value. Application threads write to and read from the rings and never wait; `pump` moves
-//! whole chunks between the rings and the end. A worker takes a `Turn` under the lock, exchanges its Prepare over a
-//! `Link` with the lock open, and finishes it under the lock again. A `Bench` is the lock with what the workers wait
-//! on. Each thread that takes Prepares in has a `CreditShare`. `gather` shows that the sum of all shares is what the end was credited.
+//! `HubState` is the lock's value. Application threads write to and read from the rings and never wait; `pump` moves whole chunks
+//! between the rings and the end. A worker takes a `Turn` under the lock, exchanges its Prepare over a `Link` with the lock open, and
+//! finishes it under the lock again. A `Bench` is the lock with what the workers wait on. Each thread that receives Prepares has a
+//! `CreditShare`. `gather` shows that the sum of all shares is what the end was credited.
 #![tactic(auto)]
 
 mod adding;

@@ -19,7 +19,7 @@ use std::alloc::Allocator;
 /// The most bytes of a read.
 const READ_LIMIT: usize = 4096;
 
-/// What a try to move an item came to.
+/// The result of a try to move an item.
 #[derive(Clone, Copy)]
 pub(crate) enum Pumped {
     /// It was moved.
@@ -32,7 +32,7 @@ pub(crate) enum Pumped {
     NoMemory,
 }
 
-/// Whether a writer was handed out whose end was not taken yet.
+/// Whether a writer was handed out whose end is not removed from its ring yet.
 pub(crate) fn is_busy<A: Allocator + Copy>(lane: &WriteLane<A>) -> bool
     requires { lane.now.over ≡ has_end (taken lane.now.end) }
     ensures { result ≡ is_writing (inlet_of lane.now) }
@@ -53,7 +53,7 @@ fn close_last<A: Allocator + Copy>(
     if is_last { core.close(stream) } else { Ok(()) }
 }
 
-// Moves the first item of a ring to the end, where the end takes it.
+// Moves the first item of a ring to the end, if the end accepts it.
 fn take_first<A: Allocator + Copy>(
     core: &mut EndState<A>,
     lane: &mut WriteLane<A>,
@@ -167,7 +167,7 @@ pub(crate) fn is_last<N: HubName<A>, A: Allocator + Copy>(
     true
 }
 
-// One try to take from a ring where it lies.
+// One try to remove an item from a ring in place.
 fn take_one<N: HubName<A>, A: Allocator + Copy>(
     core: &mut EndState<A>,
     writes: &mut Vec<WriteLane<A>, A>,
@@ -185,7 +185,7 @@ fn take_one<N: HubName<A>, A: Allocator + Copy>(
     take_first(core, lane, place as u8 + 1, last)
 }
 
-// One try to deliver to a ring where it lies.
+// One try to deliver to a ring in place.
 fn give_one<N: HubName<A>, A: Allocator + Copy>(
     core: &mut EndState<A>,
     reads: &mut Vec<ReadLane<A>, A>,
@@ -201,7 +201,7 @@ fn give_one<N: HubName<A>, A: Allocator + Copy>(
     give_first(core, lane, place as u8 + 1)
 }
 
-// Takes all that the end takes of one ring.
+// Moves all that the end accepts of one ring.
 fn take_ring<N: HubName<A>, A: Allocator + Copy>(
     core: &mut EndState<A>,
     writes: &mut Vec<WriteLane<A>, A>,
@@ -223,7 +223,7 @@ fn take_ring<N: HubName<A>, A: Allocator + Copy>(
     Pumped::Moved
 }
 
-// Takes all that the end takes of one stream, ring by ring.
+// Moves all that the end accepts of one stream, ring by ring.
 fn take_stream<N: HubName<A>, A: Allocator + Copy>(
     core: &mut EndState<A>,
     writes: &mut Vec<WriteLane<A>, A>,
@@ -288,7 +288,7 @@ fn pump_stream<N: HubName<A>, A: Allocator + Copy>(
     give_stream::<N, A>(core, reads, place)
 }
 
-/// Moves what can be moved. At `NoMemory` what was moved stays moved, and the next item is where it was.
+/// Moves what can be moved. At `NoMemory` what was moved stays moved, and the next item stays in its place.
 pub(crate) fn pump<N: HubName<A>, A: Allocator + Copy>(
     core: &mut EndState<A>,
     writes: &mut Vec<WriteLane<A>, A>,

@@ -1,4 +1,4 @@
-//! An end beside the rings of its streams.
+//! An end with the rings of its streams.
 
 ghost use Rattle.std.specs.Prelude.{◌≡◌, ◌≢◌, ◌<◌, ℕ, true, List, ◌++◌, length, vec_len, OnErr, IfOk, IfErr, IfSome, IfNone, IsOkUnless, MatchOption};
 ghost use Rattle.st_end.specs.Calls as calls;
@@ -31,8 +31,8 @@ use st_queues::{HubName, ReadLane, StreamReader, StreamWriter, Totals, WriteLane
 use std::alloc::Allocator;
 use std::marker::{Model, PhantomData};
 
-/// An end beside its rings. Contracts see it as the end, what was taken from each ring and what was put there, and what
-/// is known to stand in each ring and to have room there.
+/// An end with its rings. Contracts see it as the end, what was removed from each writer's ring and what was put into
+/// each reader's, what is known to be in each writer's ring, and the room known in each reader's.
 #[derive(Drop)]
 pub(crate) struct Streams<N: HubName<A>, A: Allocator + Copy> {
     core: EndState<A>,
@@ -60,7 +60,7 @@ impl<N: HubName<A>, A: Allocator + Copy> Model for Streams<N, A> {
 }
 
 impl<N: HubName<A>, A: Allocator + Copy> Streams<N, A> {
-    /// A new end beside unused rings. Does not allocate.
+    /// A new end with unused rings. Does not allocate.
     pub(crate) fn new(
         alloc: A,
         core: EndState<A>,
@@ -134,7 +134,7 @@ impl<N: HubName<A>, A: Allocator + Copy> Streams<N, A> {
         self.core.send(iv, now)
     }
 
-    /// Ends a flight of the end with what came back to it, and tells whether that is a Fulfill that fits.
+    /// Ends a flight of the end with its outcome, and returns whether that is a Fulfill that fits.
     pub(crate) fn settle(&mut self, flight: Flight, outcome: Outcome<A>) -> bool
         requires { sending.is_open self.old.flow.core flight ≡ true }
         ensures left { self.new.flow.core ≡ ended self.old.flow.core flight (outcome_seen outcome) }
@@ -259,7 +259,7 @@ impl<N: HubName<A>, A: Allocator + Copy> Streams<N, A> {
     }
 }
 
-// Ends a flight with what came back to it, and tells whether that is a Fulfill that fits.
+// Ends a flight with its outcome, and returns whether that is a Fulfill that fits.
 fn settle_flight<A: Allocator + Copy>(
     core: &mut EndState<A>,
     flight: Flight,

@@ -1,4 +1,4 @@
-//! The calls of a hub for threads that send Prepares, and for those that take Prepares in.
+//! The calls of a hub for threads that send Prepares, and for those that receive them.
 
 ghost use Rattle.std.specs.Prelude.{◌≡◌, ◌≢◌, ◌+◌, ◌<◌, true, false, not, sum, vec_len, is_some, OnErr, IfOk, IfErr, IfSome, IsOkUnless, MatchBool, MatchOption, pos, ◌+ℤ◌};
 ghost use Rattle.st_hop.specs.Seen.{outcome_seen};
@@ -25,8 +25,8 @@ use std::alloc::Allocator;
 use std::marker::Model;
 use std::sync::ledger::{Ledger, Share};
 
-/// The largest number of `CreditShare`s of one hub that can be outstanding at a time: one for each thread that takes
-/// Prepares in.
+/// The largest number of `CreditShare`s of one hub that can be outstanding at a time: one for each thread that receives
+/// Prepares.
 pub const SHARES: u64 = 63;
 
 /// For how many milliseconds a Prepare lives, as `EndState::send` makes it.
@@ -42,7 +42,7 @@ fn after(now: Moment) -> Moment
     }
 }
 
-/// A Prepare that was taken from a hub to be sent, and that waits for its answer. It must be spent: by
+/// A Prepare that a hub gave out to be sent, and that waits for its answer. It must be spent: by
 /// `HubState::finish_turn`, or by `abandon`.
 #[must_use]
 pub struct Turn<A: Allocator + Copy> {
@@ -50,7 +50,7 @@ pub struct Turn<A: Allocator + Copy> {
     bytes: Vec<u8, A>,
     // The moment that the bytes say.
     expiry: Moment,
-    // The limit of the peer that its Blocked frame tells.
+    // The limit of the peer that its Blocked frame reports.
     stops: Option<Blocked>,
 }
 
@@ -64,7 +64,7 @@ impl<A: Allocator + Copy> Model for Turn<A> {
     ghost invariant = { λ t. IsExpiryOf t.bytes.items t.expiry };
 }
 
-/// The limit of the peer that the Blocked frame of a sent Prepare tells.
+/// The limit of the peer that the Blocked frame of a sent Prepare reports.
 fn limit_of<A: Allocator + Copy>(
     core: &EndState<A>,
     sent: &Result<Option<(Flight, Vec<u8, A>)>, EndError>,
@@ -77,7 +77,7 @@ fn limit_of<A: Allocator + Copy>(
     }
 }
 
-/// The turn of a Prepare that was made at this moment.
+/// The `Turn` of a Prepare that was made at this time.
 fn turn_at<A: Allocator + Copy>(
     flight: Flight,
     bytes: Vec<u8, A>,
@@ -103,7 +103,7 @@ impl<A: Allocator + Copy> Turn<A> {
         self.bytes.as_slice()
     }
 
-    /// The moment at which the Prepare expires, as its bytes say (RFC 0027, expiresAt): an answer that comes later is of
+    /// The moment at which the Prepare expires, as its bytes say (RFC 0027, expiresAt): an answer that arrives later is of
     /// no use. Its contract says so up to the last `Moment`, some minutes before the year 9999 ends.
     pub fn expires(&self) -> Moment
         ensures { IsExpiryOf self.now.bytes result }
@@ -111,7 +111,7 @@ impl<A: Allocator + Copy> Turn<A> {
         self.expiry
     }
 
-    /// The limit of the peer at which bytes or money wait, where the Prepare carries a Blocked frame (RFC 0029, section
+    /// The limit of the peer at which bytes or money wait, if the Prepare carries a Blocked frame (RFC 0029, section
     /// 5.3). Does not allocate.
     pub fn blocked_at(&self) -> Option<Blocked>
         ensures { result ≡ self.now.stops }
@@ -119,7 +119,8 @@ impl<A: Allocator + Copy> Turn<A> {
         self.stops
     }
 
-    /// Gives the turn up where no answer will be taken. What the Prepare carries stays in flight. Does not allocate.
+    /// Gives the `Turn` up, if its answer will not be processed. What the Prepare carries stays in flight. Does not
+    /// allocate.
     pub fn abandon(self) {
         let Turn {
             flight,
@@ -131,7 +132,7 @@ impl<A: Allocator + Copy> Turn<A> {
     }
 }
 
-/// What one step of a worker comes to.
+/// The result of one step of a worker.
 #[must_use]
 pub enum Step<A: Allocator + Copy> {
     /// A Prepare is to be exchanged.
@@ -161,9 +162,9 @@ impl<N: Ledger> Model for CreditShare<N> {
 }
 
 impl<N: HubName<A>, A: Allocator + Copy> HubState<N, A> {
-    /// Gives a share of the credit for one thread that takes Prepares in, with nothing credited. Does not allocate.
+    /// Gives a share of the credit for one thread that receives Prepares, with nothing credited. Does not allocate.
     ///
-    /// Fails with `NoShareLeft` where 63 are outstanding; then nothing has changed.
+    /// Fails with `NoShareLeft` if 63 are outstanding; then nothing has changed.
     pub fn share(&mut self) -> Result<CreditShare<N>, HubError>
         ensures given { IfOk result (λ s. (s ≡ 0) × (self.old.out < 63) × (self.new ≡ record self.old { out = self.old.out + 1 })) }
         ensures none_left { IfErr result (λ e. (e ≡ NoShareLeft) × (self.old.out ≡ 63) × (self.new ≡ self.old)) }
@@ -177,11 +178,11 @@ impl<N: HubName<A>, A: Allocator + Copy> HubState<N, A> {
         Ok(CreditShare { share })
     }
 
-    /// Takes the next Prepare that is to be sent at the moment `now`, sealed under `iv`, as `EndState::send` makes it.
-    /// Returns `None` where nothing can be sent now. No IV may be used for two packets of a connection (SP 800-38D):
-    /// the caller sees to that.
+    /// Returns the next Prepare that is to be sent at the time `now`, sealed under `iv`, as `EndState::send` makes it.
+    /// Returns `None` if nothing can be sent now. No IV may be used for two packets of a connection (SP 800-38D): the
+    /// caller sees to that.
     ///
-    /// Fails with `NoMemory` where memory is refused, and for no other reason; then nothing has changed.
+    /// Fails with `NoMemory` if memory is refused, and for no other reason; then nothing has changed.
     pub fn take_turn(&mut self, iv: [u8; 12], now: Moment) -> Result<Option<Turn<A>>, HubError>
         ensures only_memory { IsOkUnless result NoMemory }
         ensures goes { IfOk result (λ sent. MatchOption sent (GoesNone self.old.flow.core × (self.new.flow.core ≡ self.old.flow.core)) (λ t. Goes self.old.flow.core iv now t.flight t.bytes self.new.flow.core)) }
@@ -206,7 +207,7 @@ impl<N: HubName<A>, A: Allocator + Copy> HubState<N, A> {
     }
 
     /// Whether nothing can be sent any more of a stream, unless the peer sends a packet of its own. It is to be called
-    /// where `take_turn` gave `None`. Does not allocate.
+    /// when `take_turn` gave `None`. Does not allocate.
     fn is_stalled(&self, stream: u8) -> bool
         requires { GoesNone self.now.flow.core }
         ensures { MatchBool result (IsStalled self.now.flow.core stream) (¬ (IsStalled self.now.flow.core stream)) }
@@ -215,12 +216,12 @@ impl<N: HubName<A>, A: Allocator + Copy> HubState<N, A> {
         core.in_flight() == 0 && core.waits(stream)
     }
 
-    /// Makes one step of a worker at the moment `now`. It takes the next Prepare as `take_turn` does, under the IV in
-    /// `hand`, which is to be there; that IV is then used up, and `hand` is `None`. Where nothing can be sent, `hand`
-    /// keeps its IV, and the step is `Stalled` exactly where nothing is in flight and `stream` still waits: bytes that
-    /// it accepted are not acknowledged, or its close is not fulfilled. `stream` 0 never waits.
+    /// Makes one step of a worker at the time `now`. It returns the next Prepare as `take_turn` does, under the IV in
+    /// `hand`, which is to be there; that IV is then used up, and `hand` is `None`. If nothing can be sent, `hand`
+    /// keeps its IV, and the step is `Stalled` exactly if nothing is in flight and `stream` still waits: bytes that it
+    /// accepted are not acknowledged, or its close is not fulfilled. `stream` 0 never waits.
     ///
-    /// Fails with `NoMemory` where memory is refused, and for no other reason; then nothing has changed.
+    /// Fails with `NoMemory` if memory is refused, and for no other reason; then nothing has changed.
     pub fn step(
         &mut self,
         hand: &mut Option<[u8; 12]>,
@@ -252,11 +253,11 @@ impl<N: HubName<A>, A: Allocator + Copy> HubState<N, A> {
         }
     }
 
-    /// Ends a turn with its outcome, as `EndState::answer` does with the bytes of an answer and `EndState::fault` where
-    /// none came. Returns whether the outcome is a Fulfill that fits; where it is none, `last_failure` tells why. Does
-    /// not allocate.
+    /// Ends a `Turn` with its outcome, as `EndState::answer` does with the bytes of an answer and `EndState::fault`
+    /// without one. Returns whether the outcome is a Fulfill that fits; if not, `last_failure` says why. Does not
+    /// allocate.
     ///
-    /// Fails with `Stranger` where the turn is not open at this hub. Then nothing has changed, and the turn is spent.
+    /// Fails with `Stranger` if the `Turn` is not open at this hub. Then nothing has changed, and the `Turn` is spent.
     pub fn finish_turn(&mut self, turn: Turn<A>, outcome: Outcome<A>) -> Result<bool, HubError>
         ensures finished { IfOk result (λ _. (sending.is_open self.old.flow.core turn.flight ≡ true) × (self.new.flow.core ≡ ended self.old.flow.core turn.flight (outcome_seen outcome))) }
         ensures paid { IfOk result (λ paid. paid ≡ pays turn.flight (outcome_seen outcome)) }
@@ -284,10 +285,10 @@ impl<N: HubName<A>, A: Allocator + Copy> HubState<N, A> {
         Ok(paid)
     }
 
-    /// Takes the bytes that arrived from the peer at the moment `now`, and returns the Fulfill or Reject that answers
+    /// Processes the bytes that arrived from the peer at the time `now`, and returns the Fulfill or Reject that answers
     /// them, as `EndState::receive` does (RFC 0027, RFC 0029). The units that it credits are added to `share`.
     ///
-    /// Fails with `NoMemory` where memory is refused, and for no other reason. Then nothing has changed, and the caller
+    /// Fails with `NoMemory` if memory is refused, and for no other reason. Then nothing has changed, and the caller
     /// may answer `t00`.
     pub fn incoming(
         &mut self,
@@ -319,7 +320,7 @@ impl<N: HubName<A>, A: Allocator + Copy> HubState<N, A> {
 
     /// Takes all shares back and returns the units that the end was credited, which are the sum of the shares.
     ///
-    /// Fails with `MissingShare`, and gives the shares back, where their number is not that of the outstanding ones.
+    /// Fails with `MissingShare`, and gives the shares back, if their number is not that of the outstanding ones.
     pub fn gather(
         &mut self,
         shares: Vec<CreditShare<N>, A>,

@@ -7,7 +7,8 @@ ghost use Rattle.st_hub.specs.Begins.{Begins, FindsAt, Finds, FindsSome, Exchang
 ghost use Rattle.st_hub.specs.Causes.{cause_of};
 ghost use Rattle.st_hub.specs.Hub.{with_core};
 ghost use Rattle.st_hub.specs.Seen.{cause_seen};
-ghost use Rattle.st_hub.specs.Working.{Fills, WorkedTo};
+ghost use Rattle.st_hub.specs.Told.{fails_of, waits_of};
+ghost use Rattle.st_hub.specs.Working.{Fills, Gave, WorkedTo};
 
 use crate::bench::Bench;
 use crate::causes::{Cause, Observer, close_turn};
@@ -29,7 +30,7 @@ pub trait Ivs: Counted {
     // Which IV the source may give, and the source after it.
     ghost gives: { Self → List ℕ → Self → Type 0 } = { λ _ _ _. ⊤ };
 
-    /// The next IV, of 12 bytes. Returns `None` where the device below failed; the device counted the failure.
+    /// The next IV, of 12 bytes. Returns `None` if the device below failed; the device counted the failure.
     fn next_iv(&mut self) -> Option<[u8; 12]>
         ensures { IfSome result (λ iv. gives self.old iv self.new) };
 }
@@ -45,7 +46,7 @@ pub enum WorkEnd {
     IvFault,
     /// Memory was refused.
     NoMemory,
-    /// The given number of turns was made.
+    /// The given number of rounds was made.
     Turns,
     /// The close of the worker's stream was fulfilled.
     Settled,
@@ -58,23 +59,23 @@ pub enum WorkEnd {
 pub struct Worker<'w, N: HubName<A>, A: Allocator + Copy, L, I, K, W> {
     /// The link over which it exchanges.
     pub link: &'w mut L,
-    /// Where its IVs come from. One is read only where none is in hand.
+    /// The source of its IVs. One is read only if none is in hand.
     pub ivs: &'w mut I,
     /// The clock that gives the moment of each Send.
     pub clock: &'w mut K,
+    /// Receives the reports why a Prepare failed, and at which limits of the peer it waits: `Unwatched` ignores them.
+    pub watch: &'w mut W,
     /// The gauge at which it is asked to stop, and its seat there.
     pub gauge: &'w Gauge<N, A>,
     /// Its seat at the gauge.
     pub seat: &'w mut GaugeSeat<N, A>,
-    /// The stream with whose end it ends, 1 to 64: once the stream's close is fulfilled, or where nothing more of it can
-    /// be sent. With 0 it ends for neither reason.
+    /// The stream with whose end it ends, 1 to 64: once the stream's close is fulfilled, or if nothing more of it can be
+    /// sent. With 0 it ends for neither reason.
     pub stream: u8,
-    /// For how long it sleeps at most where it has nothing to send and nobody wakes it.
+    /// For how long it sleeps at most if it has nothing to send and nobody wakes it.
     pub rest: Duration,
-    /// The most turns that it makes.
+    /// The most rounds that it makes.
     pub turns: u64,
-    /// Who is told why a Prepare failed: `Unwatched` for nobody.
-    pub watch: &'w mut W,
 }
 
 /// What a worker found to do.
@@ -133,7 +134,7 @@ fn look<N: HubName<A>, A: Allocator + Copy>(
     find(state, hand, stream, now)
 }
 
-/// Looks once more, so that no wake-up is lost, and sleeps where there is still nothing to do.
+/// Tries once more, so that no wake-up is lost, and sleeps if there is still nothing to do.
 fn look_again<N: HubName<A>, A: Allocator + Copy, R: Wait + std::time::Clock>(
     rt: &R,
     bench: &Bench<N, A>,
@@ -176,7 +177,7 @@ fn pass_gate<'b, N: HubName<A>, A: Allocator + Copy, R: Wait + std::time::Clock>
     unreachable!()
 }
 
-/// Begins a turn, at the moment at which the gate lets it through. Where there is nothing to send it sleeps for at most
+/// Begins a round, at the time at which the gate lets it through. If there is nothing to send it sleeps for at most
 /// `rest`.
 fn begin<N: HubName<A>, A: Allocator + Copy, K: Clock, R: Wait + std::time::Clock>(
     rt: &R,
@@ -206,7 +207,7 @@ fn begin<N: HubName<A>, A: Allocator + Copy, K: Clock, R: Wait + std::time::Cloc
     }
 }
 
-/// Ends a turn, and wakes the workers that wait at the gate where that opens it. Returns why the turn failed, where it
+/// Ends a `Turn`, and wakes the workers that wait at the gate if that opens it. Returns why the exchange failed, if it
 /// did.
 fn finish<N: HubName<A>, A: Allocator + Copy, R: Wait + std::time::Clock>(
     rt: &R,
@@ -225,21 +226,25 @@ fn finish<N: HubName<A>, A: Allocator + Copy, R: Wait + std::time::Clock>(
     cause
 }
 
-/// Tells of a cause, where there is one.
-fn tell<W: Observer>(watch: &mut W, cause: Option<Cause>) {
+/// Reports a cause, if there is one.
+fn tell<W: Observer>(watch: &mut W, cause: Option<Cause>)
+    ensures { Gave W.hears watch.old (fails_of (cause_seen cause)) watch.new }
+{
     if let Some(cause) = cause {
         watch.failed(&cause.failed, cause.limit);
     }
 }
 
-/// Tells of the limit of the peer at which the end waits, where the Prepare of a turn says that it does.
-fn tell_limit<A: Allocator + Copy, W: Observer>(watch: &mut W, turn: &Turn<A>) {
+/// Reports the limit of the peer at which the end waits, if the Prepare of a `Turn` says that it does.
+fn tell_limit<A: Allocator + Copy, W: Observer>(watch: &mut W, turn: &Turn<A>)
+    ensures { Gave W.hears watch.old (waits_of turn.now.stops) watch.new }
+{
     if let Some(blocked) = turn.blocked_at() {
         watch.waits(blocked);
     }
 }
 
-/// What comes back over a link: a fault where it gives no answer.
+/// The outcome of an exchange over a link: a fault if it gives no answer.
 fn exchange<A: Allocator + Copy, L: Link<A>>(link: &mut L, turn: &Turn<A>) -> Outcome<A>
     ensures { Exchanged L.exchanges link.old turn.now.bytes (outcome_seen result) link.new }
 {
@@ -249,7 +254,7 @@ fn exchange<A: Allocator + Copy, L: Link<A>>(link: &mut L, turn: &Turn<A>) -> Ou
     }
 }
 
-/// Takes an IV from the source where none is in hand. Returns whether one is in hand then.
+/// Reads an IV from the source if none is in hand. Returns whether one is in hand then.
 fn fill<I: Ivs>(ivs: &mut I, hand: &mut Option<[u8; 12]>) -> bool
     ensures { MatchBool result (Fills I.gives ivs.old hand.old ivs.new hand.new) ((hand.old ≡ None) × (hand.new ≡ None)) }
 {
@@ -259,7 +264,7 @@ fn fill<I: Ivs>(ivs: &mut I, hand: &mut Option<[u8; 12]>) -> bool
     hand.is_some()
 }
 
-/// Makes the turns of a worker.
+/// Makes the rounds of a worker.
 fn make_turns<
     N: HubName<A>,
     A: Allocator + Copy,
@@ -269,18 +274,21 @@ fn make_turns<
     W: Observer,
     R: Wait + std::time::Clock,
 >(rt: &R, bench: &Bench<N, A>, worker: Worker<'_, N, A, L, I, K, W>) -> WorkEnd
-    ensures { WorkedTo I.gives L.exchanges K.reads worker.entry.stream worker.entry.turns worker.entry.ivs.now worker.entry.link.now worker.entry.clock.now result worker.exit.1.0.now worker.exit.0.now worker.exit.1.1.0.now }
+    ensures { WorkedTo I.gives L.exchanges K.reads W.hears worker.entry.stream worker.entry.turns
+        (record { ivs = worker.entry.ivs.now; link = worker.entry.link.now; clock = worker.entry.clock.now; watch = worker.entry.watch.now })
+        result
+        (record { ivs = worker.exit.1.0.now; link = worker.exit.0.now; clock = worker.exit.1.1.0.now; watch = worker.exit.1.1.1.0.now }) }
 {
     let Worker {
         link,
         ivs,
         clock,
+        watch,
         gauge,
         seat,
         stream,
         rest,
         turns,
-        watch,
     } = worker;
     let mut hand = None;
     for _ in 0..turns {
@@ -301,19 +309,20 @@ fn make_turns<
     WorkEnd::Turns
 }
 
-/// Sends for a hub over the worker's link, and returns why it ended. In one turn it calls `pump` and `step` under the
-/// lock, exchanges the Prepare with the lock open, and calls `finish_turn` under the lock again. A `Turn` that is no
-/// longer open then changes nothing. With the lock open it tells its observer where the Prepare carries a Blocked frame, and
-/// where it failed. After a turn with nothing to send it sleeps, until somebody wakes it (`Bench`) or its rest is over.
+/// Sends for a hub over the worker's link, and returns why it ended. In one round it calls `pump` and `step` under the lock,
+/// exchanges the Prepare with the lock open, and calls `finish_turn` under the lock again. A `Turn` that is no longer open then
+/// changes nothing. With the lock open it reports to its observer if the Prepare carries a Blocked frame, and if it failed.
+/// After a round with nothing to send it sleeps, until somebody wakes it (`Bench`) or its rest is over.
 ///
-/// Each packet that it exchanges is sealed under the next IV that its source gave, and no IV serves twice. In a turn it
-/// exchanges at most one packet, at the moment that it read from its clock once in that turn, behind the gate.
+/// Each packet that it exchanges is sealed under the next IV that its source gave, and no IV serves twice. In a round it exchanges
+/// at most one packet, at the time that it read from its clock once in that round, after the gate let it through. It reports to its
+/// observer once each of these packets that carries a Blocked frame, and once each that failed, with the values, and nothing else.
 ///
-/// While the last exchange failed for now (no answer came, or a Reject whose code begins with `T`), the workers of a hub
-/// let one try through, and the next after the bench's pause, whatever their number is.
+/// While the last exchange failed for now (no answer, or a Reject whose code begins with `T`), the workers of a hub let one try
+/// through, and the next after the bench's pause, whatever their number is.
 ///
-/// It ends early once its seat sees that some seat asked to stop, once the connection failed, where no IV is given,
-/// where memory is refused, and with its stream. It waits for the lock. At its end it wakes all other threads.
+/// It ends early once its seat sees that some seat asked to stop, once the connection failed, if no IV is given, if memory is
+/// refused, and with its stream. It waits for the lock. At its end it wakes all other threads.
 pub fn work<
     N: HubName<A>,
     A: Allocator + Copy,
@@ -323,7 +332,10 @@ pub fn work<
     W: Observer,
     R: Wait + std::time::Clock,
 >(rt: &R, bench: &Bench<N, A>, worker: Worker<'_, N, A, L, I, K, W>) -> WorkEnd
-    ensures { WorkedTo I.gives L.exchanges K.reads worker.entry.stream worker.entry.turns worker.entry.ivs.now worker.entry.link.now worker.entry.clock.now result worker.exit.1.0.now worker.exit.0.now worker.exit.1.1.0.now }
+    ensures { WorkedTo I.gives L.exchanges K.reads W.hears worker.entry.stream worker.entry.turns
+        (record { ivs = worker.entry.ivs.now; link = worker.entry.link.now; clock = worker.entry.clock.now; watch = worker.entry.watch.now })
+        result
+        (record { ivs = worker.exit.1.0.now; link = worker.exit.0.now; clock = worker.exit.1.1.0.now; watch = worker.exit.1.1.1.0.now }) }
 {
     let end = make_turns(rt, bench, worker);
     bench.wake_all(rt);

@@ -14,7 +14,7 @@ use Rattle.st_link.specs.declared.cause.LinkCause.TheVariants as cause
 use Rattle.st_link.specs.declared.cause.Unreached.{Unreached}
 use Rattle.st_link.specs.declared.cause.Unreached.TheVariants as unreached
 
--- where a neighbour is reached, and the token that it knows this side by
+-- the host at which a neighbour is reached, and the token that it knows this side by
 pub record Neighbour : Type 0 where
   pub host : List ℕ
   pub token : List ℕ
@@ -37,7 +37,7 @@ abbrev pub status_of : LinkCause → Option ℕ
 status_of (cause.Http (http.Status status)) = Some status
 status_of e = None
 
--- how long an exchange may take that begins at one time, and has to be done by a moment: until then, and 30 seconds at most; none where it
+-- how long an exchange may take that begins at one time and has to be done by a moment: until then, and 30 seconds at most; none if it
 -- has passed
 abbrev pub IsTimeUntil : (now : Duration) → (by : ℤ) → Option Duration → Type 0
 IsTimeUntil now by None = (ms : ℕ) × (by ≡ pos ms) × (ms * 1_000_000 < as_nanos now)
@@ -49,17 +49,17 @@ abbrev pub is_out_of_descriptors : (code : Option ℤ) → Bool
 is_out_of_descriptors None = false
 is_out_of_descriptors (Some code) = int_eq code (pos 24) || int_eq code (pos 23)
 
--- why no connection was made, by the kind of an error that is no lack of descriptors
+-- why no connection was made, by the kind of an error that is not a lack of descriptors
 abbrev pub unreached_for : ErrorKind → Unreached
 unreached_for ConnectionRefused = unreached.Refused
 unreached_for TimedOut = unreached.Timeout
 unreached_for kind = unreached.Other
 
--- the same by the system's number of the error, where it has one, and its kind
+-- the same by the system's number of the error, if it has one, and its kind
 abbrev pub unreached_by : (code : Option ℤ) → ErrorKind → Unreached
 unreached_by code kind = if is_out_of_descriptors code then unreached.Descriptors else unreached_for kind
 
--- how many nanoseconds one address of a host may take, of those that are left, where it is the first of so many that are not tried yet:
+-- how many nanoseconds one address of a host may take, of those that are left, if it is the first of `addresses` that are not tried yet:
 -- the last all of them, each other its share, and 3 seconds at most
 abbrev pub share : (left addresses : ℕ) → ℕ
 share left addresses = if nat_le addresses 1 then left else min (3 * 1_000_000_000) (left / addresses)

@@ -12,16 +12,16 @@ use std::io::{BufReader, Read, Write};
 /// How many bytes are asked of the stream at once: a head and the greatest body that a Prepare of an end has.
 const BUFFER: usize = 16_384;
 
-/// A stream with a buffer in front of its reads. The stream behind is read in parts of up to 16,384 bytes, and what is read
-/// here comes from the buffer, so that a message that is read byte by byte costs few reads of the stream. What is left in the
-/// buffer is left unread. Writes go through to the stream as they are.
+/// A stream with a buffer in front of its reads. The inner stream is read in parts of up to 16,384 bytes, and reads are
+/// served from the buffer, so that a message that is read byte by byte costs few reads of the inner stream. What is left
+/// in the buffer is left unread. Writes pass through to the inner stream unchanged.
 #[derive(Drop)]
 pub struct Buffered<S, A: Allocator> {
     reader: BufReader<S, A>,
 }
 
 impl<S: Read + Drop, A: Allocator> Buffered<S, A> {
-    /// The stream with an empty buffer. Fails with an error of kind `OutOfMemory` where memory is refused.
+    /// The stream with an empty buffer. Fails with an error of kind `OutOfMemory` if memory is refused.
     pub fn new(alloc: A, stream: S) -> io::Result<Buffered<S, A>>
         ensures stream { IfOk result (λ b. reader_inner b.reader ≡ stream) }
         ensures empty { IfOk result (λ b. reader_buffer b.reader ≡ []) }
@@ -33,7 +33,7 @@ impl<S: Read + Drop, A: Allocator> Buffered<S, A> {
 }
 
 impl<S: Read, A: Allocator> Read for Buffered<S, A> {
-    // The bytes in the buffer, and then those of the stream behind.
+    // The bytes in the buffer, and then those of the inner stream.
     ghost remaining = { λ s. reader_remaining S.remaining s.reader };
 
     fn read(&mut self, buf: &mut [u8]) -> io::Result<usize> {

@@ -14,10 +14,10 @@ const EMFILE: i32 = 24;
 /// Linux: the machine has no free file descriptor.
 const ENFILE: i32 = 23;
 
-/// Why no connection to a neighbour was made. Where a host has several addresses, it is said of the last that was tried.
+/// Why no connection to a neighbour was made. If a host has several addresses, it concerns the last that was tried.
 #[derive(Clone, Copy, Debug, PartialEq, Eq)]
 pub enum Unreached {
-    /// The link has no neighbour, or the connection failed in another way, as where no route leads to the host.
+    /// The link has no neighbour, or the connection failed in another way, for example because the host has no route.
     Other,
     /// No file descriptor is free.
     Descriptors,
@@ -67,7 +67,7 @@ pub enum LinkCause {
 }
 
 impl LinkCause {
-    /// The status of the response, where it is not 200.
+    /// The status of the response, if it is not 200.
     pub fn status(&self) -> Option<u16>
         ensures { result ≡ links.status_of self.now }
     {

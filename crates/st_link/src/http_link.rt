@@ -26,10 +26,10 @@ use std::time::{Clock, Duration, Instant};
 /// How many seconds an exchange or a served request may take as a whole: as long as a Prepare of an end may take.
 pub const ANSWER_SECONDS: u64 = 30;
 
-/// How many seconds an address of a host may take to take a connection, where another one is left.
+/// How many seconds an address of a host may take to accept a connection, if another address is left.
 pub const ADDRESS_SECONDS: u64 = 3;
 
-/// Where a neighbour is reached, and the token that it knows this side by.
+/// The host at which a neighbour is reached, and the token that it knows this side by.
 #[derive(Drop)]
 struct Neighbour<A: Allocator + Copy> {
     host: String<A>,
@@ -54,9 +54,9 @@ impl<A: Allocator + Copy> Model for Neighbour<A> {
 pub struct HttpLink<'n, N: Net + Clock, A: Allocator + Copy> {
     net: &'n N,
     neighbour: Option<Neighbour<A>>,
-    /// Where the last exchange was answered.
+    /// The address that answered the last exchange.
     address: Option<SocketAddr>,
-    /// So many calls of its stream an exchange may take.
+    /// The number of calls of its stream that an exchange may make.
     turns: u64,
     faults: u64,
     /// Why the last exchange brought no answer.
@@ -65,7 +65,7 @@ pub struct HttpLink<'n, N: Net + Clock, A: Allocator + Copy> {
     global: Global,
 }
 
-/// Which fault of a link a refusal of HTTP is: the device's where a read or a write failed.
+/// Which fault of a link a refusal of HTTP is: the device's if a read or a write failed.
 fn fault_of(error: HttpError) -> LinkFault
     ensures { result ≡ fault_of error }
 {
@@ -88,7 +88,7 @@ fn caused_fault(cause: LinkCause) -> LinkFault
 }
 
 /// How long an exchange may take that begins this long after the start of 1970: until `by`, and 30 seconds at most. `None`
-/// where `by` has passed.
+/// if `by` has passed.
 fn time_until(now: Duration, by: Moment) -> Option<Duration>
     ensures { IsTimeUntil now by result }
 {
@@ -97,7 +97,7 @@ fn time_until(now: Duration, by: Moment) -> Option<Duration>
     Some(left.min(Duration::from_secs(ANSWER_SECONDS)))
 }
 
-/// How long one address of a host may take to take a connection, of the time that is left, where it is the first of so many
+/// How long one address of a host may take to accept a connection, of the time that is left, if it is the first of `addresses`
 /// that are not tried yet: the last all of that time, each other its share, and 3 seconds at most.
 fn share_of(left: Duration, addresses: u32) -> Duration
     ensures { as_nanos result ≡ share (as_nanos left) addresses }
@@ -136,8 +136,8 @@ impl<A: Allocator + Copy> Neighbour<A> {
 }
 
 impl<'n, N: Net + Clock, A: Allocator + Copy> HttpLink<'n, N, A> {
-    /// A link to `host`, as HOST:PORT, by this token. Each exchange takes at most `turns` calls of its stream. Refused is want
-    /// of memory alone.
+    /// A link to `host`, as HOST:PORT, by this token. Each exchange makes at most `turns` calls of its stream. Fails only
+    /// if memory is refused.
     pub fn new(
         alloc: A,
         global: Global,
@@ -184,7 +184,7 @@ impl<'n, N: Net + Clock, A: Allocator + Copy> HttpLink<'n, N, A> {
         }
     }
 
-    /// Why the last exchange brought no answer. `None` where it brought one, or there was none yet.
+    /// Why the last exchange brought no answer. `None` if it brought one, or there was none yet.
     pub fn cause(&self) -> Option<LinkCause>
         ensures { result ≡ self.now.cause }
     {
@@ -205,7 +205,7 @@ impl<'n, N: Net + Clock, A: Allocator + Copy> HttpLink<'n, N, A> {
         self.address = address;
     }
 
-    /// A connection to an address before the deadline, where it is the first of so many that are not tried yet.
+    /// A connection to an address before the deadline, if it is the first of `addresses` that are not tried yet.
     fn connect_to(
         &self,
         address: SocketAddr,
@@ -221,7 +221,7 @@ impl<'n, N: Net + Clock, A: Allocator + Copy> HttpLink<'n, N, A> {
         }
     }
 
-    /// Why a name did not resolve. The resolver takes a file descriptor, and does not always say that there was none.
+    /// Why a name did not resolve. The resolver needs a file descriptor, and does not always say that there was none.
     fn unresolved_by(&self, error: &io::Error) -> Unreached {
         let is_short = is_out_of_descriptors(error)
             || match self.net.unix_socket() {
@@ -235,8 +235,8 @@ impl<'n, N: Net + Clock, A: Allocator + Copy> HttpLink<'n, N, A> {
         }
     }
 
-    /// A connection to the neighbour before the deadline, and its address: the one that was kept where it takes a connection,
-    /// or else the first that does of those that the host's name is resolved to.
+    /// A connection to the neighbour before the deadline, and its address: the one that was kept if it accepts a connection,
+    /// or else the first that does, of those that the host's name is resolved to.
     fn connect(
         &self,
         host: &str,
@@ -263,7 +263,7 @@ impl<'n, N: Net + Clock, A: Allocator + Copy> HttpLink<'n, N, A> {
         Err(why)
     }
 
-    /// When an exchange has to be done: 30 seconds from now, or at `by` where that is sooner.
+    /// When an exchange has to be done: 30 seconds from now, or at `by` if that is sooner.
     fn deadline(&self, by: Moment) -> Option<Instant> {
         let now = self.net.since_1970().ok()?;
         deadline_in(self.net, time_until(now, by)?)

@@ -13,7 +13,7 @@ moment_is_expiry ms h = grind (arith, ints)
 pub written : (ms : ℤ) → IsMoment ms → written_expiry ms ≡ Ok (expiry_text ms)
 written ms h = rw (moment_is_expiry ms h) refl
 
--- the digits of a moment, with what stands between them
+-- the digits of a moment, with the separators between them
 pub date_is : (ms : ℤ) (digits out : List ℕ) → digits ≡ expiry_text ms → ((t : DateAndTime) → digits ≡ digits_of t → out ≡ written_date t) → out ≡ date_text ms
 unfolding expiry_text date_text
 date_is ms digits out e separated = separated (date_and_time ms) e

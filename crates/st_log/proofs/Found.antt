@@ -1,4 +1,4 @@
--- What finds room stands behind all lines that wait.
+-- A line that finds room is queued after all lines that wait.
 use Rattle.std.proofs.Common.{◌≡◌, ℕ, ℤ, ◌<◌, ◌==◌, false, List, [], ◌∷◌, ◌++◌, refl, sym, ap, ◌∙◌, append_assoc, arith}
 use Rattle.std.proofs.lemmas.Bool.Decides.{nat_tests}
 use Rattle.st_log.specs.Lines.{line_text}

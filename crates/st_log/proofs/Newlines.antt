@@ -27,7 +27,7 @@ use Rattle.st_log.specs.declared.event.Heard.TheVariants as heard
 use Rattle.st_log.specs.declared.event.Kind.{Kind}
 use Rattle.st_log.specs.declared.event.Kind.TheVariants as kind
 
--- ---- bytes that are no newline
+-- ---- bytes without a newline
 
 other : (b : ℕ) → b ≢ 10 → not (b == 10) ≡ true
 other b h = grind (arith, nat_tests)
@@ -157,7 +157,7 @@ said_short text bytes rest h e = more text (quoted_short bytes ⧺ rest) (record
 coded : (text bytes rest : List ℕ) → has_no_newline text ≡ true → EndsByItsOneNewline rest → EndsByItsOneNewline (text ⧺ all_escaped bytes ⧺ rest)
 coded text bytes rest h e = more text (all_escaped bytes ⧺ rest) (record { is = h }) (more (all_escaped bytes) rest (all_escaped_clean bytes) e)
 
--- the same where more of the line follows
+-- the same if more of the line follows
 number_on : (text : List ℕ) (n : ℕ) (rest : List ℕ) → has_no_newline text ≡ true → Clean rest → Clean (text ⧺ decimal n ⧺ rest)
 number_on text n rest h e = both text (decimal n ⧺ rest) (record { is = h }) (both (decimal n) rest (decimal_clean n) e)
 
@@ -243,7 +243,7 @@ connection_ends : (l : Lost) (from : List ℕ) → EndsByItsOneNewline (connecti
 connection_ends (lost.Status status) from = number (codes "connection status=") status _ refl (said (codes " from=") from (10 ∷ []) refl ends)
 connection_ends lost.Cut from = said (codes "connection cut from=") from (10 ∷ []) refl ends
 
--- a text that may be cut stands in the line
+-- a text that may be cut is part of the line
 cut : (text bytes rest : List ℕ) → has_no_newline text ≡ true → EndsByItsOneNewline rest → EndsByItsOneNewline (text ⧺ quoted_short bytes ⧺ rest)
 cut text bytes rest h e = more text (quoted_short bytes ⧺ rest) (record { is = h }) (more (quoted_short bytes) rest (short_clean bytes) e)
 

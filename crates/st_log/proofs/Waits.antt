@@ -65,7 +65,7 @@ more contents a b c x y = record {
 
 -- ---- one call of the writer
 
--- it took some bytes of the first line
+-- it accepted some bytes of the first line
 pub took : {W : Type 0} (contents : W → Option (List ℕ)) (old new : Outlet W) (count : ℕ)
     → Appends (contents old.writer) (contents new.writer) (take count (drop old.queue.begun (first_of old.queue.lines.items)))
     → count ≤ length (drop old.queue.begun (first_of old.queue.lines.items))
@@ -85,7 +85,7 @@ took contents old new count appends few is leaves same =
       lost = same;
     }
 
--- it took none
+-- it accepted none
 pub kept : {W : Type 0} (contents : W → Option (List ℕ)) (old new : Outlet W)
     → Appends (contents old.writer) (contents new.writer) [] → new.queue ≡ old.queue → Writes contents old new
 kept contents old new appends same = record {

@@ -21,12 +21,12 @@ pub record EndsByItsOneNewline (text : List ℕ) : Type 0 where
 abbrev pub LineHasOneNewline : Type 0
 LineHasOneNewline = (moment : ℤ) (n : ℕ) (e : Event) → EndsByItsOneNewline (line_text moment n e)
 
--- A text of a peer takes at most 256 characters of a line, with two dots where it is cut, and two quotes
+-- A text of a peer has at most 256 characters in a line, with two dots where it is cut, and two quotes
 abbrev pub TextsOfPeersAreShort : Type 0
 TextsOfPeersAreShort = (text : List ℕ) → length (quoted_short text) ≤ 260
 
--- Each event has a line, or is told to be left out, or is counted to be told: those that were left out before, too. The count
--- stops at 2^64 - 1
+-- Each event has a line, or is reported as left out, or is counted for a later report; so are those that were left out
+-- before. The count stops at 2^64 - 1
 abbrev pub EventsAreCounted : Type 0
 EventsAreCounted = (old new : Slot) (seconds : List ℕ) (verdicts : List Verdict) → Run old seconds verdicts new
     → old.left + length seconds < 2 ^ 64 → lines_in verdicts + told_left verdicts + new.left ≡ old.left + length seconds

@@ -99,7 +99,7 @@ word_of kind.Clock = codes "clock"
 word_of kind.Listening = codes "listening"
 word_of kind.Control = codes "control"
 
--- ---- what stands behind the date, by the event, with the newline; n is the neighbour's number
+-- ---- what follows the date, by the event, with the newline; n is the neighbour's number
 
 abbrev pub send_text : (to address peer : List ℕ) → (money workers : ℕ) → List ℕ
 send_text to address peer money workers =
@@ -128,7 +128,7 @@ start_text (start.Receive listen address peer most) = receive_text listen.now ad
 start_text (start.Connector listen own workers (Some requests)) = connector_text listen.now own.now workers requests
 start_text (start.Connector listen own workers None) = endless_text listen.now own.now workers
 
--- an address of the system has no byte that is escaped, so it stands bare
+-- an address of the system has no byte that is escaped, so it is written without quotes
 abbrev pub listening_text : (address : List ℕ) → List ℕ
 listening_text address = codes "listening address=" ⧺ all_escaped address ⧺ 10 ∷ []
 

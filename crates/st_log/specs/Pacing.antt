@@ -20,14 +20,14 @@ empty = record { second = 0; written = 0; left = 0 }
 abbrev pub written_in : Slot → (second : ℕ) → ℕ
 written_in s second = if second == s.second then s.written else 0
 
--- An event in this second: its line is written where fewer than ten were, and tells all that were left out; else it is left out, and
--- counted
+-- An event in this second: its line is written if fewer than ten were, and `more` is the number that were left out before; otherwise
+-- the event is left out and counted
 abbrev pub Paces : Slot → (second : ℕ) → Verdict → Slot → Type 0
 Paces old second (Write more) new =
     (written_in old second < 10) × (more ≡ old.left) × (new ≡ record { second = second; written = written_in old second + 1; left = 0 })
 Paces old second LeaveOut new = (10 ≤ written_in old second) × (new ≡ record old { left = count_after 1 old.left })
 
--- those that were left out are told
+-- those that were left out are reported
 abbrev pub Tells : Slot → (count : ℕ) → Slot → Type 0
 Tells old count new = (count ≡ old.left) × (new ≡ record old { left = 0 })
 
@@ -35,7 +35,7 @@ abbrev pub told_in : Option Left → ℕ
 told_in None = 0
 told_in (Some l) = l.count
 
--- where a kind from a neighbour is counted: each has a place of its own, but neighbours above the last share the last one's
+-- the place at which a kind from a neighbour is counted: each has its own, but neighbours above the last share the last one's
 abbrev pub slot_place : (last : ℕ) → Kind → (neighbour : ℕ) → ℕ
 slot_place last k n = min n last * 14 + place_of k
 
@@ -54,7 +54,7 @@ lines_in [] = 0
 lines_in (Write more ∷ verdicts) = suc (lines_in verdicts)
 lines_in (LeaveOut ∷ verdicts) = lines_in verdicts
 
--- the events that were told to be left out
+-- the events that were reported as left out
 abbrev pub told_left : List Verdict → ℕ
 told_left [] = 0
 told_left (Write more ∷ verdicts) = more + told_left verdicts

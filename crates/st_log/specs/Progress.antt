@@ -10,16 +10,16 @@ use Rattle.st_log.specs.declared.progress.Brief.{Brief}
 use Rattle.st_log.specs.declared.progress.Brief.TheVariants as brief
 use Rattle.st_log.specs.declared.progress.Progress.{Progress}
 
--- how much of an input of this length so many bytes are, in percent, rounded down: all of one that is empty, and no more than all
+-- the part of an input of this length that these bytes are, in percent, rounded down: all of one that is empty, and no more than all
 abbrev pub percent : (bytes length : ℕ) → ℕ
 percent bytes length = if length == 0 then 100 else min (bytes * 100 / length) 100
 
--- bytes a second, rounded down, where so many came in so many milliseconds; none where no time passed
+-- bytes a second, rounded down, if `gained` bytes arrived in `millis` milliseconds; 0 if no time passed
 abbrev pub rate : (gained millis : ℕ) → ℕ
 rate gained millis = if millis == 0 then 0 else gained * 1000 / millis
 
--- the seconds, rounded down, in which the rest of an input of a known length comes, at the pace of so many bytes in so many
--- milliseconds: unknown where none came, or no time passed
+-- the seconds, rounded down, in which the rest of an input of a known length arrives, at the pace of `gained` bytes in `millis`
+-- milliseconds: unknown if none arrived, or no time passed
 abbrev pub seconds_left : (bytes : ℕ) → Option ℕ → (gained millis : ℕ) → Option ℕ
 seconds_left bytes None gained millis = None
 seconds_left bytes (Some length) gained millis =
@@ -69,7 +69,7 @@ failure_text (Some brief.Unfit) = codes " (last failure: fulfillment)"
 failure_text (Some brief.Unreadable) = codes " (last failure: answer)"
 failure_text (Some brief.NoMemory) = codes " (last failure: memory)"
 
--- what stands behind the units
+-- what follows the units
 abbrev pub tail_text : Progress → List ℕ
 tail_text p = left_text (seconds_left p.bytes p.length p.gained p.millis) ⧺ waits_text p.waits ⧺ failure_text p.last
 

@@ -9,7 +9,7 @@ use Rattle.st_log.specs.declared.waiting.Queue.{Queue as Lines}
 abbrev pub Queue : Type 0
 Queue = Lines
 
--- Where events were lost, a line that tells how many stands before the next one, and needs room, too
+-- If events were lost, a line with their number precedes the next one, and needs room, too
 abbrev pub has_room : Queue → Bool
 has_room q = nat_le (length q.lines.items + (if q.lost == 0 then 1 else 2)) most_lines
 
@@ -17,13 +17,13 @@ has_room q = nat_le (length q.lines.items + (if q.lost == 0 then 1 else 2)) most
 abbrev pub told_before : (now : ℤ) → (lost : ℕ) → List (List ℕ)
 told_before now lost = if lost == 0 then [] else line_text now 0 (event.NoRoom lost) ∷ []
 
--- a line finds room behind all others, and tells all that were lost before
+-- a line finds room after all others, and the number of those lost before is written ahead of it
 pub record Finds (old : Queue) (now : ℤ) (line : List ℕ) (new : Queue) : Type 0 where
   pub lines : texts new.lines.items ≡ texts old.lines.items ++ (told_before now old.lost ++ line ∷ [])
   pub begun : new.begun ≡ old.begun
   pub lost : new.lost ≡ 0
 
--- so many events are lost: the lines that wait stay as they are
+-- `count` events are lost: the lines that wait stay as they are
 pub record Loses (old : Queue) (count : ℕ) (new : Queue) : Type 0 where
   pub lines : new.lines.items ≡ old.lines.items
   pub begun : new.begun ≡ old.begun

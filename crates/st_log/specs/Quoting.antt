@@ -1,4 +1,4 @@
--- Texts of others, as they stand in a line.
+-- Texts of others, as they are written in a line.
 use Rattle.std.specs.Prelude.{ℕ, ◌+◌, ◌-◌, ◌/◌, ◌%◌, ◌==◌, nat_le, nat_lt, Bool, not, ◌&&◌, if◌then◌else◌, List, [], ◌∷◌, ◌++◌, length}
 use Rattle.std.specs.List.{flat_map}
 
@@ -14,7 +14,7 @@ hex_digit n = if nat_lt n 10 then 48 + n else 87 + n
 abbrev pub hex_escape : ℕ → List ℕ
 hex_escape b = 92 ∷ 120 ∷ hex_digit (b / 16) ∷ hex_digit (b % 16) ∷ []
 
--- a byte as it stands in a line: plain, the quote and the backslash behind a backslash, and each other one by its digits
+-- a byte as it is written in a line: plain, the quote and the backslash after a backslash, and each other one by its digits
 unfoldable pub escaped : ℕ → List ℕ
 escaped b = if b == 34 then 92 ∷ 34 ∷ [] else (if b == 92 then 92 ∷ 92 ∷ [] else (if is_plain b then b ∷ [] else hex_escape b))
 
@@ -27,21 +27,21 @@ quoted bytes = 34 ∷ all_escaped bytes ++ 34 ∷ []
 
 -- ---- texts of peers, which are cut
 
--- how many characters of a line such a text takes at most
+-- how many characters such a text has in a line at most
 abbrev pub most_quoted : ℕ
 most_quoted = 256
 
--- The characters of a line that have to be left for a byte to stand in it. For one that begins a character of two, three or four
+-- The characters of a line that have to be left for a byte to be written. For one that begins a character of two, three or four
 -- bytes (RFC 3629, section 3) these are the escapes of all of them, so that no character is cut in two
 abbrev pub needed : ℕ → ℕ
 needed b = if nat_lt b 192 then length (escaped b) else (if nat_lt b 224 then 8 else (if nat_lt b 240 then 12 else 16))
 
--- the bytes at the front of a text that stand in a line where so many characters are left
+-- the bytes at the front of a text that are written in a line if `left` characters are left
 abbrev pub fitting : (left : ℕ) → List ℕ → List ℕ
 fitting left [] = []
 fitting left (b ∷ text) = if nat_le (needed b) left then b ∷ fitting (left - length (escaped b)) text else []
 
--- two dots, where not all of a text stands in the line
+-- two dots, if not all of a text is written in the line
 abbrev pub dots : (kept text : List ℕ) → List ℕ
 dots kept text = if nat_lt (length kept) (length text) then 46 ∷ 46 ∷ [] else []
 

@@ -11,7 +11,7 @@ abbrev pub texts : List Line → List (List ℕ)
 texts [] = []
 texts (l ∷ ls) = l.text.items ∷ texts ls
 
--- their bytes, one line behind another
+-- their bytes, one line after another
 abbrev pub bytes_of : List Line → List ℕ
 bytes_of [] = []
 bytes_of (l ∷ ls) = l.text.items ++ bytes_of ls
@@ -26,6 +26,6 @@ abbrev pub behind_first : List Line → List Line
 behind_first [] = []
 behind_first (l ∷ ls) = ls
 
--- what is still to be written where so many bytes of the first line are written
+-- what is still to be written if `begun` bytes of the first line are written
 abbrev pub unwritten : List Line → (begun : ℕ) → List ℕ
 unwritten lines begun = drop begun (first_of lines) ++ bytes_of (behind_first lines)

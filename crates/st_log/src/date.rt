@@ -7,7 +7,7 @@ ghost use Rattle.st_log.specs.Lines as spec;
 
 use st_ilp::{Moment, write_expiry};
 
-/// The digits of a date with what stands between them, as `2026-01-02T03:04:05.006Z`.
+/// The digits of a date with the separators between them, as `2026-01-02T03:04:05.006Z`.
 fn separated(d: [u8; 17]) -> [u8; 24]
     ensures { (t : DateAndTime) → d ≡ digits_of t → result ≡ spec.written_date t }
 {

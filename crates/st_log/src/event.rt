@@ -3,7 +3,7 @@
 ghost use Rattle.std.specs.Prelude.{◌≡◌, ◌<◌};
 ghost use Rattle.st_log.specs.Lines as spec;
 
-/// One event of a run. Which neighbour it is about is said beside it: the number of an account at a connector, and 0 at
+/// One event of a run. The neighbour that it is about is given separately: the number of an account at a connector, and 0 at
 /// `send` and `receive`. No event has a secret, a token or a payload.
 #[derive(Clone, Copy)]
 pub enum Event<'a> {
@@ -20,14 +20,14 @@ pub enum Event<'a> {
     Refused {
         /// The code of the Reject.
         code: [u8; 3],
-        /// The number of the reason, where an end refused it.
+        /// The number of the reason, if an end refused it.
         reason: Option<u8>,
     },
     /// A connection brought no request that is answered.
     Connection {
         /// What became of it.
         lost: Lost,
-        /// The address of its other side, as IP:PORT. Empty where it is not known.
+        /// The address of its other side, as IP:PORT. Empty if it is not known.
         from: &'a str,
     },
     /// The neighbour found a packet too large (F08).
@@ -42,7 +42,7 @@ pub enum Event<'a> {
         /// By how many milliseconds.
         set_back: u64,
     },
-    /// A line came by the pipe by which a command is asked things while it runs.
+    /// A line arrived by the pipe over which a command is asked things while it runs.
     Control {
         /// The line, without its newline.
         line: &'a [u8],
@@ -62,7 +62,7 @@ pub enum Event<'a> {
     Closed {
         /// The number of the stream.
         stream: u64,
-        /// The code with which it was aborted. `None` where it was closed cleanly.
+        /// The code with which it was aborted. `None` if it was closed cleanly.
         code: Option<u64>,
     },
     /// The totals of an end so far.
@@ -100,7 +100,7 @@ pub enum Event<'a> {
     },
 }
 
-/// The settings with which a command begins. It has those that are no secrets.
+/// The settings with which a command begins, except for secrets.
 #[derive(Clone, Copy)]
 pub enum Start<'a> {
     /// The command `send`.
@@ -124,7 +124,7 @@ pub enum Start<'a> {
         address: &'a str,
         /// The ILP address of its peer.
         peer: &'a str,
-        /// The most units that it takes.
+        /// The most units that it accepts.
         receive_max: u64,
     },
     /// The command `connector`.
@@ -147,7 +147,7 @@ pub enum Cause<'a> {
     Link {
         /// The number of its fault.
         fault: u8,
-        /// The status of the response, where it is not 200.
+        /// The status of the response, if it is not 200.
         status: Option<u16>,
     },
     /// No connection to the neighbour was made.
@@ -161,7 +161,7 @@ pub enum Cause<'a> {
         /// Its message for people.
         message: &'a str,
     },
-    /// The answer is a Fulfill that is not passed back: it does not fit the condition, came too late or could not be stored.
+    /// The answer is a Fulfill that is not passed back: it does not fit the condition, is too late or could not be stored.
     Unfit,
     /// The answer is neither a Fulfill nor a Reject.
     Unreadable,
@@ -172,7 +172,7 @@ pub enum Cause<'a> {
 /// Why no connection to a neighbour was made.
 #[derive(Clone, Copy, Debug, PartialEq, Eq)]
 pub enum Unreached {
-    /// There is no place where the neighbour is reached, or the connection failed in another way.
+    /// There is no address at which the neighbour is reached, or the connection failed in another way.
     Other,
     /// The process has no free file descriptor.
     Descriptors,
@@ -184,7 +184,7 @@ pub enum Unreached {
     Timeout,
 }
 
-/// A limit of the peer at which an end waits: what it tells in a Blocked frame (RFC 0029, section 5.3).
+/// A limit of the peer at which an end waits: what it reports in a Blocked frame (RFC 0029, section 5.3).
 #[derive(Clone, Copy, Debug, PartialEq, Eq)]
 pub enum Blocked {
     /// The limit on the bytes of all streams together.
@@ -203,7 +203,7 @@ pub enum Blocked {
     StreamMoney {
         /// The number of the stream.
         stream: u64,
-        /// The most units that the peer takes on it.
+        /// The most units that the peer accepts on it.
         receive_max: u64,
         /// The units that were paid on it.
         total: u64,

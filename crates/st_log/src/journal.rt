@@ -13,20 +13,20 @@ use std::sync::{Mutex, MutexGuard};
 use std::thread;
 use std::time::{Clock, Duration};
 
-/// How often a lock is looked at before it is given up.
+/// How often a lock is tried before it is given up.
 const TRIES: u32 = 200;
 
-/// How often a writer that takes nothing is tried at the end of a run, before the lines that wait are given up.
+/// How often a writer that accepts no more is tried at the end of a run, before the lines that wait are given up.
 const LAST_TRIES: u32 = 500;
 
-/// How many milliseconds pass between two of these looks, or tries.
+/// How many milliseconds pass between two of these tries.
 const PAUSE: u64 = 1;
 
 /// A log: a writer that many threads share, with at most ten lines a second of one kind from one neighbour.
 ///
-/// A line is made while no lock is held. Lines wait in a queue of 1,024, and whoever adds one writes what the writer takes. The
-/// writer is to be one that does not wait for its reader. What finds no room, or is held up by another thread for a fifth of a
-/// second, is counted as lost, and told before a later line. A write that fails is tried again with the next line.
+/// A line is made without a lock. Lines wait in a queue of 1,024, and whoever adds one writes what the writer accepts. The
+/// writer is to be one that does not wait for its reader. What finds no room, or is delayed by another thread for a fifth of a
+/// second, is counted as lost, and reported before a later line. A write that fails is tried again with the next line.
 #[derive(Drop)]
 pub struct Journal<W> {
     alloc: Global,
@@ -37,7 +37,7 @@ pub struct Journal<W> {
     missed: AtomicU64,
 }
 
-/// Takes a lock where it is free within some time.
+/// Locks a mutex if it is free within some time.
 fn within<'a, T>(clock: &impl Clock, lock: &'a Mutex<T>) -> Option<MutexGuard<'a, T>> {
     for _ in 0..TRIES {
         if let Some(guard) = lock.try_lock() {
@@ -53,7 +53,7 @@ fn second_of(moment: Moment) -> u64 {
     moment.ms().unsigned_abs() / 1_000
 }
 
-/// For how many events a line stands.
+/// The number of events that a line reports.
 fn events_of(event: &Event<'_>) -> u64 {
     match event {
         Event::More { count, .. } | Event::NoRoom { count } => *count,
@@ -61,11 +61,11 @@ fn events_of(event: &Event<'_>) -> u64 {
     }
 }
 
-// Each function here that takes a lock lets it go before it returns.
+// Each function here that acquires a lock releases it before it returns.
 
 impl<W: Write> Journal<W> {
-    /// A log that writes to `writer`, behind what stands there. `last` is the greatest number of a neighbour: 0 but for a
-    /// connector. Fails where memory is refused.
+    /// A log that writes to `writer`, after what is there already. `last` is the greatest number of a neighbour: 0 but for a
+    /// connector. Fails if memory is refused.
     pub fn new(alloc: Global, writer: W, last: u32) -> Result<Journal<W>, AllocError>
     where
         W: Drop,
@@ -87,7 +87,7 @@ impl<W: Write> Journal<W> {
     }
 
     /// Has all lines from now on written by another writer, those that wait among them. A line that was written in part is written
-    /// anew. False where another thread writes for too long: then the writer stays.
+    /// anew. False if another thread writes for too long: then the writer stays.
     pub fn change<C: Clock>(&self, clock: &C, writer: W) -> bool
     where
         W: Drop,
@@ -101,8 +101,8 @@ impl<W: Write> Journal<W> {
         true
     }
 
-    /// Writes the line of an event that happened now, about the neighbour of this number. Not to be called while a lock of a
-    /// hub or a desk is held.
+    /// Writes the line of an event that happened now, about the neighbour of this number. Not to be called by a thread that has
+    /// locked a hub or a desk.
     pub fn note<C: Clock>(&self, clock: &C, now: Moment, neighbour: usize, event: &Event<'_>) {
         let kind = event.kind();
         match self.verdict(clock, now, kind, neighbour) {
@@ -117,7 +117,7 @@ impl<W: Write> Journal<W> {
         }
     }
 
-    /// Tells how many events were left out and are not told yet. To be called now and then, as each minute, and at the end.
+    /// Writes how many events were left out and are not reported yet. To be called now and then, as each minute, and at the end.
     pub fn catch_up<C: Clock>(&self, clock: &C, now: Moment) {
         let last = match within(clock, &self.pace) {
             Some(pace) => pace.last(),
@@ -138,16 +138,16 @@ impl<W: Write> Journal<W> {
         }
     }
 
-    /// Writes the line of the command's end, and what waits before it. Where the writer takes nothing, it is waited for: half a
-    /// second for room for the line, and half a second for all lines to be taken.
+    /// Writes the line of the command's end, and what waits before it. If the writer accepts no more, it is waited for: half a
+    /// second for room for the line, and half a second for all lines to be written.
     pub fn finish<C: Clock>(&self, clock: &C, now: Moment, event: &Event<'_>) {
-        // (so many, since one that tells what was lost may stand before it)
+        // (room for two lines, since one with the number of lost events may precede it)
         self.settle(clock, MOST_LINES - 2);
         self.note(clock, now, 0, event);
         self.settle(clock, 0);
     }
 
-    /// Waits until no more than so many lines wait, for half a second at most, and not where a write fails.
+    /// Waits until at most `most` lines wait, for half a second at most, and not if a write fails.
     fn settle<C: Clock>(&self, clock: &C, most: usize) {
         for _ in 0..LAST_TRIES {
             let Some(mut outlet) = within(clock, &self.outlet) else {
@@ -162,7 +162,7 @@ impl<W: Write> Journal<W> {
         }
     }
 
-    /// What is to be done with an event. `None` where that is not known in time.
+    /// What is to be done with an event. `None` if that is not known in time.
     fn verdict<C: Clock>(
         &self,
         clock: &C,
@@ -174,7 +174,7 @@ impl<W: Write> Journal<W> {
         Some(pace.lets(kind, neighbour, second_of(now)))
     }
 
-    /// The events of a kind from a neighbour that are to be told.
+    /// The events of a kind from a neighbour that are to be reported.
     fn left<C: Clock>(&self, clock: &C, kind: Kind, neighbour: usize) -> Option<Left> {
         let mut pace = within(clock, &self.pace)?;
         pace.tell(kind, neighbour)
@@ -193,7 +193,7 @@ impl<W: Write> Journal<W> {
         round
     }
 
-    /// Writes the line of an event behind those that wait, or lets it wait. Its events are counted as lost where memory is
+    /// Writes the line of an event after those that wait, or lets it wait. Its events are counted as lost if memory is
     /// refused, another thread writes for too long, or it finds no room.
     fn write<C: Clock>(&self, clock: &C, now: Moment, neighbour: usize, event: &Event<'_>) {
         let count = events_of(event);
@@ -205,7 +205,7 @@ impl<W: Write> Journal<W> {
         };
         outlet.queue.lose(self.missed.swap(0, Ordering::SeqCst));
         self.round(&mut outlet);
-        // Where memory for the line of what was lost is refused, the events of this one are lost, too.
+        // If memory for the line of what was lost is refused, the events of this one are lost, too.
         let _ = outlet.queue.add(self.alloc, now, Line { text }, count);
         self.round(&mut outlet);
     }

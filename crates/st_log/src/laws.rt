@@ -7,14 +7,14 @@ pub fn line_has_one_newline()
     ensures { LineHasOneNewline }
 {}
 
-/// States a law; it does nothing. A text of a peer takes at most 260 characters of a line, with its quotes and with two dots
+/// States a law; it does nothing. A text of a peer has at most 260 characters in a line, with its quotes and with two dots
 /// where it is cut.
 pub fn texts_of_peers_are_short()
     ensures { TextsOfPeersAreShort }
 {}
 
 /// States a law; it does nothing. Each event of a kind from a neighbour has a line, or is in the number that a later line
-/// tells, or is counted for one.
+/// reports, or is counted for one.
 pub fn events_are_counted()
     ensures { EventsAreCounted }
 {}

@@ -1,8 +1,8 @@
 //! The log of `send`, `receive` and `connector`: one line for each event.
 //!
 //! `Event` has what can happen, and `line` the text of one. A `Journal` is a writer that many threads share. It writes at
-//! most ten lines a second of one kind from one neighbour, counts the others, and tells their number in a line of its own.
-//! Lines that its writer does not take wait in a queue, and what finds no room there is counted, too. specs/Lines.antt has the
+//! most ten lines a second of one kind from one neighbour, counts the others, and reports their number in a line of its own.
+//! Lines that its writer does not accept wait in a queue, and what finds no room is counted, too. specs/Lines.antt has the
 //! text of each line, specs/Pacing.antt says which are written, and specs/Queue.antt which wait.
 #![tactic(auto)]
 

@@ -7,7 +7,7 @@ use crate::waiting::Queue;
 use std::alloc::{AllocError, Global};
 use std::io::{ErrorKind, Write};
 
-/// How many calls of the writer one round may take.
+/// The most calls of the writer in one round.
 const CALLS: u32 = 65_536;
 
 /// How a round of writing ended.
@@ -15,7 +15,7 @@ const CALLS: u32 = 65_536;
 pub(crate) enum Round {
     /// All lines are written.
     All,
-    /// The writer takes no more now: nobody reads, or the reader is behind.
+    /// The writer accepts no more now: nobody reads, or the reader is slow.
     Later,
     /// The writer failed.
     Failed,
@@ -48,7 +48,7 @@ impl<W> Outlet<W> {
         Ok(Outlet { writer, queue })
     }
 
-    /// Has the lines that wait, and those to come, written by another writer: a line that was written in part is written anew.
+    /// Has the lines that wait, and later ones, written by another writer: a line that was written in part is written anew.
     pub(crate) fn change(&mut self, writer: W)
     where
         W: Drop,
@@ -81,8 +81,8 @@ impl<W: Write> Outlet<W> {
         }
     }
 
-    /// Writes the lines that wait, as far as the writer takes them. Each byte is written once, in its order, so a line that is
-    /// written in part is completed by a later round.
+    /// Writes the lines that wait, as far as the writer accepts them. Each byte is written once, in its order, so a line that
+    /// is written in part is completed by a later round.
     pub(crate) fn round(&mut self) -> Round
         ensures written { Writes W.contents self.old self.new }
         ensures all { result ≡ Round.All → self.new.queue.lines.items ≡ [] }

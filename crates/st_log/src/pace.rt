@@ -14,7 +14,7 @@ pub const LINES_A_SECOND: u64 = 10;
 /// What to do with an event.
 #[derive(Clone, Copy, Debug, PartialEq, Eq)]
 pub enum Verdict {
-    /// Write its line, behind one that tells how many were left out before, where that number is not 0.
+    /// Write its line, after one with the number of those left out before, if that number is not 0.
     Write {
         /// How many were left out since the last line of this kind from this neighbour.
         more: u64,
@@ -30,11 +30,11 @@ pub(crate) struct Slot {
     second: u64,
     /// How many lines were written in it.
     written: u64,
-    /// How many events were left out since, and not told yet.
+    /// How many events were left out since, and not reported yet.
     left: u64,
 }
 
-/// Events that were left out, and are told now.
+/// Events that were left out, and are reported now.
 #[derive(Clone, Copy, Debug, PartialEq, Eq)]
 pub struct Left {
     /// Their kind.
@@ -79,7 +79,7 @@ impl Slot {
         Verdict::Write { more }
     }
 
-    /// The number of those that were left out and not told yet. They are told now.
+    /// The number of those that were left out and not reported yet. They count as reported now.
     fn tell(&mut self) -> u64
         ensures { Tells self.old result self.new }
     {
@@ -109,15 +109,15 @@ impl Pace {
         Ok(Pace { last, slots })
     }
 
-    /// Where events of this kind from this neighbour are counted.
+    /// The place at which events of this kind from this neighbour are counted.
     fn place(&self, kind: Kind, neighbour: usize) -> usize
         ensures { result ≡ slot_place self.now.last kind neighbour }
     {
         neighbour.min(self.last as usize) * KINDS + kind.place()
     }
 
-    /// Whether the line of an event of this kind from this neighbour in this second is written: where fewer than ten were.
-    /// Else it is counted.
+    /// Whether the line of an event of this kind from this neighbour in this second is written: if fewer than ten were.
+    /// Otherwise the event is counted.
     pub fn lets(&mut self, kind: Kind, neighbour: usize, second: u64) -> Verdict
         ensures last { self.new.last ≡ self.old.last }
         ensures paced { MatchOption (slice_get self.old.slots.items (slot_place self.old.last kind neighbour)) ((self.new.slots.items ≡ self.old.slots.items) × (result ≡ Verdict.Write 0))
@@ -130,7 +130,7 @@ impl Pace {
         }
     }
 
-    /// Tells events that were left out, from one place: those are told then. `None` where none are left out there.
+    /// Reports the events left out at one place, and sets their count to 0. `None` if none are left out there.
     pub fn tell(&mut self, kind: Kind, neighbour: usize) -> Option<Left>
         ensures last { self.new.last ≡ self.old.last }
         ensures told { MatchOption (slice_get self.old.slots.items (slot_place self.old.last kind neighbour)) ((self.new.slots.items ≡ self.old.slots.items) × (result ≡ None))

@@ -15,7 +15,7 @@ pub enum Brief {
     Link {
         /// The number of its fault.
         fault: u8,
-        /// The status of the response, where it is not 200.
+        /// The status of the response, if it is not 200.
         status: Option<u16>,
     },
     /// No connection to the neighbour was made.
@@ -35,17 +35,17 @@ pub enum Brief {
 pub struct Progress {
     /// The bytes that were sent or received.
     pub bytes: u64,
-    /// How many bytes the input has, where that is known.
+    /// How many bytes the input has, if that is known.
     pub length: Option<u64>,
-    /// How many of these bytes came in the last seconds.
+    /// How many of these bytes arrived in the last seconds.
     pub gained: u64,
     /// The milliseconds of these last seconds.
     pub millis: u64,
     /// The units that were paid or received.
     pub units: u64,
-    /// The limit of the peer at which the end waits. `None` where it does not.
+    /// The limit of the peer at which the end waits. `None` if it does not.
     pub waits: Option<Blocked>,
-    /// Why the last exchange without a Fulfill brought none. `None` where there was no such exchange.
+    /// Why the last exchange without a Fulfill brought none. `None` if there was no such exchange.
     pub last: Option<Brief>,
 }
 
@@ -65,7 +65,7 @@ impl Cause<'_> {
     }
 }
 
-/// How much of an input of this length so many bytes are, in percent.
+/// The part of an input of this length that these bytes are, in percent.
 fn percent(bytes: u64, length: u64) -> u128
     ensures { result ≡ spec.percent bytes length }
 {
@@ -75,7 +75,7 @@ fn percent(bytes: u64, length: u64) -> u128
     (u128::from(bytes) * 100 / u128::from(length)).min(100)
 }
 
-/// Bytes a second, where so many came in so many milliseconds.
+/// Bytes a second, if `gained` bytes arrived in `millis` milliseconds.
 fn rate(gained: u64, millis: u64) -> u128
     ensures { result ≡ spec.rate gained millis }
 {
@@ -85,8 +85,8 @@ fn rate(gained: u64, millis: u64) -> u128
     u128::from(gained) * 1_000 / u128::from(millis)
 }
 
-/// The seconds in which the rest of an input of this length comes, at the pace of so many bytes in so many milliseconds. `None`
-/// where that is unknown.
+/// The seconds in which the rest of an input of this length arrives, at the pace of `gained` bytes in `millis` milliseconds.
+/// `None` if that is unknown.
 fn seconds_left(bytes: u64, length: Option<u64>, gained: u64, millis: u64) -> Option<u128>
     ensures { result ≡ spec.seconds_left bytes length gained millis }
 {
@@ -192,7 +192,7 @@ fn failure_text(alloc: Global, last: Option<Brief>) -> Result<String, AllocError
     }
 }
 
-/// What stands behind the units.
+/// What follows the units.
 #[tactic(auto, using(crate::proofs::Pieces::pieces))]
 fn tail_text(alloc: Global, progress: &Progress) -> Result<String, AllocError>
     ensures { IfOk result (λ text. string_bytes text ≡ spec.tail_text progress.now) }
@@ -217,7 +217,7 @@ fn tail_text(alloc: Global, progress: &Progress) -> Result<String, AllocError>
 /// The line of a transfer that is so far: from the first column of a terminal, whose line it rewrites, and back to it. It has no
 /// other control character than these carriage returns and the sequence that clears the rest of the line.
 ///
-/// Fails where memory is refused.
+/// Fails if memory is refused.
 pub fn shown(alloc: Global, progress: &Progress) -> Result<String, AllocError>
     ensures { IfOk result (λ text. string_bytes text ≡ spec.shown_text progress.now) }
 {

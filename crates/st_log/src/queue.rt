@@ -48,7 +48,7 @@ impl Queue {
         self.lines.is_empty()
     }
 
-    /// Whether a line finds room, behind one that tells how many events were lost, where some were.
+    /// Whether a line finds room, with one before it that reports how many events were lost, if some were.
     pub(crate) fn has_room(&self) -> bool
         ensures { result ≡ spec.has_room self.now }
     {
@@ -56,17 +56,17 @@ impl Queue {
         self.lines.len() + places <= MOST_LINES
     }
 
-    /// So many events are lost.
+    /// Counts this number of events as lost.
     pub(crate) fn lose(&mut self, count: u64)
         ensures { spec.Loses self.old count self.new }
     {
         self.lost = self.lost.saturating_add(count);
     }
 
-    /// Adds a line behind all others, where it finds room; else so many events are lost. Whether it found room. A line that
-    /// tells how many events were lost stands before it, with the moment that it is now, where some were.
+    /// Adds a line after all others, if it finds room; otherwise `count` events are lost. Returns whether it found room. If some
+    /// events were lost, a line with their number precedes it, with the moment that it is now.
     ///
-    /// Fails where memory for that line is refused. So many events are lost then, too.
+    /// Fails if memory for that line is refused. `count` events are lost then, too.
     pub(crate) fn add(
         &mut self,
         alloc: Global,
@@ -89,7 +89,7 @@ impl Queue {
         Ok(true)
     }
 
-    /// The same where some events were lost, and there is room.
+    /// The same if some events were lost, and there is room.
     fn add_behind_lost(
         &mut self,
         alloc: Global,
@@ -117,7 +117,7 @@ impl Queue {
         }
     }
 
-    /// What is to be written of the first line. Empty where no line waits.
+    /// What is to be written of the first line. Empty if no line waits.
     pub(crate) fn first(&self) -> &[u8]
         ensures { result.now ≡ drop self.now.begun (first_of self.now.lines.items) }
     {
@@ -127,7 +127,7 @@ impl Queue {
         }
     }
 
-    /// So many bytes of the first line are written. It leaves once all of it is.
+    /// `count` more bytes of the first line are written. It leaves once all of it is.
     pub(crate) fn written(&mut self, count: usize)
         requires { count ≤ length (drop self.old.begun (first_of self.old.lines.items)) }
         ensures bytes { unwritten self.new.lines.items self.new.begun ≡ drop count (unwritten self.old.lines.items self.old.begun) }
@@ -143,7 +143,7 @@ impl Queue {
     }
 }
 
-/// The line that tells how many events were lost.
+/// The line with the number of lost events.
 fn line_of_lost(alloc: Global, now: Moment, lost: u64) -> Result<Line, AllocError>
     ensures { IfOk result (λ told. told.text.items ≡ line_text now 0 (Event.NoRoom lost)) }
 {

@@ -1,11 +1,11 @@
-//! Texts of others, as they stand in a line.
+//! Texts of others, as they are written in a line.
 
 ghost use Rattle.std.specs.Prelude.{◌≡◌, ◌++◌, ◌<◌, ◌≤◌, IfOk, OnOk, length, string_bytes, take};
 ghost use Rattle.st_log.specs.Quoting as spec;
 
 use std::alloc::{AllocError, Global};
 
-/// How many characters of a line a text of a peer takes at most.
+/// How many characters a text of a peer has in a line at most.
 const MOST_QUOTED: usize = 256;
 
 /// The character of a hexadecimal digit.
@@ -17,7 +17,7 @@ fn hex_digit(n: u8) -> u8
     if n < 10 { b'0' + n } else { b'a' + (n - 10) }
 }
 
-/// Whether a byte may stand in a line as it is.
+/// Whether a byte is written in a line as it is.
 fn is_plain(byte: u8) -> bool
     ensures { result ≡ spec.is_plain byte }
 {
@@ -33,7 +33,7 @@ fn put_hex(text: &mut String, byte: u8) -> Result<(), AllocError>
     text.push(char::from(hex_digit(byte % 16)))
 }
 
-/// Appends a byte as it stands in a line.
+/// Appends a byte as it is written in a line.
 #[tactic(auto, unfolding(crate::specs::Quoting::escaped))]
 fn put_escaped(text: &mut String, byte: u8) -> Result<(), AllocError>
     ensures { OnOk result (string_bytes text.new ≡ string_bytes text.old ++ spec.escaped byte) }
@@ -50,7 +50,7 @@ fn put_escaped(text: &mut String, byte: u8) -> Result<(), AllocError>
     put_hex(text, byte)
 }
 
-/// Appends bytes as they stand in a line.
+/// Appends bytes as they are written in a line.
 fn put_all_escaped(text: &mut String, bytes: &[u8]) -> Result<(), AllocError>
     ensures { OnOk result (string_bytes text.new ≡ string_bytes text.old ++ spec.all_escaped bytes.now) }
 {
@@ -60,7 +60,7 @@ fn put_all_escaped(text: &mut String, bytes: &[u8]) -> Result<(), AllocError>
     Ok(())
 }
 
-/// Bytes as they stand in a line, in double quotes.
+/// Bytes as they are written in a line, in double quotes.
 #[tactic(auto, using(crate::proofs::Pieces::pieces), unfolding(crate::specs::Quoting::quoted))]
 pub(crate) fn quoted(alloc: Global, bytes: &[u8]) -> Result<String, AllocError>
     ensures { IfOk result (λ text. string_bytes text ≡ spec.quoted bytes.now) }
@@ -72,7 +72,7 @@ pub(crate) fn quoted(alloc: Global, bytes: &[u8]) -> Result<String, AllocError>
     Ok(text)
 }
 
-/// Bytes as they stand in a line, without quotes.
+/// Bytes as they are written in a line, without quotes.
 pub(crate) fn bare(alloc: Global, bytes: &[u8]) -> Result<String, AllocError>
     ensures { IfOk result (λ text. string_bytes text ≡ spec.all_escaped bytes.now) }
 {
@@ -81,14 +81,14 @@ pub(crate) fn bare(alloc: Global, bytes: &[u8]) -> Result<String, AllocError>
     Ok(text)
 }
 
-/// The code of a Reject as it stands in a line, without quotes.
+/// The code of a Reject as it is written in a line, without quotes.
 pub(crate) fn code_text(alloc: Global, code: &[u8; 3]) -> Result<String, AllocError>
     ensures { IfOk result (λ text. string_bytes text ≡ spec.all_escaped code.now) }
 {
     bare(alloc, code)
 }
 
-/// How many characters of a line a byte takes.
+/// How many characters a byte has in a line.
 #[tactic(auto, unfolding(crate::specs::Quoting::escaped))]
 fn escaped_len(byte: u8) -> usize
     ensures { result ≡ length (spec.escaped byte) }
@@ -100,8 +100,8 @@ fn escaped_len(byte: u8) -> usize
     }
 }
 
-/// How many characters of a line have to be left for a byte to stand in it: where it begins a character of several bytes, as
-/// many as all of these take.
+/// How many characters of a line have to be left for a byte to be written: if it begins a character of several bytes,
+/// the number that all of these need.
 fn needed(byte: u8) -> usize
     ensures { result ≡ spec.needed byte }
 {
@@ -113,7 +113,7 @@ fn needed(byte: u8) -> usize
     }
 }
 
-/// How many bytes at the front of a text of a peer stand in a line.
+/// How many bytes at the front of a text of a peer are written in a line.
 fn fitting(text: &[u8]) -> usize
     ensures within { result ≤ length text.now }
     ensures front { take result text.now ≡ spec.fitting spec.most_quoted text.now }
@@ -130,7 +130,7 @@ fn fitting(text: &[u8]) -> usize
     kept
 }
 
-/// A text of a peer as it stands in a line, in double quotes: cut at 256 characters, where `..` stands for the rest. No
+/// A text of a peer as it is written in a line, in double quotes: cut at 256 characters, with `..` in place of the rest. No
 /// character of the text is cut in two.
 #[tactic(auto, using(crate::proofs::Pieces::pieces), unfolding(crate::specs::Quoting::quoted_short))]
 pub(crate) fn quoted_short(alloc: Global, bytes: &[u8]) -> Result<String, AllocError>

@@ -410,7 +410,7 @@ fn failed_text(alloc: Global, fault: u8, words: &str) -> Result<String, AllocErr
     Ok(text)
 }
 
-/// What stands behind the date, with the newline.
+/// What follows the date, with the newline.
 fn event_text(alloc: Global, neighbour: usize, event: &Event<'_>) -> Result<String, AllocError>
     ensures { IfOk result (λ text. string_bytes text ≡ spec.event_text neighbour event.now) }
 {
@@ -446,11 +446,11 @@ fn event_text(alloc: Global, neighbour: usize, event: &Event<'_>) -> Result<Stri
 }
 
 /// The line of an event that happened at a moment, about the neighbour of this number:
-/// `2026-01-02T03:04:05.006Z EVENT key=value ..` and a newline. Dates are in UTC. Numbers and codes stand bare. Texts stand in
+/// `2026-01-02T03:04:05.006Z EVENT key=value ..` and a newline. Dates are in UTC. Numbers and codes have no quotes. Texts are in
 /// double quotes: bytes from 32 to 126 as they are, but `"` as `\"` and `\` as `\\`, and each other byte as `\xHH`. So a line has
 /// one newline, at its end, whatever a peer sent. A text of a peer is cut at 256 characters of the line.
 ///
-/// Fails where memory is refused.
+/// Fails if memory is refused.
 #[tactic(auto, using(crate::proofs::Pieces::pieces), unfolding(crate::specs::Lines::line_text))]
 pub fn line(
     alloc: Global,

@@ -21,7 +21,7 @@ pub(crate) struct Queue {
     pub(crate) lines: VecDeque<Line>,
     /// How many bytes of the first line are written.
     pub(crate) begun: usize,
-    /// Events whose lines found no room, and that are not told yet. The count stops at `u64::MAX`.
+    /// Events whose lines found no room, not reported yet. The count stops at `u64::MAX`.
     pub(crate) lost: u64,
     ghost few: { length lines.items ≤ 1024 },
     ghost room: { 1024 ≤ deque_capacity lines },

@@ -1,4 +1,4 @@
--- What words that ask for a command do not ask for, and what the settings of a command hold.
+-- What arguments that ask for a command do not ask for, and what holds of the settings of a command.
 use Rattle.std.proofs.Common.{◌≡◌, ◌≢◌, ℕ, true, false, Option, Some, None, List, codes, refl, sym, subst, ap, ◌∙◌}
 use Rattle.std.specs.Prelude.{bytes_eq}
 use Rattle.std.proofs.lemmas.Slice.Eq.{bytes_eq-Decides}
@@ -35,7 +35,7 @@ by_command (Some (name, rows)) (request.Connector s) frames asks = absurd (unlik
 by_command (Some (name, rows)) (request.Ledger s) frames asks = absurd (unlike (codes "frames") (codes "ledger") refl (sym frames ∙ asks.0))
 by_command (Some (name, rows)) (request.Explain n) frames asks = absurd (unlike (codes "frames") (codes "explain") refl (sym frames ∙ asks.0))
 
--- words that ask for `frames` ask for nothing else
+-- arguments that ask for `frames` ask for nothing else
 pub frames_alone : (words : List Text) (q : Request) → AsksFrames words → AsksFor words q → q ≡ request.Frames
 frames_alone words q frames asks = by_command _ q frames.1 asks.1
 
@@ -45,7 +45,7 @@ visible s t e h = ap is_field_text e ∙ h
 address : (s t : List ℕ) → s ≡ t → is_address t ≡ true → is_address s ≡ true
 address s t e h = ap is_address e ∙ h
 
--- a token that an option's text says is one
+-- a token that an option's text says is a valid one
 lawful_token : (text file : Option (List ℕ)) (t : Token) → SaysToken text file t → IsLawfulToken t
 lawful_token (Some text) None (token.Given t) says = visible _ _ says.0 says.1
 lawful_token (Some text) None (token.InFile f) says = tt
@@ -76,7 +76,7 @@ receiver o s h = record {
   peer = address _ _ h.peer.0 h.peer.1;
 }
 
--- what words ask for is lawful
+-- what arguments ask for is lawful
 pub asked_lawful : (o : Option (Text × List Row)) (q : Request) → AsksBy o q → IsLawful q
 asked_lawful None q asks = subst IsLawful (sym asks) tt
 asked_lawful (Some (name, rows)) request.Frames asks = tt

@@ -36,7 +36,7 @@ unfolding names_from
 names_counted i [] = refl
 names_counted i (x ∷ xs) = ap suc (names_counted (suc i) xs)
 
--- what keeps a hop from going on ends the connector
+-- what prevents a hop from continuing with books ends the connector
 pub not_restored : (T : Type 0) (own : List ℕ) (ledger : Option (Bor (List ℕ))) (xs : List AccountLine) (rs : List Route) (x : RunError) → IsSome ledger → is_hop own xs rs ≡ true → WhyNotRestored x
     → Serves {T = T} own ledger xs rs (Err x)
 not_restored T own ledger xs rs (run.Fault x) asked made why = why

@@ -6,3 +6,4 @@ pub mod Tables
 pub mod Ledgers
 pub mod Restoring
 pub mod Locals
+pub mod Transfers

@@ -34,11 +34,11 @@ module _ (asked : LocalSettings) (input before now : Option (List ℕ)) (U W : T
   by true q t past whole over = record { unopened = λ e. absurd (cc); done = λ e. absurd (cc); past = λ e. record { whole = whole; told = q; over = over; is_past = past }; refused = λ x e. absurd (cc); part = part }
   by false q t within whole over = well q t within whole over
 
-  -- a run that went over
+  -- a run that transferred all of its input
   pub ends_over : (q : LocalSends) (t : Result (Unit {0}) Fault) (r : Result (Unit {0}) LocalError) → r ≡ ended_within q t → IfSome input (λ bytes. Appends before now bytes × (length bytes ≤ most_bytes)) → GoesOver asked input q → EndsLocal asked input before now U W r
   ends_over q t r is whole over = subst (EndsLocal asked input before now U W) (sym is) (by (is_past q.sent q.bound) q t refl (whole_alone input before now whole) over)
 
-  -- one that met a fault
+  -- one that ended with a fault
   pub ends_by : (x : LocalFault) → Explains asked input x → (ComesBefore x → W) → EndsLocal asked input before now U W (Err (ended.Local x))
   ends_by x why early = record {
     unopened = λ e. absurd (cc);

@@ -1,4 +1,4 @@
--- A hop that goes on with books.
+-- A hop that continues with what books say is owed.
 use Rattle.std.proofs.Common.{◌≡◌, ◌≤◌, ℕ, ◌++◌, List, length, map, replicate, refl, sym, ap, ◌∙◌}
 use Rattle.sqlite_trees.specs.View.{IsClean}
 use Rattle.sqlite_trees.specs.declared.store.Store.{Ghosts}
@@ -15,7 +15,7 @@ use Rattle.st_settings.specs.declared.line.AccountLine.{AccountLine}
 use Rattle.st_settings.specs.Table.{names_of}
 use Rattle.st_program.specs.Restored.{GoesOnFrom, IsRestored, StandsFor}
 
--- a hop that was restored goes on from each one with the same books
+-- a hop that was restored continues from each hop that has the sums of the same books
 pub goes_on_from : {S : Type 0} (own : List ℕ) (xs : List AccountLine) (rs : List Route) (old new : Kept S) (hop : Hop) → IsRestored own xs rs old new hop → IsLawful hop
     → GoesOnFrom own (claims_of old.names old.amounts (names_of xs)) (dues_of old.names old.amounts (names_of xs)) (first_of new.starts) hop
 goes_on_from own xs rs old new hop is lawful h o a c d n = record {

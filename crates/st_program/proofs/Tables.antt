@@ -1,6 +1,6 @@
 -- From a table to the end of a connector.
 use Rattle.std.proofs.Common.{◌≡◌, ℕ, Bool, true, false, List, [], map, Option, Some, None, refl, sym, ap, subst, ◌∙◌, inl, inr}
-use Rattle.std.specs.Prelude.{◌⊎◌, IfSome, IsErrOf, Result, Ok, Err}
+use Rattle.std.specs.Prelude.{◌⊎◌, IfSome, IsErrOf, IsSome, Result, Ok, Err}
 use Rattle.std.specs.Str.Lines.{lines}
 use Rattle.std.specs.Borrow.{Bor}
 use Rattle.st_hop.specs.declared.account.Account.{Account}
@@ -16,6 +16,7 @@ use Rattle.st_oer.specs.declared.tally.Tally.{Tally}
 use Rattle.st_commands.specs.declared.error.Fault.{Fault}
 use Rattle.st_commands.specs.declared.error.Fault.TheVariants as fault
 use Rattle.st_program.specs.Input.{FailsToRead}
+use Rattle.st_program.specs.Restored.{IsOfBooks}
 use Rattle.st_program.specs.Table.{EndsBy, EndsByTable, FailsFirst, GoesOn, HasTable, LacksTable, Lives, SaysTable, Serves, TellsBad, WhyNoHop, WhyNoTable, is_hop, later}
 
 -- what holds of the bytes that were read holds of the input
@@ -72,7 +73,7 @@ module _ (own : List ℕ) (ledger : Option (Bor (List ℕ))) (bytes : List ℕ) 
   lives_without T (run.Transfer e) why = absurd why
   lives_without T (run.Ledger e) why = absurd why
 
-  -- by a table that was looked at before
+  -- by a table that was checked before
   pub goes_on : {T : Type 0} (ended : Result T RunError) → Lives own ledger bytes ended → GoesOn ledger (later ended)
   goes_on (Ok x) is = tt
   goes_on (Err (run.Fault x)) is = tt
@@ -131,6 +132,18 @@ no_hop T own ledger xs rs run.BadTable why = why
 no_hop T own ledger xs rs run.BadOption why = why
 no_hop T own ledger xs rs (run.Transfer e) why = absurd why
 no_hop T own ledger xs rs (run.Ledger e) why = absurd why
+
+-- and so do books that cannot be opened
+pub no_books : (T : Type 0) (own : List ℕ) (ledger : Option (Bor (List ℕ))) (xs : List AccountLine) (rs : List Route) (x : RunError)
+    → IsSome ledger → is_hop own xs rs ≡ true → IsOfBooks x → Serves {T = T} own ledger xs rs (Err x)
+no_books T own ledger xs rs (run.Fault x) asked made why = why
+no_books T own ledger xs rs run.NoRandom asked made why = why
+no_books T own ledger xs rs run.NoListener asked made why = absurd why
+no_books T own ledger xs rs run.NoHop asked made why = absurd why
+no_books T own ledger xs rs run.BadTable asked made why = absurd why
+no_books T own ledger xs rs run.BadOption asked made why = why
+no_books T own ledger xs rs (run.Transfer e) asked made why = absurd why
+no_books T own ledger xs rs (run.Ledger e) asked made why = (asked, made)
 
 -- ---- when a table is bad
 

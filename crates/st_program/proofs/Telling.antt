@@ -1,4 +1,4 @@
--- The lines of accounts, and how a command ends that told its totals.
+-- The lines of accounts, and how a command ends that wrote its totals.
 use Rattle.std.proofs.Common.{◌≡◌, ◌≢◌, ℕ, suc, ◌+◌, ◌<◌, List, [], ◌∷◌, ◌++◌, length, take, get_or, Option, refl, sym, ap, subst, ◌∙◌, ◌⊎◌, append_assoc, arith, inl, inr}
 use Rattle.std.specs.Prelude.{Result, Ok, Err, Some, None}
 use Rattle.std.specs.Io.KnownBytes.{Appends}
@@ -12,7 +12,7 @@ use Rattle.st_program.specs.Table.{EndsBy, EndsByFile, EndsByTable, Lives}
 use Rattle.st_program.specs.Totals.{IsEmptyBeside, Replaced, TakesPlace, ended_with, lines_from}
 
 module _ {X : Type 0} (text : ℕ → X → List ℕ) where
-  -- one value behind the others
+  -- one value after the others
   one_more : (n : ℕ) (xs : List X) (x : X) → lines_from text n (xs ++ x ∷ []) ≡ lines_from text n xs ++ text (n + length xs) x
   unfolding lines_from
   one_more n [] x = let here : n + 0 ≡ n = omega arith in rw here (append-nil (text n x))
@@ -39,11 +39,11 @@ module _ (own : List ℕ) (ledger : Option (Bor (List ℕ))) (input : Option (Li
   ends_with (Ok x) (Ok y) by = by
   ends_with (Ok x) (Err fault) by = inr by
 
-  -- a connector that told its totals ends by its input as it did before
+  -- a connector that wrote its totals ends by its input as it did before
   pub ends_told : (ended result : Result (Unit {0}) RunError) → EndsBy own ledger input r s ended → (told : Result (Unit {0}) Fault) × (result ≡ ended_with ended told) → EndsBy own ledger input r s result
   ends_told ended result by (told, is) = subst (EndsBy own ledger input r s) (sym is) (ends_with ended told by)
 
-  -- and so one that told its log, also where it did nothing since an option is bad
+  -- the same holds of one that wrote to its log, and of one that did nothing because an option is bad
   pub ends_logged : (Q : Type 0) (ended result : Result (Unit {0}) RunError) → EndsBy own ledger input r s ended ⊎ ((ended ≡ Err run.BadOption) × Q) → (told : Result (Unit {0}) Fault) × (result ≡ ended_with ended told)
       → EndsBy own ledger input r s result ⊎ ((result ≡ Err run.BadOption) × Q)
   ends_logged Q ended result (inl by) told = inl (ends_told ended result by told)
@@ -58,7 +58,7 @@ file_with : (own : List ℕ) (ledger : Option (Bor (List ℕ))) (ended : Result 
 file_with own ledger ended told (inl bad) = inl (ap (λ (e : Result (Unit {0}) RunError). ended_with e told) bad)
 file_with own ledger ended told (inr (bytes, by)) = inr (bytes, lives_with own ledger bytes ended told by)
 
--- a connector that told its totals, or its log, ends by its table as it did before
+-- a connector that wrote its totals, or to its log, ends by its table as it did before
 pub table_told : (table : Option (Bor (List ℕ))) (own : List ℕ) (ledger : Option (Bor (List ℕ))) (input : Option (List ℕ)) (r s : Tally) (Q : Type 0) (ended result : Result (Unit {0}) RunError)
     → EndsByTable table own ledger input r s Q ended → (told : Result (Unit {0}) Fault) × (result ≡ ended_with ended told) → EndsByTable table own ledger input r s Q result
 table_told None own ledger input r s Q ended result by told = ends_logged own ledger input r s Q ended result by told
@@ -69,22 +69,22 @@ not_bad (Err e) told none wrong = none wrong
 not_bad (Ok x) (Ok y) none wrong = absurd (cc)
 not_bad (Ok x) (Err fault) none wrong = absurd (cc)
 
--- telling totals makes no bad option
+-- a command does not end as one with a bad option because its totals were written
 pub never_bad : (ended result : Result (Unit {0}) RunError) → ended ≢ Err run.BadOption → (told : Result (Unit {0}) Fault) × (result ≡ ended_with ended told) → result ≢ Err run.BadOption
 never_bad ended result none (told, is) wrong = not_bad ended told none (sym is ∙ wrong)
 
--- what holds where an option is bad, holds of a command that told its log
+-- what holds if an option is bad, holds of a command that wrote to its log
 pub logged : (ended result : Result (Unit {0}) RunError) (P : Type 0) → (ended ≡ Err run.BadOption → P) → (told : Result (Unit {0}) Fault) × (result ≡ ended_with ended told) → result ≡ Err run.BadOption → P
 logged (Err e) result P same (told, is) wrong = same (sym is ∙ wrong)
 logged (Ok x) result P same ((Ok y), is) wrong = absurd (cc)
 logged (Ok x) result P same ((Err fault), is) wrong = absurd (cc)
 
--- a command that tells nothing ends as it did
+-- a command that writes nothing of this ends as it did
 pub untold : (ended : Result (Unit {0}) RunError) → ended ≡ ended_with ended (Ok tt)
 untold (Err e) = refl
 untold (Ok x) = refl
 
--- what was written to the file beside a place is what the place holds then
+-- what was written to the new file is what the place holds once that file replaces it
 pub replaced : (held empty file now : Option (List ℕ)) (text : List ℕ) → IsEmptyBeside held empty → Appends empty file text → TakesPlace held file now → Replaced held now text
 replaced None empty file now text is grown takes = tt
 replaced (Some bytes) empty None now text is grown takes = absurd (rw is at grown)

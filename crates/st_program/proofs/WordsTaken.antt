@@ -1,4 +1,4 @@
--- Which words clap takes for `frames`, and which it answers with help or the version.
+-- Which arguments clap accepts for `frames`, and which it answers with help or the version.
 use Rattle.std.proofs.Common.{◌≡◌, ◌≢◌, ◌⊎◌, List, [], ◌∷◌, Option, codes, refl, sym, ap, subst, ◌∙◌, inl, inr}
 use Rattle.clap.specs.Words.{Kinds, Row, Text}
 use Rattle.clap.specs.Faults.{built_fault}
@@ -13,11 +13,11 @@ use Rattle.st_words.specs.declared.request.Request.TheVariants as request
 use Rattle.st_words.specs.Words.{AsksBy, refusals}
 use Rattle.st_program.specs.Words.{AsksFrames, AsksToShow, MayRefuse, NamesFrames, after_name}
 
--- the command that they name which follow the program's name
+-- the command that the arguments after the program's name ask for
 abbrev command : List Text → Option (Text × List Row)
 command words = entered (built program) (stop_after (built program).top.rules (names_of (built program)) words)
 
--- their refusals
+-- the errors of these arguments
 abbrev faults : List Text → Kinds
 faults words = or_else (built_fault (built program) nothing_held words) (pairs_fault (command words))
 

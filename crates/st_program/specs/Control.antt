@@ -23,7 +23,7 @@ known false (Some Totals) = Some Totals
 known false (Some Log) = Some Log
 known false (Some Table) = None
 
--- no further request comes: none is accepted any more, or none came in time
+-- there is no further request: none is accepted any more, or none arrived in time
 abbrev pub has_no_request : TransferError → Bool
 has_no_request transfer.Failed = false
 has_no_request transfer.Stalled = false
@@ -38,7 +38,7 @@ has_no_request (transfer.Desk e) = false
 has_no_request (transfer.File e) = false
 has_no_request (transfer.Books n) = false
 
--- how a receiver ends: one that was asked to stop is well where no further request comes
+-- how a receiver ends: one that was asked to stop ends well if there is no further request
 abbrev pub receiver_result : Result ℕ TransferError → (stopped : Bool) → Result (Unit {0}) RunError
 receiver_result (Ok n) stopped = Ok tt
 receiver_result (Err e) stopped = if stopped && has_no_request e then Ok tt else Err (run.Transfer e)

@@ -1,4 +1,4 @@
--- The token and the secret of an end, which were given or stand in files.
+-- The token and the secret of an end, which are given or read from files.
 use Rattle.std.specs.Prelude.{◌≡◌, ◌⊎◌, ℕ, true, ⊤, List, Option, IfSome, Result, Ok, Err, string_bytes}
 use Rattle.st_oer.specs.declared.tally.Tally.{Tally}
 use Rattle.st_http.specs.Texts.{is_field_text}
@@ -21,8 +21,8 @@ unread fault.Output = run.BadOption
 unread fault.Turns = run.BadOption
 unread fault.NoMemory = run.Fault fault.NoMemory
 
--- What comes of the first line of an input, of which `Is` says which values a line writes. It is bad where the line writes none, and
--- where the input could not be read whole, by what its reader counted: r before and s now
+-- The result of reading a value from the first line of an input; `Is` says which values a line has. The result is a bad option if
+-- the line has none, or if the input could not be read whole, by what its reader counted: r before and s now
 abbrev pub ComesOfLine : {X : Type 0} → (Is : List ℕ → X → Type 0) → (input : Option (List ℕ)) → (r s : Tally) → Result X RunError → Type 0
 ComesOfLine Is input r s (Ok x) = IfSome input (λ bytes. Is (first_line bytes) x)
 ComesOfLine {X} Is input r s (Err run.BadOption) = IfSome input (λ bytes. (x : X) → ¬ (Is (first_line bytes) x)) ⊎ FailsToRead fault.Input r s ⊎ FailsToRead fault.Turns r s
@@ -38,17 +38,17 @@ ComesOfLine Is input r s (Err (run.Ledger e)) = ⊥
 abbrev pub WhyNotOpened : RunError → Type 0
 WhyNotOpened e = (e ≡ run.BadOption) ⊎ (e ≡ run.Fault fault.NoMemory)
 
--- a token that is given is one
+-- a token that is given is a valid one
 abbrev pub IsLawfulToken : Token → Type 0
 IsLawfulToken (token.Given t) = is_field_text t.now ≡ true
 IsLawfulToken (token.InFile f) = ⊤
 
--- the token that is given, or one that stands in a file
+-- the token that is given. One that is read from a file may be any
 abbrev pub HasToken : Token → List ℕ → Type 0
 HasToken (token.Given t) text = text ≡ t.now
 HasToken (token.InFile f) text = ⊤
 
--- the secret that is given, or one that stands in a file
+-- the secret that is given. One that is read from a file may be any
 abbrev pub HasSecret : Secret → List ℕ → Type 0
 HasSecret (secret.Given given) bytes = bytes ≡ given
 HasSecret (secret.InFile f) bytes = ⊤

@@ -20,13 +20,14 @@ use Rattle.st_program.specs.Ledger.{EndsLedger}
 use Rattle.st_program.specs.Local as ends
 use Rattle.st_program.specs.Local.{EndsLocal}
 use Rattle.st_program.specs.Explain.{Explains}
+use Rattle.st_program.specs.Transfers.{EndsReceive, EndsSend}
 use Rattle.st_program.specs.Words.{MayRefuse, MayShow}
 
--- no memory for the words: nothing was written but the fault
+-- no memory for the arguments: nothing was written but the fault
 abbrev pub LacksMemory : {W E : Type 0} → W → W → (E → Option (List ℕ)) → Counting E → Counting E → ℕ → Type 0
 LacksMemory w v said e f status = (v ≡ w) × TellsFault fault.NoMemory said e f status
 
--- clap's answer was told: a mistake in the words to the writer for errors, e at the start and f now, help or the version
+-- clap's answer was written: a mistake in the arguments to the writer for errors, e at the start and f now, help or the version
 -- to the other, w and v
 abbrev pub TellsAnswer : {W E : Type 0} → Kinds → (Option Fault → Type 0) → (E → Option (List ℕ)) → W → W → Counting E → Counting E → ℕ → Type 0
 TellsAnswer kinds ended said w v e f status = ((status ≡ 2) × MayRefuse kinds × (v ≡ w))
@@ -34,23 +35,23 @@ TellsAnswer kinds ended said w v e f status = ((status ≡ 2) × MayRefuse kinds
     ⊎ (MayShow kinds × ((x : Fault) × ended (Some x) × TellsFault x said e f status))
     ⊎ LacksMemory w v said e f status
 
--- the status of a fault of this number, of which the line was said, or that of want of memory for the line
+-- the status of a fault, after the line of this number was written, or that of fault 99 if there was no memory for the line
 abbrev pub TellsNumber : {E : Type 0} → ℕ → (E → Option (List ℕ)) → Counting E → Counting E → ℕ → Type 0
 TellsNumber n said e f status = (status ≡ 1) × (Says (fault_text n) said e f ⊎ Says (fault_text 99) said e f)
 
--- a command ended so: nothing is told where its work was done
+-- how the end of a command is reported: not at all if its work was done, and otherwise by the number of its error
 abbrev pub TellsEnd : {T E : Type 0} → Result T RunError → (E → Option (List ℕ)) → Counting E → Counting E → ℕ → Type 0
 TellsEnd (Ok x) said e f status = (status ≡ 0) × (f ≡ e)
 TellsEnd (Err x) said e f status = TellsNumber (number x) said e f status
 
--- `local` with a file for its totals did
+-- the same of `local` with a file for its totals
 abbrev pub TellsLocal : {T E : Type 0} → Result T LocalError → (E → Option (List ℕ)) → Counting E → Counting E → ℕ → Type 0
 TellsLocal (Ok x) said e f status = (status ≡ 0) × (f ≡ e)
 TellsLocal (Err x) said e f status = TellsNumber (ends.fault_number x) said e f status
 
--- it ended in some way: where the file for its totals could not be opened, nothing else was done
-abbrev pub Ends : {E : Type 0} → (untouched : Type 0) → (E → Option (List ℕ)) → Counting E → Counting E → ℕ → Type 0
-Ends untouched said e f status = (end : Result (Unit {0}) RunError) × (end ≡ Err run.BadOption → untouched) × TellsEnd end said e f status
+-- a command of one end ended, and that was reported. If an option was bad, its stream was not touched
+abbrev pub Ends : {E : Type 0} → (untouched : Type 0) → (ends : Result (Unit {0}) RunError → Type 0) → (E → Option (List ℕ)) → Counting E → Counting E → ℕ → Type 0
+Ends untouched ends said e f status = (end : Result (Unit {0}) RunError) × (end ≡ Err run.BadOption → untouched) × ends end × TellsEnd end said e f status
 
 -- what was asked for was done: r, w and e are the reader, the writer and the writer for errors at the start, s, v and f now
 abbrev pub Does : {R W E : Type 0} → Request → (R → Option (List ℕ)) → (W → Option (List ℕ)) → (E → Option (List ℕ)) → (Option Fault → Type 0)
@@ -60,8 +61,8 @@ Does (request.Local x) remaining contents said ended r s w v e f status = MatchO
     (local.RunsLocal x.settings (remaining (device_of r)) (contents (device_of w)) (contents (device_of v))
     (local.HasEnded (tally_of r) (tally_of s) (tally_of w) (tally_of v)) said e f status)
     (λ name. (end : Result (Unit {0}) LocalError) × EndsLocal x.settings (remaining (device_of r)) (contents (device_of w)) (contents (device_of v)) ((s ≡ r) × (v ≡ w)) (v ≡ w) end × TellsLocal end said e f status)
-Does (request.Send x) remaining contents said ended r s w v e f status = (v ≡ w) × Ends (s ≡ r) said e f status
-Does (request.Receive x) remaining contents said ended r s w v e f status = (s ≡ r) × Ends (v ≡ w) said e f status
+Does (request.Send x) remaining contents said ended r s w v e f status = (v ≡ w) × Ends (s ≡ r) (EndsSend x) said e f status
+Does (request.Receive x) remaining contents said ended r s w v e f status = (s ≡ r) × Ends (v ≡ w) (EndsReceive x (contents (device_of w)) (contents (device_of v))) said e f status
 Does (request.Connector x) remaining contents said ended r s w v e f status =
     (v ≡ w) × ((end : Result (Unit {0}) RunError) × EndsByTable x.table x.own.now x.ledger (remaining (device_of r)) (tally_of r) (tally_of s) (s ≡ r) end × TellsEnd end said e f status)
 Does (request.Ledger x) remaining contents said ended r s w v e f status =
@@ -74,6 +75,6 @@ abbrev pub DoesUnless : {R W E : Type 0} → (missing : Option Fault) → Reques
 DoesUnless None q remaining contents said ended r s w v e f status = Does q remaining contents said ended r s w v e f status
 DoesUnless (Some x) q remaining contents said ended r s w v e f status = (s ≡ r) × (v ≡ w) × TellsNumber (fault_number x) said e f status
 
--- an option's text was told to be bad, or there was no memory for the words; nothing else was done
+-- the text of an option was reported as bad, or that there was no memory for this report; nothing else was done
 abbrev pub TellsBadOption : {R W E : Type 0} → R → R → W → W → (E → Option (List ℕ)) → Counting E → Counting E → ℕ → Type 0
 TellsBadOption r s w v said e f status = (s ≡ r) × (v ≡ w) × TellsNumber 98 said e f status

@@ -1,4 +1,4 @@
--- The numbers by which it is told why a command ended before its work was done.
+-- The numbers that report why a command ended before its work was done.
 use Rattle.std.specs.Prelude.{ℕ}
 use Rattle.st_commands.specs.Errors.{fault_number}
 use Rattle.st_transfer.specs.Errors as transfer

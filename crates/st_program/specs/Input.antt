@@ -7,8 +7,8 @@ use Rattle.st_commands.specs.Endings.{most_turns}
 use Rattle.st_commands.specs.declared.error.Fault.{Fault}
 use Rattle.st_commands.specs.declared.error.Fault.TheVariants as fault
 
--- a piece was read behind what there was, and the input is at its end if that is told: before and after are the bytes that
--- were to come
+-- further bytes were read, and appended to the old ones. If `ended`, the input is at its end. `before` and `after` are the
+-- bytes that the input still has, before the read and after it
 pub record ReadsOn (before after : Option (List ℕ)) (old new : List ℕ) (ended : Bool) : Type 0 where
   pub piece : List ℕ
   pub grown : new ≡ old ++ piece

@@ -38,7 +38,7 @@ abbrev pub kind_of : Asked → Kind
 kind_of asked.Settle = kinds.Paid
 kind_of asked.Adjust = kinds.Adjusted
 
--- the payment was booked, and the text is its account's line as it stands then
+-- the payment was booked, and the text is its account's line after that
 abbrev pub IsPrintedAlone : {S : Type 0} → Ghosts S → (name : List ℕ) → Side → (amount : ℕ) → (old new : Kept S) → (text : List ℕ) → Type 0
 IsPrintedAlone g name side amount old new text = ((moment : ℕ) × IsSettled g old name side amount moment new) × (text ≡ account_text name (amounts_of new.names new.amounts name))
 
@@ -77,7 +77,7 @@ abbrev pub PrintsLedger : Option Payment → (before now : Option (List ℕ)) �
 PrintsLedger None before now = (starts : ℕ) × (names : _) × (all : _) × Appends before now (ledger_text starts names all)
 PrintsLedger (Some p) before now = (repeated : Bool) × (a : _) × Appends before now (once_text repeated p.name.now a)
 
--- how `ledger` ends, w the writer before and v now: nothing is written where the books refuse
+-- how `ledger` ends, w the writer before and v now: nothing is written if the books refuse
 abbrev pub EndsLedger : {T W : Type 0} → (W → Option (List ℕ)) → Option Payment → Counting W → Counting W → Result T RunError → Type 0
 EndsLedger contents payment w v (Ok x) = PrintsLedger payment (contents (device_of w)) (contents (device_of v))
 EndsLedger contents payment w v (Err (run.Fault x)) = FailsToWrite x (tally_of w) (tally_of v)

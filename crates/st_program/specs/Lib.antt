@@ -14,5 +14,7 @@ pub mod Streams
 pub mod Obstacle
 pub mod Control
 pub mod Local
+pub mod Transfers
+pub mod Ways
 pub mod Endings
 pub mod Process

@@ -19,7 +19,7 @@ fault_number (ended.Run e) = errors.number e
 fault_number (ended.Local e) = local.fault_number e
 fault_number ended.PastBound = 126
 
--- the line of the bound: `bound 12` and a newline, or none where there is no bound
+-- the line of the bound: `bound 12` and a newline, or no line if there is no bound
 abbrev pub bound_text : Option ℕ → List ℕ
 bound_text None = []
 bound_text (Some most) = codes "bound " ++ decimal most ++ 10 ∷ []
@@ -28,16 +28,16 @@ bound_text (Some most) = codes "bound " ++ decimal most ++ 10 ∷ []
 abbrev pub sends_text : LocalSends → List ℕ
 sends_text q = (codes "sends " ++ decimal q.sent ++ codes "\nlost " ++ decimal q.lost ++ 10 ∷ []) ++ bound_text q.bound
 
--- how a run ends whose numbers were told so
+-- how a run ends, by the result of writing its numbers
 abbrev pub written : Result (Unit {0}) Fault → Result (Unit {0}) LocalError
 written (Ok x) = Ok x
 written (Err fault) = Err (ended.Run (run.Fault fault))
 
--- how a run ends that went over, by its numbers, and by how they were told
+-- how a run ends that transferred all of its input, by its numbers and by the result of writing them
 abbrev pub ended_within : LocalSends → Result (Unit {0}) Fault → Result (Unit {0}) LocalError
 ended_within q told = if is_past q.sent q.bound then Err ended.PastBound else written told
 
--- all of the input went over, and these are the numbers of its Prepares
+-- all of the input was transferred, and `told` has the numbers of its Prepares
 pub record IsOver (asked : LocalSettings) (input before now : Option (List ℕ)) (past : Bool) : Type 0 where
   pub whole : IfSome input (λ bytes. Appends before now bytes)
   pub told : LocalSends

@@ -1,4 +1,4 @@
--- What stood in the way of a command, in words.
+-- What prevented a command from beginning its work, as a text.
 use Rattle.std.specs.Prelude.{ℕ, List, ◌++◌, codes}
 use Rattle.st_program.specs.declared.obstacle.Step.{Step}
 use Rattle.st_program.specs.declared.obstacle.Step.TheVariants as step
@@ -10,7 +10,7 @@ abbrev pub front : Step → List ℕ
 front step.Listen = codes "cannot listen on "
 front step.Log = codes "cannot open --log "
 front step.Totals = codes "cannot open --totals "
-front step.Beside = codes "cannot make a file beside --totals "
+front step.Beside = codes "cannot make a file next to --totals "
 front step.Random = codes "cannot open --random "
 front step.TokenFile = codes "cannot read --token-file "
 front step.SecretFile = codes "cannot read --secret-file "
@@ -26,9 +26,9 @@ back cause.InUse = codes "address in use"
 back cause.NotHere = codes "no address of this host"
 back cause.NoName = codes "unknown name"
 back cause.ManyFiles = codes "too many open files"
-back cause.Taken = codes "all names are taken"
+back cause.Taken = codes "all names are in use"
 back cause.BadLine = codes "bad first line"
-back cause.NoPipe = codes "is no pipe"
+back cause.NoPipe = codes "not a pipe"
 back cause.Other = codes "failed"
 
 -- `cannot listen on 127.0.0.1:17070: address in use`

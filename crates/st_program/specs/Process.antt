@@ -1,4 +1,4 @@
--- What the program does as a process. Which words a process has no clause can say: here they are some words.
+-- What the program does as a process. No clause can say which arguments a process has: here they are some arguments.
 use Rattle.std.specs.Prelude.{◌≡◌, ◌≢◌, ◌⊎◌, ℕ, ◌≤◌, Bool, true, List, [], Option}
 use Rattle.clap.specs.Words.{Text}
 use Rattle.st_oer.specs.Tallies.{device_of}
@@ -14,7 +14,7 @@ use Rattle.st_program.specs.Texts.{not_utf8_text, waits_text}
 use Rattle.st_program.specs.declared.streams.Streams.{Streams}
 use Rattle.st_program.specs.Words.{AsksFor, AsksFrames, AsksToShow, HasBadOption, after_name}
 
--- what the words ask for was done: r, w and e are the reader, the writer and the writer for errors at the start, s, v and f
+-- what the arguments ask for was done: r, w and e are the reader, the writer and the writer for errors at the start, s, v and f
 -- now
 pub record Obeys {R W E : Type 0} (streams : Streams) (words : List Text) (remaining : R → Option (List ℕ)) (contents : W → Option (List ℕ)) (said : E → Option (List ℕ))
     (ended : Option Fault → Type 0) (r s : Counting R) (w v : Counting W) (e f : Counting E) (status : ℕ) : Type 0 where
@@ -28,18 +28,18 @@ pub record Obeys {R W E : Type 0} (streams : Streams) (words : List Text) (remai
   pub bad : HasBadOption words → TellsBadOption r s w v said e f status
   pub shown : AsksToShow (after_name words) → status ≤ 1
 
--- whoever sits at the terminal, if the reader is one and the words ask for `frames`, is told what is waited for: e and m
--- are the writer for errors before and after
+-- nothing is written, or what the program waits for: the latter only if the reader is a terminal and the arguments ask for
+-- `frames`. e and m are the writer for errors before and after
 abbrev pub TellsTerminal : {E : Type 0} → Bool → List Text → (E → Option (List ℕ)) → Counting E → Counting E → Type 0
 TellsTerminal is_terminal words said e m = (m ≡ e)
     ⊎ ((is_terminal ≡ true) × AsksFrames words × Says waits_text said e m)
 
--- there was no memory for the words, or they are no text: nothing was read, and why was told to the writer for errors
+-- there was no memory for the arguments, or they are not UTF-8: nothing was read, and why was reported to the writer for errors
 abbrev pub LacksWords : {R W E : Type 0} → R → R → W → W → (E → Option (List ℕ)) → Counting E → Counting E → ℕ → Type 0
 LacksWords r s w v said e f status = (s ≡ r) × (v ≡ w)
     × (((status ≡ 2) × Says not_utf8_text said e f) ⊎ TellsFault NoMemory said e f status)
 
--- what some words ask for was done, after the terminal was told
+-- what some arguments ask for was done, after the note for a terminal
 abbrev pub ObeysSome : {R W E : Type 0} → Streams → Bool → (R → Option (List ℕ)) → (W → Option (List ℕ)) → (E → Option (List ℕ)) → (Option Fault → Type 0)
     → Counting R → Counting R → Counting W → Counting W → Counting E → Counting E → ℕ → Type 0
 ObeysSome {E = E} streams is_terminal remaining contents said ended r s w v e f status =

@@ -1,4 +1,4 @@
--- The hop with which a connector goes on that has books.
+-- The hop with which a connector continues that has books.
 use Rattle.std.specs.Prelude.{◌≡◌, ◌≤◌, ℕ, List, length, map, ⊤}
 use Rattle.sqlite_trees.specs.View.{IsClean}
 use Rattle.sqlite_trees.specs.declared.store.Store.{Ghosts}
@@ -11,29 +11,32 @@ use Rattle.st_books.specs.Standing.{Kept, LeavesOnly, sums_of}
 use Rattle.st_commands.specs.declared.error.Fault.TheVariants as fault
 use Rattle.st_ledger.specs.Names.{Names, claims_of, dues_of}
 use Rattle.st_ledger.specs.Placing.{first_of}
+use Rattle.st_ledger.specs.declared.error.LedgerError.TheVariants as ledger
+use Rattle.st_books.specs.declared.error.BooksError.{BooksError}
 use Rattle.st_settings.specs.declared.line.AccountLine.{AccountLine}
 use Rattle.st_settings.specs.Table.{names_of}
 use Rattle.st_program.specs.declared.error.RunError.{RunError}
 use Rattle.st_program.specs.declared.error.RunError.TheVariants as run
 
--- the hop of a table goes on with what books say of its accounts, by their names, and its tickets are numbered from the first of
--- the life that the books count now
+-- the hop of a table continues with what books say of its accounts, by their names. Its tickets are numbered from the first
+-- number of the start that the books count now
 abbrev pub IsRestored : {S : Type 0} → List ℕ → List AccountLine → List Route → (old new : Kept S) → Hop → Type 0
 IsRestored own xs rs old new hop =
     hop ≡ restored (new_hop own (map (λ x. x.terms) xs) (map way_seen rs)) (claims_of old.names old.amounts (names_of xs)) (dues_of old.names old.amounts (names_of xs)) (first_of new.starts)
 
--- the books as they stand now say what is owed at the hop, and each crash leaves them
+-- the books say what is owed at the hop, and each crash leaves these books
 pub record StandsFor {S : Type 0} (g : Ghosts S) (names : Names) (books : Kept S) (hop : Hop) : Type 0 where
   pub claims : hop.claims ≡ claims_of books.names books.amounts names
   pub dues : hop.dues ≡ dues_of books.names books.amounts names
   pub leaves : IsClean (g.view books.store) → LeavesOnly g books.store (sums_of g books)
 
--- a hop goes on from each one with these books: of this address, of as many accounts, and with no ticket of a later number
+-- the hop continues from each hop with the sums of these books, this address, the same number of accounts, and no ticket of a
+-- later number
 abbrev pub GoesOnFrom : (own : List ℕ) → (claims dues : List ℕ) → (next : ℕ) → Hop → Type 0
 GoesOnFrom own claims dues next hop =
     (h : Hop) → h.own ≡ own → length h.accounts ≡ length hop.accounts → h.claims ≡ claims → h.dues ≡ dues → h.next ≤ next → GoesOn h hop
 
--- which errors there are where none goes on
+-- which errors there are if no hop continues with the books
 abbrev pub WhyNotRestored : RunError → Type 0
 WhyNotRestored (run.Fault x) = x ≡ fault.NoMemory
 WhyNotRestored run.NoHop = ⊤
@@ -43,3 +46,14 @@ WhyNotRestored run.NoListener = ⊥
 WhyNotRestored run.BadTable = ⊥
 WhyNotRestored run.BadOption = ⊥
 WhyNotRestored (run.Transfer e) = ⊥
+
+-- why books cannot be opened: they refuse, or memory is refused
+abbrev pub IsOfBooks : RunError → Type 0
+IsOfBooks (run.Fault x) = x ≡ fault.NoMemory
+IsOfBooks (run.Ledger e) = (why : BooksError) × (e ≡ ledger.Books why)
+IsOfBooks run.NoHop = ⊥
+IsOfBooks run.NoRandom = ⊥
+IsOfBooks run.NoListener = ⊥
+IsOfBooks run.BadTable = ⊥
+IsOfBooks run.BadOption = ⊥
+IsOfBooks (run.Transfer e) = ⊥

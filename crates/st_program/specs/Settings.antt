@@ -9,20 +9,20 @@ use Rattle.st_words.specs.declared.request.Request.{Request}
 use Rattle.st_words.specs.declared.request.Request.TheVariants as request
 use Rattle.st_program.specs.Credentials.{IsLawfulToken}
 
--- a chain of so many hops, and so many streams
+-- a chain of at most 8 hops, with 1 to 32 streams
 pub record IsChain (s : LocalSettings) : Type 0 where
   pub hops : s.hops ≤ 8
   pub some : 0 < s.streams
   pub streams : s.streams ≤ 32
 
--- both ends have addresses, and the neighbour may stand in a request
+-- both ends have addresses; the host and a given token may be in a request
 pub record IsSender (s : SendSettings) : Type 0 where
   pub to : is_field_text s.to.now ≡ true
   pub token : IsLawfulToken s.token
   pub address : is_address s.address.now ≡ true
   pub peer : is_address s.peer.now ≡ true
 
--- both ends have addresses, and a token that is given may stand in a request
+-- both ends have addresses, and a token that is given may be in a request
 pub record IsReceiver (s : ReceiveSettings) : Type 0 where
   pub token : IsLawfulToken s.token
   pub address : is_address s.address.now ≡ true

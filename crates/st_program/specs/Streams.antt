@@ -6,7 +6,7 @@ use Rattle.st_words.specs.declared.request.Request.{Request}
 use Rattle.st_words.specs.declared.request.Request.TheVariants as request
 use Rattle.st_program.specs.declared.streams.Streams.{Streams}
 
--- the fault of a stream that is needed, where it is closed
+-- the fault of a stream that is needed, if it is closed
 abbrev pub unless : (is_open : Bool) → Fault → Option Fault
 unless true x = None
 unless false x = Some x

@@ -28,7 +28,7 @@ is_hop own xs rs = is_table own (map (λ x. x.terms) xs) (map way_seen rs)
 abbrev pub HasTable : List ℕ → List ℕ → Type 0
 HasTable own bytes = (xs : List AccountLine) × (rs : List Route) × SaysTable bytes xs rs × (is_hop own xs rs ≡ true)
 
--- the bytes are no text, or have a bad line, or two accounts of one name
+-- the bytes are not UTF-8, or have a bad line, or two accounts of one name
 abbrev pub IsNoTable : List ℕ → Type 0
 IsNoTable bytes = (is_utf8 bytes ≡ false) ⊎ HasBad bytes ⊎ HasSameName bytes
 
@@ -59,7 +59,7 @@ WhyNoHop own xs rs run.BadOption = ⊥
 WhyNoHop own xs rs (run.Transfer e) = ⊥
 WhyNoHop own xs rs (run.Ledger e) = ⊥
 
--- why a hop cannot go on with the sums of a table of before
+-- why a hop cannot continue with the sums of the last table
 abbrev pub WhyNotCarried : RunError → Type 0
 WhyNotCarried (run.Fault x) = x ≡ fault.NoMemory
 WhyNotCarried run.NoHop = ⊤
@@ -70,8 +70,8 @@ WhyNotCarried run.BadOption = ⊥
 WhyNotCarried (run.Transfer e) = ⊥
 WhyNotCarried (run.Ledger e) = ⊥
 
--- How a connector of this address may end that has these accounts and routes. Books end it only where it was asked to keep
--- them, and with a table that a hop may have
+-- How a connector of this address with these accounts and routes may end. It ends with an error of books only if it was asked to
+-- keep them, and with a table that a hop may have
 abbrev pub Serves : {T : Type 0} → List ℕ → (ledger : Option (Bor (List ℕ))) → List AccountLine → List Route → Result T RunError → Type 0
 Serves own ledger xs rs (Ok x) = is_hop own xs rs ≡ true
 Serves own ledger xs rs (Err (run.Fault x)) = x ≡ fault.NoMemory
@@ -83,9 +83,9 @@ Serves own ledger xs rs (Err run.BadOption) = ⊥
 Serves own ledger xs rs (Err (run.Transfer e)) = is_hop own xs rs ≡ true
 Serves own ledger xs rs (Err (run.Ledger e)) = IsSome ledger × (is_hop own xs rs ≡ true)
 
--- how a connector of this address may end by its input: a bad table before books are opened or anything is listened to, and
--- nothing else as a bad table. A fault is one of memory, one that the input's reader counted, r before and s now, or comes after
--- a good table
+-- how a connector of this address may end that reads its table from its input. With a bad table it ends before books are opened
+-- and before it listens, and nothing else ends as a bad table. A fault is out of memory, or one that the input's reader counted,
+-- r before and s now, or it follows a good table
 abbrev pub EndsBy : {T : Type 0} → List ℕ → (ledger : Option (Bor (List ℕ))) → Option (List ℕ) → (r s : Tally) → Result T RunError → Type 0
 EndsBy own ledger input r s (Ok x) = IfSome input (HasTable own)
 EndsBy own ledger input r s (Err (run.Fault x)) = FailsToRead x r s ⊎ IfSome input (HasTable own)
@@ -97,8 +97,8 @@ EndsBy own ledger input r s (Err run.BadOption) = ⊥
 EndsBy own ledger input r s (Err (run.Transfer e)) = IfSome input (HasTable own)
 EndsBy own ledger input r s (Err (run.Ledger e)) = IsSome ledger × IfSome input (HasTable own)
 
--- how a connector of this address may end that begins with the table in these bytes, and goes on by tables that it was given while it
--- ran. A fault is one of memory, or comes after a good table
+-- how a connector of this address may end that begins with the table in these bytes, and continues with tables that it is given
+-- while it runs. A fault is out of memory, or it follows a good table
 abbrev pub Lives : {T : Type 0} → List ℕ → (ledger : Option (Bor (List ℕ))) → (bytes : List ℕ) → Result T RunError → Type 0
 Lives own ledger bytes (Ok x) = HasTable own bytes
 Lives own ledger bytes (Err (run.Fault x)) = (x ≡ fault.NoMemory) ⊎ HasTable own bytes
@@ -110,7 +110,7 @@ Lives own ledger bytes (Err run.BadOption) = ⊥
 Lives own ledger bytes (Err (run.Transfer e)) = HasTable own bytes
 Lives own ledger bytes (Err (run.Ledger e)) = IsSome ledger × HasTable own bytes
 
--- how it may go on from a table that it had: never as a bad table does
+-- how it may end by a table after its first one: never as with a bad table
 abbrev pub GoesOn : {T : Type 0} → (ledger : Option (Bor (List ℕ))) → Result T RunError → Type 0
 GoesOn ledger (Ok x) = ⊤
 GoesOn ledger (Err (run.Fault x)) = ⊤
@@ -122,7 +122,7 @@ GoesOn ledger (Err run.BadOption) = ⊥
 GoesOn ledger (Err (run.Transfer e)) = ⊤
 GoesOn ledger (Err (run.Ledger e)) = IsSome ledger
 
--- how it ended by a table that was looked at before: such a one is not bad, and if it were, there is no hop by it
+-- how it ended by a table that was checked before. Such a table is not bad. If it were, the error would be that there is no hop
 abbrev pub later : {T : Type 0} → Result T RunError → Result T RunError
 later (Ok x) = Ok x
 later (Err (run.Fault x)) = Err (run.Fault x)
@@ -134,21 +134,23 @@ later (Err run.BadOption) = Err run.BadOption
 later (Err (run.Transfer e)) = Err (run.Transfer e)
 later (Err (run.Ledger e)) = Err (run.Ledger e)
 
--- how one may end whose table is in a file: by the bytes that stand there, or since the file cannot be read
+-- how a connector may end whose table is in a file: by the bytes of the file, or because that cannot be read
 abbrev pub EndsByFile : {T : Type 0} → List ℕ → (ledger : Option (Bor (List ℕ))) → Result T RunError → Type 0
 EndsByFile own ledger result = IsErrOf result run.BadOption ⊎ ((bytes : List ℕ) × Lives own ledger bytes result)
 
--- how one may end, by its file where it has one, so that the input is not touched; else by the input. An option may be bad before
+-- how a connector may end: by its file if it has one, and then its input is not touched; otherwise by its input. An option may be
+-- bad before
 abbrev pub EndsByTable : {T : Type 0} → (table : Option (Bor (List ℕ))) → List ℕ → (ledger : Option (Bor (List ℕ))) → Option (List ℕ) → (r s : Tally) → (untouched : Type 0) → Result T RunError → Type 0
 EndsByTable None own ledger input r s untouched result = EndsBy own ledger input r s result ⊎ (IsErrOf result run.BadOption × untouched)
 EndsByTable (Some file) own ledger input r s untouched result = untouched × EndsByFile own ledger result
 
--- what comes before a table is read: memory was refused, or the input's reader, r before and s now, counted why it could not be
+-- what ends it before a table is read: memory was refused, or the input's reader, r before and s now, counted why it could not be
+-- read whole
 abbrev pub FailsFirst : {T : Type 0} → Result T RunError → (r s : Tally) → Type 0
 FailsFirst (Err (run.Fault x)) r s = FailsToRead x r s
 FailsFirst result r s = ⊥
 
--- a bad table is told exactly where the input is none for a hop of this address, but for what fails first
+-- a bad table is reported if and only if the input is not a table for a hop of this address, except for what fails first
 pub record TellsBad {T : Type 0} (own : List ℕ) (input : Option (List ℕ)) (r s : Tally) (result : Result T RunError) : Type 0 where
   pub only : IsErrOf result run.BadTable → IfSome input (λ bytes. ¬ (HasTable own bytes))
   pub always : IfSome input (λ bytes. ¬ (HasTable own bytes) → IsErrOf result run.BadTable ⊎ FailsFirst result r s)

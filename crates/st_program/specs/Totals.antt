@@ -1,4 +1,4 @@
--- The totals that a command tells in a file, and how it ends then.
+-- The totals that a command writes to a file, and how it ends then.
 use Rattle.std.specs.Prelude.{◌≡◌, ℕ, suc, List, [], ◌∷◌, ◌++◌, nat_eq, if◌then◌else◌, codes, decimal, Option, Some, None, Result, Ok, Err, ⊤}
 use Rattle.st_commands.specs.declared.error.Fault.{Fault}
 use Rattle.st_end.specs.Totals.{Totals}
@@ -29,8 +29,8 @@ lines_from text n (x ∷ rest) = text n x ++ lines_from text (suc n) rest
 abbrev pub accounts_text : (first : ℕ) → List AccountTotals → List ℕ
 accounts_text = lines_from account_text
 
--- the line of the Prepares that were answered with T00 because too many threads were busy: `overloaded 3` and a newline, or
--- none where there were none
+-- the line of the Prepares that were answered with T00 because too many threads were busy: `overloaded 3` and a newline, or no
+-- line if there were none
 abbrev pub overloaded_text : ℕ → List ℕ
 overloaded_text n = if nat_eq n 0 then [] else codes "overloaded " ++ decimal n ++ 10 ∷ []
 
@@ -49,7 +49,7 @@ count_text n x = count_front n x ++ count_back x
 unfoldable pub code_text : CodeCount → List ℕ
 code_text x = codes "code " ++ decimal x.account ++ 32 ∷ x.code ++ 32 ∷ decimal x.count ++ 10 ∷ []
 
--- the Rejects of an account whose codes have no line: `code 0 other 1` and a newline, or none where there were none
+-- the Rejects of an account whose codes have no line: `code 0 other 1` and a newline, or no line if there were none
 unfoldable pub other_text : (number : ℕ) → AccountCounts → List ℕ
 other_text n x = if nat_eq x.other 0 then [] else codes "code " ++ decimal n ++ codes " other " ++ decimal x.other ++ 10 ∷ []
 
@@ -70,23 +70,23 @@ owed_text accounts n = accounts_text 0 accounts ++ overloaded_text n
 abbrev pub connector_text : List AccountTotals → (overloaded : ℕ) → List AccountCounts → List CodeCount → List ℕ
 connector_text accounts n xs cs = owed_text accounts n ++ counts_text xs cs
 
--- how a command ends whose totals were told so: a fault of its own goes before one of telling
+-- how a command ends, by its own result and that of writing its totals: its own error comes first
 abbrev pub ended_with : Result (Unit {0}) RunError → Result (Unit {0}) Fault → Result (Unit {0}) RunError
 ended_with (Err e) told = Err e
 ended_with (Ok x) (Ok y) = Ok x
 ended_with (Ok x) (Err fault) = Err (run.Fault fault)
 
--- a file beside a place for a text is empty, where it is known what the place holds
+-- the new file for a place is empty, if it is known what the place holds
 abbrev pub IsEmptyBeside : (held : Option (List ℕ)) → (file : Option (List ℕ)) → Type 0
 IsEmptyBeside None file = ⊤
 IsEmptyBeside (Some bytes) file = file ≡ Some []
 
--- the place holds what the file beside it held
+-- the place holds what the new file had
 abbrev pub TakesPlace : (held file now : Option (List ℕ)) → Type 0
 TakesPlace None file now = ⊤
 TakesPlace (Some bytes) file now = now ≡ file
 
--- the place holds this text, and nothing of what it held before
+-- the place holds this text, and nothing of what it had before
 abbrev pub Replaced : (held now : Option (List ℕ)) → (text : List ℕ) → Type 0
 Replaced None now text = ⊤
 Replaced (Some bytes) now text = now ≡ Some text

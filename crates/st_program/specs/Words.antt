@@ -1,4 +1,4 @@
--- What the words of the command line ask for.
+-- What the arguments of the command line ask for.
 use Rattle.std.specs.Prelude.{◌≡◌, ◌≢◌, ◌⊎◌, List, [], ◌∷◌, codes, drop}
 use Rattle.clap.specs.Words.{IsAmong, Kinds, Text}
 use Rattle.clap.specs.declared.error.kind.ErrorKind.{ErrorKind}
@@ -7,7 +7,7 @@ use Rattle.st_words.specs.declared.request.Request.{Request}
 use Rattle.st_words.specs.declared.request.Request.TheVariants as request
 use Rattle.st_words.specs.Words.{AsksBy, command_of, refusals}
 
--- clap takes the words, and they ask for this
+-- clap accepts the arguments, and they ask for this
 abbrev pub AsksFor : List Text → Request → Type 0
 AsksFor words q = (refusals words ≡ []) × AsksBy (command_of words) q
 
@@ -15,11 +15,11 @@ AsksFor words q = (refusals words ≡ []) × AsksBy (command_of words) q
 abbrev pub AsksFrames : List Text → Type 0
 AsksFrames words = AsksFor words request.Frames
 
--- clap takes the words, and the text of an option is bad
+-- clap accepts the arguments, and the text of an option is bad
 abbrev pub HasBadOption : List Text → Type 0
 HasBadOption words = (refusals words ≡ []) × ((q : Request) → ¬ (AsksBy (command_of words) q))
 
--- the words after the first, which is the program's name
+-- the arguments after the first one, which is the program's name
 abbrev pub after_name : List Text → List Text
 after_name words = drop 1 words
 
@@ -38,6 +38,6 @@ NamesFrames words = (words ≡ []) ⊎ (words ≡ codes "frames" ∷ [])
 abbrev pub MayShow : Kinds → Type 0
 MayShow kinds = IsAmong DisplayHelp kinds ⊎ IsAmong DisplayVersion kinds
 
--- a mistake in the words may be the answer
+-- a mistake in the arguments may be the answer
 abbrev pub MayRefuse : Kinds → Type 0
 MayRefuse kinds = (kind : ErrorKind) × IsAmong kind kinds × (kind ≢ DisplayHelp) × (kind ≢ DisplayVersion)

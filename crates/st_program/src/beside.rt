@@ -1,4 +1,4 @@
-//! A text that is written beside its file, and put in its place whole.
+//! A text that is written to a new file, which then replaces another file as a whole.
 
 ghost use Rattle.std.specs.Prelude.{◌≡◌, ℕ, List, Option, None, MatchBool, IfSome, OnErr, OnOk};
 ghost use Rattle.st_oer.specs.Tallies.{device_of};
@@ -14,17 +14,17 @@ use std::io::{ErrorKind, Write};
 use std::os::unix::fs::{MetadataExt, OpenOptionsExt, fchown};
 use std::{fs, io};
 
-/// A place that holds a text. A further text is written to a file of its own, and takes the place whole.
+/// A place that holds a text. Another text is written to a new file, which then replaces what the place holds.
 pub(crate) trait Place<W: Write> {
-    // What a reader finds there, where that is known.
+    // What a reader finds there, if that is known.
     ghost held: { Self → Option (List ℕ) };
 
-    /// An empty file beside the place. `None` where there can be none.
+    /// An empty new file for this place. `None` if it cannot be made.
     fn begin(&mut self) -> Option<CountWrite<W>>
         ensures empty { IfSome result (λ file. IsEmptyBeside (held self.old) (W.contents (device_of file))) }
         ensures kept { held self.new ≡ held self.old };
 
-    /// Puts the file in its place, with what was written to it so far. False where that fails.
+    /// Puts the file in its place, with what was written to it so far. False if that fails.
     fn finish(&mut self, file: &CountWrite<W>) -> bool
         ensures { MatchBool result (TakesPlace (held self.old) (W.contents (device_of file.now)) (held self.new)) (held self.new ≡ held self.old) };
 
@@ -33,7 +33,7 @@ pub(crate) trait Place<W: Write> {
         ensures { held self.new ≡ held self.old };
 }
 
-/// Puts a text in its place whole. Where that fails, the place is as it was.
+/// Replaces what the place holds by this text, as a whole. If that fails, the place keeps what it has.
 #[tactic(auto, using(crate::proofs::Telling::replaced))]
 pub(crate) fn replace<W: Write + Drop, P: Place<W>>(place: &mut P, text: &[u8]) -> Result<(), Fault>
     ensures whole { OnOk result (Replaced (P.held place.old) (P.held place.new) text.now) }
@@ -55,7 +55,7 @@ pub(crate) fn replace<W: Write + Drop, P: Place<W>>(place: &mut P, text: &[u8]) 
     }
 }
 
-/// How many names of files beside another are tried.
+/// How many names are tried for a new file.
 const NAMES: u32 = 100;
 
 /// Why no file was made.
@@ -67,18 +67,18 @@ pub(crate) enum Unmade {
     Refused(Cause),
 }
 
-/// A file of this name, and one beside it that takes its place.
+/// A file, and the new file in the same folder that replaces it.
 #[derive(Drop)]
 pub(crate) struct Beside<'a, N> {
     rt: &'a N,
     alloc: Global,
     name: &'a str,
-    /// The name of the file that was made beside it, and is not in its place yet.
+    /// The name of the new file, if one was made and is not in its place yet.
     made: Option<String>,
 }
 
 impl<'a, N: Files<File = File>> Beside<'a, N> {
-    /// The file of this name, beside which there is none yet.
+    /// The file of this name. There is no new file for it yet.
     pub(crate) fn new(rt: &'a N, alloc: Global, name: &'a str) -> Beside<'a, N> {
         Beside {
             rt,
@@ -88,7 +88,7 @@ impl<'a, N: Files<File = File>> Beside<'a, N> {
         }
     }
 
-    /// Whether a file can be made beside this one. It is removed again.
+    /// Whether a new file can be made for this one. It is removed again.
     pub(crate) fn can_begin(&mut self) -> Result<(), Unmade> {
         let made = self.make();
         self.remove();
@@ -98,8 +98,8 @@ impl<'a, N: Files<File = File>> Beside<'a, N> {
         }
     }
 
-    /// Makes the file beside this one, with the mode of this one where it is there. No file that is there is opened: where
-    /// one has the name, another name is taken.
+    /// Makes the new file. It has the mode of the file that it replaces, if that exists. No existing file is opened: if the
+    /// name is in use, another one is tried.
     fn make(&mut self) -> Result<File, Unmade> {
         let found = regular(self.rt, self.name);
         let name = self.name;
@@ -124,7 +124,7 @@ impl<'a, N: Files<File = File>> Beside<'a, N> {
         Err(Unmade::Refused(Cause::Taken))
     }
 
-    /// Removes the file that was made beside this one, if there is one.
+    /// Removes the new file, if there is one.
     fn remove(&mut self) {
         if let Some(beside) = self.made.take() {
             let _ = fs::remove_file(self.rt, beside.as_str());
@@ -132,7 +132,8 @@ impl<'a, N: Files<File = File>> Beside<'a, N> {
     }
 }
 
-/// Creates a file of this name, where there is none. Its mode is that of any new file, or lets its owner alone read and write.
+/// Creates a file of this name. Fails if it exists already. Its mode is that of any new file, or, with `is_own`, lets only
+/// its owner read and write.
 fn created(files: &impl Files<File = File>, name: &str, is_own: bool) -> io::Result<File> {
     let mut options = OpenOptions::new();
     options.write(true).create_new(true);
@@ -142,8 +143,8 @@ fn created(files: &impl Files<File = File>, name: &str, is_own: bool) -> io::Res
     options.open(files, name)
 }
 
-/// Gives a new file the mode of the one whose place it takes, where there is one, and its owner and group where the process
-/// may. False where the mode cannot be given.
+/// Gives a new file the mode of the file that it replaces, if there is one, and its owner and group if the process may do
+/// so. False if the mode cannot be set.
 fn is_like(file: &File, found: &Option<Metadata>) -> bool {
     let Some(found) = found else {
         return true;
@@ -152,7 +153,7 @@ fn is_like(file: &File, found: &Option<Metadata>) -> bool {
     file.set_permissions(found.permissions()).is_ok()
 }
 
-/// What is known of the regular file of this name, where there is one. A symbolic link is none.
+/// The metadata of the regular file of this name, if there is one. A symbolic link does not count as a regular file.
 fn regular(files: &impl Files, name: &str) -> Option<Metadata> {
     match fs::symlink_metadata(files, name) {
         Ok(found) if found.is_file() => Some(found),
@@ -160,7 +161,8 @@ fn regular(files: &impl Files, name: &str) -> Option<Metadata> {
     }
 }
 
-/// Whether a file of this name is replaced: there is none, or it is a regular one. A symbolic link is none.
+/// Whether a file of this name is replaced as a whole: it is a regular file, or nothing is found under a name that is not
+/// empty. A symbolic link does not count as a regular file.
 pub(crate) fn is_replaced(files: &impl Files, name: &str) -> bool {
     match fs::symlink_metadata(files, name) {
         Ok(found) => found.is_file(),

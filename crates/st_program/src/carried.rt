@@ -1,4 +1,4 @@
-//! What accounts owed and were owed by a table of before, where a connector without books goes on by another one.
+//! What the accounts of the last table owed and were owed, for a connector without books that continues with another table.
 
 ghost use Rattle.std.specs.Prelude.{IfErr};
 ghost use Rattle.st_program.specs.Table.{WhyNotCarried};
@@ -10,7 +10,7 @@ use st_settings::Table;
 use st_transfer::AccountTotals;
 use std::alloc::{AllocError, Global};
 
-/// What the accounts of a table of before owed and were owed at its end, by their names.
+/// What the accounts of the last table owed and were owed at its end, by their names.
 #[derive(Drop)]
 pub(crate) struct Carried {
     names: Vec<String>,
@@ -55,7 +55,7 @@ impl Carried {
         })
     }
 
-    /// The totals of the account of this name; zeros where there was none.
+    /// The totals of the account of this name; zeros if there is no such account.
     fn totals_of(&self, name: &str) -> AccountTotals {
         for (known, totals) in self.names.iter().zip(&self.totals) {
             if known.as_str() == name {
@@ -92,8 +92,9 @@ impl Carried {
         Ok(Sums { claims, dues })
     }
 
-    /// The hop of this address and of a table, of which `hop` is the one without sums: with the sums of the table of before, by
-    /// the names of accounts. Fails with `NoHop` where the table does not fit them, or memory for the hop is refused.
+    /// The hop of this address and table, with the sums of the last table, by the names of accounts. `hop` is the same hop
+    /// without sums. Fails with `NoHop` if the table does not fit these sums or memory for the hop is refused, and with a
+    /// fault if other memory is refused.
     pub(crate) fn hop_of(
         &self,
         alloc: Global,

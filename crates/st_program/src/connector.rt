@@ -1,7 +1,10 @@
 //! The command `connector`.
 
-ghost use Rattle.std.specs.Prelude.{◌≡◌, true, IfErr, IsSome};
+ghost use Rattle.std.specs.Prelude.{◌≡◌, true, IfErr, IfOk, IfSome, IsNone, IsSome};
+ghost use Rattle.std.specs.Duration.{as_nanos};
 ghost use Rattle.st_oer.specs.Tallies.{device_of, tally_of};
+ghost use Rattle.st_commands.specs.Endings.{most_turns};
+ghost use Rattle.st_program.specs.Restored.{IsOfBooks};
 ghost use Rattle.st_program.specs.Table as spec;
 ghost use Rattle.st_program.specs.Table.{EndsBy, EndsByFile, EndsByTable, GoesOn, Lives, Serves, is_hop};
 ghost use Rattle.st_program.specs.declared.error.RunError.TheVariants.{NoListener};
@@ -16,7 +19,7 @@ use crate::log::{Log, journal, tell, tell_run, tell_table};
 use crate::obstacle::{Obstacle, Step};
 use crate::reports::{EachMinute, Renews, Reports, TableFile};
 use crate::table_file::{Unread, bytes_of, table_in};
-use crate::totals::{ConnectorTotals, place_for, places, tell_accounts};
+use crate::totals::{ConnectorTotals, Telling, place_for, places, tell_accounts};
 use sqlite_trees::store::Alter;
 use st_booking::Keeper;
 use st_books::Books;
@@ -27,7 +30,9 @@ use st_ledger::{LedgerError, OpensBooks, Placed, Watched, Watcher};
 use st_log::{Event, Start};
 use st_oer::CountRead;
 use st_settings::{ConnectorSettings, Table};
-use st_transfer::{ConnectTerms, ConnectorEnded, Counts, MOST_THREADS, Minutes, connector_on};
+use st_transfer::{
+    ConnectTerms, ConnectorEnded, Counts, MOST_THREADS, Minutes, Neighbour, connector_on,
+};
 use std::alloc::Global;
 use std::fs::{File, Files};
 use std::io::Read;
@@ -39,7 +44,7 @@ use std::time::Duration;
 /// How many seconds pass between two times that a connector writes its totals while it runs.
 const PERIOD_SECONDS: u64 = 60;
 
-/// The listener of a connector: that of its table of before, or a new one at the address of the settings.
+/// The listener of a connector: the one that it had with its last table, or a new one at the address of the settings.
 fn listener_of<
     'a,
     N: Net<Listener = TcpListener, Stream = TcpStream> + std::time::Clock,
@@ -67,7 +72,33 @@ fn listener_of<
     }
 }
 
-/// Runs a connector over a hop of the table's accounts, and sets its totals. With a till, what it books is stored there.
+/// What a connector is to do by these settings: what is left of its requests, and its accounts, which are known by these tokens
+/// and reached so.
+fn terms_of<'t>(
+    settings: &ConnectorSettings<'_>,
+    tokens: &'t [&'t str],
+    neighbours: &'t [Option<Neighbour<'t>>],
+    requests: Option<u64>,
+    log: Log<'t>,
+) -> ConnectTerms<'t>
+    ensures accounts { (result.tokens ≡ tokens.entry) × (result.neighbours ≡ neighbours.entry) }
+    ensures work { (result.workers ≡ settings.now.workers) × (result.requests ≡ requests) × (result.turns ≡ most_turns) }
+    ensures period { as_nanos result.period ≡ 60_000_000_000 }
+    ensures log { result.log ≡ log.entry }
+{
+    ConnectTerms {
+        tokens,
+        neighbours,
+        requests,
+        workers: settings.workers,
+        turns: TURNS,
+        period: Duration::from_secs(PERIOD_SECONDS),
+        log,
+    }
+}
+
+/// Runs a connector over a hop of the table's accounts, and sets its totals. There is a till if and only if the settings
+/// ask for books. What the connector books is stored through it.
 fn serve_by<
     'a,
     N: Net<Listener = TcpListener, Stream = TcpStream> + Threads + Wait + std::time::Clock + Sync,
@@ -83,6 +114,8 @@ fn serve_by<
     reports: &mut Reports<'_, 'a, M>,
 ) -> Result<(), RunError>
     requires made { is_hop settings.now.own.now table.now.accounts.items table.now.routes.items ≡ true }
+    requires stored { IsSome settings.now.ledger → IsSome till }
+    requires unstored { IsNone settings.now.ledger → IsNone till }
     ensures { Serves settings.now.own.now settings.now.ledger table.now.accounts.items table.now.routes.items result }
 {
     let tokens = table.tokens(alloc)?;
@@ -92,15 +125,8 @@ fn serve_by<
         reports.totals.counts = Counts::new(alloc, table.accounts.len())?;
     }
     let listener = listener_of(rt, alloc, settings, reports)?;
-    let terms = ConnectTerms {
-        tokens: &tokens,
-        neighbours: &neighbours,
-        requests: reports.requests,
-        workers: settings.workers,
-        turns: TURNS,
-        period: Duration::from_secs(PERIOD_SECONDS),
-        log: reports.log,
-    };
+    let (requests, log) = (reports.requests, reports.log);
+    let terms = terms_of(settings, &tokens, &neighbours, requests, log);
     let ConnectorEnded {
         result,
         accounts,
@@ -122,8 +148,8 @@ fn serve_by<
     }
 }
 
-/// Runs a connector that goes on with books, and stores there what it books, as long as their files are those that were opened.
-/// The books are closed at its end.
+/// Runs a connector that continues with what its books say is owed. What it books is stored there, as long as their files
+/// are those that were opened. The books are closed at its end.
 fn serve_with<
     'a,
     N: Net<Listener = TcpListener, Stream = TcpStream> + Threads + Wait + std::time::Clock + Sync,
@@ -147,12 +173,13 @@ fn serve_with<
         Ok(going) => going,
         Err(error) => return Err(error),
     };
-    let books = Watched::new(watcher, Placed::new(alloc, books, places));
+    let books = Placed::new(alloc, books, places, settings.keep_fulfillments);
+    let books = Watched::new(watcher, books);
     let till = Till::new(alloc, books, MOST_THREADS)?;
     serve_by(rt, alloc, settings, table, hop, Some(&till), reports)
 }
 
-/// Runs a connector by a table without books. It goes on with what the accounts of the table of before had.
+/// Runs a connector by a table, without books. It continues with what the accounts of the last table owed and were owed.
 fn serve_without<
     'a,
     N: Net<Listener = TcpListener, Stream = TcpStream> + Threads + Wait + std::time::Clock + Sync,
@@ -166,6 +193,7 @@ fn serve_without<
     reports: &mut Reports<'_, 'a, M>,
 ) -> Result<(), RunError>
     requires made { is_hop settings.now.own.now table.now.accounts.items table.now.routes.items ≡ true }
+    requires unasked { IsNone settings.now.ledger }
     ensures { Serves settings.now.own.now settings.now.ledger table.now.accounts.items table.now.routes.items result }
 {
     let hop = match reports.carried.hop_of(alloc, settings.own, table, hop) {
@@ -182,13 +210,41 @@ fn serve_without<
     }
 }
 
-/// Folds the log of books into their file, at an end: an open does so. Where it fails, the next start does it, or says why not.
+/// Merges the log of the books into their file at the end of a run, by opening them once more. If that fails, the next
+/// start does it, or reports why it cannot.
 fn fold<O: OpensBooks>(opener: &O, file: &str) {
     drop(opener.open_existing(file));
 }
 
-/// Runs a connector by a table, over the books of a file where one is asked for. The books are opened only for a table that
-/// a hop may have.
+/// Opens the books in the file that was asked for, and makes the watcher of that file. Fails as the books do, or with a
+/// fault if memory is refused.
+fn books_of<N: std::time::Clock, O: OpensBooks>(
+    rt: &N,
+    opener: &O,
+    file: &str,
+    own: &str,
+    log: Log<'_>,
+) -> Result<(Books<O::Store>, O::Watcher), RunError>
+    ensures found { IfOk result (λ opened. O.finds opener.now file.now opened.0) }
+    ensures refused { IfErr result IsOfBooks }
+{
+    match opener.open(file, own) {
+        Ok(books) => {
+            if books.starts() == 0 {
+                tell(rt, log, &Event::NewBooks);
+            }
+            match opener.watcher(file) {
+                Ok(watcher) => Ok((books, watcher)),
+                Err(_) => Err(RunError::Fault(Fault::NoMemory)),
+            }
+        }
+        Err(error) => Err(RunError::Ledger(LedgerError::Books(error))),
+    }
+}
+
+/// Runs a connector by a table, with the books in a file if one is asked for. The books are opened only if a hop may have
+/// the table.
+#[tactic(auto, using(crate::proofs::Tables::no_books))]
 fn serve<
     'a,
     N: Net<Listener = TcpListener, Stream = TcpStream> + Threads + Wait + std::time::Clock + Sync,
@@ -211,21 +267,15 @@ fn serve<
     let Some(file) = settings.ledger else {
         return serve_without(rt, alloc, settings, table, hop, reports);
     };
-    match opener.open(file, settings.own) {
-        Ok(books) => {
-            if books.starts() == 0 {
-                tell(rt, reports.log, &Event::NewBooks);
-            }
-            let Ok(watcher) = opener.watcher(file) else {
-                return Err(RunError::Fault(Fault::NoMemory));
-            };
+    match books_of(rt, opener, file, settings.own, reports.log) {
+        Ok((books, watcher)) => {
             let ended = serve_with(rt, alloc, settings, table, books, watcher, reports);
             if ended.is_ok() {
                 fold(opener, file);
             }
             ended
         }
-        Err(error) => Err(RunError::Ledger(LedgerError::Books(error))),
+        Err(error) => Err(error),
     }
 }
 
@@ -256,7 +306,8 @@ fn serve_bytes<
     ended
 }
 
-/// Why a connector cannot go on by another table, where this error is such a reason: the table does not fit what is owed.
+/// Why a connector cannot continue with another table: that does not fit what is owed. `None` if the error has another
+/// reason.
 fn misfit(error: RunError) -> Option<&'static str> {
     match error {
         RunError::Ledger(LedgerError::Unlisted) => {
@@ -268,7 +319,8 @@ fn misfit(error: RunError) -> Option<&'static str> {
     }
 }
 
-/// How a connector ended by another table than its first one. That table was looked at before, so that it is not bad now.
+/// How a connector ended by a table after its first one. That table was checked before, so that it is not bad now. Should
+/// it be bad, the error is `NoHop`.
 fn later(ended: Result<(), RunError>) -> Result<(), RunError>
     ensures { result ≡ spec.later ended }
 {
@@ -278,7 +330,8 @@ fn later(ended: Result<(), RunError>) -> Result<(), RunError>
     }
 }
 
-/// Goes on by the next table, or by the one of before, where that does not fit what is owed. Sets the table by which it went on.
+/// Runs a connector by the next table, or again by the last one if the next one does not fit what is owed. `table` is then
+/// the one by which it ran.
 #[tactic(auto, using(crate::proofs::Tables::goes_on))]
 fn go_on<
     'a,
@@ -309,7 +362,7 @@ fn go_on<
     later(serve_bytes(rt, opener, alloc, settings, table, reports))
 }
 
-/// The table by which a connector is to go on that ended by its last one. `None` where it is to end.
+/// The table with which a connector continues after it ended by its last one. `None` if it is to end.
 fn next_table<M: Renews>(reports: &mut Reports<'_, '_, M>) -> Option<Vec<u8>> {
     let next = reports.minutes.next_table()?;
     match reports.requests {
@@ -403,7 +456,7 @@ fn serve_file<
     }
 }
 
-/// Runs a connector by the table in its file, where it has one, and else by that in its input.
+/// Runs a connector by the table in its file, if it has one, and otherwise by the table in its input.
 fn serve_table<
     'a,
     R: Read,
@@ -431,16 +484,66 @@ fn serve_table<
     }
 }
 
-/// The file of its table, where a connector has one.
-fn table_of<'a>(settings: &ConnectorSettings<'a>) -> Option<TableFile<'a>> {
+/// The file of a connector's table, if it has one.
+fn table_of<'a>(settings: &ConnectorSettings<'a>) -> Option<TableFile<'a>>
+    ensures none { IsNone settings.now.table → IsNone result }
+    ensures named { IfSome settings.now.table (λ name. IfSome result (λ file. (file.name ≡ name) × (file.own ≡ settings.now.own))) }
+    ensures some { IsSome settings.now.table → IsSome result }
+{
     let name = settings.table?;
     let own = settings.own;
     Some(TableFile { name, own })
 }
 
-/// Reads the table, runs a connector by it, over the books of a file where one is asked for, and writes its totals where
-/// they are, each minute and at the end. Where none for the totals can be made, or the pipe for orders cannot be opened, nothing
-/// else is done.
+/// What a connector of these settings has to report, before its first table. `telling` is the place for its totals, and
+/// `pipe` the pipe by which it is asked things, if these were asked for.
+fn reports_of<'r, 'a: 'r, N: Files<File = File> + std::time::Clock>(
+    rt: &'r N,
+    alloc: Global,
+    settings: &ConnectorSettings<'a>,
+    telling: Telling<'r, N>,
+    pipe: Option<File>,
+    log: Log<'r>,
+) -> Reports<'r, 'a, EachMinute<'r, N>>
+    requires placed { IsSome settings.now.totals → IsSome telling.place }
+    requires opened { IsSome settings.now.control → IsSome pipe }
+    ensures requests { result.requests ≡ settings.now.requests }
+    ensures told { (result.minutes.telling.place ≡ telling.entry.place) × (result.log ≡ log.entry) × (result.minutes.log ≡ log.entry) }
+    ensures control { IsSome settings.now.control → IsSome result.minutes.control }
+    ensures table { IsSome settings.now.table → IsSome result.minutes.table }
+{
+    let has_table = settings.table.is_some();
+    let control = match pipe {
+        Some(pipe) => Some(Control::new(rt, alloc, pipe, log, settings.log, has_table)),
+        None => None,
+    };
+    Reports {
+        totals: ConnectorTotals {
+            accounts: Vec::new(alloc),
+            counts: Counts::none(alloc),
+            overloaded: 0,
+        },
+        minutes: EachMinute {
+            rt,
+            alloc,
+            telling,
+            log,
+            control,
+            table: table_of(settings),
+            next: None,
+            is_stopped: false,
+        },
+        log,
+        obstacle: None,
+        listener: None,
+        requests: settings.requests,
+        carried: Carried::none(alloc),
+    }
+}
+
+/// Reads the table, and runs a connector by it, with the books in a file if one is asked for. Writes its totals if a file
+/// for them is asked for: at the end, and also each minute if that file can be replaced. If the file for the totals cannot
+/// be made, or the pipe for orders cannot be opened, nothing else is done.
 #[tactic(auto, using(crate::proofs::Tables::bad_option, crate::proofs::Tables::no_memory))]
 fn serve_reporting<
     'a,
@@ -469,39 +572,7 @@ fn serve_reporting<
     };
     match place_for(rt, alloc, settings.totals, obstacle) {
         Ok(telling) => {
-            let control = match pipe {
-                Some(pipe) => Some(Control::new(
-                    rt,
-                    alloc,
-                    pipe,
-                    log,
-                    settings.log,
-                    settings.table.is_some(),
-                )),
-                None => None,
-            };
-            let mut reports = Reports {
-                totals: ConnectorTotals {
-                    accounts: Vec::new(alloc),
-                    counts: Counts::none(alloc),
-                    overloaded: 0,
-                },
-                minutes: EachMinute {
-                    rt,
-                    alloc,
-                    telling,
-                    log,
-                    control,
-                    table: table_of(settings),
-                    next: None,
-                    is_stopped: false,
-                },
-                log,
-                obstacle: None,
-                listener: None,
-                requests: settings.requests,
-                carried: Carried::none(alloc),
-            };
+            let mut reports = reports_of(rt, alloc, settings, telling, pipe, log);
             let ended = serve_table(rt, opener, alloc, settings, reader, &mut reports);
             let Reports {
                 totals,
@@ -517,8 +588,8 @@ fn serve_reporting<
     }
 }
 
-/// Reads the table, and runs a connector by it, as the settings say. Where the file for events cannot be opened or none for
-/// the totals can be made, nothing else is done. Sets what stood in its way.
+/// Reads the table, and runs a connector by it, as the settings say. If the log or the pipe for orders cannot be opened, or
+/// the file for the totals cannot be made, nothing else is done. Sets `obstacle` if a file or an address prevents the run.
 #[tactic(auto, using(crate::proofs::Tables::bad_option, crate::proofs::Tables::no_memory))]
 pub(crate) fn connector<
     'a,

@@ -39,11 +39,11 @@ pub(crate) enum Asked {
     Totals,
     /// To open the file of the log anew.
     Log,
-    /// To read the file of the table anew, and to go on by it.
+    /// To read the file of the table anew, and to continue with that table.
     Table,
 }
 
-/// What a line asks for. `None` where it is none of the lines that a command knows.
+/// What a line asks for. `None` if a command does not know the line.
 fn asked_by(line: &[u8]) -> Option<Asked>
     ensures { result ≡ spec.asked_by line.now }
 {
@@ -62,7 +62,7 @@ fn asked_by(line: &[u8]) -> Option<Asked>
     None
 }
 
-/// What is asked of a command that reads a table from a file, or of one that reads none and does not know the line `table`.
+/// What is asked of a command. One that reads no table from a file does not know the line `table`.
 fn known(has_table: bool, asked: Option<Asked>) -> Option<Asked>
     ensures { result ≡ spec.known has_table asked }
 {
@@ -78,14 +78,14 @@ pub(crate) struct Control<'a, N> {
     rt: &'a N,
     alloc: Global,
     pipe: File,
-    /// What came of a line.
+    /// The bytes of the line that were read so far, as far as they are kept.
     line: Vec<u8>,
-    /// Whether it is whole.
+    /// Whether the line was read to its end.
     is_whole: bool,
     /// Whether the command reads a table from a file.
     has_table: bool,
     log: Log<'a>,
-    /// The name of the log's file, where there is a log.
+    /// The name of the log's file, if there is a log.
     log_name: Option<&'a str>,
 }
 
@@ -103,7 +103,7 @@ fn open_pipe<N: Files<File = File>>(rt: &N, name: &str) -> Result<File, Cause> {
     }
 }
 
-/// Opens the pipe of this name, where one was asked for. Fails with `BadOption` where there is no such pipe, or it cannot be
+/// Opens the pipe of this name, if one was asked for. Fails with `BadOption` if there is no such pipe, or it cannot be
 /// opened.
 pub(crate) fn pipe_of<'a, N: Files<File = File>>(
     rt: &N,
@@ -149,15 +149,15 @@ impl<'a, N: Files<File = File> + Clock> Control<'a, N> {
         }
     }
 
-    /// Keeps a byte of a line, where it has no more than may be kept, and one.
+    /// Keeps a byte of a line, up to one byte more than `MOST_LINE`.
     fn keep(&mut self, byte: u8) {
         if self.line.len() <= MOST_LINE {
-            // (where memory is refused, the line is another one, and asks for nothing)
+            // (if memory is refused, this byte is missing from the line)
             let _ = self.line.push(byte);
         }
     }
 
-    /// Reads on, to the end of a line. False where it is not here yet.
+    /// Reads further bytes, up to the end of the line. False if the end is not among them.
     fn read_line(&mut self) -> bool {
         for _ in 0..MOST_BYTES {
             let mut byte = [0];
@@ -188,8 +188,8 @@ impl<'a, N: Files<File = File> + Clock> Control<'a, N> {
         }
     }
 
-    /// Does what can be done at once: opens the log anew. Reports what became of the line, but of one that asks for the table: whoever
-    /// reads that reports it.
+    /// Does what can be done at once: opens the log anew. Reports what became of the line, except for one that asks for the
+    /// table: whoever reads the table reports that.
     fn hear(&self, asked: Option<Asked>) {
         match asked {
             None => self.tell(Heard::Unknown),
@@ -199,7 +199,8 @@ impl<'a, N: Files<File = File> + Clock> Control<'a, N> {
         }
     }
 
-    /// The next line that came, if one did, and what it asks for. What it asks of the log is done then. It does not wait.
+    /// The next line, if it was written to its end, and what it asks for. What it asks of the log is done at once. Does not
+    /// wait.
     pub(crate) fn next(&mut self) -> Option<Option<Asked>> {
         if self.is_whole {
             self.line.clear();
@@ -215,23 +216,25 @@ impl<'a, N: Files<File = File> + Clock> Control<'a, N> {
     }
 }
 
-/// What tells how far a receiver is, and what it is asked while it runs.
+/// Reports the progress of a receiver, and reads what it is asked while it runs.
 #[derive(Drop)]
 pub(crate) struct Directed<'a, N> {
     teller: Teller<'a, N>,
-    control: Option<Control<'a, N>>,
-    /// The name of the file for its totals, where there is one.
+    pub(crate) control: Option<Control<'a, N>>,
+    /// The name of the file for its totals, if there is one.
     totals: Option<&'a str>,
     is_stopped: bool,
 }
 
 impl<'a, N: Files<File = File> + Clock> Directed<'a, N> {
-    /// The same as the teller, and what comes by this pipe, where there is one.
+    /// The reports of this teller, and what is asked by this pipe, if there is one.
     pub(crate) fn new(
         teller: Teller<'a, N>,
         control: Option<Control<'a, N>>,
         totals: Option<&'a str>,
-    ) -> Directed<'a, N> {
+    ) -> Directed<'a, N>
+        ensures { result.control ≡ control.entry }
+    {
         Directed {
             teller,
             control,

@@ -58,7 +58,7 @@ fn code_text(alloc: Global, code: CodeCount) -> Result<Vec<u8>, AllocError>
     Ok(text)
 }
 
-/// The line of an account's Rejects whose codes have none. Empty where there are none.
+/// The line of an account's Rejects whose codes have no line of their own. Empty if there are no such Rejects.
 #[tactic(auto, using(crate::proofs::Pieces::pieces), unfolding(crate::specs::Totals::other_text))]
 fn other_text(alloc: Global, number: usize, counts: AccountCounts) -> Result<String, AllocError>
     ensures { IfOk result (λ text. string_bytes text ≡ spec.other_text number counts) }
@@ -76,7 +76,7 @@ fn other_text(alloc: Global, number: usize, counts: AccountCounts) -> Result<Str
 enum Line {
     /// How its Prepares ended.
     Fates,
-    /// How many of its Rejects have a code without a line. There is none where there are none.
+    /// How many of its Rejects have a code without a line of its own. It is left out if there are no such Rejects.
     OtherCodes,
 }
 

@@ -31,7 +31,7 @@ pub(crate) struct Credentials {
     pub(crate) secret: [u8; 32],
 }
 
-/// Why a file gives nothing that could not be read: the option that names it is bad, or memory was refused.
+/// Why a file that could not be read gives nothing: the option that names it is bad, or memory was refused.
 fn unread(fault: Fault) -> RunError
     ensures { result ≡ spec.unread fault }
 {
@@ -49,8 +49,8 @@ fn owned(alloc: Global, text: &str) -> Result<String, RunError>
     Ok(String::from_str(alloc, text)?)
 }
 
-/// The token in the first line of an input. Fails with `BadOption` where the line is no token or the input cannot be
-/// read, and else where memory is refused.
+/// The token in the first line of an input. Fails with `BadOption` if the line is not a valid token or the input cannot be
+/// read, and with a fault if memory is refused.
 fn token_from<R: Read>(alloc: Global, reader: &mut CountRead<R>) -> Result<String, RunError>
     ensures line { ComesOfLine (λ line token. IsToken line (string_bytes token)) (R.remaining (device_of reader.old)) (tally_of reader.old) (tally_of reader.new) result }
     ensures visible { IfOk result (λ token. texts.is_field_text (string_bytes token) ≡ true) }
@@ -65,8 +65,8 @@ fn token_from<R: Read>(alloc: Global, reader: &mut CountRead<R>) -> Result<Strin
     }
 }
 
-/// The secret in the first line of an input. Fails with `BadOption` where the line is no secret or the input cannot be
-/// read, and else where memory is refused.
+/// The secret in the first line of an input. Fails with `BadOption` if the line is not a valid secret or the input cannot
+/// be read, and with a fault if memory is refused.
 fn secret_from<R: Read>(alloc: Global, reader: &mut CountRead<R>) -> Result<[u8; 32], RunError>
     ensures { ComesOfLine IsSecret (R.remaining (device_of reader.old)) (tally_of reader.old) (tally_of reader.new) result }
 {
@@ -80,13 +80,14 @@ fn secret_from<R: Read>(alloc: Global, reader: &mut CountRead<R>) -> Result<[u8;
     }
 }
 
-/// What stands in the way where the first line of a file is bad.
+/// The obstacle of a file whose first line is bad.
 fn bad_line<'a>(step: Step, name: &'a str) -> Obstacle<'a> {
     let cause = Cause::BadLine;
     Obstacle { step, name, cause }
 }
 
-/// The token that is given, or that in the first line of its file. Sets what stands in the way of it, if anything does.
+/// The token that is given, or the one in the first line of its file. With a file, `obstacle` says what is wrong if this
+/// fails. It is set on success too: the caller resets it.
 fn token_of<'a, N: Files<File = File>>(
     rt: &N,
     alloc: Global,
@@ -115,7 +116,8 @@ fn token_of<'a, N: Files<File = File>>(
     }
 }
 
-/// The secret that is given, or that in the first line of its file. Sets what stands in the way of it, if anything does.
+/// The secret that is given, or the one in the first line of its file. With a file, `obstacle` says what is wrong if this
+/// fails. It is set on success too: the caller resets it.
 fn secret_of<'a, N: Files<File = File>>(
     rt: &N,
     alloc: Global,
@@ -144,7 +146,7 @@ fn secret_of<'a, N: Files<File = File>>(
 
 /// The token and the secret of an end. Of a file that has one of them, the first 4,096 bytes are read.
 ///
-/// Fails with `BadOption` where a file cannot be read, or its first line is bad; and where memory is refused.
+/// Fails with `BadOption` if a file cannot be read or its first line is bad, and with a fault if memory is refused.
 pub(crate) fn credentials_of<'a, N: Files<File = File>>(
     rt: &N,
     alloc: Global,

@@ -11,7 +11,7 @@ use st_faults::explanation;
 use st_oer::CountWrite;
 use std::io::Write;
 
-/// What is printed of a number that no fault and no refusal has.
+/// What is printed for a number that no fault and no refusal has.
 const NO_FAULT: &str = "error: no fault and no refusal has this number\n";
 
 /// Writes a text. Status 0, or that of a fault.
@@ -30,8 +30,8 @@ fn write_text<W: Write, E: Write>(
     }
 }
 
-/// Prints what a number means: each error with this number, which commands report it, its cause, and what to do. Status 0, or
-/// that of a fault; 2 where no error has the number, of which `errors` is told.
+/// Prints what a number means: each error with this number, which commands report it, its cause, and what to do. Status 0,
+/// or that of a fault. If no error has the number, that is reported to `errors`, and the status is 2.
 pub(crate) fn explain<W: Write, E: Write>(
     number: u8,
     writer: &mut CountWrite<W>,

@@ -1,4 +1,4 @@
-//! The hop of a connector and its neighbours, made by a table.
+//! The hop of a connector and its neighbours, made from a table.
 
 ghost use Rattle.std.specs.Prelude.{◌≡◌, true, map, IfErr, IfOk, IsErrOf, IsOkUnless, MatchBool};
 ghost use Rattle.st_hop.specs.Seen.{way_seen};
@@ -9,6 +9,7 @@ ghost use Rattle.st_program.specs.Table.{WhyNoHop, is_hop};
 ghost use Rattle.st_ledger.specs.Names.{claims_of, dues_of};
 ghost use Rattle.st_ledger.specs.Placing.{first_of};
 ghost use Rattle.st_program.specs.Restored.{GoesOnFrom, IsRestored, StandsFor, WhyNotRestored};
+ghost use Rattle.st_program.specs.Ways.{these, way_in, way_of};
 ghost use Rattle.st_program.specs.declared.error.RunError.TheVariants.{BadTable, NoHop};
 
 use crate::error::RunError;
@@ -21,8 +22,8 @@ use st_settings::{AccountLine, Table};
 use st_transfer::Neighbour;
 use std::alloc::{AllocError, Global};
 
-/// The hop of this address with these accounts and routes. Fails with `BadTable` where no hop may have them, and else with
-/// `NoHop` alone, where memory is refused.
+/// The hop of this address with these accounts and routes. Fails with `BadTable` if no hop may have them. Otherwise it
+/// fails only with `NoHop`, if memory is refused.
 fn make_hop(
     alloc: Global,
     own: &str,
@@ -55,7 +56,7 @@ pub(crate) fn hop_of(
     make_hop(alloc, own, &terms, &table.routes)
 }
 
-/// A hop that goes on with books.
+/// A hop that continues with what books say is owed.
 #[derive(Drop)]
 pub(crate) struct Going {
     pub(crate) hop: HopState<Global>,
@@ -63,8 +64,9 @@ pub(crate) struct Going {
     pub(crate) places: Vec<usize>,
 }
 
-/// The hop of this address and of a table that goes on with books: what they say, by the names of accounts, is owed, and its
-/// tickets are numbered above those of each earlier life. The names that the books lack are added, and the start is counted.
+/// The hop of this address and table that continues with books. What is owed at it is what they say, by the names of
+/// accounts. Its tickets are numbered above those of each earlier start. The names that the books lack are added, and the
+/// start is counted.
 pub(crate) fn restored<S: Alter>(
     alloc: Global,
     own: &str,
@@ -96,18 +98,27 @@ pub(crate) fn restored<S: Alter>(
     }
 }
 
-/// Where the Prepares for each account are sent.
+/// The neighbour to which the Prepares for an account are sent, as its line says. `None` if the line names no neighbour, or
+/// its texts may not be in a request.
+fn way_of<'a>(account: &AccountLine<'a>) -> Option<Neighbour<'a>>
+    ensures { way_in result ≡ way_of account.now }
+{
+    match account.neighbour {
+        Some(neighbour) => Neighbour::new(neighbour.host, neighbour.token),
+        None => None,
+    }
+}
+
+/// The neighbour to which the Prepares for each account are sent.
 pub(crate) fn neighbours_of<'a>(
     alloc: Global,
     accounts: &[AccountLine<'a>],
-) -> Result<Vec<Option<Neighbour<'a>>>, AllocError> {
+) -> Result<Vec<Option<Neighbour<'a>>>, AllocError>
+    ensures { IfOk result (λ neighbours. map way_in neighbours.items ≡ these accounts.now) }
+{
     let mut neighbours = Vec::new(alloc);
-    for account in accounts {
-        let neighbour = match account.neighbour {
-            Some(neighbour) => Neighbour::new(neighbour.host, neighbour.token),
-            None => None,
-        };
-        neighbours.push(neighbour)?;
+    for number in 0..accounts.len() {
+        neighbours.push(way_of(&accounts[number]))?;
     }
     Ok(neighbours)
 }

@@ -15,7 +15,7 @@ use std::io::Read;
 /// The number of bytes that one read asks for.
 const PIECE: usize = 4096;
 
-/// Appends the bytes of one read. True where the input is at its end.
+/// Appends the bytes of one read. True if the input is at its end.
 fn read_more<R: Read>(reader: &mut CountRead<R>, bytes: &mut Vec<u8>) -> Result<bool, Fault>
     ensures more { IfOk result (ReadsOn (R.remaining (device_of reader.old)) (R.remaining (device_of reader.new)) bytes.old.items bytes.new.items) }
     ensures faults { (tally_of reader.new).faults ≡ reader_faults (fault_of result) (tally_of reader.old).faults }

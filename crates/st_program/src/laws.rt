@@ -10,15 +10,15 @@ ghost use Rattle.st_program.specs.Words.{AsksFrames, NamesFrames, after_name};
 
 use st_settings::{a_bad_text_says_no_table, lines_say_one_table};
 
-/// States a law; it does nothing. No argument behind the program's name asks for `frames`, and so does `frames` alone,
-/// each with or without `--` behind it.
+/// States a law; it does nothing. The program's name alone asks for `frames`, and so does the name with the one argument
+/// `frames`, each also with a final `--`.
 pub fn frames_needs_no_word()
     ensures { (words : List Text) → NamesFrames (after_name words) → AsksFrames words }
 {}
 
-/// States a law; it does nothing. How a connector may end by its input says both ways when its table is bad. It tells a
-/// bad table, 96, only where the input is no table for a hop of its address; and there always, except where memory was
-/// refused or the input's reader failed.
+/// States a law; it does nothing. What is proved of a connector that reads its table from its input fixes when it reports a
+/// bad table (96): only if the input is not a table for a hop of its address. It always does so then, unless memory was
+/// refused or the input could not be read whole.
 pub fn a_bad_table_is_told_exactly()
     ensures { (own : List ℕ) (ledger : Option (Bor (List ℕ))) (input : Option (List ℕ)) (r s : Tally) (result : Result (Unit {0}) RunError) → EndsBy own ledger input r s result → TellsBad own input r s result }
 {

@@ -43,7 +43,7 @@ fn kind_of(kind: st_settings::Kind) -> Kind
     }
 }
 
-/// The present moment, in milliseconds since the start of 1970; 0 where the clock cannot be read.
+/// The current time, in milliseconds since the start of 1970; 0 if the clock cannot be read.
 fn moment<C: std::time::Clock>(rt: &C) -> u64 {
     u64::try_from(RuntimeClock::new(rt).now().ms()).unwrap_or(0)
 }
@@ -153,10 +153,11 @@ fn print<W: Write>(writer: &mut CountWrite<W>, text: &[u8]) -> Result<(), RunErr
     Ok(())
 }
 
-/// Prints the books of a file: a line for each account, and one for the starts. With a payment or an adjustment it books
-/// that, with the present moment, and prints the line of its account as it stands then. The file has to hold books: none are made.
+/// Prints the books in a file: a line for each account, and one for the starts. With a payment or an adjustment it books
+/// that, with the current time, and prints the line of its account after that. The file has to contain books already: none
+/// are made.
 ///
-/// Nothing is printed where the books refuse.
+/// Nothing is printed if the books refuse.
 pub(crate) fn ledger<W: Write, C: std::time::Clock, O: OpensBooks>(
     rt: &C,
     opener: &O,

@@ -1,8 +1,8 @@
 //! The program `ilpstream`: it reads the arguments of the command line, and runs the command that they name.
 //!
-//! `run` takes the arguments, a reader, a writer and a writer for errors, the runtime that gives files, sockets, threads
-//! and the time, and what opens books. What the arguments mean is in specs/Words.antt of st_words; what the program answers is in
-//! specs/. `ilpstream` calls it with the arguments and the standard streams of a process.
+//! `run` is given the arguments, a reader, a writer and a writer for errors, the runtime that gives files, sockets, threads
+//! and the time, and what opens books. What the arguments mean is in specs/Words.antt of st_words; what the program answers
+//! is in specs/. `ilpstream` calls it with the arguments and the standard streams of a process.
 #![tactic(auto)]
 
 mod beside;

@@ -7,8 +7,9 @@ use std::alloc::Global;
 use std::net::TcpListener;
 use std::time::Clock;
 
-/// Reports the address at which a command listens, with the port that it was given in place of 0: to its log, where there is
-/// one, and to standard error, where that is asked for. Nothing is reported where the system does not say the address.
+/// Reports the address at which a command listens, with the port that the system chose in place of 0. It is written to the
+/// log, if there is one, and to standard error, if that is asked for. Nothing is reported if the system does not return the
+/// address.
 pub(crate) fn tell_listening<N: Clock>(
     rt: &N,
     alloc: Global,

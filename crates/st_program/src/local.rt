@@ -23,7 +23,7 @@ use std::alloc::{AllocError, Global};
 use std::fs::{File, Files};
 use std::io::{Read, Write};
 
-/// The line that reports the bound of a run. Empty where it has none.
+/// The line that reports the bound of a run. Empty if it has none.
 #[tactic(auto, using(crate::proofs::Pieces::pieces))]
 fn bound_text(alloc: Global, bound: Option<u64>) -> Result<String, AllocError>
     ensures { IfOk result (λ text. string_bytes text ≡ spec.bound_text bound) }
@@ -47,7 +47,7 @@ fn sends_text(alloc: Global, sends: LocalSends) -> Result<String, AllocError>
     Ok(text)
 }
 
-/// Writes these lines where the totals go.
+/// Writes these lines to the file for the totals.
 fn tell_sends<N: Files<File = File>>(
     alloc: Global,
     telling: Telling<'_, N>,
@@ -59,7 +59,7 @@ fn tell_sends<N: Files<File = File>>(
     }
 }
 
-/// The result of a run that went over: that of telling its numbers, unless they are past the bound.
+/// The result of a run that transferred all of its input: that of writing its numbers, unless they are past the bound.
 fn ended_within(sends: LocalSends, told: Result<(), Fault>) -> Result<(), LocalError>
     ensures { result ≡ spec.ended_within sends told }
 {
@@ -72,7 +72,7 @@ fn ended_within(sends: LocalSends, told: Result<(), Fault>) -> Result<(), LocalE
     }
 }
 
-/// Runs `local` once it is known where its totals go.
+/// Runs `local`, and writes its numbers to the place that was found for its totals.
 fn told<R: Read, W: Write, N: Files<File = File>>(
     alloc: Global,
     telling: Telling<'_, N>,
@@ -91,8 +91,8 @@ fn told<R: Read, W: Write, N: Files<File = File>>(
     }
 }
 
-/// Runs `local`, and writes how many Prepares it sent where that was asked for. Where no file for that can be made, nothing
-/// is read and written. Nothing is written there at a fault of the run.
+/// Runs `local`, and writes how many Prepares it sent, if a file for that was asked for. If that file cannot be made,
+/// nothing is read and written. If the run fails, nothing is written to that file.
 fn placed<'n, R: Read, W: Write, N: Files<File = File>>(
     rt: &N,
     alloc: Global,

@@ -19,14 +19,14 @@ use std::io;
 use std::os::unix::fs::FileTypeExt;
 use std::time::Clock;
 
-/// The log of a run, where it has one.
+/// The log of a run, if it has one.
 pub(crate) type Log<'a> = Option<&'a LogFile>;
 
 /// The greatest number of a neighbour whose lines are counted by themselves.
 const LAST: u32 = 255;
 
-/// Opens the file of this name at its end, and makes it where there is none. It is never emptied. Of a pipe that nobody has open
-/// to read, a writer would wait for a reader here. So such a pipe is first opened to read and to write, which never waits.
+/// Opens the file of this name to append to it, and makes it if it does not exist. It is never emptied. A writer that opens
+/// a pipe waits until a reader opens it too. So a pipe is first opened to read and to write, which never waits.
 fn at_end<N: Files<File = File>>(rt: &N, name: &str) -> io::Result<File> {
     let is_pipe = match rt.metadata(name) {
         Ok(found) => found.file_type().is_fifo(),
@@ -42,8 +42,8 @@ fn at_end<N: Files<File = File>>(rt: &N, name: &str) -> io::Result<File> {
     Ok(file)
 }
 
-/// Opens the file of this name at its end, where one was asked for, and makes it where there is none. Fails with `BadOption`
-/// where it cannot be opened.
+/// Opens the file of this name to append to it, if one was asked for, and makes it if it does not exist. Fails with
+/// `BadOption` if it cannot be opened.
 fn log_file<'a, N: Files<File = File>>(
     rt: &N,
     name: Option<&'a str>,
@@ -65,8 +65,8 @@ fn log_file<'a, N: Files<File = File>>(
     }
 }
 
-/// The log in the file of this name, behind what stands there, where one was asked for. Fails with `BadOption` where the
-/// file cannot be opened, and else where memory is refused.
+/// The log in the file of this name, if one was asked for. Its lines are appended to what the file has. Fails with
+/// `BadOption` if the file cannot be opened, and with a fault if memory is refused.
 pub(crate) fn journal<'a, N: Files<File = File>>(
     rt: &N,
     alloc: Global,
@@ -87,8 +87,8 @@ pub(crate) fn journal<'a, N: Files<File = File>>(
     }
 }
 
-/// Opens the file of a log anew, by its name, and has the log go on there: what stands in the file that the log had stays, and so
-/// does the log where that fails. Nothing is to be done without a log.
+/// Opens the file of a log anew, by its name, and continues the log there. The lines in the file that the log had stay. If
+/// this fails, the log stays in that file. Does nothing without a log.
 pub(crate) fn reopen<N: Files<File = File> + Clock>(
     rt: &N,
     log: Log<'_>,
@@ -109,19 +109,19 @@ pub(crate) fn reopen<N: Files<File = File> + Clock>(
     }
 }
 
-/// The moment that it is now.
+/// The current time.
 fn now(rt: &impl Clock) -> Moment {
     st_desk::Clock::now(&mut RuntimeClock::new(rt))
 }
 
-/// Writes the line of an event of the command itself that happens now, where there is a log.
+/// Writes the line of an event of the command itself that happens now, if there is a log.
 pub(crate) fn tell<N: Clock>(rt: &N, log: Log<'_>, event: &Event<'_>) {
     if let Some(journal) = log {
         journal.note(rt, now(rt), 0, event);
     }
 }
 
-/// Writes the totals of an end, where there is a log.
+/// Writes the totals of an end, if there is a log.
 pub(crate) fn tell_end<N: Clock>(rt: &N, log: Log<'_>, totals: &st_end::Totals) {
     let counts = EndCounts {
         accepted: totals.accepted,
@@ -132,7 +132,7 @@ pub(crate) fn tell_end<N: Clock>(rt: &N, log: Log<'_>, totals: &st_end::Totals) 
     tell(rt, log, &Event::End(counts));
 }
 
-/// Writes the totals of an end so far, and what was left out before, where there is a log.
+/// Writes the totals of an end so far, and what was left out before, if there is a log.
 pub(crate) fn tell_minute<N: Clock>(rt: &N, log: Log<'_>, totals: &st_end::Totals) {
     tell_end(rt, log, totals);
     if let Some(journal) = log {
@@ -174,7 +174,7 @@ fn note_accounts<N: Clock>(rt: &N, journal: &LogFile, totals: &[AccountTotals], 
     }
 }
 
-/// Writes the totals of a connector's accounts, and what was left out before, where there is a log.
+/// Writes the totals of a connector's accounts, and what was left out before, if there is a log.
 pub(crate) fn tell_accounts<N: Clock>(
     rt: &N,
     log: Log<'_>,
@@ -193,8 +193,8 @@ fn tell_line<N: Clock>(rt: &N, log: Log<'_>, line: usize, words: &str) {
     tell(rt, log, &event);
 }
 
-/// Writes which line of a connector's table is bad, and the rule that it breaks, where there is a log and such a line: one
-/// that is bad by itself, and else one that breaks a rule of the whole table.
+/// Writes which line of a connector's table is bad, and the rule that it breaks, if there is a log and such a line. It is a
+/// line that is bad by itself or, if there is none, one that breaks a rule of the whole table.
 pub(crate) fn tell_table<N: Clock>(rt: &N, alloc: Global, log: Log<'_>, bytes: &[u8]) {
     if log.is_none() {
         return;
@@ -210,7 +210,7 @@ pub(crate) fn tell_table<N: Clock>(rt: &N, alloc: Global, log: Log<'_>, bytes: &
     }
 }
 
-/// Writes which line of a connector's table breaks a rule of the whole table, and the rule, where there is such a line.
+/// Writes which line of a connector's table breaks a rule of the whole table, and the rule, if there is such a line.
 fn tell_whole<N: Clock>(rt: &N, alloc: Global, log: Log<'_>, bytes: &[u8]) {
     if let Ok(Some(WholeFault { line, fault })) = whole_fault(alloc, bytes) {
         if let Ok(words) = format!(in alloc; "{fault}") {
@@ -219,7 +219,7 @@ fn tell_whole<N: Clock>(rt: &N, alloc: Global, log: Log<'_>, bytes: &[u8]) {
     }
 }
 
-/// Writes how a command ended, behind what was left out before. It waits a second at most for whoever reads the log.
+/// Writes how a command ended, after what was left out before. Waits at most a second for the reader of the log.
 fn note_end<N: Clock>(
     rt: &N,
     alloc: Global,
@@ -232,7 +232,7 @@ fn note_end<N: Clock>(
     match ended {
         Ok(()) => journal.finish(rt, now, &Event::Done),
         Err(error) => {
-            // (no words where memory is refused)
+            // (an empty text if memory is refused)
             let words = words_of(alloc, error, obstacle).unwrap_or(String::new(alloc));
             let event = Event::Failed {
                 fault: error.number(),
@@ -252,8 +252,8 @@ fn written(journal: &LogFile) -> Result<(), Fault> {
     }
 }
 
-/// Writes how a command ended, and what stood in its way, where there is a log. Returns the result of the command: that the log failed is told where
-/// there is no other error.
+/// Writes how a command ended, and why, if there is a log. Returns the result of the command: its own error or, if it has
+/// none, that the log failed.
 pub(crate) fn tell_run<N: Clock>(
     rt: &N,
     alloc: Global,

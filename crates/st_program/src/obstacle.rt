@@ -1,4 +1,4 @@
-//! What stood in the way of a command before its work began, and why, in words.
+//! What prevented a command from beginning its work, and why, as a text.
 
 ghost use Rattle.std.specs.Prelude.{◌≡◌, IfOk, string_bytes};
 ghost use Rattle.st_program.specs.Obstacle as spec;
@@ -18,7 +18,7 @@ pub(crate) enum Step {
     Log,
     /// Open the file of `--totals`.
     Totals,
-    /// Make a file beside that of `--totals`.
+    /// Make a file next to that of `--totals`.
     Beside,
     /// Open the file of `--random`.
     Random,
@@ -32,7 +32,7 @@ pub(crate) enum Step {
     Table,
 }
 
-/// Why it could not, by what the system said.
+/// Why it could not, by the error that the system returned.
 #[derive(Clone, Copy, Debug, PartialEq, Eq)]
 pub(crate) enum Cause {
     NotFound,
@@ -48,7 +48,7 @@ pub(crate) enum Cause {
     Other,
 }
 
-/// What stood in the way of a command: a file or an address that an option names.
+/// What prevented a command from beginning its work: a file or an address that an option names.
 #[derive(Clone, Copy, Debug)]
 pub(crate) struct Obstacle<'a> {
     pub(crate) step: Step,
@@ -57,7 +57,7 @@ pub(crate) struct Obstacle<'a> {
     pub(crate) cause: Cause,
 }
 
-/// How the words of a step begin.
+/// How the text of a step begins.
 fn front(step: Step) -> &'static str
     ensures { result.now ≡ spec.front step }
 {
@@ -65,7 +65,7 @@ fn front(step: Step) -> &'static str
         Step::Listen => "cannot listen on ",
         Step::Log => "cannot open --log ",
         Step::Totals => "cannot open --totals ",
-        Step::Beside => "cannot make a file beside --totals ",
+        Step::Beside => "cannot make a file next to --totals ",
         Step::Random => "cannot open --random ",
         Step::TokenFile => "cannot read --token-file ",
         Step::SecretFile => "cannot read --secret-file ",
@@ -74,7 +74,7 @@ fn front(step: Step) -> &'static str
     }
 }
 
-/// A cause in words.
+/// The text of a cause.
 pub(crate) fn back(cause: Cause) -> &'static str
     ensures { result.now ≡ spec.back cause }
 {
@@ -86,14 +86,14 @@ pub(crate) fn back(cause: Cause) -> &'static str
         Cause::NotHere => "no address of this host",
         Cause::NoName => "unknown name",
         Cause::ManyFiles => "too many open files",
-        Cause::Taken => "all names are taken",
+        Cause::Taken => "all names are in use",
         Cause::BadLine => "bad first line",
-        Cause::NoPipe => "is no pipe",
+        Cause::NoPipe => "not a pipe",
         Cause::Other => "failed",
     }
 }
 
-/// What the system said of a file or an address.
+/// The cause, by the error that the system returned for a file or an address.
 pub(crate) fn cause_of(error: &io::Error) -> Cause {
     match error.kind() {
         ErrorKind::NotFound => Cause::NotFound,
@@ -117,7 +117,8 @@ impl<'a> Obstacle<'a> {
         Obstacle { step, name, cause }
     }
 
-    /// An address that could not be listened at. That of a name which nothing is known of is told by no number of the system.
+    /// An address at which the command could not listen. An error without a number of the system means that a host's name
+    /// is unknown.
     pub(crate) fn of_address(name: &'a str, error: &io::Error) -> Obstacle<'a>
         ensures { (result.step ≡ Listen) × (result.name ≡ name.entry) }
     {
@@ -133,7 +134,7 @@ impl<'a> Obstacle<'a> {
     }
 }
 
-/// What stood in the way, in words.
+/// The text of an obstacle.
 #[tactic(auto, using(crate::proofs::Pieces::pieces))]
 fn obstacle_words(alloc: Global, obstacle: &Obstacle<'_>) -> Result<String, AllocError>
     ensures { IfOk result (λ text. string_bytes text ≡ spec.words obstacle.now.step obstacle.now.name.now obstacle.now.cause) }
@@ -143,7 +144,8 @@ fn obstacle_words(alloc: Global, obstacle: &Obstacle<'_>) -> Result<String, Allo
     Ok(text)
 }
 
-/// Why a command ended, in words: what stood in its way, where that is known of an error before its work began.
+/// Why a command ended, as a text: the obstacle, if there is one and the error is of a kind that has one, or else the
+/// error.
 pub(crate) fn words_of(
     alloc: Global,
     error: RunError,

@@ -28,7 +28,7 @@ use std::{env, io};
 const WAITS: &str =
     "ilpstream: reads packets from the terminal, one a line in hexadecimal; Ctrl-D on a new line ends them\n";
 
-/// What is printed where an argument is not UTF-8.
+/// What is printed if an argument is not UTF-8.
 const NOT_UTF8: &str = "error: invalid UTF-8 was detected in one or more arguments\n";
 
 /// The arguments of the command line; the first is the program's name.
@@ -36,8 +36,7 @@ fn words<H: Env + Alloc>(host: &H) -> io::Result<Vec<String<H::A>, H::A>> {
     Ok(env::args(host)?.collect(host.alloc())?)
 }
 
-/// Reports why the arguments cannot be read. Status 2 where they are not UTF-8, and else that of fault 99, out of
-/// memory.
+/// Reports why the arguments cannot be read. Status 2 if they are not UTF-8, and otherwise that of fault 99, out of memory.
 fn refuse_words<E: Write>(errors: &mut CountWrite<E>, error: &io::Error) -> u8
     ensures { ((result ≡ 2) × Says not_utf8_text E.contents errors.old errors.new)
         ⊎ TellsFault Fault.NoMemory E.contents errors.old errors.new result }
@@ -49,7 +48,7 @@ fn refuse_words<E: Write>(errors: &mut CountWrite<E>, error: &io::Error) -> u8
     2
 }
 
-/// Where the reader is a terminal and the arguments ask for `frames`, prints what the program waits for.
+/// Prints what the program waits for, if the reader is a terminal and the arguments ask for `frames`.
 fn tell_terminal<S: AsStr, E: Write>(
     alloc: Global,
     is_terminal: bool,
@@ -97,9 +96,9 @@ fn obey<
 }
 
 /// Runs the program with the arguments of `host`, as `run` does, and returns its exit status. `streams` says which standard
-/// streams are open. Where they ask for
-/// `frames` and the reader is a terminal (`is_terminal`), it first writes to `errors` what it waits for. Arguments that
-/// are not UTF-8 give status 2; where memory for the arguments is refused it reports fault 99.
+/// streams are open. If the arguments ask for `frames` and the reader is a terminal (`is_terminal`), it first writes to
+/// `errors` what it waits for. Arguments that are not UTF-8 give status 2. If memory for the arguments is refused, it
+/// reports fault 99.
 pub fn start<
     H: Env + Alloc,
     R: Read,
@@ -146,9 +145,10 @@ pub fn start<
 }
 
 /// Runs the program `ilpstream` and returns its exit code. `host` gives the arguments and the standard streams of the
-/// process; `rt`, the same runtime, gives files, sockets, threads and the time, and `opener`, again the same, opens books. A read of standard input for which
-/// nothing comes within 200 milliseconds is interrupted, and made again. Before anything is opened, each standard stream that is
-/// closed is held, so that no file takes its number.
+/// process; `rt`, the same runtime, gives files, sockets, threads and the time, and `opener`, again the same, opens books.
+/// A read of standard input for which nothing arrives within 200 milliseconds is interrupted, and made again. Before
+/// anything else is opened, the number of each closed standard stream is reserved, so that no file that is opened later has
+/// it.
 pub fn ilpstream<
     N: Net<Listener = TcpListener, Stream = TcpStream>
         + Files<File = File>

@@ -186,14 +186,14 @@ fn tell_bad_option<S: AsStr, E: Write>(alloc: Global, words: &[S], errors: &mut 
     status
 }
 
-/// Runs the command that the arguments name and returns the exit status: 0 where it did its work, or printed help or
-/// the version; 1 where a line was refused or a fault ended the run; 2 where the arguments are refused, or `explain` is given
-/// a number that it does not know. The first argument is the program's name. With no further argument it runs `frames`. `opener` opens the books of `connector` and
-/// `ledger`. `streams` says which standard streams are open: a command that needs one which is closed ends with fault 90 or 91
-/// before it opens anything.
+/// Runs the command that the arguments name and returns the exit status: 0 if it did its work, or printed help or the
+/// version; 1 if a line was refused or a fault ended the run; 2 if the arguments are refused, or `explain` is given a
+/// number that it does not know. The first argument is the program's name. With no further argument it runs `frames`.
+/// `opener` opens the books of `connector` and `ledger`. `streams` says which standard streams are open: a command that
+/// needs one which is closed ends with fault 90 or 91 before it opens anything.
 ///
-/// Help and the version are written to `writer`, a mistake in the arguments to `errors`. Fault 98 reports an option
-/// whose text is bad, and fault 99 that memory was refused.
+/// Help and the version are written to `writer`, a mistake in the arguments to `errors`. Fault 98 reports an option whose
+/// text is bad, and fault 99 that memory was refused.
 pub fn run<
     S: AsStr,
     R: Read,

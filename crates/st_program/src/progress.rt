@@ -1,4 +1,4 @@
-//! What `send` and `receive` tell while they run: a line on a terminal, and totals in the log.
+//! The reports of `send` and `receive` while they run: a line on a terminal, and totals in the log.
 
 ghost use Rattle.std.specs.Prelude.{◌≡◌};
 ghost use Rattle.std.specs.Duration.{as_nanos};
@@ -25,7 +25,7 @@ const STDERR: RawFd = 2;
 /// How many milliseconds pass at least between two times that the line is written.
 const LINE_MILLIS: u64 = 250;
 
-/// How many milliseconds pass between two looks at a sender that has a log and no terminal.
+/// How many milliseconds pass between two checks of a transfer that has a log and no terminal.
 const LOOK_MILLIS: u64 = 1_000;
 
 /// How many seconds pass at least between two times that the totals are logged.
@@ -40,13 +40,13 @@ const CLEARED: [u8; 4] = *b"\r\x1b[K";
 /// Which end of a connection a command runs.
 #[derive(Clone, Copy, Debug, PartialEq, Eq)]
 pub(crate) enum Side {
-    /// It sends an input of this length, where that is known.
+    /// It sends an input of this length, if that is known.
     Sends(Option<u64>),
     /// It receives.
     Receives,
 }
 
-/// How many bytes a transfer had, so many milliseconds after it began.
+/// How many bytes a transfer had `millis` milliseconds after its start.
 #[derive(Clone, Copy, Debug, PartialEq, Eq)]
 pub(crate) struct Mark {
     bytes: u64,
@@ -62,13 +62,13 @@ const START: Mark = Mark {
 /// The last two marks of a transfer.
 #[derive(Clone, Copy, Debug, PartialEq, Eq)]
 pub(crate) struct Span {
-    /// Where its last seconds begin.
+    /// The mark at which the last seconds begin.
     from: Mark,
-    /// Where they are to begin next.
+    /// The mark at which they begin next, once there is a further one.
     next: Mark,
 }
 
-/// When something was told, and how far the transfer was.
+/// The start of a transfer, when its line was last written and its totals were last logged, and its marks.
 #[derive(Clone, Copy)]
 struct Times {
     begun: Instant,
@@ -77,7 +77,7 @@ struct Times {
     span: Span,
 }
 
-/// What tells how far `send` or `receive` is.
+/// Reports the progress of `send` or `receive`.
 #[derive(Drop)]
 pub(crate) struct Teller<'a, N> {
     rt: &'a N,
@@ -85,7 +85,7 @@ pub(crate) struct Teller<'a, N> {
     log: Log<'a>,
     side: Side,
     on_terminal: bool,
-    /// `None` where the clock cannot be read: nothing is told then.
+    /// `None` if the clock cannot be read: nothing is reported then.
     times: Option<Times>,
 }
 
@@ -99,7 +99,7 @@ fn bytes_of(side: Side, totals: &Totals) -> u64
     }
 }
 
-/// The marks of a transfer that is here now.
+/// The marks of a transfer whose present state is `here`.
 fn moved(span: Span, here: Mark) -> Span
     ensures { result ≡ spec.moved span here }
 {
@@ -112,7 +112,8 @@ fn moved(span: Span, here: Mark) -> Span
     }
 }
 
-/// How far an end with these totals is, so many milliseconds after it began, and how much of it came since a mark.
+/// The progress of an end with these totals, `millis` milliseconds after its start, and how much of it was made since a
+/// mark.
 fn progress_of(
     side: Side,
     totals: &Totals,
@@ -146,7 +147,7 @@ fn progress_of(
     }
 }
 
-/// Whether so much time passed since a moment.
+/// Whether this period has passed since an earlier time.
 fn is_due(now: Instant, before: Instant, period: Duration) -> bool
     ensures { result ≡ spec.is_due (instant_nanos now) (instant_nanos before) (as_nanos period) }
 {
@@ -158,7 +159,7 @@ pub(crate) fn has_terminal() -> bool {
     isatty(STDERR) == 1
 }
 
-/// Writes to standard error, where that takes a text at once: a terminal that was stopped (Ctrl-S) holds nothing up.
+/// Writes to standard error, if that accepts a text at once: a terminal that was stopped (Ctrl-S) delays nothing.
 pub(crate) fn put_terminal(text: &[u8]) {
     let mut fds = [pollfd {
         fd: STDERR,
@@ -170,7 +171,7 @@ pub(crate) fn put_terminal(text: &[u8]) {
     }
 }
 
-/// How many bytes standard input has, where it is a regular file.
+/// How many bytes standard input has, if it is a regular file.
 pub(crate) fn input_length<N: Files<File = File>>(rt: &N) -> Option<u64> {
     match fs::metadata(rt, "/dev/stdin") {
         Ok(found) if found.is_file() => Some(found.len()),
@@ -179,7 +180,8 @@ pub(crate) fn input_length<N: Files<File = File>>(rt: &N) -> Option<u64> {
 }
 
 impl<'a, N: Clock> Teller<'a, N> {
-    /// What tells of a transfer that begins now: on the terminal where standard error is one, and in the log where there is one.
+    /// The reports of a transfer that begins now: on the terminal, if standard error is one, and in the log, if there is
+    /// one.
     pub(crate) fn new(rt: &'a N, alloc: Global, log: Log<'a>, side: Side) -> Teller<'a, N> {
         let times = match Instant::now(rt) {
             Ok(begun) => Some(Times {
@@ -203,12 +205,12 @@ impl<'a, N: Clock> Teller<'a, N> {
         }
     }
 
-    /// Writes the totals to the log now, where there is one.
+    /// Writes the totals to the log now, if there is one.
     pub(crate) fn tell_now(&self, totals: &Totals) {
         tell_minute(self.rt, self.log, totals);
     }
 
-    /// Writes the line, so long after the beginning. Returns the marks then.
+    /// Writes the line, this long after the start. Returns the marks then.
     fn show(
         &self,
         totals: &Totals,

@@ -1,14 +1,19 @@
 //! The command `receive`.
 
-ghost use Rattle.std.specs.Prelude.{◌≡◌, ◌≢◌, Err};
+ghost use Rattle.std.specs.Prelude.{◌≡◌, ◌≢◌, Err, IfOk, IsNone, IsOkUnless, IsSome};
+ghost use Rattle.st_oer.specs.Tallies.{device_of};
+ghost use Rattle.st_end.specs.Seen.{totals_seen};
+ghost use Rattle.st_end.specs.declared.error.EndError.TheVariants as refusals;
+ghost use Rattle.st_transfer.specs.declared.error.TransferError.TheVariants as transfer;
 ghost use Rattle.st_program.specs.Control as spec;
 ghost use Rattle.st_program.specs.Credentials.{AreOf};
 ghost use Rattle.st_program.specs.Settings.{IsReceiver};
-ghost use Rattle.st_program.specs.declared.error.RunError.TheVariants.{BadOption};
+ghost use Rattle.st_program.specs.Transfers.{AreTermsIn, EndsReceive, ReceivesBy, TransfersIn, receiver_end};
+ghost use Rattle.st_program.specs.declared.error.RunError.TheVariants.{BadOption, NoListener, Transfer};
 
 use crate::control::{Control, Directed, pipe_of};
 use crate::credentials::Credentials;
-use crate::ends::{Asked, begin, end};
+use crate::ends::{Asked, Begun, begin, end};
 use crate::error::RunError;
 use crate::listening::tell_listening;
 use crate::log::{Log, tell_run};
@@ -17,7 +22,7 @@ use crate::progress::{Side, Teller};
 use crate::send::widest;
 use crate::totals::nothing_yet;
 use st_commands::TURNS;
-use st_end::Totals;
+use st_end::{EndState, Totals};
 use st_log::Start;
 use st_oer::CountWrite;
 use st_settings::ReceiveSettings;
@@ -27,7 +32,64 @@ use std::fs::{File, Files};
 use std::io::Write;
 use std::net::{Net, TcpListener, TcpStream};
 
+/// The end of a receiver by these settings, with this secret. Fails if memory is refused.
+fn end_of(
+    alloc: Global,
+    settings: &ReceiveSettings<'_>,
+    secret: [u8; 32],
+) -> Result<EndState<Global>, RunError>
+    requires { IsReceiver settings.now }
+    ensures made { IfOk result (λ e. e ≡ receiver_end settings.now secret) }
+    ensures refused { IsOkUnless result (Transfer (transfer.End refusals.NoMemory)) }
+{
+    match server_end(alloc, secret, settings.address, settings.peer, widest()) {
+        Ok(end) => Ok(end),
+        Err(error) => Err(RunError::Transfer(TransferError::End(error))),
+    }
+}
+
+/// What a receiver is to do by these settings.
+fn terms_of<'a>(
+    settings: &ReceiveSettings<'_>,
+    credentials: &'a Credentials,
+    log: Log<'a>,
+) -> ReceiveTerms<'a>
+    ensures terms { AreTermsIn settings.now credentials.now result }
+    ensures log { result.log ≡ log.entry }
+{
+    ReceiveTerms {
+        token: credentials.token.as_str(),
+        receive_max: settings.receive_max,
+        patience: settings.patience,
+        turns: TURNS,
+        log,
+    }
+}
+
+/// The listener at the address of the settings. Sets `obstacle` if it fails.
+fn listener_of<'a, N: Net<Listener = TcpListener, Stream = TcpStream> + std::time::Clock>(
+    rt: &N,
+    alloc: Global,
+    settings: &ReceiveSettings<'a>,
+    log: Log<'_>,
+    obstacle: &mut Option<Obstacle<'a>>,
+) -> Result<TcpListener, RunError>
+    ensures { IsOkUnless result NoListener }
+{
+    match TcpListener::bind(rt, settings.listen) {
+        Ok(listener) => {
+            tell_listening(rt, alloc, log, settings.verbose, &listener);
+            Ok(listener)
+        }
+        Err(error) => {
+            *obstacle = Some(Obstacle::of_address(settings.listen, &error));
+            Err(RunError::NoListener)
+        }
+    }
+}
+
 /// Receives from one sender, writes the bytes to the output, and sets the totals of its end, if there was one.
+#[tactic(auto, using(crate::proofs::Transfers::received, crate::proofs::Transfers::unreceived))]
 fn transfer<
     'a,
     W: Write,
@@ -44,50 +106,31 @@ fn transfer<
     obstacle: &mut Option<Obstacle<'a>>,
 ) -> Result<(), RunError>
     requires settings { IsReceiver settings.now }
-    requires credentials { AreOf settings.now.token settings.now.secret credentials.now }
-    ensures { result ≢ Err BadOption }
+    requires control { IsSome settings.now.control → IsSome pipe }
+    ensures bad { result ≢ Err BadOption }
+    ensures made { TransfersIn settings.now credentials.now.secret (W.contents (device_of writer.old)) (W.contents (device_of writer.new)) (totals_seen totals.old) (totals_seen totals.new) result }
 {
-    let listener = match TcpListener::bind(rt, settings.listen) {
-        Ok(listener) => listener,
-        Err(error) => {
-            *obstacle = Some(Obstacle::of_address(settings.listen, &error));
-            return Err(RunError::NoListener);
-        }
-    };
-    tell_listening(rt, alloc, log, settings.verbose, &listener);
-    match server_end(
-        alloc,
-        credentials.secret,
-        settings.address,
-        settings.peer,
-        widest(),
-    ) {
-        Ok(end) => {
-            let terms = ReceiveTerms {
-                token: credentials.token.as_str(),
-                receive_max: settings.receive_max,
-                patience: settings.patience,
-                turns: TURNS,
-                log,
-            };
-            let clock = RuntimeClock::with_log(rt, log);
-            let mut watch = directed(rt, alloc, settings, pipe, log);
-            let ended = receive_on(rt, alloc, listener, end, writer, clock, terms, &mut watch);
-            *totals = ended.totals;
-            result_of(ended.result, watch.is_stopped())
-        }
-        Err(error) => Err(RunError::Transfer(TransferError::End(error))),
-    }
+    let listener = listener_of(rt, alloc, settings, log, obstacle)?;
+    let end = end_of(alloc, settings, credentials.secret)?;
+    let terms = terms_of(settings, credentials, log);
+    let clock = RuntimeClock::with_log(rt, log);
+    let mut watch = directed(rt, alloc, settings, pipe, log);
+    let ended = receive_on(rt, alloc, listener, end, writer, clock, terms, &mut watch);
+    *totals = ended.totals;
+    result_of(ended.result, watch.is_stopped())
 }
 
-/// What tells how far the receiver is, and what it is asked by this pipe, where there is one.
+/// Reports the progress of the receiver, and reads what it is asked by this pipe, if there is one.
 fn directed<'r, N: Files<File = File> + std::time::Clock>(
     rt: &'r N,
     alloc: Global,
     settings: &ReceiveSettings<'r>,
     pipe: Option<File>,
     log: Log<'r>,
-) -> Directed<'r, N> {
+) -> Directed<'r, N>
+    requires { IsSome settings.now.control → IsSome pipe }
+    ensures { IsSome settings.now.control → IsSome result.control }
+{
     let control = match pipe {
         Some(pipe) => Some(Control::new(rt, alloc, pipe, log, settings.log, false)),
         None => None,
@@ -96,7 +139,7 @@ fn directed<'r, N: Files<File = File> + std::time::Clock>(
     Directed::new(teller, control, settings.totals)
 }
 
-/// The result of a receiver. One that was asked to stop, and has no further request since, is well.
+/// The result of a receiver. One that was asked to stop, and has no further request since, ended well.
 fn result_of(ended: Result<u64, TransferError>, is_stopped: bool) -> Result<(), RunError>
     ensures stopped { result ≡ spec.receiver_result ended is_stopped }
 {
@@ -109,7 +152,8 @@ fn result_of(ended: Result<u64, TransferError>, is_stopped: bool) -> Result<(), 
 
 /// What was asked for, apart from the transfer.
 fn asked_of<'a>(settings: &ReceiveSettings<'a>) -> Asked<'a>
-    ensures { (result.token ≡ settings.now.token) × (result.secret ≡ settings.now.secret) }
+    ensures credentials { (result.token ≡ settings.now.token) × (result.secret ≡ settings.now.secret) }
+    ensures files { (result.totals ≡ settings.now.totals) × (result.log ≡ settings.now.log) }
 {
     Asked {
         token: settings.token,
@@ -125,8 +169,69 @@ fn asked_of<'a>(settings: &ReceiveSettings<'a>) -> Asked<'a>
     }
 }
 
-/// Receives from one sender and writes the bytes to the output, as the settings say. Where a file that has the token or the
-/// secret, one for events or totals, or the pipe by which it is asked things, cannot be opened, nothing else is done. Sets what stood in its way.
+/// Opens the pipe by which the command is asked things, if there is one. If it cannot be opened, the log says how the
+/// command ended.
+fn pipe_for<'a, N: Files<File = File> + std::time::Clock>(
+    rt: &N,
+    alloc: Global,
+    settings: &ReceiveSettings<'a>,
+    log: Log<'_>,
+    obstacle: &mut Option<Obstacle<'a>>,
+) -> Result<Option<File>, RunError>
+    ensures none { IsNone settings.now.control → IfOk result (λ pipe. IsNone pipe) }
+    ensures some { IsSome settings.now.control → IfOk result (λ pipe. IsSome pipe) }
+    ensures refused { IsOkUnless result BadOption }
+{
+    match pipe_of(rt, settings.control, obstacle) {
+        Ok(pipe) => Ok(pipe),
+        Err(error) => {
+            let _ = tell_run(rt, alloc, log, obstacle, Err(error));
+            Err(error)
+        }
+    }
+}
+
+/// Receives, once the command has begun, and ends the command.
+#[tactic(auto, using(crate::proofs::Transfers::receives_by))]
+fn receive_begun<
+    'a,
+    W: Write,
+    T: Write,
+    N: Net<Listener = TcpListener, Stream = TcpStream> + Files<File = File> + std::time::Clock,
+>(
+    rt: &N,
+    alloc: Global,
+    settings: &ReceiveSettings<'a>,
+    begun: &mut Begun<T>,
+    pipe: Option<File>,
+    writer: &mut CountWrite<W>,
+    obstacle: &mut Option<Obstacle<'a>>,
+) -> Result<(), RunError>
+    requires settings { IsReceiver settings.now }
+    requires asked { IsSome settings.now.totals → IsSome begun.old.totals }
+    requires control { IsSome settings.now.control → IsSome pipe }
+    ensures bad { result ≢ Err BadOption }
+    ensures receives { ReceivesBy T.contents settings.now begun.old.credentials.secret (W.contents (device_of writer.old)) (W.contents (device_of writer.new)) begun.old.totals begun.new.totals result }
+{
+    let mut totals = nothing_yet();
+    let ended = transfer(
+        rt,
+        alloc,
+        settings,
+        &begun.credentials,
+        pipe,
+        writer,
+        begun.journal.as_ref(),
+        &mut totals,
+        obstacle,
+    );
+    end(rt, alloc, begun, &totals, obstacle, ended)
+}
+
+/// Receives from one sender and writes the bytes to the output, as the settings say. If a file of the token or the secret,
+/// one for events or totals, or the pipe by which it is asked things cannot be opened, nothing else is done. Sets
+/// `obstacle` if a file or an address prevents the transfer.
+#[tactic(auto, using(crate::proofs::Transfers::ends_receive, crate::proofs::Transfers::begins_no_receive))]
 pub(crate) fn receive<
     'a,
     W: Write,
@@ -139,31 +244,15 @@ pub(crate) fn receive<
     obstacle: &mut Option<Obstacle<'a>>,
 ) -> Result<(), RunError>
     requires { IsReceiver settings.now }
-    ensures { result ≡ Err BadOption → writer.new ≡ writer.old }
+    ensures untouched { result ≡ Err BadOption → writer.new ≡ writer.old }
+    ensures ends { EndsReceive settings.now (W.contents (device_of writer.old)) (W.contents (device_of writer.new)) result }
 {
-    let begun = match begin(rt, alloc, asked_of(settings), obstacle) {
+    let mut begun = match begin(rt, alloc, asked_of(settings), obstacle) {
         Ok(begun) => begun,
         Err(error) => return Err(error),
     };
-    let mut totals = nothing_yet();
-    let log = begun.journal.as_ref();
-    let pipe = match pipe_of(rt, settings.control, obstacle) {
-        Ok(pipe) => pipe,
-        Err(error) => {
-            let _ = tell_run(rt, alloc, log, obstacle, Err(error));
-            return Err(error);
-        }
-    };
-    let ended = transfer(
-        rt,
-        alloc,
-        settings,
-        &begun.credentials,
-        pipe,
-        writer,
-        log,
-        &mut totals,
-        obstacle,
-    );
-    end(rt, alloc, begun, &totals, obstacle, ended)
+    match pipe_for(rt, alloc, settings, begun.journal.as_ref(), obstacle) {
+        Ok(pipe) => receive_begun(rt, alloc, settings, &mut begun, pipe, writer, obstacle),
+        Err(error) => Err(error),
+    }
 }

@@ -1,4 +1,4 @@
-//! What a connector reports, and where.
+//! What a connector reports, and to which files.
 
 use crate::carried::Carried;
 use crate::control::{Asked, Control};
@@ -14,43 +14,44 @@ use std::fs::{File, Files};
 use std::net::TcpListener;
 use std::time::Clock;
 
-/// What a connector reports: its totals once it ended, what it is told each minute, and its log.
+/// What a connector reports: its totals after its end, its reports while it runs, and its log.
 #[derive(Drop)]
 pub(crate) struct Reports<'r, 'a, M> {
     pub(crate) totals: ConnectorTotals,
     pub(crate) minutes: M,
     pub(crate) log: Log<'r>,
-    /// What stood in the way of the connector.
+    /// The file or address that prevented the connector from running, if one did.
     pub(crate) obstacle: Option<Obstacle<'a>>,
-    /// Where it listens, from one table to the next.
+    /// Its listener, from one table to the next.
     pub(crate) listener: Option<TcpListener>,
     /// How many requests are left to it. `None` is any number.
     pub(crate) requests: Option<u64>,
-    /// What the accounts of its last table had at the end of that, where it has no books.
+    /// What the accounts of its last table owed and were owed when that ended, if it has no books.
     pub(crate) carried: Carried,
 }
 
 /// What may give a connector another table while it runs.
 pub(crate) trait Renews: Minutes {
-    /// The table by which it is to go on, once it ended. `None` where it is to end.
+    /// The table with which the connector continues, after it ended. `None` if it is to end.
     fn next_table(&mut self) -> Option<Vec<u8>>;
 
-    /// It cannot go on by that table, for this reason, and goes on by the one of before.
+    /// It cannot continue with that table, for this reason, and continues with the last one.
     fn keeps_table(&mut self, why: &str);
 }
 
-/// Where a connector's totals are written each minute: to the file that was asked for, and to its log.
+/// Writes a connector's totals each minute, to the file that was asked for and to its log, and reads what it
+/// is asked.
 #[derive(Drop)]
 pub(crate) struct EachMinute<'a, N> {
     pub(crate) rt: &'a N,
     pub(crate) alloc: Global,
     pub(crate) telling: Telling<'a, N>,
     pub(crate) log: Log<'a>,
-    /// By what the connector is asked things, where it is.
+    /// The pipe by which the connector is asked things, if there is one.
     pub(crate) control: Option<Control<'a, N>>,
-    /// The file of its table, where it has one.
+    /// The file of its table, if it has one.
     pub(crate) table: Option<TableFile<'a>>,
-    /// The table by which it is to go on.
+    /// The table with which it is to continue.
     pub(crate) next: Option<Vec<u8>>,
     /// Whether it was asked to stop.
     pub(crate) is_stopped: bool,
@@ -71,7 +72,7 @@ enum Read {
     Not(&'static str),
 }
 
-/// What is told where memory is refused.
+/// What is reported if memory is refused.
 const NO_MEMORY: &str = "out of memory";
 
 /// Reads a table anew.
@@ -89,14 +90,15 @@ fn read_anew<N: Files<File = File>>(rt: &N, alloc: Global, table: TableFile<'_>)
 }
 
 impl<N: Files<File = File> + Clock> EachMinute<'_, N> {
-    /// Reports what became of the last line, where the connector is asked things.
+    /// Reports what became of the last line, if the connector has a pipe.
     fn tell(&self, heard: Heard<'_>) {
         if let Some(control) = &self.control {
             control.tell(heard);
         }
     }
 
-    /// Reads the table anew. Where it is well, the connector pauses, to go on by it; else nothing is changed.
+    /// Reads the table anew. If it is good, the connector pauses, to continue with it. Otherwise nothing is
+    /// changed.
     fn renew(&mut self) -> Order {
         let Some(table) = self.table else {
             return Order::Done;

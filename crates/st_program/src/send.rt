@@ -1,44 +1,51 @@
 //! The command `send`.
 
-ghost use Rattle.std.specs.Prelude.{◌≡◌, ◌≢◌, Err};
+ghost use Rattle.std.specs.Prelude.{◌≡◌, ◌≢◌, ◌⊎◌, Err, IfErr, IfOk, IsOkUnless, IsSome};
+ghost use Rattle.st_hub.specs.Hub.{IsNew};
+ghost use Rattle.st_end.specs.Seen.{totals_seen};
+ghost use Rattle.st_end.specs.declared.error.EndError.TheVariants as refusals;
+ghost use Rattle.st_transfer.specs.Outcomes.{no_totals};
+ghost use Rattle.st_transfer.specs.declared.error.TransferError.TheVariants as transfer;
+ghost use Rattle.st_commands.specs.declared.error.Fault.TheVariants.{NoMemory};
 ghost use Rattle.st_program.specs.Credentials.{AreOf};
 ghost use Rattle.st_program.specs.Settings.{IsSender};
-ghost use Rattle.st_program.specs.declared.error.RunError.TheVariants.{BadOption};
+ghost use Rattle.st_program.specs.Transfers.{AreTermsOut, EndsSend, IsNeighbourOf, SendsBy, TransfersOut, sender_end, sender_result, widest as widest_config};
+ghost use Rattle.st_program.specs.declared.error.RunError.TheVariants.{BadOption, Fault as IsFault, NoRandom, Transfer};
 
 use crate::credentials::Credentials;
-use crate::ends::{Asked, begin, end};
+use crate::ends::{Asked, Begun, begin, end};
 use crate::error::RunError;
 use crate::log::Log;
 use crate::obstacle::{Obstacle, Step};
 use crate::progress::{Side, Teller, has_terminal, input_length};
 use crate::totals::nothing_yet;
 use st_commands::{Fault, TURNS};
-use st_end::Totals;
+use st_end::{EndState, Totals};
 use st_log::Start;
 use st_oer::CountRead;
 use st_sender::{EndConfig, MAX_IN_FLIGHT, MAX_PACKET_LIMIT, MAX_PACKETS};
 use st_settings::SendSettings;
-use st_transfer::{Ended, Neighbour, SendTerms, TransferError, client_end, send_on};
+use st_transfer::{Neighbour, SendTerms, TransferError, client_end, send_on};
 use std::alloc::Global;
 use std::fs::{File, Files};
-use std::io::{BufReader, Read};
+use std::io::{BufReader, Read, Write};
 use std::net::{Net, TcpListener, TcpStream};
 use std::sync::Wait;
 use std::thread::Threads;
 
-/// The most bytes of one read of the input: four of the pieces that are put into a ring.
+/// The most bytes of one read of the input: four of the longest chunks that a ring accepts.
 const INPUT: usize = 16_384;
 
 /// The most bytes of one read of the random bytes: those of 341 IVs.
 const RANDOM: usize = 4_092;
 
-/// The reader behind a buffer of so many bytes.
+/// The reader, with a buffer of `capacity` bytes.
 fn buffered<R: Read + Drop>(
     alloc: Global,
     capacity: usize,
     reader: R,
 ) -> Result<BufReader<R>, RunError>
-    ensures { result ≢ Err BadOption }
+    ensures { IsOkUnless result (IsFault NoMemory) }
 {
     match BufReader::with_capacity(alloc, capacity, reader) {
         Ok(buffered) => Ok(buffered),
@@ -47,14 +54,16 @@ fn buffered<R: Read + Drop>(
 }
 
 /// The configuration of an end that may have the most bytes and packets in flight.
-pub(crate) fn widest() -> EndConfig {
+pub(crate) fn widest() -> EndConfig
+    ensures { result ≡ widest_config }
+{
     let Some(config) = EndConfig::new(MAX_IN_FLIGHT, MAX_PACKETS, MAX_PACKET_LIMIT) else {
         unreachable!();
     };
     config
 }
 
-/// What tells how far the command is. How long its input is matters on a terminal alone.
+/// Reports the progress of the command. The length of its input is read only for a terminal.
 fn teller<'a, N: Files<File = File> + std::time::Clock>(
     rt: &'a N,
     alloc: Global,
@@ -68,26 +77,50 @@ fn teller<'a, N: Files<File = File> + std::time::Clock>(
     Teller::new(rt, alloc, log, Side::Sends(length))
 }
 
-/// The configuration of an end of which so much has to arrive as the settings say.
-fn config_of(settings: &SendSettings<'_>) -> EndConfig
-    ensures { result.least ≡ settings.now.least }
+/// The end of a sender by these settings, with this secret. Fails if memory is refused.
+fn end_of(
+    alloc: Global,
+    settings: &SendSettings<'_>,
+    secret: [u8; 32],
+) -> Result<EndState<Global>, RunError>
+    requires { IsSender settings.now }
+    ensures made { IfOk result (λ e. e ≡ sender_end settings.now secret) }
+    ensures new { IfOk result IsNew }
+    ensures refused { IsOkUnless result (Transfer (transfer.End refusals.NoMemory)) }
 {
-    widest().with_least(settings.least)
+    let config = widest().with_least(settings.least);
+    match client_end(alloc, secret, settings.address, settings.peer, config) {
+        Ok(end) => Ok(end),
+        Err(error) => Err(RunError::Transfer(TransferError::End(error))),
+    }
+}
+
+/// The neighbour of a sender by these settings, and the token by which that knows it.
+fn neighbour_of<'a>(settings: &SendSettings<'a>, credentials: &'a Credentials) -> Neighbour<'a>
+    requires settings { IsSender settings.now }
+    requires credentials { AreOf settings.now.token settings.now.secret credentials.now }
+    ensures { IsNeighbourOf settings.now credentials.now result }
+{
+    match Neighbour::new(settings.to, credentials.token.as_str()) {
+        Some(neighbour) => neighbour,
+        None => unreachable!(),
+    }
 }
 
 /// What a sender is to do by these settings.
 fn terms_of<'a>(
-    settings: &SendSettings<'_>,
-    neighbour: Neighbour<'a>,
+    settings: &SendSettings<'a>,
+    credentials: &'a Credentials,
     log: Log<'a>,
 ) -> SendTerms<'a>
-    ensures neighbour { result.neighbour ≡ neighbour.entry }
-    ensures settings { (result.money ≡ settings.now.money) × (result.workers ≡ settings.now.workers) }
-    ensures patience { result.patience ≡ settings.now.patience }
+    requires settings { IsSender settings.now }
+    requires credentials { AreOf settings.now.token settings.now.secret credentials.now }
+    ensures terms { AreTermsOut settings.now credentials.now result }
+    ensures log { result.log ≡ log.entry }
 {
     let SendSettings { money, workers, .. } = *settings;
     SendTerms {
-        neighbour,
+        neighbour: neighbour_of(settings, credentials),
         money,
         workers,
         patience: settings.patience,
@@ -96,7 +129,36 @@ fn terms_of<'a>(
     }
 }
 
+/// The file of random bytes. Fails with `NoRandom` if it cannot be opened, and with a fault if memory is refused.
+fn random_of<'a, N: Files<File = File>>(
+    rt: &N,
+    alloc: Global,
+    settings: &SendSettings<'a>,
+    obstacle: &mut Option<Obstacle<'a>>,
+) -> Result<BufReader<File>, RunError>
+    ensures { IfErr result (λ e. (e ≡ NoRandom) ⊎ (e ≡ IsFault NoMemory)) }
+{
+    match File::open(rt, settings.random) {
+        Ok(random) => buffered(alloc, RANDOM, random),
+        Err(error) => {
+            *obstacle = Some(Obstacle::of_file(Step::Random, settings.random, &error));
+            Err(RunError::NoRandom)
+        }
+    }
+}
+
+/// The result of a command, by the result of its transfer.
+fn result_of(ended: Result<u64, TransferError>) -> Result<(), RunError>
+    ensures { result ≡ sender_result ended }
+{
+    match ended {
+        Ok(_) => Ok(()),
+        Err(error) => Err(RunError::Transfer(error)),
+    }
+}
+
 /// Sends the input and money to a receiver, and sets the totals of its end, if there was one.
+#[tactic(auto, using(crate::proofs::Transfers::sent, crate::proofs::Transfers::unsent))]
 fn transfer<
     'a,
     R: Read,
@@ -118,45 +180,23 @@ fn transfer<
 ) -> Result<(), RunError>
     requires settings { IsSender settings.now }
     requires credentials { AreOf settings.now.token settings.now.secret credentials.now }
-    ensures { result ≢ Err BadOption }
+    ensures bad { result ≢ Err BadOption }
+    ensures made { TransfersOut settings.now credentials.now.secret (totals_seen totals.old) (totals_seen totals.new) result }
 {
-    let Some(neighbour) = Neighbour::new(settings.to, credentials.token.as_str()) else {
-        unreachable!();
-    };
-    let random = match File::open(rt, settings.random) {
-        Ok(random) => random,
-        Err(error) => {
-            *obstacle = Some(Obstacle::of_file(Step::Random, settings.random, &error));
-            return Err(RunError::NoRandom);
-        }
-    };
-    let random = buffered(alloc, RANDOM, random)?;
+    let random = random_of(rt, alloc, settings, obstacle)?;
     let input = buffered(alloc, INPUT, reader)?;
-    match client_end(
-        alloc,
-        credentials.secret,
-        settings.address,
-        settings.peer,
-        config_of(settings),
-    ) {
-        Ok(end) => {
-            let terms = terms_of(settings, neighbour, log);
-            let watch = teller(rt, alloc, log);
-            let Ended {
-                result,
-                totals: then,
-            } = send_on(rt, alloc, end, input, random, terms, watch);
-            *totals = then;
-            result?;
-            Ok(())
-        }
-        Err(error) => Err(RunError::Transfer(TransferError::End(error))),
-    }
+    let end = end_of(alloc, settings, credentials.secret)?;
+    let terms = terms_of(settings, credentials, log);
+    let watch = teller(rt, alloc, log);
+    let ended = send_on(rt, alloc, end, input, random, terms, watch);
+    *totals = ended.totals;
+    result_of(ended.result)
 }
 
 /// What was asked for, apart from the transfer.
 fn asked_of<'a>(settings: &SendSettings<'a>) -> Asked<'a>
-    ensures { (result.token ≡ settings.now.token) × (result.secret ≡ settings.now.secret) }
+    ensures credentials { (result.token ≡ settings.now.token) × (result.secret ≡ settings.now.secret) }
+    ensures files { (result.totals ≡ settings.now.totals) × (result.log ≡ settings.now.log) }
 {
     Asked {
         token: settings.token,
@@ -173,8 +213,49 @@ fn asked_of<'a>(settings: &SendSettings<'a>) -> Asked<'a>
     }
 }
 
-/// Sends the input and the money to a receiver, as the settings say. Where a file that has the token or the secret, or one
-/// for events or totals, cannot be opened, nothing else is done. Sets what stood in its way.
+/// Sends the input and the money to a receiver, once the command has begun, and ends the command.
+#[tactic(auto, using(crate::proofs::Transfers::sends_by))]
+fn send_begun<
+    'a,
+    R: Read,
+    W: Write + Drop,
+    N: Net<Listener = TcpListener, Stream = TcpStream>
+        + Files<File = File>
+        + Threads
+        + Wait
+        + std::time::Clock
+        + Sync,
+>(
+    rt: &N,
+    alloc: Global,
+    settings: &SendSettings<'a>,
+    begun: &mut Begun<W>,
+    reader: &mut CountRead<R>,
+    obstacle: &mut Option<Obstacle<'a>>,
+) -> Result<(), RunError>
+    requires settings { IsSender settings.now }
+    requires begun { AreOf settings.now.token settings.now.secret begun.old.credentials }
+    requires asked { IsSome settings.now.totals → IsSome begun.old.totals }
+    ensures bad { result ≢ Err BadOption }
+    ensures sends { SendsBy W.contents settings.now begun.old.credentials.secret begun.old.totals begun.new.totals result }
+{
+    let mut totals = nothing_yet();
+    let ended = transfer(
+        rt,
+        alloc,
+        settings,
+        &begun.credentials,
+        reader,
+        begun.journal.as_ref(),
+        &mut totals,
+        obstacle,
+    );
+    end(rt, alloc, begun, &totals, obstacle, ended)
+}
+
+/// Sends the input and the money to a receiver, as the settings say. If a file of the token or the secret, or one for
+/// events or totals, cannot be opened, nothing else is done. Sets `obstacle` if a file prevents the transfer.
+#[tactic(auto, using(crate::proofs::Transfers::ends_send, crate::proofs::Transfers::begins_no_send))]
 pub(crate) fn send<
     'a,
     R: Read,
@@ -192,23 +273,11 @@ pub(crate) fn send<
     obstacle: &mut Option<Obstacle<'a>>,
 ) -> Result<(), RunError>
     requires { IsSender settings.now }
-    ensures { result ≡ Err BadOption → reader.new ≡ reader.old }
+    ensures untouched { result ≡ Err BadOption → reader.new ≡ reader.old }
+    ensures ends { EndsSend settings.now result }
 {
-    let begun = match begin(rt, alloc, asked_of(settings), obstacle) {
-        Ok(begun) => begun,
-        Err(error) => return Err(error),
-    };
-    let mut totals = nothing_yet();
-    let log = begun.journal.as_ref();
-    let ended = transfer(
-        rt,
-        alloc,
-        settings,
-        &begun.credentials,
-        reader,
-        log,
-        &mut totals,
-        obstacle,
-    );
-    end(rt, alloc, begun, &totals, obstacle, ended)
+    match begin(rt, alloc, asked_of(settings), obstacle) {
+        Ok(mut begun) => send_begun(rt, alloc, settings, &mut begun, reader, obstacle),
+        Err(error) => Err(error),
+    }
 }

@@ -12,7 +12,7 @@ const WAIT: i32 = 200;
 /// The descriptor of standard input.
 pub(crate) const STDIN: RawFd = 0;
 
-/// A reader of a file descriptor. A read for which nothing comes within 200 milliseconds fails with
+/// A reader of a file descriptor. A read for which no input arrives within 200 milliseconds fails with
 /// `ErrorKind::Interrupted`, so that its caller can look for a reason to stop before it reads again. A regular file is
 /// always ready.
 #[derive(Drop)]

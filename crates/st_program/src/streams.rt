@@ -1,7 +1,8 @@
 //! The standard streams that the process was started with.
 //!
-//! Where one of the descriptors 0 to 2 is closed, the next file that is opened takes its number: it is then read as the
-//! input, or what the program prints is written to it. So each of them is held before anything else is opened.
+//! If one of the descriptors 0 to 2 is closed, the next file that is opened has its number. It is then read as the input,
+//! or what the program prints is written to it. So the number of each closed stream is reserved before anything else is
+//! opened.
 
 ghost use Rattle.std.specs.Prelude.{◌≡◌};
 ghost use Rattle.st_program.specs.Streams as spec;
@@ -13,7 +14,7 @@ use st_words::Request;
 use std::fs::{File, Files};
 use std::os::fd::RawFd;
 
-/// What is opened under the number of a closed stream: a folder, of which no read and no write succeeds.
+/// What is opened under the number of a closed stream: a folder. No read of it and no write to it succeeds.
 const FOLDER: &str = "/";
 
 /// Which standard streams are open.
@@ -25,14 +26,14 @@ pub struct Streams {
     pub output: bool,
 }
 
-/// The fault of a stream that is needed, where it is closed.
+/// The fault of a stream that is needed, if it is closed.
 fn unless(is_open: bool, fault: Fault) -> Option<Fault>
     ensures { result ≡ spec.unless is_open fault }
 {
     if is_open { None } else { Some(fault) }
 }
 
-/// The fault of a command that needs both streams, where one is closed.
+/// The fault of a command that needs both streams, if one is closed.
 fn missing_one(streams: Streams) -> Option<Fault>
     ensures { result ≡ spec.missing_one streams }
 {
@@ -81,12 +82,13 @@ fn is_open(fd: RawFd) -> bool {
 #[derive(Drop)]
 enum Stream {
     Open,
-    /// It is closed, and a file has its number, where one could be opened.
+    /// It is closed, and a file has its number, if one could be opened.
     Closed(Option<File>),
 }
 
 impl Stream {
-    /// The stream of this descriptor. Where it is closed, it is the lowest number that is free.
+    /// The stream of this descriptor. If it is closed, it has to be the lowest number that is free: the folder has that
+    /// number then.
     fn held<N: Files<File = File>>(rt: &N, fd: RawFd) -> Stream {
         if is_open(fd) {
             Stream::Open
@@ -114,7 +116,7 @@ pub(crate) struct Held {
 }
 
 impl Held {
-    /// Holds the standard streams of the process. Nothing may have been opened before.
+    /// Reserves the numbers of the closed standard streams of the process. Nothing may have been opened before.
     pub(crate) fn new<N: Files<File = File>>(rt: &N) -> Held {
         let input = Stream::held(rt, 0);
         let output = Stream::held(rt, 1);
@@ -126,7 +128,7 @@ impl Held {
         }
     }
 
-    /// Which of them are open. Where one cannot be held, none counts as open.
+    /// Which of them are open. If the number of one cannot be reserved, none counts as open.
     pub(crate) fn streams(&self) -> Streams {
         let is_held = self.input.is_held() && self.output.is_held() && self.errors.is_held();
         Streams {

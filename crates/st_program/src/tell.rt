@@ -21,8 +21,8 @@ fn fault_line(alloc: Global, number: u8) -> Result<String, AllocError>
     Ok(text)
 }
 
-/// Reports the fault of this number, as far as `errors` accepts it, or fault 99 where memory is refused. Returns the
-/// status of a fault.
+/// Reports the fault of this number, as far as `errors` accepts it, or fault 99 if memory is refused. Returns the status of
+/// a fault.
 pub(crate) fn tell_number<E: Write>(alloc: Global, errors: &mut CountWrite<E>, number: u8) -> u8
     ensures { TellsNumber number E.contents errors.old errors.new result }
 {
@@ -33,7 +33,7 @@ pub(crate) fn tell_number<E: Write>(alloc: Global, errors: &mut CountWrite<E>, n
     1
 }
 
-/// Writes a line to standard error, where that is a terminal.
+/// Writes a line to standard error, if that is a terminal.
 pub(crate) fn tell_terminal(alloc: Global, words: &str) {
     if !has_terminal() {
         return;
@@ -43,7 +43,8 @@ pub(crate) fn tell_terminal(alloc: Global, words: &str) {
     }
 }
 
-/// Reports the error with which a command ended, where there is one, and on a terminal what stood in its way. Returns the exit status.
+/// Reports the error with which a command ended, if there is one, and on a terminal also why, as a text. Returns the exit
+/// status.
 pub(crate) fn tell_end<E: Write>(
     alloc: Global,
     errors: &mut CountWrite<E>,

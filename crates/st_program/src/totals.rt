@@ -5,6 +5,8 @@ ghost use Rattle.std.specs.Io.KnownBytes.{Appends};
 ghost use Rattle.st_oer.specs.Tallies.{device_of};
 ghost use Rattle.st_end.specs.Seen.{totals_seen};
 ghost use Rattle.st_program.specs.Totals as spec;
+ghost use Rattle.st_program.specs.Transfers.{IsToldIn};
+ghost use Rattle.st_transfer.specs.Outcomes.{no_totals};
 ghost use Rattle.st_program.specs.declared.error.RunError.TheVariants.{BadOption, Fault as IsFault};
 ghost use Rattle.st_commands.specs.declared.error.Fault.TheVariants.{NoMemory};
 
@@ -24,9 +26,9 @@ use std::io::Write;
 /// The totals of a connector.
 #[derive(Drop)]
 pub(crate) struct ConnectorTotals {
-    /// Those of each account, by the account's number. Empty where nothing is known of them.
+    /// Those of each account, by the account's number. Empty if nothing is known of them.
     pub(crate) accounts: Vec<AccountTotals>,
-    /// How the Prepares of each account ended. Empty where nothing is known of them.
+    /// How the Prepares of each account ended. Empty if nothing is known of them.
     pub(crate) counts: Counts,
     /// How many Prepares were answered with T00 because too many threads were busy.
     pub(crate) overloaded: u64,
@@ -40,23 +42,23 @@ struct Report<'a> {
     overloaded: u64,
 }
 
-/// Where a connector writes its totals.
+/// The place to which a connector writes its totals.
 #[derive(Drop)]
 pub(crate) enum TotalsPlace<'a, N> {
-    /// To a file that was opened at the start, since it is no regular one: at the end alone.
+    /// A file that was opened at the start, since it is not a regular one. It is written only at the end.
     Open(CountWrite<File>),
-    /// Beside a file, which they replace.
+    /// A regular file, or one that does not exist yet. It is replaced by a new file.
     Beside(Beside<'a, N>),
 }
 
-/// Where a connector writes its totals, and the memory for them. Nowhere where no file was asked for.
+/// The place to which a connector writes its totals, if a file was asked for, and the memory for them.
 #[derive(Drop)]
 pub(crate) struct Telling<'a, N> {
     alloc: Global,
     place: Option<TotalsPlace<'a, N>>,
 }
 
-/// Creates or empties the file of this name, where one was asked for. Fails with `BadOption` where it cannot be opened.
+/// Creates or empties the file of this name, if one was asked for. Fails with `BadOption` if it cannot be opened.
 pub(crate) fn totals_file<'a, N: Files<File = File>>(
     rt: &N,
     name: Option<&'a str>,
@@ -79,7 +81,9 @@ pub(crate) fn totals_file<'a, N: Files<File = File>>(
 }
 
 /// The totals of an end that has done nothing.
-pub(crate) fn nothing_yet() -> Totals {
+pub(crate) fn nothing_yet() -> Totals
+    ensures { totals_seen result ≡ no_totals }
+{
     Totals {
         accepted: 0,
         delivered: 0,
@@ -142,8 +146,8 @@ fn accounts_text(alloc: Global, accounts: &[AccountTotals]) -> Result<String, Al
     Ok(text)
 }
 
-/// The line that reports how many Prepares were answered with T00 because too many threads were busy. Empty where there
-/// were none.
+/// The line that reports how many Prepares were answered with T00 because too many threads were busy. Empty if there were
+/// none.
 #[tactic(auto, using(crate::proofs::Pieces::pieces))]
 fn overloaded_text(alloc: Global, overloaded: u64) -> Result<String, AllocError>
     ensures { IfOk result (λ text. string_bytes text ≡ spec.overloaded_text overloaded) }
@@ -227,25 +231,22 @@ pub(crate) fn ended_with(
     Ok(())
 }
 
-/// Writes the totals of an end where a file was asked for, however the command ended. Returns the result of the
-/// command.
-pub(crate) fn tell_totals<W: Write + Drop>(
+/// Writes the totals of an end, if a file was asked for.
+pub(crate) fn tell_totals<W: Write>(
     alloc: Global,
-    file: Option<CountWrite<W>>,
+    file: &mut Option<CountWrite<W>>,
     totals: &Totals,
-    ended: Result<(), RunError>,
-) -> Result<(), RunError>
-    ensures none { IsNone file → result ≡ ended }
-    ensures told { (told : Result (Unit {0}) Fault) × (result ≡ spec.ended_with ended told) }
+) -> Result<(), Fault>
+    ensures { IsToldIn W.contents file.old file.new (totals_seen totals.now) result }
 {
     match file {
-        Some(mut file) => ended_with(ended, put_totals(alloc, &mut file, totals)),
-        None => ended,
+        Some(file) => put_totals(alloc, file, totals),
+        None => Ok(()),
     }
 }
 
-/// Writes the totals of an end so far to its file, where that is a regular one. The totals at its end take their place: they are no
-/// shorter, since no total falls.
+/// Writes the totals of an end so far to its file, if that is a regular one. The totals at its end overwrite them. Their
+/// text is at least as long, since no total falls.
 pub(crate) fn put_totals_now<N: Files<File = File>>(
     rt: &N,
     alloc: Global,
@@ -265,14 +266,17 @@ pub(crate) fn put_totals_now<N: Files<File = File>>(
     }
 }
 
-/// Finds out where a connector is to write its totals. A file of that name that is no regular one is opened, and emptied
-/// where it can be. Else a file is made beside it and removed. Fails with `BadOption` where that cannot be done.
+/// Determines how a connector is to write its totals. If a file of that name exists and is not a regular one, it is opened,
+/// and emptied if it can be. Otherwise a new file is made next to it and removed again, to check that this can be done.
+/// Fails with `BadOption` if the file cannot be opened or made, and with a fault if memory is refused.
 pub(crate) fn place_for<'a, 'n: 'a, N: Files<File = File>>(
     rt: &'a N,
     alloc: Global,
     name: Option<&'n str>,
     obstacle: &mut Option<Obstacle<'n>>,
 ) -> Result<Telling<'a, N>, RunError>
+    ensures none { IsNone name.entry → IfOk result (λ telling. IsNone telling.place) }
+    ensures some { IsSome name.entry → IfOk result (λ telling. IsSome telling.place) }
     ensures refused { IfErr result (λ e. (e ≡ BadOption) ⊎ (e ≡ IsFault NoMemory)) }
 {
     let Some(name) = name else {
@@ -317,7 +321,7 @@ fn tell_last<N: Files<File = File>>(
     }
 }
 
-/// Writes a text where the totals go, if a file was asked for.
+/// Writes a text to the place of the totals, if a file was asked for.
 pub(crate) fn tell_text<N: Files<File = File>>(
     telling: Telling<'_, N>,
     text: &[u8],
@@ -332,7 +336,7 @@ pub(crate) fn tell_text<N: Files<File = File>>(
     }
 }
 
-/// Writes the totals of a connector where a file was asked for, however it ended. Returns the result of the command.
+/// Writes the totals of a connector, if a file was asked for, however it ended. Returns the result of the command.
 pub(crate) fn tell_accounts<N: Files<File = File>>(
     telling: Telling<'_, N>,
     totals: &ConnectorTotals,

@@ -29,7 +29,7 @@ there_is [] i a e = absurd (some-ne-none a (sym e))
 there_is (x ∷ xs) zero a e = omega arith
 there_is (x ∷ xs) (suc i) a e = let below = there_is xs i a e in omega arith
 
--- a seat that asked still did, where one seat's view changed
+-- a seat that asked still did, after one seat's view changed
 asked_set : (views : List View) (id : ℕ) (v w : View) → get_elem? views id ≡ some v → (v.asked ≡ true → w.asked ≡ true) → SomeAsked views → SomeAsked (set views id w)
 asked_set views id v w at keep (j, u, there, asked) =
     dite (ℕ_discrete j id)
@@ -106,7 +106,7 @@ rise words homes views id word new asked v rule at small up stop how told why =
         (λ (x : (j ≢ id) × (get_elem? views j ≡ some u)). others j u x.0 (rule.seats j u x.1))
         (at_set views id j (risen v word new asked) u e)
 
--- a load of any word
+-- reading any word
 pub looks : (slots id word : ℕ) (me : Me ℕ View) → word < 5 → Allows Gauged slots id me word (λ n. n) (Rises (step slots word 0 0 none) me)
 looks slots id word me small s rule homes at fits =
     let v = me.0 in

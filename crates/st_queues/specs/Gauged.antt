@@ -5,7 +5,8 @@ use lib.ListN.{get_elem?}
 use Rattle.atomic_table.specs.Table.{State, Me, Step}
 use Rattle.st_queues.specs.declared.table.View.{View}
 
--- what a seat has seen of the words is not above them; where it asked to stop, the stop word is 1; and the one seat that publishes has seen the totals as they are
+-- what a seat has seen of the words is not above them; if it asked to stop, the stop word is 1; and the one seat that publishes has
+-- seen the totals as they are
 pub record Sees (words : List ℕ) (id : ℕ) (v : View) : Type 0 where
   pub size : length v.seen ≡ 5
   pub most : (i : ℕ) → i < 5 → slice_index v.seen i ≤ slice_index words i
@@ -16,7 +17,7 @@ pub record Sees (words : List ℕ) (id : ℕ) (v : View) : Type 0 where
 abbrev pub SomeAsked : List View → Type 0
 SomeAsked views = (id : ℕ) × (v : View) × (get_elem? views id ≡ some v) × (v.asked ≡ true)
 
--- the stop word is 0 or 1, and 1 only where some seat asked
+-- the stop word is 0 or 1, and 1 only if some seat asked
 pub record Gauged (s : State ℕ View) : Type 0 where
   pub size : length s.words ≡ 5
   pub stop : slice_index s.words 0 ≤ 1
@@ -30,7 +31,7 @@ zeros = 0 ∷ 0 ∷ 0 ∷ 0 ∷ 0 ∷ []
 abbrev pub publisher : View
 publisher = record { publishes = true; asked = false; seen = zeros }
 
--- a seat made beside this one has seen as much; it does not publish, and did not ask
+-- a seat that is split from this one has seen as much; it does not publish, and did not ask
 abbrev pub watcher : View → View
 watcher v = record { publishes = false; asked = false; seen = v.seen }
 

@@ -1,4 +1,4 @@
--- The bytes of what goes through the rings.
+-- The bytes of the items in the rings.
 use Rattle.std.specs.Prelude.{ℕ, List, [], ◌∷◌, ◌++◌}
 use Rattle.st_queues.specs.declared.items.Item.{Item}
 use Rattle.st_queues.specs.declared.items.Item.TheVariants as item

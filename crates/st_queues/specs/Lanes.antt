@@ -32,7 +32,7 @@ module _ {A : Type 0} where
   abbrev pub AllFreshReads : List (ReadLane A) → Type 0
   AllFreshReads xs = (k : ℕ) (x : ReadLane A) → slice_get xs k ≡ Some x → FreshRead k x
 
-  -- the ring is the hub's of its number, and the writer's end, where it is held, is unused
+  -- the ring is the hub's of its number, and the writer's end, if the lane still has it, is unused
   abbrev pub IsOurs : (ℕ → RingId A) → WriteLane A → Type 0
   IsOurs ring x = (x.end.ring < 512) × (write_lane_ring x ≡ ring x.end.ring) × HeldWrite (ring x.end.ring) x.held
 

@@ -5,7 +5,7 @@ use Rattle.atomic_table.specs.Seated.{TableId}
 use Rattle.rtrb.specs.declared.producer.Producer.{Producer}
 use Rattle.rtrb.specs.declared.consumer.Consumer.{Consumer}
 
--- what no other ring shares with it: where its words and its slots lie, its names in the proofs, and the allocator
+-- what no other ring shares with it: the addresses of words and slots, its names in the proofs, and the allocator
 pub record RingId (A : Type 0) : Type 0 where
   pub words : Ptr
   pub slots : Ptr

@@ -8,7 +8,7 @@ use Rattle.st_queues.specs.declared.items.Over.TheVariants as over
 use Rattle.st_queues.specs.declared.items.Got.{Got}
 use Rattle.st_queues.specs.declared.items.Got.TheVariants.{Bytes, Nothing, End, Aborted}
 
--- what a reader shows: the place of its stream, what it took, oldest first, what it knows to stand in the ring, and whether it was told an end
+-- what a reader shows: the place of its stream, what it read, oldest first, what it knows to be in the ring, and whether it has seen an end
 pub record Read (A : Type 0) : Type 0 where
   pub stream : ℕ
   pub items : List (Delivery A)
@@ -16,15 +16,15 @@ pub record Read (A : Type 0) : Type 0 where
   pub over : Over
 
 module _ {A : Type 0} where
-  -- the next item is taken, the first of those known, and the stream is over or not
+  -- the next item is read, the first of those known, and the stream is over or not
   abbrev pub Takes : Read A → Read A → Delivery A → Over → Type 0
   Takes a b x o = (a.over ≡ over.Open) × (b.items ≡ a.items ++ x ∷ []) × IsPrefix a.known (x ∷ b.known) × (b.over ≡ o)
 
-  -- the end that was told is told again
+  -- the end that was reported is reported again
   abbrev pub Again : Read A → Read A → Over → Type 0
   Again a b o = (a.over ≡ o) × (b ≡ a)
 
-  -- what a read gave is what it took, or the end that was told before
+  -- the result of a read is the next item, or the end that was reported before
   abbrev pub ReadsAs : Read A → Read A → Got A → Type 0
   ReadsAs a b (Bytes v) = Takes a b (delivery.Bytes v) over.Open
   ReadsAs a b Nothing = (a.over ≡ over.Open) × (b.items ≡ a.items) × (a.known ≡ []) × (b.known ≡ []) × (b.over ≡ over.Open)

@@ -1,4 +1,4 @@
--- What a seat has seen, as its contracts tell it.
+-- What a seat has seen, for its contracts.
 use Rattle.std.specs.Prelude.{ℕ, ◌≤◌, List, Bool, false, nat_lt, slice_index}
 use Rattle.st_queues.specs.declared.totals.Totals.{Totals}
 

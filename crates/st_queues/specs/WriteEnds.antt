@@ -6,11 +6,11 @@ use Rattle.st_queues.specs.declared.items.Item.{Item}
 use Rattle.st_queues.specs.declared.ends.WriteEnd.{WriteEnd}
 
 module _ {A : Type 0} where
-  -- what was taken out of the ring, oldest first
+  -- what was removed from the ring, oldest first
   abbrev pub taken : WriteEnd A → List (Item A)
   taken e = received e.consumer
 
-  -- what is known to stand in the ring
+  -- what is known to be in the ring
   abbrev pub known : WriteEnd A → List (Item A)
   known e = known_items e.consumer
 

@@ -16,14 +16,14 @@ abbrev pub IsLawful : ℕ → Type 0
 IsLawful n = (0 < n) × (n ≤ 4096)
 
 module _ {A : Type 0} where
-  -- a chunk of n bytes is given back, and the cause of its refusal stands: first its length, then an end before it, then no room
+  -- a chunk of n bytes is given back, for the cause that the error names: first its length, then an end before it, then no room
   abbrev pub RefusesChunk : ℕ → Vec ℕ A → Written A → QueueError A → Type 0
   RefusesChunk n chunk w (BadLength c) = (c ≡ chunk) × ¬ IsLawful n
   RefusesChunk n chunk w (Ended c) = (c ≡ chunk) × IsLawful n × (w.ended ≡ true)
   RefusesChunk n chunk w (Full c) = (c ≡ chunk) × IsLawful n × (w.ended ≡ false) × (w.free ≡ 0)
   RefusesChunk n chunk w NoMemory = ⊥
 
-  -- an end is refused, and the cause stands: first an end before it, then no room
+  -- an end is refused, for the cause that the error names: first an end before it, then no room
   abbrev pub RefusesEnd : Written A → QueueError A → Type 0
   RefusesEnd w (Ended c) = (c.items ≡ []) × (w.ended ≡ true)
   RefusesEnd w (Full c) = (c.items ≡ []) × (w.ended ≡ false) × (w.free ≡ 0)

@@ -45,7 +45,7 @@ impl<A: Allocator + Copy> WriteEnd<A> {
         let _ = self.consumer.pop_known();
     }
 
-    /// The number of items in the ring, read with both sides at hand. The items taken so far, followed by those in the
+    /// The number of items in the ring, read with access to both sides. The items read so far, followed by those in the
     /// ring, are exactly the items that the writer wrote.
     pub fn meet<N: HubName<A>>(&mut self, writer: &mut StreamWriter<N, A>) -> usize
         requires { (consumer_ring self.old.consumer ≡ N.write_ring self.old.ring) × (writer.old.ring ≡ self.old.ring) }

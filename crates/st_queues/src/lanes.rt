@@ -16,14 +16,14 @@ pub struct WriteLane<A: Allocator + Copy> {
     pub end: WriteEnd<A>,
     /// The writer's side, until it is handed out.
     pub held: Option<Producer<Item<A>, A>>,
-    /// Whether the hub has taken the writer's end from the ring.
+    /// Whether the hub has read the writer's end from the ring.
     pub over: bool,
 }
 
 impl<A: Allocator + Copy> WriteLane<A> {
     ghost use Rattle.st_queues.specs.Lanes.{IsOurs};
 
-    /// Hands out the writer. `None` where it was handed out before. Does not allocate.
+    /// Hands out the writer. `None` if it was handed out before. Does not allocate.
     pub fn hand_out<N: HubName<A>>(&mut self, alloc: A) -> Option<StreamWriter<N, A>>
         requires { IsOurs N.write_ring self.old }
         ensures found { IsSome result ↔ IsSome self.old.held }
@@ -52,7 +52,7 @@ impl<A: Allocator + Copy> ReadLane<A> {
     ghost use Rattle.st_queues.specs.Lanes.{IsOurRead};
     ghost use Rattle.st_queues.specs.declared.items.Over.TheVariants.{Open};
 
-    /// Hands out the reader. `None` where it was handed out before. Does not allocate.
+    /// Hands out the reader. `None` if it was handed out before. Does not allocate.
     pub fn hand_out<N: HubName<A>>(&mut self) -> Option<StreamReader<N, A>>
         requires { IsOurRead N.read_ring self.old }
         ensures found { IsSome result ↔ IsSome self.old.held }

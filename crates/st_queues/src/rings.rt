@@ -96,7 +96,7 @@ fn read_lanes<A: Allocator + Copy>(alloc: A) -> Result<Vec<ReadLane<A>, A>, Allo
 impl<A: Allocator + Copy> Rings<A> {
     /// The rings of 64 streams, with room for 64 items each, and a gauge at 0. No other call of this crate allocates.
     ///
-    /// Fails with `NoMemory` where memory is refused.
+    /// Fails with `NoMemory` if memory is refused.
     pub fn new(alloc: A) -> Result<Rings<A>, QueueError<A>>
         ensures made { IfOk result (λ r. (length r.writes ≡ 512) × (length r.reads ≡ 64) × (r.gauge.words ≡ 5)) }
         ensures refused { IsOkUnless result QueueError.NoMemory }

@@ -1,5 +1,5 @@
 //! The words of a gauge and the steps on them, of which there are three kinds: the hub's seat stores a total that is not
-//! below its last, a seat loads a word, and a seat sets the stop word.
+//! below its last, a seat reads a word, and a seat sets the stop word.
 ghost use Rattle.std.specs.Prelude.{◌≡◌, ◌≤◌, ◌<◌, [], true, slice_index, slice_set, IfOk};
 ghost use Rattle.st_queues.specs.Gauged.{publisher, watcher};
 
@@ -65,7 +65,7 @@ pub(crate) fn open<A: Allocator + Copy>(alloc: A) -> Result<(GaugeTable<A>, RawS
     GaugeTable::of_words(alloc, &[0, 0, 0, 0, 0], &())
 }
 
-// A load.
+// Reads a word.
 pub(crate) fn look<A: Allocator + Copy>(
     table: &GaugeTable<A>,
     seat: &mut RawSeat,
@@ -98,7 +98,7 @@ pub(crate) fn set_stop<A: Allocator + Copy>(table: &GaugeTable<A>, seat: &mut Ra
     table.shared.store::<AsksStop>(seat, 0, 1);
 }
 
-// A seat beside this one.
+// Splits off another seat, which does not publish.
 pub(crate) fn split<A: Allocator + Copy>(table: &GaugeTable<A>, seat: &mut RawSeat) -> RawSeat
     requires { (seat.old.table_id ≡ table.now.shared.table_id) × (table.now.shared.table_id.words ≡ 5) }
     ensures { (seat.new.table_id ≡ seat.old.table_id) × (seat.new.me ≡ seat.old.me) × (result.table_id ≡ seat.old.table_id) × (result.me.0 ≡ watcher seat.old.me.0) }

@@ -56,8 +56,8 @@ impl<N: HubName<A>, A: Allocator + Copy> StreamWriter<N, A> {
 
     /// Puts a chunk of 1 to 4,096 bytes into the ring. Does not allocate and does not wait.
     ///
-    /// Fails with `BadLength` where the chunk is empty or longer, then with `Ended` after an end, and then with `Full`
-    /// where the ring has no room. The error gives the chunk back.
+    /// Fails with `BadLength` if the chunk is empty or longer, then with `Ended` after an end, and then with `Full`
+    /// if the ring has no room. The error gives the chunk back.
     pub fn try_write(&mut self, chunk: Vec<u8, A>) -> Result<(), QueueError<A>>
         ensures same { (self.new.ring ≡ self.old.ring) × (self.new.ended ≡ self.old.ended) }
         ensures ok { OnOk result (IsLawful (vec_len chunk) × (self.old.ended ≡ false) × (self.new.items ≡ self.old.items ++ Item.Chunk chunk ∷ []) × (self.old.free ≤ self.new.free + 1)) }
@@ -80,7 +80,7 @@ impl<N: HubName<A>, A: Allocator + Copy> StreamWriter<N, A> {
 
     /// Puts the end into the ring: nothing can be written after it. Does not allocate and does not wait.
     ///
-    /// Fails with `Ended` after an end, and then with `Full` where the ring has no room. The error has an empty chunk.
+    /// Fails with `Ended` after an end, and then with `Full` if the ring has no room. The error has an empty chunk.
     pub fn try_end(&mut self) -> Result<(), QueueError<A>>
         ensures same { self.new.ring ≡ self.old.ring }
         ensures ok { OnOk result ((self.old.ended ≡ false) × (self.new.ended ≡ true) × (self.new.free ≡ 0) × (self.new.items ≡ self.old.items ++ Item.End ∷ [])) }

@@ -1,4 +1,4 @@
--- A run of an end goes on, and what of it is written.
+-- A run of an end continues, and what of it is written.
 use Rattle.std.proofs.Common.{◌≡◌, ◌⊎◌, ℕ, suc, Bool, true, false, List, [], ◌++◌, inl, inr, append-nil, refl, sym, ap, subst, Option, Some, None, Result, Ok, Err, if◌then◌else◌}
 use Rattle.std.specs.Io.KnownBytes.{Keeps}
 use Rattle.std.proofs.KnownBytes.{Appends-nil, Appends-kept}
@@ -36,7 +36,7 @@ refused_by : (t : Bool) (a b c : EndState) (got : reading.Got) (e : EndError) �
 refused_by true a b c got e h = absurd (let f : ◌≡◌ {A = Result reading.Got EndError} (Err e) (Ok got) = ap (λ q. q.0) h in cc)
 refused_by false a b c got e h = let f : ◌≡◌ {A = Result reading.Got EndError} (Err e) (Err refusals.NoStream) = ap (λ q. q.0) h in cc
 
--- a read is refused where the stream is not open, or for want of memory
+-- a read is refused if the stream is not open, or for memory
 pub read_refused : (a b : EndState) (e : EndError) → OrWants a (read a file_stream piece_limit) (Err e, b) → (e ≡ refusals.NoStream) ⊎ (e ≡ refusals.NoMemory)
 read_refused a b e (inl p) = inl (refused_by (is_open a.receiving file_stream) a b _ _ e p)
 read_refused a b e (inr p) = inr (let f : ◌≡◌ {A = Result reading.Got EndError} (Err e) (Err refusals.NoMemory) = ap (λ q. q.0) p.1 in cc)
@@ -45,7 +45,7 @@ closed_by : (t : Bool) (a b c : EndState) (got : reading.Got) → ◌≡◌ {A =
 closed_by true a b c got h = absurd (let f : ◌≡◌ {A = Result reading.Got EndError} (Err refusals.NoStream) (Ok got) = ap (λ q. q.0) h in cc)
 closed_by false a b c got h = refl
 
--- where it is refused for no stream, there is none
+-- if it is refused for no stream, there is none
 pub read_closed : (a b : EndState) → OrWants a (read a file_stream piece_limit) (Err refusals.NoStream, b) → is_open a.receiving file_stream ≡ false
 read_closed a b (inl p) = closed_by (is_open a.receiving file_stream) a b _ _ p
 read_closed a b (inr p) = absurd (let f : ◌≡◌ {A = Result reading.Got EndError} (Err refusals.NoStream) (Err refusals.NoMemory) = ap (λ q. q.0) p.1 in cc)
@@ -88,7 +88,7 @@ kept_why start now next before mid after n text (Closed m) k r w = absurd w
 pub kept_flushed : (start now : EndState) (before mid after : Option (List ℕ)) (n : ℕ) → Kept start before now mid n → Keeps mid after → Kept start before now after n
 kept_flushed start now before mid after n k f = (k.0, k.1, (k.2.0, k.2.1, Appends-kept before mid after k.2.0 k.2.2 f, k.2.3))
 
--- where the flush fails, all that was given is written
+-- if the flush fails, all that was given is written
 pub flush_why : (start now : EndState) (before mid after : Option (List ℕ)) (n : ℕ) (e : FileError) → Kept start before now mid n → Keeps mid after → Flushes {T = Unit {0}} n (Err e) → Explains start before now after (transfer.File e)
 flush_why start now before mid after n (ReadFault m) k f w = absurd w
 flush_why start now before mid after n (WriteFault m) k f w = ([], rw w (kept_flushed start now before mid after n k f))
@@ -97,7 +97,7 @@ flush_why start now before mid after n (Turns m) k f w = ([], rw w (kept_flushed
 flush_why start now before mid after n (NoMemory m) k f w = absurd w
 flush_why start now before mid after n (Closed m) k f w = absurd w
 
--- nothing came on the stream
+-- nothing arrived on the stream
 pub kept_idle : (start now next : EndState) (before after : Option (List ℕ)) (n : ℕ) → Kept start before now after n → Gives now reading.Nothing next → Kept start before next after n
 kept_idle start now next before after n k (inl r) = kept_on start now next before after n k (is_read reading.Nothing r refl)
 kept_idle start now next before after n k (inr same) = rw same.1 k
@@ -111,7 +111,7 @@ pub kept_so_far : (start now : EndState) (before after : Option (List ℕ)) (n :
 kept_so_far start now before after n (inl h) = rw (h.0, h.1) (kept_flushed start start before before after 0 (kept_none start before) h.2)
 kept_so_far start now before after n (inr h) = kept_idle start h.0 now before after n h.1 h.2
 
--- the same where it told an end
+-- the same if it reported an end
 pub kept_past : (start now next : EndState) (before after : Option (List ℕ)) (n : ℕ) → Kept start before now after n → Reads now reading.End next → Kept start before next after n
 kept_past start now next before after n k r = kept_on start now next before after n k (is_read reading.End r refl)
 
@@ -121,7 +121,7 @@ kept_ended start now next before mid after n k r f = (now, kept_flushed start no
 
 -- ---- answers
 
--- an answer goes on with a run, or changes nothing
+-- an answer extends a run, or changes nothing
 pub kept_answered : (start now next : EndState) (before after : Option (List ℕ)) (n : ℕ) (bytes : List ℕ) (answer : Option (List ℕ)) → Kept start before now after n → Answers now bytes answer next → Kept start before next after n
 kept_answered start now next before after n bytes (Some answer) k (inl h) = kept_on start now next before after n k (comes bytes h.0 h.1 refl)
 kept_answered start now next before after n bytes (Some answer) k (inr h) = rw h.1 k
@@ -132,6 +132,6 @@ pub kept_asked : {K : Type 0} (old new : Receiver K) (start : EndState) (before 
 kept_asked old new start before after n k (inl same) = subst (λ x. Kept start before (end_in x) after n) (sym same) k
 kept_asked old new start before after n k (inr h) = kept_answered start (end_in old) (end_in new) before after n h.1 h.2 k h.3
 
--- a fault of the delivery is none that is not
+-- a fault of the delivery differs from each one that is not of the delivery
 pub other_fault : (e x : TransferError) (Q : Type 0) → IsOfDelivery e → (IsOfDelivery x → Q) → ◌≡◌ {A = Result ℕ TransferError} (Err e) (Err x) → Q
 other_fault e x Q is none same = let inside : e ≡ x = cc in none (subst IsOfDelivery inside is)

@@ -1,4 +1,4 @@
--- A transfer that told no fault put the input into the stream whole; what it tells is that of an end; and how that end began.
+-- A transfer without a fault put the whole input into the stream; the totals that it reports are those of an end; and how that end began.
 use Rattle.std.proofs.Common.{◌≡◌, ℕ, Bool, true, false, List, inl, inr, refl, sym, ap, subst, Result, Ok, Err}
 use Rattle.std.specs.Prelude.{IfOk}
 use Rattle.st_end.specs.State.{EndState}

@@ -16,7 +16,7 @@ module _ {S T : Type 0} (k : Known S) (gives : T → ℕ → List ℕ → Option
   pub asked_served : IsServed k gives tokens began now old new → AskedOnce gives old new
   asked_served (asked, text, due, written) = due_asked gives tokens old new _ text due
 
-  -- so was one whose response was not written whole, or it did not come whole
+  -- so was one whose response was not written whole, or the request did not arrive intact
   pub asked_why : (e : HttpError) → ExplainsServe k gives tokens began now old new e → AskedOnce gives old new
   asked_why e (inl (inl (loss, read, same))) = inl same
   asked_why e (inl (inr (text, due, memory))) = due_asked gives tokens old new _ text due

@@ -3,7 +3,7 @@ use Rattle.std.specs.Prelude.{◌≡◌, ℕ, ◌<◌, List, length, slice_get, 
 use Rattle.st_hop.specs.Hop.{Hop, held_of}
 use Rattle.st_transfer.specs.declared.accounts.AccountTotals.{AccountTotals}
 
--- what an account owes the hop, is owed by it, and has held
+-- what an account owes the hop, what the hop owes it, and what it has reserved
 abbrev pub totals_at : Hop → (account : ℕ) → AccountTotals
 totals_at h a = record { claims = slice_index h.claims a; dues = slice_index h.dues a; held = held_of h a }
 

@@ -21,7 +21,7 @@ abbrev pub came_of : (outcome : Option (List ℕ)) → Came
 came_of None = came.NoReject
 came_of (Some bytes) = if is_reject_text bytes then came.Reject else came.NoReject
 
--- how a Prepare ended that was answered with a Reject of this code: it is passed on from behind, or the hop's own, after an
+-- how a Prepare ended that was answered with a Reject of this code: the Reject of a later node, passed back, or the hop's own, after an
 -- exchange or without one
 abbrev pub rejected_as : Came → (code : List ℕ) → Fate
 rejected_as came.NotSent code = fate.Refused code
@@ -45,7 +45,7 @@ tallied (fate.Rejected code) x = record x { rejected = count_after 1 x.rejected 
 tallied (fate.Lost code) x = record x { lost = count_after 1 x.lost }
 tallied (fate.Refused code) x = record x { refused = count_after 1 x.refused }
 
--- and where its code is counted: with an entry of its own, which there was or is made, or among others
+-- and how its code is counted: with an entry of its own, which there was or is made, or among others
 abbrev pub entered : Entry → AccountCounts → AccountCounts
 entered entry.Known x = x
 entered entry.First x = record x { kinds = count_after 1 x.kinds }
@@ -58,20 +58,20 @@ rank account code = account * 16777216 + slice_index code 0 * 65536 + slice_inde
 abbrev pub rank_of : CodeCount → ℕ
 rank_of x = rank x.account x.code
 
--- where a code of an account stands, or would: behind all that are less
+-- the place at which a code of an account is, or would be: after all that are less
 pub record IsPlace (r : ℕ) (codes : List CodeCount) (place : ℕ) : Type 0 where
   pub within : place ≤ length codes
   pub less : (k : ℕ) (x : CodeCount) → k < place → slice_get codes k ≡ Some x → rank_of x < r
 
--- it stands there
+-- it is there
 abbrev pub StandsAt : (r : ℕ) → List CodeCount → (place : ℕ) → CodeCount → Type 0
 StandsAt r codes place x = (slice_get codes place ≡ Some x) × (rank_of x ≡ r)
 
--- it does not: what stands there is greater
+-- it is not: the entry there, if any, is greater
 abbrev pub IsMissing : (r : ℕ) → List CodeCount → (place : ℕ) → Type 0
 IsMissing r codes place = (x : CodeCount) → slice_get codes place ≡ Some x → r < rank_of x
 
--- where the code of this rank is, or would be
+-- the place of the code of this rank, with its entry if there is one
 abbrev pub Finds : (r : ℕ) → List CodeCount → Found → Type 0
 Finds r codes (found.At place x) = IsPlace r codes place × StandsAt r codes place x
 Finds r codes (found.Missing place) = IsPlace r codes place × IsMissing r codes place

@@ -1,5 +1,5 @@
 -- The threads of a connector and the requests that they claim.
-use Rattle.std.specs.Prelude.{◌≡◌, ◌⊎◌, ℕ, ◌+◌, ◌-◌, ◌<◌, ◌≤◌, Bool, true, false, not, ◌&&◌, if◌then◌else◌, is_none, List, slice_index, slice_set, Option, Some, None, IsNone, IsSome}
+use Rattle.std.specs.Prelude.{⊤, ◌≡◌, ◌⊎◌, ℕ, ◌+◌, ◌-◌, ◌<◌, ◌≤◌, Bool, true, false, not, ◌&&◌, if◌then◌else◌, is_none, List, slice_index, slice_set, Option, Some, None, IsNone, IsSome}
 use Rattle.std.specs.Option.{option_or}
 use Rattle.st_oer.specs.Faults.{count_after}
 use Rattle.st_transfer.specs.declared.roster.Failed.{Failed}
@@ -7,7 +7,22 @@ use Rattle.st_transfer.specs.declared.roster.Failed.TheVariants as fails
 use Rattle.st_transfer.specs.declared.roster.Leave.{Leave}
 use Rattle.st_transfer.specs.declared.roster.Leave.TheVariants.{Send, Wait, Refuse}
 use Rattle.st_transfer.specs.declared.error.TransferError.{TransferError}
-use Rattle.st_transfer.specs.declared.error.TransferError.TheVariants.{NoMemory}
+use Rattle.st_transfer.specs.declared.error.TransferError.TheVariants.{Failed as ConnectionFailed, Stalled, Rings, Accept, Turns, Silent, IvFault, NoMemory, End, Desk, File, Books}
+
+-- what ends a connector: its listener, memory, its hop or its books; and no fault of a sender or a receiver
+abbrev pub IsOfConnector : TransferError → Type 0
+IsOfConnector ConnectionFailed = ⊥
+IsOfConnector Stalled = ⊥
+IsOfConnector Rings = ⊥
+IsOfConnector Accept = ⊤
+IsOfConnector Turns = ⊥
+IsOfConnector Silent = ⊥
+IsOfConnector IvFault = ⊥
+IsOfConnector NoMemory = ⊤
+IsOfConnector (End e) = ⊥
+IsOfConnector (Desk e) = ⊤
+IsOfConnector (File e) = ⊥
+IsOfConnector (Books n) = ⊤
 
 -- the requests that no thread has claimed; the threads that are being made, that accept and
 -- that have a connection, each with a claim; how many of these last were to send to a neighbour for each account; the requests whose connections are done, or that are left to no thread since a fault ended all; those for which none is
@@ -54,15 +69,15 @@ Begins a b = (a.coming ≡ b.coming + 1) × (b ≡ record a { coming = b.coming;
 abbrev pub Takes : Roster → Roster → Type 0
 Takes a b = (a.accepting ≡ b.accepting + 1) × (b ≡ record a { accepting = b.accepting; busy = a.busy + 1; failed = 0 })
 
--- where a fault ended all, a thread that accepts takes no connection, and ends
+-- if a fault ended all, a thread that accepts does not process a connection, and ends
 abbrev pub Leaves : Roster → Roster → Type 0
 Leaves a b = (a.accepting ≡ b.accepting + 1) × (b ≡ record a { accepting = b.accepting; spent = a.spent + 1 })
 
--- how often threads are to have begun to accept before it may send: once more where no other thread accepts
+-- how often threads are to have begun to accept before it may send: once more if no other thread accepts
 abbrev pub IsNeeded : Roster → ℕ → Type 0
 IsNeeded r n = ((0 < r.accepting) × (n ≡ r.begun)) ⊎ ((r.accepting ≡ 0) × (n ≡ count_after 1 r.begun))
 
--- one thread fewer sends for an account, where there is one
+-- one thread fewer sends for an account, if one is given
 abbrev pub without : (account : Option ℕ) → (sending : List ℕ) → List ℕ
 without None sending = sending
 without (Some account) sending = slice_set sending account (slice_index sending account - 1)
@@ -96,7 +111,7 @@ IsDone a sent_for b = (a.busy ≡ b.busy + 1) × (b ≡ record a {
 abbrev pub GoesOn : Roster → Roster → Type 0
 GoesOn a b = (a.left ≡ b.left + 1) × (b ≡ record a { left = b.left; accepting = a.accepting + 1; begun = count_after 1 a.begun })
 
--- how many more threads than workers may accept beside a thread that goes on: none where it did not reach its neighbour, since
+-- how many more threads than workers may accept, next to a thread that continues: none if it did not reach its neighbour, since
 -- those that accept may have the last file descriptors
 abbrev pub spare_of : (reached : Bool) → ℕ
 spare_of reached = if reached then 16 else 0
@@ -113,8 +128,8 @@ LeavesNone a e b = b ≡ record a { left = 0; spent = a.spent + a.left; fault = 
 abbrev pub EndsBy : Roster → TransferError → Roster → Type 0
 EndsBy a e b = (mid : Roster) × LeavesNone a e mid × Leaves mid b
 
--- a thread fails to accept. Where the connector is stopped, it ends. Where others accept, it ends, and its request is left again. The last one that accepts tries again
--- while threads have connections; where none has, or a fault ended all, it ends, and so do all
+-- a thread fails to accept. If the connector is stopped, it ends. If others accept, it ends, and its request is left again. The last one
+-- that accepts tries again while threads have connections; if none has, or a fault ended all, it ends, and so do all
 abbrev pub IsFailed : Roster → TransferError → Failed → Roster → Type 0
 IsFailed a e fails.Leave b = IsNone a.fault
     × (((a.stopped ≡ true) × (0 < a.accepting → LeavesUnserved a b) × (a.accepting ≡ 0 → b ≡ a))
@@ -124,12 +139,12 @@ IsFailed a e fails.Again b = IsNone a.fault × (a.stopped ≡ false) × (a.accep
 IsFailed a e fails.End b = (IsSome a.fault ⊎ ((a.stopped ≡ false) × (a.accepting ≤ 1) × (a.busy ≡ 0)))
     × (0 < a.accepting → EndsBy a e b) × (a.accepting ≡ 0 → LeavesNone a e b)
 
--- the only thread could not be made, so that memory or threads are wanting, or a fault ended all before: no request is left
+-- the only thread could not be made, for lack of memory or threads, or a fault ended all before: no request is left
 abbrev pub GivesUp : Roster → Roster → Type 0
 GivesUp a b = (a.coming ≡ b.coming + 1) × LeavesNone (record a { left = a.left + 1; coming = b.coming; refused = true }) NoMemory b
 
 -- an account may have one exchange more: fewer threads send for it than places are free of 1,024. So it leaves at least half of
--- those that it found: the first that takes all that it can has half of the places, the next a quarter
+-- those that it found: the first that uses all that it can has half of the places, the next a quarter
 abbrev pub HasPlace : Roster → (account : ℕ) → Type 0
 HasPlace r account = slice_index r.sending account < 1024 - r.busy
 
@@ -137,9 +152,9 @@ HasPlace r account = slice_index r.sending account < 1024 - r.busy
 abbrev pub Sends : Roster → (account : ℕ) → Roster → Type 0
 Sends a account b = b ≡ record a { sending = slice_set a.sending account (count_after 1 (slice_index a.sending account)) }
 
--- a thread sends for an account where no fault ended all, the account has a place, and threads began to accept as often as it needs
--- or no other can be asked for; it waits where one is being made or may be; and it is refused after a fault, where its account has
--- no place, or where no other is being made, since the last one could not be or there is no room for it
+-- a thread sends for an account if no fault ended all, the account has a place, and threads began to accept as often as it needs
+-- or no other can be asked for; it waits if one is being made or may be; and it is refused after a fault, if its account has
+-- no place, or if no other is being made, since the last one could not be or there is no room for it
 abbrev pub IsLeave : (workers : ℕ) → Roster → (account needed : ℕ) → Leave → Type 0
 IsLeave workers r account needed Send = IsNone r.fault × HasPlace r account × ((needed ≤ r.begun) ⊎ ((r.left ≡ 0) × (r.coming ≡ 0)))
 IsLeave workers r account needed Wait = IsNone r.fault × HasPlace r account × (r.begun < needed)

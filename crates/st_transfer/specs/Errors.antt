@@ -1,4 +1,4 @@
--- The numbers by which a program tells why a transfer ended short.
+-- The numbers by which a program reports why a transfer ended short.
 use Rattle.std.specs.Prelude.{ℕ, Option, None}
 use Rattle.st_desk.specs.Errors as desk
 use Rattle.st_end.specs.Errors as end

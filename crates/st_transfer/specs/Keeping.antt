@@ -1,4 +1,4 @@
--- What an end that only receives goes through, and what of stream 1 is written.
+-- The states of an end that only receives, and what of stream 1 is written.
 use Rattle.std.specs.Prelude.{◌≡◌, ◌⊎◌, ℕ, false, zero, suc, List, [], ◌++◌, Option, None, Result, Ok, Err, ⊤}
 use Rattle.std.specs.Io.KnownBytes.{Keeps}
 use Rattle.st_queues.specs.declared.items.Over.TheVariants as over
@@ -21,7 +21,7 @@ use Rattle.st_transfer.specs.declared.receiver.Receiver.{Receiver}
 use Rattle.st_transfer.specs.declared.error.TransferError.{TransferError}
 use Rattle.st_transfer.specs.declared.error.TransferError.TheVariants.{Failed, Stalled, Rings, Accept, Turns, Silent, IvFault, NoMemory, End, Desk, File, Books}
 
--- the stream on which files and money go
+-- the stream that carries files and money
 abbrev pub file_stream : ℕ
 file_stream = 1
 
@@ -33,7 +33,7 @@ piece_limit = 65536
 abbrev pub Reads : EndState → reading.Got → EndState → Type 0
 Reads a got b = read a file_stream piece_limit ≡ (Ok got, b)
 
--- what the stream gives next: nothing yet, too, and there alone without a read, where it is not open
+-- what the stream gives next: nothing yet also if it is not open, and then without a read
 abbrev pub Gives : EndState → reading.Got → EndState → Type 0
 Gives a (reading.Bytes out) b = Reads a (reading.Bytes out) b
 Gives a reading.Nothing b = Reads a reading.Nothing b ⊎ ((is_open a.receiving file_stream ≡ false) × (b ≡ a))
@@ -47,12 +47,12 @@ bytes_in reading.Nothing = []
 bytes_in reading.End = []
 bytes_in (reading.Aborted code) = []
 
--- a Prepare comes; or the stream is read
+-- a Prepare arrives; or the stream is read
 pub data Happens (a : EndState) (out : List ℕ) (b : EndState) : Type 0 where
   comes : (bytes : List ℕ) (r : Received) → Takes a bytes r b → out ≡ [] → Happens a out b
   is_read : (got : reading.Got) → Reads a got b → out ≡ bytes_in got → Happens a out b
 
--- so many of these, one after another, in which the stream gave these bytes
+-- a number of these, one after another, in which the stream gave these bytes
 abbrev pub RunsIn : ℕ → EndState → (out : List ℕ) → EndState → Type 0
 RunsIn zero a out b = (out ≡ []) × (b ≡ a)
 RunsIn (suc n) a out b = (c : EndState) × (first last : List ℕ) × RunsIn n a first c × Happens c last b × (out ≡ first ++ last)
@@ -64,7 +64,7 @@ Runs a out b = (n : ℕ) × RunsIn n a out b
 abbrev pub given_of : (out : List ℕ) → Given
 given_of out = record { bytes = out; over = over.Open; calls = None }
 
--- the first bytes that the stream gave in a run are written, and so many are told; these others are not
+-- the first n bytes that the stream gave in a run are written, with n as it is reported; these others are not
 abbrev pub KeptBut : EndState → (before : Option (List ℕ)) → (now : EndState) → (after : Option (List ℕ)) → (written : ℕ) → (others : List ℕ) → Type 0
 KeptBut start before now after n others =
     (out : List ℕ) × Runs start out now × Stored (record { before = before; after = after; old = given_of []; new = given_of out }) n others
@@ -73,7 +73,7 @@ KeptBut start before now after n others =
 abbrev pub Kept : EndState → (before : Option (List ℕ)) → (now : EndState) → (after : Option (List ℕ)) → (written : ℕ) → Type 0
 Kept start before now after n = KeptBut start before now after n []
 
--- all are, and then the stream told this in place of bytes
+-- all are, and then the stream gave this in place of bytes
 abbrev pub KeptTo : EndState → (before : Option (List ℕ)) → (now : EndState) → (after : Option (List ℕ)) → (written : ℕ) → reading.Got → Type 0
 KeptTo start before now after n got = (was : EndState) × Kept start before was after n × Reads was got now
 
@@ -85,8 +85,8 @@ KeptAll start before now after n = (was : EndState) × Kept start before was aft
 abbrev pub IsUpToDate : EndState → (before : Option (List ℕ)) → (now : EndState) → (after : Option (List ℕ)) → (written : ℕ) → Type 0
 IsUpToDate start before now after n = ((now ≡ start) × (n ≡ 0) × Keeps before after) ⊎ KeptAll start before now after n
 
--- why no more is written: all that could be read is, where no further request came; and all that the stream gave is, but where
--- the output failed or its turns are used up
+-- why no more is written: if no further request arrived, all that could be read is; and all that the stream gave is, unless
+-- the output failed or its allowed calls are used up
 abbrev pub Explains : EndState → (before : Option (List ℕ)) → (now : EndState) → (after : Option (List ℕ)) → TransferError → Type 0
 Explains start before now after Failed = ⊥
 Explains start before now after Stalled = ⊥
@@ -127,7 +127,7 @@ Delivers start before now after n (Ok More) = KeptAll start before now after n
 Delivers start before now after n (Ok Whole) = KeptTo start before now after n reading.End
 Delivers start before now after n (Err e) = Explains start before now after e
 
--- what a receiver wrote, from the end with its receive max set to the end now: all, where the stream told a clean end
+-- what a receiver wrote, from the end with its receive max set to the end now: all, if the stream reported a clean end
 abbrev pub Receives : (start now : EndState) → (before after : Option (List ℕ)) → Result ℕ TransferError → Type 0
 Receives start now before after (Ok n) = KeptTo start before now after n reading.End
 Receives start now before after (Err e) = Explains start before now after e
@@ -149,7 +149,7 @@ end_in r = r.end
 abbrev pub IsAsked : {K : Type 0} → (old new : Receiver K) → Type 0
 IsAsked {K} old new = AskedOnce (λ (x : Receiver K) account body answer (y : Receiver K). Answers (end_in x) body answer (end_in y)) old new
 
--- an output's count of errors after it: one more where a fault of it is told, and there alone
+-- an output's count of errors after it: one more if the result is a fault of it, and the same otherwise
 abbrev pub faults_told : {T : Type 0} → Result T TransferError → ℕ → ℕ
 faults_told (Ok x) count = count
 faults_told (Err (File e)) count = file.faults_told {T = Unit {0}} (Err e) count

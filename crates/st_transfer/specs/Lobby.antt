@@ -3,7 +3,7 @@ use Rattle.std.specs.Prelude.{⊤}
 use Rattle.st_transfer.specs.declared.error.TransferError.{TransferError}
 use Rattle.st_transfer.specs.declared.error.TransferError.TheVariants.{Failed, Stalled, Rings, Accept, Turns, Silent, IvFault, NoMemory, End, Desk, File, Books}
 
--- the listener gave no connection, the connections are used up, or nothing came
+-- the listener gave no connection, the connections are used up, or no request arrived
 abbrev pub IsOfLobby : TransferError → Type 0
 IsOfLobby Failed = ⊥
 IsOfLobby Stalled = ⊥

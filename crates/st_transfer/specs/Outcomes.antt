@@ -1,4 +1,4 @@
--- What the command `send` comes to.
+-- The outcome of the command `send`.
 use Rattle.std.specs.Prelude.{◌≡◌, ◌⊎◌, ℕ, Bool, true, false, List, [], ◌∷◌, Option, Some, None, Result, Ok, Err}
 use Rattle.st_end.specs.State.{EndState}
 use Rattle.st_end.specs.Calls as calls
@@ -26,7 +26,7 @@ abbrev pub fault_or : Option TransferError → TransferError → TransferError
 fault_or (Some e) later = e
 fault_or None later = later
 
--- the first fault of the workers, or else the last one
+-- the first fault of the workers, or otherwise the last one
 abbrev pub first_fault : List WorkEnd → (last : TransferError) → TransferError
 first_fault [] last = last
 first_fault (e ∷ es) last = fault_or (fault_of e) (first_fault es last)
@@ -36,8 +36,8 @@ abbrev pub fault_told : (failed : Bool) → List WorkEnd → (last : TransferErr
 fault_told true es last = Failed
 fault_told false es last = first_fault es last
 
--- all was sent where the stream's close was fulfilled, and the input was put into it whole. Else the turns were used up,
--- if nothing else is told
+-- all was sent if the stream's close was fulfilled, and the whole input was put into it. Otherwise the workers' rounds were used up,
+-- unless another fault is reported
 abbrev pub outcome : (settled failed : Bool) → List WorkEnd → (fed : Result ℕ FileError) → Result ℕ TransferError
 outcome true failed es (Ok sent) = Ok sent
 outcome false failed es (Ok sent) = Err (fault_told failed es Turns)
@@ -59,7 +59,7 @@ RefusesToOpen a money e =
 abbrev pub WhyNotBegun : EndState → (money : ℕ) → TransferError → Type 0
 WhyNotBegun a money why = (why ≡ Rings) ⊎ ((e : EndError) × (why ≡ End e) × RefusesToOpen a money e)
 
--- an end tells these totals, and the result says whether its stream's close was fulfilled and its connection failed
+-- an end reports these totals, and the result says whether its stream's close was fulfilled and its connection failed
 abbrev pub IsTold : Result ℕ TransferError → Totals → Type 0
 IsTold result told =
     (e : EndState) × (es : List WorkEnd) × (fed : Result ℕ FileError)

@@ -1,4 +1,4 @@
--- What is told to the log.
+-- What is reported to the log.
 use Rattle.std.specs.Prelude.{ℕ, Bool, true, false, ◌==◌, bytes_eq, if◌then◌else◌, Option, Some, None}
 use Rattle.st_http.specs.Errors.{number}
 use Rattle.st_link.specs.Links.{status_of}
@@ -30,7 +30,7 @@ unreached_told from.Name = unreached.Name
 unreached_told from.Refused = unreached.Refused
 unreached_told from.Timeout = unreached.Timeout
 
--- why an exchange brought no answer: the number of what HTTP refused, with the status where there is one
+-- why an exchange brought no answer: the number of what HTTP refused, with the status if there is one
 abbrev pub cause_told : Option LinkCause → Cause
 cause_told None = cause.Unreached unreached.Other
 cause_told (Some (link.Unreached why)) = cause.Unreached (unreached_told why)
@@ -55,21 +55,21 @@ wait_told (stops.Connection most) = event.Waits (limit.ConnectionData most)
 wait_told (stops.Data k most) = event.Waits (limit.StreamData k most)
 wait_told (stops.Money k most total) = event.Waits (limit.StreamMoney k most total)
 
--- a limit that the next Prepare tells
+-- a limit that the next Prepare reports
 abbrev pub told_by_next : Blocked → Reached
 told_by_next at = record { limit = at; is_sent = false }
 
--- one on money stands while bytes are sent
+-- one on money stays while bytes are sent
 abbrev pub is_on_money : Blocked → Bool
 is_on_money (limit.ConnectionData most) = false
 is_on_money (limit.StreamData k most) = false
 is_on_money (limit.StreamMoney k most total) = true
 
--- what is known of a limit once one more Prepare is sent: where that is not the one that tells it, a limit on bytes was raised
+-- what is known of a limit once one more Prepare is sent: if that is not the one that reports it, a limit on bytes was raised
 abbrev pub after_next : Reached → Option Reached
 after_next r = if r.is_sent then (if is_on_money r.limit then Some r else None) else Some (record r { is_sent = true })
 
--- the limit at which an end waits that paid so many units: one on money was raised where more was paid since
+-- the limit at which an end waits that paid this number of units: one on money was raised if more was paid since
 abbrev pub waits_at : Blocked → (paid : ℕ) → Option Blocked
 waits_at (limit.ConnectionData most) paid = Some (limit.ConnectionData most)
 waits_at (limit.StreamData k most) paid = Some (limit.StreamData k most)

@@ -19,7 +19,7 @@ const MOST_KEPT: i64 = 5_000;
 #[derive(Clone, Copy, Debug, PartialEq, Eq)]
 struct Present {
     moment: Moment,
-    /// By how many milliseconds the runtime's clock was set back, where it is followed.
+    /// By how many milliseconds the runtime's clock was set back, if it is followed.
     set_back: Option<u64>,
 }
 
@@ -29,7 +29,7 @@ pub(crate) struct LastMoment {
     moment: Moment,
 }
 
-/// The moment that lies this long after the start of 1970, in whole milliseconds. `None` where there is no such
+/// The moment that lies this long after the start of 1970, in whole milliseconds. `None` if there is no such
 /// `Moment`.
 fn moment_of(since: Duration) -> Option<Moment>
     ensures { MatchOption result ((ms : ℕ) → ¬ (IsMomentOf since ms)) (λ moment. (ms : ℕ) × IsMomentOf since ms × (moment ≡ pos ms)) }
@@ -49,7 +49,7 @@ impl LastMoment {
         LastMoment { moment }
     }
 
-    /// The moment for one reading of the runtime's clock: what was read. Where that is earlier than the last one by at most
+    /// The moment for one reading of the runtime's clock: what was read. If that is earlier than the last one by at most
     /// five seconds, could not be read, or is past the last `Moment`, it is the last one again.
     fn tell(&mut self, read: io::Result<Duration>) -> Present
         ensures told { Tells self.old.moment read result.moment result.set_back }
@@ -81,12 +81,12 @@ impl LastMoment {
     }
 }
 
-/// The moment that it is now. Where the runtime's clock cannot be read, or is past the last `Moment`, the start of 1970.
+/// The moment that it is now. If the runtime's clock cannot be read, or is past the last `Moment`, the start of 1970.
 pub(crate) fn moment_now(rt: &impl std::time::Clock) -> Moment {
     LastMoment::none().tell(rt.since_1970()).moment
 }
 
-/// A clock that gives the moments of a runtime's clock, in milliseconds since the start of 1970 (UTC). Where that was set
+/// A clock that gives the moments of a runtime's clock, in milliseconds since the start of 1970 (UTC). If that was set
 /// back by at most five seconds, cannot be read, or is past the last `Moment`, it gives the moment that it gave last; at
 /// first, the start of 1970. One that was set back by more is followed, and that is reported to the log.
 #[derive(Drop)]
@@ -137,7 +137,7 @@ pub(crate) struct SharedClock<'a, R: std::time::Clock + Wait> {
 }
 
 impl<R: std::time::Clock + Wait> SharedClock<'_, R> {
-    /// Reads the runtime's clock while no other thread does. The lock is let go before it returns.
+    /// Reads the runtime's clock while no other thread does. The lock is released before it returns.
     fn read(&self) -> Present {
         let mut last = self.last.lock(self.rt);
         last.tell(self.rt.since_1970())

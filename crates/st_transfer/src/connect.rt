@@ -3,6 +3,7 @@
 ghost use Rattle.std.specs.Prelude.{◌≡◌, ◌⊎◌, Err, IfErr, IfOk, IsOkUnless, IsSome, MatchOption, Some, length, sum, vec_len, pos, ◌+ℤ◌};
 ghost use Rattle.st_ilp.specs.Moments.{IsMoment};
 ghost use Rattle.st_transfer.specs.Accounts.{AreTotalsOf};
+ghost use Rattle.st_transfer.specs.Crew.{IsOfConnector};
 ghost use Rattle.st_transfer.specs.Moments.{IsEarlier};
 ghost use Rattle.st_transfer.specs.declared.error.TransferError.TheVariants.{Accept, NoMemory};
 
@@ -44,7 +45,7 @@ pub struct ConnectorEnded {
     /// What all accounts owe the hop at the end, and what the hop owes them, in units; or why the connector ended
     /// before its last request.
     pub result: Result<Owed, TransferError>,
-    /// The totals of each account that has a token, by the account's place. Empty where memory for them was refused.
+    /// The totals of each account that has a token, by the account's place. Empty if memory for them was refused.
     pub accounts: Vec<AccountTotals>,
     /// How the Prepares of these accounts ended. Empty where the totals are.
     pub counts: Counts,
@@ -67,7 +68,7 @@ struct Common<'a, C: Ledger, D: Ledger, L> {
     counts: Mutex<Counts>,
     /// Whether it may be asked to stop: then no thread waits long for a connection.
     is_asked: bool,
-    /// That of the thread which waits for a connection, where no thread waits long.
+    /// Locked by the thread which waits for a connection, if no thread waits long.
     turn: Mutex<()>,
     /// The moment that the clock gave last, to any thread.
     last: Mutex<LastMoment>,
@@ -87,9 +88,9 @@ struct Ways<'a, C: Ledger, D: Ledger, L, R: Net + Wait + Clock> {
     from: usize,
     /// How often threads are to have begun to accept before this one may send.
     needed: u64,
-    /// When an exchange has to be done, so that its answer can still be passed back. `None` where there is no such moment.
+    /// When an exchange has to be done, so that its answer can still be passed back. `None` if there is no such moment.
     latest: Option<Moment>,
-    /// What the last exchange brought, where there was one.
+    /// What the last exchange brought, if there was one.
     came: Came,
     /// What became of the request's exchange.
     sent: Sent,
@@ -103,7 +104,7 @@ struct Ways<'a, C: Ledger, D: Ledger, L, R: Net + Wait + Clock> {
 /// request may take.
 const EXCHANGE_MILLIS: i64 = 29_000;
 
-/// The moment that is so many milliseconds after this one.
+/// The moment that is `EXCHANGE_MILLIS` after this one.
 fn latest_after(now: Moment) -> Option<Moment>
     ensures { MatchOption result (¬ (IsMoment (now +ℤ pos 29000))) (λ latest. latest ≡ now +ℤ pos 29000) }
 {
@@ -163,7 +164,7 @@ struct Server<'a, C: Ledger, D: Ledger, K: Keeper, L, R: Net + Wait + Clock> {
     sent_for: Option<usize>,
     /// Whether the exchange of the last request could not connect to its neighbour.
     is_unreached: bool,
-    /// Set where the last request is to have no answer.
+    /// Set if the last request is to have no answer.
     withheld: &'a Cell<bool>,
 }
 
@@ -241,7 +242,7 @@ impl<C: Ledger, D: Ledger, K: Keeper, L, R: Net + Wait + Clock> Server<'_, C, D,
     }
 }
 
-/// Tries to accept a connection, once no other thread does. None comes to a connector that is stopped.
+/// Tries to accept a connection, once no other thread does. A connector that is stopped accepts none.
 fn try_accept<C: Ledger, D: Ledger, L: AwaitListener, R: Wait>(
     rt: &R,
     common: &Common<'_, C, D, L>,
@@ -256,7 +257,7 @@ fn try_accept<C: Ledger, D: Ledger, L: AwaitListener, R: Wait>(
     tried
 }
 
-/// Accepts the next connection, as `accept_next` does. `None` where the connector is stopped before.
+/// Accepts the next connection, as `accept_next` does. `None` if the connector is stopped before.
 fn accept_asked<C: Ledger, D: Ledger, L: AwaitListener, R: Wait + Clock>(
     rt: &R,
     common: &Common<'_, C, D, L>,
@@ -284,7 +285,7 @@ fn accept_asked<C: Ledger, D: Ledger, L: AwaitListener, R: Wait + Clock>(
     unreachable!()
 }
 
-/// Accepts the next connection. `None` where the connector is stopped before.
+/// Accepts the next connection. `None` if the connector is stopped before.
 fn accept_one<C: Ledger, D: Ledger, L: AwaitListener, R: Wait + Clock>(
     rt: &R,
     common: &Common<'_, C, D, L>,
@@ -404,7 +405,7 @@ where
     serve_all(job.rt, job.common, job.till);
 }
 
-/// Makes a thread of a connector. False where that is refused.
+/// Makes a thread of a connector. False if that is refused.
 fn spawn_one<
     's,
     E,
@@ -425,14 +426,14 @@ where
 struct Next {
     /// When a period ends.
     period_ends: Option<Instant>,
-    /// When it looks for an order, where there may be one.
+    /// When it checks for an order, if there may be one.
     looks: Option<Instant>,
 }
 
-/// How long the manager waits before it looks for an order.
+/// How long the manager waits before it checks for an order.
 const LOOK_MILLIS: u64 = 200;
 
-/// How many orders there may be at one look.
+/// How many orders there may be at one check.
 const MOST_ORDERS: u32 = 64;
 
 impl Next {
@@ -459,7 +460,7 @@ impl Next {
         }
     }
 
-    /// A moment has come: the period may be over, and there may be orders.
+    /// To be called once `moment` has passed: the period may be over, and there may be orders.
     fn come<C: Ledger, D: Ledger, M: Minutes, L: AwaitListener, R: Wait + Clock>(
         &mut self,
         rt: &R,
@@ -478,7 +479,7 @@ impl Next {
     }
 }
 
-/// Tells what the connector has, for which `accounts` has places.
+/// Reports what the connector has, for which `accounts` has places.
 fn report<C: Ledger, D: Ledger, M: Minutes, L>(
     rt: &impl Wait,
     common: &Common<'_, C, D, L>,
@@ -516,7 +517,7 @@ fn obey<C: Ledger, D: Ledger, M: Minutes, L: AwaitListener>(
     }
 }
 
-/// Makes the threads of a connector in a scope, wherever too few of them accept, until none is left. Each period it tells
+/// Makes the threads of a connector in a scope, whenever too few of them accept, until none is left. Each period it reports
 /// what the connector has, for which `accounts` has places.
 fn make_threads<
     's,
@@ -576,7 +577,7 @@ where
     });
 }
 
-/// What a connector came to: what is owed, or its fault. What the desk has of each account is noted in any case.
+/// The result of a connector: what is owed, or its fault. What the desk has of each account is noted in any case.
 fn gathered<C: Ledger, D: Ledger>(
     alloc: Global,
     desk: &mut HopDesk<C, D, Global>,
@@ -584,8 +585,10 @@ fn gathered<C: Ledger, D: Ledger>(
     served: Result<(), TransferError>,
     accounts: &mut [AccountTotals],
 ) -> Result<Owed, TransferError>
+    requires { IfErr served IsOfConnector }
     ensures noted { AreTotalsOf desk.old.hop accounts.new }
     ensures fault { IfErr served (λ e. result ≡ Err e) }
+    ensures faults { IfErr result IsOfConnector }
     ensures owed { IfOk result (λ owed. (owed.claims ≡ sum desk.old.hop.claims) × (owed.dues ≡ sum desk.old.hop.dues)) }
 {
     note(desk.hop(), accounts);
@@ -606,7 +609,8 @@ fn common_of<'a, C: Ledger, D: Ledger, L>(
     terms: ConnectTerms<'a>,
     is_asked: bool,
 ) -> Result<Common<'a, C, D, L>, TransferError>
-    ensures { IfOk result (λ common. common.crew.workers ≡ terms.entry.workers) }
+    ensures workers { IfOk result (λ common. common.crew.workers ≡ terms.entry.workers) }
+    ensures refused { IfErr result IsOfConnector }
 {
     let shares = desk.shares().map_err(TransferError::Desk)?;
     let counts = Counts::new(alloc, terms.tokens.len())?;
@@ -654,6 +658,7 @@ where
     requires claims { (claims.name ≡ C.name) × (claims.parts ≡ C.parts) × (claims.parts ≡ 64) }
     requires dues { (dues.name ≡ D.name) × (dues.parts ≡ D.parts) × (dues.parts ≡ 64) }
     ensures accounts { vec_len result.accounts ≡ vec_len accounts }
+    ensures faults { IfErr result.result IsOfConnector }
     ensures workers { result.workers ≡ terms.entry.workers }
 {
     let workers = terms.workers;
@@ -716,34 +721,34 @@ where
 /// Runs a connector: answers requests that arrive at `listener`, over ILP over HTTP (RFC 0035, the synchronous mode), by
 /// the rules of `hop` (RFC 0027), which may have books of an earlier one. `rt` is the network of the listener and of the
 /// links to neighbours, and has the threads and the time. `terms` says how many requests are answered, by how many threads,
-/// and where the accounts are reached.
+/// and at which addresses the accounts are reached.
 ///
-/// Each thread accepts a connection, serves one request on it, and waits for the answer of the neighbour where the
-/// request is a Prepare that is forwarded. Wherever fewer threads than `terms.workers` wait for a connection, one more
+/// Each thread accepts a connection, serves one request on it, and waits for the answer of the neighbour if the
+/// request is a Prepare that is forwarded. Whenever fewer threads than `terms.workers` wait for a connection, one more
 /// is made, up to 1,024 and `terms.workers` in all. A thread that is done waits for the next connection, unless
-/// `terms.workers` and 16 more threads do, or `terms.workers` where it could not connect to its neighbour. An account may
-/// have as many exchanges at once as are left of 1,024 threads with a connection. A Prepare beyond them that would be
-/// forwarded is answered with T00 at once, and counted; so is one where no further thread can be made and none waits for a
+/// `terms.workers` and 16 more threads do, or `terms.workers` if it could not connect to its neighbour. An account may have
+/// at most N exchanges at once, if N are left of 1,024 threads with a connection. A Prepare beyond them that would be
+/// forwarded is answered with T00 at once, and counted; so is one if no further thread can be made and none waits for a
 /// connection.
 ///
 /// With a `till`, what a Fulfill books is committed there before the Fulfill is passed back, each booking once. A Fulfill
-/// that was not stored is answered with T01 in its place. Where the books refused the commit that had it, nobody knows, and the
+/// that was not stored is answered with T01 in its place. If the books refused the commit that had it, nobody knows, and the
 /// connection is closed without an answer. The till has to be for `MOST_THREADS`. Without one, what is booked is in memory alone.
 ///
-/// A thread to which the listener gives no connection 100 times in a row ends where others wait for one, and no further
+/// A thread to which the listener gives no connection 100 times in a row ends if others wait for one, and no further
 /// thread is made in its place until one of them has a connection.
 ///
-/// Fails with `Accept` where that is the last thread that waits, and none has a connection; with `NoMemory` where memory
+/// Fails with `Accept` if that is the last thread that waits, and none has a connection; with `NoMemory` if memory
 /// is refused, or not one thread can be made; with `Books` and the number of the books once they refused a booking. Then
-/// no further request is served: the listener is shut, and connections that no thread took are closed. A Prepare that a
-/// thread has by then is answered with T00 where it was not sent on, and else as its exchange ends. A listener without a
+/// no further request is served: the listener is shut, and connections that no thread accepted are closed. A Prepare that a
+/// thread has by then is answered with T00 if it was not sent on, and otherwise as its exchange ends. A listener without a
 /// file descriptor is not shut: each thread that waits at it ends once it gives a connection or an error.
 ///
-/// `minutes` is told each period of the terms, by the thread that calls, what the accounts have then. Meanwhile no thread
-/// is made, so that it is to take little time. Where it may ask for something, that is looked for each 200 milliseconds, and
+/// Each period of the terms, the thread that calls reports to `minutes` what the accounts have then. Meanwhile no thread
+/// is made, so `minutes` has to be quick. If it may ask for something, it is asked each 200 milliseconds, and
 /// one thread at a time waits for a connection, for no longer. Once it asks for a stop, the listener is shut, no further
-/// connection is accepted, and those that threads have are finished. That is no fault. Once it asks for a pause, the listener stays
-/// as it is, and connections wait there.
+/// connection is accepted, and those that threads have are finished. That is not a fault. Once it asks for a pause, the listener
+/// stays as it is, and connections wait there.
 ///
 /// The call ends with its threads. The totals of the accounts, and how their Prepares ended, are given whatever the result
 /// is.
@@ -760,6 +765,7 @@ where
     R::Stream: Send,
     R::Listener: AwaitListener + Send + Sync,
     ensures accounts { (vec_len result.accounts ≡ length terms.entry.tokens.now) ⊎ (result.result ≡ Err NoMemory) }
+    ensures faults { IfErr result.result IsOfConnector }
     ensures workers { result.workers ≡ terms.entry.workers }
 {
     match places(alloc, terms.tokens.len()) {

@@ -31,7 +31,7 @@ pub(crate) enum Fate {
     Fulfilled,
     /// A Reject of a later node was passed back.
     Rejected([u8; 3]),
-    /// It was sent on, and the hop answered with its own Reject: no answer came back, or none that could be passed back.
+    /// It was sent on, and the hop answered with its own Reject: no answer arrived, or none that could be passed back.
     Lost([u8; 3]),
     /// It was not sent on.
     Refused([u8; 3]),
@@ -55,7 +55,7 @@ pub struct AccountCounts {
     pub fulfilled: u64,
     /// Those for which a later node's Reject was passed back.
     pub rejected: u64,
-    /// Those that were sent on, and then answered with the hop's own Reject: no answer came back in time, or none that
+    /// Those that were sent on, and then answered with the hop's own Reject: no answer arrived in time, or none that
     /// could be passed back.
     pub lost: u64,
     /// Those that were not sent on.
@@ -110,7 +110,7 @@ fn rejected_as(came: Came, code: [u8; 3]) -> Fate
     }
 }
 
-/// How a Prepare ended that was answered with these bytes. `None` where they are no answer.
+/// How a Prepare ended that was answered with these bytes. `None` if they are not a valid answer.
 fn fate_of(came: Came, answer: &[u8]) -> Option<Fate>
     ensures { result ≡ spec.fate_of came (answer_at answer.now) }
 {
@@ -131,7 +131,7 @@ fn rank(account: usize, code: [u8; 3]) -> u128
         + u128::from(code[2])
 }
 
-/// Where a code is in codes that are in order, or would be.
+/// The place at which a code is in codes that are in order, or would be.
 #[derive(Clone, Copy, Debug, PartialEq, Eq)]
 enum Found {
     /// It has this entry at this place.
@@ -157,7 +157,7 @@ fn find(codes: &[CodeCount], rank_of: u128) -> Found
     Found::Missing(codes.len())
 }
 
-/// Counts one Reject of this code more. A code without an entry gets one only where it `may` have one, and there is memory.
+/// Counts one Reject of this code more. A code without an entry gets one only if it `may` have one, and there is memory.
 fn count_code(codes: &mut Vec<CodeCount>, account: usize, code: [u8; 3], may: bool) -> Entry
     ensures counted { spec.CountsCode account code result codes.old.items codes.new.items }
     ensures first { result ≡ Entry.First → IsTrue may }
@@ -236,7 +236,7 @@ impl Counts {
         }
     }
 
-    /// No counts yet, for so many accounts.
+    /// No counts yet, for this number of accounts.
     pub fn new(alloc: Global, accounts: usize) -> Result<Counts, AllocError>
         ensures { IfOk result (λ c. (c.accounts.items ≡ replicate accounts spec.no_counts) × (c.codes.items ≡ [])) }
     {
@@ -277,7 +277,7 @@ impl Counts {
     }
 }
 
-// Each function here that takes the lock lets it go before it returns.
+// Each function here that acquires the lock releases it before it returns.
 
 /// Counts a Prepare of this account that was answered with these bytes.
 pub(crate) fn count_answer(

@@ -1,6 +1,7 @@
 //! The threads of a connector: a lock on their roster, and what wakes those that wait for a change of it.
 
-ghost use Rattle.std.specs.Prelude.{◌≡◌, IfOk};
+ghost use Rattle.std.specs.Prelude.{◌≡◌, IfOk, IfSome};
+ghost use Rattle.st_transfer.specs.Crew.{IsOfConnector};
 
 use crate::error::TransferError;
 use crate::roster::{Failed, Leave, Roster};
@@ -17,7 +18,7 @@ const RETRY_SECONDS: u64 = 1;
 pub(crate) enum Wanted {
     /// One more thread is to be made, for which a request is claimed.
     Thread,
-    /// A moment has come.
+    /// The given moment has passed.
     Moment,
     /// No thread is left.
     Nothing,
@@ -48,11 +49,11 @@ pub(crate) struct CrewEnded {
     pub(crate) fault: Option<TransferError>,
 }
 
-// Each function here that takes the lock lets it go before it returns.
+// Each function here that acquires the lock releases it before it returns.
 
 impl Crew {
-    /// No threads yet, for a given number of requests or for any, and so many accounts. At any time `workers` threads are to
-    /// accept.
+    /// No threads yet, for a given number of requests or for any, and for `accounts` accounts. At any time `workers` threads
+    /// are to accept.
     pub(crate) fn new(
         alloc: Global,
         requests: Option<u64>,
@@ -71,7 +72,7 @@ impl Crew {
     }
 
     /// Waits until one more thread is to be made, for which a request is claimed, until no thread is left, or for a moment,
-    /// where there is one. The moment goes first: where threads cannot be made, it comes all the same.
+    /// if one is given. The moment has precedence: it is reported even if threads cannot be made.
     pub(crate) fn wants<R: Wait + Clock>(&self, rt: &R, moment: Option<Instant>) -> Wanted {
         let mut roster = self.roster.lock(rt);
         for _ in rt.forever() {
@@ -93,8 +94,8 @@ impl Crew {
         unreachable!()
     }
 
-    /// Stops the connector: no further thread takes a connection, and those that have one finish. Each that accepts is to be
-    /// woken.
+    /// Stops the connector: no further thread accepts a connection, and those that have one finish. Each that accepts is to
+    /// be woken.
     pub(crate) fn stop(&self, rt: &impl Wait) {
         self.roster.lock(rt).stop();
         self.changed.notify_one();
@@ -106,7 +107,7 @@ impl Crew {
         self.roster.lock(rt).is_stopped()
     }
 
-    /// A thread that accepts looks whether it is to go on. It is not where the connector is stopped.
+    /// A thread that accepts asks whether it is to continue. It is not if the connector is stopped.
     pub(crate) fn rest(&self, rt: &impl Wait) -> bool {
         let goes_on = self.roster.lock(rt).rest();
         if !goes_on {
@@ -121,7 +122,7 @@ impl Crew {
     }
 
     /// Gives the request of a thread back that could not be made, and waits until a thread reports something, for a
-    /// second at most. Where there is no other thread, no request is served.
+    /// second at most. If there is no other thread, no request is served.
     pub(crate) fn do_without<R: Wait + Clock>(&self, rt: &R) {
         let mut roster = self.roster.lock(rt);
         roster.give_up();
@@ -138,7 +139,7 @@ impl Crew {
         self.relieved.notify_all();
     }
 
-    /// A thread has a connection. Answers what `may_send` asks; `None` where the thread is to end.
+    /// A thread has a connection. Answers what `may_send` asks; `None` if the thread is to end.
     pub(crate) fn take(&self, rt: &impl Wait) -> Option<u64> {
         let needed = self.roster.lock(rt).take();
         self.changed.notify_one();
@@ -153,16 +154,18 @@ impl Crew {
         self.relieved.notify_all();
     }
 
-    /// A thread meets a fault as it accepts. Where all are to end, no further request is served: each thread that accepts is
+    /// A thread meets a fault as it accepts. If all are to end, no further request is served: each thread that accepts is
     /// to be woken.
-    pub(crate) fn fail(&self, rt: &impl Wait, fault: TransferError) -> Failed {
+    pub(crate) fn fail(&self, rt: &impl Wait, fault: TransferError) -> Failed
+        requires { IsOfConnector fault }
+    {
         let failed = self.roster.lock(rt).fail(fault);
         self.changed.notify_one();
         self.relieved.notify_all();
         failed
     }
 
-    /// A thread is done with its connection, of which the request `reached` its neighbour where it was to be sent on, for the
+    /// A thread is done with its connection, of which the request `reached` its neighbour if it was to be sent on, for the
     /// account `sent_for`. Whether the thread is to accept the next one.
     pub(crate) fn finish(&self, rt: &impl Wait, sent_for: Option<usize>, reached: bool) -> bool {
         let goes_on = self.finish_one(rt, sent_for, reached);
@@ -204,7 +207,8 @@ impl Crew {
 
     /// How many threads were to accept, how many requests were not sent to a neighbour, and the first fault.
     pub(crate) fn ended(self) -> CrewEnded
-        ensures { result.workers ≡ self.workers }
+        ensures workers { result.workers ≡ self.workers }
+        ensures fault { IfSome result.fault IsOfConnector }
     {
         let Crew {
             workers,
@@ -212,17 +216,11 @@ impl Crew {
             ..
         } = self;
         let roster = roster.into_inner();
-        let unserved = roster.unserved();
-        let Roster {
-            overloaded,
-            fault,
-            ..
-        } = roster;
         CrewEnded {
             workers,
-            overloaded,
-            unserved,
-            fault,
+            overloaded: roster.overloaded,
+            unserved: roster.unserved(),
+            fault: roster.why(),
         }
     }
 }

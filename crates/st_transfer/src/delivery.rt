@@ -29,7 +29,7 @@ pub(crate) enum Delivered {
     Whole,
 }
 
-/// What can be read on stream 1 next: nothing yet where it is not open. Fails with `NoMemory` alone, where memory is
+/// What can be read on stream 1 next: nothing yet if it is not open. Fails only with `NoMemory`, if memory is
 /// refused.
 fn next_of(end: &mut EndState<Global>) -> Result<Got<Global>, EndError>
     ensures gave { IfOk result (λ got. Gives end.old (got_seen got) end.new) }
@@ -43,7 +43,7 @@ fn next_of(end: &mut EndState<Global>) -> Result<Got<Global>, EndError>
 }
 
 /// Reads all that can be read on stream 1, and writes it to the output and flushes it. `written` is the number of bytes
-/// written so far. Each call of the stream or the writer takes one of `turns`.
+/// written so far. Each call of the stream or the writer uses up one of `turns`.
 pub(crate) fn deliver<W: Write>(
     end: &mut EndState<Global>,
     writer: &mut Counting<W>,

@@ -1,9 +1,9 @@
-//! What a transfer comes to.
+//! The result of a transfer.
 
 use crate::error::TransferError;
 use st_end::Totals;
 
-/// What `send_on` or `receive_on` came to.
+/// The result of `send_on` or `receive_on`.
 #[derive(Clone, Copy, Debug, PartialEq, Eq)]
 pub struct Ended {
     /// The number of bytes of the input that were sent, or of the output that were written; or why not all were.

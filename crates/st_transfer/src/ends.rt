@@ -13,7 +13,7 @@ use st_keys::Keys;
 use st_sender::EndConfig;
 use std::alloc::Global;
 
-/// Makes an end of this role. Fails with `NoMemory` alone, where memory is refused.
+/// Makes an end of this role. Fails with `NoMemory` alone, if memory is refused.
 fn end_of(
     alloc: Global,
     role: Role,
@@ -34,7 +34,7 @@ fn end_of(
 /// `secret`, which both ends share. `own` and `peer` are the ILP addresses of the two ends (RFC 0015), and `config` has
 /// the limits of this end.
 ///
-/// Fails with `NoMemory` where memory is refused, and for no other reason.
+/// Fails with `NoMemory` if memory is refused, and for no other reason.
 pub fn client_end(
     alloc: Global,
     secret: [u8; 32],
@@ -55,7 +55,7 @@ pub fn client_end(
 /// of `secret`, which both ends share. `own` and `peer` are the ILP addresses of the two ends (RFC 0015), and `config`
 /// has the limits of this end.
 ///
-/// Fails with `NoMemory` where memory is refused, and for no other reason.
+/// Fails with `NoMemory` if memory is refused, and for no other reason.
 pub fn server_end(
     alloc: Global,
     secret: [u8; 32],

@@ -25,7 +25,7 @@ pub enum TransferError {
     /// The listener gave no connection.
     #[error("no connection could be accepted")]
     Accept,
-    /// The allowed number of connections, or of the workers' turns, was used up.
+    /// The allowed number of connections, or of the workers' rounds, was used up.
     #[error("the turns were used up")]
     Turns,
     /// No valid request arrived for as long as the receiver's patience lasts.
@@ -73,7 +73,7 @@ impl TransferError {
         }
     }
 
-    /// The number that a wrapped error carries, for example the bytes written before it. `None` where there is none.
+    /// The number that a wrapped error carries, for example the bytes written before it. `None` if there is none.
     pub fn inner(&self) -> Option<u64>
         ensures { result ≡ errors.inner self.now }
     {

@@ -11,10 +11,10 @@ use std::io::{ErrorKind, Read};
 use std::sync::Wait;
 use std::time::Duration;
 
-/// For how many milliseconds the feeding thread sleeps at most where the ring is full and no worker wakes it.
+/// For how many milliseconds the feeding thread sleeps at most if the ring is full and no worker wakes it.
 const REST: u64 = 1_000;
 
-/// A reader that gives an error once the workers were asked to stop, even where input is left.
+/// A reader that gives an error once the workers were asked to stop, even if input is left.
 #[derive(Drop)]
 pub(crate) struct Until<'a, I, N: HubName<Global>> {
     pub(crate) input: I,
@@ -33,8 +33,8 @@ impl<I: Read, N: HubName<Global>> Read for Until<'_, I, N> {
     }
 }
 
-/// The ring of the stream as a sink that wakes a worker where it took something, and sleeps where the ring is full, until
-/// a worker makes room. Once the workers were asked to stop, it takes nothing any more: what it took reached the ring.
+/// The ring of the stream as a sink that wakes a worker if it accepted something, and sleeps if the ring is full, until
+/// a worker makes room. Once the workers were asked to stop, it accepts no more: what it had accepted reached the ring.
 #[derive(Drop)]
 pub(crate) struct Inlet<'a, N: HubName<Global>, R: Wait + std::time::Clock> {
     pub(crate) rt: &'a R,

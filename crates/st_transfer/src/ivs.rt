@@ -9,7 +9,7 @@ use st_oer::Counted;
 use std::io::Read;
 use std::sync::{Mutex, Wait};
 
-/// A source of IVs of 12 bytes each, read from a reader such as a device of random bytes. It gives none where the
+/// A source of IVs of 12 bytes each, read from a reader such as a device of random bytes. It gives none if the
 /// reader fails, or ends before the twelfth byte.
 #[derive(Drop)]
 pub struct ReaderIvs<G> {

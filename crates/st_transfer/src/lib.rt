@@ -2,8 +2,9 @@
 //!
 //! `receive_on` answers the requests that arrive at a listener from one end of a connection, and writes to an output
 //! what its peer sends on stream 1. `connector_on` answers requests from a hop that many threads serve, each with links of
-//! its own to the neighbours, and books at a till where it is given one. `send_on` sends an input with money on stream 1, by workers that share one hub.
-//! Each returns a `TransferError` where it fails, of which `number` gives the program's fault. Each also reports the
+//! its own to the neighbours, and books at a till if it is given one. `send_on` sends an input with money on stream 1, by
+//! workers that share one hub.
+//! Each returns a `TransferError` if it fails, of which `number` gives the program's fault. Each also reports the
 //! totals of its end or of its accounts.
 #![tactic(auto)]
 

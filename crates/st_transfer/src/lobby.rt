@@ -30,7 +30,7 @@ const MOST_GUESTS: usize = 256;
 /// The most bytes of one read.
 const PIECE: usize = 16_384;
 
-/// How far a request has come.
+/// How far a request has been read.
 #[derive(Clone, Copy, Debug, PartialEq, Eq)]
 enum Step {
     /// It is not whole yet.
@@ -38,14 +38,14 @@ enum Step {
     Whole,
     /// It is refused by this status.
     Refused(u16),
-    /// It will not come: the connection ended, failed, or its time or its I/O calls are used up, or memory is refused.
+    /// It will not arrive: the connection ended, failed, or its time or its I/O calls are used up, or memory is refused.
     Gone,
 }
 
 /// A connection, and what has arrived of its request.
 #[derive(Drop)]
 pub(crate) struct Guest<'a, S, R: Clock> {
-    /// By which `poll` waits for it, where it can.
+    /// The descriptor by which `poll` waits for it, if it has one.
     descriptor: Option<i32>,
     /// The address of its other side.
     from: SocketAddr,
@@ -117,8 +117,8 @@ struct Ready {
     guest: Option<usize>,
 }
 
-/// A listener, and the connections of it on which a request is on its way. None of them holds up another: one is read
-/// where something has arrived on it, or its time is over.
+/// A listener, and the connections of it on which a request is on its way. None of them delays another: one is read
+/// if something has arrived on it, or its time is over.
 #[derive(Drop)]
 pub(crate) struct Lobby<'a, L: AwaitListener, R: Clock> {
     rt: &'a R,
@@ -132,9 +132,9 @@ pub(crate) struct Lobby<'a, L: AwaitListener, R: Clock> {
     left: u64,
     /// The oldest first.
     guests: Vec<Guest<'a, L::Stream, R>>,
-    /// Where the search for a connection that can be read begins, so that each has its turn.
+    /// The place at which the search for a readable connection begins, so that each is served in turn.
     from: usize,
-    /// Where connections are told on which no request came.
+    /// The log to which connections without a request are reported.
     log: Log<'a>,
 }
 
@@ -142,7 +142,7 @@ impl<'a, L: AwaitListener, R: Clock> Lobby<'a, L, R>
 where
     L::Stream: Read + Write + OpenStream,
 {
-    /// No connection yet. At most `turns` are accepted, and each may take as many I/O calls.
+    /// No connection yet. At most `turns` are accepted, and each may use at most that number of I/O calls.
     pub(crate) fn new(
         rt: &'a R,
         alloc: Global,
@@ -210,7 +210,7 @@ where
         None
     }
 
-    /// What can be done at a listener that `poll` knows nothing of: its one connection is read until its request came.
+    /// What can be done at a listener that `poll` knows nothing of: its one connection is read until its request has arrived.
     fn unpolled(&self) -> Ready
         ensures guest { IfSome result.guest (λ i. i < vec_len self.now.guests) }
         ensures accept { IsTrue result.accept → 0 < self.now.left }
@@ -222,7 +222,7 @@ where
         }
     }
 
-    /// Waits until a connection can be accepted or read, its time is over, or a period is. Fails with `Silent` where the
+    /// Waits until a connection can be accepted or read, its time is over, or a period is. Fails with `Silent` if the
     /// patience is over before.
     fn wait(&self, patience: &Patience, period: Option<Duration>) -> Result<Ready, TransferError>
         ensures silent { IfErr result (λ e. (e ≡ Silent) × IsSome patience.now.time) }
@@ -255,7 +255,7 @@ where
         })
     }
 
-    /// Accepts a connection. Where that fails, and other connections take file descriptors and memory, the oldest of them
+    /// Accepts a connection. If that fails, and other connections use file descriptors and memory, the oldest of them
     /// is closed.
     fn accept(&mut self, patience: &Patience) -> Result<(), TransferError>
         requires { 0 < self.old.left }
@@ -314,7 +314,7 @@ where
         shut(self.listener);
     }
 
-    /// Reads what has arrived on a connection, and gives it once its request has come whole.
+    /// Reads what has arrived on a connection, and gives it once its request has arrived intact.
     fn read(&mut self, place: usize) -> Option<Guest<'a, L::Stream, R>>
         requires { place < vec_len self.old.guests }
         ensures left { self.new.left ≡ self.old.left }
@@ -340,11 +340,11 @@ where
         }
     }
 
-    /// Waits for the next connection on which a request has come whole. Those whose request is refused are answered by its
-    /// status. `idle` is told each period meanwhile.
+    /// Waits for the next connection on which a request has arrived intact. Those whose request is refused are answered by
+    /// its status. `idle` is called each period meanwhile.
     ///
-    /// Fails with `Accept` where the listener gives no connection 100 times in a row; with `Silent` where no request came
-    /// for as long as the patience lasts; with `Turns` where no further connection may be accepted and none is left, as once
+    /// Fails with `Accept` if the listener gives no connection 100 times in a row; with `Silent` if no request arrived
+    /// for as long as the patience lasts; with `Turns` if no further connection may be accepted and none is left, as once
     /// `idle` says that it is stopped.
     pub(crate) fn next<V: Watch>(
         &mut self,

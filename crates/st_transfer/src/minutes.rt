@@ -1,4 +1,4 @@
-//! What is told of a connector while it runs.
+//! The reports of a connector while it runs.
 
 use crate::accounts::{AccountTotals, note};
 use crate::counts::{Counts, counts_now};
@@ -15,7 +15,7 @@ pub enum Order {
     Nothing,
     /// Something that was done by whoever gives the order. More may follow.
     Done,
-    /// To tell what it has of its accounts, as each period.
+    /// To report what it has of its accounts, as each period.
     Report,
     /// To accept no further connection, to finish those that it has, and to end then.
     Stop,
@@ -23,24 +23,25 @@ pub enum Order {
     Pause,
 }
 
-/// Something that is told each period what a connector has of its accounts, while it runs, and that may ask it for something.
+/// Receives the reports that a connector makes each period of its accounts, while it runs, and may ask the connector for
+/// something.
 pub trait Minutes {
-    /// Whether the connector may be asked for something. Then it looks for the next order each 200 milliseconds.
+    /// Whether the connector may be asked for something. Then it checks for the next order each 200 milliseconds.
     fn is_asked(&self) -> bool {
         false
     }
 
-    /// The next thing that the connector is asked for. It is not to wait. No lock is held meanwhile, but no thread is made.
+    /// The next thing that the connector is asked for. It is not to wait. No lock is kept meanwhile, but no thread is made.
     fn next_order(&mut self) -> Order {
         Order::Nothing
     }
 
     /// A period is over. `totals` and `counts` are copies, by the account's place, and `overloaded` is how many Prepares
-    /// were answered with T00 because too many threads were busy. No lock is held meanwhile, but no thread is made.
+    /// were answered with T00 because too many threads were busy. No lock is kept meanwhile, but no thread is made.
     fn minute(&mut self, totals: &[AccountTotals], counts: &Counts, overloaded: u64);
 }
 
-/// Nothing is told.
+/// Reports nothing, and asks for nothing.
 #[derive(Clone, Copy, Debug, PartialEq, Eq)]
 pub struct NoMinutes;
 
@@ -48,7 +49,7 @@ impl Minutes for NoMinutes {
     fn minute(&mut self, _: &[AccountTotals], _: &Counts, _: u64) {}
 }
 
-// Each function here that takes a lock lets it go before it returns.
+// Each function here that acquires a lock releases it before it returns.
 
 fn note_now<C: Ledger, D: Ledger>(
     rt: &impl Wait,
@@ -58,7 +59,7 @@ fn note_now<C: Ledger, D: Ledger>(
     note(desk.lock(rt).hop(), totals);
 }
 
-/// Tells what a connector has now, for which `totals` has places. Nothing is told where memory for a copy is refused.
+/// Reports what a connector has now, for which `totals` has places. Reports nothing if memory for a copy is refused.
 pub(crate) fn tell_minute<C: Ledger, D: Ledger, M: Minutes>(
     rt: &impl Wait,
     alloc: Global,

@@ -1,6 +1,6 @@
-//! Where a neighbour is reached.
+//! The addresses of neighbours.
 
-ghost use Rattle.std.specs.Prelude.{◌≡◌, ◌↔◌, IsTrue, IsSome, IfSome};
+ghost use Rattle.std.specs.Prelude.{◌≡◌, ◌↔◌, IsTrue, IsNone, IsSome, IfOk, IfSome, MatchOption, Some, slice_get};
 ghost use Rattle.st_http.specs.Texts as texts;
 
 use st_desk::Link;
@@ -24,7 +24,7 @@ pub struct Neighbour<'a> {
 }
 
 impl<'a> Neighbour<'a> {
-    /// Makes a neighbour. Returns `None` where one of the two texts may not stand in a request: each is to have 1 to
+    /// Makes a neighbour. Returns `None` if one of the two texts may not be written in a request: each is to have 1 to
     /// 255 characters from 0x21 to 0x7e (`st_http::is_field_text`).
     pub fn new(host: &'a str, token: &'a str) -> Option<Neighbour<'a>>
         ensures taken { IsSome result ↔ (IsTrue (texts.is_field_text host.now) × IsTrue (texts.is_field_text token.now)) }
@@ -46,11 +46,14 @@ pub(crate) fn link_to<'n, N: Net + Clock>(
     net: &'n N,
     neighbour: Neighbour<'_>,
     turns: u64,
-) -> Result<HttpLink<'n, N, Global>, AllocError> {
+) -> Result<HttpLink<'n, N, Global>, AllocError>
+    ensures neighbour { IfOk result (λ l. l.neighbour ≡ Some (record { host = neighbour.entry.host.now; token = neighbour.entry.token.now })) }
+    ensures turns { IfOk result (λ l. l.turns ≡ turns) }
+{
     HttpLink::new(alloc, alloc, net, neighbour.host, neighbour.token, turns)
 }
 
-/// What the links of a connector share: where each account is reached, and to which address its host's name was
+/// What the links of a connector share: the host at which each account is reached, and the address to which its name was
 /// resolved last.
 #[derive(Drop)]
 pub(crate) struct Neighbourhood<'a> {
@@ -77,6 +80,13 @@ impl<'a> Neighbourhood<'a> {
         })
     }
 
+    /// The neighbour of an account: the one at its place, if there is one.
+    fn way(&self, account: usize) -> Option<Neighbour<'a>>
+        ensures { MatchOption (slice_get self.now.neighbours.now account) (IsNone result) (λ n. result ≡ n) }
+    {
+        self.neighbours.get(account).copied().flatten()
+    }
+
     /// The address at which an account was reached last.
     fn address(&self, rt: &impl Wait, account: usize) -> Option<SocketAddr> {
         let addresses = self.addresses.lock(rt);
@@ -91,7 +101,7 @@ impl<'a> Neighbourhood<'a> {
         }
     }
 
-    /// One exchange with the neighbour behind an account, over a link of its own, and why it brought no answer.
+    /// One exchange with the neighbour of an account, over a link of its own, and why it brought no answer.
     pub(crate) fn exchange<R: Net + Wait + Clock>(
         &self,
         rt: &R,
@@ -100,10 +110,10 @@ impl<'a> Neighbourhood<'a> {
         bytes: &[u8],
         by: Moment,
     ) -> (Outcome<Global>, Option<LinkCause>) {
-        let Some(Some(neighbour)) = self.neighbours.get(account) else {
+        let Some(neighbour) = self.way(account) else {
             return (Outcome::Fault, Some(LinkCause::Unreached(Unreached::Other)));
         };
-        let Ok(mut link) = link_to(alloc, rt, *neighbour, self.turns) else {
+        let Ok(mut link) = link_to(alloc, rt, neighbour, self.turns) else {
             return (Outcome::Fault, Some(LinkCause::NoMemory));
         };
         link.set_address(self.address(rt, account));

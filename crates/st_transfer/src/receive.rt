@@ -35,7 +35,7 @@ fn serve_guest<S: Read + Write + OpenStream + Drop, R: std::time::Clock, K: Cloc
     guest.answer(receiver.alloc, receiver);
 }
 
-/// Takes requests and writes what arrives, until the stream ended.
+/// Answers requests and writes what arrives, until the stream ended.
 fn receive_all<L: AwaitListener, R: std::time::Clock, W: Write, K: Clock, V: Watch>(
     rt: &R,
     lobby: &mut Lobby<'_, L, R>,
@@ -83,7 +83,7 @@ where
     }
 }
 
-/// Sets the stream's receive maximum, then takes requests and writes what arrives.
+/// Sets the stream's receive maximum, then answers requests and writes what arrives.
 fn receive_from<L: AwaitListener, R: std::time::Clock, W: Write, K: Clock, V: Watch>(
     rt: &R,
     lobby: &mut Lobby<'_, L, R>,
@@ -106,23 +106,23 @@ where
 }
 
 /// Runs a receiver: answers the requests with the bearer token of the terms that arrive at `listener`, one after
-/// another, over ILP over HTTP (RFC 0035, the synchronous mode). The answers come from `end`, which sends no Prepare of
+/// another, over ILP over HTTP (RFC 0035, the synchronous mode). The answers are those of `end`, which sends no Prepare of
 /// its own. The bytes that arrive on stream 1 are written to `writer` (RFC 0029): after each request what can be read
 /// then, before the next request is answered. The result is the number of bytes written, once the stream ended
 /// cleanly and the request that brought its end was answered.
 ///
-/// Up to 256 connections are read at once, so that none that is silent or slow holds up another; where one more comes,
+/// Up to 256 connections are read at once, so that none that is silent or slow delays another; if one more arrives,
 /// the oldest is closed. `clock` gives the moments at which Prepares arrive. `rt` is the runtime that measures time: a
 /// request may take 30 seconds to arrive, and no longer than the receiver's patience; its answer may be written until
 /// then, and for 5 seconds at least. A valid request is one that is answered by the end: the patience begins again once
 /// what it brought is written. After each request, stream 1 and the output together are called at most `terms.turns`
-/// times. A connection that fails, is cut off, is too slow or uses up its I/O calls ends alone. `watch` is told how far the transfer is each
-/// time that the receiver waited: for what arrives, and for a period at most.
+/// times. A connection that fails, is cut off, is too slow or uses up its I/O calls ends alone. The progress of the
+/// transfer is reported to `watch` each time that the receiver waited: for what arrives, and for a period at most.
 ///
-/// The result is `Accept` where the listener gives no connection 100 times in a row while none is open; `Silent` where no
-/// valid request arrived for as long as the patience lasts; `Turns` after the last connection, also where `watch` stopped it; `File` where the output
-/// fails or its calls are used up, and where the peer aborted the stream; `End` where `end` refuses the receive maximum,
-/// or memory to read the stream is refused. What arrived before is written.
+/// The result is `Accept` if the listener gives no connection 100 times in a row while none is open; `Silent` if no
+/// valid request arrived for as long as the patience lasts; `Turns` after the last connection, also if `watch` stopped it;
+/// `File` if the output fails or its calls are used up, and if the peer aborted the stream; `End` if `end` refuses the
+/// receive maximum, or memory to read the stream is refused. What arrived before is written.
 pub fn receive_on<
     L: AwaitListener + Drop,
     R: std::time::Clock,

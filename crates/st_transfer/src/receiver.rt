@@ -6,14 +6,14 @@ use st_end::{EndState, Received};
 use st_http::Answerer;
 use std::alloc::Global;
 
-/// An end of a connection that answers the Prepares of its peer. Where memory is refused it answers with a Reject of
-/// code T00, and where there is no memory for that either, it gives no answer.
+/// An end of a connection that answers the Prepares of its peer. If memory is refused it answers with a Reject of
+/// code T00, and if there is no memory for that either, it gives no answer.
 #[derive(Drop)]
 pub(crate) struct Receiver<K: Clock> {
     pub(crate) end: EndState<Global>,
     pub(crate) clock: K,
     pub(crate) alloc: Global,
-    /// Why the last request was refused. `None` where it was fulfilled.
+    /// Why the last request was refused. `None` if it was fulfilled.
     pub(crate) refused: Option<Refusal>,
 }
 

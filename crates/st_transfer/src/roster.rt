@@ -1,8 +1,8 @@
-//! How many threads of a connector accept, how many requests they may still take, and which of them may send.
+//! How many threads of a connector accept, how many requests they may still accept, and which of them may send.
 
-ghost use Rattle.std.specs.Prelude.{◌≡◌, ◌⊎◌, ◌+◌, ◌-◌, ◌^◌, ◌<◌, ◌↔◌, ℕ, false, true, not, is_none, replicate, slice_index, slice_set, unwrap_or, IfOk, IsNone, IsSome, IsTrue, MatchBool, None, Some};
+ghost use Rattle.std.specs.Prelude.{◌≡◌, ◌⊎◌, ◌+◌, ◌-◌, ◌^◌, ◌<◌, ◌↔◌, ℕ, false, true, not, is_none, replicate, slice_index, slice_set, unwrap_or, IfOk, IfSome, IsNone, IsSome, IsTrue, MatchBool, None, Some};
 ghost use Rattle.st_oer.specs.Faults.{count_after};
-ghost use Rattle.st_transfer.specs.Crew.{threads_of, Hires, LeavesAgain, LeavesUnserved, IsMissed, Stops, GivesUp, Wants, Begins, Takes, Leaves, IsNeeded, IsDone, GoesOn, Stays, LeavesNone, IsFailed, HasPlace, Sends, IsLeave};
+ghost use Rattle.st_transfer.specs.Crew.{threads_of, Hires, LeavesAgain, LeavesUnserved, IsMissed, Stops, GivesUp, Wants, Begins, Takes, Leaves, IsNeeded, IsDone, GoesOn, Stays, LeavesNone, IsFailed, HasPlace, Sends, IsLeave, IsOfConnector};
 ghost use Rattle.st_transfer.specs.declared.error.TransferError.TheVariants.{Books};
 
 use crate::error::TransferError;
@@ -13,8 +13,8 @@ use std::marker::Model;
 /// exchanges as are left of them, so that it leaves at least half of those that it found to others.
 pub(crate) const MOST_BUSY: u64 = 1_024;
 
-/// For how many threads a till of a connector has to be: so many may send to a neighbour at once, and store what its
-/// Fulfills book.
+/// For how many threads a till of a connector has to be: at most this number send to a neighbour at once, and store what
+/// their Fulfills book.
 pub const MOST_THREADS: usize = MOST_BUSY as usize;
 
 /// How many more threads than workers may wait for a connection, so that not every connection makes a thread.
@@ -112,18 +112,18 @@ pub(crate) struct Roster {
 }
 
 impl Model for Roster {
-    ghost use Rattle.std.specs.Prelude.{◌≡◌, ◌+◌, ◌-◌, ◌^◌, ◌≤◌, false, IsNone, IsSome, IsTrue};
+    ghost use Rattle.std.specs.Prelude.{◌≡◌, ◌+◌, ◌-◌, ◌^◌, ◌≤◌, false, IfSome, IsNone, IsSome, IsTrue};
     ghost use Rattle.st_transfer.specs.Crew as crew;
 
     ghost Value = { crew.Roster };
 
     ghost view = { λ r. record { left = r.left; coming = r.coming; accepting = r.accepting; busy = r.busy; sending = r.sending.items; spent = r.spent; unserved = r.unserved; begun = r.begun; failed = r.failed; refused = r.is_refused; endless = r.is_endless; stopped = r.is_stopped; fault = r.fault } };
 
-    ghost invariant = { λ r. (r.left + r.coming + r.accepting + r.busy + r.spent + r.unserved ≡ r.requests) × (r.coming + r.accepting + r.busy ≤ 1279) × (IsSome r.fault → r.left ≡ 0) × (IsTrue r.is_stopped → r.left ≡ 0) × (r.is_stopped ≡ false → r.unserved ≡ 0) × (IsTrue r.is_endless → (r.requests ≡ 2 ^ 64 - 1) × (IsNone r.fault → r.is_stopped ≡ false → r.spent ≡ 0)) };
+    ghost invariant = { λ r. (r.left + r.coming + r.accepting + r.busy + r.spent + r.unserved ≡ r.requests) × (r.coming + r.accepting + r.busy ≤ 1279) × (IsSome r.fault → r.left ≡ 0) × (IfSome r.fault crew.IsOfConnector) × (IsTrue r.is_stopped → r.left ≡ 0) × (r.is_stopped ≡ false → r.unserved ≡ 0) × (IsTrue r.is_endless → (r.requests ≡ 2 ^ 64 - 1) × (IsNone r.fault → r.is_stopped ≡ false → r.spent ≡ 0)) };
 }
 
 impl Roster {
-    /// No threads, a given number of requests or any, and so many accounts.
+    /// No threads, a given number of requests or any, and a given number of accounts.
     pub(crate) fn new(
         alloc: Global,
         requests: Option<u64>,
@@ -167,7 +167,7 @@ impl Roster {
         self.left > 0
     }
 
-    /// Whether there is room for one more thread, where so many are to accept.
+    /// Whether there is room for one more thread, if `workers` threads are to accept.
     fn has_room(&self, workers: u8) -> bool
         ensures { IsTrue result ↔ (threads_of self.now < 1024 + workers) }
     {
@@ -182,7 +182,7 @@ impl Roster {
         self.failed < workers && self.coming + self.accepting < workers - self.failed
     }
 
-    /// Claims a request for one more thread. False where no request is left, enough threads accept, or there is no room
+    /// Claims a request for one more thread. False if no request is left, enough threads accept, or there is no room
     /// for a thread.
     pub(crate) fn hire(&mut self, workers: u8) -> bool
         ensures hired { MatchBool result (Hires self.old self.new) (self.new ≡ self.old) }
@@ -197,8 +197,8 @@ impl Roster {
         true
     }
 
-    /// Gives the request of a thread back that could not be made. Where there is no other thread, or a fault ended all, no
-    /// request is served. To a connector that is stopped that is no fault.
+    /// Gives the request of a thread back that could not be made. If there is no other thread, or a fault ended all, no
+    /// request is served. To a connector that is stopped that is not a fault.
     pub(crate) fn give_up(&mut self)
         ensures back { 0 < self.old.coming → self.old.stopped ≡ false → IsNone self.old.fault → 0 < threads_of self.new → LeavesAgain self.old self.new }
         ensures last { 0 < self.old.coming → self.old.stopped ≡ false → IsSome self.old.fault ⊎ (threads_of self.new ≡ 0) → GivesUp self.old self.new }
@@ -244,7 +244,7 @@ impl Roster {
         }
     }
 
-    /// A thread that accepts had no connection for a while. False where it is to end: the connector is stopped.
+    /// A thread that accepts had no connection for a while. False if it is to end: the connector is stopped.
     pub(crate) fn rest(&mut self) -> bool
         ensures goes_on { result ≡ not self.old.stopped }
         ensures accepting { 0 < self.old.accepting → MatchBool result (self.new ≡ self.old) (LeavesUnserved self.old self.new) }
@@ -254,6 +254,14 @@ impl Roster {
         }
         self.leave_unserved();
         false
+    }
+
+    /// The fault that ended all: one of a connector.
+    pub(crate) fn why(&self) -> Option<TransferError>
+        ensures value { result ≡ self.now.fault }
+        ensures fault { IfSome result IsOfConnector }
+    {
+        self.fault
     }
 
     /// Whether the connector is stopped.
@@ -272,6 +280,7 @@ impl Roster {
 
     /// Leaves no request to any thread, and notes why.
     fn end(&mut self, fault: TransferError)
+        requires { IsOfConnector fault }
         ensures { LeavesNone self.old fault self.new }
     {
         self.spent += self.left;
@@ -301,7 +310,7 @@ impl Roster {
     }
 
     /// A thread has a connection. Answers how often threads are to have begun to accept before it may send to a
-    /// neighbour: once more where no other thread accepts. After a fault the thread is to end, and the answer is `None`.
+    /// neighbour: once more if no other thread accepts. After a fault the thread is to end, and the answer is `None`.
     pub(crate) fn take(&mut self) -> Option<u64>
         ensures taken { 0 < self.old.accepting → IsNone self.old.fault → Takes self.old self.new × ((needed : ℕ) × (result ≡ Some needed) × IsNeeded self.new needed) }
         ensures left { 0 < self.old.accepting → IsSome self.old.fault → Leaves self.old self.new × (result ≡ None) }
@@ -323,10 +332,11 @@ impl Roster {
         }
     }
 
-    /// A thread meets a fault as it accepts. Where the connector is stopped, it ends, and that is no fault. Where other threads accept, it ends, and its request is left again. Where none
-    /// does, it is to try again while threads have connections, which take file descriptors and memory until they end. Else
-    /// it ends, and so do all: the first fault is why.
+    /// A thread meets a fault as it accepts. If the connector is stopped, it ends, and that is not a fault. If other threads
+    /// accept, it ends, and its request is left again. If none does, it is to try again while threads have connections, which
+    /// use file descriptors and memory until they end. Otherwise it ends, and so do all: the first fault is why.
     pub(crate) fn fail(&mut self, fault: TransferError) -> Failed
+        requires { IsOfConnector fault }
         ensures { IsFailed self.old fault result self.new }
     {
         if self.fault.is_none() && self.is_stopped {
@@ -351,7 +361,7 @@ impl Roster {
     }
 
     /// A thread is done with its connection, which counts as a request whatever it brought; to an endless connector that is not
-    /// stopped the request is left again. `sent_for` is the account for which it was to send to a neighbour, where it was.
+    /// stopped the request is left again. `sent_for` is the account for which it was to send to a neighbour, if it was.
     pub(crate) fn finish(&mut self, sent_for: Option<usize>)
         ensures { 0 < self.old.busy → IsDone self.old sent_for self.new }
     {
@@ -370,9 +380,9 @@ impl Roster {
         one_less(self.sending.as_mut_slice(), account);
     }
 
-    /// Claims a request for a thread that is done with its last one. False where it is to end: no request is left, or
+    /// Claims a request for a thread that is done with its last one. False if it is to end: no request is left, or
     /// more than enough threads accept, which are fewer for a thread that did not reach its neighbour: each that accepts
-    /// takes a file descriptor.
+    /// uses a file descriptor.
     pub(crate) fn go_on(&mut self, workers: u8, reached: bool) -> bool
         ensures claimed { MatchBool result (GoesOn self.old self.new) (self.new ≡ self.old) }
         ensures kept { IsTrue result ↔ Stays workers reached self.old }
@@ -388,7 +398,7 @@ impl Roster {
         true
     }
 
-    /// Whether an account may have one exchange more: where it has fewer than places are free.
+    /// Whether an account may have one exchange more: if it has fewer than there are free places.
     fn has_place(&self, account: usize) -> bool
         ensures { IsTrue result ↔ HasPlace self.now account }
     {

@@ -41,7 +41,7 @@ use std::time::Duration;
 /// After how many failures in a row a connection fails.
 const TRIES: u32 = 200;
 
-/// The pause between two tries after a failure, where so many of them as let a connection fail are spread over these seconds.
+/// The pause between two tries after a failure, if the `TRIES` after which a connection fails are spread over these seconds.
 fn pause_of(seconds: u64) -> Duration
     ensures { as_nanos result ≡ pause_in seconds }
 {
@@ -59,7 +59,7 @@ fn bench_of<N: HubName<Global>>(hub: HubState<N, Global>, terms: &SendTerms<'_>)
     Bench::with_pause(hub, pause_of(terms.patience))
 }
 
-/// The error for why a worker ended, where it is an error.
+/// The error for why a worker ended, if it is an error.
 fn fault_of(end: WorkEnd) -> Option<TransferError>
     ensures { result ≡ outcomes.fault_of end }
 {
@@ -74,7 +74,7 @@ fn fault_of(end: WorkEnd) -> Option<TransferError>
     }
 }
 
-/// The first error of the workers, or else the last argument.
+/// The first error of the workers, or otherwise the last argument.
 fn first_fault(ends: &[WorkEnd], last: TransferError) -> TransferError
     ensures { result ≡ outcomes.first_fault ends.now last }
 {
@@ -87,7 +87,7 @@ fn first_fault(ends: &[WorkEnd], last: TransferError) -> TransferError
     }
 }
 
-/// The error of the connection, or else the first of the workers, or else the last argument.
+/// The error of the connection, or otherwise the first of the workers, or otherwise the last argument.
 fn fault_told(failed: bool, ends: &[WorkEnd], last: TransferError) -> TransferError
     ensures { result ≡ outcomes.fault_told failed ends.now last }
 {
@@ -116,7 +116,7 @@ fn told<N: HubName<Global>>(
     }
 }
 
-/// Moves the input to the ring of its stream. Where that fails, the workers are asked to stop.
+/// Moves the input to the ring of its stream. If that fails, the workers are asked to stop.
 fn feed<I: Read + Drop, N: HubName<Global>, R: Wait + std::time::Clock>(
     rt: &R,
     alloc: Global,
@@ -218,14 +218,14 @@ struct Shared<'a, N: HubName<Global>, G> {
     /// Why the workers ended, in the order in which they did.
     ends: Mutex<Vec<WorkEnd>>,
     terms: SendTerms<'a>,
-    /// Whether somebody is told how far the transfer is.
+    /// Whether somebody watches the progress of the transfer.
     is_watched: bool,
     last: Latest,
-    /// Where the thread that tells it sleeps.
+    /// Puts the thread that reports it to sleep.
     parker: Parker,
 }
 
-/// Notes why a worker ended, where there is room for that.
+/// Notes why a worker ended, if there is room for that.
 fn note_end<N: HubName<Global>, G>(rt: &impl Wait, shared: &Shared<'_, N, G>, end: WorkEnd) {
     let _ = shared.ends.lock(rt).push(end);
 }
@@ -247,7 +247,7 @@ fn totals_so_far<N: HubName<Global>>(
     }
 }
 
-/// Tells how far the transfer is, each period, until the workers are asked to stop. It takes no lock of the hub.
+/// Reports the progress of the transfer, each period, until the workers are asked to stop. It does not lock the hub.
 fn watch_beside<N: HubName<Global>, G, V: Watch + Drop, R: Wait>(
     rt: &R,
     shared: &Shared<'_, N, G>,
@@ -293,8 +293,8 @@ fn work_noting<N: HubName<Global>, G: Read, R: Net + Wait + std::time::Clock>(
     shared.parker.unpark();
 }
 
-/// Moves the input to the ring while the workers send, each in a thread of its own, and one more tells how far they are, where
-/// that is asked for. Where not as many threads can be made, fewer workers send, or nothing is told; where none can, nothing is
+/// Moves the input to the ring while the workers send, each in a thread of its own, and one more reports the progress, if
+/// that is asked for. If too few threads can be made, fewer workers send, or nothing is reported; if none can, nothing is
 /// sent. Returns how much input was moved.
 fn feed_beside<
     'a,
@@ -455,7 +455,7 @@ where
     }
 }
 
-/// The rings of a transfer's streams. Fails with `Rings` alone, where memory is refused.
+/// The rings of a transfer's streams. Fails with `Rings` alone, if memory is refused.
 fn rings_of(alloc: Global) -> Result<Rings<Global>, TransferError>
     ensures { IsOkUnless result NoRings }
 {
@@ -470,18 +470,18 @@ fn rings_of(alloc: Global) -> Result<Rings<Global>, TransferError>
 /// ILP over HTTP (RFC 0035, the synchronous mode). Gives the number of bytes sent, once the stream's close was
 /// fulfilled, and the totals of the end. A transfer that did not begin has totals of 0.
 ///
-/// - `random`: where the IVs are read from, 12 bytes for each; each Prepare is sealed under one of its own.
-/// - `input`: where it has nothing yet for some time, its read is to fail with `Interrupted`, so that a transfer whose
+/// - `random`: the source of the IVs, 12 bytes for each; each Prepare is sealed under one of its own.
+/// - `input`: if it has nothing yet for some time, its read is to fail with `Interrupted`, so that a transfer whose
 ///   connection failed ends: it is read again then, unless the workers ended.
 ///
-/// - `watch`: what is told how far the transfer is, in a thread of its own where it has a period.
+/// - `watch`: the progress of the transfer is reported to it, in a thread of its own if it has a period.
 ///
-/// Each worker has a thread. Where not as many threads can be made, fewer workers send. The call waits for them.
+/// Each worker has a thread. If too few threads can be made, fewer workers send. The call waits for them.
 ///
-/// Fails with `Failed` where the connection failed; with `Stalled` where the limits of the peer let nothing of the rest be
-/// sent, and no Prepare is in flight; with `IvFault` where `random` failed or ended; with `File` where the input was
-/// not read whole; with `Turns` where the workers' turns were used up; with `End` where the end refuses the stream or
-/// the money; with `Rings` where memory for the rings is refused; with `NoMemory` where other memory is, or no thread
+/// Fails with `Failed` if the connection failed; with `Stalled` if the limits of the peer let nothing of the rest be
+/// sent, and no Prepare is in flight; with `IvFault` if `random` failed or ended; with `File` if the input was
+/// not read whole; with `Turns` if the workers' rounds were used up; with `End` if the end refuses the stream or
+/// the money; with `Rings` if memory for the rings is refused; with `NoMemory` if other memory is, or no thread
 /// can be made.
 pub fn send_on<
     I: Read + Drop,

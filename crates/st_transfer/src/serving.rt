@@ -29,15 +29,15 @@ pub(crate) const PAUSE: u64 = 10;
 /// How many seconds there are at least to write an answer.
 pub(crate) const WRITE_SECONDS: u64 = 5;
 
-/// How many milliseconds a thread waits for a connection, where it is then to look whether it is to go on.
+/// How many milliseconds a thread waits for a connection, if it is then to ask whether it is to continue.
 const LOOK_MILLIS: i32 = 200;
 
 /// How one try to accept a connection ended.
 #[derive(Drop)]
 pub(crate) enum Tried<S> {
-    /// A connection came from this address.
+    /// A connection from this address was accepted.
     Came(S, SocketAddr),
-    /// None came in time.
+    /// There was none in time.
     Nothing,
     /// The listener failed.
     Failed,
@@ -45,14 +45,14 @@ pub(crate) enum Tried<S> {
     Shut,
 }
 
-/// Has no `accept` of a listener wait, where it has a file descriptor.
+/// Has no `accept` of a listener wait, if it has a file descriptor.
 pub(crate) fn accept_without_waits(listener: &impl AwaitListener) {
     if let Some(descriptor) = listener.descriptor() {
         os::set_nonblocking(descriptor, true);
     }
 }
 
-/// Accepts a connection, where one comes within 200 milliseconds. The listener is to be one whose `accept` does not wait, where it
+/// Accepts a connection, if one arrives within 200 milliseconds. The listener is to be one whose `accept` does not wait, if it
 /// has a file descriptor.
 pub(crate) fn accept_soon<L: AwaitListener>(listener: &L) -> Tried<L::Stream> {
     if let Some(fd) = listener.descriptor() {
@@ -79,9 +79,9 @@ pub(crate) fn accept_soon<L: AwaitListener>(listener: &L) -> Tried<L::Stream> {
     }
 }
 
-/// Accepts the next connection of a listener, and gives the address of its other side. Where that fails, for example because the process has no file descriptor
-/// left, it tries again after 10 milliseconds. Fails with `Accept` after 100 failures in a row, or 10 milliseconds after the
-/// listener was found shut.
+/// Accepts the next connection of a listener, and gives the address of its other side. If that fails, for example because the process
+/// has no file descriptor left, it tries again after 10 milliseconds. Fails with `Accept` after 100 failures in a row, or 10
+/// milliseconds after the listener was found shut.
 pub(crate) fn accept_next<L: OpenListener>(
     rt: &impl Clock,
     listener: &L,
@@ -109,7 +109,7 @@ pub(crate) fn shut(listener: &impl AwaitListener) {
     }
 }
 
-/// Reads one request from a stream, has it answered where it is valid, and writes the response.
+/// Reads one request from a stream, has it answered if it is valid, and writes the response.
 #[tactic(auto, using(crate::proofs::Unanswered::asked_served))]
 fn serve_stream<S: Read + Write, T: Answerer>(
     alloc: Global,
@@ -127,7 +127,7 @@ fn serve_stream<S: Read + Write, T: Answerer>(
     }
 }
 
-/// Reads one request from a connection, has it answered where it is valid, and writes the response (RFC 0035, the
+/// Reads one request from a connection, has it answered if it is valid, and writes the response (RFC 0035, the
 /// synchronous mode). The request may take 30 seconds, the response as long as is left of them and 5 seconds at least, and
 /// both together `turns` I/O calls. What fails on the connection ends it alone, and so does a refusal of memory for its
 /// buffer. Once the answerer has set `withheld` nothing is written. A connection on which no request was answered is reported

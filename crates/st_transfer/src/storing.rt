@@ -1,4 +1,4 @@
-//! Where a thread of a connector stores what a Fulfill books.
+//! The store in which a thread of a connector books a Fulfill.
 
 use crate::crew::Crew;
 use crate::serving::shut;
@@ -8,14 +8,14 @@ use st_desk::{Books, Fate, NoBooks, Till, deposit, refused_at};
 use std::alloc::Global;
 use std::sync::Wait;
 
-/// Where one thread of a connector stores what a Fulfill books: at a till of durable books, or in memory alone.
+/// The store in which one thread of a connector books a Fulfill: a till of durable books, or memory alone.
 #[derive(Drop)]
 pub(crate) struct Storing<'a, K: Keeper, L, R: Wait> {
     pub(crate) rt: &'a R,
     pub(crate) till: Option<&'a Till<K, Global>>,
     /// The threads of the connector, which end once the books refused a booking.
     pub(crate) crew: &'a Crew,
-    /// Where they wait for connections.
+    /// The listener at which they wait for connections.
     pub(crate) listener: &'a L,
 }
 

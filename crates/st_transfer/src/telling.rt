@@ -1,4 +1,4 @@
-//! What is told to the log.
+//! What is reported to the log.
 
 ghost use Rattle.std.specs.Prelude.{◌≡◌, IfOk, None, string_bytes};
 ghost use Rattle.std.specs.Net.Text.{socket_text};
@@ -17,7 +17,7 @@ use std::alloc::{AllocError, Global};
 use std::net::SocketAddr;
 use std::time::Clock;
 
-/// The log of a run, where it has one.
+/// The log of a run, if it has one.
 pub(crate) type Log<'a> = Option<&'a LogFile>;
 
 /// What became of the exchange of a request.
@@ -27,7 +27,7 @@ pub(crate) enum Sent {
     No,
     /// It brought a Fulfill from this account.
     Fulfilled(usize),
-    /// It brought none, and that was told.
+    /// It brought none, and that was reported.
     Unfulfilled,
 }
 
@@ -36,7 +36,7 @@ pub(crate) enum Sent {
 pub(crate) struct Refusal {
     /// The code of the Reject.
     code: [u8; 3],
-    /// The number of the reason, where there is one.
+    /// The number of the reason, if there is one.
     reason: Option<u8>,
 }
 
@@ -57,7 +57,7 @@ impl Refusal {
     }
 }
 
-/// Why an end refused a packet, by its answer and the number of its reason. `None` where that is 0.
+/// Why an end refused a packet, by its answer and the number of its reason. `None` if that is 0.
 pub(crate) fn refusal_of(answer: &[u8], reason: u8) -> Option<Refusal>
     ensures { reason ≡ 0 → result ≡ None }
 {
@@ -73,7 +73,7 @@ pub(crate) fn refusal_of(answer: &[u8], reason: u8) -> Option<Refusal>
     }
 }
 
-/// Why no connection was made, as the log tells it.
+/// Why no connection was made, as the log reports it.
 fn why_of(unreached: Unreached) -> Why
     ensures { result ≡ unreached_told unreached }
 {
@@ -86,7 +86,7 @@ fn why_of(unreached: Unreached) -> Why
     }
 }
 
-/// Why an exchange brought no answer, as the log tells it.
+/// Why an exchange brought no answer, as the log reports it.
 pub(crate) fn cause_of(cause: Option<LinkCause>) -> Cause<'static>
     ensures { result ≡ cause_told cause }
 {
@@ -101,7 +101,7 @@ pub(crate) fn cause_of(cause: Option<LinkCause>) -> Cause<'static>
     }
 }
 
-/// What became of a connection on which a response with this status was written, or none was. `None` where its request was
+/// What became of a connection on which a response with this status was written, or none was. `None` if its request was
 /// answered.
 pub(crate) fn lost_by(status: Option<u16>) -> Option<Lost>
     ensures { result ≡ lost_told status }
@@ -113,19 +113,19 @@ pub(crate) fn lost_by(status: Option<u16>) -> Option<Lost>
     }
 }
 
-/// Writes the line of an event that happens now, where there is a log. No lock of a hub or a desk is held then.
+/// Writes the line of an event that happens now, if there is a log. The thread has not locked a hub or a desk then.
 pub(crate) fn tell<R: Clock>(rt: &R, log: Log<'_>, neighbour: usize, event: &Event<'_>) {
     if let Some(journal) = log {
         journal.note(rt, moment_now(rt), neighbour, event);
     }
 }
 
-/// Tells why an exchange brought no answer.
+/// Reports why an exchange brought no answer.
 fn tell_fault<R: Clock>(rt: &R, log: Log<'_>, neighbour: usize, cause: Option<LinkCause>) {
     tell(rt, log, neighbour, &Event::Exchange(cause_of(cause)));
 }
 
-/// Why an exchange with this answer brought no Fulfill. `None` where it did.
+/// Why an exchange with this answer brought no Fulfill. `None` if it did.
 pub(crate) fn cause_in(answer: &[u8]) -> Option<Cause<'_>> {
     match read_answer(answer) {
         Ok(Answer::Fulfill { .. }) => None,
@@ -141,7 +141,7 @@ pub(crate) fn cause_in(answer: &[u8]) -> Option<Cause<'_>> {
     }
 }
 
-/// Tells of an answer that is no Fulfill. Whether it is one.
+/// Reports an answer that is not a Fulfill. Returns whether it is one.
 fn tell_answer<R: Clock>(rt: &R, log: Log<'_>, neighbour: usize, answer: &[u8]) -> bool {
     let Some(cause) = cause_in(answer) else {
         return true;
@@ -150,7 +150,7 @@ fn tell_answer<R: Clock>(rt: &R, log: Log<'_>, neighbour: usize, answer: &[u8]) 
     false
 }
 
-/// Tells what an exchange brought, where it is no Fulfill.
+/// Reports what an exchange brought, if it is not a Fulfill.
 pub(crate) fn tell_outcome<R: Clock>(
     rt: &R,
     log: Log<'_>,
@@ -172,7 +172,7 @@ pub(crate) fn tell_outcome<R: Clock>(
     Sent::Unfulfilled
 }
 
-/// Tells that a packet from a neighbour was refused here, where the answer is a Reject.
+/// Reports that a packet from a neighbour was refused here, if the answer is a Reject.
 pub(crate) fn tell_refusal<R: Clock>(
     rt: &R,
     log: Log<'_>,
@@ -185,7 +185,7 @@ pub(crate) fn tell_refusal<R: Clock>(
     }
 }
 
-/// Tells what a hop answered by itself: a Reject to an account without an exchange, or one in the place of a Fulfill.
+/// Reports what a hop answered by itself: a Reject to an account without an exchange, or one in the place of a Fulfill.
 pub(crate) fn tell_served<R: Clock>(
     rt: &R,
     log: Log<'_>,
@@ -207,14 +207,14 @@ pub(crate) fn tell_served<R: Clock>(
     }
 }
 
-/// Reports that the clock was set back by so many milliseconds, where it was.
+/// Reports that the clock was set back by this number of milliseconds, if it was.
 pub(crate) fn tell_set_back<R: Clock>(rt: &R, log: Log<'_>, set_back: Option<u64>) {
     if let Some(set_back) = set_back {
         tell(rt, log, 0, &Event::Clock { set_back });
     }
 }
 
-/// An address as IP:PORT. Fails where memory is refused.
+/// An address as IP:PORT. Fails if memory is refused.
 fn address_text(alloc: Global, address: SocketAddr) -> Result<String, AllocError>
     ensures { IfOk result (λ text. string_bytes text ≡ socket_text address) }
 {
@@ -243,7 +243,7 @@ pub(crate) fn tell_connection<R: Clock>(
     }
 }
 
-/// Tells that an end refused a packet, where it did.
+/// Reports that an end refused a packet, if it did.
 pub(crate) fn tell_refused<R: Clock>(rt: &R, log: Log<'_>, refused: Option<Refusal>) {
     if let Some(refusal) = refused {
         let code = refusal.code;
@@ -252,7 +252,7 @@ pub(crate) fn tell_refused<R: Clock>(rt: &R, log: Log<'_>, refused: Option<Refus
     }
 }
 
-/// Tells how a stream ended, where it did.
+/// Reports how a stream ended, if it did.
 pub(crate) fn tell_end<R: Clock>(
     rt: &R,
     log: Log<'_>,

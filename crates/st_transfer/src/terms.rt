@@ -15,9 +15,9 @@ pub struct SendTerms<'a> {
     pub workers: u8,
     /// Over how many seconds the tries are spread that fail in a row until the connection has failed.
     pub patience: u64,
-    /// The most turns of each worker, the most I/O calls of one exchange, and the most I/O calls for the input.
+    /// The most rounds of each worker, the most I/O calls of one exchange, and the most I/O calls for the input.
     pub turns: u64,
-    /// Where it is told what happens. `None` where that is told nowhere.
+    /// The log to which events are reported. `None` if there is none.
     pub log: Option<&'a LogFile>,
 }
 
@@ -28,11 +28,11 @@ pub struct ReceiveTerms<'a> {
     pub token: &'a str,
     /// The most units that stream 1 may be credited.
     pub receive_max: u64,
-    /// How many seconds may pass without a valid request, from 1 up. `None` where any number may.
+    /// How many seconds may pass without a valid request, from 1 up. `None` if any number may.
     pub patience: Option<u64>,
     /// The most connections that are accepted, and the most I/O calls of each.
     pub turns: u64,
-    /// Where it is told what happens. `None` where that is told nowhere.
+    /// The log to which events are reported. `None` if there is none.
     pub log: Option<&'a LogFile>,
 }
 
@@ -41,7 +41,7 @@ pub struct ReceiveTerms<'a> {
 pub struct ConnectTerms<'a> {
     /// The bearer token of each account, by the account's place. A request is that of the first account with its token.
     pub tokens: &'a [&'a str],
-    /// Where each account is reached, by the account's place. A Prepare that is forwarded to an account without a
+    /// The neighbour of each account, by the account's place. A Prepare that is forwarded to an account without a
     /// neighbour is answered with a Reject of code T01 (RFC 0027).
     pub neighbours: &'a [Option<Neighbour<'a>>],
     /// How many connections are accepted before the connector ends, each for one request, whatever it brings. `None` is any
@@ -51,8 +51,8 @@ pub struct ConnectTerms<'a> {
     pub workers: u8,
     /// The most I/O calls of one TCP stream for one request, or for one exchange with a neighbour.
     pub turns: u64,
-    /// How often it is told, while it runs, what the connector has of its accounts.
+    /// How often the connector reports, while it runs, what it has of its accounts.
     pub period: Duration,
-    /// Where it is told what happens, for neighbours up to the last account. `None` where that is told nowhere.
+    /// The log to which events are reported, for neighbours up to the last account. `None` if there is none.
     pub log: Option<&'a LogFile>,
 }

@@ -1,4 +1,4 @@
-//! What a worker of `send` tells to the log: exchanges without a Fulfill, and what the end alone finds in an answer.
+//! What a worker of `send` reports to the log: exchanges without a Fulfill, and what the end alone finds in an answer.
 
 ghost use Rattle.std.specs.Prelude.{◌≡◌};
 ghost use Rattle.st_transfer.specs.Telling.{end_told, wait_told};
@@ -17,7 +17,7 @@ use std::alloc::Global;
 use std::net::Net;
 use std::time::Clock;
 
-/// Where a worker of `send` tells what its exchanges brought. It is told nowhere where there is neither of these.
+/// The log and the watcher to which a worker of `send` reports what its exchanges brought, if there are any.
 #[derive(Clone, Copy)]
 pub(crate) struct Told<'a> {
     pub(crate) log: Log<'a>,
@@ -25,7 +25,7 @@ pub(crate) struct Told<'a> {
 }
 
 impl Told<'_> {
-    /// Tells why an exchange brought no Fulfill.
+    /// Reports why an exchange brought no Fulfill.
     fn tell<R: Clock>(&self, rt: &R, cause: Cause<'_>) {
         if let Some(last) = self.last {
             last.keep(cause.brief());
@@ -34,7 +34,7 @@ impl Told<'_> {
     }
 }
 
-/// A link of a sender. What each exchange brought is passed on as it is, and told to the log where it is no Fulfill.
+/// A link of a sender. What each exchange brought is passed on as it is, and reported to the log if it is not a Fulfill.
 #[derive(Drop)]
 pub(crate) struct ToldLink<'a, R: Net + Clock> {
     pub(crate) link: HttpLink<'a, R, Global>,
@@ -51,7 +51,7 @@ impl<R: Net + Clock> Counted for ToldLink<'_, R> {
 }
 
 impl<R: Net + Clock> ToldLink<'_, R> {
-    /// Tells what an exchange brought.
+    /// Reports what an exchange brought.
     fn tell(&self, answer: &Result<Vec<u8>, LinkFault>) {
         if self.told.log.is_none() && self.told.last.is_none() {
             return;
@@ -81,7 +81,7 @@ impl<R: Net + Clock> Link<Global> for ToldLink<'_, R> {
 /// The code of a Reject by which a packet was too large for a node (RFC 0027).
 const TOO_LARGE: [u8; 3] = *b"F08";
 
-/// The event of a Prepare that failed, where only the end knows of it: a Fulfill that does not fit, and a new packet limit.
+/// The event of a Prepare that failed, if only the end knows of it: a Fulfill that does not fit, and a new packet limit.
 fn event_of(failed: &Failed, limit: u64) -> Option<Event<'static>>
     ensures { result ≡ end_told failed.now limit }
 {
@@ -118,7 +118,7 @@ fn wait_of(blocked: Blocked) -> Event<'static>
     Event::Waits(at)
 }
 
-/// What tells the log of Prepares that failed, where the link does not, and of limits of the peer.
+/// Reports Prepares that failed to the log, if the link does not, and limits of the peer.
 #[derive(Drop)]
 pub(crate) struct ToldFlights<'a, R: Clock> {
     pub(crate) rt: &'a R,

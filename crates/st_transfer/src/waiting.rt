@@ -12,13 +12,13 @@ use std::time::{Clock, Duration, Instant};
 
 /// A listener for whose connections `poll` can wait.
 pub trait AwaitListener: OpenListener {
-    /// The listener's file descriptor. `None` where `poll` cannot wait for it: then one connection after another is
+    /// The listener's file descriptor. `None` if `poll` cannot wait for it: then one connection after another is
     /// accepted and read, and each call waits.
     fn descriptor(&self) -> Option<i32> {
         None
     }
 
-    /// The file descriptor of one of its connections. `None` where `poll` cannot wait for it.
+    /// The file descriptor of one of its connections. `None` if `poll` cannot wait for it.
     fn descriptor_of(_stream: &Self::Stream) -> Option<i32> {
         None
     }
@@ -34,7 +34,7 @@ impl AwaitListener for TcpListener {
     }
 }
 
-/// A time in whole milliseconds, rounded up, as `poll` takes it.
+/// A time in whole milliseconds, rounded up, as `poll` expects it.
 pub(crate) fn millis_of(time: Duration) -> i32
     ensures { IsWait time result }
 {
@@ -75,7 +75,7 @@ impl Patience {
         }
     }
 
-    /// What is left of it. `None` where it has no end. Fails with `Silent` where it is over, or where the clock cannot be
+    /// What is left of it. `None` if it has no end. Fails with `Silent` if it is over, or if the clock cannot be
     /// read.
     pub(crate) fn left(&self, rt: &impl Clock) -> Result<Option<Duration>, TransferError>
         ensures silent { IfErr result (λ e. (e ≡ Silent) × IsSome self.now.time) }

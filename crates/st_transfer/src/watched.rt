@@ -10,13 +10,13 @@ const FRONT: u8 = 9;
 /// The status of a response, as far as its bytes were written.
 #[derive(Clone, Copy, Debug, PartialEq, Eq)]
 struct StatusLine {
-    /// How many bytes were looked at.
+    /// How many bytes were read.
     at: u8,
     status: u16,
 }
 
 impl StatusLine {
-    /// Looks at the next byte of the response.
+    /// Reads the next byte of the response.
     fn see(&mut self, byte: u8) {
         if self.at >= FRONT {
             let digit = u16::from(byte.saturating_sub(b'0'));
@@ -25,7 +25,7 @@ impl StatusLine {
         self.at = self.at.saturating_add(1);
     }
 
-    /// Looks at the next bytes.
+    /// Reads the next bytes.
     fn see_all(&mut self, bytes: &[u8]) {
         for byte in bytes {
             if self.at >= FRONT + 3 {
@@ -36,8 +36,8 @@ impl StatusLine {
     }
 }
 
-/// A stream on which one response is written, and which keeps its status. Each call goes through as it is, but that nothing is
-/// written once the response is withheld.
+/// A stream on which one response is written, and which keeps its status. Each call is passed through as it is, but nothing
+/// is written once the response is withheld.
 #[derive(Drop)]
 pub(crate) struct Watched<'a, S> {
     stream: S,
@@ -55,7 +55,7 @@ impl<'a, S> Watched<'a, S> {
         }
     }
 
-    /// The status of the response. `None` where not so much of it was written.
+    /// The status of the response. `None` if not so much of it was written.
     pub(crate) fn status(&self) -> Option<u16> {
         if self.line.at < FRONT + 3 {
             return None;

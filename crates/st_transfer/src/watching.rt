@@ -1,4 +1,4 @@
-//! What is told of a transfer while it runs.
+//! The reports of a transfer while it runs.
 
 ghost use Rattle.std.specs.Prelude.{◌≡◌};
 ghost use Rattle.st_transfer.specs.Telling as spec;
@@ -8,15 +8,15 @@ use st_log::{Blocked, Brief};
 use std::sync::Mutex;
 use std::time::Duration;
 
-/// Something that is told how far a transfer is, while it runs.
+/// Receives reports of the progress of a transfer, while it runs.
 pub trait Watch {
-    /// How much time passes at least between two looks at a sender, and at most at a receiver. `None` where nothing is to be
-    /// told: a sender is not looked at then.
+    /// How much time passes at least between two calls of `look` for a sender, and at most for a receiver. `None` if nothing is to be
+    /// reported: then `look` is not called for a sender.
     fn period(&self) -> Option<Duration>;
 
     /// What the totals of the end are, at which limit of its peer it waits, and why the last exchange that failed did: it
-    /// brought a sender no Fulfill, or a receiver refused it. No lock is held meanwhile. A sender is looked at each period, and a receiver as often as it was
-    /// called or a period is over.
+    /// brought a sender no Fulfill, or a receiver refused it. No lock is kept meanwhile. It is called each period for a sender, and
+    /// for a receiver as often as it was called or a period is over.
     fn look(&mut self, totals: &Totals, waits: Option<Blocked>, last: Option<Brief>);
 
     /// Whether a receiver is to accept no further connection, and to end once those that it has are done.
@@ -28,7 +28,7 @@ pub trait Watch {
     fn end(&mut self);
 }
 
-/// Nothing is told.
+/// Reports nothing.
 #[derive(Clone, Copy, Debug, PartialEq, Eq)]
 pub struct NoWatch;
 
@@ -51,12 +51,12 @@ pub(crate) struct Idle<'a, V> {
 }
 
 impl<V: Watch> Idle<'_, V> {
-    /// How long it may wait before it is looked at.
+    /// How long it may wait before the next call of `look`.
     pub(crate) fn period(&self) -> Option<Duration> {
         self.watch.period()
     }
 
-    /// Tells how far the transfer is.
+    /// Reports the progress of the transfer.
     pub(crate) fn look(&mut self) {
         self.watch.look(&self.totals, None, self.last);
     }
@@ -67,7 +67,7 @@ impl<V: Watch> Idle<'_, V> {
     }
 }
 
-/// A limit of the peer that a Prepare tells.
+/// A limit of the peer that a Prepare reports.
 #[derive(Clone, Copy, Debug, PartialEq, Eq)]
 pub(crate) struct Reached {
     limit: Blocked,
@@ -75,7 +75,7 @@ pub(crate) struct Reached {
     is_sent: bool,
 }
 
-/// A limit that the next Prepare tells.
+/// A limit that the next Prepare reports.
 fn told_by_next(limit: Blocked) -> Reached
     ensures { result ≡ spec.told_by_next limit }
 {
@@ -85,8 +85,8 @@ fn told_by_next(limit: Blocked) -> Reached
     }
 }
 
-/// What is known of a limit once one more Prepare is sent. The one that tells it is sent alone. So where another is sent, a
-/// limit on bytes was raised; one on money stands while bytes are sent.
+/// What is known of a limit once one more Prepare is sent. The one that reports it is sent alone. So if another is sent, a
+/// limit on bytes was raised; one on money stays while bytes are sent.
 fn after_next(reached: Reached) -> Option<Reached>
     ensures { result ≡ spec.after_next reached }
 {
@@ -103,7 +103,7 @@ fn after_next(reached: Reached) -> Option<Reached>
     }
 }
 
-/// The limit at which an end waits that paid so many units, where this is the last one that it told.
+/// The limit at which an end waits that paid this number of units, if this is the last one that it reported.
 fn waits_at(limit: Blocked, paid: u64) -> Option<Blocked>
     ensures { result ≡ spec.waits_at limit paid }
 {
@@ -130,7 +130,7 @@ impl Latest {
         }
     }
 
-    /// Keeps the limit that the next Prepare tells, unless another thread is here just now.
+    /// Keeps the limit that the next Prepare reports, unless another thread is here just now.
     pub(crate) fn reaches(&self, limit: Blocked) {
         if let Some(mut kept) = self.limit.try_lock() {
             *kept = Some(told_by_next(limit));
@@ -147,7 +147,7 @@ impl Latest {
         }
     }
 
-    /// The limit at which an end waits that paid so many units. `None` also where another thread is here just now.
+    /// The limit at which an end waits that paid this number of units. `None` also if another thread is here just now.
     pub(crate) fn waits(&self, paid: u64) -> Option<Blocked> {
         match self.limit.try_lock() {
             Some(kept) => match *kept {
@@ -165,7 +165,7 @@ impl Latest {
         }
     }
 
-    /// What was kept last. `None` also where another thread is here just now.
+    /// What was kept last. `None` also if another thread is here just now.
     pub(crate) fn seen(&self) -> Option<Brief> {
         match self.brief.try_lock() {
             Some(kept) => *kept,

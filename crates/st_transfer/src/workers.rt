@@ -13,10 +13,10 @@ use std::net::Net;
 use std::sync::{Mutex, Wait};
 use std::time::Duration;
 
-/// For how many milliseconds a worker sleeps at most where it has nothing to send and nobody wakes it.
+/// For how many milliseconds a worker sleeps at most if it has nothing to send and nobody wakes it.
 const REST: u64 = 1_000;
 
-// Each function here that takes a lock lets it go before it returns.
+// Each function here that acquires a lock releases it before it returns.
 
 /// A further seat at the gauge.
 fn split_seat<N: HubName<Global>>(
@@ -27,8 +27,8 @@ fn split_seat<N: HubName<Global>>(
     gauge.split(&mut seat.lock(rt))
 }
 
-/// Works for a hub over a link of its own, until stream 1 is settled or stalled, for at most as many turns as the terms
-/// allow. Then it asks the other workers to stop.
+/// Works for a hub over a link of its own, until stream 1 is settled or stalled, in at most the rounds that the terms
+/// allow, each with one exchange or none. Then it asks the other workers to stop.
 pub(crate) fn work_alone<N: HubName<Global>, I: Ivs, R: Net + Wait + std::time::Clock>(
     rt: &R,
     alloc: Global,

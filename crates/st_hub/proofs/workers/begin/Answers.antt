@@ -1,4 +1,4 @@
-use Rattle.std.proofs.Common.{inl, inr, refl}
+use Rattle.std.proofs.Common.{inr}
 use Rattle.st_hub.proofs.workers.begin.Goals as goal
 
 pub returns-in-Sends : goal.returns-in-Sends

@@ -1,12 +1,12 @@
-use Rattle.std.proofs.Common.{refl, subst, sym, ◌+◌}
+use Rattle.std.proofs.Common.{refl}
 use Rattle.std.proofs.Math.Nat.{le_antisymm}
-use Rattle.st_hub.specs.Working.{Works, no_iv, all_turns}
-use Rattle.st_hub.proofs.Working.{begun_ends, begun_idle, begun_sends, works_none, works_fill, works_use, works_keep}
+use Rattle.st_hub.specs.Working.{no_iv, all_turns}
+use Rattle.st_hub.proofs.Working.{begun_ends, begun_idle, begun_sends, works_none, works_fill, works_use, works_keep, works_at}
 use Rattle.st_hub.proofs.workers.make_turns.Goals as goal
 use Rattle.st_hub.proofs.workers.make_turns.Goals.{in-Sends, in-Idle}
 
 pub loop-init : goal.loop-init
-loop-init g c = works_none g.I.Ivs.gives g.L.Link.exchanges g.K.Clock.reads _ _ _
+loop-init g c = works_none g.I.Ivs.gives g.L.Link.exchanges g.K.Clock.reads g.W.Observer.hears _
 
 -- no IV was given
 pub returns-then-not-fill : goal.returns-then-not-fill
@@ -16,8 +16,7 @@ returns-then-not-fill g c =
       made = c.loop.counter;
       few = c.loop.auto.counter-end;
       hand = c.loop.hand;
-      ivs_then = c.loop.ivs;
-      clock_then = c.loop.clock;
+      last = _;
       works = c.loop.invariant;
       ends = no_iv refl none.0 refl;
     }
@@ -27,10 +26,9 @@ returns-in-Ends g c = record {
   made = c.loop.counter;
   few = c.loop.auto.counter-end;
   hand = c.fill.new.hand;
-  ivs_then = c.fill.new.ivs;
-  clock_then = c.loop.clock;
-  works = works_fill g.I.Ivs.gives g.L.Link.exchanges g.K.Clock.reads _ _ _ _ _ _ _ _ _ _ c.loop.invariant (rw c.if-not-fill.false at c.fill.ensures);
-  ends = begun_ends {A = g.row.A.Denot} g.K.Clock.reads _ _ _ _ _ _ _ _ _ (rw c.in-Ends.is at c.begin.ensures);
+  last = _;
+  works = works_fill g.I.Ivs.gives g.L.Link.exchanges g.K.Clock.reads g.W.Observer.hears _ _ _ _ _ _ _ _ _ c.loop.invariant (rw c.if-not-fill.false at c.fill.ensures);
+  ends = begun_ends {A = g.row.A.Denot} g.K.Clock.reads _ _ _ _ _ _ _ _ _ _ _ (rw c.in-Ends.is at c.begin.ensures);
 }
 
 pub loop-preserved : goal.loop-preserved
@@ -38,22 +36,22 @@ loop-preserved g c =
     let gives = g.I.Ivs.gives in
     let exchanges = g.L.Link.exchanges in
     let reads = g.K.Clock.reads in
-    let filled = works_fill gives exchanges reads _ _ _ _ _ _ _ _ _ _ c.loop.invariant (rw c.if-not-fill.false at c.fill.ensures) in
+    let hears = g.W.Observer.hears in
+    let filled = works_fill gives exchanges reads hears _ _ _ _ _ _ _ _ _ c.loop.invariant (rw c.if-not-fill.false at c.fill.ensures) in
     elim c.match-begin.branch [
-      | in-Sends w ↦ subst (λ l. Works gives exchanges reads c.args.worker.ivs.now c.args.worker.link.now c.args.worker.clock.now (c.loop.counter + 1) c.begin.new.hand c.fill.new.ivs l c.begin.new.clock) (sym w.link-is)
-          (works_use gives exchanges reads _ _ _ _ _ _ _ _ _ _ _ _ _ filled (begun_sends {A = g.row.A.Denot} reads _ _ _ _ _ _ (rw w.in-Sends.is at c.begin.ensures)) w.exchange-outcome.ensures)
-      | in-Idle w ↦ subst (λ l. Works gives exchanges reads c.args.worker.ivs.now c.args.worker.link.now c.args.worker.clock.now (c.loop.counter + 1) c.begin.new.hand c.fill.new.ivs l c.begin.new.clock) (sym w.link-is)
-          (works_keep gives exchanges reads _ _ _ _ _ _ _ _ _ _ filled (begun_idle {A = g.row.A.Denot} reads _ _ _ _ _ (rw w.in-Idle.is at c.begin.ensures)))
+      | in-Sends w ↦ works_at gives exchanges reads hears _ _ _ _ _ _ _ _ _ w.link-is w.watch-is
+          (works_use gives exchanges reads hears _ _ _ _ _ _ _ _ _ _ _ _ _ _ _ filled (begun_sends {A = g.row.A.Denot} reads _ _ _ _ _ _ (rw w.in-Sends.is at c.begin.ensures)) w.exchange-outcome.ensures w.finish-cause.ensures w.tell_limit.ensures w.tell.ensures)
+      | in-Idle w ↦ works_at gives exchanges reads hears _ _ _ _ _ _ _ _ _ w.link-is w.watch-is
+          (works_keep gives exchanges reads hears _ _ _ _ _ _ _ _ _ filled (begun_idle {A = g.row.A.Denot} reads _ _ _ _ _ (rw w.in-Idle.is at c.begin.ensures)))
     ]
 
--- all turns were made
+-- all rounds were made
 pub returns : goal.returns
 returns g c = record {
   made = c.loop.counter;
   few = c.loop.auto.counter-end;
   hand = c.loop.hand;
-  ivs_then = c.loop.ivs;
-  clock_then = c.loop.clock;
+  last = _;
   works = c.loop.invariant;
-  ends = all_turns refl (le_antisymm c.loop.auto.counter-end c.loop-test.false) refl refl;
+  ends = all_turns refl (le_antisymm c.loop.auto.counter-end c.loop-test.false) refl;
 }
