@@ -18,7 +18,7 @@ fn seal_one(alloc: Global, keys: &Keys, piece: &[u8], number: u64) -> Result<boo
     Ok(packet.sequence == number)
 }
 
-/// Seals and opens so many packets of these bytes: how many were opened.
+/// Seals and opens `packets` packets of these bytes: how many were opened.
 pub(crate) fn seal_again(alloc: Global, piece: &[u8], packets: u64) -> Result<u64, KeyError> {
     let keys = Keys::of([7; 32]);
     let mut opened = 0_u64;

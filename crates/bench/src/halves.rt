@@ -50,7 +50,7 @@ pub(crate) fn new_half(alloc: Global, role: Role, own: &str, peer: &str) -> Opti
     }
 }
 
-/// A clock that stands.
+/// A clock that does not advance.
 #[derive(Clone, Copy)]
 pub(crate) struct Still(pub(crate) Moment);
 
@@ -60,7 +60,7 @@ impl Clock for Still {
     }
 }
 
-/// IVs that count up. The first byte tells those of one worker from those of another.
+/// IVs that count up. The first byte differs between workers.
 #[derive(Drop)]
 pub(crate) struct Counting {
     pub(crate) first: u8,

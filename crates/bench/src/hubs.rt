@@ -1,4 +1,4 @@
-//! Two hubs in memory, each behind links of the other's workers.
+//! Two hubs in memory, each linked to the other by its workers.
 ghost use Rattle.std.specs.Prelude.{◌≡◌, ℕ};
 ghost use Rattle.st_queues.specs.Lanes.{ring_at};
 ghost use Rattle.st_hub.specs.Hub.{IsNew};
@@ -17,10 +17,10 @@ use std::thread;
 use std::thread::Threads;
 use std::time::Duration;
 
-/// For how many microseconds the reader sleeps where nothing came.
+/// For how many microseconds the reader sleeps if nothing arrived.
 const REST: u64 = 100;
 
-/// For how many milliseconds a worker sleeps at most where it has nothing to send and nobody wakes it.
+/// For how many milliseconds a worker sleeps at most if it has nothing to send and nobody wakes it.
 const IDLE: u64 = 1_000;
 
 /// A hub under its lock, its gauge, and a seat there.
@@ -79,7 +79,7 @@ fn send_on<'a, N: HubName<Global>, M: HubName<Global>, R: Wait + std::time::Cloc
     );
 }
 
-/// So many workers of each hub, until they are asked to stop.
+/// Runs `workers` workers of each hub, until they are asked to stop.
 fn work_all<
     N: HubName<Global> + Send + Sync,
     M: HubName<Global> + Send + Sync,
@@ -99,7 +99,7 @@ fn work_all<
     );
 }
 
-/// Writes so many chunks of 4,096 bytes, and then an end, and wakes a worker after each.
+/// Writes `chunks` chunks of 4,096 bytes, and then an end, and wakes a worker after each.
 fn write_all<N: HubName<Global>, R: Wait>(
     rt: &R,
     alloc: Global,
@@ -120,7 +120,7 @@ fn write_all<N: HubName<Global>, R: Wait>(
     near.hub.wake_one(rt);
 }
 
-/// Reads what comes until the end, and wakes a worker after each read: how many bytes that was.
+/// Reads what arrives until the end, and wakes a worker after each read: how many bytes that was.
 fn read_all<M: HubName<Global>, R: Wait + std::time::Clock>(
     rt: &R,
     far: &Side<M>,
@@ -148,7 +148,7 @@ fn reader_at<M: HubName<Global>, R: Wait>(
     far.hub.lock(rt).take_stream().map(|(_, _, reader)| reader)
 }
 
-/// Waits for a stream, reads it, and asks the workers of both hubs to stop: how many bytes came.
+/// Waits for a stream, reads it, and asks the workers of both hubs to stop: how many bytes arrived.
 fn take<N: HubName<Global>, M: HubName<Global>, R: Wait + std::time::Clock>(
     rt: &R,
     near: &Side<N>,
@@ -182,7 +182,7 @@ fn writer_at<N: HubName<Global>, R: Wait>(
     }
 }
 
-/// Writes at the one hub and reads at the other, while workers of both send: how many bytes came.
+/// Writes at the one hub and reads at the other, while workers of both send: how many bytes arrived.
 fn pass_beside<
     N: HubName<Global> + Send + Sync,
     M: HubName<Global> + Send + Sync,
@@ -234,8 +234,8 @@ fn pass_named<
     pass_beside(rt, alloc, &near, &far, chunks, workers)
 }
 
-/// Passes so many chunks of 4,096 bytes from a writer of one hub to a reader of another, by so many workers of each: how
-/// many bytes came.
+/// Passes `chunks` chunks of 4,096 bytes from a writer of one hub to a reader of another, by `workers` workers of each:
+/// how many bytes arrived.
 pub(crate) fn pass_bytes<R: Threads + Wait + std::time::Clock + Sync>(
     rt: &R,
     alloc: Global,

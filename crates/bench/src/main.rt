@@ -1,9 +1,9 @@
-//! Runs what scripts of `bench/` time. Its arguments are parts, one after the other: a name, and behind it numbers, of which those
-//! that are left out at the end are 0.
+//! Runs what scripts of `bench/` time. Its arguments are parts, one after the other: a name, and then numbers, of which those that
+//! are left out at the end are 0.
 //!
-//! `end PREPARES STREAMS SEALED HASHED` (`bench/end.sh`) passes Prepares of 16,000 bytes from one end to another in memory, on so
-//! many streams; seals and opens so many packets alone; and hashes so many. It prints how many bytes were read, how many packets
-//! were opened, and the last condition.
+//! `end PREPARES STREAMS SEALED HASHED` (`bench/end.sh`) passes Prepares of 16,000 bytes from one end to another in memory, on
+//! STREAMS streams; seals and opens SEALED packets alone; and hashes HASHED packets. It prints how many bytes were read, how many
+//! packets were opened, and the last condition.
 //!
 //! `hop ACCOUNTS OPEN FULFILLED UNREACHABLE LONG` (`bench/hop.sh`) passes Prepares through a hop in memory:
 //!
@@ -16,9 +16,9 @@
 //! It prints how many Prepares were forwarded, those that are open not counted; how many of them were fulfilled; and how many
 //! were rejected with F02.
 //!
-//! `hub CHUNKS LENGTH SENT WORKERS` (`bench/hub.sh`) passes chunks of so many bytes through a ring of a hub, from thread to
-//! thread, and chunks of 4,096 bytes from a writer of one hub to a reader of another, by so many workers of each, 1 to 31. It
-//! prints how many chunks and how many bytes arrived.
+//! `hub CHUNKS LENGTH SENT WORKERS` (`bench/hub.sh`) passes CHUNKS chunks of LENGTH bytes through a ring of a hub, from
+//! thread to thread, and SENT chunks of 4,096 bytes from a writer of one hub to a reader of another, by WORKERS workers of
+//! each, 1 to 31. It prints how many chunks and how many bytes arrived.
 #![tactic(auto)]
 
 mod alone;

@@ -54,7 +54,7 @@ pub(crate) fn prepares(alloc: Global, accounts: u64) -> Option<Vec<Vec<u8>>> {
     Some(all)
 }
 
-/// The one Prepare for an address of 1,023 characters that is no account's.
+/// The one Prepare for an address of 1,023 characters that belongs to no account.
 pub(crate) fn prepares_nowhere(alloc: Global) -> Option<Vec<Vec<u8>>> {
     let destination = long_address(alloc, "b")?;
     let mut all = Vec::new(alloc);

@@ -27,7 +27,7 @@ fn end_between(
     EndState::new(alloc, role, Keys::of([7; 32]), own, peer, config)
 }
 
-/// A Fulfill comes back to its flight.
+/// A Fulfill arrives for its flight.
 fn land(end: &mut EndState<Global>, flight: Flight, mut answer: Vec<u8>) -> Result<(), EndError> {
     if !end.is_open(&flight) {
         flight.abandon();
@@ -40,7 +40,7 @@ fn land(end: &mut EndState<Global>, flight: Flight, mut answer: Vec<u8>) -> Resu
     }
 }
 
-/// The next Prepare of an end goes to the other one, under the IV of this number, and its Fulfill comes back.
+/// The next Prepare of an end is sent to the other one, under the IV of this number, and its Fulfill arrives.
 fn pass(
     from: &mut EndState<Global>,
     to: &mut EndState<Global>,
@@ -90,7 +90,7 @@ fn open_all(client: &mut EndState<Global>, server: &mut EndState<Global>) -> Res
     Ok(())
 }
 
-/// Passes so many pieces of bytes on so many streams in turn, 1 to 64: how many bytes were read.
+/// Passes `pieces` chunks of bytes on 1 to 64 `streams` in turn: how many bytes were read.
 fn pass_pieces(
     client: &mut EndState<Global>,
     server: &mut EndState<Global>,
@@ -108,7 +108,7 @@ fn pass_pieces(
     Ok(read)
 }
 
-/// Passes so many pieces of bytes on so many streams in turn from a client to a server: how many bytes were read.
+/// Passes `pieces` chunks of bytes on `streams` streams in turn from a client to a server: how many bytes were read.
 pub(crate) fn pass_all(
     alloc: Global,
     piece: &[u8],

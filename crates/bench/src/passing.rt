@@ -151,7 +151,7 @@ fn pass_through(alloc: Global, hop: &mut HopState<Global>, sizes: Sizes) -> Opti
     })
 }
 
-/// Makes the hop, and passes what the sizes ask for. `None` where memory was refused, or a Prepare was to stay open and was not
+/// Makes the hop, and passes what the sizes ask for. `None` if memory was refused, or a Prepare was to stay open and was not
 /// forwarded.
 pub(crate) fn pass_all(alloc: Global, sizes: Sizes) -> Option<Counts> {
     let mut hop = new_hop(alloc, sizes)?;

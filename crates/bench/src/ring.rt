@@ -8,7 +8,7 @@ use std::marker::Brand;
 use std::thread;
 use std::thread::Threads;
 
-/// Writes a chunk as soon as there is room: whether it was taken.
+/// Writes a chunk as soon as there is room: whether it was accepted.
 pub(crate) fn write<N: HubName<Global>>(
     writer: &mut StreamWriter<N, Global>,
     mut chunk: Vec<u8>,
@@ -34,7 +34,7 @@ pub(crate) fn end<N: HubName<Global>>(writer: &mut StreamWriter<N, Global>) {
     }
 }
 
-/// Writes so many chunks of so many bytes, and then an end.
+/// Writes `chunks` chunks of `length` bytes, and then an end.
 pub(crate) fn write_all<N: HubName<Global>>(
     alloc: Global,
     writer: &mut StreamWriter<N, Global>,
@@ -62,7 +62,7 @@ fn take(ring: &mut WriteEnd<Global>) -> Option<bool> {
     Some(is_chunk)
 }
 
-/// Takes what comes until the end: how many chunks that was.
+/// Removes items until the end: how many chunks that was.
 fn take_all(ring: &mut WriteEnd<Global>) -> u64 {
     let mut came = 0_u64;
     for _ in 0..u64::MAX {
@@ -112,7 +112,7 @@ fn pass_named<N: HubName<Global> + Send + Sync, R: Threads + Sync>(
     Some(came)
 }
 
-/// Passes so many chunks of so many bytes, 1 to 4,096, from one thread to another: how many came.
+/// Passes chunks of `length` bytes, 1 to 4,096, from one thread to another: how many arrived.
 pub(crate) fn pass_chunks<R: Threads + Sync>(
     rt: &R,
     alloc: Global,

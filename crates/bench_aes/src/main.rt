@@ -1,13 +1,13 @@
 //! Seals a text again and again, makes keys, encrypts blocks and opens what it sealed, for `bench/aes.sh` to time. Its
-//! words are the text's length in bytes, how often it is sealed, how many keys are made, how many blocks are encrypted and
-//! how often the text is sealed and opened; what is left out is 0. It prints the last tag or block, and behind it how
-//! often the text was opened, if it was to be.
+//! arguments are the text's length in bytes, how often it is sealed, how many keys are made, how many blocks are encrypted
+//! and how often the text is sealed and opened; what is left out is 0. It prints the last tag or block, and then how often
+//! the text was opened, if it was to be.
 #![tactic(auto)]
 
 use st_aes::{Key, block, seal, unseal};
 use std::{env, io};
 
-/// The IV of turn `n`.
+/// The IV number `n`.
 fn iv(n: u64) -> [u8; 12] {
     let mut iv = [0; 12];
     iv[4..].copy_from_slice(&n.to_be_bytes());

@@ -1,17 +1,19 @@
-//! An allocator for tests. It counts the requests for memory and refuses those that a test names, so that a test can
-//! refuse each request of a call in turn. A request is an allocation or a growth.
+//! An allocator for tests. It counts the requests for memory and their bytes, and refuses those requests that a test names,
+//! so that a test can refuse each request of a call in turn. A request is an allocation or a growth, and a growth asks for
+//! all bytes of the grown block.
 //!
-//! It has the one `unsafe impl` of this repository. Its safety is proved by hand in `proofs/`. No contract can say what
-//! it counts and refuses; its tests show that. It serves one thread.
+//! It has the one `unsafe impl` of this repository. Its safety has a handwritten proof in `proofs/`. No contract can
+//! say what it counts and refuses; its tests show that. It serves one thread.
 #![tactic(auto)]
 
 use std::alloc::{AllocError, Allocator};
 use std::cell::Cell;
 
-/// Which requests are refused: those from `first` to `last`, counted from 1.
+/// What was asked for, and which requests are refused: those from `first` to `last`, counted from 1.
 #[derive(Drop)]
 struct Plan {
     asked: Cell<u64>,
+    bytes: Cell<u64>,
     first: Cell<u64>,
     last: Cell<u64>,
 }
@@ -30,29 +32,33 @@ impl<B: Allocator> Refusing<B> {
             inner,
             plan: Plan {
                 asked: Cell::new(0),
+                bytes: Cell::new(0),
                 first: Cell::new(u64::MAX),
                 last: Cell::new(0),
             },
         }
     }
 
-    /// Sets the count to 0, and refuses only the request number `n`. The next request is number 1.
+    /// Sets the counts to 0, and refuses only the request number `n`. The next request is number 1.
     pub fn refuse_only(&self, n: u64) {
         self.plan.asked.set(0);
+        self.plan.bytes.set(0);
         self.plan.first.set(n);
         self.plan.last.set(n);
     }
 
-    /// Sets the count to 0, and refuses the request number `n` and each later one. The next request is number 1.
+    /// Sets the counts to 0, and refuses the request number `n` and each later one. The next request is number 1.
     pub fn refuse_from(&self, n: u64) {
         self.plan.asked.set(0);
+        self.plan.bytes.set(0);
         self.plan.first.set(n);
         self.plan.last.set(u64::MAX);
     }
 
-    /// Sets the count to 0, and refuses nothing.
+    /// Sets the counts to 0, and refuses nothing.
     pub fn refuse_none(&self) {
         self.plan.asked.set(0);
+        self.plan.bytes.set(0);
         self.plan.first.set(u64::MAX);
         self.plan.last.set(0);
     }
@@ -60,6 +66,11 @@ impl<B: Allocator> Refusing<B> {
     /// The number of requests since `refuse_only`, `refuse_from` or `refuse_none` was called last.
     pub fn asked(&self) -> u64 {
         self.plan.asked.get()
+    }
+
+    /// The bytes of these requests in all, also of those that were refused.
+    pub fn bytes(&self) -> u64 {
+        self.plan.bytes.get()
     }
 
     /// Whether a request was refused since `refuse_only`, `refuse_from` or `refuse_none` was called last.
@@ -74,9 +85,10 @@ impl<B: Allocator> Drop for Refusing<B> {
     }
 }
 
-fn admits(plan: &Plan) -> bool {
+fn admits(plan: &Plan, size: usize) -> bool {
     let number = plan.asked.get().saturating_add(1);
     plan.asked.set(number);
+    plan.bytes.set(plan.bytes.get().saturating_add(size as u64));
     number < plan.first.get() || plan.last.get() < number
 }
 
@@ -84,7 +96,7 @@ unsafe impl<B: Allocator> Allocator for Refusing<B> {
     ghost dealloc_token = { λ heap ty ptr. B.dealloc_token heap.inner ty ptr };
 
     fn allocate(&self, size: usize, align: usize) -> Result<*mut u8, AllocError> {
-        if admits(&self.plan) {
+        if admits(&self.plan, size) {
             self.inner.allocate(size, align)
         } else {
             Err(AllocError)

@@ -36,14 +36,18 @@ fn refuses_each_request_in_turn(rt: HostRuntime) {
 fn refuses_from_a_request_on(rt: HostRuntime) -> Result<(), AllocError> {
     let heap = Refusing::new(rt.alloc());
     let mut list = Vec::with_capacity(&heap, 2)?;
+    assert!(rt; (heap.asked(), heap.bytes()) == (1, 2));
     heap.refuse_from(1);
     list.push(1u8)?;
     list.push(2)?;
     assert!(rt; list.push(3).is_err());
     assert!(rt; list.push(3).is_err());
     assert!(rt; list.as_slice() == [1, 2].as_slice());
+    assert!(rt; (heap.asked(), heap.bytes()) == (2, 16));
     heap.refuse_none();
+    assert!(rt; (heap.asked(), heap.bytes()) == (0, 0));
     list.push(3)?;
+    assert!(rt; (heap.asked(), heap.bytes()) == (1, 8));
     assert!(rt; list.as_slice() == [1, 2, 3].as_slice());
     Ok(())
 }

@@ -2,7 +2,7 @@
 technique with applications to cryptology", SEA 2010 (IACR ePrint 2009/191), appendix A.
 
 x0 is the highest bit of the byte and x7 the lowest, s0 the highest bit of its substitute and s7 the lowest. The four
-complements are those of s1, s2, s6 and s7. The gates stand in five layers, with what each takes and gives."""
+complements are those of s1, s2, s6 and s7. There are five layers of gates, with the inputs and the results of each."""
 
 FACTORS = """
 y14 = x3 ^ x5

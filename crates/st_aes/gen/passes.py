@@ -224,7 +224,7 @@ returns c ws keys m lt =
 
 
 def loads(w, name, step):
-    """Eight vectors, each `step` bytes behind the one before."""
+    """Eight vectors, each `step` bytes after the one before."""
     place = [name.replace("@AT@", "at" if n == 0 else f"at + {step * n}") for n in range(8)]
     return "    [\n" + "".join(f"        {each},\n" for each in place) + "    ]"
 

@@ -1,7 +1,7 @@
 #!/usr/bin/env python3
 """Writes the long code of st_aes: specs/SBox.antt, and for vectors of 16 and of 32 bytes the modules planes and pass
-(wide_planes and wide_pass) with what their proofs cite. By hand, from anywhere: crates/st_aes/gen/planes.py. Then rt fmt
-changes nothing. With --look it writes nothing and compares with what stands."""
+(wide_planes and wide_pass) with what their proofs cite. Call it from anywhere: crates/st_aes/gen/planes.py. Then rt fmt
+changes nothing. With --look it writes nothing and compares with what is there."""
 import os
 import sys
 
@@ -21,7 +21,7 @@ MASKS = {1: 0x55, 2: 0x33, 4: 0x0F}
 
 LAYERS = [
     ("factors", FACTORS, "22 sums of the bits of a byte: 18 factors, and the four that are added to sums of products"),
-    ("quarter", QUARTER, "the four bits of which the inverse is taken"),
+    ("quarter", QUARTER, "the four bits whose inverse is computed"),
     ("quarter_inverse", QUARTER_INVERSE, "that inverse, and the sums of its bits"),
     ("products", PRODUCTS, "the 18 products"),
     ("sums", SUMS, "the bits of the substitute"),
@@ -366,7 +366,7 @@ def planes(w):
 # ---- their proofs
 
 def numbered(name, count):
-    """The names of a function's calls in the order in which they stand."""
+    """The names of a function's calls in their order."""
     return [f"c.{name}"] + [f"c.{name}-{n}" for n in range(2, count + 1)]
 
 
@@ -475,7 +475,7 @@ def transposed_answers(w):
         return numbered(f"change_{k}", 4)[[n for n in range(8) if not n & k].index(i & ~k)]
 
     def chain(b, j):
-        """Where bit j of result b comes from, through the three exchanges."""
+        """The source of bit j of result b, through the three exchanges."""
         parts, vector, place = [f"ap (λ (v : List ℕ). bit v l {j}) {kept[b]}.ensures.same"], b, j
         for k in (4, 2, 1):
             clause = "second" if vector & k else "first"

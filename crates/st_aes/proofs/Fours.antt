@@ -39,7 +39,7 @@ byte_of_halves v low high b el eh fits lt =
     ∙ get_or_narrower (2 ^ 128) 16 256 16 (v ∷ []) 0 (15 - b) refl (Each1-replicate (λ x. x < 2 ^ 128) 1 v fits) (omega arith) (omega arith)
     ∙ ap (λ (q : ℕ). v / q % 256) (bytes_power (15 - b)) ∙ sym (byte_of_block b v lt)
 
--- ---- four vectors, added where a bit is set
+-- ---- four vectors, each added if a bit is set
 
 abbrev picked : Bool → List ℕ → List ℕ
 picked b v = cond b v (replicate 16 0)

@@ -309,7 +309,7 @@ hash_joined h s t n lh =
     ∙ sym (hash_of_sum h (λ j. repeated h (suc n) (s j)) t (suc n))
     ∙ hash_same h (λ j. bit_xor (repeated h (suc n) (s j)) (t j)) (λ j. bit_xor (product (s j) (repeated h n h)) (t j)) (suc n) (λ j lt. ap (λ (v : ℕ). bit_xor v (t j)) (sym (product_by_power h n (s j) lh)))
 
--- the first m blocks, and n behind them
+-- the first m blocks, and n after them
 pub hash_split : (h y : ℕ) (s : ℕ → ℕ) (m n : ℕ) → hash_from h y s (m + n) ≡ hash_from h (hash_from h y s m) (λ j. s (m + j)) n
 unfolding hash_from
 hash_split h y s m zero = let e : m + 0 ≡ m = omega arith in ap (hash_from h y s) e
@@ -323,7 +323,7 @@ hash_zero h s zero none = refl
 hash_zero h s (suc n) none =
     ap (λ (v : ℕ). product (bit_xor v (s n)) h) (hash_zero h s n (λ j lt. none j (omega arith))) ∙ ap (λ (v : ℕ). product (bit_xor 0 v) h) (none n (omega arith)) ∙ of_zero (λ x. product x h) (product_linear h)
 
--- sixteen sums, and sixteen blocks behind those that they stand for
+-- sixteen sums, and sixteen blocks after those with the same hash
 pub sixteen_more : (h : ℕ) (s next x : ℕ → ℕ) (m : ℕ) → h < 2 ^ 128 → hash_from h 0 s 16 ≡ hash_from h 0 x m
     → ((j : ℕ) → j < 16 → next j ≡ bit_xor (x (m + j)) (product (s j) (repeated h 15 h))) → hash_from h 0 next 16 ≡ hash_from h 0 x (m + 16)
 sixteen_more h s next x m lh before is =

@@ -51,7 +51,7 @@ chosen_lane x m w s c lx lm lw ls lt =
 pub lower_lane : (m : List ℕ) (c : ℕ) → length m ≡ 4 → c < 4 → get_or (zip2 (λ a n. a / 2 ^ n) m (replicate 4 4)) c 0 ≡ get_or m c 0 / 16
 lower_lane m c lm lt = get_or-zip2 (λ a n. a / 2 ^ n) m (replicate 4 4) c 0 0 0 (omega arith) lt ∙ ap (λ (n : ℕ). get_or m c 0 / 2 ^ n) (get_or-replicate 4 c 4 0 lt)
 
--- a bit that is tested where it stands
+-- a bit that is tested at its place
 tested : (x k w : ℕ) → cond (eqb (bit_and x (2 ^ k)) (2 ^ k)) w 0 ≡ cond (eqb (bit_at x k) 1) w 0
 tested x k w = go (bit_at x k) refl
   where

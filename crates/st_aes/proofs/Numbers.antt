@@ -7,7 +7,7 @@ use Rattle.st_aes.proofs.Tables.{spelled_out}
 use Rattle.st_aes.proofs.Multiples.{byte_is, bytes_power}
 use Rattle.st_aes.specs.Gcm.{block_number}
 
--- a, and the bytes xs behind it
+-- a, followed by the bytes xs
 abbrev pub number_from : ℕ → List ℕ → ℕ
 number_from a [] = a
 number_from a (x ∷ xs) = number_from (a * 256 + x) xs

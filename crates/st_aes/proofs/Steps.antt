@@ -292,7 +292,7 @@ vector_is n ks i b lt = get_or-map-range_with_len (λ b. chunk (i + n * b) n ks)
 pub vector_lane : (n : ℕ) (ks : List ℕ) (i b l : ℕ) → b < 8 → l < n → get_or (plane (vectors_at n ks i) b) l 0 ≡ get_or ks (i + n * b + l) 0
 vector_lane n ks i b l lt low = ap (λ (v : List ℕ). get_or v l 0) (vector_is n ks i b lt) ∙ get_or-chunk (i + n * b) n ks l 0 low
 
--- the states of two halves are one where their lanes are
+-- the states of two halves are equal if their lanes are
 states_same : (q r : List (List ℕ)) (g h j : ℕ) → ((b p : ℕ) → b < 8 → p < 16 → get_or (plane q b) (16 * g + p) 0 ≡ get_or (plane r b) (16 * h + p) 0) → state_at q g j ≡ state_at r h j
 unfolding state_at byte_at bit
 states_same q r g h j same =

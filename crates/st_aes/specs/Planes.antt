@@ -28,7 +28,7 @@ value (b ∷ bs) = b + 2 * value bs
 unfoldable pub bits_of : ℕ → List ℕ
 bits_of v = list_of 8 (bit_at v)
 
--- the byte that stands at byte l, bit j of eight planes
+-- the byte at byte l, bit j of eight planes
 unfoldable pub byte_at : List (List ℕ) → ℕ → ℕ → ℕ
 byte_at q l j = value (bits 8 q l j)
 
@@ -50,11 +50,11 @@ column_turned n l = 4 * (l / 4) + (l + n) % 4
 abbrev pub has : ℕ → ℕ → Bool
 has k j = j / k % 2 == 1
 
--- bit j of byte l of a, where those at the places that have k come from b, k places lower
+-- bit j of byte l of a, but those at the places that have k come from b, k places lower
 abbrev pub changed_low : List ℕ → List ℕ → ℕ → ℕ → ℕ → ℕ
 changed_low a b k l j = if has k j then bit b l (j - k) else bit a l j
 
--- and of b, where the others come from a, k places higher
+-- and of b, but the others come from a, k places higher
 abbrev pub changed_high : List ℕ → List ℕ → ℕ → ℕ → ℕ → ℕ
 changed_high a b k l j = if has k j then bit b l j else bit a l (k + j)
 

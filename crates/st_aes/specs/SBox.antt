@@ -39,7 +39,7 @@ factors q =
     let y18 = bit_xor x0 y16 in
     y15 ∷ y6 ∷ x7 ∷ y16 ∷ y1 ∷ y7 ∷ y11 ∷ y17 ∷ y10 ∷ y12 ∷ y3 ∷ y4 ∷ y13 ∷ y5 ∷ y2 ∷ y9 ∷ y14 ∷ y8 ∷ y18 ∷ y19 ∷ y20 ∷ y21 ∷ []
 
--- the four bits of which the inverse is taken
+-- the four bits whose inverse is computed
 unfoldable pub quarter : List ℕ → List ℕ
 quarter y =
     let y15 = slice_index y 0 in

@@ -1,4 +1,4 @@
-//! The tables with which sixteen products are taken at once.
+//! The tables with which sixteen products are computed at once.
 //!
 //! No call reads memory at a place, or takes a branch, that depends on a bit of a factor.
 
@@ -20,7 +20,7 @@ fn bytes_of(v: u128) -> u8x16
     u64x2::from_array([(v % (1 << 64)) as u64, (v >> 64) as u64]).to_le_bytes()
 }
 
-/// A vector, where bit `k` of `n` is set.
+/// A vector, if bit `k` of `n` is set.
 #[inline(always)]
 fn where_set(n: usize, k: u32, v: u8x16) -> u8x16
     requires { k < 4 }
@@ -208,7 +208,7 @@ fn next_multiples(s: Square) -> Square
     ]
 }
 
-/// Their first eight vectors, each with the eighth behind it.
+/// Their first eight vectors, each with the eighth after it.
 #[inline(always)]
 fn paired(s: Square) -> Rows
     ensures { (b n : ℕ) → b < 16 → n < 16 → cell result (b % 8) (16 * (b / 8) + n) ≡ cell s b n }

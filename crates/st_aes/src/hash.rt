@@ -12,7 +12,7 @@ use crate::rows::{blocks_at, with_products};
 use crate::wide_pass::store_all;
 use std::simd::u8x32;
 
-/// Block `b` of a text, where it is not short.
+/// Block `b` of a text, if it is not short.
 #[inline(always)]
 fn whole_block(text: &[u8], b: usize) -> [u8; 16]
     requires { 16 * b + 16 ≤ length text.now }
@@ -55,7 +55,7 @@ fn block_from(bytes: &[u8; 256], j: usize) -> [u8; 16]
     out
 }
 
-/// The hash of the first sixteen blocks of a text, so many times over: sixteen sums that have the same hash, and then it.
+/// The hash of the first `groups` times sixteen blocks of a text: sixteen sums that have the same hash, and then it.
 fn hash_front(key: &Key, text: &[u8], groups: usize) -> u128
     requires { 256 * groups ≤ length text.now }
     ensures { result ≡ hash_from (hash_key key.now) 0 (λ b. block_number (padded (block_of text.now b))) (16 * groups) }
@@ -75,7 +75,7 @@ fn hash_front(key: &Key, text: &[u8], groups: usize) -> u128
     y
 }
 
-/// The same, where there may be none.
+/// The same, if there may be none.
 fn hash_start(key: &Key, text: &[u8], groups: usize) -> u128
     requires { 256 * groups ≤ length text.now }
     ensures { result ≡ hash_from (hash_key key.now) 0 (λ b. block_number (padded (block_of text.now b))) (16 * groups) }

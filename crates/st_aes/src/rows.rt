@@ -151,7 +151,7 @@ fn woven_high(a: u8x16, b: u8x16) -> u8x16
     high
 }
 
-/// Each vector of the first eight, woven with the eighth behind it.
+/// Each vector of the first eight, woven with the eighth after it.
 #[inline(always)]
 fn woven(a: Square) -> Square
     ensures { (r c : ℕ) → r < 16 → c < 16 → cell result r c ≡ cell a (r / 2 + 8 * (c % 2)) (8 * (r % 2) + c / 2) }
@@ -202,7 +202,7 @@ pub(crate) fn turned(a: Square) -> Square
     woven(woven(woven(woven(a))))
 }
 
-/// Two vectors, one behind the other.
+/// Two vectors, one after the other.
 #[inline(always)]
 pub(crate) fn pair(a: u8x16, b: u8x16) -> u8x32
     ensures pair { (l : ℕ) → l < 32 → slice_index result l ≡ (if l / 16 == 0 then slice_index a (l % 16) else slice_index b (l % 16)) }

@@ -47,7 +47,7 @@ fn zero_key(rt: HostRuntime) {
     sure!(&rt; text == [0u8; 16]);
 }
 
-/// A tag that is wrong in its last byte alone leaves the bytes, also where there are none.
+/// A tag that is wrong in its last byte alone leaves the bytes, also if there are none.
 #[test]
 fn wrong_tag(rt: HostRuntime) {
     let key = Key::new([0; 32]);

@@ -48,7 +48,7 @@ fn meets(rt: &impl Abort, heap: &Heap, out: &mut Vec<u8, &Heap>, field: Field<'_
     met
 }
 
-/// The same behind these bytes, and in the end this stands there.
+/// The same after the bytes `front`; then the vector has the bytes `want`.
 fn refuse(
     rt: &impl Abort,
     heap: &Heap,

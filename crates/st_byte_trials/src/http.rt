@@ -1,4 +1,4 @@
-//! HTTP over streams of which each call fails in turn, under refused memory, and with responses that are none.
+//! HTTP over streams of which each call fails in turn, under refused memory, and with invalid responses.
 
 use refusing::Refusing;
 use st_http::{Answerer, HttpError, exchange, serve_one};
@@ -29,7 +29,7 @@ const BODY: &[u8] = b"0123456789abcdefg";
 const POST: &[u8] =
     b"POST /ilp HTTP/1.1\r\nAuthorization: Bearer t1\r\nContent-Length: 00005\r\n\r\nhello";
 
-/// The response to it where the answer is `ANSWER`: 133 bytes.
+/// The response to it if the answer is `ANSWER`: 133 bytes.
 const ANSWERED: &str =
     "HTTP/1.1 200 OK\r\nContent-Type: application/octet-stream\r\nContent-Length: 35\r\nConnection: close\r\n\r\n\u{d}!012345678901234567890123456789012";
 
@@ -176,7 +176,7 @@ fn each_call_of_an_exchange_fails_in_turn(rt: HostRuntime) {
     sure!(&rt; counts == (46, 0));
 }
 
-/// One turn less than the calls that are needed: each turn is a call, and none is made without one.
+/// One I/O call less than are needed: the limit counts calls, and none is made beyond it.
 #[test]
 fn turns_are_calls(rt: HostRuntime) {
     for turns in 0..46u64 {
@@ -235,7 +235,7 @@ fn each_call_of_a_service_fails_in_turn(rt: HostRuntime) {
     }
 }
 
-/// A head that is longer than the turns: they are used up, and nothing was answered.
+/// A head of more bytes than the calls that are allowed, one byte a call: they are used up, and nothing was answered.
 #[test]
 fn a_slow_request_uses_up_the_turns(rt: HostRuntime) {
     let alloc = rt.alloc();
@@ -268,7 +268,7 @@ fn another_token_is_turned_down(rt: HostRuntime) {
     sure!(&rt; stream.into_inner().output.as_slice() == text.as_bytes());
 }
 
-/// Whether an exchange brings the body, where there is memory.
+/// Whether an exchange brings the body, if there is memory.
 fn exchanges(heap: &Refusing<Global>, alloc: Global) -> bool {
     let mut stream = Counting::new(Wire::new(alloc, RESPONSE, 100));
     is_body(exchange(heap, alloc, &mut stream, HOST, "t1", PREPARE, 1_000))

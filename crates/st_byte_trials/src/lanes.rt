@@ -1,44 +1,62 @@
 mod vectors;
 
-use st_lanes::{absorbed, compress};
-use std::simd::u32x8;
-use vectors::{BLOCKS, DIGESTS, PAIR_DIGESTS, PAIRS};
+use st_lanes::{Keyed, digests};
+use vectors::{
+    DIGESTS, HASH_KEY_FIRST, HASHED_KEY, KEYED_HASHES, LARGER_TEXT, LETTERS, LETTERS_DIGEST,
+    LONGER, TWO_BLOCKS,
+};
 
-/// The initial hash value of SHA-256 (FIPS 180-4, section 5.3.3), in each lane.
-fn start() -> [u32x8; 8] {
-    [
-        u32x8::splat(0x6a09e667),
-        u32x8::splat(0xbb67ae85),
-        u32x8::splat(0x3c6ef372),
-        u32x8::splat(0xa54ff53a),
-        u32x8::splat(0x510e527f),
-        u32x8::splat(0x9b05688c),
-        u32x8::splat(0x1f83d9ab),
-        u32x8::splat(0x5be0cd19),
-    ]
-}
-
-/// Whether lane `l` has the words of digest `l`, for each of the eight.
-fn are(state: &[u32x8; 8], digests: &[[u32; 8]; 8]) -> bool {
-    for (word, lanes) in state.iter().enumerate() {
-        let lanes = lanes.to_array();
-        for (lane, digest) in digests.iter().enumerate() {
-            if lanes.get(lane) != digest.get(word) {
-                return false;
-            }
-        }
-    }
-    true
-}
-
-#[test]
-fn eight_blocks(rt: HostRuntime) {
-    sure!(&rt; are(&compress(start(), &BLOCKS), &DIGESTS));
-}
-
+/// In lanes, whose last blocks are at other places.
 #[test]
 fn eight_texts(rt: HostRuntime) {
-    let [a, b, c, d, e, f, g, h] = &PAIRS;
-    let texts: [&[u8]; 8] = [a, b, c, d, e, f, g, h];
-    sure!(&rt; are(&absorbed(start(), &texts, 2), &PAIR_DIGESTS));
+    let texts: [&[u8]; 8] = [
+        b"abc",
+        b"",
+        TWO_BLOCKS,
+        LONGER,
+        &LETTERS[..55],
+        &LETTERS[..64],
+        &LETTERS[..119],
+        &LETTERS[..311],
+    ];
+    let mut out = [[0; 32]; 8];
+    digests(&texts, &mut out);
+    sure!(&rt; out == DIGESTS);
+}
+
+/// One after another, since the one is so long.
+#[test]
+fn a_long_text_and_nothing(rt: HostRuntime) {
+    let texts: [&[u8]; 2] = [&LETTERS, b""];
+    let mut out = [[0; 32]; 2];
+    digests(&texts, &mut out);
+    sure!(&rt; out == [LETTERS_DIGEST, DIGESTS[1]]);
+}
+
+fn key() -> Keyed {
+    let mut key = [0; 64];
+    key[..32].copy_from_slice(&HASHED_KEY);
+    Keyed::of(key)
+}
+
+#[test]
+fn five_texts_under_one_key(rt: HostRuntime) {
+    let texts: [&[u8]; 5] = [
+        HASH_KEY_FIRST,
+        LARGER_TEXT,
+        b"",
+        &LETTERS[..119],
+        &LETTERS[..120],
+    ];
+    let mut out = [[0; 32]; 5];
+    key().hmacs(&texts, &mut out);
+    sure!(&rt; out == KEYED_HASHES);
+}
+
+#[test]
+fn two_texts_under_one_key(rt: HostRuntime) {
+    let texts: [&[u8]; 2] = [HASH_KEY_FIRST, LARGER_TEXT];
+    let mut out = [[0; 32]; 2];
+    key().hmacs(&texts, &mut out);
+    sure!(&rt; out == [KEYED_HASHES[0], KEYED_HASHES[1]]);
 }

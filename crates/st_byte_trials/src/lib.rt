@@ -1,13 +1,14 @@
 //! Tests of what holds, moves and seals bytes: fields, a stream's bytes on either side, the rings and the gauge, `send_all`,
 //! `store_all` and HTTP over devices that move few bytes a call, fail or interrupt, the cipher, the hash of eight texts, keys and sealed
-//! packets by the standards' vectors; and requests for memory refused in turn. No contract can say that turns or memory suffice, or how many
-//! bytes there are before a fault: these tests do. Packets, keys and readings of HTTP are tested in bind/rust/tests too.
+//! packets by the standards' vectors; and requests for memory refused in turn. No contract can say that the allowed calls or memory
+//! suffice, or how many bytes there are before a fault: these tests do. Packets, keys and readings of HTTP are tested too in
+//! bind/rust/tests.
 #![tactic(auto)]
 
 #[cfg(test)]
 use std::process::Abort;
 
-/// Ends the test where a fact does not hold, and tells which, as `assert!` does. The prover takes a third of the time for it.
+/// Ends the test if a fact does not hold, and says which, as `assert!` does. The prover needs a third of the time for it.
 #[cfg(test)]
 macro_rules! sure {
     ($rt:expr; $fact:expr) => {

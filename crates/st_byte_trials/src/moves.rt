@@ -1,4 +1,4 @@
-//! What is moved, and what is told of it.
+//! What is moved, and what is reported of it.
 
 use crate::devices::{Heap, Script, Step, Wire};
 use refusing::Refusing;
@@ -24,8 +24,8 @@ fn first(count: u64) -> &'static [u8] {
     }
 }
 
-/// Whether a send over a reader that gives two bytes a call, of which call `k` fails, tells this, gives the sink these bytes, and
-/// ends it or not.
+/// Whether a send over a reader that gives two bytes a call, of which call `k` fails, returns `told`, gives the sink these bytes,
+/// and ends it or not.
 fn sends(alloc: Global, k: u64, told: Result<u64, FileError>, bytes: &[u8], ended: bool) -> bool {
     let mut reader = Counting::new(FailAt::new(Wire::new(alloc, b"abcdef", 2, 0), k));
     let mut sink = Heap::new(alloc, 0);
@@ -33,7 +33,7 @@ fn sends(alloc: Global, k: u64, told: Result<u64, FileError>, bytes: &[u8], ende
     got == told && sink.bytes.as_slice() == bytes && sink.ended == ended
 }
 
-/// Whether a store over a writer that takes three bytes a call, of which call `k` fails, tells this, and writes these bytes.
+/// Whether a store over a writer of three bytes a call, of which call `k` fails, returns `told`, and writes these bytes.
 fn stores(
     alloc: Global,
     steps: &[Step],
@@ -47,7 +47,7 @@ fn stores(
     got == told && writer.into_inner().into_inner().output() == bytes
 }
 
-/// The same of a writer with no fault, for so many turns.
+/// The same of a writer with no fault, with at most `turns` calls.
 fn stores_in(
     alloc: Global,
     steps: &[Step],
@@ -92,7 +92,7 @@ fn each_write_fails_in_turn(rt: HostRuntime) {
     sure!(&rt; stores(alloc, &STEPS, 5, Ok(6), b"abcdef"));
 }
 
-/// A send for so many turns, of which so many refusals and interruptions take one each.
+/// A send with at most `turns` calls, of which each refusal and each interruption uses one.
 fn sends_in(
     rt: &impl Abort,
     alloc: Global,
@@ -116,7 +116,7 @@ fn sends_in(
     }
 }
 
-/// Six bytes take four reads, three puts and an end; a call that is refused or interrupted takes a turn more.
+/// Six bytes need four reads, three puts and an end; a call that is refused or interrupted needs one more.
 #[test]
 fn turns_of_a_send_are_used_up(rt: HostRuntime) {
     for (refusals, interrupted, calls) in [(0, 0, 8), (3, 0, 11), (0, 2, 10)] {
@@ -126,7 +126,7 @@ fn turns_of_a_send_are_used_up(rt: HostRuntime) {
     }
 }
 
-/// The steps take five turns, the writes three and the flush one. Each row: the turns, and the bytes that are written by then.
+/// The steps need five calls, the writes three and the flush one. Each row: the calls, and the bytes that are written by then.
 #[test]
 fn turns_of_a_store_are_used_up(rt: HostRuntime) {
     let alloc = rt.alloc();
@@ -148,7 +148,7 @@ fn turns_of_a_store_are_used_up(rt: HostRuntime) {
     sure!(&rt; stores_in(alloc, &STEPS, 9, Ok(6), b"abcdef"));
 }
 
-/// An abort is told with its code, after what was given before it.
+/// An abort is reported with its code, after what was given before it.
 #[test]
 fn an_abort_is_told(rt: HostRuntime) {
     let steps = [Step::Text(b"ab"), Step::Aborted(7)];

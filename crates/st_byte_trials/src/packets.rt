@@ -33,7 +33,7 @@ fn packets_are_read(rt: HostRuntime) {
     };
     let rows: [(&[u8], u64, Frame<'_>); 4] = [
         (HI, 0, hi),
-        // bytes behind the last frame
+        // bytes after the last frame
         (
             b"\x01\x0c\x01\x01\x01\0\x01\x01\x14\x07\x01\x01\x01\0\x02hi\xff\xff",
             0,

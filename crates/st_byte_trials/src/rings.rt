@@ -41,7 +41,7 @@ fn is_refused(told: Result<(), QueueError<Global>>, number: u8, chunk: &[u8]) ->
     }
 }
 
-/// Takes the first item, and tells whether it is these bytes; none for the end.
+/// Removes the first item, and returns whether it is these bytes; none for the end.
 fn next_is(end: &mut WriteEnd<Global>, bytes: Option<&[u8]>) -> bool
     ensures { SameWriteEnd end.old end.new }
 {
@@ -103,7 +103,7 @@ fn refuse_more<N: HubName<Global>>(
     sure!(rt; matches!(&back, Err(QueueError::BadLength(chunk)) if chunk.len() == 4097));
 }
 
-/// A ring is filled, and has room for one where one was taken.
+/// A ring is filled, and has room for one once one was removed.
 fn fill_ring<N: HubName<Global>, R: Abort>(rt: &R, alloc: Global, rings: Rings<Global>, ring: usize)
     requires gauge { rings.gauge ≡ N.gauge }
     requires writes { (k : ℕ) → N.write_ring k ≡ ring_at rings.writes k }

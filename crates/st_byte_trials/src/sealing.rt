@@ -56,7 +56,7 @@ fn a_packet_is_sealed_or_not(rt: HostRuntime) {
     sure!(&rt; payload.as_slice() == SEALED.as_slice());
 }
 
-/// Opening leaves IV and tag as they were, and the text behind them.
+/// Opening leaves IV and tag as they were, and the text after them.
 #[test]
 fn what_opening_leaves(rt: HostRuntime) -> Result<(), Fail> {
     let keys = Keys::of([0; 32]);
@@ -66,7 +66,7 @@ fn what_opening_leaves(rt: HostRuntime) -> Result<(), Fail> {
     Ok(())
 }
 
-/// The same where the text is no packet of its kind, also where it is empty.
+/// The same if the text is not a packet of its kind, also if it is empty.
 #[test]
 fn what_a_refused_packet_leaves(rt: HostRuntime) {
     let keys = Keys::of([0; 32]);
@@ -80,7 +80,7 @@ fn what_a_refused_packet_leaves(rt: HostRuntime) {
     sure!(&rt; empty == EMPTY);
 }
 
-/// So does one with a wrong byte in its IV, its tag or its ciphertext.
+/// One with a wrong byte in its IV, its tag or its ciphertext is left as it was.
 #[test]
 fn what_a_wrong_tag_leaves(rt: HostRuntime) {
     let keys = Keys::of([0; 32]);

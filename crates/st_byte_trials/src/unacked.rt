@@ -15,7 +15,7 @@ fn accept<A: Allocator + Copy>(bytes: &mut Unacked<A>, more: &[u8]) -> Result<()
     Ok(())
 }
 
-/// Claims the lowest two due bytes.
+/// Claims the lowest two queued bytes.
 fn claim<A: Allocator + Copy>(bytes: &mut Unacked<A>, sequence: u64) -> Result<(), AllocError> {
     if let Some((from, end)) = bytes.lowest_due() {
         bytes.claim(sequence, from, end.min(from.saturating_add(2)))?;
@@ -31,7 +31,7 @@ fn partly_sent<'a>(rt: &impl Abort, heap: &'a Heap) -> Unacked<&'a Heap> {
     bytes
 }
 
-/// What an answer does asks for no memory.
+/// Handling an answer does not allocate.
 #[test]
 fn answers_ask_for_no_memory(rt: HostRuntime) {
     let heap: Heap = Refusing::new(rt.alloc());
@@ -47,4 +47,18 @@ fn answers_ask_for_no_memory(rt: HostRuntime) {
     assert!(rt; bytes.is_done());
     assert!(rt; bytes.acknowledged(3) == 6);
     assert!(rt; heap.asked() == 0);
+}
+
+/// What a stream kept is given back with its last byte.
+#[test]
+fn the_room_of_a_stream_is_given_back(rt: HostRuntime) {
+    let heap: Heap = Refusing::new(rt.alloc());
+    let mut bytes = partly_sent(&rt, &heap);
+    assert!(rt; claim(&mut bytes, 2).is_ok());
+    assert!(rt; claim(&mut bytes, 3).is_ok());
+    assert!(rt; bytes.acknowledged(1) == 2);
+    assert!(rt; bytes.acknowledged(3) == 6);
+    assert!(rt; 2 <= bytes.room());
+    assert!(rt; bytes.acknowledged(2) == 4);
+    assert!(rt; bytes.room() == 0);
 }

@@ -1,4 +1,4 @@
--- Where the texts of an ILP packet lie in its bytes.
+-- The places of the texts of an ILP packet in its bytes.
 use Rattle.std.proofs.Common.{◌≡◌, ℕ, ◌+◌, ◌-◌, ◌≤◌, List, [], ◌∷◌, ◌++◌, length, take, drop, Ok, refl, sym, ap, ◌∙◌, subst, arith, append_assoc, append-nil, length-append}
 use Rattle.std.proofs.lemmas.List.{take_at, drop_at}
 use Rattle.std.specs.Int.{w64, to_be_bytes}
@@ -11,7 +11,7 @@ use Rattle.st_ilp.specs.Spelling.{prepare_kind, prepare_contents, prepare_text, 
 use Rattle.st_ilp.specs.Laws.{PrepareReads}
 use Rattle.st_c.specs.Ilp.{IsPart}
 
--- a part between a front and a rest, by where it ends
+-- a part between a front and a rest, given its end
 between : (bytes front part rest : List ℕ) (start : ℕ) → bytes ≡ front ++ (part ++ rest) → start ≡ length bytes - length rest - length part → IsPart bytes start (length part) part
 between bytes front part rest start is begins =
     let l : length bytes ≡ length front + (length part + length rest) = ap length is ∙ length-append front (part ++ rest) ∙ ap (λ n. length front + n) (length-append part rest) in

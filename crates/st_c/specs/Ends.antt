@@ -1,5 +1,6 @@
 -- What a call on a handle of an end answers and leaves.
 use Rattle.std.specs.Prelude.{◌≡◌, ◌⊎◌, ◌++◌, ◌<◌, ℕ, zero, suc, ℤ, Bool, true, List, [], ◌∷◌, length, Option, Some, None, Result, Ok, Err, IfOk}
+use Rattle.std.specs.List.{range_with_len, filter}
 use Rattle.st_oer.specs.Address.{is_address}
 use Rattle.st_oer.specs.Ratios.{IsRatio, ratio}
 use Rattle.st_keys.specs.Keys.{keys_of}
@@ -12,7 +13,8 @@ use Rattle.st_end.specs.declared.role.Role.{Role}
 use Rattle.st_end.specs.declared.role.Role.TheVariants.{Client, Server}
 use Rattle.st_end.specs.Errors.{number}
 use Rattle.st_end.specs.State.{EndState, new_end}
-use Rattle.st_end.specs.Calls.{OrWants}
+use Rattle.st_end.specs.Calls.{OrWants, has_stream}
+use Rattle.st_end.specs.Ready.{TellsRoom, is_ready}
 use Rattle.st_end.specs.Reading as reading
 use Rattle.st_end.specs.Receiving as receiving
 use Rattle.st_end.specs.Sending.{Goes, GoesNone}
@@ -23,7 +25,7 @@ use Rattle.st_embed.specs.Ends.{IsNewEnd, IsSameEnd, IsSpent, HasNoFlight}
 use Rattle.st_embed.specs.declared.object.Object.{Object}
 use Rattle.st_embed.specs.declared.object.Object.TheVariants.{End}
 use Rattle.st_embed.specs.declared.end.HostEnd.{HostEnd}
-use Rattle.st_c.specs.Handles.{Misused, flag}
+use Rattle.st_c.specs.Handles.{Misused, flag, Copies}
 use Rattle.st_c.specs.declared.end.HostConfig.{HostConfig}
 use Rattle.st_c.specs.declared.end.HostReceived.{HostReceived}
 use Rattle.st_c.specs.declared.end.HostTotals.{HostTotals}
@@ -57,7 +59,7 @@ IsEndMade role secret own peer c (Some o) new code = Misused (Some o) new code
 
 -- ---- streams
 
--- flights and what was put out stay
+-- flights and output stay
 abbrev pub KeepsRest : (old new : HostEnd) → Type 0
 KeepsRest old new = (new.flights ≡ old.flights) × (new.output ≡ old.output)
 
@@ -77,9 +79,28 @@ abbrev pub SaysTotals : (old new : HostEnd) → (code : ℕ) → HostTotals → 
 SaysTotals old new code t =
     (new ≡ old) × ((code ≡ done) × (totals.totals old.state ≡ record { accepted = t.accepted; delivered = t.delivered; credited = t.credited; paid = t.paid }))
 
+-- how much a write accepts, or why it accepts nothing
+abbrev pub SaysRoom : (old new : HostEnd) → (stream code room : ℕ) → Type 0
+SaysRoom old new stream code room = (new ≡ old) × ((r : Result ℕ EndError) × (TellsRoom old.state stream r × ((code ≡ code_of r) × IfOk r (λ n. room ≡ n))))
+
+-- the numbers of streams (RFC 0029, section 4.1), rising
+abbrev pub all_streams : List ℕ
+all_streams = range_with_len 1 64
+
+-- those that can be read, and those that are open
+abbrev pub ready_streams : EndState → List ℕ
+ready_streams e = filter (is_ready e) all_streams
+
+abbrev pub open_streams : EndState → List ℕ
+open_streams e = filter (has_stream e) all_streams
+
+-- a list of streams is copied out, or memory is refused
+abbrev pub Lists : (old new : HostEnd) → (streams before after : List ℕ) → (code len : ℕ) → Type 0
+Lists old new streams before after code len = (new ≡ old) × (Copies streams before after code len ⊎ ((code ≡ no_memory) × (after ≡ before)))
+
 -- ---- reading
 
--- what a read gave, and the bytes that it put out
+-- what a read gave, and the bytes that it output
 abbrev pub Gives : Result got.Got EndError → (old new : HostEnd) → (code len reason : ℕ) → Type 0
 Gives (Ok (got.Bytes xs)) old new code len reason = (code ≡ done) × ((new.output.items ≡ xs) × (len ≡ length xs))
 Gives (Ok got.Nothing) old new code len reason = (code ≡ idle) × (new.output ≡ old.output)
@@ -93,7 +114,7 @@ Reads old new stream max code len reason =
 
 -- ---- Prepares and their answers
 
--- a Prepare goes, of which the end keeps the flight; or none goes; or memory is refused
+-- a Prepare is sent, and the end keeps its flight; or none is sent; or memory is refused
 abbrev pub Sends : (old new : HostEnd) → (iv : List ℕ) (now : ℤ) → (code flight len : ℕ) → Type 0
 Sends old new iv now code flight len =
     ((code ≡ done) × ((f : Open) × ((f.sequence ≡ flight) × ((len ≡ length new.output.items) × (Goes old.state iv now f new.output.items new.state × (new.flights.items ≡ old.flights.items ++ f ∷ []))))))
@@ -103,7 +124,7 @@ abbrev pub Sequence : Option ℕ → (opened sequence : ℕ) → Type 0
 Sequence None opened sequence = opened ≡ 0
 Sequence (Some n) opened sequence = (opened ≡ 1) × (sequence ≡ n)
 
--- what the answer to a Prepare is, beside its bytes
+-- what the answer to a Prepare is, apart from its bytes
 abbrev pub Reports : receiving.Received → (output : List ℕ) → HostReceived → Type 0
 Reports r output h =
     (output ≡ r.bytes) × ((h.len ≡ length r.bytes) × ((h.reason ≡ r.reason) × ((h.amount ≡ r.amount) × Sequence r.sequence h.opened h.sequence)))

@@ -1,4 +1,4 @@
--- What a host is told of a Prepare that failed.
+-- What a host reads of a Prepare that failed.
 use Rattle.std.specs.Prelude.{◌≡◌, ℕ, List, [], ◌∷◌, length, take}
 use Rattle.std.specs.declared.option.Option.{Option}
 use Rattle.std.specs.declared.option.Option.TheVariants.{None, Some}
@@ -16,12 +16,12 @@ kind_number Unreadable = 2
 kind_number Unfit = 3
 kind_number Rejected = 4
 
--- a code, and zeros of what is no Reject
+-- a code, or zeros if there is none
 abbrev pub code_or_zeros : Option (List ℕ) → List ℕ
 code_or_zeros None = 0 ∷ 0 ∷ 0 ∷ []
 code_or_zeros (Some code) = code
 
--- each text stands at the front of its array
+-- each text is at the front of its array
 pub record IsFailure (failed : Failed) (told : HostFailure) : Type 0 where
   pub kind : told.kind ≡ kind_number (kind_of failed)
   pub code : told.code ≡ code_or_zeros (code_of failed)

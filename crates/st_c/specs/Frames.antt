@@ -7,7 +7,7 @@ use Rattle.st_c.specs.Handles.{is_byte}
 
 -- ---- from a frame
 
--- its type, stream, numbers and code, 0 where it has none
+-- its type, stream, numbers and code; 0 for what it does not have
 abbrev pub fields : Known → HostFrame
 fields (ConnectionClose code message) = record { stream = 0; first = 0; second = 0; kind = 0x01; code = code }
 fields (ConnectionNewAddress address) = record { stream = 0; first = 0; second = 0; kind = 0x02; code = 0 }
@@ -21,7 +21,7 @@ fields (StreamData stream offset bytes) = record { stream = stream; first = offs
 fields (StreamMaxData stream max_offset) = record { stream = stream; first = max_offset; second = 0; kind = 0x15; code = 0 }
 fields (StreamDataBlocked stream max_offset) = record { stream = stream; first = max_offset; second = 0; kind = 0x16; code = 0 }
 
--- its text, address or data, no bytes where it has none
+-- its text, address or data; no bytes if it has none
 abbrev pub data_of : Known → List ℕ
 data_of (ConnectionClose code message) = message
 data_of (ConnectionNewAddress address) = address
@@ -35,8 +35,7 @@ data_of k = []
 abbrev pub passing : Bool → Known → Option Known
 passing passes k = if passes then Some k else None
 
--- the frame of this type with these fields and data; none where the type is not known, the code is no byte, or a text is
--- not UTF-8
+-- the frame of this type with these fields and data; `None` if the type is not known, the code is above 255, or a text is not UTF-8
 unfoldable pub frame_with : HostFrame → (bytes : List ℕ) → Option Known
 frame_with f bytes =
     if f.kind == 0x01 then passing (is_byte f.code && is_utf8 bytes) (ConnectionClose f.code bytes)

@@ -50,7 +50,7 @@ IfMoment now old new code P = (IsMoment now × P) ⊎ ((¬ IsMoment now) × Refu
 abbrev pub flag : Bool → ℕ
 flag b = if b then 1 else 0
 
--- these bytes stand at the front of the buffer, or it has no room for them and stays
+-- these bytes are copied to the front of the buffer, or it has no room for them and stays
 abbrev pub Copies : (bytes before after : List ℕ) → (code len : ℕ) → Type 0
 Copies bytes before after code len =
     (len ≡ length bytes) × MatchBool (nat_lt (length before) (length bytes)) ((code ≡ room) × (after ≡ before)) ((code ≡ done) × (after ≡ bytes ++ drop (length bytes) before))

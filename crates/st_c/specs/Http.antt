@@ -21,7 +21,7 @@ OnMessage old new code P = OnOne (message_in old) (message_in new) (Misused old 
 
 -- ---- a new message
 
--- the tokens, which stand one after another in the text
+-- the tokens, which follow each other in the text
 abbrev pub tokens_of : (text lengths : List ℕ) → List (List ℕ)
 tokens_of text [] = []
 tokens_of text (n ∷ ns) = take n text ∷ tokens_of (drop n text) ns
@@ -44,9 +44,9 @@ IsResponseMade None new code =
     ((code ≡ done) × ((m : HostMessage) × ((new ≡ Some (Message m)) × IsNewMessage response m))) ⊎ ((code ≡ number NoMemory) × (new ≡ None))
 IsResponseMade (Some o) new code = Misused (Some o) new code
 
--- ---- pieces
+-- ---- parts of a message
 
--- the status of a refusal, 0 where it has none
+-- the status of a refusal, 0 if it has none
 abbrev pub status_of : HttpError → ℕ
 status_of ReadFault = 0
 status_of (WriteFault sent) = 0
@@ -57,7 +57,7 @@ status_of Cut = 0
 status_of Turns = 0
 status_of NoMemory = 0
 
--- a whole message, whose body is put out; or a part, which wants more; or a refusal by the number of why
+-- a whole message, whose body is output; or a part, which wants more; or a refusal by its number
 abbrev pub Takes : (old new : HostMessage) (piece : List ℕ) (code : ℕ) → HostReading → Type 0
 Takes old new piece code r =
     ((code ≡ done) × (Feeds old new piece (Whole r.taken r.account) × ((r.body_len ≡ length new.output.items) × ((r.wants ≡ 0) × (r.status ≡ 0)))))

@@ -15,7 +15,7 @@ use Rattle.st_c.specs.Written.{Written}
 
 -- ---- reading
 
--- so many bytes from here on lie within the bytes, and are this part
+-- the `len` bytes from `start` on lie within the bytes, and are this part
 pub record IsPart (bytes : List ℕ) (start len : ℕ) (part : List ℕ) : Type 0 where
   pub within : start + len ≤ length bytes
   pub same : take len (drop start bytes) ≡ part

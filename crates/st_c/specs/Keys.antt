@@ -22,13 +22,13 @@ AreKeysMade secret None new code =
     ((code ≡ done) × ((k : HostKeys) × ((new ≡ Some (Keys k)) × IsNewKeys (keys_of secret) k))) ⊎ ((code ≡ number NoMemory) × (new ≡ None))
 AreKeysMade secret (Some o) new code = Misused (Some o) new code
 
--- the payload of a text is put out, unless memory is refused
+-- the payload of a text is output, unless memory is refused
 abbrev pub Seals : (old new : HostKeys) → (iv text : List ℕ) → (code len : ℕ) → Type 0
 Seals old new iv text code len =
     ((code ≡ done) × ((new.keys ≡ old.keys) × ((new.output.items ≡ sealed old.keys iv text) × (len ≡ length new.output.items))))
     ⊎ ((code ≡ number NoMemory) × (new ≡ old))
 
--- the text of a payload is put out, or the payload is refused by the number of why, or memory is refused
+-- the text of a payload is output, or the payload is refused by the number of why, or memory is refused
 abbrev pub Opens : (old new : HostKeys) → (payload : List ℕ) → (code len : ℕ) → Type 0
 Opens old new payload code len =
     ((code ≡ done) × ((new.keys ≡ old.keys) × ((unsealed old.keys payload ≡ Ok new.output.items) × (len ≡ length new.output.items))))

@@ -30,7 +30,7 @@ IsPacketMade kind sequence amount None new code =
     ⊎ (((code ≡ number NoMemory) × (new ≡ None)) ⊎ ((code ≡ argument) × ((is_kind kind ≡ false) × (new ≡ None))))
 IsPacketMade kind sequence amount (Some o) new code = Misused (Some o) new code
 
--- bytes are refused by the number of why, for want of memory, or since no packet of this kind is read
+-- bytes are refused by the number of why, since memory is refused, or since no packet of this kind is read
 abbrev pub RefusesToRead : (kind : ℕ) (bytes : List ℕ) (code : ℕ) → Type 0
 RefusesToRead kind bytes code =
     ((e : FrameError) × ((packet_at kind bytes ≡ Err e) × ((code ≡ number e) × (is_kind kind ≡ true))))
@@ -58,7 +58,7 @@ IfFrame (Some k) old new code P = P k
 abbrev pub Pushes : (old new : HostPacket) → Known → (code : ℕ) → Type 0
 Pushes old new k code = ((code ≡ done) × IsPushed old new k) ⊎ ((e : FrameError) × ((code ≡ number e) × RefusesToPush old new k e))
 
--- the frame at a place, if there is one, is reported, and its text or data put out
+-- the frame at a place, if there is one, is reported, and its text or data is output
 abbrev pub ShowsAt : Option PlacedFrame → (old new : HostPacket) → (code : ℕ) → HostFrame → (index len : ℕ) → Type 0
 ShowsAt None old new code f index len = (code ≡ argument) × (new ≡ old)
 ShowsAt (Some p) old new code f index len =
@@ -74,7 +74,7 @@ Shows old new place code f index len = ShowsAt (slice_get old.frames.items place
 abbrev pub frames_in : HostPacket → List Known
 frames_in p = map (λ x. kept x.frame) p.frames.items
 
--- the bytes of the packet are put out, or it is refused by the number of why, or memory is refused
+-- the bytes of the packet are output, or it is refused by the number of why, or memory is refused
 abbrev pub Puts : (old new : HostPacket) → (code len : ℕ) → Type 0
 Puts old new code len =
     ((code ≡ done) × ((packet_seen new ≡ packet_seen old) × ((written (kind_number old.kind) old.sequence old.amount (frames_in old) ≡ Ok new.output.items) × (len ≡ length new.output.items))))

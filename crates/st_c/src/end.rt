@@ -1,6 +1,6 @@
 //! Calls on an end of a connection (RFC 0029).
 
-ghost use Rattle.std.specs.Prelude.{◌≡◌, ◌<◌, ◌≤◌, ◌⊎◌, length, take, nat_lt, Some, None, MatchOption, MatchResult};
+ghost use Rattle.std.specs.Prelude.{◌≡◌, ◌<◌, ◌≤◌, ◌⊎◌, length, take, nat_lt, Some, None, IfOk, MatchOption, MatchResult};
 ghost use Rattle.st_end.specs.Calls as calls;
 ghost use Rattle.st_end.specs.Receiving.{t00_text};
 ghost use Rattle.st_end.specs.State.{new_end};
@@ -12,7 +12,7 @@ ghost use Rattle.st_embed.specs.Codes.{argument};
 ghost use Rattle.st_embed.specs.Ends.{IsNewEnd};
 ghost use Rattle.st_c.specs.Handles.{OnEnd, IfFits, IfMoment, is_byte, is_abort, flag, Copies};
 ghost use Rattle.st_c.specs.Failures.{IsFailure, SaysFailure, kind_number};
-ghost use Rattle.st_c.specs.Ends.{AreTerms, IsEndMade, Answers, Numbers, Says, SaysTotals, Reads, Sends, Receives, Sequence, Spends, Faults, role_of, config_of, no_memory};
+ghost use Rattle.st_c.specs.Ends.{AreTerms, IsEndMade, Answers, Numbers, Says, SaysRoom, Lists, ready_streams, open_streams, SaysTotals, Reads, Sends, Receives, Sequence, Spends, Faults, role_of, config_of, no_memory};
 
 use crate::arguments::address;
 use crate::handle::{copy_out, is_empty, put_new};
@@ -20,11 +20,11 @@ use st_embed::{
     ABORTED, ARGUMENT, Answered, DONE, ENDED, Handle, HostEnd, IDLE, MISUSE, Object, Piece,
     UNKNOWN, code_of,
 };
-use st_end::{EndError, Failed, FailedKind, Role, Totals};
+use st_end::{EndError, EndState, Failed, FailedKind, Role, Totals};
 use st_ilp::Moment;
 use st_oer::Rate;
 use st_sender::EndConfig;
-use std::alloc::Global;
+use std::alloc::{AllocError, Global};
 
 /// What is done with the end of a handle. A handle of anything else is refused.
 macro_rules! on_end {
@@ -78,7 +78,8 @@ fn config(terms: &HostConfig) -> Option<EndConfig>
     Some(config.with_least(least))
 }
 
-/// The end of these terms. Fails with `ARGUMENT` exactly where they are none, and else with 54 where memory is refused.
+/// The end of these terms. Fails with `ARGUMENT` exactly if they are not valid, and otherwise with 54 if memory is
+/// refused.
 fn end_of(
     alloc: Global,
     role: u32,
@@ -110,7 +111,7 @@ fn end_of(
 /// Makes an end in an empty handle. Role 0 is a client, whose own streams are odd, and 1 a server. `own` and `peer` are
 /// ILP addresses (RFC 0015).
 ///
-/// `MISUSE` where the handle is not empty; `ARGUMENT` where an address is none, or a number out of its range; 54 where
+/// `MISUSE` if the handle is not empty; `ARGUMENT` if an address is not valid, or a number is out of its range; 54 if
 /// memory is refused.
 #[unsafe(no_mangle)]
 pub extern "C" fn ilp_end_new(
@@ -148,7 +149,7 @@ pub extern "C" fn ilp_end_open_stream(alloc: Global, handle: &mut Handle, stream
     })
 }
 
-/// Takes bytes that are to be sent on a stream.
+/// Accepts bytes that are to be sent on a stream.
 #[unsafe(no_mangle)]
 pub extern "C" fn ilp_end_write(
     alloc: Global,
@@ -192,7 +193,7 @@ pub extern "C" fn ilp_end_abort(alloc: Global, handle: &mut Handle, stream: u32,
     on_end!(alloc, handle, end => code_of(end.state.abort(stream, reason)))
 }
 
-/// Offers so many units on a stream.
+/// Offers this amount, in units, on a stream.
 #[unsafe(no_mangle)]
 pub extern "C" fn ilp_end_offer(alloc: Global, handle: &mut Handle, stream: u32, amount: u64) -> u32
     ensures { IfFits (is_byte stream) handle.old.state handle.new.state result (OnEnd handle.old.state handle.new.state result (λ old new. Answers old new result (calls.offer old.state stream amount))) }
@@ -219,10 +220,10 @@ pub extern "C" fn ilp_end_set_receive_max(
     on_end!(alloc, handle, end => code_of(end.state.set_receive_max(stream, amount)))
 }
 
-/// Puts out the first bytes that can be read on a stream, at most `max`, which is not 0; `len` is how many.
+/// Outputs the first bytes that can be read on a stream, at most `max`, which is not 0; `len` is how many.
 ///
-/// `IDLE` where none can be read yet, `ENDED` where all were read and the peer closed the stream, `ABORTED` where the
-/// peer aborted it, with the code `reason`.
+/// `IDLE` if none can be read yet, `ENDED` if all were read and the peer closed the stream, `ABORTED` if the peer
+/// aborted it, with the code `reason`.
 #[unsafe(no_mangle)]
 pub extern "C" fn ilp_end_read(
     alloc: Global,
@@ -255,8 +256,8 @@ pub extern "C" fn ilp_end_read(
     })
 }
 
-/// Puts out the bytes of the next Prepare; `len` is how many, and `flight` the number of its flight. `IDLE` where nothing
-/// is to be sent.
+/// Outputs the bytes of the next Prepare; `len` is how many, and `flight` the number of its flight. `IDLE` if nothing is
+/// to be sent.
 #[unsafe(no_mangle)]
 pub extern "C" fn ilp_end_send(
     alloc: Global,
@@ -282,8 +283,8 @@ pub extern "C" fn ilp_end_send(
     })
 }
 
-/// Takes the bytes that came back to a flight: `fulfilled` is 1 where they are a Fulfill that fits, else 0. They are
-/// decrypted where they lie. `UNKNOWN` exactly where no open flight has this number.
+/// Processes the bytes of the answer to a flight: `fulfilled` is 1 if they are a Fulfill that fits, otherwise 0. They
+/// are decrypted in place. `UNKNOWN` exactly if no open flight has this number.
 #[unsafe(no_mangle)]
 pub extern "C" fn ilp_end_answer(
     alloc: Global,
@@ -303,7 +304,7 @@ pub extern "C" fn ilp_end_answer(
     })
 }
 
-/// No bytes came back to a flight: what it carries is due again. `UNKNOWN` exactly where no open flight has this number.
+/// There is no answer to a flight: what it carries is queued again. `UNKNOWN` exactly if no open flight has this number.
 #[unsafe(no_mangle)]
 pub extern "C" fn ilp_end_fault(alloc: Global, handle: &mut Handle, flight: u64) -> u32
     ensures { OnEnd handle.old.state handle.new.state result (λ old new. Faults old new flight result) }
@@ -317,13 +318,13 @@ pub extern "C" fn ilp_end_fault(alloc: Global, handle: &mut Handle, flight: u64)
 pub struct HostReceived {
     /// How many bytes the answer has.
     pub len: usize,
-    /// The amount of the Prepare; 0 where it cannot be read.
+    /// The amount of the Prepare; 0 if it cannot be read.
     pub amount: u64,
-    /// The sequence of its packet, where `opened` is 1.
+    /// The sequence of its packet, if `opened` is 1.
     pub sequence: u64,
     /// 0 for a Fulfill; else why it is a Reject.
     pub reason: u32,
-    /// 1 where the packet was decrypted and read, else 0.
+    /// 1 if the packet was decrypted and read, otherwise 0.
     pub opened: u32,
 }
 
@@ -347,7 +348,7 @@ fn host_received(len: usize, answered: Answered) -> HostReceived
     }
 }
 
-/// Puts out the answer to a Prepare, and reports what it is.
+/// Outputs the answer to a Prepare, and reports what it is.
 fn receive(end: &mut HostEnd, bytes: &[u8], now: Moment, received: &mut HostReceived) -> u32
     ensures { Receives end.old end.new bytes.now now result received.new }
 {
@@ -360,7 +361,7 @@ fn receive(end: &mut HostEnd, bytes: &[u8], now: Moment, received: &mut HostRece
     }
 }
 
-/// Puts out the answer to the bytes of a Prepare that came at the moment `now`. 54 where memory is refused.
+/// Outputs the answer to the bytes of a Prepare that arrived at the time `now`. 54 if memory is refused.
 #[unsafe(no_mangle)]
 pub extern "C" fn ilp_end_receive(
     alloc: Global,
@@ -426,7 +427,80 @@ pub extern "C" fn ilp_end_totals(alloc: Global, handle: &mut Handle, totals: &mu
     })
 }
 
-/// `answer` is 1 where a stream is open, else 0.
+/// How many bytes a write accepts on a stream at most: `room`, 0 to 262,144. Refused as a write of no bytes is.
+#[unsafe(no_mangle)]
+pub extern "C" fn ilp_end_room(
+    alloc: Global,
+    handle: &mut Handle,
+    stream: u32,
+    room: &mut usize,
+) -> u32
+    ensures { IfFits (is_byte stream) handle.old.state handle.new.state result (OnEnd handle.old.state handle.new.state result (λ old new. SaysRoom old new stream result room.new)) }
+{
+    let Ok(stream) = u8::try_from(stream) else {
+        return ARGUMENT;
+    };
+    on_end!(alloc, handle, end => match end.state.room(stream) {
+        Ok(found) => {
+            *room = found as usize;
+            DONE
+        }
+        Err(error) => u32::from(error.number()),
+    })
+}
+
+/// The streams that can be read.
+fn ready_streams(alloc: Global, state: &EndState<Global>) -> Result<Vec<u8>, AllocError>
+    ensures { IfOk result (λ found. found.items ≡ ready_streams state.now) }
+{
+    let mut found = Vec::with_capacity(alloc, 64)?;
+    found.extend((1..65_u8).filter(|stream| state.is_ready(*stream)))?;
+    Ok(found)
+}
+
+/// The streams that are open.
+fn open_streams(alloc: Global, state: &EndState<Global>) -> Result<Vec<u8>, AllocError>
+    ensures { IfOk result (λ found. found.items ≡ open_streams state.now) }
+{
+    let mut found = Vec::with_capacity(alloc, 64)?;
+    found.extend((1..65_u8).filter(|stream| state.has_stream(*stream)))?;
+    Ok(found)
+}
+
+/// Copies the numbers of the streams that can be read to the front of a buffer, a byte each, rising; `len` is how many they
+/// are. `ROOM` if the buffer has fewer bytes: then nothing is copied. 54 if memory is refused.
+#[unsafe(no_mangle)]
+pub extern "C" fn ilp_end_ready(
+    alloc: Global,
+    handle: &mut Handle,
+    out: &mut [u8],
+    len: &mut usize,
+) -> u32
+    ensures { OnEnd handle.old.state handle.new.state result (λ old new. Lists old new (ready_streams old.state) out.old out.new result len.new) }
+{
+    on_end!(alloc, handle, end => match ready_streams(alloc, &end.state) {
+        Ok(found) => copy_out(&found, out, len),
+        Err(AllocError) => u32::from(EndError::NoMemory.number()),
+    })
+}
+
+/// Copies the numbers of the streams that are open, as `ilp_end_ready` those that can be read.
+#[unsafe(no_mangle)]
+pub extern "C" fn ilp_end_streams(
+    alloc: Global,
+    handle: &mut Handle,
+    out: &mut [u8],
+    len: &mut usize,
+) -> u32
+    ensures { OnEnd handle.old.state handle.new.state result (λ old new. Lists old new (open_streams old.state) out.old out.new result len.new) }
+{
+    on_end!(alloc, handle, end => match open_streams(alloc, &end.state) {
+        Ok(found) => copy_out(&found, out, len),
+        Err(AllocError) => u32::from(EndError::NoMemory.number()),
+    })
+}
+
+/// `answer` is 1 if a stream is open, otherwise 0.
 #[unsafe(no_mangle)]
 pub extern "C" fn ilp_end_has_stream(
     alloc: Global,
@@ -445,7 +519,7 @@ pub extern "C" fn ilp_end_has_stream(
     })
 }
 
-/// `answer` is 1 where this end's own close of a stream was fulfilled, else 0.
+/// `answer` is 1 if this end's own close of a stream was fulfilled, otherwise 0.
 #[unsafe(no_mangle)]
 pub extern "C" fn ilp_end_settled(
     alloc: Global,
@@ -464,7 +538,7 @@ pub extern "C" fn ilp_end_settled(
     })
 }
 
-/// `answer` is 1 where the connection failed, else 0.
+/// `answer` is 1 if the connection failed, otherwise 0.
 #[unsafe(no_mangle)]
 pub extern "C" fn ilp_end_is_failed(alloc: Global, handle: &mut Handle, answer: &mut u32) -> u32
     ensures { OnEnd handle.old.state handle.new.state result (λ old new. Says old new result answer.new old.state.sending.failed) }
@@ -475,9 +549,9 @@ pub extern "C" fn ilp_end_is_failed(alloc: Global, handle: &mut Handle, answer: 
     })
 }
 
-/// Why a Prepare of an end failed. `kind` is 1 where no answer came, 2 where it was neither a Fulfill nor a Reject, 3 where
-/// it was a Fulfill that does not fit, 4 where it was a Reject. Of a Reject it has the code, triggeredBy and the first bytes
-/// of the message; of anything else nothing.
+/// Why a Prepare of an end failed. `kind` is 1 if there was no answer, 2 if it was neither a Fulfill nor a Reject, 3 if it
+/// was a Fulfill that does not fit, 4 if it was a Reject. Of a Reject it has the code, triggeredBy and the first bytes of
+/// the message; of anything else nothing.
 #[repr(C)]
 #[derive(Clone, Copy, Drop)]
 pub struct HostFailure {
@@ -487,7 +561,7 @@ pub struct HostFailure {
     pub code: [u8; 3],
     /// How many bytes its triggeredBy has.
     pub by_len: usize,
-    /// How many bytes of its message are told.
+    /// How many bytes of its message are in `message`.
     pub message_len: usize,
     /// Its triggeredBy, at the front.
     pub by: [u8; 1023],
@@ -533,7 +607,7 @@ fn host_failure(failed: &Failed) -> HostFailure
     }
 }
 
-/// Why the last Prepare of this end that failed did so. `IDLE` where none failed yet.
+/// Why the last Prepare of this end that failed did so. `IDLE` if none failed yet.
 #[unsafe(no_mangle)]
 pub extern "C" fn ilp_end_last_failure(
     alloc: Global,

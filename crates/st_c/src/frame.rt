@@ -1,4 +1,4 @@
-//! Frames of a STREAM packet (RFC 0029, section 5.3), as a host gives and takes them.
+//! Frames of a STREAM packet (RFC 0029, section 5.3), as a host passes and receives them.
 
 ghost use Rattle.std.specs.Prelude.{◌≡◌, ◌<◌, true, false, MatchOption, option_map};
 ghost use Rattle.st_frames.specs.Seen.{seen};
@@ -8,8 +8,8 @@ ghost use Rattle.st_c.specs.Frames as specs;
 use st_frames::Frame;
 use st_oer::utf8;
 
-/// A frame's type, stream, numbers and code. The first and the second number are those behind the stream number, in the
-/// order of RFC 0029, section 5.3. What the type of a frame does not have is 0.
+/// A frame's type, stream, numbers and code. The first and the second number are those that follow the stream number,
+/// in the order of RFC 0029, section 5.3. What the type of a frame does not have is 0.
 #[repr(C)]
 #[derive(Clone, Copy, Debug, Drop)]
 pub struct HostFrame {
@@ -54,7 +54,7 @@ pub(crate) fn fields_of(frame: Frame<'_>) -> HostFrame
     }
 }
 
-/// A frame's text, address or data. No bytes where its type has none.
+/// A frame's text, address or data. No bytes if its type has none.
 pub(crate) fn data_of(frame: Frame<'_>) -> &[u8]
     ensures { result.now ≡ specs.data_of (seen frame.entry) }
 {
@@ -68,14 +68,14 @@ pub(crate) fn data_of(frame: Frame<'_>) -> &[u8]
     }
 }
 
-/// A number as a byte. `None` exactly where it is above 255.
+/// A number as a byte. `None` exactly if it is above 255.
 fn byte(number: u32) -> Option<u8>
     ensures { MatchOption result (is_byte number ≡ false) (λ byte. (is_byte number ≡ true) × (byte ≡ number)) }
 {
     u8::try_from(number).ok()
 }
 
-/// The frame of a host's fields and data, where these may have values that its type does not have.
+/// The frame of a host's fields and data, which may have values that its type does not have.
 #[tactic(auto, unfolding(crate::specs::Frames::frame_with))]
 fn frame_with<'d>(given: &HostFrame, bytes: &'d [u8]) -> Option<Frame<'d>>
     ensures { option_map seen result ≡ specs.frame_with given.now bytes.now }
@@ -152,7 +152,7 @@ fn has_all(given: &HostFrame, bytes: &[u8], frame: Frame<'_>) -> bool
         && bytes.len() == data_of(frame).len()
 }
 
-/// The frame of a host's fields and data. `None` exactly where the type is not known, a value is given that the type does not
+/// The frame of a host's fields and data. `None` exactly if the type is not known, a value is given that the type does not
 /// have, the code is above 255, or a message or an address is not UTF-8.
 pub(crate) fn frame_given<'d>(given: &HostFrame, bytes: &'d [u8]) -> Option<Frame<'d>>
     ensures { option_map seen result ≡ specs.frame_given given.now bytes.now }

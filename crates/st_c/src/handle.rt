@@ -21,7 +21,7 @@ pub(crate) fn is_empty(alloc: Global, handle: &mut Handle) -> bool
     }
 }
 
-/// Puts a new object into an empty handle, where there is memory for it.
+/// Puts a new object into an empty handle, if there is memory for it.
 pub(crate) fn put_new(alloc: Global, handle: &mut Handle, object: Object, no_memory: u32) -> u32
     requires { handle.old.state ≡ None }
     ensures { ((result ≡ done) × (handle.new.state ≡ Some object)) ⊎ ((result ≡ no_memory) × (handle.new.state ≡ None)) }
@@ -35,7 +35,7 @@ pub(crate) fn put_new(alloc: Global, handle: &mut Handle, object: Object, no_mem
     }
 }
 
-/// Copies bytes to the front of a buffer, where it has room for them, and gives how many they are.
+/// Copies bytes to the front of a buffer, if it has room for them, and sets `len` to their number.
 pub(crate) fn copy_out(bytes: &[u8], out: &mut [u8], len: &mut usize) -> u32
     ensures { Copies bytes.now out.old out.new result len.new }
 {
@@ -48,7 +48,7 @@ pub(crate) fn copy_out(bytes: &[u8], out: &mut [u8], len: &mut usize) -> u32
     DONE
 }
 
-/// Frees what a handle is of, and leaves it empty.
+/// Frees the handle's object, and leaves the handle empty.
 #[unsafe(no_mangle)]
 pub extern "C" fn ilp_free(alloc: Global, handle: &mut Handle)
     ensures { handle.new.state ≡ None }
@@ -58,7 +58,7 @@ pub extern "C" fn ilp_free(alloc: Global, handle: &mut Handle)
     }
 }
 
-/// Copies the bytes that the last call put out to the front of a buffer; `len` is how many they are. `ROOM` where the
+/// Copies the bytes that the last call output to the front of a buffer; `len` is how many they are. `ROOM` if the
 /// buffer has fewer: then nothing is copied.
 #[unsafe(no_mangle)]
 pub extern "C" fn ilp_output(

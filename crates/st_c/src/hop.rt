@@ -49,11 +49,11 @@ fn hop_of(
     }
 }
 
-/// Makes a hop in an empty handle: its ILP address (RFC 0015), its accounts and its routes, whose prefixes stand one
-/// after another in `prefixes`.
+/// Makes a hop in an empty handle: its ILP address (RFC 0015), its accounts and its routes, whose prefixes follow each
+/// other in `prefixes`.
 ///
-/// `MISUSE` where the handle is not empty; `ARGUMENT` where an address is none, a rate has a 0, or `prefixes` is not the
-/// prefixes; 34 where the table is bad; 35 where memory is refused.
+/// `MISUSE` if the handle is not empty; `ARGUMENT` if an address is not valid, a rate has a 0, or `prefixes` is not the
+/// prefixes; 34 if the table is bad; 35 if memory is refused.
 #[unsafe(no_mangle)]
 pub extern "C" fn ilp_hop_new(
     alloc: Global,
@@ -75,7 +75,7 @@ pub extern "C" fn ilp_hop_new(
     }
 }
 
-/// The hop of a table that goes on with these books.
+/// The hop of a table that continues with these books.
 fn restored_of(
     alloc: Global,
     own: &[u8],
@@ -103,12 +103,12 @@ fn restored_of(
     }
 }
 
-/// Makes a hop in an empty handle that goes on with the books of an earlier one: as `ilp_hop_new`, with the claim and the due
-/// of each account. No ticket is open. Tickets are numbered from `next` on, which has to be above each number that an
+/// Makes a hop in an empty handle that continues with the books of an earlier one: as `ilp_hop_new`, with the claim and the
+/// due of each account. No ticket is open. Tickets are numbered from `next` on, which has to be above each number that an
 /// earlier hop with these books gave out.
 ///
-/// Refused as `ilp_hop_new` is; 37 where not each account has a claim and a due, one owes more than its limit above its due,
-/// or a sum is above 2^63 - 1.
+/// Refused as `ilp_hop_new` is; 37 if not each account has a claim and a due, one owes more than its limit above its due, or
+/// a sum is above 2^63 - 1.
 #[unsafe(no_mangle)]
 pub extern "C" fn ilp_hop_restored(
     alloc: Global,
@@ -133,8 +133,8 @@ pub extern "C" fn ilp_hop_restored(
     }
 }
 
-/// Forgets every open ticket, as a restart with the same books does. Claims and dues stay, nothing is held any more, and the
-/// numbers of tickets go on.
+/// Forgets every open ticket, as a restart with the same books does. Claims and dues stay, nothing is reserved any more, and
+/// the numbering of tickets continues.
 #[unsafe(no_mangle)]
 pub extern "C" fn ilp_hop_restart(alloc: Global, handle: &mut Handle) -> u32
     ensures { OnHop handle.old.state handle.new.state result (λ old new. (result ≡ done) × IsRestarted old new) }
@@ -149,18 +149,18 @@ pub extern "C" fn ilp_hop_restart(alloc: Global, handle: &mut Handle) -> u32
 #[repr(C)]
 #[derive(Clone, Copy, Debug, Drop)]
 pub struct HostArrived {
-    /// How many bytes were put out.
+    /// How many bytes were output.
     pub len: usize,
-    /// The index of the account that they go on to.
+    /// The index of the account to which they are forwarded.
     pub account: usize,
-    /// The number of the ticket under which they go on.
+    /// The number of the ticket under which they are forwarded.
     pub ticket: u64,
 }
 
-/// Takes the bytes of a Prepare from an account at the moment `now`. Puts out the Reject that answers it, or, with
-/// `ONWARD`, the Prepare that goes on to another account under a ticket.
+/// Processes the bytes of a Prepare from an account at the time `now`. Outputs the Reject that answers it, or, with
+/// `ONWARD`, the Prepare that is forwarded to another account under a ticket.
 ///
-/// 36 where there is no such account; 35 where memory is refused.
+/// 36 if there is no such account; 35 if memory is refused.
 #[unsafe(no_mangle)]
 pub extern "C" fn ilp_hop_arrive(
     alloc: Global,
@@ -196,19 +196,19 @@ pub extern "C" fn ilp_hop_arrive(
     })
 }
 
-/// What settling a ticket books, in units of the accounts' links. Where it books nothing, all are 0.
+/// What settling a ticket books, in units of the accounts' links. If it books nothing, all are 0.
 #[repr(C)]
 #[derive(Clone, Copy, Debug, Drop)]
 pub struct HostBooking {
-    /// The index of the account that the Prepare came from.
+    /// The index of the account from which the Prepare arrived.
     pub payer: usize,
     /// What it owes more.
     pub claim: u64,
-    /// The index of the account that the Prepare went to.
+    /// The index of the account to which the Prepare was forwarded.
     pub payee: usize,
     /// What it is owed more.
     pub due: u64,
-    /// 1 where the ticket books, else 0.
+    /// 1 if the ticket books, otherwise 0.
     pub books: u32,
 }
 
@@ -240,7 +240,7 @@ fn no_booking() -> HostBooking
 
 /// What `ilp_hop_settle` with the same arguments would book, so that a host can store it before. Changes nothing.
 ///
-/// `UNKNOWN` where no open ticket has this number; 35 where memory is refused.
+/// `UNKNOWN` if no open ticket has this number; 35 if memory is refused.
 #[unsafe(no_mangle)]
 pub extern "C" fn ilp_hop_books(
     alloc: Global,
@@ -269,10 +269,10 @@ pub extern "C" fn ilp_hop_books(
     })
 }
 
-/// Takes the bytes that came back to a Prepare that went on under a ticket, at the moment `now`. Puts out the answer to
-/// the Prepare that had come; `len` is how many bytes it has.
+/// Processes the bytes of the answer to a Prepare that was forwarded under a ticket, at the time `now`. Outputs the
+/// answer to the Prepare that had arrived; `len` is how many bytes it has.
 ///
-/// `UNKNOWN` where no open ticket has this number; 35 where memory is refused.
+/// `UNKNOWN` if no open ticket has this number; 35 if memory is refused.
 #[unsafe(no_mangle)]
 pub extern "C" fn ilp_hop_settle(
     alloc: Global,
@@ -297,8 +297,8 @@ pub extern "C" fn ilp_hop_settle(
     })
 }
 
-/// No bytes came back to a Prepare that went on under a ticket. Puts out the Reject that answers the Prepare that had
-/// come; `len` is how many bytes it has. `UNKNOWN` exactly where no open ticket has this number.
+/// There is no answer to a Prepare that was forwarded under a ticket. Outputs the Reject that answers the Prepare that
+/// had arrived; `len` is how many bytes it has. `UNKNOWN` exactly if no open ticket has this number.
 #[unsafe(no_mangle)]
 pub extern "C" fn ilp_hop_fault(
     alloc: Global,
@@ -319,7 +319,7 @@ pub extern "C" fn ilp_hop_fault(
     })
 }
 
-/// Gives up a ticket without an answer. The amount stays reserved. `UNKNOWN` exactly where no open ticket has this number.
+/// Gives up a ticket without an answer. The amount stays reserved. `UNKNOWN` exactly if no open ticket has this number.
 #[unsafe(no_mangle)]
 pub extern "C" fn ilp_hop_abandon(alloc: Global, handle: &mut Handle, ticket: u64) -> u32
     ensures { OnHop handle.old.state handle.new.state result (λ old new. Abandons old new ticket result) }
@@ -348,7 +348,7 @@ pub struct HostBalances {
     pub claims: u64,
     /// What the hop owes the account.
     pub dues: u64,
-    /// What is held against the account.
+    /// What is reserved of the account.
     pub held: u64,
 }
 
@@ -363,7 +363,7 @@ fn balances_of(hop: &HostHop, account: usize) -> Result<HostBalances, HopError>
     })
 }
 
-/// The balances of an account. 36 where there is no such account.
+/// The balances of an account. 36 if there is no such account.
 #[unsafe(no_mangle)]
 pub extern "C" fn ilp_hop_balances(
     alloc: Global,

@@ -36,14 +36,14 @@ pub struct HostReading {
     pub taken: usize,
     /// The account of a request, by the place of its token.
     pub account: usize,
-    /// How many bytes of the body were put out.
+    /// How many bytes of the body were output.
     pub body_len: usize,
     /// The status of a refusal.
     pub status: u32,
 }
 
-/// The bearer tokens, which stand one after another in a text. Fails with `ARGUMENT` where the text is not that of the tokens,
-/// or one of them is not UTF-8; and with 87 where memory is refused.
+/// The bearer tokens, which follow each other in a text. Fails with `ARGUMENT` if the text is not that of the tokens, or one
+/// of them is not UTF-8; and with 87 if memory is refused.
 fn tokens_of(alloc: Global, text: &[u8], lengths: &[usize]) -> Result<Vec<String>, u32>
     ensures { MatchResult result (λ kept. (are_tokens text.now lengths.now ≡ true) × (map string_bytes kept.items ≡ tokens_of text.now lengths.now)) (λ code. (code ≡ 87) ⊎ ((code ≡ argument) × (are_tokens text.now lengths.now ≡ false))) }
 {
@@ -74,11 +74,11 @@ fn tokens_of(alloc: Global, text: &[u8], lengths: &[usize]) -> Result<Vec<String
     }
 }
 
-/// Begins to read a request in an empty handle. The bearer tokens of the accounts stand one after another in `tokens`, and
+/// Begins to read a request in an empty handle. The bearer tokens of the accounts follow each other in `tokens`, and
 /// `lengths` has the length of each.
 ///
-/// `MISUSE` where the handle is not empty; `ARGUMENT` where the lengths are not together that of the text, or a token is not
-/// UTF-8; 87 where memory is refused.
+/// `MISUSE` if the handle is not empty; `ARGUMENT` if the sum of the lengths is not that of the text, or a token is not
+/// UTF-8; 87 if memory is refused.
 #[unsafe(no_mangle)]
 pub extern "C" fn ilp_request_new(
     alloc: Global,
@@ -101,7 +101,7 @@ pub extern "C" fn ilp_request_new(
     }
 }
 
-/// Begins to read a response in an empty handle. `MISUSE` where the handle is not empty; 87 where memory is refused.
+/// Begins to read a response in an empty handle. `MISUSE` if the handle is not empty; 87 if memory is refused.
 #[unsafe(no_mangle)]
 pub extern "C" fn ilp_response_new(alloc: Global, handle: &mut Handle) -> u32
     ensures { IsResponseMade handle.old.state handle.new.state result }
@@ -114,7 +114,7 @@ pub extern "C" fn ilp_response_new(alloc: Global, handle: &mut Handle) -> u32
     put_new(alloc, handle, Object::Message(message), no_memory)
 }
 
-/// The status of a refusal, 0 where it has none.
+/// The status of a refusal, 0 if it has none.
 fn status_of(error: HttpError) -> u32
     ensures { result ≡ status_of error }
 {
@@ -124,8 +124,8 @@ fn status_of(error: HttpError) -> u32
     }
 }
 
-/// Takes the next bytes of a message. 0 where it is whole: its body is put out. `IDLE` where more bytes are wanted. Else the
-/// number of the refusal, which stays: 82 to 84. 87 where memory is refused: then no byte was taken.
+/// Reads the next bytes of a message. 0 if it is whole: its body is output. `IDLE` if more bytes are wanted. Otherwise the
+/// number of the refusal, which stays: 82 to 84. 87 if memory is refused: then no byte was read.
 #[unsafe(no_mangle)]
 pub extern "C" fn ilp_message_feed(
     alloc: Global,
@@ -172,9 +172,8 @@ fn field(bytes: &[u8]) -> Option<&str>
     }
 }
 
-/// Writes a POST request to `/ilp` (RFC 0035) to the front of a buffer. 0; 103 where the buffer is too small; 102 where the host or
-/// the token is not 1 to 255 characters from 0x21 to 0x7e; 87 where memory is refused. After 0 and 103 `len` is the length of
-/// the text.
+/// Writes a POST request to `/ilp` (RFC 0035) to the front of a buffer. 0; 103 if the buffer is too small; 102 if the host or the
+/// token is not 1 to 255 characters from 0x21 to 0x7e; 87 if memory is refused. After 0 and 103 `len` is the length of the text.
 #[unsafe(no_mangle)]
 pub extern "C" fn ilp_request_text(
     alloc: Global,
@@ -198,7 +197,7 @@ pub extern "C" fn ilp_request_text(
     }
 }
 
-/// Writes a response 200 with this body to the front of a buffer. 0; 103 where the buffer is too small; 87 where memory is
+/// Writes a response 200 with this body to the front of a buffer. 0; 103 if the buffer is too small; 87 if memory is
 /// refused. After 0 and 103 `len` is the length of the text.
 #[unsafe(no_mangle)]
 pub extern "C" fn ilp_answer_text(
@@ -215,8 +214,8 @@ pub extern "C" fn ilp_answer_text(
     }
 }
 
-/// Writes a response with a status of 400 to 599 and no body to the front of a buffer. 0; 103 where the buffer is too small; 102
-/// where the status is another; 87 where memory is refused. After 0 and 103 `len` is the length of the text.
+/// Writes a response with a status of 400 to 599 and no body to the front of a buffer. 0; 103 if the buffer is too small; 102 if
+/// the status is outside this range; 87 if memory is refused. After 0 and 103 `len` is the length of the text.
 #[unsafe(no_mangle)]
 pub extern "C" fn ilp_refusal_text(
     alloc: Global,

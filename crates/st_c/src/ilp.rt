@@ -22,8 +22,8 @@ const FULFILL: u32 = 13;
 /// The kind of a Reject (RFC 0027).
 const REJECT: u32 = 14;
 
-/// An ILP Prepare (RFC 0027) whose texts lie in the bytes that were read: `.._at` is where one begins, `.._len` how many
-/// bytes it has.
+/// An ILP Prepare (RFC 0027) whose texts lie in the bytes that were read: `.._at` is the place of a text's first byte,
+/// `.._len` how many bytes it has.
 #[repr(C)]
 #[derive(Clone, Copy, Debug, Drop)]
 pub struct HostPrepare {
@@ -36,8 +36,8 @@ pub struct HostPrepare {
     pub payload_len: usize,
 }
 
-/// An ILP Fulfill or Reject (RFC 0027) whose texts lie in the bytes that were read: `.._at` is where one begins, `.._len`
-/// how many bytes it has. `kind` is 13 or 14; the parts that the other kind has are 0.
+/// An ILP Fulfill or Reject (RFC 0027) whose texts lie in the bytes that were read: `.._at` is the place of a text's
+/// first byte, `.._len` how many bytes it has. `kind` is 13 or 14; the parts that the other kind has are 0.
 #[repr(C)]
 #[derive(Clone, Copy, Debug, Drop)]
 pub struct HostAnswer {
@@ -52,7 +52,7 @@ pub struct HostAnswer {
     pub payload_len: usize,
 }
 
-/// Where octets of this length begin that end at a place, and where the length of those behind them begins.
+/// The start of octets of this length that end at a place, and the start of their length prefix.
 fn octets_before(end: usize, len: usize) -> (usize, usize)
     ensures start { result.0 ≡ end - len }
     ensures front { result.1 ≡ end - len - length (length_bytes len) }
@@ -174,9 +174,9 @@ pub extern "C" fn ilp_answer_read(bytes: &[u8], answer: &mut HostAnswer) -> u32
     }
 }
 
-/// Writes an ILP Prepare (RFC 0027) to the front of a buffer. It returns 0; 103 where the buffer is too small; 102 where the
-/// destination is not UTF-8; else the number of the refusal: 12, 13, 14 or 18. After 0 and 103 `len` is the length of the
-/// Prepare. A refusal leaves the buffer as it was.
+/// Writes an ILP Prepare (RFC 0027) to the front of a buffer. It returns 0; 103 if the buffer is too small; 102 if the
+/// destination is not UTF-8; otherwise the number of the refusal: 12, 13, 14 or 18. After 0 and 103 `len` is the length of
+/// the Prepare. A refusal leaves the buffer as it was.
 #[unsafe(no_mangle)]
 pub extern "C" fn ilp_prepare_write(
     alloc: Global,
@@ -206,8 +206,8 @@ pub extern "C" fn ilp_prepare_write(
     }
 }
 
-/// Writes an ILP Fulfill (RFC 0027) to the front of a buffer. It returns 0; 103 where the buffer is too small; else the number
-/// of the refusal: 14 or 18. After 0 and 103 `len` is the length of the Fulfill. A refusal leaves the buffer as it was.
+/// Writes an ILP Fulfill (RFC 0027) to the front of a buffer. It returns 0; 103 if the buffer is too small; otherwise the
+/// number of the refusal: 14 or 18. After 0 and 103 `len` is the length of the Fulfill. A refusal leaves the buffer as it was.
 #[unsafe(no_mangle)]
 pub extern "C" fn ilp_fulfill_write(
     alloc: Global,
@@ -228,8 +228,8 @@ pub extern "C" fn ilp_fulfill_write(
     }
 }
 
-/// Writes an ILP Reject (RFC 0027) to the front of a buffer. It returns 0; 103 where the buffer is too small; 102 where `by` or
-/// the message is not UTF-8; else the number of the refusal: 13, 14, 16 or 18. After 0 and 103 `len` is the length of the
+/// Writes an ILP Reject (RFC 0027) to the front of a buffer. It returns 0; 103 if the buffer is too small; 102 if `by` or the
+/// message is not UTF-8; otherwise the number of the refusal: 13, 14, 16 or 18. After 0 and 103 `len` is the length of the
 /// Reject. A refusal leaves the buffer as it was.
 #[unsafe(no_mangle)]
 pub extern "C" fn ilp_reject_write(

@@ -26,7 +26,7 @@ macro_rules! on_keys {
 
 /// Makes the keys of a connection in an empty handle, from its shared secret (RFC 0029).
 ///
-/// `MISUSE` where the handle is not empty; 33 where memory is refused.
+/// `MISUSE` if the handle is not empty; 33 if memory is refused.
 #[unsafe(no_mangle)]
 pub extern "C" fn ilp_keys_new(alloc: Global, handle: &mut Handle, secret: &[u8; 32]) -> u32
     ensures { AreKeysMade secret.now handle.old.state handle.new.state result }
@@ -39,8 +39,8 @@ pub extern "C" fn ilp_keys_new(alloc: Global, handle: &mut Handle, secret: &[u8;
     put_new(alloc, handle, Object::Keys(keys), no_memory)
 }
 
-/// Puts out the payload of a plain text: the IV, the tag and the ciphertext. `len` is how many bytes it has. No two payloads
-/// of a connection may have the same IV. 33 where memory is refused.
+/// Outputs the payload of a plain text: the IV, the tag and the ciphertext. `len` is how many bytes it has. No two payloads
+/// of a connection may have the same IV. 33 if memory is refused.
 #[unsafe(no_mangle)]
 pub extern "C" fn ilp_keys_seal(
     alloc: Global,
@@ -60,8 +60,8 @@ pub extern "C" fn ilp_keys_seal(
     })
 }
 
-/// Puts out the plain text of a payload. `len` is how many bytes it has. 30 where the payload has fewer than 28 bytes; 31 where
-/// its tag does not match its ciphertext; 33 where memory is refused.
+/// Outputs the plain text of a payload. `len` is how many bytes it has. 30 if the payload has fewer than 28 bytes; 31 if its
+/// tag does not match its ciphertext; 33 if memory is refused.
 #[unsafe(no_mangle)]
 pub extern "C" fn ilp_keys_open(
     alloc: Global,

@@ -1,4 +1,4 @@
-//! Calls on a plain STREAM packet (RFC 0029), whose frames are added and taken one by one.
+//! Calls on a plain STREAM packet (RFC 0029), whose frames are added and read one by one.
 
 ghost use Rattle.std.specs.Prelude.{◌≡◌, ◌⊎◌, true, false, length, MatchResult};
 ghost use Rattle.st_embed.specs.Packets.{IsReadPacket, is_kind};
@@ -38,7 +38,7 @@ pub struct HostHeader {
 
 /// Makes a packet without frames in an empty handle. `kind` is that of the ILP packet that carries it: 12, 13 or 14.
 ///
-/// `MISUSE` where the handle is not empty; `ARGUMENT` for another kind; 25 where memory is refused.
+/// `MISUSE` if the handle is not empty; `ARGUMENT` for another kind; 25 if memory is refused.
 #[unsafe(no_mangle)]
 pub extern "C" fn ilp_packet_new(
     alloc: Global,
@@ -78,8 +78,8 @@ fn read(alloc: Global, kind: u32, bytes: &[u8]) -> Result<HostPacket, u32>
 /// Reads all of the bytes as a plain packet that an ILP packet of this kind carried, and makes it in an empty handle. Frames of
 /// unknown types are skipped.
 ///
-/// `MISUSE` where the handle is not empty; `ARGUMENT` where the kind is not 12, 13 or 14; the number of the first fault: 20 to
-/// 24; 25 where memory is refused.
+/// `MISUSE` if the handle is not empty; `ARGUMENT` if the kind is not 12, 13 or 14; the number of the first fault: 20 to 24; 25
+/// if memory is refused.
 #[unsafe(no_mangle)]
 pub extern "C" fn ilp_packet_read(
     alloc: Global,
@@ -119,10 +119,10 @@ pub extern "C" fn ilp_packet_header(
     })
 }
 
-/// Adds a frame behind the others.
+/// Adds a frame after the others.
 ///
-/// `ARGUMENT` where the type is not known, a value is given that the type does not have, the code is above 255, or a message or
-/// an address is not UTF-8; 23 where an address is neither empty nor an ILP address; 25 where memory is refused.
+/// `ARGUMENT` if the type is not known, a value is given that the type does not have, the code is above 255, or a message or an
+/// address is not UTF-8; 23 if an address is neither empty nor an ILP address; 25 if memory is refused.
 #[unsafe(no_mangle)]
 pub extern "C" fn ilp_packet_push(
     alloc: Global,
@@ -141,7 +141,7 @@ pub extern "C" fn ilp_packet_push(
     })
 }
 
-/// Reports the known frame at a place, and puts out its text, address or data.
+/// Reports the known frame at a place, and outputs its text, address or data.
 fn show(
     alloc: Global,
     packet: &mut HostPacket,
@@ -166,11 +166,11 @@ fn show(
     DONE
 }
 
-/// Reports the known frame at a place, counted from 0, and puts out its text, address or data; `len` is how many bytes that
+/// Reports the known frame at a place, counted from 0, and outputs its text, address or data; `len` is how many bytes that
 /// are. `index` is counted over all frames, also those of unknown types, of the packet that was read; that of a frame that was
 /// added is how many known frames there were.
 ///
-/// `ARGUMENT` where there are not so many known frames; 25 where memory is refused.
+/// `ARGUMENT` if no known frame has this place; 25 if memory is refused.
 #[unsafe(no_mangle)]
 pub extern "C" fn ilp_packet_frame(
     alloc: Global,
@@ -185,8 +185,8 @@ pub extern "C" fn ilp_packet_frame(
     on_packet!(alloc, handle, packet => show(alloc, packet, place, frame, index, len))
 }
 
-/// Puts out the bytes of a packet, in the shortest encoding; `len` is how many they are. 23 where a frame has an address that is
-/// neither empty nor an ILP address; 24 above 32,739 bytes; 25 where memory is refused.
+/// Outputs the bytes of a packet, in the shortest encoding; `len` is how many they are. 23 if a frame has an address that is
+/// neither empty nor an ILP address; 24 above 32,739 bytes; 25 if memory is refused.
 #[unsafe(no_mangle)]
 pub extern "C" fn ilp_packet_write(alloc: Global, handle: &mut Handle, len: &mut usize) -> u32
     ensures { OnPacket handle.old.state handle.new.state result (λ old new. Puts old new result len.new) }

@@ -22,11 +22,11 @@ pub struct HostAccount {
     pub max_packet: u64,
 }
 
-/// A route: Prepares for addresses within a prefix go on to an account, with the amount times `num / den`.
+/// A route: Prepares for addresses within a prefix are forwarded to an account, with the amount times `num / den`.
 #[repr(C)]
 #[derive(Clone, Copy, Debug, Drop)]
 pub struct HostRoute {
-    /// Its prefix is the next so many bytes of the text of all prefixes.
+    /// The number of bytes of its prefix, which follows the others in the text of all prefixes.
     pub prefix_len: usize,
     /// The index of the account.
     pub account: usize,
@@ -50,7 +50,7 @@ fn accounts_of(alloc: Global, accounts: &[HostAccount]) -> Result<Vec<Account>, 
     Ok(kept)
 }
 
-/// A route with this prefix, for st_hop. `None` exactly where its rate has a 0.
+/// A route with this prefix, for st_hop. `None` exactly if its rate has a 0.
 fn route_of<'t>(prefix: &'t str, route: &HostRoute) -> Option<Route<'t>>
     ensures { MatchOption result (is_rate route.now ≡ false) (λ r. (is_rate route.now ≡ true) × (way_seen r ≡ way_of prefix.now route.now)) }
 {
@@ -62,8 +62,8 @@ fn route_of<'t>(prefix: &'t str, route: &HostRoute) -> Option<Route<'t>>
     })
 }
 
-/// The routes, for st_hop, whose prefixes stand one after another in a text. Fails with `ARGUMENT` where the text is not
-/// that of the prefixes, one of them is no ILP address, or a rate has a 0; and with 35 where memory is refused.
+/// The routes, for st_hop, whose prefixes follow each other in a text. Fails with `ARGUMENT` if the text is not that of
+/// the prefixes, one of them is not an ILP address, or a rate has a 0; and with 35 if memory is refused.
 fn routes_of<'t>(alloc: Global, text: &'t [u8], routes: &[HostRoute]) -> Result<Vec<Route<'t>>, u32>
     ensures { MatchResult result (λ kept. (are_routes text.now routes.now ≡ true) × (map way_seen kept.items ≡ ways_of text.now routes.now)) (λ code. (code ≡ hop_no_memory) ⊎ ((code ≡ argument) × (are_routes text.now routes.now ≡ false))) }
 {
@@ -100,7 +100,7 @@ pub(crate) struct Table<'t> {
     pub(crate) routes: Vec<Route<'t>>,
 }
 
-/// The table, for st_hop. Fails with `ARGUMENT` where the address is none, or as `routes_of` does; and with 35 where memory
+/// The table, for st_hop. Fails with `ARGUMENT` if the address is not valid, or as `routes_of` does; and with 35 if memory
 /// is refused.
 pub(crate) fn table_of<'t>(
     alloc: Global,

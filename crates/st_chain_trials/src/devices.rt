@@ -1,4 +1,4 @@
-//! `local` over devices of which a call fails, and turns that run out.
+//! `local` over devices of which a call fails, and with too few I/O calls.
 
 use crate::local::settings;
 use st_local::{LocalFault, LocalSends, play_local, run_local};
@@ -52,7 +52,7 @@ fn writes_fail(rt: HostRuntime) {
     }
 }
 
-/// A run for so many turns: what it tells, and the turns that are left.
+/// A run with `given` I/O calls: its result, and the calls that are left.
 fn play(alloc: Global, given: u64) -> (Result<(), LocalFault>, u64) {
     let mut turns = given;
     let mut reader = CountRead::new(TEXT);
@@ -70,7 +70,7 @@ fn play(alloc: Global, given: u64) -> (Result<(), LocalFault>, u64) {
     (played, turns)
 }
 
-/// Two reads, and for each of two parts a write and a flush, take a turn each.
+/// Two reads, and for each of two parts a write and a flush, use one I/O call each.
 #[test]
 fn turns_are_used_up(rt: HostRuntime) {
     for given in 0..6u64 {

@@ -7,7 +7,7 @@ use st_oer::{CountRead, CountWrite};
 use st_settings::LocalSettings;
 use std::alloc::{Allocator, Global};
 
-/// What a run answered: its status, what it wrote, and what it told of a fault.
+/// The result of a run: its status, what it wrote, and the fault that it printed.
 #[derive(Drop)]
 pub(crate) struct Told {
     pub(crate) status: u8,
@@ -16,18 +16,18 @@ pub(crate) struct Told {
 }
 
 impl Told {
-    /// Whether the run wrote this, and told no fault.
+    /// Whether the run wrote this, and printed no fault.
     pub(crate) fn is_done(&self, text: &[u8]) -> bool {
         self.status == 0 && self.written.as_slice() == text && self.errors.is_empty()
     }
 
-    /// Whether the run wrote nothing, and told this fault.
+    /// Whether the run wrote nothing, and printed this fault.
     pub(crate) fn is_fault(&self, line: &[u8]) -> bool {
         self.status == 1 && self.written.is_empty() && self.errors.as_slice() == line
     }
 }
 
-/// The settings of a run over so many hops.
+/// The settings of a run over `hops` hops.
 pub(crate) fn settings(hops: u8, lose: u64, streams: u8) -> LocalSettings
     ensures hops { result.hops ≡ hops }
     ensures streams { result.streams ≡ streams }

@@ -7,8 +7,8 @@ use std::process::Abort;
 
 const TEXT: &[u8] = b"abcd";
 
-/// The run whose request `n` is refused: whether there was one. It tells the fault of that and writes nothing; with memory
-/// back it writes what it reads.
+/// The run whose request `n` is refused: whether there was one. It prints the fault of that and writes nothing; with
+/// memory back it writes what it reads.
 fn meets(rt: &impl Abort, alloc: Global, heap: &Refusing<Global>, n: u64) -> bool {
     let settings = settings(1, 2, 2);
     heap.refuse_only(n);

@@ -51,7 +51,7 @@ struct Plan {
     sizes: [usize; 3],
     money: [u64; 3],
     most_losses: u64,
-    /// One of so many Sends is lost, until there were enough losses.
+    /// One in `often` Sends is lost, until there were enough losses.
     often: u64,
 }
 
@@ -108,7 +108,7 @@ fn is_whole(trace: &Trace<Global>, side: Side, stream: u8, input: &[u8]) -> bool
     ledger.read() == input && ledger.told_end()
 }
 
-/// The first bytes of a text, as many as that.
+/// The first `count` bytes of a text.
 fn front(bytes: &[u8], count: usize) -> &[u8] {
     match bytes.get(0..count) {
         Some(front) => front,
@@ -161,7 +161,7 @@ fn begin_all(rt: &impl Abort, world: &mut World<Global>, plan: &Plan, bytes: &[u
     }
 }
 
-/// How many streams of a plan came whole.
+/// How many streams of a plan arrived intact.
 fn whole_of(trace: &Trace<Global>, plan: &Plan, bytes: &[u8]) -> usize {
     let mut whole = 0usize;
     for at in 0..plan.streams.min(3) {
@@ -199,7 +199,7 @@ fn bytes(rt: &impl Abort, alloc: Global) -> Vec<u8> {
 
 impl Seen {
     /// Whether a run took at most its bound and one Send more for each that was lost, brought all bytes and all money, and
-    /// beside it at most what lost answers carried.
+    /// in addition at most what lost answers carried.
     fn is_lawful(&self, plan: &Plan) -> bool {
         let most = self.lost_answers.saturating_mul(PACKET_LIMIT);
         self.whole == plan.streams
@@ -215,7 +215,8 @@ impl Seen {
     }
 }
 
-/// Each lost Send costs at most one more. All bytes come, and beside all money at most what lost answers carried.
+/// Each lost Send costs at most one more. All bytes and money arrive, and in addition at most what lost answers
+/// carried.
 #[test]
 fn a_lost_send_costs_itself(rt: HostRuntime) {
     let bytes = bytes(&rt, rt.alloc());
@@ -288,7 +289,7 @@ fn play_list(rt: &impl Abort, alloc: Global, plan: &Plan, fates: &[Fate], bytes:
 }
 
 /// 200 lists of fates, over none to three hops: no run has more Sends than its bound and its losses, and some have as
-/// many. What is credited beside all money is exactly what the lost answers carried.
+/// many. What is credited in addition to all money is exactly what the lost answers carried.
 #[test]
 fn no_list_passes_the_bound(rt: HostRuntime) {
     let bytes = bytes(&rt, rt.alloc());
@@ -422,7 +423,7 @@ impl Sender {
 }
 
 /// Both ends send a stream each, in random order, with losses. Whether each took at most its own work and its own losses,
-/// and each stream came whole.
+/// and each stream arrived intact.
 fn both_send(rt: &impl Abort, alloc: Global, numbers: &mut Numbers, bytes: &[u8]) -> bool {
     let mut world = world(rt, alloc, 0);
     let mut client = Sender::begin(rt, &mut world, Side::Client, numbers, bytes);

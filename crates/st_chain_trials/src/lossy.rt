@@ -25,7 +25,7 @@ pub(crate) enum Met {
     Fulfilled,
     /// A hop sent an answer back.
     Replied,
-    /// The sender took a Fulfill.
+    /// The sender received a Fulfill and booked it.
     Booked,
     /// The sender learned of another outcome.
     Failed,
@@ -65,7 +65,7 @@ pub(crate) fn read_all(rt: &impl Abort, world: &mut World<Global>, side: Side) {
     }
 }
 
-/// A world of so many hops, at most one Prepare in flight.
+/// A world of `hops` hops, at most one Prepare in flight.
 pub(crate) fn world(rt: &impl Abort, alloc: Global, hops: usize) -> World<Global> {
     let config = EndConfig::new(1, MAX_PACKETS, PACKET_LIMIT).expect(rt, "it is allowed");
     World::new(alloc, hops, config).expect(rt, "there is memory")
@@ -127,7 +127,7 @@ impl Passage {
         is_sent
     }
 
-    /// The Prepare passes so many links.
+    /// The Prepare crosses `links` links.
     fn go(&mut self, rt: &impl Abort, world: &mut World<Global>, links: usize) {
         for link in 0..links.min(LINKS) {
             let event = Event::Arrive(link, self.way, self.prepares[link], self.now);
@@ -160,7 +160,7 @@ impl Passage {
         }
     }
 
-    /// The answer comes back over the links from the last down to this one.
+    /// The answer returns over the links from the last down to this one.
     fn come_back(&mut self, rt: &impl Abort, world: &mut World<Global>, first: usize) {
         for back in 0..self.hops.saturating_add(1).saturating_sub(first) {
             let link = self.hops.saturating_sub(back);
@@ -210,7 +210,7 @@ impl Numbers {
         Numbers { state: seed }
     }
 
-    /// The next number below a bound, or 0 where that is 0.
+    /// The next number below a bound, or 0 if that is 0.
     pub(crate) fn below(&mut self, bound: u64) -> u64 {
         self.state = self
             .state

@@ -22,13 +22,13 @@ const DOWN: Way = Way::ToClient;
 /// The schedules.
 #[derive(Clone, Copy)]
 enum Schedule {
-    /// The Fulfill of the first Prepare is lost, and its bytes go again.
+    /// The Fulfill of the first Prepare is lost, and its bytes are sent again.
     BytesAgain,
     /// A hop passes at most 100 units on, of 150 that are offered.
     TooLarge,
     /// The Fulfill that the second of two hops gave is lost towards the first.
     LostFulfill,
-    /// Bytes and money go both ways over a hop.
+    /// Bytes and money are sent both ways over a hop.
     BothWays,
 }
 
@@ -143,7 +143,7 @@ fn lose_fulfill<A: Allocator + Copy>(rt: &impl Abort, player: &mut Player<A>) {
     }
 }
 
-/// Both ends write and offer, and both their Prepares come to the other end.
+/// Both ends write and offer, and both their Prepares arrive at the other end.
 fn go_both_ways<A: Allocator + Copy>(rt: &impl Abort, player: &mut Player<A>) {
     player.open(rt, Side::Server, 2);
     write(rt, player, Side::Client, 1);
@@ -158,7 +158,7 @@ fn go_both_ways<A: Allocator + Copy>(rt: &impl Abort, player: &mut Player<A>) {
     player.arrive(rt, 0, DOWN, 1);
 }
 
-/// Their answers come back, and what came is read.
+/// Their answers arrive, and what was received is read.
 fn come_both_ways<A: Allocator + Copy>(rt: &impl Abort, player: &mut Player<A>) {
     player.come_back(rt, 1, UP);
     player.come_back(rt, 0, DOWN);
@@ -168,7 +168,7 @@ fn come_both_ways<A: Allocator + Copy>(rt: &impl Abort, player: &mut Player<A>) 
     read(rt, player, Side::Client, 2);
 }
 
-/// Whether the text was read to its end, and all else that is told of a stream did not happen.
+/// Whether the text was read to its end, and nothing else that a stream's record reports has happened.
 fn is_read<A: Allocator + Copy>(trace: &Trace<A>) -> bool {
     let Some(ledger) = trace.ledger(Side::Client, 1) else {
         return false;
@@ -200,7 +200,7 @@ fn has_paid<A: Allocator + Copy>(trace: &Trace<A>, side: Side, paid: u64, credit
     trace.end(side).totals().paid == paid && trace.end(other(side)).totals().credited == credited
 }
 
-/// Whether the claimer's claims against the neighbour before it, and the payer's dues to the one behind it, are these.
+/// Whether the claimer's claims against the neighbour before it, and the payer's dues to the one after it, are these.
 fn stands<A: Allocator + Copy>(
     trace: &Trace<A>,
     claimer: usize,
@@ -237,7 +237,7 @@ fn hops(rt: &impl Abort, alloc: Global, limits: &[u64]) -> Vec<Account> {
     hops
 }
 
-/// That the trace is that of the schedule, and that an event was recorded or met no memory where a request was refused.
+/// That the trace is that of the schedule. If a request was refused, one event was not recorded or ran out of memory.
 fn check<A: Allocator + Copy>(
     rt: &impl Abort,
     player: &Player<A>,

@@ -11,7 +11,7 @@ use std::process::Abort;
 
 const IV: [u8; 12] = [7; 12];
 
-/// What the ends tell, how many Prepares were answered, and all claims and dues of the hops.
+/// What the ends report, how many Prepares were answered, and all claims and dues of the hops.
 #[derive(Clone, Copy, Debug, PartialEq, Eq)]
 struct Standing {
     client: Totals,
@@ -67,7 +67,7 @@ impl Standing {
 pub(crate) struct Player<A: Allocator + Copy> {
     world: World<A>,
     now: Moment,
-    /// How many events the world could not record, and how many core calls found no memory.
+    /// How many events the world could not record, and how many core calls ran out of memory.
     faults: u64,
     lacks: u64,
     /// How many answers were given on each link, to Prepares for the server and to those for the client.
@@ -103,7 +103,7 @@ impl<A: Allocator + Copy> Player<A> {
         self.faults.saturating_add(self.lacks)
     }
 
-    /// How many core calls found no memory.
+    /// How many core calls ran out of memory.
     pub(crate) fn lacks(&self) -> u64 {
         self.lacks
     }
@@ -116,7 +116,7 @@ impl<A: Allocator + Copy> Player<A> {
         }
     }
 
-    /// An event. Where the world could not record it, nothing has changed, and it happens again.
+    /// An event. If the world could not record it, nothing has changed, and it happens again.
     fn record(&mut self, rt: &impl Abort, event: &Event<'_>) -> Told<A> {
         let before = Standing::of(self.world.trace());
         match self.world.step(event) {
@@ -130,7 +130,7 @@ impl<A: Allocator + Copy> Player<A> {
         }
     }
 
-    /// That a core call found no memory, and left what stood before: a Prepare that came was answered T00.
+    /// That a core call ran out of memory, and changed nothing: a Prepare that arrived was answered T00.
     fn note_lack(&mut self, rt: &impl Abort, event: &Event<'_>, before: Standing) {
         assert!(rt; self.world.trace().refused());
         self.lacks = self.lacks.saturating_add(1);
@@ -142,7 +142,7 @@ impl<A: Allocator + Copy> Player<A> {
         assert!(rt; Standing::of(self.world.trace()) == want);
     }
 
-    /// The same, and again where the core call found no memory.
+    /// The same, and again if the core call ran out of memory.
     fn take(&mut self, rt: &impl Abort, event: &Event<'_>) -> Told<A> {
         let before = Standing::of(self.world.trace());
         let told = self.record(rt, event);
@@ -187,19 +187,19 @@ impl<A: Allocator + Copy> Player<A> {
         self.call(rt, &Event::Offer(side, stream, amount));
     }
 
-    /// An end's next Prepare goes on its way.
+    /// An end's next Prepare is sent.
     pub(crate) fn send(&mut self, rt: &impl Abort, side: Side) {
         let event = Event::Send(side, IV, self.now);
         assert!(rt; matches!(self.take(rt, &event), Told::Sent));
     }
 
-    /// A Prepare comes to the far end of its link.
+    /// A Prepare arrives at the far end of its link.
     fn come(&mut self, rt: &impl Abort, link: usize, way: Way, which: usize) -> Told<A> {
         let event = Event::Arrive(link, way, which, self.now);
         self.take(rt, &event)
     }
 
-    /// A Prepare comes to an end, which fulfils it.
+    /// A Prepare arrives at an end, which fulfills it.
     pub(crate) fn arrive(&mut self, rt: &impl Abort, link: usize, way: Way, which: usize) {
         match self.come(rt, link, way, which) {
             Told::Answered { reason, .. } => assert!(rt; reason == 0),
@@ -208,12 +208,12 @@ impl<A: Allocator + Copy> Player<A> {
         self.note_answer(rt, link, way);
     }
 
-    /// A Prepare comes to a hop, which puts it on the next link.
+    /// A Prepare arrives at a hop, which puts it on the next link.
     pub(crate) fn pass(&mut self, rt: &impl Abort, link: usize, way: Way, which: usize) {
         assert!(rt; matches!(self.come(rt, link, way, which), Told::Went));
     }
 
-    /// A Prepare comes to a hop, which answers it.
+    /// A Prepare arrives at a hop, which answers it.
     pub(crate) fn turn_back(&mut self, rt: &impl Abort, link: usize, way: Way, which: usize) {
         assert!(rt; matches!(self.come(rt, link, way, which), Told::Replied));
         self.note_answer(rt, link, way);
@@ -228,7 +228,7 @@ impl<A: Allocator + Copy> Player<A> {
         }
     }
 
-    /// An outcome comes back: an end takes it, and a hop gives an answer on the link before.
+    /// An outcome arrives: an end applies it, and a hop gives an answer on the link before.
     fn outcome(&mut self, rt: &impl Abort, link: usize, way: Way, event: &Event<'_>) {
         let told = self.take(rt, event);
         match self.before(link, way) {
@@ -240,7 +240,7 @@ impl<A: Allocator + Copy> Player<A> {
         }
     }
 
-    /// The last answer of a link comes back.
+    /// The last answer of a link arrives.
     pub(crate) fn come_back(&mut self, rt: &impl Abort, link: usize, way: Way) {
         let last = *self.given(rt, link, way);
         let event = Event::AnswerArrives(link, way, last, self.now);
@@ -253,7 +253,7 @@ impl<A: Allocator + Copy> Player<A> {
         self.outcome(rt, link, way, &event);
     }
 
-    /// What a read of a stream at an end tells, of as many bytes as there are.
+    /// The result of a read of a stream at an end, of as many bytes as there are.
     pub(crate) fn read(&mut self, rt: &impl Abort, side: Side, stream: u8) -> Told<A> {
         self.take(rt, &Event::Read(side, stream, usize::MAX))
     }

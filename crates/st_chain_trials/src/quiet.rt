@@ -1,4 +1,4 @@
-//! Quiet runs: what they deliver, and how many Sends it takes, beside the most that the contract allows.
+//! Lossless runs: what they deliver, and how many Sends it takes, compared with the most that the contract allows.
 
 use refusing::Refusing;
 use st_bounded::{Delivery, Fault, quiet};
@@ -24,7 +24,7 @@ const ROWS: [(usize, usize, u64); 8] = [
     (262_145, 0, 18),
 ];
 
-/// So many bytes, each unlike those 16,000 before and behind it.
+/// `count` bytes, each unlike those 16,000 before and after it.
 fn bytes(rt: &impl Abort, alloc: Global, count: usize) -> Vec<u8> {
     let mut bytes = Vec::new(alloc);
     for place in 0..count {
@@ -34,7 +34,7 @@ fn bytes(rt: &impl Abort, alloc: Global, count: usize) -> Vec<u8> {
     bytes
 }
 
-/// A world of so many hops, where nothing has happened.
+/// A world of `hops` hops, in which nothing has happened.
 fn world<A: Allocator + Copy>(rt: &impl Abort, alloc: A, hops: usize) -> World<A> {
     let config = EndConfig::new(1, MAX_PACKETS, PACKET_LIMIT).expect(rt, "it is allowed");
     World::new(alloc, hops, config).expect(rt, "there is memory")
@@ -45,10 +45,10 @@ fn world<A: Allocator + Copy>(rt: &impl Abort, alloc: A, hops: usize) -> World<A
 struct Seen {
     /// The number of the refusal.
     fault: Option<u8>,
-    /// Whether a call found no memory.
+    /// Whether a call ran out of memory.
     is_noted: bool,
     is_opened: bool,
-    /// Whether all bytes of each stream were written and read, and its end was told.
+    /// Whether all bytes of each stream were written and read, and a read gave its end.
     is_whole: bool,
     sends: u64,
     /// How many of them the server answered.
@@ -62,7 +62,7 @@ impl Seen {
         self.fault.is_none() && !self.is_noted && self.is_whole && self.paid == self.credited
     }
 
-    /// Whether it ended early for want of memory, and counts each Send that was answered, and at most the next.
+    /// Whether it ended early because memory ran out, and counts each Send that was answered, and at most the next.
     fn is_cut(&self) -> bool {
         match self.fault {
             Some(fault) => fault == 77,
@@ -75,7 +75,7 @@ impl Seen {
     }
 }
 
-/// Whether a stream's bytes were all written and read, and its end was told.
+/// Whether a stream's bytes were all written and read, and a read gave its end.
 fn is_whole<A: Allocator + Copy>(trace: &Trace<A>, stream: u8, input: &[u8]) -> bool {
     let Some(ledger) = trace.ledger(Side::Client, stream) else {
         return false;
@@ -128,7 +128,7 @@ fn play<A: Allocator + Copy>(world: World<A>, input: &[&[u8]], money: &[u64]) ->
     seen_of(&quiet(world, input, money), input)
 }
 
-/// How many Sends it takes to deliver so many bytes over so many hops.
+/// How many Sends it takes to deliver `count` bytes over `hops` hops.
 fn sends_for(rt: &impl Abort, alloc: Global, count: usize, hops: usize) -> u64 {
     let input = bytes(rt, alloc, count);
     let seen = play(world(rt, alloc, hops), &[&input], &[0]);
@@ -169,7 +169,7 @@ fn money_goes_with_bytes(rt: HostRuntime) {
     }
 }
 
-/// The run over one hop, where the request of this number is refused.
+/// The run over one hop, in which the request of this number is refused.
 fn play_cut(rt: &impl Abort, heap: &Refusing<Global>, n: u64) -> Seen {
     heap.refuse_none();
     let world = world(rt, heap, 1);

@@ -28,7 +28,7 @@ pub(crate) fn account(max_packet: u64) -> Account {
     }
 }
 
-/// The schedule's trace, in which no call found no memory.
+/// The schedule's trace, in which no call ran out of memory.
 fn played(rt: &impl Abort, world: World<Global>, events: &[Event<'_>]) -> Trace<Global> {
     match world.play(events) {
         Ok(trace) => {
@@ -53,7 +53,7 @@ fn exchanging(rt: &impl Abort, alloc: Global) -> World<Global> {
     World::with_rates(alloc, &hops, least).expect(rt, "there is memory")
 }
 
-/// What happens to 100 units that go over them.
+/// What happens to 100 units that cross them.
 fn happens(place: usize, now: Moment) -> Event<'static> {
     match place {
         0 => Event::OpenStream(Side::Client),
@@ -78,13 +78,13 @@ fn events(rt: &impl Abort, alloc: Global) -> Vec<Event<'static>> {
     events
 }
 
-/// The trace of 100 units that go over them.
+/// The trace of 100 units that cross them.
 fn exchanged(rt: &impl Abort, alloc: Global) -> Trace<Global> {
     let events = events(rt, alloc);
     played(rt, exchanging(rt, alloc), &events)
 }
 
-/// The claims of a hop against the one before it, and its dues to the one behind it.
+/// The claims of a hop against the one before it, and its dues to the one after it.
 pub(crate) fn balances(trace: &Trace<Global>, place: usize) -> Option<(u64, u64)> {
     let hop = trace.hop(place)?;
     Some((hop.claims(0).ok()?, hop.dues(1).ok()?))

@@ -8,8 +8,8 @@ use std::io;
 use std::io::{ErrorKind, Read, Write};
 use std::process::Abort;
 
-/// A device that moves at most `piece` bytes a call. Its call number `fails_at` fails, where the first is number 1 and a
-/// flush is a call.
+/// A device that moves at most `piece` bytes a call. Its call number `fails_at` fails, counted from 1; a flush is a
+/// call.
 #[derive(Drop)]
 pub(crate) struct Faulty<T> {
     inner: T,
@@ -69,7 +69,7 @@ impl<T: Write> Write for Faulty<T> {
     }
 }
 
-/// A writer to memory, where what was flushed stands apart from what was only written.
+/// A writer to memory, which keeps what was flushed apart from what was only written.
 #[derive(Drop)]
 pub(crate) struct Sink {
     flushed: Vec<u8>,
@@ -136,7 +136,8 @@ const TWO_LINES: &str = "line 2 refused 95\nline 4 refused 20\n";
 
 const THREE_LINES: &str = "line 2 refused 95\nline 4 refused 20\nstream 1 4 61626364\n";
 
-/// What a run did: its status, what it wrote and told of a fault, and how often it called its reader and its writer.
+/// What a run did: its status, what it wrote, the fault that it reported, and how often it called its reader and its
+/// writer.
 #[derive(Drop)]
 pub(crate) struct Told {
     status: u8,
@@ -152,12 +153,12 @@ impl Told {
         self.written.text()
     }
 
-    /// What it told of a fault, and flushed.
+    /// The fault that it reported, and flushed.
     pub(crate) fn fault(&self) -> &str {
         self.errors.text()
     }
 
-    /// Whether it wrote and told this, and ended with this status.
+    /// Whether it wrote this and reported this fault, and ended with this status.
     pub(crate) fn is(&self, text: &str, fault: &str, status: u8) -> bool {
         self.text() == text && self.fault() == fault && self.status == status
     }
@@ -196,7 +197,7 @@ pub(crate) fn answer_to<A: Allocator + Copy>(memory: A, alloc: Global, input: &s
     answer_by(memory, alloc, input, 4096)
 }
 
-/// The same, where a read gives at most `piece` bytes.
+/// The same, with reads of at most `piece` bytes.
 pub(crate) fn answer_by<A: Allocator + Copy>(
     memory: A,
     alloc: Global,
@@ -207,7 +208,8 @@ pub(crate) fn answer_by<A: Allocator + Copy>(
     run_over(memory, reader, sound_sink(alloc), sound_sink(alloc))
 }
 
-/// Ends the test where a fact does not hold of devices that take and give so many bytes a call, and fail at call `n`.
+/// Ends the test if a fact does not hold of devices that accept `taken` and give `given` bytes a call, and fail at call
+/// `n`.
 fn sure_of(rt: &impl Abort, holds: bool, taken: usize, given: usize, n: u64) {
     assert!(rt; holds, "{taken} and {given} at {n}");
 }
@@ -226,9 +228,9 @@ fn few_bytes_a_call(rt: HostRuntime) {
     }
 }
 
-/// Each read fails in turn, of which there is one for each piece and one more that meets the end. The fault is told, and
-/// each line that was read before is answered, and no more. Each row: the piece, the first and the last such read, and what
-/// was flushed.
+/// Each read fails in turn, of which there is one for each chunk and one more that meets the end. The fault is reported,
+/// and each line that was read before is answered, and no more. Each row: the size of a chunk, the first and the last such
+/// read, and what was flushed.
 #[test]
 fn reads_fail(rt: HostRuntime) {
     let rows: [(usize, u64, u64, &str); 8] = [
@@ -252,9 +254,9 @@ fn reads_fail(rt: HostRuntime) {
     }
 }
 
-/// Each write and each flush fails in turn: there is a write for each piece of a text, and a flush after each text. The
-/// texts are the refusals that one read makes known, and each stream's line. Each row: the pieces that are read and written,
-/// the first and the last call that fails, and what was flushed before.
+/// Each write and each flush fails in turn: there is a write for each chunk of a text, and a flush after each text. The
+/// texts are the refusals that one read makes known, and each stream's line. Each row: the sizes of the chunks that are read
+/// and written, the first and the last call that fails, and what was flushed before.
 #[test]
 fn writes_fail(rt: HostRuntime) {
     let rows: [(usize, usize, u64, u64, &str); 10] = [
@@ -293,7 +295,7 @@ fn calls_are_interrupted(rt: HostRuntime) {
     }
 }
 
-/// Each read, write and flush takes a turn: two reads, and for each text a write and a flush.
+/// Each read, write and flush counts: two reads, and for each text a write and a flush.
 #[test]
 fn turns_are_used_up(rt: HostRuntime) {
     let alloc = rt.alloc();
@@ -337,7 +339,7 @@ fn a_run_makes_many_calls(rt: HostRuntime) {
     sure!(&rt; told.status == 1);
 }
 
-/// A fault that cannot be told is a fault, whichever call of the writer of errors fails.
+/// A fault that cannot be reported is a fault, whichever call of the writer of errors fails.
 #[test]
 fn the_telling_fails(rt: HostRuntime) {
     let alloc = rt.alloc();

@@ -7,8 +7,8 @@ use std::process::Abort;
 /// The digits of a packet's front: version 1, kind 12, sequence 1, amount 0, one frame.
 const FRONT: &str = "010c010101000101";
 
-/// Whether this is written for an input, and no fault told, where a read gives at most `piece` bytes: the status is 1 where it
-/// tells of a refused line.
+/// Whether this is written for an input, and no fault is reported, with reads of at most `piece` bytes: the status is 1 if it
+/// reports a refused line.
 fn is_answered_by(alloc: Global, input: &str, text: &str, piece: usize) -> bool {
     let status = u8::from(text.contains("refused"));
     answer_by(alloc, alloc, input, piece).is(text, "", status)
@@ -33,7 +33,7 @@ fn straddling(rt: &impl Abort, alloc: Global, n: u8) -> (String, String) {
     (input, text)
 }
 
-/// Packets come in reads of every size, so that a read ends at each place of their lines.
+/// Packets are given in reads of every size, so that a read ends at each place of their lines.
 #[test]
 fn packets_straddle_reads(rt: HostRuntime) {
     let alloc = rt.alloc();

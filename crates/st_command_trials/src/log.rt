@@ -74,7 +74,7 @@ fn a_limit_has_its_stream(rt: HostRuntime) {
     sure!(&rt; is_line(rt.alloc(), MOMENT, &event, text));
 }
 
-/// A line of 1,500 bytes of 4,000, of which 300 came in the last 600 milliseconds, after a Reject whose code has an escape character.
+/// A line of 1,500 bytes of 4,000, of which 300 arrived in the last 600 milliseconds, after a Reject whose code has an escape character.
 #[test]
 fn a_line_says_how_far_a_transfer_is(rt: HostRuntime) {
     let progress = Progress {
@@ -95,7 +95,7 @@ fn a_line_says_how_far_a_transfer_is(rt: HostRuntime) {
     sure!(&rt; is_so);
 }
 
-/// A line of a sender that paid all 500 units that its peer takes, and sends ten bytes a second of 37,260.
+/// A line of a sender that paid all 500 units that its peer accepts, and sends ten bytes a second of 37,260.
 #[test]
 fn a_line_has_the_limit_and_the_time_left(rt: HostRuntime) {
     let progress = Progress {
@@ -120,7 +120,7 @@ fn a_line_has_the_limit_and_the_time_left(rt: HostRuntime) {
     sure!(&rt; is_so);
 }
 
-/// Thirteen events of one kind in a second have ten lines. The next second tells of the three.
+/// Thirteen events of one kind in a second have ten lines. The next second reports the three.
 #[test]
 fn what_is_left_out_is_told(rt: HostRuntime) {
     let alloc = rt.alloc();
@@ -167,7 +167,7 @@ fn a_failed_write_is_made_again(rt: HostRuntime) {
     sure!(&rt; text.as_slice() == lines.as_slice());
 }
 
-/// Takes nothing for so many calls, as a pipe whose reader is behind.
+/// Accepts no bytes for a given number of calls, as a pipe whose reader is slow.
 #[derive(Drop)]
 struct Full<T> {
     inner: T,
@@ -211,7 +211,7 @@ fn a_line_that_would_wait_is_written_later(rt: HostRuntime) {
     sure!(&rt; text.as_slice() == lines.as_slice());
 }
 
-/// The line of the end waits for a writer that takes nothing at first.
+/// The line of the end waits for a writer that accepts nothing at first.
 #[test]
 fn the_end_waits_for_its_writer(rt: HostRuntime) {
     let alloc = rt.alloc();
@@ -227,7 +227,7 @@ fn the_end_waits_for_its_writer(rt: HostRuntime) {
     sure!(&rt; text.as_slice() == b"2026-01-02T03:04:05.006Z end ok\n".as_slice());
 }
 
-/// Of 1,030 lines for a writer that takes nothing, 1,024 wait. The next one tells of the other six.
+/// Of 1,030 lines for a writer that accepts nothing, 1,024 wait. The next one reports the other six.
 #[test]
 fn what_finds_no_room_is_told(rt: HostRuntime) {
     let alloc = rt.alloc();
@@ -263,7 +263,8 @@ fn a_text_of_a_peer_is_cut(rt: HostRuntime) {
     sure!(&rt; is_cut(rt.alloc(), "\u{1f600}", "\\xf0\\x9f\\x98\\x80", 16));
 }
 
-/// Whether of a message that has one character as often as fits, and once more, so many are in the line.
+/// Whether `most` characters of a message are in the line, if the message has one character as often as fits, and once
+/// more.
 fn is_cut(alloc: Global, character: &str, written: &str, most: usize) -> bool {
     let (Ok(whole), Ok(more), Ok(kept)) = (
         repeated(alloc, character, most),
@@ -275,7 +276,7 @@ fn is_cut(alloc: Global, character: &str, written: &str, most: usize) -> bool {
     has_message(alloc, &whole, &kept, "") && has_message(alloc, &more, &kept, "..")
 }
 
-/// A text, so many times.
+/// A text, repeated `count` times.
 fn repeated(alloc: Global, text: &str, count: usize) -> Result<String, AllocError> {
     let mut all = String::new(alloc);
     for _ in 0..count {

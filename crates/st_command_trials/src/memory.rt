@@ -12,14 +12,15 @@ const PAIRS: &str = "010c010101000102140701010102026364140701010104026566
 010c010301000102140701010106026768140701020102027a7a
 ";
 
-/// What is written and told of `STORED` where one request is refused. Its packets have one frame each, and the first of
-/// them that is taken opens the stream: the others want no memory. Or the run ends with a fault.
+/// What is written of `STORED`, and the fault that is reported, if one request is refused. Its packets have one frame
+/// each, and the first of them that is accepted opens the stream: the others allocate nothing. Or the run ends with a
+/// fault.
 const STORED_REFUSED: [(&str, &str); 2] = [
     ("line 1 refused 42\nstream 1 2 6162\n", ""),
     ("", "fault 99\n"),
 ];
 
-/// The same of `PAIRS`: a line is refused whole, and the others have their effect; the fault comes before the first
+/// The same of `PAIRS`: a line is refused whole, and the others have their effect; the fault is before the first
 /// stream is written, or between the two.
 const PAIRS_REFUSED: [(&str, &str); 5] = [
     (
@@ -37,7 +38,7 @@ const PAIRS_REFUSED: [(&str, &str); 5] = [
 
 const PAIRS_TEXT: &str = "stream 1 8 6162636465666768\nstream 2 4 78797a7a\n";
 
-/// Notes that this is what was written and told: whether it is one of those that may come.
+/// Notes that this was written and reported: returns whether it is one of the permitted answers.
 fn note(came: &mut [bool], refused: &[(&str, &str)], told: &Told) -> bool {
     let mut is_one = false;
     for k in 0..refused.len() {
@@ -51,7 +52,7 @@ fn note(came: &mut [bool], refused: &[(&str, &str)], told: &Told) -> bool {
     is_one
 }
 
-/// A run whose request `n` is refused: whether there was one. One of these answers comes then, and with memory back the same
+/// A run whose request `n` is refused: whether there was one. The answer is one of these, and with memory back the same
 /// input is answered.
 fn meets(
     rt: &impl Abort,
@@ -76,7 +77,7 @@ fn meets(
     met
 }
 
-/// Each request of a run is refused in turn. All of these answers come and no other.
+/// Each request of a run is refused in turn. Each of these answers is seen, and no other.
 fn refuses_each_request(
     rt: &impl Abort,
     alloc: Global,
@@ -117,7 +118,7 @@ fn a_frame_alone_copies_nothing(rt: HostRuntime) {
     sure!(&rt; requests_for(alloc, named) == requests_for(alloc, unknown));
 }
 
-/// From a request on there is no memory: the fault is told, which asks for none.
+/// From a request on there is no memory: the fault is reported, which needs none.
 #[test]
 fn each_later_request_is_refused(rt: HostRuntime) {
     let heap: Refusing<Global> = Refusing::new(rt.alloc());

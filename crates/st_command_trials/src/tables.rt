@@ -14,8 +14,8 @@ route example 0
 account 5 5 carol [::1]:1 x
 route example.carol 2 1 1";
 
-/// Each request for memory is refused in turn, from the first until a run meets no refusal. A refused one is want of memory,
-/// or was for room that is not needed yet; it is never a bad line.
+/// Each request for memory is refused in turn, from the first until a run meets no refusal. A refused one is reported as out
+/// of memory, or was for room that is not needed yet; it is never a bad line.
 #[test]
 fn each_request_is_refused(rt: HostRuntime) {
     let heap: Refusing<Global> = Refusing::new(rt.alloc());
@@ -33,7 +33,7 @@ fn each_request_is_refused(rt: HostRuntime) {
     sure!(&rt; 0 < last && !heap.has_refused());
 }
 
-/// Two accounts, and a route behind an empty line whose account is not there.
+/// Two accounts, and after an empty line a route whose account is not there.
 const NO_ACCOUNT: &[u8] = b"account 1000 100 alice - -
 account NAME=b 5 5 bob - -
 

@@ -1,4 +1,4 @@
--- The machine value of a handle: a pointer beside an allocator of no bytes. Assumes `Logic`.
+-- The machine value of a handle: a pointer with an allocator of no bytes. Assumes `Logic`.
 use Rattle.std.proofs.Common.{◌≡◌, ℕ, List, [], ◌∷◌, ◌++◌, refl, subst, lit<}
 use mathlib.Core.Bool.{◌&&◌}
 use lib.Dec.{T}

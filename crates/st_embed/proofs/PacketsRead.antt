@@ -7,7 +7,7 @@ use Rattle.st_frames.specs.Laws.{PacketReads}
 use Rattle.st_embed.specs.declared.packet.HostPacket.{HostPacket}
 use Rattle.st_embed.specs.Packets.{kind_number, placed, packet_seen, AreKept, IsNewPacket, IsReadPacket}
 
--- frames that are kept behind none are all of them
+-- if there were no frames before, those that are added are all of them
 pub all_kept : (kind sequence amount : ℕ) (frames : List (ℕ × Known)) (new after : HostPacket) → IsNewPacket kind sequence amount new → AreKept new after frames
     → packet_seen after ≡ record { kind = kind; sequence = sequence; amount = amount; frames = frames }
 all_kept kind sequence amount frames new after is kept =

@@ -13,13 +13,13 @@ use Rattle.st_embed.specs.declared.end.Piece.{Piece}
 use Rattle.st_embed.specs.declared.end.Piece.TheVariants as piece
 use Rattle.st_embed.specs.declared.end.HostEnd.{HostEnd}
 
--- no flight was given out, and nothing put out
+-- no flight was given out, and there is no output
 pub record IsNewEnd (e : EndState) (h : HostEnd) : Type 0 where
   pub state_is : h.state ≡ e
   pub flights_are : h.flights.items ≡ []
   pub output_is : h.output.items ≡ []
 
--- a refusal leaves the end, its flights and what was put out; there may be room for one flight more
+-- a refusal leaves the end, its flights and its output; there may be room for one flight more
 pub record IsSameEnd (old new : HostEnd) : Type 0 where
   pub state_is : new.state ≡ old.state
   pub flights_are : new.flights.items ≡ old.flights.items
@@ -35,7 +35,7 @@ pub record IsFlight (e : EndState) (kept : List Open) (number : ℕ) (place : �
 abbrev pub HasNoFlight : EndState → List Open → (number : ℕ) → Type 0
 HasNoFlight e kept number = (place : ℕ) (flight : Open) → ¬ IsFlight e kept number place flight
 
--- one flight of this number ends by the bytes that came back, or by a fault where none did, and the others are kept
+-- one flight of this number ends by an answer's bytes, or by a fault if there was none, and the others are kept
 pub record IsSpent (old new : HostEnd) (number : ℕ) (back : Option (List ℕ)) (flight : Open) : Type 0 where
   pub place : ℕ
   pub flight_is : IsFlight old.state old.flights.items number place flight
@@ -58,7 +58,7 @@ abbrev pub piece_seen : List ℕ → Result Piece EndError → Result reading.Go
 piece_seen bytes (Ok p) = Ok (got_with bytes p)
 piece_seen bytes (Err why) = Err why
 
--- where no bytes are put out, those that were put out before stay
+-- if a read returns no bytes, the earlier output stays
 abbrev pub IfNoBytes : Piece → Type 0 → Type 0
 IfNoBytes piece.Bytes P = Unit {0}
 IfNoBytes other P = P

@@ -12,13 +12,13 @@ use Rattle.st_embed.specs.declared.hop.Way.TheVariants.{Back, Onward}
 use Rattle.st_embed.specs.declared.hop.Settling.{Settling}
 use Rattle.st_embed.specs.declared.hop.Settling.TheVariants.{Unknown, Nothing, Books}
 
--- no ticket was given out, and nothing put out
+-- no ticket was given out, and there is no output
 pub record IsNewHop (h : Hop) (k : HostHop) : Type 0 where
   pub state_is : k.state ≡ h
   pub tickets_are : k.tickets.items ≡ []
   pub output_is : k.output.items ≡ []
 
--- a refusal leaves the hop, its tickets and what was put out; there may be room for one ticket more
+-- a refusal leaves the hop, its tickets and its output; there may be room for one ticket more
 pub record IsSameHop (old new : HostHop) : Type 0 where
   pub state_is : new.state ≡ old.state
   pub tickets_are : new.tickets.items ≡ old.tickets.items
@@ -34,12 +34,12 @@ pub record IsTicket (h : Hop) (kept : List Open) (number : ℕ) (place : ℕ) (t
 abbrev pub HasNoTicket : Hop → List Open → (number : ℕ) → Type 0
 HasNoTicket h kept number = (place : ℕ) (ticket : Open) → ¬ IsTicket h kept number place ticket
 
--- a Prepare is answered, or goes on under a ticket that is kept
+-- a Prepare is answered, or is forwarded under a ticket that is kept
 abbrev pub Arrives : (old : HostHop) (account : ℕ) (bytes : List ℕ) (now : ℤ) → Way → (new : HostHop) → Type 0
 Arrives old account bytes now Back new = (arrived old.state account bytes now ≡ (Answers new.output.items, new.state)) × (new.tickets.items ≡ old.tickets.items)
 Arrives old account bytes now (Onward number next) new = (t : Open) × ((t.number ≡ number) × ((arrived old.state account bytes now ≡ (Forwards t next new.output.items, new.state)) × (new.tickets.items ≡ old.tickets.items ++ t ∷ [])))
 
--- one ticket of this number ends by the bytes that came back, or by a fault where none did, and the others are kept
+-- one ticket of this number ends by the bytes of an answer, or by a fault if there was none, and the others are kept
 pub record IsSettled (old new : HostHop) (number : ℕ) (back : Option (List ℕ)) (now : ℤ) : Type 0 where
   pub ticket : Open
   pub place : ℕ
@@ -56,7 +56,7 @@ pub record IsAbandoned (old new : HostHop) (number : ℕ) : Type 0 where
   pub left_is : new.tickets.items ≡ remove old.tickets.items place
   pub output_is : new.output ≡ old.output
 
--- what was open is gone, numbers go on, and what was put out stays
+-- what was open is gone, numbers continue, and the output stays
 pub record IsRestarted (old new : HostHop) : Type 0 where
   pub state_is : new.state ≡ restarted old.state old.state.next
   pub tickets_are : new.tickets.items ≡ []

@@ -3,7 +3,7 @@ use Rattle.std.specs.Prelude.{◌≡◌, []}
 use Rattle.st_keys.specs.Keys.{DerivedKeys}
 use Rattle.st_embed.specs.declared.keys.HostKeys.{HostKeys}
 
--- these keys, with nothing put out yet
+-- these keys, with no output yet
 pub record IsNewKeys (keys : DerivedKeys) (h : HostKeys) : Type 0 where
   pub keys_are : h.keys ≡ keys
   pub nothing_is_out : h.output.items ≡ []

@@ -1,4 +1,4 @@
--- A message of HTTP that arrives in pieces, as a host has it.
+-- A message of HTTP that arrives in chunks, as a host has it.
 use Rattle.std.specs.Prelude.{◌≡◌, ◌⊎◌, ◌≤◌, ◌++◌, ℕ, List, [], length, take, map, Option, Some, None, Result, Ok, Err, unwrap_or, string_bytes}
 use Rattle.st_http.specs.declared.error.HttpError.{HttpError}
 use Rattle.st_http.specs.declared.error.HttpError.TheVariants.{NoMemory}
@@ -16,7 +16,7 @@ abbrev pub expected_of : HostSide → Expected
 expected_of (Request tokens) = request (map string_bytes tokens.items)
 expected_of Response = response
 
--- the first bytes are a whole message of this account, 0 where it has none, and body
+-- the first bytes are a whole message of this account, 0 if it has none, and body
 abbrev pub BeginWhole : Expected → (bytes : List ℕ) → (taken account : ℕ) (body : List ℕ) → Type 0
 BeginWhole expected bytes taken account body =
     (taken ≤ length bytes) × ((who : Option ℕ) × ((account ≡ unwrap_or who 0) × Says expected (take taken bytes) (whole who body)))
@@ -43,7 +43,7 @@ pub record IsSameMessage (old new : HostMessage) : Type 0 where
   pub given_are : new.given.items ≡ old.given.items
   pub output_is : new.output ≡ old.output
 
--- the piece was taken
+-- the chunk was added
 abbrev pub Keeps : (old new : HostMessage) (piece : List ℕ) → Type 0
 Keeps old new piece = (new.side ≡ old.side) × (new.given.items ≡ old.given.items ++ piece)
 
@@ -53,7 +53,7 @@ Feeds old new piece (progress.Whole taken account) =
 Feeds old new piece (progress.Part wants) =
     Keeps old new piece × ((new.output ≡ old.output) × Says (expected_of old.side) (old.given.items ++ piece) (unfinished wants))
 
--- the piece was not taken: memory was refused, or the message is with the piece
+-- the chunk was not added: memory was refused, or the message with the chunk is
 abbrev pub FailsToFeed : (old new : HostMessage) (piece : List ℕ) → HttpError → Type 0
 FailsToFeed old new piece e =
     IsSameMessage old new × ((e ≡ NoMemory) ⊎ BeginRefused (expected_of old.side) (old.given.items ++ piece) e)

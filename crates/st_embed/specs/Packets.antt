@@ -50,12 +50,12 @@ placed p = (p.index, kept p.frame)
 abbrev pub packet_seen : HostPacket → Packet
 packet_seen p = record { kind = kind_number p.kind; sequence = p.sequence; amount = p.amount; frames = map placed p.frames.items }
 
--- a packet of these numbers without frames, and nothing put out
+-- a packet of these numbers without frames and without output
 pub record IsNewPacket (kind sequence amount : ℕ) (p : HostPacket) : Type 0 where
   pub packet_is : packet_seen p ≡ record { kind = kind; sequence = sequence; amount = amount; frames = [] }
   pub output_is : p.output.items ≡ []
 
--- the packet that the bytes are, with nothing put out
+-- the packet that the bytes are, without output
 pub record IsReadPacket (kind : ℕ) (bytes : List ℕ) (p : HostPacket) : Type 0 where
   pub read_is : packet_at kind bytes ≡ Ok (packet_seen p)
   pub output_is : p.output.items ≡ []
@@ -65,7 +65,7 @@ pub record IsSamePacket (old new : HostPacket) : Type 0 where
   pub packet_is : packet_seen new ≡ packet_seen old
   pub output_is : new.output ≡ old.output
 
--- these frames stand behind the others
+-- these frames follow the others
 pub record AreKept (old new : HostPacket) (more : List (ℕ × Known)) : Type 0 where
   pub kind_is : new.kind ≡ old.kind
   pub sequence_is : new.sequence ≡ old.sequence

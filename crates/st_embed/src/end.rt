@@ -1,4 +1,4 @@
-//! An end of a connection, with the flights that wait for their answer and the bytes that were put out.
+//! An end of a connection, with the flights that wait for their answer and the bytes that the last call returned.
 
 ghost use Rattle.std.specs.Prelude.{◌≡◌, ◌≢◌, ◌<◌, ◌≤◌, ◌++◌, ◌∷◌, [], ℕ, true, Some, None, OnErr, IfOk, MatchBool, MatchOption, IsOkUnless};
 ghost use Rattle.st_oer.specs.Address.{is_address};
@@ -20,7 +20,7 @@ use st_sender::EndConfig;
 use std::alloc::Global;
 use std::marker::Model;
 
-/// A flight that waits for its answer. Where its owner is freed it is abandoned.
+/// A flight that waits for its answer. If its owner is freed it is abandoned.
 pub struct KeptFlight {
     flight: Flight,
 }
@@ -67,7 +67,7 @@ impl KeptFlight {
     }
 }
 
-/// Where an open flight of this sequence stands.
+/// The place of an open flight of this sequence.
 fn place_of(state: &EndState<Global>, kept: &[KeptFlight], sequence: u64) -> Option<usize>
     ensures { MatchOption result (HasNoFlight state.now kept.now sequence) (λ place. (f : open_flight.Open) × IsFlight state.now kept.now sequence place f) }
 {
@@ -79,21 +79,21 @@ fn place_of(state: &EndState<Global>, kept: &[KeptFlight], sequence: u64) -> Opt
     None
 }
 
-/// What an end did with bytes that came, beside the answer.
+/// What an end did with bytes that arrived, in addition to the answer.
 #[derive(Clone, Copy, Debug, PartialEq, Eq)]
 pub struct Answered {
     /// 0 for a Fulfill; else why it is a Reject.
     pub reason: u8,
     /// The amount of the Prepare.
     pub amount: u64,
-    /// The sequence of its packet, where that was opened.
+    /// The sequence of its packet, if that was opened.
     pub sequence: Option<u64>,
 }
 
 /// What a read gave.
 #[derive(Clone, Copy, Debug, PartialEq, Eq)]
 pub enum Piece {
-    /// The bytes that were put out.
+    /// The bytes are the output.
     Bytes,
     /// None can be read yet.
     Nothing,
@@ -103,19 +103,19 @@ pub enum Piece {
     Aborted(u64),
 }
 
-/// An end of a connection, the flights that it gave out and that are not spent, and the bytes that were put out.
+/// An end of a connection, the flights that it gave out and that are not spent, and the bytes that the last call returned.
 #[derive(Drop)]
 pub struct HostEnd {
     /// The end.
     pub state: EndState<Global>,
     /// Its open flights, in the order in which they were given out.
     pub flights: Vec<KeptFlight>,
-    /// The bytes that the last call put out.
+    /// The bytes that the last call returned.
     pub output: Vec<u8>,
 }
 
 impl HostEnd {
-    /// An end with these keys, addresses and numbers. Fails with `NoMemory` alone, where memory is refused.
+    /// An end with these keys, addresses and numbers. Fails with `NoMemory` alone, if memory is refused.
     pub fn new(
         alloc: Global,
         role: Role,
@@ -136,8 +136,8 @@ impl HostEnd {
         })
     }
 
-    /// Puts out the bytes of the next Prepare, and gives the number of its flight: the sequence of its packet (RFC 0029).
-    /// `None` where nothing is to be sent. Fails with `NoMemory` alone, where memory is refused.
+    /// Outputs the bytes of the next Prepare, and returns the number of its flight: the sequence of its packet (RFC 0029).
+    /// `None` if nothing is to be sent. Fails with `NoMemory` alone, if memory is refused.
     pub fn send(&mut self, iv: [u8; 12], now: Moment) -> Result<Option<u64>, EndError>
         ensures only_memory { IsOkUnless result EndError.NoMemory }
         ensures goes { IfOk result (λ sent. MatchOption sent (GoesNone self.old.state × IsSameEnd self.old self.new) (λ number. (f : open_flight.Open) × ((f.sequence ≡ number) × (Goes self.old.state iv now f self.new.output.items self.new.state × (self.new.flights.items ≡ self.old.flights.items ++ f ∷ []))))) }
@@ -155,7 +155,7 @@ impl HostEnd {
         }
     }
 
-    /// Puts out the answer to bytes that came, and gives the rest of it. Fails with `NoMemory` alone, where memory is
+    /// Outputs the answer to bytes that arrived, and returns the rest of it. Fails with `NoMemory` alone, if memory is
     /// refused.
     pub fn receive(&mut self, bytes: &[u8], now: Moment) -> Result<Answered, EndError>
         ensures only_memory { IsOkUnless result EndError.NoMemory }
@@ -177,7 +177,7 @@ impl HostEnd {
         })
     }
 
-    /// Puts out the first bytes that can be read on a stream, at most `max`. Fails as `EndState::read` does.
+    /// Outputs the first bytes that can be read on a stream, at most `max`. Fails as `EndState::read` does.
     pub fn read(&mut self, stream: u8, max: usize) -> Result<Piece, EndError>
         requires { 1 ≤ max }
         ensures answers { OrWants self.old.state (reading.read self.old.state stream max) (piece_seen self.new.output.items result, self.new.state) }
@@ -196,8 +196,8 @@ impl HostEnd {
         }
     }
 
-    /// Takes the bytes that came back to a flight: whether they are a Fulfill that fits. They are decrypted where they
-    /// lie. `None` exactly where no open flight has this number.
+    /// Handles the bytes of the answer to a flight: whether they are a Fulfill that fits. They are decrypted in
+    /// place. `None` exactly if no open flight has this number.
     pub fn answer(&mut self, number: u64, bytes: &mut [u8]) -> Option<bool>
         ensures { MatchOption result (HasNoFlight self.old.state self.old.flights.items number × (self.new ≡ self.old)) (λ taken. (f : open_flight.Open) × (IsSpent self.old self.new number (Some bytes.old) f × (taken ≡ pays f (Some bytes.old)))) }
     {
@@ -206,7 +206,7 @@ impl HostEnd {
         Some(self.state.answer(flight, bytes))
     }
 
-    /// No bytes came back to a flight: what it carries is due again. Whether an open flight has this number.
+    /// There is no answer to a flight: what it carries is due again. Whether an open flight has this number.
     pub fn fault(&mut self, number: u64) -> bool
         ensures { MatchBool result ((f : open_flight.Open) × IsSpent self.old self.new number None f) (HasNoFlight self.old.state self.old.flights.items number × (self.new ≡ self.old)) }
     {

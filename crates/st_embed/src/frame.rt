@@ -70,7 +70,7 @@ pub enum KeptFrame {
 }
 
 impl KeptFrame {
-    /// A copy of a frame. Fails where memory is refused.
+    /// A copy of a frame. Fails if memory is refused.
     pub fn of(alloc: Global, frame: Frame<'_>) -> Result<KeptFrame, AllocError>
         ensures { IfOk result (λ k. kept k ≡ seen frame.entry) }
     {

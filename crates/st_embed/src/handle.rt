@@ -91,6 +91,6 @@ impl Drop for Handle {
     }
 }
 
-// An object shares nothing with another one, so a handle may be passed to another thread. That is proved by hand, in
-// `proofs/`.
+// An object shares nothing with another one, so a handle may be passed to another thread. That is proved manually,
+// in `proofs/`.
 unsafe impl Send for Handle {}

@@ -1,4 +1,4 @@
-//! A hop, with the tickets that wait for their answer and the bytes that were put out.
+//! A hop, with the tickets that wait for their answer and the bytes that the last call returned.
 
 ghost use Rattle.std.specs.Prelude.{◌≡◌, ◌↔◌, ◌<◌, ◌++◌, ◌∷◌, [], ℕ, pos, length, map, nat_lt, Some, None, OnOk, OnErr, IfOk, IfErr, IsTrue, IsOk, IsOkUnless, IsErrOf, MatchBool, MatchOption};
 ghost use Rattle.st_hop.specs.declared.ticket.Open as open_ticket;
@@ -14,7 +14,7 @@ use st_ilp::Moment;
 use std::alloc::{AllocError, Global};
 use std::marker::Model;
 
-/// A ticket that waits for its answer. Where its owner is freed it is abandoned.
+/// A ticket that waits for its answer. If its owner is freed it is abandoned.
 pub struct KeptTicket {
     ticket: Ticket,
 }
@@ -73,7 +73,7 @@ impl KeptTicket {
     }
 }
 
-/// Where an open ticket of this number stands.
+/// The place of an open ticket of this number.
 fn place_of(state: &HopState<Global>, kept: &[KeptTicket], number: u64) -> Option<usize>
     ensures { MatchOption result (HasNoTicket state.now kept.now number) (λ place. (t : open_ticket.Open) × IsTicket state.now kept.now number place t) }
 {
@@ -85,12 +85,12 @@ fn place_of(state: &HopState<Global>, kept: &[KeptTicket], number: u64) -> Optio
     None
 }
 
-/// What became of a Prepare, beside the bytes that were put out.
+/// What became of a Prepare: what its output is.
 #[derive(Clone, Copy, Debug, PartialEq, Eq)]
 pub enum Way {
     /// They answer it.
     Back,
-    /// They go on to an account, under the number of a ticket.
+    /// They are forwarded to an account, under the number of a ticket.
     Onward {
         /// The number of the ticket.
         ticket: u64,
@@ -110,14 +110,14 @@ pub enum Settling {
     Books(Open),
 }
 
-/// A hop, the tickets that it gave out and that are not spent, and the bytes that were put out.
+/// A hop, the tickets that it gave out and that are not spent, and the bytes that the last call returned.
 #[derive(Drop)]
 pub struct HostHop {
     /// The hop.
     pub state: HopState<Global>,
     /// Its open tickets, in the order in which they were given out.
     pub tickets: Vec<KeptTicket>,
-    /// The bytes that the last call put out.
+    /// The bytes that the last call returned.
     pub output: Vec<u8>,
 }
 
@@ -139,7 +139,7 @@ impl HostHop {
         })
     }
 
-    /// A hop with this address, these accounts and these routes, which goes on with the claims and dues of an earlier one.
+    /// A hop with this address, these accounts and these routes, with the claims and dues of an earlier one.
     /// Its tickets are numbered from `next` on. Fails as `HopState::restored` does.
     pub fn restored(
         alloc: Global,
@@ -165,7 +165,7 @@ impl HostHop {
     }
 
     /// Ends all open tickets, as a restart with the same books does. Claims and dues stay, nothing is reserved any more,
-    /// and the numbers of tickets go on.
+    /// and the numbers of tickets continue.
     pub fn restart(&mut self)
         ensures { IsRestarted self.old self.new }
     {
@@ -173,8 +173,8 @@ impl HostHop {
         self.tickets.clear();
     }
 
-    /// Takes the bytes of a Prepare from an account. Puts out the bytes that answer it, or that go on. Fails with
-    /// `NoAccount` where there is no account with this index, and otherwise with `NoMemory` where memory is refused.
+    /// Handles the bytes of a Prepare from an account. Outputs the bytes that answer it, or those to forward. Fails with
+    /// `NoAccount` if there is no account with this index, and otherwise with `NoMemory` if memory is refused.
     pub fn arrive(&mut self, account: usize, bytes: &[u8], now: Moment) -> Result<Way, HopError>
         ensures refused { MatchBool (nat_lt account (length self.old.state.accounts)) (IsOkUnless result HopError.NoMemory) (IsErrOf result HopError.NoAccount) }
         ensures arrived { IfOk result (λ way. Arrives self.old account bytes.now now way self.new) }
@@ -203,7 +203,7 @@ impl HostHop {
         }
     }
 
-    /// Ends a Prepare that went on under this number, and puts out the answer to the Prepare that had come. Whether an open
+    /// Ends a Prepare that was forwarded under this number, and outputs the answer to the Prepare that had arrived. Whether an open
     /// ticket has this number.
     fn close(&mut self, number: u64, outcome: Outcome<Global>, now: Moment) -> bool
         ensures { MatchBool result (IsSettled self.old self.new number (outcome_seen outcome) now) (HasNoTicket self.old.state self.old.tickets.items number × (self.new ≡ self.old)) }
@@ -216,8 +216,8 @@ impl HostHop {
         true
     }
 
-    /// Takes the bytes that came back to a Prepare that went on under this number, and puts out the answer to the Prepare
-    /// that had come. `false` exactly where no open ticket has this number. Fails where memory is refused.
+    /// Handles the bytes of the answer to a Prepare that was forwarded under this number, and outputs the answer to the
+    /// Prepare that had arrived. `false` exactly if no open ticket has this number. Fails if memory is refused.
     pub fn settle(
         &mut self,
         alloc: Global,
@@ -232,7 +232,7 @@ impl HostHop {
         Ok(self.close(number, outcome, now))
     }
 
-    /// What `settle` with the same arguments would book. Changes nothing. Fails where memory is refused.
+    /// What `settle` with the same arguments would book. Changes nothing. Fails if memory is refused.
     pub fn books(
         &self,
         alloc: Global,
@@ -254,7 +254,7 @@ impl HostHop {
         }
     }
 
-    /// No bytes came back to a Prepare that went on under this number: puts out the answer to the Prepare that had come.
+    /// There is no answer to a Prepare that was forwarded under this number: outputs the answer to the Prepare that had arrived.
     /// Whether an open ticket has this number.
     pub fn fault(&mut self, number: u64, now: Moment) -> bool
         ensures { MatchBool result (IsSettled self.old self.new number None now) (HasNoTicket self.old.state self.old.tickets.items number × (self.new ≡ self.old)) }

@@ -11,7 +11,7 @@ use st_keys::{KeyError, Keys, OVERHEAD, hmac};
 use std::alloc::Global;
 use std::marker::Model;
 
-/// The keys of a connection, and beside them the one that texts are sealed with.
+/// The keys of a connection, with the one that texts are sealed with.
 #[derive(Drop)]
 struct Sealer {
     keys: Keys,
@@ -75,7 +75,7 @@ impl Sealer {
     }
 }
 
-/// The plain text behind room for an IV and a tag.
+/// The plain text after room for an IV and a tag.
 fn with_overhead(alloc: Global, text: &[u8]) -> Result<Vec<u8>, KeyError>
     ensures only_memory { IsOkUnless result KeyError.NoMemory }
     ensures text { IfOk result (λ payload. ciphertext_of payload.items ≡ text.now) }
@@ -87,11 +87,11 @@ fn with_overhead(alloc: Global, text: &[u8]) -> Result<Vec<u8>, KeyError>
     Ok(payload)
 }
 
-/// The keys of a connection (RFC 0029), and what the last call put out.
+/// The keys of a connection (RFC 0029), and what the last call returned.
 #[derive(Drop)]
 pub struct HostKeys {
     keys: Sealer,
-    /// The bytes that the last call put out.
+    /// The bytes that the last call returned.
     pub output: Vec<u8>,
 }
 
@@ -106,8 +106,8 @@ impl HostKeys {
         }
     }
 
-    /// Puts out the payload of a plain text: the IV, the tag and the ciphertext, `OVERHEAD` bytes more than the text. The text
-    /// is not looked at. No two payloads of a connection may have the same IV.
+    /// Outputs the payload of a plain text: the IV, the tag and the ciphertext, `OVERHEAD` bytes more than the text. The text
+    /// is not inspected. No two payloads of a connection may have the same IV.
     ///
     /// Fails with `NoMemory`; then nothing changes.
     pub fn seal(&mut self, alloc: Global, iv: [u8; 12], text: &[u8]) -> Result<(), KeyError>
@@ -122,9 +122,9 @@ impl HostKeys {
         Ok(())
     }
 
-    /// Puts out the plain text of a payload.
+    /// Outputs the plain text of a payload.
     ///
-    /// Fails with `Short` where the payload has fewer bytes than `OVERHEAD`, with `Tag` where its tag does not match its
+    /// Fails with `Short` if the payload has fewer bytes than `OVERHEAD`, with `Tag` if its tag does not match its
     /// ciphertext, and with `NoMemory`; then nothing changes.
     pub fn open(&mut self, alloc: Global, payload: &[u8]) -> Result<(), KeyError>
         ensures opened { MatchResult result (λ _. unsealed self.old.keys payload.now ≡ Ok self.new.output.items) (λ e. (e ≡ KeyError.NoMemory) ⊎ (unsealed self.old.keys payload.now ≡ Err e)) }

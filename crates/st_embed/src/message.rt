@@ -1,4 +1,4 @@
-//! A message of ILP over HTTP (RFC 0035) that arrives in pieces, for a host.
+//! A message of ILP over HTTP (RFC 0035) that arrives in chunks, for a host.
 
 ghost use Rattle.std.specs.Prelude.{◌≡◌, ◌⊎◌, ◌≤◌, ◌++◌, [], length, take, map, IfOk, MatchResult, string_bytes};
 ghost use Rattle.st_http.specs.Message.{Says, unfinished};
@@ -27,21 +27,21 @@ enum Found {
         account: usize,
         body: Vec<u8>,
     },
-    /// They are no whole message yet: at least so many bytes more are wanted.
+    /// They are not a whole message yet: at least this many bytes more are needed.
     Part(usize),
 }
 
 /// How far a message has come.
 #[derive(Clone, Copy, Debug, PartialEq, Eq)]
 pub enum Progress {
-    /// It is whole, and its body is put out.
+    /// It is whole, and its body is the output.
     Whole {
         /// How many of all bytes it has.
         taken: usize,
         /// The account of a request, by the place of its token; 0 for a response.
         account: usize,
     },
-    /// At least so many bytes more are wanted.
+    /// At least this many bytes more are needed.
     Part(usize),
 }
 
@@ -92,12 +92,12 @@ impl HostSide {
     }
 }
 
-/// A message that arrives in pieces: its bytes so far, and the body of a whole one.
+/// A message that arrives in chunks: its bytes so far, and the body of a whole one.
 #[derive(Drop)]
 pub struct HostMessage {
     side: HostSide,
     given: Vec<u8>,
-    /// The bytes that the last call put out.
+    /// The bytes that the last call returned.
     pub output: Vec<u8>,
 }
 
@@ -113,9 +113,9 @@ impl HostMessage {
         }
     }
 
-    /// Takes the next bytes of the message, and says what all bytes so far are. The body of a whole message is put out.
+    /// Adds the next bytes of the message, and says what all bytes so far are. The body of a whole message is the output.
     ///
-    /// Fails as `Reading::feed` does; then no byte was taken. Each call reads the message from its first byte.
+    /// Fails as `Reading::feed` does; then no byte was added. Each call reads the message from its first byte.
     pub fn feed(&mut self, alloc: Global, bytes: &[u8]) -> Result<Progress, HttpError>
         ensures { MatchResult result (λ p. Feeds self.old self.new bytes.now p) (λ e. FailsToFeed self.old self.new bytes.now e) }
     {

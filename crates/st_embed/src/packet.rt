@@ -59,7 +59,7 @@ pub struct PlacedFrame {
     pub frame: KeptFrame,
 }
 
-/// A plain packet (RFC 0029, section 5.2), and what the last call put out.
+/// A plain packet (RFC 0029, section 5.2), and what the last call returned.
 #[derive(Drop)]
 pub struct HostPacket {
     /// The ILP packet that carries it.
@@ -70,7 +70,7 @@ pub struct HostPacket {
     pub amount: u64,
     /// The known frames.
     pub frames: Vec<PlacedFrame>,
-    /// The bytes that the last call put out.
+    /// The bytes that the last call returned.
     pub output: Vec<u8>,
 }
 
@@ -116,7 +116,7 @@ impl HostPacket {
         Ok(packet)
     }
 
-    /// Adds copies of frames behind the others. Fails where memory is refused.
+    /// Adds copies of frames after the others. Fails if memory is refused.
     fn keep_all(&mut self, alloc: Global, mut frames: Frames<'_>) -> Result<(), AllocError>
         ensures { OnOk result (AreKept self.old self.new frames.entry) }
     {
@@ -126,7 +126,7 @@ impl HostPacket {
         Ok(())
     }
 
-    /// Adds a copy of a frame behind the others. Fails where memory is refused.
+    /// Adds a copy of a frame after the others. Fails if memory is refused.
     fn keep(&mut self, alloc: Global, index: u64, frame: Frame<'_>) -> Result<(), AllocError>
         ensures { MatchResult result (λ _. IsKept self.old self.new (index, seen frame.entry)) (λ _. IsSamePacket self.old self.new) }
     {
@@ -136,9 +136,9 @@ impl HostPacket {
         Ok(())
     }
 
-    /// Adds a frame behind the others. Its index is how many known frames there were.
+    /// Adds a frame after the others. Its index is how many known frames there were.
     ///
-    /// Fails with `FrameFormat` of that index where its address is neither empty nor an ILP address, and with `NoMemory`; then
+    /// Fails with `FrameFormat` of that index if its address is neither empty nor an ILP address, and with `NoMemory`; then
     /// the packet is as before.
     pub fn push(&mut self, alloc: Global, frame: Frame<'_>) -> Result<(), FrameError>
         ensures { MatchResult result (λ _. IsPushed self.old self.new (seen frame.entry)) (λ e. RefusesToPush self.old self.new (seen frame.entry) e) }
@@ -151,7 +151,7 @@ impl HostPacket {
         Ok(())
     }
 
-    /// The known frame at a place, with its index. `None` exactly where there are not so many.
+    /// The known frame at a place, with its index. `None` exactly if there are not more than `place` frames.
     pub fn frame(&self, place: usize) -> Option<(u64, Frame<'_>)>
         ensures { MatchOption result (slice_get self.now.frames.items place ≡ None) (λ x. (p : PlacedFrame) × ((slice_get self.now.frames.items place ≡ Some p) × (seen_at x ≡ placed p))) }
     {
@@ -170,7 +170,7 @@ impl HostPacket {
         Ok(frames)
     }
 
-    /// Puts out the packet's bytes, in the shortest encoding.
+    /// Outputs the packet's bytes, in the shortest encoding.
     ///
     /// Fails as `write_packet` does; then the packet is as before.
     pub fn write(&mut self, alloc: Global) -> Result<(), FrameError>

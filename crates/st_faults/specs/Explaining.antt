@@ -9,7 +9,7 @@ abbrev pub listed : List Text → Text
 listed [] = []
 listed (name ∷ names) = name ++ flat_map (λ (n : Text). codes ", " ++ n) names
 
--- where the program gives it: `, in send, receive`, or nothing where it does not
+-- which commands of the program give it: `, in send, receive`, or nothing if none does
 abbrev pub places_text : List Text → Text
 places_text [] = []
 places_text (place ∷ places) = codes ", in " ++ listed (place ∷ places)
@@ -49,6 +49,6 @@ abbrev pub text_of : List Row → Option Text
 text_of [] = None
 text_of (r ∷ rs) = Some (rows_text (r ∷ rs))
 
--- what `explain n` prints: nothing where no row has this number
+-- what `explain n` prints: nothing if no row has this number
 unfoldable pub explanation : ℕ → Option Text
 explanation n = text_of (rows_of n)

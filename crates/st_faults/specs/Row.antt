@@ -4,8 +4,8 @@ use Rattle.std.specs.Prelude.{ℕ, List}
 abbrev pub Text : Type 0
 Text = List ℕ
 
--- one variant of an error with this number: its crate and name, where a user of the program meets it, its cause and what to do,
--- each in lines
+-- one variant of an error with this number: its crate and name, the commands in which a user of the program meets it, its cause
+-- and what to do, each in lines
 pub record Row : Type 0 where
   pub number : ℕ
   pub home : Text

@@ -37,7 +37,7 @@ rows =
       home = codes "st_oer";
       variant = codes "OerError::TooBig";
       places = [];
-      cause = codes "A length, or a number that is no limit, takes more than eight bytes." ∷ [];
+      cause = codes "A length, or a number that is not a limit, has more than eight bytes." ∷ [];
       advice = codes "What to do: Write the shortest form. Bytes of a peer: reject them." ∷ [];
     } ∷
     record {
@@ -188,7 +188,7 @@ rows =
       variant = codes "KeyError::Tag";
       places = [];
       cause = codes "The tag is not that of the ciphertext. The bytes are unchanged." ∷ [];
-      advice = codes "What to do: Both ends need the same secret. Else the payload was changed on the way." ∷ [];
+      advice = codes "What to do: Both ends need the same secret. If they have it, the payload was changed on the way." ∷ [];
     } ∷
     record {
       number = 32;
@@ -212,7 +212,7 @@ rows =
       variant = codes "HopError::BadTable";
       places = [];
       cause = codes "The connector's own address or a prefix is not an ILP address, a route names an account that" ∷
-          codes "does not exist, a prefix stands twice, or a limit is above 2^63 - 1." ∷
+          codes "does not exist, a prefix is there twice, or a limit is above 2^63 - 1." ∷
           [];
       advice = codes "What to do: Correct the table." ∷ [];
     } ∷
@@ -397,9 +397,9 @@ rows =
       home = codes "st_transfer";
       variant = codes "TransferError::Failed";
       places = codes "send" ∷ [];
-      cause = codes "In `send`: the connection failed. At once, where a packet was refused for good: no route leads" ∷
-          codes "to `--peer`, or the receiver has another secret or another address. Else after 200 exchanges in" ∷
-          codes "a row without success: nobody listens at `--to`, a wrong token, no way on from a connector, a" ∷
+      cause = codes "In `send`: the connection failed. At once, if a packet was refused for good: no route leads to" ∷
+          codes "`--peer`, or the receiver has another secret or another address. Otherwise after 200 exchanges" ∷
+          codes "in a row without success: nobody listens at `--to`, a wrong token, no way on from a connector, a" ∷
           codes "LIMIT that is used up, too little that arrives for `--least`, or clocks that differ. While no" ∷
           codes "answer arrives, or a Reject with a code of letter T, the 200 are spread over the seconds of" ∷
           codes "`--patience`, ten if it is left out." ∷
@@ -426,9 +426,7 @@ rows =
       variant = codes "Reason::Repeated";
       places = [];
       cause = codes "A Prepare with this sequence was fulfilled before." ∷ [];
-      advice = codes "What to do: Nothing: the sender sends its contents again under another sequence where it needs" ∷
-          codes "to." ∷
-          [];
+      advice = codes "What to do: Nothing: the sender sends its contents again under another sequence if it needs to." ∷ [];
     } ∷
     record {
       number = 61;
@@ -664,7 +662,7 @@ rows =
           codes "connector" ∷
           [];
       cause = codes "Nothing can listen at `--listen`." ∷ [];
-      advice = codes "What to do: Another program has the port, the address is none of this host, or a port below" ∷
+      advice = codes "What to do: Another program has the port, the address is not one of this host, or a port below" ∷
           codes "1,024 needs a right." ∷
           [];
     } ∷
@@ -676,7 +674,7 @@ rows =
           codes "connector" ∷
           [];
       cause = codes "No connection could be accepted in 100 tries in a row, 10 ms apart. A `connector` ends so only" ∷
-          codes "where none of its threads has a connection; else it tries on." ∷
+          codes "if none of its threads has a connection; otherwise it continues to try." ∷
           [];
       advice = codes "What to do: The process may have too many open files: see `ulimit -n`." ∷ [];
     } ∷
@@ -743,7 +741,7 @@ rows =
       places = codes "send" ∷
           codes "receive" ∷
           [];
-      cause = codes "In `receive`: 2,147,483,647 connections were taken. In `send`: a worker looked 2,147,483,647" ∷
+      cause = codes "In `receive`: 2,147,483,647 connections were accepted. In `send`: a worker looked 2,147,483,647" ∷
           codes "times for something to send." ∷
           [];
       advice = codes "What to do: Begin again, with a new secret." ∷ [];
@@ -765,7 +763,7 @@ rows =
           codes "before is written." ∷
           [];
       advice = codes "What to do: Look why the sender stopped. What is written is a beginning of the file, or all of" ∷
-          codes "it where only the close or money is missing." ∷
+          codes "it if only the close or money is missing." ∷
           [];
     } ∷
     record {
@@ -773,7 +771,7 @@ rows =
       home = codes "st_file";
       variant = codes "FileError::Closed";
       places = codes "send" ∷ [];
-      cause = codes "The sink takes nothing any more. In `send`: the workers ended, and there was no memory to note" ∷
+      cause = codes "The sink accepts nothing any more. In `send`: the workers ended, and there was no memory to note" ∷
           codes "why." ∷
           [];
       advice = codes "What to do: Give the process more memory, and begin again." ∷ [];
@@ -790,7 +788,7 @@ rows =
       cause = codes "In `frames` and `connector`: standard input cannot be read. In `send`, `connector` and `local" ∷
           codes "--totals`: it is closed; nothing was opened or sent." ∷
           [];
-      advice = codes "What to do: Look at the file behind `<`." ∷ [];
+      advice = codes "What to do: Look at the file after `<`." ∷ [];
     } ∷
     record {
       number = 90;
@@ -798,7 +796,7 @@ rows =
       variant = codes "FileError::ReadFault";
       places = codes "send" ∷ [];
       cause = codes "In `send`: standard input cannot be read." ∷ [];
-      advice = codes "What to do: Look at the file behind `<`." ∷ [];
+      advice = codes "What to do: Look at the file after `<`." ∷ [];
     } ∷
     record {
       number = 90;
@@ -806,7 +804,7 @@ rows =
       variant = codes "LocalFault::Input";
       places = codes "local" ∷ [];
       cause = codes "In `local`: standard input cannot be read." ∷ [];
-      advice = codes "What to do: Look at the file behind `<`." ∷ [];
+      advice = codes "What to do: Look at the file after `<`." ∷ [];
     } ∷
     record {
       number = 90;
@@ -921,8 +919,8 @@ rows =
       places = codes "connector" ∷ [];
       cause = codes "In `connector`, the table is bad. It is not UTF-8, or a line is neither an account nor a route." ∷
           codes "Or a number is out of its range, or no request may have a host or a token of it. Or a route" ∷
-          codes "names an account that does not exist, a prefix stands twice, or a prefix is not an ILP address." ∷
-          codes "Or two accounts have one name." ∷
+          codes "names an account that does not exist, a prefix is there twice, or a prefix is not an ILP" ∷
+          codes "address. Or two accounts have one name." ∷
           [];
       advice = codes "What to do: Look at each line of the table. A HOST:PORT has a port up to 65,535; a rate is two" ∷
           codes "numbers with a space between." ∷
@@ -969,9 +967,9 @@ rows =
           codes "hexadecimal digits, an address is an ILP address, and `--least` is NUM:DEN. A token and a" ∷
           codes "HOST:PORT are such as a request may have, and `ledger --help` says what a payment is. Or the" ∷
           codes "file of `--totals` or `--log` cannot be opened; in `connector` and `local`, no file can be made" ∷
-          codes "beside that of `--totals`. Or that of `--token-file` or `--secret-file` cannot be read, or its" ∷
-          codes "first line is no token or no secret. Or that of `--control` is no pipe, or cannot be opened; or" ∷
-          codes "that of `--table` cannot be read." ∷
+          codes "next to that of `--totals`. Or that of `--token-file` or `--secret-file` cannot be read, or its" ∷
+          codes "first line is not a token or a secret. Or that of `--control` is not a pipe, or cannot be" ∷
+          codes "opened; or that of `--table` cannot be read." ∷
           [];
       advice = codes "What to do: Correct the option or the file. Nothing else was opened, and nothing was sent." ∷ [];
     } ∷
@@ -1040,16 +1038,16 @@ rows =
       places = codes "connector" ∷
           codes "ledger" ∷
           [];
-      cause = codes "The file holds no books: it is no database, has other tables, a row that is no line of its" ∷
+      cause = codes "The file has no books: it is not a database, has other tables, a row that is no line of its" ∷
           codes "table, or a name twice. Or it lacks the view `books`, or has another version in it, or, in" ∷
           codes "`connector --ledger`, another address than `--own`. Or its log is damaged, does not continue the" ∷
-          codes "file, or is there without the file. Both are left as they are. Where books have to be there" ∷
+          codes "file, or is there without the file. Both are left as they are. If books have to be there" ∷
           codes "already: no file, or an empty one. None is made." ∷
           [];
-      advice = codes "What to do: Name the right file. Where the log is damaged or of another moment than the file, or" ∷
-          codes "the file is gone, put the last copy of both files back, and compare the sums with each" ∷
-          codes "neighbour. A table, an index or a trigger that was added by hand has to be dropped. Books that" ∷
-          codes "were made before they had the view `books` cannot be read: make new ones." ∷
+      advice = codes "What to do: Name the right file. If the log is damaged or of another time than the file, or the" ∷
+          codes "file is gone, put the last copy of both files back, and compare the sums with each neighbour. A" ∷
+          codes "table, an index or a trigger that was added manually has to be dropped. Books of another" ∷
+          codes "version, or from before they had the view `books`, cannot be read: make new ones." ∷
           [];
     } ∷
     record {
@@ -1070,8 +1068,8 @@ rows =
           codes "ledger" ∷
           [];
       cause = codes "The disk failed. The books in memory are as before the call; open the file again to see what it" ∷
-          codes "has. Or, in `connector --ledger`, the file or its log does not stand at its name as the last" ∷
-          codes "booking left it." ∷
+          codes "has. Or, in `connector --ledger`, the file or its log is not at its name as the last booking" ∷
+          codes "left it." ∷
           [];
       advice = codes "What to do: Look at the disk, put the files back where they were moved, then start again." ∷ [];
     } ∷
@@ -1120,8 +1118,8 @@ rows =
       places = codes "connector" ∷
           codes "ledger" ∷
           [];
-      cause = codes "A sum of an account would be above 2^63 - 1, or the starts above 2^32 - 1; or an entry by hand" ∷
-          codes "or its moment is above 2^63 - 1. Nothing changes." ∷
+      cause = codes "A sum of an account would be above 2^63 - 1, or the starts above 2^32 - 1; or an entry of" ∷
+          codes "`ledger` or its time is above 2^63 - 1. Nothing changes." ∷
           [];
       advice = codes "What to do: Settle with the neighbour, and take what was paid off the sums." ∷ [];
     } ∷

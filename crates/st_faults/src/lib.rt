@@ -12,7 +12,7 @@ mod texts;
 use crate::texts::texts;
 
 /// The lines that say what a number means: for each variant of an error with this number its crate and name, which commands
-/// of the program give it, its cause, and what to do. `None` where no fault and no refusal has this number.
+/// of the program give it, its cause, and what to do. `None` if no fault and no refusal has this number.
 pub fn explanation(number: u8) -> Option<&'static str>
     ensures { option_map (λ t. t.now) result ≡ specs.explanation number }
 {

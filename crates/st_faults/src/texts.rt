@@ -25,7 +25,7 @@ const FAULT_3: &str = "Numbers of the library:
 
 const FAULT_4: &str = "Numbers of the library:
 4  st_oer OerError::TooBig
-    A length, or a number that is no limit, takes more than eight bytes.
+    A length, or a number that is not a limit, has more than eight bytes.
     What to do: Write the shortest form. Bytes of a peer: reject them.
 ";
 
@@ -132,7 +132,7 @@ const FAULT_30: &str = "Numbers of the library:
 const FAULT_31: &str = "Numbers of the library:
 31  st_keys KeyError::Tag
     The tag is not that of the ciphertext. The bytes are unchanged.
-    What to do: Both ends need the same secret. Else the payload was changed on the way.
+    What to do: Both ends need the same secret. If they have it, the payload was changed on the way.
 ";
 
 const FAULT_32: &str = "Numbers of the library:
@@ -150,7 +150,7 @@ const FAULT_33: &str = "Numbers of the library:
 const FAULT_34: &str = "Numbers of the library:
 34  st_hop HopError::BadTable
     The connector's own address or a prefix is not an ILP address, a route names an account that
-    does not exist, a prefix stands twice, or a limit is above 2^63 - 1.
+    does not exist, a prefix is there twice, or a limit is above 2^63 - 1.
     What to do: Correct the table.
 ";
 
@@ -249,9 +249,9 @@ const FAULT_58: &str = "58  st_local LocalFault::Failed, in local
     In `local`: 200 Prepares in a row were lost.
     What to do: Lose fewer with `--lose`.
 58  st_transfer TransferError::Failed, in send
-    In `send`: the connection failed. At once, where a packet was refused for good: no route leads
-    to `--peer`, or the receiver has another secret or another address. Else after 200 exchanges in
-    a row without success: nobody listens at `--to`, a wrong token, no way on from a connector, a
+    In `send`: the connection failed. At once, if a packet was refused for good: no route leads to
+    `--peer`, or the receiver has another secret or another address. Otherwise after 200 exchanges
+    in a row without success: nobody listens at `--to`, a wrong token, no way on from a connector, a
     LIMIT that is used up, too little that arrives for `--least`, or clocks that differ. While no
     answer arrives, or a Reject with a code of letter T, the 200 are spread over the seconds of
     `--patience`, ten if it is left out.
@@ -273,8 +273,7 @@ const FAULT_59: &str = "59  st_transfer TransferError::Stalled, in send
 const FAULT_60: &str = "Numbers of the library:
 60  st_receiver Reason::Repeated
     A Prepare with this sequence was fulfilled before.
-    What to do: Nothing: the sender sends its contents again under another sequence where it needs
-    to.
+    What to do: Nothing: the sender sends its contents again under another sequence if it needs to.
 ";
 
 const FAULT_61: &str = "Numbers of the library:
@@ -418,11 +417,11 @@ const FAULT_79: &str = "Numbers of the library:
 
 const FAULT_80: &str = "80  st_program RunError::NoListener, in receive, connector
     Nothing can listen at `--listen`.
-    What to do: Another program has the port, the address is none of this host, or a port below
+    What to do: Another program has the port, the address is not one of this host, or a port below
     1,024 needs a right.
 80  st_transfer TransferError::Accept, in receive, connector
     No connection could be accepted in 100 tries in a row, 10 ms apart. A `connector` ends so only
-    where none of its threads has a connection; else it tries on.
+    if none of its threads has a connection; otherwise it continues to try.
     What to do: The process may have too many open files: see `ulimit -n`.
 Numbers of the library:
 80  st_http HttpError::ReadFault
@@ -464,7 +463,7 @@ const FAULT_85: &str = "Numbers of the library:
 ";
 
 const FAULT_86: &str = "86  st_transfer TransferError::Turns, in send, receive
-    In `receive`: 2,147,483,647 connections were taken. In `send`: a worker looked 2,147,483,647
+    In `receive`: 2,147,483,647 connections were accepted. In `send`: a worker looked 2,147,483,647
     times for something to send.
     What to do: Begin again, with a new secret.
 Numbers of the library:
@@ -483,11 +482,11 @@ const FAULT_88: &str = "88  st_transfer TransferError::Silent, in receive
     In `receive`: no valid request arrived for as many seconds as `--patience` says. What arrived
     before is written.
     What to do: Look why the sender stopped. What is written is a beginning of the file, or all of
-    it where only the close or money is missing.
+    it if only the close or money is missing.
 ";
 
 const FAULT_89: &str = "89  st_file FileError::Closed, in send
-    The sink takes nothing any more. In `send`: the workers ended, and there was no memory to note
+    The sink accepts nothing any more. In `send`: the workers ended, and there was no memory to note
     why.
     What to do: Give the process more memory, and begin again.
 ";
@@ -495,13 +494,13 @@ const FAULT_89: &str = "89  st_file FileError::Closed, in send
 const FAULT_90: &str = "90  st_commands Fault::Input, in frames, local, send, connector
     In `frames` and `connector`: standard input cannot be read. In `send`, `connector` and `local
     --totals`: it is closed; nothing was opened or sent.
-    What to do: Look at the file behind `<`.
+    What to do: Look at the file after `<`.
 90  st_file FileError::ReadFault, in send
     In `send`: standard input cannot be read.
-    What to do: Look at the file behind `<`.
+    What to do: Look at the file after `<`.
 90  st_local LocalFault::Input, in local
     In `local`: standard input cannot be read.
-    What to do: Look at the file behind `<`.
+    What to do: Look at the file after `<`.
 90  st_program RunError::NoRandom, in send
     In `send`: the file of random bytes cannot be opened.
     What to do: Look at `--random`.
@@ -554,8 +553,8 @@ const FAULT_95: &str = "95  st_commands LineError::NotHex, in a line of frames
 const FAULT_96: &str = "96  st_program RunError::BadTable, in connector
     In `connector`, the table is bad. It is not UTF-8, or a line is neither an account nor a route.
     Or a number is out of its range, or no request may have a host or a token of it. Or a route
-    names an account that does not exist, a prefix stands twice, or a prefix is not an ILP address.
-    Or two accounts have one name.
+    names an account that does not exist, a prefix is there twice, or a prefix is not an ILP
+    address. Or two accounts have one name.
     What to do: Look at each line of the table. A HOST:PORT has a port up to 65,535; a rate is two
     numbers with a space between.
 Numbers of the library:
@@ -579,9 +578,9 @@ const FAULT_98: &str =
     hexadecimal digits, an address is an ILP address, and `--least` is NUM:DEN. A token and a
     HOST:PORT are such as a request may have, and `ledger --help` says what a payment is. Or the
     file of `--totals` or `--log` cannot be opened; in `connector` and `local`, no file can be made
-    beside that of `--totals`. Or that of `--token-file` or `--secret-file` cannot be read, or its
-    first line is no token or no secret. Or that of `--control` is no pipe, or cannot be opened; or
-    that of `--table` cannot be read.
+    next to that of `--totals`. Or that of `--token-file` or `--secret-file` cannot be read, or its
+    first line is not a token or a secret. Or that of `--control` is not a pipe, or cannot be
+    opened; or that of `--table` cannot be read.
     What to do: Correct the option or the file. Nothing else was opened, and nothing was sent.
 ";
 
@@ -609,15 +608,15 @@ Numbers of the library:
 ";
 
 const FAULT_110: &str = "110  st_books BooksError::NoBooks, in connector, ledger
-    The file holds no books: it is no database, has other tables, a row that is no line of its
+    The file has no books: it is not a database, has other tables, a row that is no line of its
     table, or a name twice. Or it lacks the view `books`, or has another version in it, or, in
     `connector --ledger`, another address than `--own`. Or its log is damaged, does not continue the
-    file, or is there without the file. Both are left as they are. Where books have to be there
+    file, or is there without the file. Both are left as they are. If books have to be there
     already: no file, or an empty one. None is made.
-    What to do: Name the right file. Where the log is damaged or of another moment than the file, or
-    the file is gone, put the last copy of both files back, and compare the sums with each
-    neighbour. A table, an index or a trigger that was added by hand has to be dropped. Books that
-    were made before they had the view `books` cannot be read: make new ones.
+    What to do: Name the right file. If the log is damaged or of another time than the file, or the
+    file is gone, put the last copy of both files back, and compare the sums with each neighbour. A
+    table, an index or a trigger that was added manually has to be dropped. Books of another
+    version, or from before they had the view `books`, cannot be read: make new ones.
 ";
 
 const FAULT_111: &str = "111  st_books BooksError::Taken, in connector, ledger
@@ -627,8 +626,8 @@ const FAULT_111: &str = "111  st_books BooksError::Taken, in connector, ledger
 
 const FAULT_112: &str = "112  st_books BooksError::Device, in connector, ledger
     The disk failed. The books in memory are as before the call; open the file again to see what it
-    has. Or, in `connector --ledger`, the file or its log does not stand at its name as the last
-    booking left it.
+    has. Or, in `connector --ledger`, the file or its log is not at its name as the last booking
+    left it.
     What to do: Look at the disk, put the files back where they were moved, then start again.
 ";
 
@@ -653,8 +652,8 @@ const FAULT_116: &str = "116  st_books BooksError::NoAccount, in ledger
 ";
 
 const FAULT_117: &str = "117  st_books BooksError::TooMuch, in connector, ledger
-    A sum of an account would be above 2^63 - 1, or the starts above 2^32 - 1; or an entry by hand
-    or its moment is above 2^63 - 1. Nothing changes.
+    A sum of an account would be above 2^63 - 1, or the starts above 2^32 - 1; or an entry of
+    `ledger` or its time is above 2^63 - 1. Nothing changes.
     What to do: Settle with the neighbour, and take what was paid off the sums.
 ";
 
@@ -953,7 +952,7 @@ fn tens_12() -> &'static [Option<&'static str>; 10]
     &TENS_12
 }
 
-/// What `explain` prints for 10 numbers, the first of which has so many tens. `None` where no number there has a text.
+/// What `explain` prints for the 10 numbers from `10 * tens` on. `None` if no number there has a text.
 pub(crate) fn texts(tens: u8) -> Option<&'static [Option<&'static str>; 10]>
     ensures { MatchOption result (last_ten < tens) (λ r. map (option_map (λ t. t.now)) r.now ≡ map explanation (range_with_len (10 * tens) 10)) }
 {

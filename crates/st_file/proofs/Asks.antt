@@ -1,4 +1,4 @@
--- Calls counted one after the other, and turns taken from one number by two.
+-- Calls counted one after the other, and calls of two parties counted down from one number.
 use Rattle.std.proofs.Common.{◌≡◌, ℕ, ◌+◌, ◌-◌, arith, refl, ap, ◌∙◌, Option, Some, None}
 use Rattle.st_oer.specs.Tallies.{TakesTurns}
 use Rattle.st_oer.specs.declared.tally.Tally.{Tally}

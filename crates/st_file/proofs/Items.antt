@@ -1,4 +1,4 @@
--- What went through a ring, one item more.
+-- What passed through a ring, one item more.
 use Rattle.std.proofs.Common.{◌≡◌, ℕ, List, [], ◌∷◌, ◌++◌, inl, inr, append-nil, append_assoc, refl, ap, sym, ◌∙◌, Bool, true, None, Vec}
 use Rattle.st_queues.specs.Items.{joined, delivered}
 use Rattle.st_queues.specs.Reading.{Read, ReadsAs}
@@ -48,7 +48,7 @@ module _ {A : Type 0} where
   pub end_refused : (a b : Written A) → b.items ≡ a.items → b.ended ≡ a.ended → taken_by b ≡ record { bytes = joined a.items; ended = a.ended; calls = None }
   end_refused a b items ended = taken_eq (joined b.items) (joined a.items) b.ended a.ended (ap joined items) ended
 
-  -- an end was delivered, or told again
+  -- an end was delivered, or reported again
   told : (a b : Read A) (x : Delivery A) (o : Over) → delivered (x ∷ []) ≡ [] → b.items ≡ a.items ++ x ∷ [] → b.over ≡ o → given_by b ≡ record { bytes = delivered a.items; over = o; calls = None }
   told a b x o none items is = given_eq (delivered b.items) (delivered a.items) b.over o
       (ap delivered items ∙ delivered_sum a.items (x ∷ []) ∙ ap (λ l. delivered a.items ++ l) none ∙ append-nil (delivered a.items)) is

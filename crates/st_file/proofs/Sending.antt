@@ -1,4 +1,4 @@
--- Pieces sent one after the other.
+-- Chunks sent one after the other.
 use Rattle.std.proofs.Common.{◌≡◌, ℕ, ◌+◌, List, [], ◌++◌, append-nil, append_assoc, length, arith, ap, ◌∙◌, Option}
 use Rattle.std.proofs.lemmas.List.{length-append}
 use Rattle.std.specs.Io.KnownBytes.{Consumes}
@@ -7,14 +7,14 @@ use Rattle.st_file.specs.Errors.{counted}
 use Rattle.st_file.specs.Sinks.{Taken}
 use Rattle.st_file.specs.Sends.{Sending, Sent}
 
--- a told number of bytes, and so many more
+-- a number of bytes that was reported, and more bytes after them
 pub counted_more : (n m : ℕ) (old more : List ℕ) → n ≡ counted (length old) → m ≡ counted (n + length more) → m ≡ counted (length (old ++ more))
 counted_more n m old more p q = rw (length-append old more) (omega (arith, p, q))
 
 abbrev pub sending : Option (List ℕ) → Option (List ℕ) → Taken → Taken → Sending
 sending before after old new = record { before = before; after = after; old = old; new = new }
 
--- what was read was taken
+-- what was read was accepted by the sink
 pub sent_more : (before now after : Option (List ℕ)) (old mid new : Taken) (n m : ℕ) (piece : List ℕ) → Sent (sending before now old mid) n [] → Consumes now after piece → new.bytes ≡ mid.bytes ++ piece → m ≡ counted (n + length piece) → Sent (sending before after old new) m []
 sent_more before now after old mid new n m piece s read put count =
     let first = rw append-nil at s.2 in (

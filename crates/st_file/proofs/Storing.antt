@@ -1,4 +1,4 @@
--- Pieces stored one after the other.
+-- Chunks stored one after the other.
 use Rattle.std.proofs.Common.{◌≡◌, ℕ, ◌+◌, List, [], ◌++◌, append-nil, append_assoc, length, take, drop, ap, sym, ◌∙◌, Option, Err}
 use Rattle.std.proofs.lemmas.List.{length-take-le, take-append-drop}
 use Rattle.std.specs.Io.KnownBytes.{Appends}
@@ -28,7 +28,7 @@ pub stored_more : (before now after : Option (List ℕ)) (old mid new : Given) (
 stored_more before now after old mid new n m text s gave wrote count =
     stored_part before now after old mid new n m text [] s (gave ∙ ap (λ l. mid.bytes ++ l) (sym (append-nil text))) wrote count
 
--- the first bytes were written, and the others are what was left of the piece
+-- the first bytes were written, and the others are what was left of the chunk
 pub stored_first : (before now after : Option (List ℕ)) (old mid new : Given) (n m : ℕ) (text : List ℕ) → Stored (storing before now old mid) n [] → new.bytes ≡ mid.bytes ++ text → WritesFirst n now after text m → (others : List ℕ) × Stored (storing before after old new) m others
 stored_first before now after old mid new n m text s gave w = (
   drop w.0 text,
@@ -37,7 +37,7 @@ stored_first before now after old mid new n m text s gave w = (
       (rw (length-take-le w.0 text w.1) w.3),
 )
 
--- why a piece was not written whole
+-- why a chunk was not written whole
 pub stored_why : (before now after : Option (List ℕ)) (old mid new : Given) (n : ℕ) (text : List ℕ) (e : FileError) → Stored (storing before now old mid) n [] → new.bytes ≡ mid.bytes ++ text → WritesPiece n now after text (Err e) → ExplainsStore (storing before after old new) e
 stored_why before now after old mid new n text (ReadFault m) s gave w = absurd w
 stored_why before now after old mid new n text (WriteFault m) s gave w = stored_first before now after old mid new n m text s gave w

@@ -1,4 +1,4 @@
--- The numbers by which programs print refusals, and what a refusal tells.
+-- The numbers by which programs print refusals, and the number that a refusal carries.
 use Rattle.std.specs.Prelude.{ℕ, min, Option, Some, Result, Ok, Err, ⊤}
 use Rattle.st_oer.specs.Faults.{count_after, last_count}
 use Rattle.st_file.specs.declared.error.FileError.{FileError}
@@ -22,11 +22,11 @@ inner (Turns bytes) = Some bytes
 inner (NoMemory bytes) = Some bytes
 inner (Closed bytes) = Some bytes
 
--- a number of bytes as it is told: at the greatest number of 64 bits it stays
+-- a number of bytes as it is reported: it stays at the greatest number of 64 bits
 abbrev pub counted : ℕ → ℕ
 counted n = min n last_count
 
--- a device's count of errors after a call: one more where a fault of it is told, and there alone
+-- a device's count of errors after a call: one more if the call reports a fault of it, and the same otherwise
 abbrev pub faults_told : {T : Type 0} → Result T FileError → ℕ → ℕ
 faults_told (Ok x) count = count
 faults_told (Err (ReadFault bytes)) count = count_after 1 count
@@ -36,7 +36,7 @@ faults_told (Err (Turns bytes)) count = count
 faults_told (Err (NoMemory bytes)) count = count
 faults_told (Err (Closed bytes)) count = count
 
--- the turns were used up
+-- the allowed calls were used up
 abbrev pub IsTurns : FileError → Type 0
 IsTurns (ReadFault bytes) = ⊥
 IsTurns (WriteFault bytes) = ⊥

@@ -6,8 +6,8 @@ use Rattle.st_queues.specs.declared.items.Over.{Over}
 use Rattle.st_queues.specs.declared.items.Over.TheVariants as over
 use Rattle.st_file.specs.Sinks.{calls_after}
 
--- what came out of a source: the bytes that it gave, in order, whether it told an end, and which, and how often it was
--- asked, where that is known
+-- what a source gave: its bytes, in order, whether it reported an end, and which, and how often it was
+-- asked, if that is known
 pub record Given : Type 0 where
   pub bytes : List ℕ
   pub over : Over

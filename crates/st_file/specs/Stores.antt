@@ -1,4 +1,4 @@
--- What went from a source to a writer.
+-- What a writer received from a source.
 use Rattle.std.specs.Prelude.{◌≡◌, ℕ, ◌+◌, ◌≤◌, List, [], ◌++◌, length, take, Option, Some, None, Result, Ok, Err, Vec, ⊤}
 use Rattle.std.specs.Io.KnownBytes.{Appends}
 use Rattle.st_queues.specs.declared.items.Over.TheVariants as over
@@ -14,15 +14,15 @@ pub record Storing : Type 0 where
   pub old : Given
   pub new : Given
 
--- so many bytes of the source were written, and these others were given and not written
+-- n bytes of the source were written, and these others were given and not written
 abbrev pub Stored : Storing → ℕ → List ℕ → Type 0
 Stored s n others = (bytes : List ℕ) × (s.new.bytes ≡ s.old.bytes ++ (bytes ++ others)) × Appends s.before s.after bytes × (n ≡ counted (length bytes))
 
--- all that the source gave was written, so many bytes, and it told a clean end
+-- all n bytes that the source gave were written, and it reported a clean end
 abbrev pub StoredAll : Storing → ℕ → Type 0
 StoredAll s n = Stored s n [] × (s.new.over ≡ over.Ended)
 
--- why not all was stored: the first of the given bytes were written, and all of them where the source told an abort
+-- why not all was stored: the first of the given bytes were written, and all of them if the source reported an abort
 abbrev pub ExplainsStore : Storing → FileError → Type 0
 ExplainsStore s (ReadFault n) = ⊥
 ExplainsStore s (WriteFault n) = (others : List ℕ) × Stored s n others
@@ -31,8 +31,8 @@ ExplainsStore s (Turns n) = (others : List ℕ) × Stored s n others
 ExplainsStore s (NoMemory n) = ⊥
 ExplainsStore s (Closed n) = ⊥
 
--- the next bytes of a source, or none at a clean end; or it told an abort, or the turns were used up, after so many
--- bytes were written
+-- the next bytes of a source, or none at a clean end; or it reported an abort, or the allowed calls were used up, after
+-- `written` bytes were written
 abbrev pub GivesNext : {A : Type 0} → ℕ → Given → Given → Result (Option (Vec ℕ A)) FileError → Type 0
 GivesNext written old new (Ok (Some v)) = new.bytes ≡ old.bytes ++ v.items
 GivesNext written old new (Ok None) = (new.bytes ≡ old.bytes) × (new.over ≡ over.Ended)
@@ -43,11 +43,11 @@ GivesNext written old new (Err (Turns n)) = (n ≡ written) × (new.bytes ≡ ol
 GivesNext written old new (Err (NoMemory n)) = ⊥
 GivesNext written old new (Err (Closed n)) = ⊥
 
--- the first bytes of the text were written, and with the earlier ones so many are told
+-- the first bytes of the text were written, and n counts them together with the earlier ones
 abbrev pub WritesFirst : ℕ → Option (List ℕ) → Option (List ℕ) → List ℕ → ℕ → Type 0
 WritesFirst written before after text n = (sent : ℕ) × (sent ≤ length text) × Appends before after (take sent text) × (n ≡ counted (written + sent))
 
--- a text was written whole; or its first bytes, and then the writer failed or the turns were used up
+-- a text was written whole; or its first bytes, and then the writer failed or the allowed calls were used up
 abbrev pub WritesPiece : ℕ → Option (List ℕ) → Option (List ℕ) → List ℕ → Result ℕ FileError → Type 0
 WritesPiece written before after text (Ok n) = Appends before after text × (n ≡ counted (written + length text))
 WritesPiece written before after text (Err (ReadFault n)) = ⊥
@@ -57,7 +57,7 @@ WritesPiece written before after text (Err (Turns n)) = WritesFirst written befo
 WritesPiece written before after text (Err (NoMemory n)) = ⊥
 WritesPiece written before after text (Err (Closed n)) = ⊥
 
--- a flush was done; or the writer failed or the turns were used up
+-- a flush was done; or the writer failed or the allowed calls were used up
 abbrev pub Flushes : {T : Type 0} → ℕ → Result T FileError → Type 0
 Flushes written (Ok x) = ⊤
 Flushes written (Err (ReadFault n)) = ⊥

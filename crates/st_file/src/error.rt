@@ -24,7 +24,7 @@ pub enum FileError {
     /// Memory was refused, after this number of bytes was sent.
     #[error("out of memory after {0} bytes")]
     NoMemory(u64),
-    /// The sink takes nothing any more, after this number of bytes was sent.
+    /// The sink accepts no more, after this number of bytes was sent.
     #[error("nothing more is taken after {0} bytes")]
     Closed(u64),
 }
@@ -44,7 +44,7 @@ impl FileError {
         }
     }
 
-    /// The number that the error carries: the code for `Aborted`, and else the number of bytes moved.
+    /// The number that the error carries: the code for `Aborted`, and otherwise the number of bytes moved.
     pub fn inner(&self) -> Option<u64>
         ensures { result ≡ errors.inner self.now }
     {

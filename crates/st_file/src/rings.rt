@@ -5,8 +5,8 @@ use crate::source::Source;
 use st_queues::{Got, HubName, QueueError, StreamReader, StreamWriter};
 use std::alloc::Allocator;
 
-/// A ring's writer as a sink: the bytes that it took are those of the chunks that it wrote. It is closed for a chunk of no
-/// lawful length, and after its end.
+/// A ring's writer as a sink: the bytes that it accepted are those of the chunks that it wrote. It is closed for a chunk
+/// of an invalid length, and after its end.
 impl<N: HubName<A>, A: Allocator + Copy> Sink<Vec<u8, A>> for StreamWriter<N, A> {
     ghost use Rattle.st_file.specs.Rings.{taken_by};
 

@@ -16,7 +16,7 @@ use std::io::Read;
 pub const PIECE: usize = 4_096;
 
 /// The next chunk of a reader, which is empty only at the reader's end. Its memory is allocated before the read, so
-/// that no byte is lost where memory is refused.
+/// that no byte is lost if memory is refused.
 fn read_piece<R: Read, A: Allocator + Copy>(
     alloc: A,
     reader: &mut Counting<R>,
@@ -50,7 +50,7 @@ fn read_piece<R: Read, A: Allocator + Copy>(
     Err(FileError::Turns(sent))
 }
 
-/// Puts a chunk into a sink, and tries again where it is refused. Returns how many bytes are sent then.
+/// Puts a chunk into a sink, and tries again if it is refused. Returns how many bytes are sent then.
 fn put_piece<K: Sink<Vec<u8, A>>, A: Allocator + Copy>(
     sink: &mut K,
     piece: Vec<u8, A>,
@@ -74,7 +74,7 @@ fn put_piece<K: Sink<Vec<u8, A>>, A: Allocator + Copy>(
     Err(FileError::Turns(sent))
 }
 
-/// Ends a sink, and tries again where that is refused.
+/// Ends a sink, and tries again if that is refused.
 fn put_end<K: Sink<Vec<u8, A>>, A: Allocator + Copy>(
     sink: &mut K,
     sent: u64,
@@ -96,11 +96,11 @@ fn put_end<K: Sink<Vec<u8, A>>, A: Allocator + Copy>(
 }
 
 /// Moves all bytes of a reader to a sink, in chunks of at most `PIECE` bytes, and then ends the sink. Returns how many
-/// bytes the sink took. Each call of the reader or the sink takes one of `turns`.
+/// bytes the sink accepted. Each call of the reader or the sink uses up one of `turns`.
 ///
-/// Fails with `ReadFault` where a read fails and with `NoMemory` where memory is refused: the sink then took each byte
-/// that was read. Fails with `Turns` where no call is left, and with `Closed` where the sink takes nothing any more: the
-/// last chunk that was read may then be lost. Each error carries the number of bytes that the sink took.
+/// Fails with `ReadFault` if a read fails and with `NoMemory` if memory is refused: the sink then accepted each byte
+/// that was read. Fails with `Turns` if no call is left, and with `Closed` if the sink accepts no more: the
+/// last chunk that was read may then be lost. Each error carries the number of bytes that the sink accepted.
 pub fn send_all<R: Read, K: Sink<Vec<u8, A>>, A: Allocator + Copy>(
     alloc: A,
     reader: &mut Counting<R>,

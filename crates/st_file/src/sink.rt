@@ -19,17 +19,17 @@ impl<A: Allocator + Copy> Chunk for Vec<u8, A> {
 #[must_use]
 #[derive(Drop)]
 pub enum Put<C> {
-    /// The sink took it.
+    /// The sink accepted it.
     Taken,
-    /// The sink did not take it now, and gives it back: it may be given again.
+    /// The sink did not accept it now, and gives it back: it may be given again.
     Again(C),
-    /// The sink takes nothing any more, and gives it back.
+    /// The sink accepts no more, and gives it back.
     Closed(C),
 }
 
-/// Something that takes bytes in chunks, and then an end. A call may wait for room.
+/// Something that accepts chunks of bytes, and then an end. A call may wait for room.
 pub trait Sink<C: Chunk> {
-    // What it took so far.
+    // What it accepted so far.
     ghost taken: { Self → Taken };
 
     /// Takes a whole chunk, or gives it back whole.

@@ -10,7 +10,7 @@ pub trait Source<A: Allocator + Copy> {
     // What it gave so far.
     ghost given: { Self → Given };
 
-    /// The next bytes; nothing where there are none yet; or the end or the abort of the stream.
+    /// The next bytes; nothing if there are none yet; or the end or the abort of the stream.
     fn next(&mut self) -> Got<A>
         ensures { Gives (given self.old) (given self.new) result };
 }

@@ -38,9 +38,9 @@ fn next_bytes<S: Source<A>, A: Allocator + Copy>(
 }
 
 /// Writes all of `bytes`. `written` is the number of bytes written before, and the result is the number afterwards.
-/// Each call of the writer takes one of `turns`.
+/// Each call of the writer uses up one of `turns`.
 ///
-/// Fails with `WriteFault` where a write fails, and with `Turns` where no call is left. Each carries the number of
+/// Fails with `WriteFault` if a write fails, and with `Turns` if no call is left. Each carries the number of
 /// bytes written so far.
 pub fn write_piece<W: Write>(
     writer: &mut Counting<W>,
@@ -62,10 +62,10 @@ pub fn write_piece<W: Write>(
     }
 }
 
-/// Flushes a writer, and tries again where it was interrupted. `written` is the number of bytes written before. Each
-/// call of the writer takes one of `turns`.
+/// Flushes a writer, and tries again if it was interrupted. `written` is the number of bytes written before. Each
+/// call of the writer uses up one of `turns`.
 ///
-/// Fails with `WriteFault` where the flush fails, and with `Turns` where no call is left. Each carries `written`.
+/// Fails with `WriteFault` if the flush fails, and with `Turns` if no call is left. Each carries `written`.
 pub fn flush_all<W: Write>(
     writer: &mut Counting<W>,
     written: u64,
@@ -90,10 +90,10 @@ pub fn flush_all<W: Write>(
 }
 
 /// Moves all bytes of a source to a writer, and flushes the writer at the clean end of the source. Returns how many
-/// bytes were written. Each call of the source or the writer takes one of `turns`.
+/// bytes were written. Each call of the source or the writer uses up one of `turns`.
 ///
-/// Fails with `Aborted` where the source was aborted: all bytes that it gave are then written. Fails with `WriteFault`
-/// where a write or the flush fails, and with `Turns` where no call is left. Each error carries the number of bytes
+/// Fails with `Aborted` if the source was aborted: all bytes that it gave are then written. Fails with `WriteFault`
+/// if a write or the flush fails, and with `Turns` if no call is left. Each error carries the number of bytes
 /// written, which are the first of the source, each once.
 pub fn store_all<S: Source<A>, W: Write, A: Allocator + Copy>(
     source: &mut S,

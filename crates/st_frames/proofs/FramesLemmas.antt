@@ -56,7 +56,7 @@ raws_more whole n bytes rest first some h so_far =
       reads = λ ok. so_far.reads (rw e (with_raw-ok first (raws_at (n - 1) rest) ok));
     }
 
--- where the skeleton has no fault, none is left after the first frame
+-- if the skeleton has no fault, none is left after the first frame
 raws_left : (n : ℕ) (bytes rest : List ℕ) (first : Raw) → 0 < n → raw_at bytes ≡ Ok (first, rest) → IsOk (raws_at n bytes) → IsOk (raws_at (n - 1) rest)
 raws_left n bytes rest first some h ok = ok-with_raw first (raws_at (n - 1) rest) (rw (raws_next n bytes rest first some h) at ok)
 
@@ -124,7 +124,7 @@ contents_fault : (i : ℕ) (rest : List ℕ) (r : Contents (Option Known)) (e : 
 contents_fault i rest (Ok k) e h = absurd cc
 contents_fault i rest (Err u) e h = let same : FrameFormat i ≡ e = cc in rw same refl
 
--- one frame at fault, where the skeleton has no fault
+-- one frame at fault, if the skeleton has no fault
 pub frames_fault : (n i : ℕ) (bytes : List ℕ) (e : FrameError) → 0 < n → IsOk (raws_at n bytes) → frame_at i bytes ≡ Err e → frames_at n i bytes ≡ Err e
 unfolding frame_at
 frames_fault n i bytes e some ok h =

@@ -1,4 +1,4 @@
--- Reading never answers want of memory.
+-- Reading never answers that memory is refused.
 use Rattle.std.proofs.Common.{◌≡◌, ℕ, zero, suc, ◌+◌, nat_lt, List, [], ◌∷◌, length, Result, Ok, Err, refl}
 use Rattle.std.specs.Prelude.{◌≢◌, ◌==◌, IfErr}
 use Rattle.st_oer.specs.declared.error.OerError.{OerError}

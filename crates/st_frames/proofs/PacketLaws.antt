@@ -206,7 +206,7 @@ step f bytes p fits e =
     let t = var_uint_takes bytes b.0.1 b.0.0 fits (outer_ok _ b.0 b.1) in
     record { n = b.0.0; rest = b.0.1; fits = t.1; parts = t.0; rest_fits = t.2; goes = b.2 }
 
--- one byte that is told
+-- a first byte of this value, and the rest
 record Told (value : ℕ) (f : List ℕ → Result Packet FrameError) (bytes : List ℕ) (p : Packet) : Type 0 where
   rest : List ℕ
   parts : bytes ≡ value ∷ rest

@@ -71,7 +71,7 @@ sized_short fs kind s a n h = (sized_as (position is_unwritable (map seen fs)) (
 
 pub ruleset sized = (sized_writable, sized_length, sized_short, judged_fits)
 
--- where there is no first, none passes
+-- if there is no first, none passes
 past_all : (o n : ℕ) → (let none : Option ℕ = None in cond (ltb o n) (Some o) None ≡ none) → n ≤ o
 past_all o n h =
     elim (cases_lt o n) [

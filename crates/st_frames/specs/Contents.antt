@@ -1,4 +1,4 @@
--- Reading the contents of a known frame from left to right (RFC 0029, section 5.3). A fault in them is told without its cause.
+-- Reading the contents of a known frame from left to right (RFC 0029, section 5.3). A fault in them is reported without its cause.
 use Rattle.std.specs.Prelude.{ℕ, List, [], ◌∷◌, Option, Some, None, Result, Ok, Err, Bool, ◌&&◌, if◌then◌else◌}
 use Rattle.st_oer.specs.declared.error.OerError.{OerError}
 use Rattle.st_oer.specs.Reading.{byte_at, octets_at, var_uint_at, limit_at}

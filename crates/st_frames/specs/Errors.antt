@@ -1,4 +1,4 @@
--- The numbers by which refusals are told.
+-- The numbers of refusals.
 use Rattle.std.specs.Prelude.{ℕ, Option, Some, None}
 use Rattle.st_oer.specs.Errors as oer
 use Rattle.st_oer.specs.declared.error.OerError.{OerError}
@@ -15,7 +15,7 @@ number (FrameFormat index) = 23
 number TooLong = 24
 number NoMemory = 25
 
--- the number that stands in brackets behind it: of the fault in the numbers, or the frame's index
+-- the number in brackets after it: of the fault in the numbers, or the frame's index
 abbrev pub inner : FrameError → Option ℕ
 inner Version = None
 inner Kind = None
@@ -24,7 +24,7 @@ inner (FrameFormat index) = Some index
 inner TooLong = None
 inner NoMemory = None
 
--- the refusal that a fault of a field becomes: want of memory stays that
+-- the refusal that a fault of a field becomes: out of memory stays that
 abbrev pub wrapped : OerError → FrameError
 wrapped fault.NoMemory = NoMemory
 wrapped e = Oer e

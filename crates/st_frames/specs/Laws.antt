@@ -7,7 +7,7 @@ use Rattle.st_frames.specs.Reading.{packet_at}
 use Rattle.st_frames.specs.Relation.{IsPacket}
 use Rattle.st_frames.specs.Written.{AllFit, written, packet_with}
 
--- a packet is read exactly where the bytes are a spelling of it
+-- a packet is read exactly if the bytes are a spelling of it
 pub record PacketReads : Type 0 where
   pub found : (kind : ℕ) (bytes : List ℕ) (p : Packet) → IsBytes bytes → packet_at kind bytes ≡ Ok p → IsPacket bytes p × (p.kind ≡ kind) × (length bytes ≤ max_packet)
   pub only : (bytes : List ℕ) (p : Packet) → length bytes ≤ max_packet → IsPacket bytes p → packet_at p.kind bytes ≡ Ok p
@@ -29,6 +29,6 @@ NoneBegins = (bytes more : List ℕ) (p q : Packet) → IsWhole bytes p → IsWh
 abbrev pub KeepsFrames : Type 0
 KeepsFrames = (kind sequence amount : ℕ) (ks : List Known) → frames_of (packet_with kind sequence amount ks) ≡ ks
 
--- reading takes no memory, whatever the kind
+-- reading needs no memory, whatever the kind
 abbrev pub ReadsWithoutMemory : Type 0
 ReadsWithoutMemory = (kind : ℕ) → Never NoMemory (packet_at kind)

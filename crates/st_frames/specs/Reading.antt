@@ -1,4 +1,4 @@
--- Reading a packet from left to right (RFC 0029, section 5.2), with the fault that is told where there are several.
+-- Reading a packet from left to right (RFC 0029, section 5.2), with the fault that is reported if there are several.
 use Rattle.std.specs.Prelude.{ℕ, zero, suc, ◌+◌, List, [], ◌∷◌, length, Option, Some, None, Result, Ok, Err, nat_lt, ◌==◌, if◌then◌else◌}
 use Rattle.st_oer.specs.declared.error.OerError.{OerError}
 use Rattle.st_oer.specs.Reading.{byte_at, octets_at, var_uint_at}
@@ -8,7 +8,7 @@ use Rattle.st_frames.specs.Errors.{wrapped}
 use Rattle.st_frames.specs.Frames.{Known, Packet, max_packet}
 use Rattle.st_frames.specs.Contents.{◌>>=◌, refusing, contents_at}
 
--- a frame as it stands in the bytes: its type and its contents
+-- a frame as it is in the bytes: its type and its contents
 pub record Raw : Type 0 where
   pub type : ℕ
   pub contents : List ℕ
@@ -28,7 +28,7 @@ raws_at (suc n) bytes = do
   others ← raws_at n first.1
   Ok (first.0 ∷ others)
 
--- frame i in front of the others, where it is known
+-- frame i in front of the others, if it is known
 abbrev pub with_known : ℕ → Option Known → List (ℕ × Known) → List (ℕ × Known)
 with_known i None others = others
 with_known i (Some x) others = (i, x) ∷ others
@@ -46,7 +46,7 @@ abbrev pub outer : {A : Type 0} → Result A OerError → Result A FrameError
 outer (Ok x) = Ok x
 outer (Err e) = Err (wrapped e)
 
--- the known ones of n frames from the i-th on: every type and length is looked at before the contents
+-- the known ones of n frames from the i-th on: every type and length is checked before the contents
 abbrev pub frames_at : ℕ → ℕ → List ℕ → Result (List (ℕ × Known)) FrameError
 frames_at n i bytes = outer (raws_at n bytes) >>= known_at i
 
@@ -74,7 +74,7 @@ packet_at kind bytes = if nat_lt max_packet (length bytes) then Err TooLong else
   frames ← frames_at count.0 0 count.1
   Ok (record { kind = kind; sequence = sequence.0; amount = amount.0; frames = frames }))
 
--- the frames where none has a fault
+-- the frames if none has a fault
 abbrev pub all_of : Result (List (ℕ × Known)) FrameError → List (ℕ × Known)
 all_of (Ok xs) = xs
 all_of (Err e) = []

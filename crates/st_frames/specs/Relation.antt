@@ -21,7 +21,7 @@ pub data IsFields : List Field → List Item → List ℕ → Type 0 where
   no_field : IsFields [] [] []
   next_field : (f : Field) (fs : List Field) (x : Item) (xs : List Item) (a b : List ℕ) → IsField f x a → IsFields fs xs b → IsFields (f ∷ fs) (x ∷ xs) (a ++ b)
 
--- frames as they stand in the bytes
+-- frames as they are in the bytes
 pub data AreFrames : List Raw → List ℕ → Type 0 where
   no_frame : AreFrames [] []
   next_frame : (r : Raw) (rs : List Raw) (text : List ℕ) → r.type < 256 → length r.contents < 2 ^ 64 → AreFrames rs text

@@ -1,4 +1,4 @@
--- What the frames of a packet tell of a stream (RFC 0029, section 5.3). The sender and the receiver both read it here.
+-- What the frames of a packet say of a stream (RFC 0029, section 5.3). The sender and the receiver both read it here.
 use Rattle.std.specs.Prelude.{ℕ, Bool, false, List, map, nat_eq, if◌then◌else◌}
 use Rattle.std.specs.List.{sum_by, range_with_len}
 use Rattle.st_frames.specs.Frames.{Known, StreamClose, StreamMoney, StreamMaxMoney, StreamMoneyBlocked, StreamData, StreamMaxData, StreamDataBlocked}

@@ -40,7 +40,7 @@ packet_text kind sequence amount ks = 1 ∷ kind ∷ (var_uint sequence ++ (var_
 abbrev pub packet_length : (sequence amount : ℕ) → List Known → ℕ
 packet_length sequence amount ks = 2 + length (var_uint sequence) + length (var_uint amount) + length (var_uint (length ks)) + length (frames_text ks)
 
--- a frame that tells an address that is none can't be written
+-- a frame with an invalid address can't be written
 abbrev pub is_unwritable : Known → Bool
 is_unwritable (ConnectionNewAddress address) = not (is_address_text address)
 is_unwritable k = false
@@ -68,7 +68,7 @@ indexed i (k ∷ ks) = (i, k) ∷ indexed (i + 1) ks
 abbrev pub packet_with : (kind sequence amount : ℕ) → List Known → Packet
 packet_with kind sequence amount ks = record { kind = kind; sequence = sequence; amount = amount; frames = indexed 0 ks }
 
--- the item can stand in this field
+-- the item fits this field
 abbrev pub ItemFits : Field → Item → Type 0
 ItemFits Byte (Code n) = n < 256
 ItemFits Number (Num n) = n < 2 ^ 64
@@ -84,7 +84,7 @@ ItemsFit [] [] = Unit {0}
 ItemsFit (f ∷ fs) (x ∷ xs) = ItemFits f x × ItemsFit fs xs
 ItemsFit fs xs = ⊥
 
--- the fields of a row, none where there is no row
+-- the fields of a row, none if there is no row
 abbrev pub fields_of : Option Row → List Field
 fields_of None = []
 fields_of (Some row) = row.fields

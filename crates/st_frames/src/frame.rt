@@ -3,7 +3,7 @@
 /// A frame of one of the eleven types that this profile reads, with its fields in the order of RFC 0029, section 5.3.
 ///
 /// Types 05, 06, 07 and 17 of the RFC are skipped as unknown frames. Texts and bytes are borrowed from the packet that
-/// was read. A `max_offset`, `receive_max`, `send_max`, `total_received` or `total_sent` is `u64::MAX` where the packet
+/// was read. A `max_offset`, `receive_max`, `send_max`, `total_received` or `total_sent` is `u64::MAX` if the packet
 /// has a greater number.
 #[derive(Clone, Copy, Debug, PartialEq, Eq)]
 pub enum Frame<'a> {
@@ -31,7 +31,7 @@ pub enum Frame<'a> {
     },
     /// Type 10: a stream is closed.
     StreamClose {
-        /// The stream number: odd where the client opened the stream, even where the server did.
+        /// The stream number: odd if the client opened the stream, even if the server did.
         stream: u64,
         /// The error code (RFC 0029, section 5.3): 1 means no error.
         code: u8,

@@ -2,7 +2,7 @@
 
 ghost use Rattle.st_frames.specs.Laws.{KeepsFrames, NoneBegins, PacketReads, PacketWrites, ReadsWithoutMemory};
 
-/// Bytes are read as a packet exactly where they are an encoding of it.
+/// Bytes are read as a packet exactly if they are an encoding of it.
 pub fn packet_law()
     ensures { PacketReads }
 {}

@@ -24,7 +24,7 @@ pub(crate) fn contents_len(frame: Frame<'_>) -> u128
     first.size() + second.size() + third.size()
 }
 
-/// The length of a frame, or None where its contents alone are longer than a packet may be.
+/// The length of a frame, or None if its contents alone are longer than a packet may be.
 #[tactic(auto, unfolding(crate::specs::Written::frame_text), using(crate::proofs::Puts::lengths))]
 fn frame_len(frame: Frame<'_>) -> Option<usize>
     ensures { MatchOption result (max_packet < length (frame_text (seen frame.entry))) (λ n. (n ≡ length (frame_text (seen frame.entry))) × (n < 2 ^ 16)) }
@@ -53,7 +53,7 @@ fn first_unwritable(frames: &[Frame<'_>]) -> Option<usize>
     frames.iter().position(|frame| is_unwritable(frame))
 }
 
-/// The length of a packet, or None where it is more than `MAX_PACKET`.
+/// The length of a packet, or None if it is more than `MAX_PACKET`.
 #[tactic(auto, using(crate::proofs::Puts::lengths))]
 fn length_within(sequence: u64, amount: u64, frames: &[Frame<'_>]) -> Option<usize>
     ensures { MatchOption result (max_packet < packet_length sequence amount (map seen frames.now)) (λ n. (n ≡ packet_length sequence amount (map seen frames.now)) × (n ≤ max_packet)) }

@@ -128,7 +128,7 @@ fn check_contents(bytes: &[u8], count: u64) -> Result<(), FrameError>
 /// known frame.
 ///
 /// Fails in this order: `TooLong` above `MAX_PACKET` bytes; `Version`; `Kind`; `Oer` for a fault in the numbers, or in
-/// the type or the length of any frame; `FrameFormat` for the first known frame whose contents are malformed. Where the
+/// the type or the length of any frame; `FrameFormat` for the first known frame whose contents are malformed. If the
 /// version or the kind is missing, the error in its place is `Oer(Short)`. Requires a `kind` of 12, 13 or 14.
 #[tactic(auto, unfolding(crate::specs::Reading::packet_at))]
 pub fn read_packet(bytes: &[u8], kind: u8) -> Result<StreamPacket<'_>, FrameError>

@@ -17,7 +17,7 @@ pub(crate) fn raw_frame(bytes: &[u8]) -> Result<(u8, &[u8], &[u8]), OerError>
     Ok((kind, contents, cut.rest()))
 }
 
-/// Checks that `count` frames stand in these bytes. Fails with the first fault in a type or a length.
+/// Checks that there are `count` frames in these bytes. Fails with the first fault in a type or a length.
 pub(crate) fn check_skeleton(bytes: &[u8], count: u64) -> Result<(), OerError>
     ensures ok { OnOk result (IsOk (raws_at count bytes.now)) }
     ensures err { IfErr result (λ e. raws_at count bytes.now ≡ Err e) }

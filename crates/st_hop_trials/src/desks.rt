@@ -1,7 +1,7 @@
 //! A desk with one share out, and what it answers.
 ghost use Rattle.std.specs.Prelude.{◌≡◌};
 
-use st_booking::Booking;
+use st_booking::{Booking, Proof};
 use st_desk::{
     AccountShares, Books, Clock, Fate, HopDesk, Link, LinkFault, NoBooks, Owed, Served, serve,
 };
@@ -20,12 +20,12 @@ pub(crate) const PREPARE: &[u8; 70] = b"\x0c\x44\0\0\0\0\0\0\0\x0520240102030405
 \x66\x68\x7a\xad\xf8\x62\xbd\x77\x6c\x8f\xc1\x8b\x8e\x9f\x8e\x20\
 \x08\x97\x14\x85\x6e\xe2\x33\xb3\x90\x2a\x59\x1d\x0d\x5f\x29\x25\x09example.b\0";
 
-/// The same as it goes on, a second less.
+/// The same as it is forwarded, a second less.
 const ONWARD: &[u8; 70] = b"\x0c\x44\0\0\0\0\0\0\0\x0520240102030404006\
 \x66\x68\x7a\xad\xf8\x62\xbd\x77\x6c\x8f\xc1\x8b\x8e\x9f\x8e\x20\
 \x08\x97\x14\x85\x6e\xe2\x33\xb3\x90\x2a\x59\x1d\x0d\x5f\x29\x25\x09example.b\0";
 
-/// When the Prepare that goes on expires: 2024-01-02 03:04:04.006, in milliseconds since the start of 1970.
+/// When the forwarded Prepare expires: 2024-01-02 03:04:04.006, in milliseconds since the start of 1970.
 pub(crate) const EXPIRY: i64 = 1_704_164_644_006;
 
 /// The Fulfill of 32 zero bytes, without data.
@@ -35,15 +35,15 @@ pub(crate) const FULFILL: &[u8; 35] =
 /// A Reject of the neighbour `example.b`.
 const REJECT: &[u8; 17] = b"\x0e\x0fF02\x09example.b\0\0";
 
-/// The hop's Reject where memory was refused, and where a neighbour gave no answer.
+/// The hop's Reject if memory was refused, and if a neighbour gave no answer.
 pub(crate) const T00: &[u8; 17] = b"\x0e\x0fT00\x09example.c\0\0";
 
 pub(crate) const T01: &[u8; 17] = b"\x0e\x0fT01\x09example.c\0\0";
 
-/// The hop's Reject where the Fulfill came too late.
+/// The hop's Reject if the Fulfill arrived too late.
 const R00: &[u8; 17] = b"\x0e\x0fR00\x09example.c\0\0";
 
-/// The hop `example.c` with nothing owed, account 0, and account 1 behind `example.b`. Each may owe 100.
+/// The hop `example.c` with nothing owed, account 0, and account 1 with the route `example.b`. Each may owe 100.
 pub(crate) fn new_hop<A: Allocator + Copy>(alloc: A) -> Result<HopState<A>, HopError> {
     let account = Account {
         limit: 100,
@@ -89,7 +89,7 @@ impl Clock for Moving {
     }
 }
 
-/// A neighbour in memory: it gives its answer, where it has one, to the Prepare as it goes on.
+/// A neighbour in memory: it gives its answer, if it has one, to the Prepare as it is forwarded.
 #[derive(Drop)]
 pub(crate) struct Neighbour<'a, A: Allocator + Copy> {
     pub(crate) alloc: A,
@@ -164,7 +164,7 @@ fn ask<C: Ledger, D: Ledger, R: Wait + Abort>(
     }
 }
 
-/// Whether this is held of account 0, which owes so much, as much is due to account 1, and account 1 owes nothing.
+/// Whether `held` is reserved of account 0, which owes `owed`, the same is due to account 1, and account 1 owes nothing.
 fn is_booked<C: Ledger, D: Ledger>(desk: &HopDesk<C, D, Global>, held: u64, owed: u64) -> bool {
     let hop = desk.hop();
     hop.held(0) == Ok(held)
@@ -173,7 +173,7 @@ fn is_booked<C: Ledger, D: Ledger>(desk: &HopDesk<C, D, Global>, held: u64, owed
         && hop.claims(1) == Ok(0)
 }
 
-/// What one thread is answered by a new desk over these links, and what is owed then. The amount is held where there is no
+/// What one thread is answered by a new desk over these links, and what is owed then. The amount stays reserved if there is no
 /// answer.
 fn one_serves<C: Ledger, D: Ledger, R: Wait + Abort>(
     rt: &R,
@@ -241,19 +241,28 @@ impl Books for Noted {
     }
 }
 
-/// What is booked of the Prepare where it is fulfilled.
+/// What proves its claim: its condition, which is SHA-256 of 32 zero bytes, those bytes, and when they came.
+const PROOF: Proof = Proof {
+    condition: *b"\x66\x68\x7a\xad\xf8\x62\xbd\x77\x6c\x8f\xc1\x8b\x8e\x9f\x8e\x20\
+\x08\x97\x14\x85\x6e\xe2\x33\xb3\x90\x2a\x59\x1d\x0d\x5f\x29\x25",
+    fulfillment: [0; 32],
+    moment: LAST,
+};
+
+/// What is booked of the Prepare if it is fulfilled.
 const BOOKING: Booking = Booking {
     payer: 0,
     claim: 5,
     payee: 1,
     due: 5,
+    proof: Some(PROOF),
 };
 
 /// The last moment at which a Fulfill is in time.
 const LAST: i64 = EXPIRY - 1;
 
-/// A neighbour's answer, whether there is a link to it, what the books do, when the answer comes, what goes back, the amount that
-/// is booked then, and what was to be stored.
+/// A neighbour's answer, whether there is a link to it, what the books do, when the answer arrives, what is returned, the
+/// amount that is booked then, and what was to be stored.
 type Row = (
     Option<&'static [u8]>,
     bool,
@@ -264,8 +273,8 @@ type Row = (
     Option<Booking>,
 );
 
-/// A Fulfill is stored and booked, up to the millisecond before the Prepare expires where it was sent on. A later one is not, nor
-/// one that was not stored, a Reject, a neighbour without an answer and a missing link. Where nobody knows whether it is stored
+/// A Fulfill is stored and booked, up to the millisecond before the forwarded Prepare expires. A later one is not, nor
+/// one that was not stored, a Reject, a neighbour without an answer and a missing link. If nobody knows whether it is stored
 /// there is no answer.
 #[test]
 fn a_thread_serves(rt: HostRuntime) -> Result<(), Fail> {

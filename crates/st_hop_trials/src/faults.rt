@@ -12,7 +12,7 @@ use std::sync::ledger::{Blank, Ledger};
 use std::sync::{Mutex, Wait};
 use std::test::Fail;
 
-/// A neighbour that fulfills, behind a link of which the exchange number `k` fails.
+/// A neighbour that fulfills, over a link of which the exchange number `k` fails.
 fn failing(alloc: Global, k: u64) -> FailLink<Neighbour<'static, Global>> {
     let neighbour = Neighbour {
         alloc,

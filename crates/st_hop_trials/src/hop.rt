@@ -1,4 +1,4 @@
-//! The hop of the examples: `example.c`, with the accounts 0, behind `example`, and 1, behind `example.b`.
+//! The hop of the examples: `example.c`, with account 0 for `example`, and account 1 for `example.b`.
 
 use st_hop::{Account, HopError, HopState, Outcome, Route, Ticket, Verdict};
 use st_ilp::Moment;
@@ -31,7 +31,7 @@ pub(crate) fn new_hop<A: Allocator + Copy>(alloc: A) -> Result<HopState<A>, HopE
     HopState::new(alloc, "example.c", &[account, account], &routes)
 }
 
-/// Claims, dues and held of account 0, then of account 1.
+/// Claims, dues and the reserved amount of account 0, then of account 1.
 pub(crate) fn counts<A: Allocator + Copy>(hop: &HopState<A>) -> [Result<u64, HopError>; 6] {
     [
         hop.claims(0),
@@ -43,7 +43,7 @@ pub(crate) fn counts<A: Allocator + Copy>(hop: &HopState<A>) -> [Result<u64, Hop
     ]
 }
 
-/// The ticket of the Prepare, which came from account 0 and goes on.
+/// The ticket of the Prepare, which arrived from account 0 and is forwarded.
 pub(crate) fn ticket_of<A: Allocator + Copy>(rt: &impl Abort, hop: &mut HopState<A>) -> Ticket {
     match hop
         .arrive(0, PREPARE, moment(rt, 0))
@@ -58,7 +58,7 @@ pub(crate) fn ticket_of<A: Allocator + Copy>(rt: &impl Abort, hop: &mut HopState
     }
 }
 
-/// What comes back with these bytes.
+/// The outcome of an answer with these bytes.
 pub(crate) fn with_answer<A: Allocator + Copy>(
     rt: &impl Abort,
     alloc: A,

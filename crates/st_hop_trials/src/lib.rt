@@ -6,7 +6,7 @@
 #[cfg(test)]
 use std::process::Abort;
 
-/// Ends the test where a fact does not hold, and tells which, as `assert!` does. The prover takes a third of the time for it.
+/// Ends the test if a fact does not hold, and says which, as `assert!` does. The prover needs a third of the time for it.
 #[cfg(test)]
 macro_rules! sure {
     ($rt:expr; $fact:expr) => {

@@ -18,7 +18,7 @@ enum Told {
     Fulfilled,
     NoAnswerCame,
     NoMemory,
-    /// Nothing could be told.
+    /// There was no memory for an answer.
     Refused,
 }
 
@@ -48,7 +48,7 @@ fn told_by<A: Allocator + Copy>(rt: &impl Abort, served: Result<Served<A>, DeskE
     }
 }
 
-/// Whether nothing is held, and this much is owed.
+/// Whether nothing is reserved, and this much is owed.
 fn is_booked<C: Ledger, D: Ledger, A: Allocator + Copy>(
     desk: &HopDesk<C, D, A>,
     amount: u64,
@@ -80,7 +80,7 @@ fn ask<C: Ledger, D: Ledger, A: Allocator + Copy, R: Wait + Abort>(
     )
 }
 
-/// How a thread was answered. Nothing is held afterwards, and what is owed was fulfilled.
+/// How a thread was answered. Nothing is reserved afterwards, and what is owed was fulfilled.
 fn served<C: Ledger, D: Ledger, A: Allocator + Copy, R: Wait + Abort>(
     rt: &R,
     alloc: A,
@@ -102,7 +102,7 @@ fn served<C: Ledger, D: Ledger, A: Allocator + Copy, R: Wait + Abort>(
     told
 }
 
-/// How a thread was answered, where its request number n is refused, or that and each later one.
+/// How a thread was answered, if its request number n is refused, or that and each later one.
 fn run(
     rt: &(impl Wait + Abort),
     heap: &Refusing<Global>,
@@ -129,8 +129,8 @@ fn run(
     Ok(told)
 }
 
-/// Each request is refused in turn, or it and each later one: the first ones on arrival, which tells `first`, and the last at
-/// the neighbour. It gives the number of the run that met no refusal.
+/// Each request is refused in turn, or it and each later one: the first ones on arrival, with the answer `first`, and the
+/// last at the neighbour. It returns the number of the run that met no refusal.
 fn refuse_each(
     rt: &(impl Wait + Abort),
     heap: &Refusing<Global>,
@@ -159,7 +159,7 @@ fn a_refused_request_is_answered(rt: HostRuntime) -> Result<(), Fail> {
     Ok(())
 }
 
-/// Where there is no memory for T00 either, nothing is told.
+/// If there is no memory for T00 either, there is no answer.
 #[test]
 fn no_memory_is_refused(rt: HostRuntime) -> Result<(), Fail> {
     let heap: Refusing<Global> = Refusing::new(rt.alloc());

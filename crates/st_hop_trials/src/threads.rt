@@ -17,7 +17,7 @@ use std::thread;
 use std::thread::Threads;
 use std::time::Duration;
 
-/// A neighbour that holds the first exchange until another was answered, for so many looks, and then gives a fault.
+/// A neighbour that delays the first exchange until another was answered, for `LOOKS` checks, and then has a fault.
 #[derive(Drop)]
 struct Gate<'a, R: std::time::Clock> {
     rt: &'a R,

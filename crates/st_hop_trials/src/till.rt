@@ -44,6 +44,7 @@ const BOOKING: Booking = Booking {
     claim: 3,
     payee: 1,
     due: 2,
+    proof: None,
 };
 
 /// How many deposits were stored, and of how many nobody knows it.
@@ -114,7 +115,7 @@ fn a_refusal_ends_a_till(rt: HostRuntime) -> Result<(), Fail> {
     Ok(())
 }
 
-/// A till for no thread takes nothing.
+/// A till for no thread accepts nothing.
 #[test]
 fn a_till_for_nobody_is_full(rt: HostRuntime) -> Result<(), Fail> {
     let books = Sums {

@@ -34,7 +34,7 @@ fn end_between<A: Allocator + Copy>(
     EndState::new(alloc, role, Keys::of(SECRET), own, peer, config)
 }
 
-/// The client `test.a`, which sends at most so many units in a Prepare.
+/// The client `test.a`, with this greatest amount of a Prepare.
 pub(crate) fn client<A: Allocator + Copy>(
     rt: &impl Abort,
     alloc: A,
@@ -81,7 +81,7 @@ impl Clock for Still {
     }
 }
 
-/// IVs that count up. The first byte tells those of one worker from those of another.
+/// IVs that count up. Different workers have different first bytes.
 #[derive(Drop)]
 pub(crate) struct Counting {
     pub(crate) first: u8,

@@ -51,7 +51,7 @@ fn send_losing<N: HubName<Global>, M: HubName<Global>, R: Wait + Abort + std::ti
     link.link.into_share()
 }
 
-/// 10 units go in one Prepare, whose answer is lost, and go again.
+/// 10 units are sent in one Prepare, whose answer is lost, and are sent again.
 #[derive(Drop)]
 struct LosesAnAnswer;
 

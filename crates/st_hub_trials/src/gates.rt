@@ -1,6 +1,7 @@
 //! Workers that wait for one another's exchanges.
 use crate::ends::{Counting, stopped_clock};
 use crate::hubs::{Locked, Trial, credited, gathered, offer, run, share_of, work_on};
+use crate::threads::{Scene, run_threaded};
 use st_desk::{Link, LinkFault};
 use st_hub::{CreditShare, HubLink, HubState, WorkEnd};
 use st_ilp::Moment;
@@ -46,7 +47,8 @@ impl Counts {
     }
 }
 
-/// A link that holds the first exchange until another was answered, for so many looks, and then gives a fault.
+/// A link that delays the first exchange until another was answered, checks this up to `LOOKS` times, and then gives a
+/// fault.
 #[derive(Drop)]
 struct Gate<'a, L, R: std::time::Clock> {
     rt: &'a R,
@@ -77,7 +79,7 @@ impl<L: Link<Global>, R: std::time::Clock> Link<Global> for Gate<'_, L, R> {
     }
 }
 
-/// What one worker came to, and its link's share.
+/// The end of one worker, and its link's share.
 fn worker<N: HubName<Global>, M: HubName<Global>, R: Wait + Abort + std::time::Clock>(
     rt: &R,
     hubs: &Locked<N, M>,
@@ -150,6 +152,11 @@ pub(crate) fn two_workers<
     sure!(rt; counts.in_vain.load(Ordering::SeqCst) == 0);
 }
 
+#[test]
+fn two_workers_pass_the_gate(rt: HostRuntime) {
+    run_threaded(&rt, rt.alloc(), Scene::TwoWorkers);
+}
+
 /// One worker sends them alone.
 #[derive(Drop)]
 struct OneWorker;
@@ -172,7 +179,7 @@ impl<R: Wait + Abort + std::time::Clock> Trial<R> for OneWorker {
     }
 }
 
-/// One worker alone gets the fault after so many looks, and sends the money again.
+/// One worker alone gets the fault after `LOOKS` checks, and sends the money again.
 #[test]
 fn one_worker_does_not(rt: HostRuntime) {
     run(&rt, rt.alloc(), 10, &OneWorker);

@@ -1,4 +1,4 @@
-//! Two hubs of which nothing was used.
+//! Two unused hubs.
 ghost use Rattle.std.specs.Prelude.{◌≡◌, ℕ};
 ghost use Rattle.st_queues.specs.Lanes.{ring_at};
 ghost use Rattle.st_hub.specs.Hub.{IsNew};
@@ -15,7 +15,7 @@ use std::sync::Wait;
 use std::sync::ledger::Blank;
 use std::time::Duration;
 
-/// For how long a worker of these tests sleeps where it has nothing to send.
+/// For how long a worker of these tests sleeps if it has nothing to send.
 pub(crate) fn rest() -> Duration {
     Duration::from_millis(1)
 }
@@ -28,7 +28,7 @@ pub(crate) struct Locked<N: HubName<Global>, M: HubName<Global>> {
     pub(crate) far: Bench<M, Global>,
 }
 
-/// Works at the first hub for so many turns.
+/// Works at the first hub for this number of rounds.
 pub(crate) fn work_on<
     N: HubName<Global>,
     M: HubName<Global>,
@@ -61,6 +61,26 @@ pub(crate) fn work_watched<
     turns: u32,
     watch: &mut W,
 ) -> WorkEnd {
+    work_resting(rt, hubs, seat, link, ivs, turns, watch, rest())
+}
+
+/// The same, with this rest.
+pub(crate) fn work_resting<
+    N: HubName<Global>,
+    M: HubName<Global>,
+    L: Link<Global>,
+    W: Observer,
+    R: Wait + Abort + std::time::Clock,
+>(
+    rt: &R,
+    hubs: &Locked<N, M>,
+    seat: &mut GaugeSeat<N, Global>,
+    link: &mut L,
+    ivs: &mut Counting,
+    turns: u32,
+    watch: &mut W,
+    rest: Duration,
+) -> WorkEnd {
     let mut clock = stopped_clock(rt);
     work(
         rt,
@@ -72,7 +92,7 @@ pub(crate) fn work_watched<
             gauge: &hubs.gauge,
             seat,
             stream: 0,
-            rest: rest(),
+            rest,
             turns: u64::from(turns),
             watch,
         },
@@ -118,14 +138,14 @@ pub(crate) fn pump<N: HubName<A>, A: Allocator + Copy>(rt: &impl Abort, hub: &mu
     sure!(rt; hub.pump() == Ok(()));
 }
 
-/// Offers so many units on a new stream: its number.
+/// Offers an amount, in units, on a new stream, and returns its number.
 fn offer_at<N: HubName<Global>>(rt: &impl Abort, hub: &mut HubState<N, Global>, amount: u64) -> u8 {
     let (stream, _writer) = open(rt, hub);
     sure!(rt; hub.offer(stream, amount) == Ok(()));
     stream
 }
 
-/// Offers so many units on a stream whose peer takes 100.
+/// Offers an amount, in units, on a stream whose peer accepts 100.
 pub(crate) fn offer<N: HubName<Global>, M: HubName<Global>, R: Wait + Abort>(
     rt: &R,
     hubs: &Locked<N, M>,
@@ -237,7 +257,7 @@ fn run_named<N: HubName<Global>, M: HubName<Global>, T: Trial<R>, R>(
     trial.run(rt, alloc, &hubs, &mut seat);
 }
 
-/// Tries this with new hubs. The client sends at most so many units in a Prepare.
+/// Runs this with new hubs. `packet_limit` is the greatest amount of a Prepare of the client.
 pub(crate) fn run<T: Trial<R>, R: Abort>(rt: &R, alloc: Global, packet_limit: u64, trial: &T) {
     run_named::<Brand, Brand, T, R>(
         rt,

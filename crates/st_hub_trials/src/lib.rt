@@ -5,7 +5,7 @@
 #[cfg(test)]
 use std::process::Abort;
 
-/// Ends the test where a fact does not hold, and tells which, as `assert!` does. The prover takes a third of the time for it.
+/// Ends the test if a fact does not hold, and says which, as `assert!` does. The prover takes a third of the time for it.
 #[cfg(test)]
 macro_rules! sure {
     ($rt:expr; $fact:expr) => {
@@ -53,6 +53,8 @@ mod stops;
 mod streams;
 #[cfg(test)]
 mod threads;
+#[cfg(test)]
+mod wakes;
 #[cfg(test)]
 mod watched;
 #[cfg(test)]

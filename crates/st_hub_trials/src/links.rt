@@ -1,4 +1,4 @@
-//! Two hubs, one behind a link of the other.
+//! Two hubs, connected by a link.
 use crate::ends::{Counting, stopped_clock};
 use crate::hubs::{Locked, Trial, credited, open, pump, run, share_of, work_on};
 use crate::readings::Reading;
@@ -8,7 +8,8 @@ use std::alloc::Global;
 use std::process::Abort;
 use std::sync::Wait;
 
-/// Sends to the second hub over a link, for so many turns of one worker: the link's share.
+/// Sends to the second hub over a link, for this number of rounds of one worker. Returns the link's
+/// share.
 pub(crate) fn send_over<N: HubName<Global>, M: HubName<Global>, R: Wait + Abort + std::time::Clock>(
     rt: &R,
     hubs: &Locked<N, M>,
@@ -51,7 +52,7 @@ fn write_abcd<N: HubName<Global>>(
     stream
 }
 
-/// "abcd" comes of one stream, which is not over.
+/// "abcd" arrives on one stream, which is not over.
 fn read_abcd<M: HubName<Global>>(rt: &impl Abort, alloc: Global, hub: &mut HubState<M, Global>) {
     let mut reading = Reading::new(alloc);
     reading.go_on(rt, hub);

@@ -104,7 +104,7 @@ pub(crate) fn begin<N: HubName<A>, A: Allocator + Copy>(
     }
 }
 
-/// The calls that may want memory.
+/// The calls that may allocate.
 #[derive(Clone, Copy, Debug, PartialEq, Eq)]
 enum Call {
     OpenStream,
@@ -122,7 +122,7 @@ fn opened<N: HubName<A>, A: Allocator + Copy>(hub: &mut HubState<N, A>) -> Resul
     }
 }
 
-/// How many turns were taken.
+/// How many `Turn`s the hub gives: 0 or 1.
 fn taken<N: HubName<A>, A: Allocator + Copy>(
     hub: &mut HubState<N, A>,
     now: Moment,
@@ -136,7 +136,7 @@ fn taken<N: HubName<A>, A: Allocator + Copy>(
     }
 }
 
-/// What a Prepare came with, where it is fulfilled.
+/// The amount of a Prepare, if it is fulfilled.
 pub(crate) fn came<N: HubName<A>, A: Allocator + Copy>(
     hub: &mut HubState<N, A>,
     share: &mut CreditShare<N>,
@@ -177,7 +177,7 @@ impl Called<'_> {
         }
     }
 
-    /// Makes the call, and makes it again where it was refused: whether it was.
+    /// Makes the call, and makes it again if memory was refused. Returns whether it was.
     fn call_again<N: HubName<A>, A: Allocator + Copy>(
         &self,
         rt: &impl Abort,
@@ -214,7 +214,7 @@ impl Called<'_> {
     }
 }
 
-/// Where its request number n is refused, a call wants memory, and then gives what it should when it is made again.
+/// If its request number n is refused, a call is out of memory. When it is made again, it gives what it should.
 impl<R: Wait + Abort> Refused<R> for Called<'_> {
     fn run<N: HubName<A>, A: Allocator + Copy>(
         &self,

@@ -38,7 +38,7 @@ impl<L: Link<Global>> Link<Global> for Noting<L> {
     }
 }
 
-/// 10 units go in a Prepare whose answer is of use until its expiry.
+/// 10 units are sent in a Prepare whose answer is of use until its expiry.
 #[derive(Drop)]
 struct IsOfUse;
 
@@ -70,7 +70,7 @@ fn an_answer_is_of_use_until_the_prepare_expires(rt: HostRuntime) {
     run(&rt, rt.alloc(), 1_000, &IsOfUse);
 }
 
-/// What a hub is credited of 10 units that are sent at the moment 0, where its clock says another.
+/// What a hub is credited of 10 units that are sent at the time 0, when its clock says another.
 #[derive(Drop)]
 struct Arrives {
     at: i64,

@@ -1,4 +1,5 @@
-//! A server's hub while memory is refused: a worker tells it, and the other calls ask for none.
+//! A server's hub while memory is refused: a worker reports this, and the other calls do not
+//! allocate.
 
 use crate::ends::{Counting, moment, stopped_clock};
 use crate::hubs::{rest, share_of};
@@ -13,7 +14,7 @@ use std::alloc::{Allocator, Global};
 use std::process::Abort;
 use std::sync::Wait;
 
-/// Calls on money and streams that never want memory.
+/// Calls on money and streams that never allocate.
 fn call_streams<N: HubName<A>, A: Allocator + Copy>(rt: &impl Abort, hub: &mut HubState<N, A>) {
     sure!(rt; hub.offer(1, 5) == Ok(()));
     sure!(rt; hub.set_receive_max(1, 200) == Ok(()));
@@ -22,7 +23,7 @@ fn call_streams<N: HubName<A>, A: Allocator + Copy>(rt: &impl Abort, hub: &mut H
     sure!(rt; hub.take_stream().is_none());
 }
 
-/// The calls that never want memory, but for those that take a turn or shares.
+/// The calls that never allocate, apart from those with a `Turn` or shares.
 fn call_others<N: HubName<A>, A: Allocator + Copy>(
     rt: &impl Abort,
     hub: &mut HubState<N, A>,
@@ -36,7 +37,7 @@ fn call_others<N: HubName<A>, A: Allocator + Copy>(
     sure!(rt; !hub.settled(1) && !hub.is_failed() && !hub.t00().is_empty());
 }
 
-/// Ends a turn with a fault: how many requests for memory that made.
+/// Ends a `Turn` with a fault. Returns how many requests for memory that made.
 fn finished<N: HubName<A>, A: Allocator + Copy>(
     heap: &Refusing<Global>,
     hub: &mut HubState<N, A>,
@@ -67,7 +68,7 @@ fn ask_none<N: HubName<A>, A: Allocator + Copy>(
     sure!(rt; finished(heap, hub, moment(rt)) == Ok(0));
 }
 
-/// A hub's one share, which was credited 10 units, comes back.
+/// A hub's one share, which was credited 10 units, is returned.
 fn gather_all<N: HubName<A>, A: Allocator + Copy>(
     rt: &impl Abort,
     heap: &Refusing<Global>,
@@ -131,13 +132,13 @@ fn the_other_calls_ask_for_no_memory(rt: HostRuntime) {
     sure!(&rt; !run(&rt, &heap, &AskNone { prepare }));
 }
 
-/// A worker and a link whose hub finds no memory.
+/// A worker and a link whose hub is out of memory.
 #[derive(Drop)]
 struct Starved<'a> {
     prepare: &'a [u8],
 }
 
-/// A link, and then a worker over it, tell that there is no memory.
+/// A link, and then a worker over it, report that memory is refused.
 fn starve<N: HubName<A>, A: Allocator + Copy, L: Link<A>, R: Wait + Abort + std::time::Clock>(
     rt: &R,
     hub: &Bench<N, A>,

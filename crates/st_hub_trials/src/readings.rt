@@ -14,7 +14,7 @@ pub(crate) struct Reading<N: HubName<Global>> {
     pub(crate) is_over: bool,
 }
 
-/// Reads all that stands in a ring: whether that is the end.
+/// Reads all that is in a ring. Returns whether that is the end.
 fn read_all<N: HubName<Global>>(
     rt: &impl Abort,
     reader: &mut StreamReader<N, Global>,
@@ -39,7 +39,7 @@ impl<N: HubName<Global>> Reading<N> {
         }
     }
 
-    /// Pumps the hub, and reads what came of the stream.
+    /// Pumps the hub, and reads what arrived on the stream.
     pub(crate) fn go_on(&mut self, rt: &impl Abort, hub: &mut HubState<N, Global>) {
         pump(rt, hub);
         if self.reader.is_none() {

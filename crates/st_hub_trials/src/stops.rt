@@ -19,7 +19,7 @@ struct Busy {
 }
 
 /// A Reject that says that the destination has too little liquidity for now.
-const BUSY: &[u8; 17] = b"\x0e\x0fT04\x09example.b\0\0";
+pub(crate) const BUSY: &[u8; 17] = b"\x0e\x0fT04\x09example.b\0\0";
 
 impl Counted for Busy {
     ghost fault_count = { λ _. 0 };

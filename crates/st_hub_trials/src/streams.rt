@@ -34,7 +34,7 @@ fn write_stream<N: HubName<Global>>(rt: &impl Abort, alloc: Global, hub: &mut Hu
     }
 }
 
-/// A byte is written by each writer of each stream that an end can open: one call takes all of them.
+/// A byte is written by each writer of each stream that an end can open: one call moves all of them.
 fn write_all<N: HubName<Global>>(rt: &impl Abort, alloc: Global, hub: &mut HubState<N, Global>) {
     for _ in 0..OWN {
         write_stream(rt, alloc, hub);

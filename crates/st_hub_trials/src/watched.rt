@@ -13,9 +13,10 @@ use std::process::Abort;
 use std::sync::Wait;
 
 /// A Reject F08 of `test.c` with the message "full": 10 units arrived, and 5 may be sent.
-const TOO_LARGE: &[u8] = b"\x0e\x20F08\x06test.c\x04full\x10\0\0\0\0\0\0\0\x0a\0\0\0\0\0\0\0\x05";
+pub(crate) const TOO_LARGE: &[u8] =
+    b"\x0e\x20F08\x06test.c\x04full\x10\0\0\0\0\0\0\0\x0a\0\0\0\0\0\0\0\x05";
 
-/// A link that gives no answer, then that Reject, and then bytes that are no answer.
+/// A link that gives no answer, then that Reject, and then bytes that are not an answer.
 #[derive(Drop)]
 struct Failing {
     alloc: Global,
@@ -65,7 +66,7 @@ impl Observer for Notes {
     fn waits(&mut self, _blocked: Blocked) {}
 }
 
-/// 10 units go in one Prepare, which fails three times.
+/// 10 units are sent in one Prepare, which fails three times.
 #[derive(Drop)]
 struct Fails;
 
@@ -118,8 +119,8 @@ impl Observer for Limits {
     }
 }
 
-/// 110 units are offered on a stream that takes 100: one Prepare is refused, one is fulfilled, and one is a Blocked
-/// frame.
+/// 110 units are offered on a stream that accepts 100: one Prepare is refused, one is fulfilled, and one is a
+/// Blocked frame.
 #[derive(Drop)]
 struct Waits;
 

@@ -17,7 +17,7 @@ fn write_one<N: HubName<Global>>(rt: &impl Abort, alloc: Global, hub: &mut HubSt
     sure!(rt; hub.meet_writer(&mut writer) == 0);
 }
 
-/// What was written is what the gauge tells.
+/// What was written is what the gauge shows.
 #[derive(Drop)]
 struct ReadsBack;
 
@@ -39,7 +39,7 @@ fn reads_back(rt: HostRuntime) {
     run(&rt, rt.alloc(), 1_000, &ReadsBack);
 }
 
-/// The number of a refusal of a further writer, 0 where there is none.
+/// The number of a refusal of a further writer, 0 if there is none.
 fn refusal<N: HubName<Global>>(hub: &mut HubState<N, Global>, stream: u8) -> u8 {
     match hub.add_writer(stream) {
         Ok(_) => 0,
@@ -81,7 +81,7 @@ fn is_merged(bytes: &[u8]) -> bool {
     bytes == b"aabbcc".as_slice() || bytes == b"aaccbb".as_slice() || bytes == b"ccaabb".as_slice()
 }
 
-/// What both wrote comes whole.
+/// What both wrote arrives intact.
 fn read_merged<M: HubName<Global>>(rt: &impl Abort, alloc: Global, hub: &mut HubState<M, Global>) {
     let mut reading = Reading::new(alloc);
     reading.go_on(rt, hub);

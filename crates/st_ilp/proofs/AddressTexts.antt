@@ -48,7 +48,7 @@ address_is_short text e =
     let p = two_parts (nat_le (length text) max_address) (is_segments text) e in
     le_is (length text) max_address p.0
 
--- what is no UTF-8 is no address
+-- what is not UTF-8 is not an address
 pub no_utf8_no_address : (text : List ℕ) → is_utf8 text ≡ false → is_address text ≡ false
 no_utf8_no_address text bad =
     let by : (b : Bool) → is_address text ≡ b → b ≡ false = λ b. elim b as (λ b. is_address text ≡ b → b ≡ false) [

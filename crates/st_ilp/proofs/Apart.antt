@@ -1,4 +1,4 @@
--- Texts of one kind are no packets of another.
+-- Texts of one kind are not packets of another.
 use Rattle.std.proofs.Common.{◌≡◌, ℕ, Bool, true, false, List, length, nat_eq, Result, Ok, Err, refl}
 use Rattle.std.specs.Prelude.{◌==◌, if◌then◌else◌}
 use Rattle.st_oer.specs.declared.error.OerError.{OerError}
@@ -52,7 +52,7 @@ no_fulfill contents =
     then_fails fulfills reject_fails (message_at by.1) _ (λ message. then_fails fulfills reject_fails (data_at message.1) _ (λ payload.
     provided_fails fulfills reject_fails (nat_eq (length payload.1) 0) _ (Rejected code.0 by.0 message.0 payload.0) refl))))
 
--- contents behind their kind
+-- contents after their kind
 abbrev as_kind : ℕ → List ℕ → ℕ × List ℕ
 as_kind kind contents = (kind, contents)
 

@@ -127,7 +127,7 @@ on_day_is t h =
     let milli : since_midnight t % 1_000 ≡ t.milli = omega (arith, h.milli) in
     rw (year_is t h, month_is t h, day_is t h, hour, minute, second, milli) refl
 
--- a value is so many days and so many milliseconds
+-- a value is a number of days and a number of milliseconds
 parts_is : (day : ℤ) (since : ℕ) → since < day_length → (int_div_euclid (day *ℤ pos day_length +ℤ pos since) (pos day_length) ≡ day)
     × (unsigned_abs (int_rem_euclid (day *ℤ pos day_length +ℤ pos since) (pos day_length)) ≡ since)
 parts_is day since h = (omega (arith, signed_arith, h), omega (arith, signed_arith, h))

@@ -110,7 +110,7 @@ text_is t h =
     both (eqb (length (digits_of t)) 17) (list_all is_ascii_digit (digits_of t) && exists (numbers_in (digits_of t))) refl
     (both (list_all is_ascii_digit (digits_of t)) (exists (numbers_in (digits_of t))) (digits_all t) (ap exists (numbers_in_digits t h) ∙ exists_is t h))
 
--- so many items from a place on
+-- n items from a place on
 abbrev items : List ℕ → (i n : ℕ) → List ℕ
 items text i zero = []
 items text i (suc n) = get_or text i 0 ∷ items text (suc i) n
@@ -144,7 +144,7 @@ three_back : (a b c : ℕ) → (48 ≤ a) × (a ≤ 57) → (48 ≤ b) × (b ≤
     → (let n : ℕ = ((a - 48) * 10 + (b - 48)) * 10 + (c - 48) in (digit (n / 100) ≡ a) × (digit (n / 10) ≡ b) × (digit n ≡ c))
 three_back a b c ha hb hc = (omega (arith, ha, hb, hc), omega (arith, ha, hb, hc), omega (arith, ha, hb, hc))
 
--- 17 digits are the digits of the numbers that they stand for
+-- 17 digits are the digits of the numbers that they give
 pub digits_in_numbers : (text : List ℕ) → length text ≡ 17 → list_all is_ascii_digit text ≡ true → text ≡ digits_of (numbers_in text)
 digits_in_numbers text long all =
     let at : (i : ℕ) → i < 17 → (48 ≤ get_or text i 0) × (get_or text i 0 ≤ 57) = λ i lt. digit_in text i all (omega (arith, long)) in
@@ -199,7 +199,7 @@ expiry_found text millis e =
     let q = two_parts (list_all is_ascii_digit text) (exists (numbers_in text)) p.1 in
     (numbers_in text, is_exists (numbers_in text) q.1, digits_in_numbers text (eqb-true _ _ p.0) q.0, sym t.1)
 
--- what is no text of any value is refused
+-- what is not the text of any value is refused
 pub expiry_refused : (text : List ℕ) → ((millis : ℤ) → ¬ (IsExpiry text millis)) → expiry_at text ≡ Err Expiry
 unfolding expiry_at
 expiry_refused text none =

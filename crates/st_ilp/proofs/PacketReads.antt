@@ -1,4 +1,4 @@
--- Whole packets are read exactly where they are spelled.
+-- Whole packets are read exactly if they are spelled.
 use Rattle.std.proofs.Common.{◌≡◌, ℕ, ℤ, ◌<◌, ◌≤◌, ◌^◌, Bool, true, cond, ◌&&◌, eqb, List, [], ◌∷◌, ◌++◌, length, drop, Option, Some, None, Result, Ok, refl, sym, ap, ◌∙◌, subst, arith, inl, inr, append-nil}
 use Rattle.std.specs.Prelude.{not, nat_le}
 use Rattle.std.specs.Int.{w64, to_be_bytes}

@@ -58,7 +58,7 @@ year_of day = last_until 9999 (λ year. int_le (days_from_civil (pos year) 1 1) 
 unfoldable pub month_of : ℕ → ℤ → ℕ
 month_of year day = last_until 12 (λ month. int_le (days_from_civil (pos year) month 1) day)
 
--- the date with a day number, and a time so many milliseconds after midnight
+-- the date with a day number, and a time this many milliseconds after midnight
 abbrev pub on_day : ℤ → ℕ → DateAndTime
 on_day day millis = record {
   year = year_of day;

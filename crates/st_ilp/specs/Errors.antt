@@ -30,7 +30,7 @@ inner Code = None
 inner Trailing = None
 inner NoMemory = None
 
--- the refusal that a fault of a field becomes: want of memory stays that
+-- the refusal that a fault of a field becomes: out of memory stays that
 abbrev pub wrapped : OerError → IlpError
 wrapped fault.NoMemory = NoMemory
 wrapped e = Oer e

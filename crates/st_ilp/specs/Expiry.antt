@@ -45,7 +45,7 @@ digit_at text i = slice_index text i - 48
 abbrev pub two_at : List ℕ → ℕ → ℕ
 two_at text i = digit_at text i * 10 + digit_at text (i + 1)
 
--- the numbers that the digits stand for, which may name no date and time
+-- the numbers that the digits give, which may name no date and time
 abbrev pub numbers_in : List ℕ → DateAndTime
 numbers_in text = record {
   year = two_at text 0 * 100 + two_at text 2;

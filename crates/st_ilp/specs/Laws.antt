@@ -36,7 +36,7 @@ pub data IsAnswer : AnswerPacket → Type 0 where
   is_reject : (code by message payload : List ℕ) → length code ≡ 3 → is_code code ≡ true → is_sender by ≡ true → is_utf8 message ≡ true → is_data payload ≡ true
       → length (answer_contents (Rejected code by message payload)) < 2 ^ 64 → IsAnswer (Rejected code by message payload)
 
--- bytes are read as a Prepare exactly where they are its spelling, and what is written is read again
+-- bytes are read as a Prepare exactly if they are its spelling, and what is written is read again
 pub record PrepareReads : Type 0 where
   pub found : (bytes : List ℕ) (p : PreparePacket) → IsBytes bytes → prepare_at bytes ≡ Ok p → (bytes ≡ prepare_text p) × IsPrepare p
   pub only : (p : PreparePacket) → IsPrepare p → prepare_at (prepare_text p) ≡ Ok p
@@ -61,11 +61,11 @@ IsSpelling text = ((p : PreparePacket) × IsPrepare p × (text ≡ prepare_text 
 abbrev pub NoneBeginsAnother : Type 0
 NoneBeginsAnother = (text rest : List ℕ) → IsSpelling text → IsSpelling (text ++ rest) → rest ≡ []
 
--- a Reject without a message has its told size
+-- a Reject without a message has the size that `reject_size` gives
 abbrev pub RejectsHaveSize : Type 0
 RejectsHaveSize = (code by payload : List ℕ) → length code ≡ 3 → length (answer_text (Rejected code by [] payload)) ≡ reject_size by (length payload)
 
--- each text has its told size
+-- each text has the size that is computed for it
 pub record TextsHaveSize : Type 0 where
   pub prepare : (p : PreparePacket) → length p.condition ≡ 32 → length (prepare_text p) ≡ size_of_prepare p
   pub answer : (a : AnswerPacket) → IsAnswerTyped a → length (answer_text a) ≡ size_of_answer a
@@ -79,7 +79,7 @@ pub record KindsApart : Type 0 where
 
 -- ---- memory
 
--- reading takes no memory
+-- reading needs no memory
 pub record ReadsWithoutMemory : Type 0 where
   pub expiry : Never NoMemory expiry_at
   pub prepare : Never NoMemory prepare_at

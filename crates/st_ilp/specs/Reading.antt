@@ -22,7 +22,7 @@ abbrev pub spelled : {A : Type 0} → Result A OerError → Result A IlpError
 spelled (Ok x) = Ok x
 spelled (Err e) = Err (wrapped e)
 
--- a value where its rule holds, else the rule's refusal
+-- a value if its rule holds, else the rule's refusal
 abbrev pub provided : {A : Type 0} → Bool → IlpError → A → Result A IlpError
 provided true e x = Ok x
 provided false e x = Err e
@@ -71,7 +71,7 @@ data_at = octets_with is_data DataTooLong
 
 -- ---- whole packets
 
--- the kind, where it is one of those asked for, and the contents
+-- the kind, if it is one of those asked for, and the contents
 unfoldable pub packet_at : (first last : ℕ) → List ℕ → Result (ℕ × List ℕ) IlpError
 packet_at first last bytes = do
   kind ← spelled (byte_at bytes)

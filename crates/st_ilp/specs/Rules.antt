@@ -15,7 +15,7 @@ max_message = 8_191
 abbrev pub is_data : List ℕ → Bool
 is_data bytes = nat_le (length bytes) max_data
 
--- triggeredBy: an address, or nothing where the sender is not told
+-- triggeredBy: an address, or nothing if the sender is not named
 abbrev pub is_sender : List ℕ → Bool
 is_sender text = (length text == 0) || is_address text
 

@@ -40,7 +40,7 @@ prepare_written p = unless (prepare_refusal p) (prepare_text p)
 abbrev pub answer_written : AnswerPacket → Result (List ℕ) IlpError
 answer_written a = unless (answer_refusal a) (answer_text a)
 
--- how many bytes so many octets take with their length
+-- how many bytes n octets need with their length
 abbrev pub octets_size : ℕ → ℕ
 octets_size n = length (length_bytes n) + n
 

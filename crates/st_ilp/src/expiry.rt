@@ -88,7 +88,7 @@ fn datetime_at(millis: i64) -> Option<DateTime>
 /// Writes an expiry as its 17 digits, YYYYMMDDHHMMSSfff in UTC (RFC 0027). `millis` is in milliseconds since 1970-01-01
 /// 00:00 UTC.
 ///
-/// Fails with `Expiry` where the year is outside 0000 to 9999.
+/// Fails with `Expiry` if the year is outside 0000 to 9999.
 pub fn write_expiry(millis: i64) -> Result<[u8; 17], IlpError>
     ensures { Gives (λ text. text) result (written_expiry millis) }
 {
@@ -98,7 +98,7 @@ pub fn write_expiry(millis: i64) -> Result<[u8; 17], IlpError>
     }
 }
 
-/// The number that two digits stand for.
+/// The number that two digits give.
 fn two_digits(text: &[u8; 17], at: usize) -> u32
     requires { at < 16 }
     ensures { result ≡ (slice_index text.now at - 48) * 10 + (slice_index text.now (at + 1) - 48) }
@@ -120,7 +120,7 @@ struct Numbers {
     milli: u32,
 }
 
-/// The numbers that the digits stand for.
+/// The numbers that the digits give.
 fn numbers_of(text: &[u8; 17]) -> Numbers
     ensures { (t : DateAndTime) → Exists t → text.now ≡ digits_of t → named_by result ≡ t }
 {
@@ -175,7 +175,7 @@ fn millis_of(at: DateTime) -> i64
 /// Reads the 17 digits of an expiry, YYYYMMDDHHMMSSfff in UTC (RFC 0027). The result is in milliseconds since
 /// 1970-01-01 00:00 UTC.
 ///
-/// Fails with `Expiry` where the text is not exactly 17 digits of an existing date with hour 00 to 23, minute and
+/// Fails with `Expiry` if the text is not exactly 17 digits of an existing date with hour 00 to 23, minute and
 /// second 00 to 59.
 pub fn read_expiry(text: &[u8]) -> Result<i64, IlpError>
     ensures { Gives (λ millis. millis) result (expiry_at text.now) }

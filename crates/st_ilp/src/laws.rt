@@ -1,4 +1,4 @@
-//! Laws of the definitions: bytes are read as a packet exactly where they are its encoding.
+//! Laws of the definitions: bytes are read as a packet exactly if they are its encoding.
 
 ghost use Rattle.st_ilp.specs.Laws.{ExpiryReads, PrepareReads, AnswerReads, NoneBeginsAnother, RejectsHaveSize, TextsHaveSize, KindsApart, ReadsWithoutMemory};
 
@@ -7,12 +7,12 @@ pub fn expiry_law()
     ensures { ExpiryReads }
 {}
 
-/// Bytes are read as a Prepare exactly where they are its encoding.
+/// Bytes are read as a Prepare exactly if they are its encoding.
 pub fn prepare_law()
     ensures { PrepareReads }
 {}
 
-/// Bytes are read as a Fulfill or a Reject exactly where they are its encoding.
+/// Bytes are read as a Fulfill or a Reject exactly if they are its encoding.
 pub fn answer_law()
     ensures { AnswerReads }
 {}

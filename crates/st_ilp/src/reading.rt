@@ -173,7 +173,7 @@ fn reject(contents: &[u8]) -> Result<Answer<'_>, IlpError>
 
 /// Reads the whole of `bytes` as a Prepare (RFC 0027). Does not allocate.
 ///
-/// Fails with the first fault: `Oer(Short)` where the input is empty, `Kind` for another kind of packet, `Oer(..)` for
+/// Fails with the first fault: `Oer(Short)` if the input is empty, `Kind` for another kind of packet, `Oer(..)` for
 /// a malformed outer octet string, and `Trailing` for bytes after the packet. Then each field in its order: `Oer(..)`
 /// for its encoding, and `Expiry`, `Address` or `DataTooLong` for its value. Last, `Trailing` for bytes after the last
 /// field.
@@ -187,7 +187,7 @@ pub fn read_prepare(bytes: &[u8]) -> Result<Prepare<'_>, IlpError>
 
 /// Reads the whole of `bytes` as a Fulfill or a Reject (RFC 0027). Does not allocate.
 ///
-/// Fails with the first fault: `Oer(Short)` where the input is empty, `Kind` for another kind of packet, `Oer(..)` for
+/// Fails with the first fault: `Oer(Short)` if the input is empty, `Kind` for another kind of packet, `Oer(..)` for
 /// a malformed outer octet string, and `Trailing` for bytes after the packet. Then each field in its order: `Oer(..)`
 /// for its encoding, and `Code`, `Address`, `NotUtf8` or `DataTooLong` for its value. Last, `Trailing` for bytes after
 /// the last field.

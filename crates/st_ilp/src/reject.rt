@@ -61,7 +61,7 @@ pub(crate) fn append_reject<A: Allocator>(
 /// The length in bytes of a Reject without a message (RFC 0027), with `by` as its triggeredBy and `data_len` bytes of
 /// data.
 ///
-/// The result is exact where the length fits a `usize`, and `usize::MAX` otherwise. Does not allocate.
+/// The result is exact if the length fits a `usize`, and `usize::MAX` otherwise. Does not allocate.
 #[tactic(auto, unfolding(crate::specs::Writing::reject_size))]
 pub fn reject_len(by: &str, data_len: usize) -> usize
     ensures exact { reject_size by.now data_len < 2 ^ 64 → result ≡ reject_size by.now data_len }
@@ -70,10 +70,10 @@ pub fn reject_len(by: &str, data_len: usize) -> usize
     size::reject_size(by.len(), 0, data_len)
 }
 
-/// Appends a Reject without a message (RFC 0027). `by` is its triggeredBy, `payload` its data. Does not allocate where
+/// Appends a Reject without a message (RFC 0027). `by` is its triggeredBy, `payload` its data. Does not allocate if
 /// `out` has `reject_len` bytes of free capacity.
 ///
-/// Fails with `Code`, `Address` or `DataTooLong`, checked in this order, and then with `NoMemory` where memory is
+/// Fails with `Code`, `Address` or `DataTooLong`, checked in this order, and then with `NoMemory` if memory is
 /// refused. `out` then keeps the bytes that it had.
 #[tactic(auto, using(crate::proofs::Sizes::sizes))]
 pub fn put_reject<A: Allocator>(

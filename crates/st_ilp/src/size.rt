@@ -5,7 +5,7 @@ ghost use Rattle.st_ilp.specs.Writing.{octets_size, reject_contents_size};
 
 use st_oer::length_size;
 
-/// The length of an octet string of `n` bytes, its length prefix included. `usize::MAX` where it does not fit.
+/// The length of an octet string of `n` bytes, its length prefix included. `usize::MAX` if it does not fit.
 pub(crate) fn octets_len(n: usize) -> usize
     ensures exact { octets_size n < 2 ^ 64 → result ≡ octets_size n }
     ensures small { n < 2 ^ 63 → result ≡ octets_size n }
@@ -15,7 +15,7 @@ pub(crate) fn octets_len(n: usize) -> usize
     n.saturating_add(length_size(n as u64))
 }
 
-/// How many bytes the contents of a Reject take. `usize::MAX` where the number does not fit.
+/// The length in bytes of the contents of a Reject. `usize::MAX` if the number does not fit.
 pub(crate) fn reject_contents_len(by: usize, message: usize, payload: usize) -> usize
     ensures exact { reject_contents_size by message payload < 2 ^ 64 → result ≡ reject_contents_size by message payload }
     ensures past { 2 ^ 64 ≤ reject_contents_size by message payload → result ≡ usize.MAX }
@@ -26,7 +26,7 @@ pub(crate) fn reject_contents_len(by: usize, message: usize, payload: usize) -> 
         .saturating_add(3)
 }
 
-/// How many bytes a Reject takes. `usize::MAX` where the number does not fit.
+/// The length in bytes of a Reject. `usize::MAX` if the number does not fit.
 pub(crate) fn reject_size(by: usize, message: usize, payload: usize) -> usize
     ensures exact { 1 + octets_size (reject_contents_size by message payload) < 2 ^ 64 → result ≡ 1 + octets_size (reject_contents_size by message payload) }
     ensures past { 2 ^ 64 ≤ 1 + octets_size (reject_contents_size by message payload) → result ≡ usize.MAX }

@@ -51,7 +51,7 @@ fn append_prepare<A: Allocator>(
 
 /// The bytes of a Prepare (RFC 0027), in a new vector.
 ///
-/// Fails with `Expiry`, `Address` or `DataTooLong`, checked in this order, and then with `NoMemory` where memory is
+/// Fails with `Expiry`, `Address` or `DataTooLong`, checked in this order, and then with `NoMemory` if memory is
 /// refused.
 #[tactic(auto, unfolding(crate::specs::Writing::prepare_refusal), using(crate::proofs::Sizes::sizes))]
 pub fn write_prepare<A: Allocator>(alloc: A, prepare: &Prepare<'_>) -> Result<Vec<u8, A>, IlpError>
@@ -108,7 +108,7 @@ fn reject_bytes<A: Allocator>(
 
 /// The bytes of a Fulfill or a Reject (RFC 0027), in a new vector.
 ///
-/// Fails with `Code`, `Address` or `DataTooLong`, checked in this order, and then with `NoMemory` where memory is
+/// Fails with `Code`, `Address` or `DataTooLong`, checked in this order, and then with `NoMemory` if memory is
 /// refused. `DataTooLong` is for a message above 8,191 bytes and for data above 32,767.
 pub fn write_answer<A: Allocator>(alloc: A, answer: &Answer<'_>) -> Result<Vec<u8, A>, IlpError>
     ensures { Writes IlpError.NoMemory (λ out. out.items) result (answer_written (answer_seen answer.now)) }

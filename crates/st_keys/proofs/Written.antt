@@ -8,7 +8,7 @@ use Rattle.st_frames.specs.Written.{judged, packet_text, is_unwritable, written,
 use Rattle.st_frames.specs.declared.error.FrameError.{FrameError}
 use Rattle.st_frames.specs.declared.error.FrameError.TheVariants.{NoMemory, TooLong}
 
--- a text that was written is no longer than a packet may be, and a packet that is refused is not so for want of memory
+-- a text that was written is no longer than a packet may be, and a packet that is refused is not refused for memory
 abbrev pub IsWritable : Result (List ℕ) FrameError → Type 0
 IsWritable (Ok text) = length text ≤ max_packet
 IsWritable (Err fault) = fault ≢ NoMemory

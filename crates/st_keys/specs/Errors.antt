@@ -1,4 +1,4 @@
--- The numbers by which refusals are told.
+-- The numbers by which refusals are reported.
 use Rattle.std.specs.Prelude.{ℕ, Option, Some, None}
 use Rattle.st_frames.specs.Errors as frames
 use Rattle.st_frames.specs.declared.error.FrameError.{FrameError}
@@ -13,14 +13,14 @@ number Tag = 31
 number (Packet e) = 32
 number NoMemory = 33
 
--- the number that stands in brackets behind it: of the packet's fault
+-- the number in brackets after it: of the packet's fault
 abbrev pub inner : KeyError → Option ℕ
 inner Short = None
 inner Tag = None
 inner (Packet e) = Some (frames.number e)
 inner NoMemory = None
 
--- the refusal that a packet's fault becomes: want of memory stays that
+-- the refusal that a packet's fault becomes: out of memory stays that
 abbrev pub wrapped : FrameError → KeyError
 wrapped fault.NoMemory = NoMemory
 wrapped e = Packet e

@@ -31,7 +31,7 @@ pub record PayloadLengths : Type 0 where
   pub packet : (keys : DerivedKeys) (iv payload : List ℕ) (kind sequence amount : ℕ) (ks : List Known) → length iv ≡ 12
       → sealed_packet keys iv kind sequence amount ks ≡ Ok payload → length payload ≤ 32767
 
--- opening takes no memory: no payload is refused for want of it, and no packet in one
+-- opening does not allocate: it never fails for memory, neither for a payload nor for the packet in it
 pub record OpensWithoutMemory : Type 0 where
   pub text : (keys : DerivedKeys) → Never NoMemory (unsealed keys)
   pub packet : (keys : DerivedKeys) (kind : ℕ) → Never NoMemory (opened keys kind)

@@ -42,7 +42,7 @@ tag_of payload = take 16 (drop 12 payload)
 abbrev pub ciphertext_of : List ℕ → List ℕ
 ciphertext_of payload = drop 28 payload
 
--- the text of a payload: refused where there is no room for IV and tag, and then where the tag is another than the ciphertext's
+-- the text of a payload: refused if it is too short for IV and tag, and then if its tag does not match the ciphertext
 unfoldable pub unsealed : DerivedKeys → List ℕ → Result (List ℕ) KeyError
 unsealed keys payload =
     if nat_lt (length payload) 28 then Err refused.Short
@@ -60,6 +60,6 @@ abbrev pub packet_in : ℕ → Result (List ℕ) KeyError → Result Packet KeyE
 packet_in kind (Ok text) = packet_or_fault (packet_at kind text)
 packet_in kind (Err e) = Err e
 
--- the packet of a payload: the text's refusals come before the packet's
+-- the packet of a payload: the text's refusals precede the packet's
 unfoldable pub opened : DerivedKeys → ℕ → List ℕ → Result Packet KeyError
 opened keys kind payload = packet_in kind (unsealed keys payload)

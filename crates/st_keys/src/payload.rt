@@ -12,7 +12,7 @@ use crate::keys::Keys;
 use st_frames::{Frame, FrameError, StreamPacket, packet_len, put_packet, read_packet};
 use std::alloc::Allocator;
 
-/// The bytes that a payload has beside those of its plain packet: an IV of 12 and a tag of 16.
+/// The bytes that a payload has in addition to those of its plain packet: an IV of 12 and a tag of 16.
 pub const OVERHEAD: usize = 28;
 
 fn iv_of(payload: &[u8]) -> [u8; 12]
@@ -33,7 +33,7 @@ fn tag_of(payload: &[u8]) -> [u8; 16]
     tag
 }
 
-/// A vector with room for an IV and a tag, and a packet behind them. Its memory is requested at once.
+/// A vector with room for an IV and a tag, followed by a packet. Its memory is requested at once.
 #[tactic(auto, using(crate::proofs::Written::size_found))]
 fn with_overhead<A: Allocator>(
     alloc: A,
@@ -55,7 +55,7 @@ fn with_overhead<A: Allocator>(
     Ok(payload)
 }
 
-/// Reads the packet that stands behind the first bytes of a payload.
+/// Reads the packet that follows the first `OVERHEAD` bytes of a payload.
 fn packet_behind(payload: &[u8], kind: u8) -> Result<StreamPacket<'_>, KeyError>
     requires from_prepare { 12 ≤ kind }
     requires to_reject { kind ≤ 14 }
@@ -74,7 +74,7 @@ impl Keys {
     /// `kind` is the kind of the ILP packet that carries it. The memory of the payload is requested once, and no other.
     /// No two packets of a connection may have the same IV: the caller has to see to that.
     ///
-    /// Fails with `Packet` where the packet cannot be written: `FrameFormat` for the first frame with a malformed
+    /// Fails with `Packet` if the packet cannot be written: `FrameFormat` for the first frame with a malformed
     /// address, then `TooLong` above `MAX_PACKET` bytes. Then with `NoMemory`. Requires a `kind` of 12, 13 or 14.
     #[tactic(auto, unfolding(crate::specs::Sealed::sealed_packet))]
     pub fn seal_packet<A: Allocator>(
@@ -97,7 +97,7 @@ impl Keys {
         Ok(payload)
     }
 
-    /// Encrypts a text where it lies, from byte `OVERHEAD` on, and writes IV and tag in front of it.
+    /// Encrypts a text in place, from byte `OVERHEAD` on, and writes IV and tag in front of it.
     #[tactic(auto, unfolding(crate::specs::Sealed::sealed, crate::specs::Sealed::payload_of), using(std::proofs::Common::append_assoc))]
     fn seal_payload(&self, iv: [u8; 12], payload: &mut [u8])
         requires { OVERHEAD ≤ length payload.old }
@@ -111,7 +111,7 @@ impl Keys {
 
     /// Decrypts a payload in place: afterwards its bytes from `OVERHEAD` on are the plain text. Does not allocate.
     ///
-    /// Fails with `Short` where the payload has fewer bytes than `OVERHEAD`, and then with `Tag` where its tag does not
+    /// Fails with `Short` if the payload has fewer bytes than `OVERHEAD`, and then with `Tag` if its tag does not
     /// match its ciphertext. A call that fails leaves the payload as it was.
     #[tactic(auto, unfolding(crate::specs::Sealed::unsealed))]
     pub fn unseal_payload(&self, payload: &mut [u8]) -> Result<(), KeyError>
@@ -134,8 +134,8 @@ impl Keys {
     /// Decrypts a payload in place and reads the packet in it (RFC 0029): `unseal_payload`, then `read_packet` from
     /// byte `OVERHEAD` on. Does not allocate.
     ///
-    /// Fails in this order: `Short` where the payload has fewer bytes than `OVERHEAD`; `Tag` where its tag does not
-    /// match its ciphertext; `Packet` where the plain text is not a packet of this kind. After `Short` and `Tag` the
+    /// Fails in this order: `Short` if the payload has fewer bytes than `OVERHEAD`; `Tag` if its tag does not
+    /// match its ciphertext; `Packet` if the plain text is not a packet of this kind. After `Short` and `Tag` the
     /// payload is as it was, after `Packet` it is decrypted. No clause says what the bytes are afterwards: a caller
     /// whose proof needs them makes the two calls. Requires a `kind` of 12, 13 or 14.
     #[tactic(auto, unfolding(crate::specs::Sealed::opened))]

@@ -55,7 +55,7 @@ parts_whole input parts some =
     let enough = (div_ceil_times (length input) parts some).0 in
     parts_begin (part_size (length input) parts) input parts ∙ take_all _ input (omega (arith, enough))
 
--- where a byte is within the input, its part is there and has a size
+-- if a byte is within the input, its part is there and has a size
 pub has_size : (bytes parts : ℕ) → 0 < parts → 0 < bytes → 0 < part_size bytes parts
 has_size bytes parts some within =
     let enough = (div_ceil_times bytes parts some).0 in
@@ -72,7 +72,7 @@ is_place bytes parts sent some within =
     let turned : size * parts ≡ parts * size = mul_comm size parts in
     lt_of_mul-lt-mul_right size (omega (arith, enough, from, turned, within))
 
--- a piece that stays within its part
+-- a chunk that stays within its part
 pub stays_within : (sent size count : ℕ) → 0 < size → count ≤ size - sent % size → sent + count ≤ sent / size * size + size
 stays_within sent size count some few =
     let whole = div-add-mod' sent size in

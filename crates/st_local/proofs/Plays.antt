@@ -21,7 +21,7 @@ use Rattle.st_local.specs.Playing.{Continues, Fits, HasSent, IsAllRead, Played, 
 use Rattle.st_local.proofs.Asides.{write_called}
 use Rattle.st_local.proofs.Cuts.{all_sent, nothing_sent, sent_apart, sent_more}
 
--- where nothing has happened nothing is written
+-- if nothing has happened nothing is written
 pub opened_blank : (c : Chain) (w : World) (k : ℕ) → w ≡ opening c → written_on w k ≡ []
 opened_blank c w k is =
     let none : fmap.get {X = Ledger} {R = nat_cmp} fmap.empty k ≡ None = fmap.get-empty nat_cmp k in
@@ -40,7 +40,7 @@ plays_next asked n w v event told p fits next = record {
   run = run_more p.list (opening (local_chain asked.hops)) w event told v p.run next;
 }
 
--- the law of every run, where the reader of a stream was told its end
+-- the law of every run, if the reader of a stream has read its end
 pub ended_whole : (t : Left) (w : World) (k : ℕ) (l : Ledger) (told : Bool) → t ≡ left_of w → Holds w → fmap.get (at t.ledgers Client) k ≡ Some l → told ≡ l.told_end → told ≡ true → read_on w k ≡ written_on w k
 ended_whole t w k l told is holds found same ended =
     let kept : t.ledgers ≡ w.ledgers = ap (λ (x : Left). x.ledgers) is in
@@ -63,7 +63,7 @@ has_none size input p q blank c = record {
   apart = λ k none. c.written k ∙ blank k;
 }
 
--- a piece of one part, which leaves each other part
+-- a chunk of one part, which leaves each other part
 part_sent : (size : ℕ) (input : List ℕ) (sent to place other : ℕ) (piece : List ℕ) (p q : Played) → place * size ≤ sent → sent ≤ to → to ≤ place * size + size → piece ≡ take (to - sent) (drop sent input)
     → Writes (stream_at place) piece p q → HasSent size input sent p.world → written_on q.world (stream_at other) ≡ sent_of size input to other
 part_sent size input sent to place other piece p q from up within is wrote had = elim (cases_eq other place) [

@@ -27,7 +27,7 @@ carries asked had streams input events w same is plays sent = record {
   written = subst (λ (n : ℕ). HasSent (part_size (length input) n) input sent.0 w) is sent.1;
 }
 
--- and its events are scheduled as they are from where nothing has happened
+-- and its events are scheduled as those of a play from the start
 is_run : (asked : LocalSettings) (streams : ℕ) (input : List ℕ) (Ends : (size streams : ℕ) → List ℕ → Played → Played → Type 0) (o p : Played) → o ≡ start asked → p.asked ≡ asked → streams ≡ asked.streams
     → Plays p.asked p.events p.world → (sent : ℕ) × HasSent (part_size (length input) streams) input sent p.world → Ends (part_size (length input) streams) streams input o p → IsRun asked input Ends p
 is_run asked streams input Ends o p opened same is plays sent h = record {
@@ -57,7 +57,7 @@ play_stops asked streams input left o p fault.Input opened same is sent h = absu
 play_stops asked streams input left o p fault.Output opened same is sent h = absurd h
 play_stops asked streams input left o p fault.Turns opened same is sent h = absurd h
 
--- where a play stops in a round, the run is broken off
+-- if a play stops in a round, the run is broken off
 pub stops_within : (size streams : ℕ) (input : List ℕ) (o p : Played) (e : LocalFault) → StopsPlay p e → BreaksOff size streams input o p → StopsSending size streams input o p e
 stops_within size streams input o p fault.Events h off = (h.0, h.1, off)
 stops_within size streams input o p fault.NoMemory h off = off
@@ -110,7 +110,7 @@ carry_turns asked input left fault.Output h is = absurd (cc)
 carry_turns asked input left fault.Events h is = absurd (cc)
 carry_turns asked input left fault.NoMemory h is = absurd (cc)
 
--- what went over was the input, where it is known
+-- what was sent was the input, if it is known
 pub input_known : (input : Option (List ℕ)) (sent bytes : List ℕ) → IsInput input sent → bytes ≡ sent → IsInput input bytes
 input_known None sent bytes known same = tt
 input_known (Some all) sent bytes known same = same ∙ known
@@ -144,7 +144,7 @@ pub turns_carry : {T : Type 0} (r : Result T LocalFault) (asked : LocalSettings)
 turns_carry (Ok x) asked input left h = tt
 turns_carry (Err e) asked input left h = carry_turns asked input left e h
 
--- ---- turns
+-- ---- I/O calls
 
 pub reads_alone : (r s w : Tally) (a b : ℕ) → TakesTurns r s a b → SpendsTurns r s w w a b
 reads_alone r s w a b h = (a - b, 0, omega (arith, h.fewer), h.calls, omega arith)
@@ -165,7 +165,7 @@ pub ended_by : (r s w v : Tally) (e : LocalFault) (left : ℕ) → s.faults ≡ 
 ended_by r s w v e left reader writer turns used_up untouched =
     record { reader = reader; writer = writer; left = left; turns = turns; used_up = λ is. used_up (same_fault e fault.Turns is); flushed = λ wrong. absurd (cc); untouched = untouched }
 
--- ---- what is written where all was read
+-- ---- what is written if all was read
 
 pub on_ok : {T E : Type 0} (r : Result T E) (P Q : Type 0) → (P → Q) → OnOk r P → OnOk r Q
 on_ok (Ok x) P Q f h = f h

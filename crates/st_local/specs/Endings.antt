@@ -20,12 +20,12 @@ use Rattle.st_local.specs.declared.sends.LocalSends.{LocalSends}
 abbrev pub most_bytes : ℕ
 most_bytes = 2 ^ 20
 
--- a piece stands behind what was kept, or there would be too many bytes, or memory was refused
+-- a chunk is appended to what was kept, or there would be too many bytes, or memory was refused
 abbrev pub KeepsPiece : {T : Type 0} → (old piece new : List ℕ) → Result T LocalFault → Type 0
 KeepsPiece old piece new (Ok done) = (new ≡ old ++ piece) × (length new ≤ most_bytes)
 KeepsPiece old piece new (Err e) = ((e ≡ fault.TooLong) × (most_bytes < length old + length piece)) ⊎ (e ≡ fault.NoMemory)
 
--- why the input was not read to its end: its bytes are these, where that is known, and so many turns are left
+-- why the input was not read to its end, with `left` I/O calls left: its bytes are these, if they are known
 abbrev pub StopsRead : Option (List ℕ) → (left : ℕ) → LocalFault → Type 0
 StopsRead input left fault.TooLong = IfSome input (λ bytes. most_bytes < length bytes)
 StopsRead input left fault.Input = ⊤
@@ -37,18 +37,18 @@ StopsRead input left e = ⊥
 abbrev pub WritesPart : List ℕ → Option (List ℕ) → Option (List ℕ) → Type 0
 WritesPart text before now = (sent : ℕ) × Appends before now (take sent text)
 
--- why a text was not written: so many turns are left
+-- why a text was not written, with `left` I/O calls left
 abbrev pub StopsWrite : (left : ℕ) → LocalFault → Type 0
 StopsWrite left fault.Output = ⊤
 StopsWrite left fault.Turns = left ≡ 0
 StopsWrite left e = ⊥
 
--- each call of the reader, r before and s now, and of the writer, w before and v now, took one turn, and turns were taken by
--- calls alone
+-- each call of the reader, r before and s now, and of the writer, w before and v now, used up one of the calls that were left, and nothing
+-- else did
 abbrev pub SpendsTurns : Tally → Tally → Tally → Tally → ℕ → ℕ → Type 0
 SpendsTurns r s w v before after = (reads : ℕ) × (writes : ℕ) × (before ≡ after + reads + writes) × (s.calls ≡ count_after reads r.calls) × (v.calls ≡ count_after writes w.calls)
 
--- where nothing waited for a flush before, nothing does now
+-- if nothing waited for a flush before, nothing does now
 abbrev pub StaysFlushed : Tally → Tally → Type 0
 StaysFlushed w v = w.flushed ≡ true → v.flushed ≡ true
 
@@ -83,7 +83,7 @@ Says text said e f = (Appends (said (device_of e)) (said (device_of f)) text × 
 abbrev pub TellsFault : {E : Type 0} → LocalFault → (E → Option (List ℕ)) → Counting E → Counting E → ℕ → Type 0
 TellsFault x said e f status = (status ≡ 1) × Says (fault_text (fault_number x)) said e f
 
--- these bytes are the input, where it is known
+-- these bytes are the input, if it is known
 abbrev pub IsInput : Option (List ℕ) → List ℕ → Type 0
 IsInput input bytes = IfSome input (λ all. bytes ≡ all)
 
@@ -96,7 +96,7 @@ pub record IsRun (asked : LocalSettings) (bytes : List ℕ) (Ends : (size stream
 abbrev pub EndsWith : ((size streams : ℕ) → List ℕ → Reach → Played → Played → Type 0) → (size streams : ℕ) → List ℕ → Played → Played → Type 0
 EndsWith Last size streams bytes p q = Scheduled size streams bytes (Last size streams bytes) p q
 
--- one in which so many Prepares went, as these numbers tell
+-- one in which the two ends sent as many Prepares as these numbers say
 abbrev pub IsTold : LocalSettings → List ℕ → LocalSends → Played → Type 0
 IsTold asked bytes told p = (sent : ℕ) × (returned : ℕ) × IsRun asked bytes (EndsWith (LastRound sent returned)) p × AreOf asked (length bytes) sent returned told
 
@@ -112,7 +112,7 @@ Fails asked input = (bytes : List ℕ) × (p : Played) × IsInput input bytes ×
 abbrev pub TakesTooLong : LocalSettings → Option (List ℕ) → Type 0
 TakesTooLong asked input = (bytes : List ℕ) × (p : Played) × IsInput input bytes × IsRun asked bytes BreaksOff p × (p.events ≡ most_events)
 
--- why the input did not go over or was not written: so many turns are left
+-- why the input was not sent or not written, with `left` I/O calls left
 abbrev pub StopsCarry : LocalSettings → Option (List ℕ) → (left : ℕ) → LocalFault → Type 0
 StopsCarry asked input left fault.Failed = Fails asked input
 StopsCarry asked input left fault.TooLong = ⊥
@@ -122,7 +122,7 @@ StopsCarry asked input left fault.Turns = left ≡ 0
 StopsCarry asked input left fault.Events = TakesTooLong asked input
 StopsCarry asked input left fault.NoMemory = ⊤
 
--- why not all was done: by what was played, or by the input, where it is known
+-- why not all was done: by what was played, or by the input, if it is known
 abbrev pub Explains : LocalSettings → Option (List ℕ) → LocalFault → Type 0
 Explains asked input fault.Failed = Fails asked input
 Explains asked input fault.TooLong = IfSome input (λ bytes. most_bytes < length bytes)

@@ -2,7 +2,7 @@
 use Rattle.std.specs.Prelude.{ℕ, zero, suc, ◌+◌, ◌-◌, ◌*◌, List, [], ◌++◌, min, take, drop}
 use Rattle.std.specs.Int.{div_ceil}
 
--- the bytes of a part where so many bytes are cut into so many parts: rounded up
+-- the size of a part if `bytes` bytes are cut into `parts` parts: rounded up
 abbrev pub part_size : (bytes parts : ℕ) → ℕ
 part_size bytes parts = div_ceil bytes parts
 
@@ -10,7 +10,7 @@ part_size bytes parts = div_ceil bytes parts
 abbrev pub part_at : (size : ℕ) → List ℕ → (place : ℕ) → List ℕ
 part_at size input place = take size (drop (place * size) input)
 
--- of the input's part at a place, what is among its first so many bytes
+-- of the input's part at a place, what is among the first `sent` bytes of the input
 abbrev pub sent_of : (size : ℕ) → List ℕ → (sent place : ℕ) → List ℕ
 sent_of size input sent place = take (min size (sent - place * size)) (drop (place * size) input)
 
@@ -18,7 +18,7 @@ sent_of size input sent place = take (min size (sent - place * size)) (drop (pla
 abbrev pub stream_at : (place : ℕ) → ℕ
 stream_at place = 2 * place + 1
 
--- the first so many of these lists, one after another
+-- the first `count` of these lists, one after another
 abbrev pub joined : (ℕ → List ℕ) → (count : ℕ) → List ℕ
 joined f zero = []
 joined f (suc n) = joined f n ++ f n

@@ -16,11 +16,11 @@ use Rattle.st_local.specs.Parts.{part_size, part_at, stream_at, sent_of}
 abbrev pub most_events : ℕ
 most_events = 1_000_000
 
--- one Prepare at a time, as many as a connection may send, of amounts without a limit
+-- one Prepare at a time, at most the number that a connection may send, of amounts without a limit
 abbrev pub local_config : Config
 local_config = config 1 (2 ^ 31 - 1) (2 ^ 63 - 1)
 
--- a chain of so many hops whose limits are not reached
+-- a chain of `hops` hops whose limits are not reached
 abbrev pub local_chain : (hops : ℕ) → Chain
 local_chain hops = chain_of (map one_to_one (replicate hops free_account)) local_config
 
@@ -34,7 +34,7 @@ is_lost Server lose number = false
 abbrev pub IsLost : (lose number : ℕ) → Type 0
 IsLost lose number = is_lost Client lose number ≡ true
 
--- no lost Prepare comes over the client's link, and no other Prepare meets a fault
+-- no lost Prepare is delivered over the client's link, and no other Prepare is lost
 abbrev pub Fits : (lose : ℕ) → Event → Type 0
 Fits lose (Arrive link way which now) = link ≡ 0 → way ≡ Client → IsLost lose which → ⊥
 Fits lose (Fault link way which now) = (link ≡ 0) × (way ≡ Client) × IsLost lose which
@@ -42,7 +42,7 @@ Fits lose event = ⊤
 
 -- ---- what is played
 
--- a world that a run of so many events reaches, over a chain of so many hops and with such losses as are asked for
+-- a world that a run of this number of events reaches, over a chain of as many hops and with such losses as are asked for
 pub record Plays (asked : LocalSettings) (events : ℕ) (w : World) : Type 0 where
   pub list : List Event
   pub count : length list ≡ events
@@ -58,7 +58,7 @@ pub record Played : Type 0 where
 abbrev pub HasFailed : World → Type 0
 HasFailed w = ((end_at w Client).sending.failed ≡ true) ⊎ ((end_at w Server).sending.failed ≡ true)
 
--- why it goes no further
+-- why it stops
 abbrev pub StopsPlay : Played → LocalFault → Type 0
 StopsPlay p fault.Events = (p.events ≡ most_events) × Plays p.asked p.events p.world
 StopsPlay p fault.NoMemory = ⊤
@@ -90,12 +90,12 @@ pub record Writes (k : ℕ) (xs : List ℕ) (old new : Played) : Type 0 where
   pub here : written_on new.world k ≡ written_on old.world k ++ xs
   pub apart : (j : ℕ) → j ≢ k → written_on new.world j ≡ written_on old.world j
 
--- the first so many bytes of the input are written, each part on its stream, and nothing else is
+-- the first `sent` bytes of the input are written, each part on its stream, and nothing else is
 pub record HasSent (size : ℕ) (input : List ℕ) (sent : ℕ) (w : World) : Type 0 where
   pub parts : (place : ℕ) → written_on w (stream_at place) ≡ sent_of size input sent place
   pub apart : (k : ℕ) → ((place : ℕ) → k ≢ stream_at place) → written_on w k ≡ []
 
--- events by which the bytes of the input are written up to there, where they were up to here
+-- events by which the bytes of the input are written up to there, if they were up to here
 pub record Sends (size : ℕ) (input : List ℕ) (here there : ℕ) (old new : Played) : Type 0 where
   pub asked : new.asked ≡ old.asked
   pub events : old.events ≤ new.events

@@ -38,7 +38,7 @@ each f (suc n) = each f n ++ f n ∷ []
 abbrev pub BeginsEach : (ℕ → Event) → (count : ℕ) → Played → Played → Type 0
 BeginsEach f count p q = (n : ℕ) × (n ≤ count) × Takes (each f n) p q
 
--- one that told this
+-- one event with this result
 pub record Tells (event : Event) (told : Told) (p q : Played) : Type 0 where
   pub asked : q.asked ≡ p.asked
   pub one : q.events ≡ p.events + 1
@@ -52,23 +52,23 @@ abbrev pub arrived : Side → (lose count : ℕ) → ℕ
 arrived side lose zero = 0
 arrived side lose (suc k) = if is_lost side lose (suc k) then arrived side lose k else suc (arrived side lose k)
 
--- the link of an end's way that comes after so many others
+-- the link on an end's way that follows `before` others
 abbrev pub link_of : Side → (hops before : ℕ) → ℕ
 link_of Client hops before = before
 link_of Server hops before = hops - before
 
--- the number of a Prepare there: one on its end's own link, where those that are lost count too, and one on all others
+-- the number of a Prepare there: one on its end's own link, which counts lost ones too, and one on all others
 abbrev pub number_on : (own others before : ℕ) → ℕ
 number_on own others before = if nat_eq before 0 then own else others
 
--- it comes over a link, and its answer over another
+-- it is delivered over a link, and its answer over another
 abbrev pub arrival : Side → (hops own others before : ℕ) → Event
 arrival side hops own others before = Arrive (link_of side hops before) side (number_on own others before) (pos 0)
 
 abbrev pub answer : Side → (hops number after : ℕ) → Event
 answer side hops number after = AnswerArrives (link_of side hops (hops - after)) side number (pos 0)
 
--- it comes over all links of its way, and its answer comes back over all of them
+-- it is delivered over all links of its way, and so is its answer
 abbrev pub Crosses : Side → (own others : ℕ) → Played → Played → Type 0
 Crosses side own others p q =
     (there : Played) × Takes (each (arrival side p.asked.hops own others) (p.asked.hops + 1)) p there
@@ -81,7 +81,7 @@ BeginsCrossing side own others p q =
     ⊎ ((there : Played) × Takes (each (arrival side p.asked.hops own others) (p.asked.hops + 1)) p there
     × BeginsEach (answer side p.asked.hops others) (p.asked.hops + 1) there q)
 
--- the end that sent it learns that no answer comes
+-- the end that sent it learns that there is no answer
 abbrev pub fault_at : Side → (number : ℕ) → Event
 fault_at side number = Fault 0 side number (pos 0)
 
@@ -92,12 +92,12 @@ Goes side k p q = MatchBool (is_lost side p.asked.lose k) (Takes (fault_at side 
 abbrev pub BeginsToGo : Side → (number : ℕ) → Played → Played → Type 0
 BeginsToGo side k p q = MatchBool (is_lost side p.asked.lose k) (Begins (fault_at side k) p q) (BeginsCrossing side k (arrived side p.asked.lose k) p q)
 
--- ---- an end's turn to send
+-- ---- what an end sends when the schedule reaches it
 
 abbrev pub iv_of : ℕ → List ℕ
 iv_of n = 0 ∷ 0 ∷ 0 ∷ 0 ∷ to_be_bytes w64 n
 
--- after so many events
+-- after this number of events
 abbrev pub sending : Side → (events : ℕ) → Event
 sending side n = Send side (iv_of n) (pos 0)
 
@@ -114,7 +114,7 @@ pub record IsIdle (side : Side) (p q : Played) : Type 0 where
   pub tells : Tells (sending side p.events) Silent p q
   pub none : GoesNone (end_at p.world side)
 
--- so many Prepares of it went before, and so many by then
+-- it sent `before` Prepares before, and `after` by then
 abbrev pub Turn : Side → (before after : ℕ) → Played → Played → Type 0
 Turn side before after p q = ((after ≡ before) × IsIdle side p q)
     ⊎ ((after ≡ before + 1) × ((sent : Played) × IsSent side p sent × Goes side after sent q))
@@ -123,7 +123,7 @@ abbrev pub BeginsTurn : Side → (before : ℕ) → Played → Played → Type 0
 BeginsTurn side before p q = Begins (sending side p.events) p q
     ⊎ ((sent : Played) × IsSent side p sent × BeginsToGo side (before + 1) sent q)
 
--- the counts are those of the Prepares that went, after so many events
+-- the counts are those of the Prepares that were sent, after `events` events
 pub record IsCounted (lose events : ℕ) (c : Counts) : Type 0 where
   pub answered : c.answered ≡ arrived Client lose c.sent
   pub sent : c.sent ≤ events
@@ -139,28 +139,28 @@ IsWrite event = ⊥
 abbrev pub TakesWrites : Played → Played → Type 0
 TakesWrites p q = (events : List Event) × AllByRecursion IsWrite events × Takes events p q
 
--- the next bytes of the input, where so many are written: of one part, and at most 16,384
+-- the next bytes of the input, after the first `sent`: of one part, and at most 16,384
 abbrev pub next_piece : (size : ℕ) (input : List ℕ) (sent : ℕ) → List ℕ
 next_piece size input sent = take (min (min 16384 (size - sent % size)) (length input - sent)) (drop sent input)
 
 abbrev pub next_write : (size : ℕ) (input : List ℕ) (sent : ℕ) → Event
 next_write size input sent = Write Client (stream_at (sent / size)) (next_piece size input sent)
 
--- a write that the client does not take
+-- a write that the client does not accept
 abbrev pub IsDenied : Event → Played → Played → Type 0
 IsDenied event p q = (told : Told) × Tells event told p q × (told ≢ Call (Ok tt))
 
--- the client writes until all of the input is written, or it does not take the next bytes
+-- the client writes until all of the input is written, or it does not accept what follows
 abbrev pub WritesAll : (size : ℕ) (input : List ℕ) (there : ℕ) → Played → Played → Type 0
 WritesAll size input there p q = (there ≡ length input) ⊎ ((was : Played) × TakesWrites p was × IsDenied (next_write size input there) was q)
 
--- the bytes of the input are written up to there, where they were up to here
+-- the bytes of the input are written up to there, if they were up to here
 pub record WritesOn (size : ℕ) (input : List ℕ) (here there : ℕ) (p q : Played) : Type 0 where
   pub writes : TakesWrites p q
   pub sent : Sends size input here there p q
   pub all : WritesAll size input there p q
 
--- of so many bytes the part at this place is among the first so many
+-- the part at this place, of an input of `bytes` bytes, is among the first `sent`
 abbrev pub IsWhole : (size bytes sent place : ℕ) → Type 0
 IsWhole size bytes sent place = min (suc place * size) bytes ≤ sent
 
@@ -171,7 +171,7 @@ closing from i = Close Client (stream_at (from + i))
 abbrev pub AreWhole : (size bytes sent here there : ℕ) → Type 0
 AreWhole size bytes sent here there = (place : ℕ) → here ≤ place → place < there → IsWhole size bytes sent place
 
--- those whose parts are written, of so many streams: up to there, where they were closed up to here
+-- those of the streams whose parts are written: up to there, if they were closed up to here
 pub record Closes (size streams bytes sent here there : ℕ) (p q : Played) : Type 0 where
   pub more : here ≤ there
   pub whole : AreWhole size bytes sent here there
@@ -181,19 +181,19 @@ pub record Closes (size streams bytes sent here there : ℕ) (p q : Played) : Ty
 abbrev pub BeginsToClose : (size bytes sent here : ℕ) → Played → Played → Type 0
 BeginsToClose size bytes sent here p q = (there : ℕ) × AreWhole size bytes sent here there × BeginsEach (closing here) (there - here) p q
 
--- the server was told the end of a stream
+-- the server has read the end of a stream
 abbrev pub has_ended : World → (stream : ℕ) → Bool
 has_ended w k = (ledger_at w Client k).told_end
 
--- at the server, so many bytes at once
+-- a read at the server, of at most 65,536 bytes
 abbrev pub reading : (stream : ℕ) → Event
 reading k = Read Server k 65536
 
--- it reads the stream of the part at this place, where that has not ended
+-- it reads the stream of the part at this place, if that has not ended
 abbrev pub ReadsOne : (place : ℕ) → Played → Played → Type 0
 ReadsOne place p q = MatchBool (has_ended p.world (stream_at place)) (Takes [] p q) (Takes (reading (stream_at place) ∷ []) p q)
 
--- and each of so many, one after another
+-- and the first `streams` of them, one after another
 abbrev pub Reads : (streams : ℕ) → Played → Played → Type 0
 Reads zero p q = Takes [] p q
 Reads (suc n) p r = (q : Played) × Reads n p q × ReadsOne n q r
@@ -239,15 +239,15 @@ pub data BeginsRound (size streams : ℕ) (input : List ℕ) (a : Reach) (p q : 
 abbrev pub reach_of : Progress → Reach
 reach_of x = record { written = x.sent; closed = x.closed; sent = x.counts.sent; returned = x.counts.returned }
 
--- the server was told the end of each of so many streams
+-- the server has read the end of each stream
 abbrev pub HaveEnded : (streams : ℕ) → World → Type 0
 HaveEnded streams w = (place : ℕ) → place < streams → has_ended w (stream_at place) ≡ true
 
--- all is written, and the end of each stream was told
+-- all is written, and the end of each stream was read
 abbrev pub IsOver : (streams bytes : ℕ) → Reach → World → Type 0
 IsOver streams bytes a w = (a.written ≡ bytes) × HaveEnded streams w
 
--- so many rounds, after each of which something is left to do, and no end failed
+-- a round after which something is left to do, and no end failed
 pub record GoesOn (size streams : ℕ) (input : List ℕ) (a b : Reach) (p q : Played) : Type 0 where
   pub round : Round size streams input a b p q
   pub left : IsOver streams (length input) b q.world → ⊥
@@ -273,14 +273,14 @@ pub record IsAt (size streams : ℕ) (input : List ℕ) (a : Reach) (p q : Playe
   pub opens_each : Takes (each opens streams) p opened
   pub rounds : Rounds size streams input count unsent a opened q
 
--- and at last what comes after them
+-- and at last the events of `Last`
 pub record Scheduled (size streams : ℕ) (input : List ℕ) (Last : Reach → Played → Played → Type 0) (p r : Played) : Type 0 where
   pub reach : Reach
   pub mid : Played
   pub rounds : IsAt size streams input reach p mid
   pub last : Last reach mid r
 
--- a round by which all is done, and so many Prepares of each side went
+-- a round by which all is done, after which the client has sent `sent` Prepares and the server `returned`
 abbrev pub LastRound : (sent returned size streams : ℕ) → (input : List ℕ) → Reach → Played → Played → Type 0
 LastRound sent returned size streams input a p q =
     (b : Reach) × Round size streams input a b p q × IsOver streams (length input) b q.world × (b.sent ≡ sent) × (b.returned ≡ returned)
@@ -300,6 +300,6 @@ StopsSending size streams input p q fault.Events = (q.events ≡ most_events) ×
 StopsSending size streams input p q fault.NoMemory = BreaksOff size streams input p q
 StopsSending size streams input p q e = ⊥
 
--- where nothing has happened
+-- before the first event
 abbrev pub start : LocalSettings → Played
 start asked = record { world = opening (local_chain asked.hops); asked = asked; events = 0 }

@@ -6,11 +6,11 @@ use Rattle.st_local.specs.declared.sends.LocalSends.{LocalSends}
 use Rattle.st_local.specs.Parts.{part_size}
 use Rattle.st_local.specs.Schedule.{arrived}
 
--- where so many bytes are cut into parts of this size: frames of 16,000 bytes for the part at a place
+-- if `bytes` bytes are cut into parts of this size: frames of 16,000 bytes for the part at a place
 abbrev pub frames_at : (size bytes place : ℕ) → ℕ
 frames_at size bytes place = (min size (bytes - place * size) + 15999) / 16000
 
--- and for the first so many parts
+-- and for the first `count` parts
 abbrev pub all_frames : (size bytes : ℕ) → (count : ℕ) → ℕ
 all_frames size bytes zero = 0
 all_frames size bytes (suc n) = all_frames size bytes n + frames_at size bytes n
@@ -24,7 +24,7 @@ abbrev pub bound_of : (bytes streams lost returned : ℕ) → Option ℕ
 bound_of bytes streams lost returned =
     if is_bounded (part_size bytes streams) returned then Some (all_frames (part_size bytes streams) bytes streams + streams + lost) else None
 
--- the numbers of a run of so many bytes, in which so many Prepares of the client and of the server went
+-- the numbers of a run with this number of bytes, and of Prepares that the client and the server sent
 pub record AreOf (asked : LocalSettings) (bytes went returned : ℕ) (q : LocalSends) : Type 0 where
   pub sent : q.sent ≡ went
   pub lost : q.lost ≡ went - arrived Client asked.lose went

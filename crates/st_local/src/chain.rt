@@ -12,9 +12,8 @@ use st_chain::Event;
 use st_nodes::{Side, Way};
 use std::alloc::Allocator;
 
-/// How many Prepares went so far. Each that is not lost goes over every link, and its answer comes back over every
-/// link: so the numbers of both are the same on all links, but on the client's own, where those that were lost count
-/// too.
+/// How many Prepares were sent so far. Each that is not lost is delivered over every link, and so is its answer. So the
+/// numbers of both are the same on all links, except the client's own, which counts lost ones too.
 #[derive(Clone, Copy, Drop)]
 pub(crate) struct Counts {
     /// The Prepares that the client sent.
@@ -43,8 +42,7 @@ impl Counts {
         self.sent.saturating_sub(self.answered) as u64
     }
 
-    /// Whether the client's last Prepare is one that is lost: its number is a multiple of this one, where that is not
-    /// 0.
+    /// Whether the client's last Prepare is one that is lost: `lose` is not 0, and divides its number.
     fn is_lost(&self, lose: u64) -> bool
         ensures { result ≡ is_lost Client lose self.now.sent }
     {
@@ -52,7 +50,7 @@ impl Counts {
     }
 }
 
-/// A link of a chain by how many come before it on a way.
+/// A link of a chain by how many are before it on a way.
 fn link_on(way: Way, hops: usize, before: usize) -> usize
     ensures { result ≡ link_of (way_seen way) hops before }
 {
@@ -62,15 +60,15 @@ fn link_on(way: Way, hops: usize, before: usize) -> usize
     }
 }
 
-/// The number of a Prepare on the link of its way after which this many others come.
+/// The number of a Prepare on the link of its way that this many others follow.
 fn number_at(first: usize, number: usize, before: usize) -> usize
     ensures { result ≡ number_on first number before }
 {
     if before == 0 { first } else { number }
 }
 
-/// A Prepare comes over the link of its way that comes after this many others: it has one number on the first of them,
-/// and another on those after it.
+/// A Prepare is delivered over the link of its way that follows this many others. It has one number on the first of
+/// them, and another on those after it.
 fn arrive<A: Allocator + Copy>(
     play: &mut Play<A>,
     way: Way,
@@ -90,7 +88,7 @@ fn arrive<A: Allocator + Copy>(
     Ok(())
 }
 
-/// A Prepare that is not lost goes over all links of a way.
+/// A Prepare that is not lost is delivered over all links of a way.
 fn go_across<A: Allocator + Copy>(
     play: &mut Play<A>,
     way: Way,
@@ -110,7 +108,7 @@ fn go_across<A: Allocator + Copy>(
     Ok(())
 }
 
-/// An answer of this number comes back over the link after which this many others come.
+/// An answer of this number is delivered over the link that this many others follow.
 fn return_on<A: Allocator + Copy>(
     play: &mut Play<A>,
     way: Way,
@@ -128,7 +126,7 @@ fn return_on<A: Allocator + Copy>(
     Ok(())
 }
 
-/// An answer of this number comes back over all links of a way.
+/// An answer of this number is delivered over all links of a way.
 fn come_back<A: Allocator + Copy>(
     play: &mut Play<A>,
     way: Way,
@@ -146,7 +144,7 @@ fn come_back<A: Allocator + Copy>(
     Ok(())
 }
 
-/// A Prepare that is not lost goes over all links of a way, and its answer comes back over all of them.
+/// A Prepare that is not lost is delivered over all links of a way, and so is its answer.
 fn cross<A: Allocator + Copy>(
     play: &mut Play<A>,
     way: Way,
@@ -163,7 +161,7 @@ fn cross<A: Allocator + Copy>(
     come_back(play, way, number)
 }
 
-/// The client learns that no answer to its last Prepare will come: it is one that is lost.
+/// The client learns that its last Prepare has no answer: it is one that is lost.
 fn lose<A: Allocator + Copy>(play: &mut Play<A>, number: usize) -> Result<(), LocalFault>
     requires { IsLost play.old.asked.lose number }
     ensures kept { Continues play.old play.new }
@@ -176,8 +174,8 @@ fn lose<A: Allocator + Copy>(play: &mut Play<A>, number: usize) -> Result<(), Lo
     Ok(())
 }
 
-/// The client sent a Prepare, which is counted. It is lost, where that is asked for; else it goes to the server, and
-/// its answer comes back.
+/// The client sent a Prepare, which is counted. It is lost, if that is asked for; otherwise it is delivered to the
+/// server, and its answer to the client.
 fn follow<A: Allocator + Copy>(play: &mut Play<A>, counts: &mut Counts) -> Result<(), LocalFault>
     requires few { counts.old.sent < most_events }
     requires counted { counts.old.answered ≡ arrived Client play.old.asked.lose counts.old.sent }
@@ -197,8 +195,8 @@ fn follow<A: Allocator + Copy>(play: &mut Play<A>, counts: &mut Counts) -> Resul
     cross(play, Way::ToServer, counts.sent, counts.answered)
 }
 
-/// The client sends, where there is something to send. The Prepare is lost, where that is asked for; else it goes to
-/// the server, and its answer comes back.
+/// The client sends, if there is something to send. The Prepare is lost, if that is asked for; otherwise it is
+/// delivered to the server, and its answer to the client.
 pub(crate) fn send_client<A: Allocator + Copy>(
     play: &mut Play<A>,
     counts: &mut Counts,
@@ -219,7 +217,8 @@ pub(crate) fn send_client<A: Allocator + Copy>(
     follow(play, counts)
 }
 
-/// The server sends, where there is something to send: the Prepare goes to the client, and its answer comes back.
+/// The server sends, if there is something to send: the Prepare is delivered to the client, and its answer to the
+/// server.
 pub(crate) fn send_server<A: Allocator + Copy>(
     play: &mut Play<A>,
     counts: &mut Counts,

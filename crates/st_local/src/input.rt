@@ -16,7 +16,7 @@ pub const MAX_BYTES: usize = 1_048_576;
 /// How many bytes are asked for at once.
 const PIECE: usize = 4096;
 
-/// Keeps a piece of the input behind the others, where it is not too long.
+/// Appends a chunk to the input, if that is not too long then.
 fn keep<A: Allocator + Copy>(input: &mut Vec<u8, A>, piece: &[u8]) -> Result<(), LocalFault>
     requires { length input.old.items ≤ most_bytes }
     ensures { KeepsPiece input.old.items piece.now input.new.items result }

@@ -42,7 +42,7 @@ fn put_parts<A: Allocator + Copy, W: Write>(
     Ok(())
 }
 
-/// Sends an input over a chain where nothing was written yet, and writes what was read at its end.
+/// Sends an input over a chain on which nothing was written yet, and writes what was read at its end.
 fn carry_over<A: Allocator + Copy, W: Write>(
     play: &mut Play<A>,
     input: &[u8],
@@ -106,8 +106,8 @@ fn carry<A: Allocator + Copy, W: Write>(
 /// many Prepares of the client one is lost. Each I/O call takes one of `turns`.
 ///
 /// Nothing is written before every stream has ended: at each fault but `Output` and `Turns` the writer is as it was.
-/// Fails with a `LocalFault`: `Input` or `Output` exactly where the reader or the writer counted an error in this call,
-/// and `Turns` only where no I/O call is left. Where it ends well, `sends` has the numbers of its Prepares.
+/// Fails with a `LocalFault`: `Input` or `Output` exactly if the reader or the writer counted an error in this call,
+/// and `Turns` only if no I/O call is left. If it ends well, `sends` has the numbers of its Prepares.
 pub fn play_local<A: Allocator + Copy, R: Read, W: Write>(
     alloc: A,
     settings: &LocalSettings,
@@ -134,7 +134,7 @@ pub fn play_local<A: Allocator + Copy, R: Read, W: Write>(
     carry(alloc, settings, &input, writer, turns, sends)
 }
 
-/// The command `local`: calls `play_local`, and writes the number of its error to `errors`. The status is 0 where
+/// The command `local`: calls `play_local`, and writes the number of its error to `errors`. The status is 0 if
 /// everything was written, otherwise 1. It makes at most `TURNS` calls of the reader and the writer. The settings have
 /// 1 to 32 streams and at most 8 hops.
 pub fn run_local<A: Allocator + Copy, R: Read, W: Write, E: Write>(

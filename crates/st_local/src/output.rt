@@ -57,7 +57,7 @@ pub(crate) fn put<W: Write>(
     }
 }
 
-/// Writes a text, as far as the writer takes it.
+/// Writes a text, as far as the writer accepts it.
 fn say<E: Write>(errors: &mut CountWrite<E>, text: &str)
     ensures { Says text.now E.contents errors.old errors.new }
 {
@@ -65,7 +65,7 @@ fn say<E: Write>(errors: &mut CountWrite<E>, text: &str)
     let _ = put(errors, text.as_bytes(), &mut turns);
 }
 
-/// Tells a fault, as far as the writer takes it. The status of a fault.
+/// Reports a fault, as far as the writer accepts it. Returns the status of a fault.
 pub(crate) fn tell_fault<E: Write>(errors: &mut CountWrite<E>, fault: LocalFault) -> u8
     ensures { TellsFault fault E.contents errors.old errors.new result }
 {

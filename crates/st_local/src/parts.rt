@@ -3,7 +3,7 @@
 ghost use Rattle.std.specs.Prelude.{◌≡◌, ◌<◌};
 ghost use Rattle.st_local.specs.Parts.{part_size, stream_at};
 
-/// The size in bytes of a part where `bytes` bytes are cut into `parts` parts, rounded up. The last parts may be
+/// The size in bytes of a part if `bytes` bytes are cut into `parts` parts, rounded up. The last parts may be
 /// shorter, or empty. `parts` is at least 1.
 pub fn part_size(bytes: usize, parts: usize) -> usize
     requires { 0 < parts }

@@ -45,21 +45,21 @@ impl<A: Allocator + Copy> Model for Play<A> {
     ghost invariant = { λ a. (a.settings.hops ≤ 8) × (a.events ≤ most_events) × Plays a.settings a.events a.world };
 }
 
-/// One Prepare at a time, as many as a connection may send, of amounts without a limit.
+/// One Prepare at a time, at most the number that a connection may send, of amounts without a limit.
 fn config() -> EndConfig
     ensures { result ≡ local_config }
 {
     EndConfig::new(1, MAX_PACKETS, MAX_PACKET_LIMIT).unwrap()
 }
 
-/// Whether the call found no memory.
+/// Whether the call ran out of memory.
 fn lacks<A: Allocator + Copy>(told: &Told<A>) -> bool
     ensures { result ≡ lacks (told_seen told.now) }
 {
     matches!(told, Told::NoMemory)
 }
 
-/// Whether a Prepare went.
+/// Whether a Prepare was sent.
 fn is_sent<A: Allocator + Copy>(told: &Told<A>) -> bool
     ensures { result ≡ is_sent (told_seen told.now) }
 {
@@ -67,7 +67,7 @@ fn is_sent<A: Allocator + Copy>(told: &Told<A>) -> bool
 }
 
 impl<A: Allocator + Copy> Play<A> {
-    /// A world of as many hops as are asked for, where nothing has happened.
+    /// A world with the number of hops that is asked for, in which nothing has happened.
     pub(crate) fn new(alloc: A, settings: &LocalSettings) -> Result<Play<A>, LocalFault>
         requires { settings.now.hops ≤ 8 }
         ensures start { IfOk result (λ p. p ≡ start settings.now) }
@@ -130,7 +130,7 @@ impl<A: Allocator + Copy> Play<A> {
         iv
     }
 
-    /// Plays one event. Fails where it would be one too many, and where memory is refused.
+    /// Plays one event. Fails if it would be one too many, and if memory is refused.
     pub(crate) fn take(&mut self, event: &Event<'_>) -> Result<Told<A>, LocalFault>
         requires { Fits self.old.asked.lose (event_seen event.now) }
         ensures happens { IfOk result (λ told. Happens self.old.world (event_seen event.now) (told_seen told) self.new.world) }
@@ -153,7 +153,7 @@ impl<A: Allocator + Copy> Play<A> {
         Ok(told)
     }
 
-    /// An event by which nothing is written at the client. What it told.
+    /// An event by which nothing is written at the client. Returns its result.
     pub(crate) fn pass(&mut self, event: &Event<'_>) -> Result<Told<A>, LocalFault>
         requires aside { IsAside (event_seen event.now) }
         requires fits { Fits self.old.asked.lose (event_seen event.now) }
@@ -168,7 +168,7 @@ impl<A: Allocator + Copy> Play<A> {
         Ok(told)
     }
 
-    /// An end sends. Whether a Prepare went.
+    /// An end sends. Returns whether it sent a Prepare.
     pub(crate) fn send(&mut self, side: Side) -> Result<bool, LocalFault>
         ensures kept { Continues self.old self.new }
         ensures sent { IfOk result (λ sent. MatchBool sent (IsSent (side_seen side) self.old self.new) (IsIdle (side_seen side) self.old self.new)) }
@@ -181,7 +181,7 @@ impl<A: Allocator + Copy> Play<A> {
         Ok(is_sent(&told))
     }
 
-    /// Writes bytes on a stream of the client. Whether it took them.
+    /// Writes bytes on a stream of the client. Returns whether it accepted them.
     pub(crate) fn write(&mut self, stream: u8, bytes: &[u8]) -> Result<bool, LocalFault>
         ensures taken { IfOk result (λ taken. MatchBool taken (Writes stream bytes.now self.old self.new) (Continues self.old self.new)) }
         ensures event { Begins (events.Write Client stream bytes.now) self.old self.new }
@@ -206,7 +206,7 @@ impl<A: Allocator + Copy> Play<A> {
         }
     }
 
-    /// Whether the server was told the end of a stream of the client: it has read then all that was written.
+    /// Whether the server has read the end of a stream of the client: it has then read all that was written.
     pub(crate) fn has_ended(&self, stream: u8) -> bool
         ensures told { result ≡ has_ended self.now.world stream }
         ensures whole { result ≡ true → read_on self.now.world stream ≡ written_on self.now.world stream }

@@ -17,14 +17,14 @@ const FRAME: usize = 16_000;
 /// How many bytes of a stream may wait.
 const ROOM: usize = 262_144;
 
-/// How many Prepares the client sent in a run that came to its end.
+/// How many Prepares the client sent in a finished run.
 #[derive(Clone, Copy, Debug, PartialEq, Eq)]
 pub struct LocalSends {
     /// All of them, also those that were lost.
     pub sent: u64,
     /// Those that were lost.
     pub lost: u64,
-    /// The greatest number that the law of a run with losses allows. `None` where the law does not hold of the run: the
+    /// The greatest number that the law of a run with losses allows. `None` if the law does not hold of the run: the
     /// server sent a Prepare too, or a part of the input has more than 262,144 bytes.
     pub bound: Option<u64>,
 }
@@ -58,7 +58,7 @@ fn frames_at(size: usize, bytes: usize, place: usize) -> usize
     size.min(left).div_ceil(FRAME)
 }
 
-/// How many frames the first parts need, as many as `parts` says.
+/// How many frames the first `parts` parts need.
 fn all_frames(size: usize, bytes: usize, parts: usize) -> u64
     requires { parts ≤ 32 }
     ensures count { result ≡ spec.all_frames size bytes parts }
@@ -71,7 +71,7 @@ fn all_frames(size: usize, bytes: usize, parts: usize) -> u64
     frames
 }
 
-/// The bound of a run, where the law holds of it.
+/// The bound of a run, if the law holds of it.
 fn bound_of(bytes: usize, streams: usize, lost: u64, returned: usize) -> Option<u64>
     requires some { 0 < streams }
     requires few { streams ≤ 32 }
@@ -85,7 +85,7 @@ fn bound_of(bytes: usize, streams: usize, lost: u64, returned: usize) -> Option<
     None
 }
 
-/// The numbers of a run that came to its end with these counts.
+/// The numbers of a finished run with these counts.
 pub(crate) fn sends_of<A: Allocator + Copy>(
     play: &Play<A>,
     bytes: usize,

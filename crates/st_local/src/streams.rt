@@ -33,7 +33,7 @@ fn open_streams<A: Allocator + Copy>(play: &mut Play<A>, streams: usize) -> Resu
     Ok(())
 }
 
-/// Writes the next bytes of the input, those of one part. Whether they were taken.
+/// Writes the next bytes of the input, those of one part. Returns whether they were accepted.
 fn write_piece<A: Allocator + Copy>(
     play: &mut Play<A>,
     input: &[u8],
@@ -60,7 +60,7 @@ fn write_piece<A: Allocator + Copy>(
     Ok(taken)
 }
 
-/// Writes as much of the input as the client takes now.
+/// Writes as much of the input as the client accepts now.
 fn write_all<A: Allocator + Copy>(
     play: &mut Play<A>,
     input: &[u8],
@@ -84,7 +84,7 @@ fn write_all<A: Allocator + Copy>(
     Ok(())
 }
 
-/// Whether the part at a place is written, where `sent` of `bytes` bytes are.
+/// Whether the part at a place is written, if `sent` of `bytes` bytes are.
 fn is_whole(size: usize, bytes: usize, sent: usize, place: usize) -> bool
     requires few { place < 32 }
     requires within { sent ≤ bytes }
@@ -134,7 +134,7 @@ fn close<A: Allocator + Copy>(
     Ok(())
 }
 
-/// Reads at the server what can be read of the stream of the part at this place, where it has not ended.
+/// Reads at the server what can be read of the stream of the part at this place, if it has not ended.
 fn read_stream<A: Allocator + Copy>(play: &mut Play<A>, place: usize) -> Result<(), LocalFault>
     requires { place < 32 }
     ensures kept { Continues play.old play.new }
@@ -164,7 +164,7 @@ fn read_streams<A: Allocator + Copy>(play: &mut Play<A>, streams: usize) -> Resu
     Ok(())
 }
 
-/// Whether the server was told the end of each stream.
+/// Whether the server has read the end of each stream.
 fn have_ended<A: Allocator + Copy>(play: &Play<A>, streams: usize) -> bool
     requires some { 0 < streams }
     requires few { streams ≤ 32 }

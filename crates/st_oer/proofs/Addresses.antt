@@ -8,7 +8,7 @@ use Rattle.std.specs.Str.{bytes_eq}
 use Rattle.std.proofs.lemmas.List.{drop_all, drop_more, take-append-drop}
 use Rattle.st_oer.specs.Address.{dot, is_dot, is_segment, is_segment_character, is_segments, is_within}
 
--- the parts of the rest of a text, where the segment in front of it has a character already or has none
+-- the parts of the rest of a text, if the segment in front of it has a character already or has none
 abbrev parts_go_on : Bool → List (List ℕ) → Bool
 parts_go_on filled [] = true
 parts_go_on filled (part ∷ parts) = (filled || nat_lt 0 (length part)) && (list_all is_segment_character part && list_all is_segment parts)
@@ -77,7 +77,7 @@ begins [] [] = refl
 begins [] (c ∷ rest) = alone (nat_eq dot c) ∙ eqb_symmetric dot c
 begins (p ∷ prefix) rest = rw (eq-eqb p p refl) (begins prefix rest)
 
--- an address that the prefix stands in front of
+-- an address that begins with the prefix
 joined : (prefix address : List ℕ) → bytes_eq (take (length prefix) address) prefix ≡ true → prefix ++ drop (length prefix) address ≡ address
 joined prefix address same = ap (λ (x : List ℕ). x ++ drop (length prefix) address) (sym ((bytes_eq-Decides _ _).0 same)) ∙ take-append-drop (length prefix) address
 

@@ -36,7 +36,7 @@ chosen false x y z e = inr (refl, e)
 pub ok_is : {A : Type 0} (x y : A) → (let l : Result A OerError = Ok x in let r : Result A OerError = Ok y in l ≡ r) → x ≡ y
 ok_is x y e = cc
 
--- ---- so many bytes
+-- ---- n bytes
 
 pub record TakesFixed (n : ℕ) (bytes text rest : List ℕ) : Type 0 where
   pub parts : bytes ≡ text ++ rest

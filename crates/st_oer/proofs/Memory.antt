@@ -1,4 +1,4 @@
--- Reading never answers want of memory.
+-- Reading never answers that memory is refused.
 use Rattle.std.proofs.Common.{ℕ, ◌-◌, nat_lt, Bool, true, false, cond, ◌&&◌, List, [], ◌∷◌, length, Result, Ok, Err}
 use Rattle.std.specs.Prelude.{◌≢◌, ◌==◌, ◌||◌, slice_index, IfErr}
 use Rattle.st_oer.specs.declared.error.OerError.{OerError}

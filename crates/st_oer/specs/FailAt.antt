@@ -7,7 +7,7 @@ use Rattle.st_oer.specs.declared.counted.Counting.{Counting}
 use Rattle.st_oer.specs.declared.fail_at.FailAt.{FailAt}
 use Rattle.st_oer.specs.declared.tally.Tally.{Tally}
 
--- the device behind it, whose tally has the calls that went through
+-- the inner device, whose tally has the calls that went through
 abbrev pub device_behind : {T : Type 0} → FailAt T → Counting T
 device_behind f = f.device
 
@@ -15,7 +15,7 @@ device_behind f = f.device
 abbrev pub tally_in_all : {T : Type 0} → FailAt T → Tally
 tally_in_all f = f.tally
 
--- which call fails, where the first is number 1
+-- which call fails, counted from 1
 abbrev pub failing_call : {T : Type 0} → FailAt T → ℕ
 failing_call f = f.fails_at
 
@@ -23,6 +23,6 @@ failing_call f = f.fails_at
 abbrev pub IsDue : {T : Type 0} → FailAt T → Type 0
 IsDue f = f.tally.calls + 1 ≡ f.fails_at
 
--- the call failed, and the device behind was not called
+-- the call failed, and the inner device was not called
 abbrev pub FailsAlone : {T A : Type 0} → FailAt T → FailAt T → Result A Error → Type 0
 FailsAlone old new answer = IsErrAnd answer (λ e. error_kind e ≡ Other) × (device_behind new ≡ device_behind old)

@@ -9,6 +9,6 @@ last_count = 2 ^ 64 - 1
 abbrev pub count_after : ℕ → ℕ → ℕ
 count_after n count = max count (min (count + n) last_count)
 
--- the count rose, or stood at its greatest
+-- the count rose, or was at its greatest
 abbrev pub Rose : ℕ → ℕ → Type 0
 Rose old new = (old < new) ⊎ (last_count ≤ old)

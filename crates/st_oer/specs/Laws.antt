@@ -56,7 +56,7 @@ pub record LimitReads : Type 0 where
 abbrev pub IsSpelled : {X : Type 0} → (X → List ℕ) → (X → Type 0) → X → List ℕ → Type 0
 IsSpelled spelling Fits x text = Fits x × (text ≡ spelling x)
 
--- a spelling with more bytes after it is no spelling of the same kind
+-- a spelling with more bytes after it is not a spelling of the same kind
 abbrev pub NoneBeginsAnother : {X : Type 0} → (X → List ℕ → Type 0) → Type 0
 NoneBeginsAnother {X} Is = (x y : X) (text more : List ℕ) → Is x text → Is y (text ++ more) → (x ≡ y) × (more ≡ [])
 
@@ -70,7 +70,7 @@ pub record AreFewest (n : ℕ) : Type 0 where
 abbrev pub Never : {X E : Type 0} → E → (List ℕ → Result X E) → Type 0
 Never refusal read = (bytes : List ℕ) → IfErr (read bytes) (λ e. e ≢ refusal)
 
--- reading takes no memory
+-- reading needs no memory
 pub record ReadsWithoutMemory : Type 0 where
   pub byte : Never NoMemory byte_at
   pub u64 : Never NoMemory u64_at

@@ -1,4 +1,4 @@
--- A limit, as this profile reads it: a VarUInt of any length, where what does not fit stands for the greatest number.
+-- A limit, as this profile reads it: a VarUInt of any length, in which a number that does not fit means the greatest number.
 use Rattle.std.specs.Prelude.{◌≢◌, ◌<◌, ◌^◌, ◌-◌, ℕ, List, length, slice_index}
 use Rattle.st_oer.specs.Spelling.{octets, var_uint}
 

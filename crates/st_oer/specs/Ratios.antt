@@ -1,7 +1,7 @@
 -- The numbers of an exchange rate, and what an amount is exchanged for.
 use Rattle.std.specs.Prelude.{ℕ, ◌*◌, ◌/◌, ◌<◌}
 
--- num units go out for den that come in
+-- num outgoing units for den incoming units
 pub record Ratio : Type 0 where
   pub num : ℕ
   pub den : ℕ
@@ -13,6 +13,6 @@ ratio num den = record { num = num; den = den }
 abbrev pub IsRatio : Ratio → Type 0
 IsRatio r = (0 < r.num) × (0 < r.den)
 
--- what goes out for an amount that comes in, rounded down
+-- the outgoing amount for an incoming amount, rounded down
 abbrev pub exchanged : Ratio → ℕ → ℕ
 exchanged r amount = amount * r.num / r.den

@@ -11,8 +11,8 @@ abbrev pub Reads : {X Y E : Type 0} → (X → Y) → List ℕ → List ℕ → 
 Reads view old new (Ok x) read = read ≡ Ok (view x, new)
 Reads view old new (Err e) read = (read ≡ Err e) × (new ≡ old)
 
--- a function that returns what is defined, or asked in vain for the memory of it: want of memory stands in the place of
--- no other refusal, and for nothing else
+-- a function that returns what is defined, or ran out of memory for it: that error is returned in place of a value
+-- only, never in place of another refusal
 abbrev pub Writes : {X Y E : Type 0} → E → (X → Y) → Result X E → Result Y E → Type 0
 Writes no_memory view (Ok x) defined = defined ≡ Ok (view x)
 Writes no_memory view (Err e) defined = ((e ≡ no_memory) × IsOk defined) ⊎ ((e ≢ no_memory) × (defined ≡ Err e))

@@ -43,7 +43,7 @@ pub record Fails (old new : Tally) : Type 0 where
 abbrev pub CountsCall : {T : Type 0} → Tally → Tally → Result T Error → Type 0
 CountsCall old new answer = MatchResult answer (λ _. Completes old new) (λ e. ((error_kind e ≡ Interrupted) → Interrupts old new) × ((error_kind e ≢ Interrupted) → Fails old new))
 
--- each call took one turn, and turns were taken by calls alone
+-- the number of calls that are left fell by the number of calls that were made
 pub record TakesTurns (old new : Tally) (before after : ℕ) : Type 0 where
   pub fewer : after ≤ before
   pub calls : new.calls ≡ count_after (before - after) old.calls

@@ -42,7 +42,7 @@ abbrev pub IsFault : PutError → Type 0
 IsFault (put.Fault n) = Unit {0}
 IsFault (put.Turns n) = ⊥
 
--- the turns were used up
+-- the number of calls was used up
 abbrev pub IsTurns : PutError → Type 0
 IsTurns (put.Fault n) = ⊥
 IsTurns (put.Turns n) = Unit {0}

@@ -36,7 +36,7 @@ fn is_segments(text: &[u8]) -> bool
 
 /// Whether `address` is an ILP address in this profile (RFC 0015).
 ///
-/// It is one where it has 1 to 1,023 characters, each is a letter, a digit, `_`, `~`, `-` or `.`, and no segment
+/// It is one if it has 1 to 1,023 characters, each is a letter, a digit, `_`, `~`, `-` or `.`, and no segment
 /// between the dots is empty. Does not allocate.
 #[tactic(auto, unfolding(crate::specs::Address::is_address))]
 pub fn is_address(address: &str) -> bool

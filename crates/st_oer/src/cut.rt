@@ -38,7 +38,7 @@ impl<'a> Cut<'a> {
         self.bytes
     }
 
-    /// Reads a UInt8 (RFC 0030): one byte. Fails with `Short` where no byte is left.
+    /// Reads a UInt8 (RFC 0030): one byte. Fails with `Short` if no byte is left.
     pub fn get_u8(&mut self) -> Result<u8, OerError>
         ensures { Reads (λ x. x) self.old self.new result (byte_at self.old) }
     {
@@ -47,7 +47,7 @@ impl<'a> Cut<'a> {
         Ok(x)
     }
 
-    /// Reads a UInt64 (RFC 0030): eight bytes, the highest first. Fails with `Short` where fewer than eight are left.
+    /// Reads a UInt64 (RFC 0030): eight bytes, the highest first. Fails with `Short` if fewer than eight are left.
     pub fn get_u64(&mut self) -> Result<u64, OerError>
         ensures { Reads (λ x. x) self.old self.new result (u64_at self.old) }
     {
@@ -58,9 +58,9 @@ impl<'a> Cut<'a> {
 
     /// Reads a VarUInt (RFC 0030) of at most eight bytes in its shortest form.
     ///
-    /// Fails with the error of its length prefix first: `Short`, `TooBig` or `LongLength`. Then with `LongNumber` where
-    /// the number has no bytes, `TooBig` where it has more than eight, `Short` where fewer bytes are left, and
-    /// `LongNumber` where a 0 stands in front of other bytes.
+    /// Fails with the error of its length prefix first: `Short`, `TooBig` or `LongLength`. Then with `LongNumber` if
+    /// the number has no bytes, `TooBig` if it has more than eight, `Short` if fewer bytes are left, and
+    /// `LongNumber` if there is a 0 in front of other bytes.
     pub fn var_uint(&mut self) -> Result<u64, OerError>
         ensures { Reads (λ x. x) self.old self.new result (var_uint_at self.old) }
     {
@@ -72,8 +72,8 @@ impl<'a> Cut<'a> {
     /// Reads a VarUInt (RFC 0030) that means a limit. A number of more than eight bytes gives `u64::MAX` (this
     /// profile).
     ///
-    /// Fails with the error of its length prefix first: `Short`, `TooBig` or `LongLength`. Then with `Short` where
-    /// fewer bytes are left, and `LongNumber` where the number has no bytes or a 0 stands in front of other bytes.
+    /// Fails with the error of its length prefix first: `Short`, `TooBig` or `LongLength`. Then with `Short` if
+    /// fewer bytes are left, and `LongNumber` if the number has no bytes or there is a 0 in front of other bytes.
     pub fn limit(&mut self) -> Result<u64, OerError>
         ensures { Reads (λ x. x) self.old self.new result (limit_at self.old) }
     {
@@ -85,8 +85,8 @@ impl<'a> Cut<'a> {
     /// Reads a variable-length octet string (RFC 0030): a length prefix in its shortest form, then that number of
     /// bytes.
     ///
-    /// Fails with `Short` where the prefix or the bytes go past the end, `TooBig` where the prefix has more than eight
-    /// length bytes, and `LongLength` where it is not the shortest.
+    /// Fails with `Short` if the prefix or the bytes extend past the end, `TooBig` if the prefix has more than eight
+    /// length bytes, and `LongLength` if it is not the shortest.
     pub fn octets(&mut self) -> Result<&'a [u8], OerError>
         ensures { Reads (λ x. x.now) self.old self.new result (octets_at self.old) }
     {
@@ -95,7 +95,7 @@ impl<'a> Cut<'a> {
         Ok(x)
     }
 
-    /// Reads the next `n` bytes. Fails with `Short` where fewer are left.
+    /// Reads the next `n` bytes. Fails with `Short` if fewer are left.
     pub fn fixed(&mut self, n: usize) -> Result<&'a [u8], OerError>
         ensures { Reads (λ x. x.now) self.old self.new result (fixed_at n self.old) }
     {

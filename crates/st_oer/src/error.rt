@@ -19,7 +19,7 @@ pub enum OerError {
     /// A number has no bytes, or is not written in the fewest bytes.
     #[error("a number is not in its shortest form")]
     LongNumber,
-    /// A length prefix, or a number that is no limit, takes more than eight bytes.
+    /// A length prefix, or a number other than a limit, has more than eight bytes.
     #[error("a length or number takes more than eight bytes")]
     TooBig,
     /// Memory for the appended bytes was refused.

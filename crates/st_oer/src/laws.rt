@@ -5,7 +5,7 @@ ghost use Rattle.st_oer.specs.Spelling.{length_bytes, octets, uint64, uint8, var
 ghost use Rattle.st_oer.specs.Limit.{IsLimit};
 ghost use Rattle.st_oer.specs.Laws.{AreFewest, ByteReads, FixedReads, HasLength, IsByte, IsSpelled, IsU64, LengthReads, LimitReads, NoneBeginsAnother, OctetsRead, ReadsWithoutMemory, U64Reads, VarUintReads};
 
-/// Each kind of field is read exactly where its encoding stands, whatever bytes follow.
+/// Each kind of field is read exactly if the bytes begin with its encoding, whatever bytes follow.
 pub fn fields_are_read_as_spelled()
     ensures byte { ByteReads }
     ensures u64 { U64Reads }

@@ -1,8 +1,8 @@
 //! The fields that Interledger packets are made of, in OER (RFC 0030).
 //!
 //! `Cut` reads fields from a slice, and the `put_` functions append them to a vector. Each value has one encoding,
-//! except limits (`specs/Spelling.antt`). A field is read exactly where its encoding stands; otherwise the first fault
-//! is the error (`specs/Reading.antt`, `laws`).
+//! except limits (`specs/Spelling.antt`). A field is read exactly if the bytes begin with its encoding; otherwise the
+//! first fault is the error (`specs/Reading.antt`, `laws`).
 //!
 //! The crate also has the checks of addresses (RFC 0015) and of UTF-8 texts, exchange rates, and readers and writers
 //! that count their I/O calls and errors, with a bound on the number of calls.

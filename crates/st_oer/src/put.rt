@@ -1,6 +1,6 @@
 //! Writing OER fields: the one encoding of each value, appended to a vector.
 //!
-//! `NoMemory` leaves the vector's bytes as they were, and does not occur where the vector has enough capacity.
+//! `NoMemory` leaves the vector's bytes as they were, and does not occur if the vector has enough capacity.
 
 ghost use Rattle.std.specs.Prelude.{◌≡◌, ◌≤◌, ◌+◌, ◌++◌, ◌∷◌, IsOk, IsOkUnless, OnOk, OnErr, length, vec_len, vec_capacity};
 ghost use Rattle.std.specs.Int.{w64, to_be_bytes, bytes_high_first};
@@ -11,7 +11,7 @@ use std::alloc::Allocator;
 
 /// Appends a UInt8 (RFC 0030): the byte itself.
 ///
-/// Fails only with `NoMemory`, where memory is refused; `out` then keeps the bytes that it had.
+/// Fails only with `NoMemory`, if memory is refused; `out` then keeps the bytes that it had.
 pub fn put_u8<A: Allocator>(out: &mut Vec<u8, A>, x: u8) -> Result<(), OerError>
     ensures ok { OnOk result (out.new.items ≡ out.old.items ++ uint8 x) }
     ensures unchanged { OnErr result (out.new.items ≡ out.old.items) }
@@ -25,7 +25,7 @@ pub fn put_u8<A: Allocator>(out: &mut Vec<u8, A>, x: u8) -> Result<(), OerError>
 
 /// Appends a UInt64 (RFC 0030): eight bytes, the highest first.
 ///
-/// Fails only with `NoMemory`, where memory is refused; `out` then keeps the bytes that it had.
+/// Fails only with `NoMemory`, if memory is refused; `out` then keeps the bytes that it had.
 pub fn put_u64<A: Allocator>(out: &mut Vec<u8, A>, x: u64) -> Result<(), OerError>
     ensures ok { OnOk result (out.new.items ≡ out.old.items ++ uint64 x) }
     ensures unchanged { OnErr result (out.new.items ≡ out.old.items) }
@@ -108,7 +108,7 @@ fn put_tail<A: Allocator>(out: &mut Vec<u8, A>, first: u8, n: usize, x: u64) -> 
 
 /// Appends a VarUInt (RFC 0030): a length prefix, then the number in the fewest bytes. It takes 2 to 9 bytes.
 ///
-/// Fails only with `NoMemory`, where memory is refused; `out` then keeps the bytes that it had.
+/// Fails only with `NoMemory`, if memory is refused; `out` then keeps the bytes that it had.
 #[tactic(auto, using(crate::proofs::Puts::puts))]
 pub fn put_var_uint<A: Allocator>(out: &mut Vec<u8, A>, x: u64) -> Result<(), OerError>
     ensures ok { OnOk result (out.new.items ≡ out.old.items ++ var_uint x) }
@@ -121,10 +121,10 @@ pub fn put_var_uint<A: Allocator>(out: &mut Vec<u8, A>, x: u64) -> Result<(), Oe
     put_tail(out, n as u8, n, x)
 }
 
-/// Appends a length prefix (RFC 0030): one byte where `x` is below 128, else 128 plus the number of length bytes, then
+/// Appends a length prefix (RFC 0030): one byte if `x` is below 128, else 128 plus the number of length bytes, then
 /// those bytes. It takes 1 to 9 bytes.
 ///
-/// Fails only with `NoMemory`, where memory is refused; `out` then keeps the bytes that it had.
+/// Fails only with `NoMemory`, if memory is refused; `out` then keeps the bytes that it had.
 #[tactic(auto, using(crate::proofs::Puts::puts))]
 pub fn put_length<A: Allocator>(out: &mut Vec<u8, A>, x: u64) -> Result<(), OerError>
     ensures ok { OnOk result (out.new.items ≡ out.old.items ++ length_bytes x) }
@@ -143,7 +143,7 @@ pub fn put_length<A: Allocator>(out: &mut Vec<u8, A>, x: u64) -> Result<(), OerE
 
 /// Appends a variable-length octet string (RFC 0030): a length prefix, then the bytes.
 ///
-/// Fails only with `NoMemory`, where memory is refused; `out` then keeps the bytes that it had.
+/// Fails only with `NoMemory`, if memory is refused; `out` then keeps the bytes that it had.
 #[tactic(auto, using(crate::proofs::Puts::puts))]
 pub fn put_octets<A: Allocator>(out: &mut Vec<u8, A>, x: &[u8]) -> Result<(), OerError>
     ensures ok { OnOk result (out.new.items ≡ out.old.items ++ octets x.now) }

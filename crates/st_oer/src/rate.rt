@@ -25,7 +25,7 @@ impl Model for Rate {
 }
 
 impl Rate {
-    /// The rate of `num` outgoing units for `den` incoming units. `None` exactly where one of them is 0.
+    /// The rate of `num` outgoing units for `den` incoming units. `None` exactly if one of them is 0.
     pub fn new(num: u32, den: u32) -> Option<Rate>
         ensures { MatchOption result ((num ≡ 0) ⊎ (den ≡ 0)) (λ rate. (rate ≡ ratio num den) × IsRatio rate) }
     {

@@ -54,7 +54,7 @@ fn number_of(bytes: &[u8]) -> u64
     n
 }
 
-/// The length that these bytes say, where one byte would not do.
+/// The length that these bytes give, if one byte would not do.
 fn long_length_of(bytes: &[u8]) -> Result<u64, OerError>
     requires { length bytes.now ≤ 8 }
     ensures { Gives (λ x. x) result (long_length bytes.now) }
@@ -95,7 +95,7 @@ pub(crate) fn octets_of(bytes: &[u8]) -> Result<(&[u8], &[u8]), OerError>
     fixed_of(n, rest)
 }
 
-/// The number that these bytes say, where no fewer would do.
+/// The number that these bytes give, if no fewer would do.
 fn short_number_of(bytes: &[u8]) -> Result<u64, OerError>
     requires { length bytes.now ≤ 8 }
     ensures { Gives (λ x. x) result (short_number bytes.now) }

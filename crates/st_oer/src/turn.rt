@@ -11,7 +11,7 @@ use std::io::{ErrorKind, Read, Write};
 /// The result of one read call.
 #[derive(Clone, Copy, Debug, PartialEq, Eq)]
 pub enum ReadTurn {
-    /// This number of bytes was read: at least one where the buffer is not empty.
+    /// This number of bytes was read: at least one if the buffer is not empty.
     Bytes(usize),
     /// The input has ended.
     End,

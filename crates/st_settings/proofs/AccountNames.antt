@@ -39,7 +39,7 @@ none_has (n ∷ names) name none = by (bytes_eq name n) refl (none_has names nam
     by true e rest wrong = absurd (true≢false wrong)
     by false e rest later = (unlike name n e, rest later)
 
--- the name stands among these
+-- a name that is one of `names` is there twice once it is added
 pub some_has : (names : List Text) (name : Text) (rest : List Text) → list_any (bytes_eq name) names ≡ true → StandTwice (names ++ name ∷ rest)
 some_has [] name rest some = absurd (true≢false (sym some))
 some_has (n ∷ names) name rest some = by (bytes_eq name n) refl (some_has names name rest) some

@@ -1,4 +1,4 @@
--- Where a text is cut at its last colon.
+-- How a text is split at its last colon.
 use Rattle.std.proofs.Common.{◌≡◌, ◌≢◌, ℕ, ◌+◌, ◌<◌, zero, suc, List, [], ◌∷◌, ◌++◌, length, take, drop, get_or, true, refl, sym, ap, ap₂, ◌∙◌, ◌-◌, nat_lt, arith, length-append, length-drop, take-append-drop, drop-cons}
 use Rattle.std.proofs.lemmas.List.{get_or-drop, take_all}
 use Rattle.std.specs.List.{list_all}
@@ -31,11 +31,11 @@ digits_lack (d ∷ ds) all zero within is =
     absurd (cc)
 digits_lack (d ∷ ds) all (suc i) within is = digits_lack ds (both (is_ascii_digit d) (list_all is_ascii_digit ds) all).1 i (omega arith) is
 
--- no colon stands in a number
+-- a number has no colon
 pub number_lacks : (most : ℕ) (text : List ℕ) (n : ℕ) → IsNumber most text n → LacksColon text
 number_lacks most text n has = digits_lack text (both (nat_lt 0 (length text)) (list_all is_ascii_digit text) has.digits).1
 
--- the parts at a place where a colon stands, the last one
+-- the parts at the place of a colon that is the last one
 pub cut_at : (text : List ℕ) (k : ℕ) → k < length text → get_or text k 0 ≡ 58 → ((i : ℕ) → k < i → i < length text → get_or text i 0 ≢ 58)
     → IsPair text (take k text) (drop (k + 1) text) × LacksColon (drop (k + 1) text)
 cut_at text k within is last =
@@ -48,7 +48,7 @@ cut_at text k within is last =
 pub rest_of : (text : List ℕ) (n : ℕ) → take (length text - n) (drop n text) ≡ drop n text
 rest_of text n = take_all (length text - n) (drop n text) (omega (arith, length-drop n text))
 
--- a colon stands in a text of two parts
+-- a text of two parts has a colon
 pub has_colon : (text front back : List ℕ) → IsPair text front back → ¬ (LacksColon text)
 has_colon text front back is lacks =
     lacks (length front) (omega (arith, ap length is, length-append front (58 ∷ back))) (ap (λ t. get_or t (length front) 0) is ∙ get_or-append_seam front 58 back 0)

@@ -48,7 +48,7 @@ routes_push count rs r good way none =
     let apart : is_distinct (map way_seen rs ++ way_seen r ∷ []) ≡ true = distinct_push (map way_seen rs) (way_seen r) parts.1 (any_prefix r.prefix.now rs ∙ none) in
     rw (map-append way_seen rs (r ∷ []), all, apart) refl
 
--- the routes before place k are lawful, these are their prefixes, and p stands there
+-- the routes before place k are lawful, these are their prefixes, and p is the one at place k
 module _ (count : ℕ) (placed : List PlacedRoute) (k : ℕ) (d p : PlacedRoute) (prefixes : List Text) (within : k < length placed) (at : p ≡ get_or placed k d)
     (are : prefixes ≡ prefixes_of (routes_of (take k placed))) (good : are_routes count (routes_of (take k placed)) ≡ true) where
   more : routes_of (take (k + 1) placed) ≡ routes_of (take k placed) ++ p.route ∷ []
@@ -95,7 +95,7 @@ limits_said _ _ _ (Says.blank k ls xs rs said rest) = limits_said ls xs rs rest
 limits_said _ _ _ (Says.account k ls x xs rs said rest) = rw (limit_said _ x said) (limits_said ls xs rs rest)
 limits_said _ _ _ (Says.route k ls xs r rs said rest) = limits_said ls xs rs rest
 
--- accounts that lines say, and lawful routes among so many, make a table of a hop of any address
+-- accounts that lines say, and routes that are lawful for that number of accounts, make a table of a hop of any address
 pub lawful_table : (ls : List Text) (xs : List AccountLine) (rs : List Route) (count : ℕ) → Says ls xs rs → count ≡ length xs → are_routes count rs ≡ true
     → (own : Text) → is_address own ≡ true → is_table own (map (λ x. x.terms) xs) (map way_seen rs) ≡ true
 lawful_table ls xs rs count said is good own address =

@@ -140,7 +140,7 @@ sound_terms limit max_packet token host out l m n limit_is max_is visible leads 
   },
 )
 
--- where HOST:PORT is one and yet nothing leads there, its token is bad
+-- if HOST:PORT is one and yet nothing leads there, its token is bad
 pub unseen_there : (host out : Bor (List ℕ)) → ((n : Option Neighbour) → ¬ (Leads host.now out.now n)) → IsHostPort host.now → is_field_text out.now ≡ false
 unseen_there host out none port = by (is_field_text out.now) refl
   where

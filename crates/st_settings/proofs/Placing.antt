@@ -136,7 +136,7 @@ good_or_bad words (inl none) bad = bad.some_word none
 good_or_bad words (inr (inl account)) bad = bad.no_account account.0 account.1
 good_or_bad words (inr (inr route)) bad = bad.no_route route.0 route.1
 
--- names and routes were read from the lines before place k, and the line there has these words
+-- names and routes were read from the lines before place k, and the line there has these fields
 module _ {X : Type 0} (items : Words) (k : ℕ) (d : Bor (List ℕ)) (words : List Text) (names : List (String X)) (placed : List PlacedRoute)
     (within : k < length items) (are : words ≡ words_of (get_or items k d).now) (read : IsRead (texts items) (texts (take k items)) names placed) where
   stands : Stands (texts items) (k + 1) words read.accounts (routes_of placed)
@@ -274,6 +274,6 @@ found_of bytes (Ok None) whole = λ good. whole good.1
 found_of bytes (Ok (Some f)) is = is
 found_of bytes (Err e) is = tt
 
--- bytes that are no text have no good lines
+-- bytes that are not UTF-8 have no good lines
 pub no_text : (bytes : Text) → is_utf8 bytes ≡ false → HasGoodLines bytes → IsWhole (lines bytes)
 no_text bytes none good = absurd (true≢false (sym (is_utf8-from_IsUtf8 bytes good.0) ∙ none))

@@ -16,7 +16,7 @@ use Rattle.st_settings.proofs.Tables.{no_account_there, no_route_there}
 
 -- ---- one line
 
--- what a reading of an account's line says, but for where the Prepares go
+-- what a reading of an account's line says, without the destination of its Prepares
 pub record SaysSame (x y : AccountLine) : Type 0 where
   pub name : said x.name ≡ said y.name
   pub terms : x.terms ≡ y.terms

@@ -23,7 +23,7 @@ all_ascii (c ∷ cs) e =
     let parts = and_parts (nat_le 33 c && nat_le c 126) (list_all (λ b. nat_le 33 b && nat_le b 126) cs) e in
     IsAscii-cons c cs (character_is_ascii c parts.0) (all_ascii cs parts.1)
 
--- what may stand in a field is UTF-8
+-- a text that a field may have is UTF-8
 pub field_text_is_utf8 : (text : List ℕ) → is_field_text text ≡ true → is_utf8 text ≡ true
 field_text_is_utf8 text e =
     let parts = and_parts (nat_le 1 (length text) && nat_le (length text) 255) (list_all (λ b. nat_le 33 b && nat_le b 126) text) e in

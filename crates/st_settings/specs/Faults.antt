@@ -13,7 +13,7 @@ use Rattle.st_settings.specs.Numbers.{AreTerms, IsHostPort, IsNumber}
 use Rattle.st_settings.specs.Settings.{most_money}
 use Rattle.st_settings.specs.Table.{IsAccountLine, IsBad, IsNaming, IsRouteLine, Text, words_of}
 
--- the text is no number up to 2^63 - 1
+-- the text does not write a number up to 2^63 - 1
 abbrev pub IsNoNumber : Text → Type 0
 IsNoNumber text = (n : ℕ) → ¬ (IsNumber most_money text n)
 
@@ -51,7 +51,7 @@ BreaksRated account num den fault.RouteWords = ⊥
 BreaksRated account num den fault.RouteAccount = IsNoNumber account
 BreaksRated account num den fault.Rate = (r : Ratio) → ¬ (AreTerms num den r)
 
--- a line of these words breaks this rule
+-- a line of these fields breaks this rule
 pub data Breaks : List Text → LineFault → Type 0 where
   kind : (word : Text) (words : List Text) → word ≢ codes "account" → word ≢ codes "route" → Breaks (word ∷ words) fault.Kind
   account_words : (words : List Text) → length words ≢ 5 → length words ≢ 6 → Breaks (codes "account" ∷ words) fault.AccountWords
@@ -65,7 +65,7 @@ pub data Breaks : List Text → LineFault → Type 0 where
   route_account : (prefix account : Text) → IsNoNumber account → Breaks (codes "route" ∷ prefix ∷ account ∷ []) fault.RouteAccount
   rated : (prefix account num den : Text) (f : LineFault) → BreaksRated account num den f → Breaks (codes "route" ∷ prefix ∷ account ∷ num ∷ den ∷ []) f
 
--- the line has no words, or says an account or a route
+-- the line is empty, or says an account or a route
 abbrev pub IsGood : List Text → Type 0
 IsGood words = (words ≡ []) ⊎ ((x : AccountLine) × IsAccountLine words x) ⊎ ((r : Route) × IsRouteLine words r)
 
@@ -84,7 +84,7 @@ pub record IsFirstFault (lines : List Text) (number : ℕ) (f : LineFault) : Typ
 abbrev pub line_ends : List ℕ → ℕ
 line_ends bytes = count_by (λ b. nat_eq b 10) bytes
 
--- the bytes are no text, and the first that spoils it stands in the line of this number, from 1
+-- the bytes are not UTF-8, and the first that spoils it is in the line of this number, from 1
 abbrev pub IsSpoilt : List ℕ → ℕ → Type 0
 IsSpoilt bytes number = (k : ℕ) × IsValidUpTo bytes k × (number ≡ suc (line_ends (take k bytes)))
 

@@ -21,7 +21,7 @@ ledger_texts o = record {
   payment = option_map (λ words. map (λ word. word.now) words.now) o.payment;
 }
 
--- The text writes an amount, in units: by digits alone of what an account owes, and behind a minus of what it is owed.
+-- The text writes an amount, in units: by digits alone of what an account owes, and after a minus of what it is owed.
 abbrev pub IsAmount : List ℕ → Side → ℕ → Type 0
 IsAmount text Claims n = IsWithin 1 most_money text n
 IsAmount text Dues n = (digits : List ℕ) × (text ≡ codes "-" ++ digits) × IsWithin 1 most_money digits n

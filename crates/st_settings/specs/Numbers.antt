@@ -14,7 +14,7 @@ pub record IsNumber (most : ℕ) (text : List ℕ) (n : ℕ) : Type 0 where
 abbrev pub IsPair : List ℕ → List ℕ → List ℕ → Type 0
 IsPair text front back = text ≡ front ++ 58 ∷ back
 
--- no colon stands in the text
+-- the text has no colon
 abbrev pub LacksColon : List ℕ → Type 0
 LacksColon text = (i : ℕ) → i < length text → slice_index text i ≢ 58
 
@@ -22,7 +22,7 @@ LacksColon text = (i : ℕ) → i < length text → slice_index text i ≢ 58
 abbrev pub most_port : ℕ
 most_port = 65535
 
--- HOST:PORT: a name that is not empty, a colon, and a port; the whole may stand in a request
+-- HOST:PORT: a name that is not empty, a colon, and a port; the whole may be in a request
 pub record IsHostPort (text : List ℕ) : Type 0 where
   pub host : List ℕ
   pub port : List ℕ

@@ -128,6 +128,7 @@ pub record ConnectorTexts : Type 0 where
   pub totals : Option (List ℕ)
   pub log : Option (List ℕ)
   pub ledger : Option (List ℕ)
+  pub keep_fulfillments : Bool
   pub verbose : Bool
   pub control : Option (List ℕ)
   pub table : Option (List ℕ)
@@ -141,6 +142,7 @@ connector_texts o = record {
   totals = said o.totals;
   log = said o.log;
   ledger = said o.ledger;
+  keep_fulfillments = o.keep_fulfillments;
   verbose = o.verbose;
   control = said o.control;
   table = said o.table;
@@ -191,6 +193,7 @@ pub record IsConnector (o : ConnectorTexts) (s : ConnectorSettings) : Type 0 whe
   pub totals : said s.totals ≡ o.totals
   pub log : said s.log ≡ o.log
   pub ledger : said s.ledger ≡ o.ledger
+  pub keep_fulfillments : s.keep_fulfillments ≡ o.keep_fulfillments
   pub verbose : s.verbose ≡ o.verbose
   pub control : said s.control ≡ o.control
   pub table : said s.table ≡ o.table

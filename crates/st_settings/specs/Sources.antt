@@ -1,4 +1,4 @@
--- Where the token and the secret of an end come from.
+-- The sources of the token and of the secret of an end.
 use Rattle.std.specs.Prelude.{◌≡◌, ◌==◌, ℕ, true, List, Option, Some, None, Ok, position, take}
 use Rattle.std.specs.Str.Lines.{strip_carriage_return}
 use Rattle.hex.specs.Hex.{decode_sized}
@@ -34,11 +34,11 @@ SaysSecret None (Some file) (secret.InFile f) = f.now ≡ file
 SaysSecret (Some text) (Some file) s = ⊥
 SaysSecret None None s = ⊥
 
--- what stands before place n, without a CR at its end; all of it where there is no such place
+-- the bytes before place n, without a CR at their end; all bytes if there is no such place
 abbrev pub line_before : Option ℕ → List ℕ → List ℕ
 line_before None bytes = bytes
 line_before (Some n) bytes = strip_carriage_return (take n bytes)
 
--- the first line of a file: what stands before the first LF, without the CR of a CR LF; all of it where there is no LF
+-- the first line of a file: the bytes before the first LF, without the CR of a CR LF; all bytes if there is no LF
 abbrev pub first_line : List ℕ → List ℕ
 first_line bytes = line_before (position (λ b. b == 10) bytes) bytes

@@ -13,11 +13,11 @@ use Rattle.st_settings.specs.Settings.{most_money, said}
 abbrev pub Text : Type 0
 Text = List ℕ
 
--- the words of a line: what stands between spaces
+-- the fields of a line: the texts between spaces
 abbrev pub words_of : Text → List Text
 words_of line = filter (λ w. not (length w == 0)) (slice_split (λ b. b == 32) line)
 
--- where the Prepares for an account go, by HOST:PORT and the token there: nowhere by `-` and `-`
+-- the neighbour to which the Prepares for an account are sent, by HOST:PORT and the token there: none by `-` and `-`
 abbrev pub Leads : Text → Text → Option Neighbour → Type 0
 Leads host token None = (host ≡ codes "-") × (token ≡ codes "-")
 Leads host token (Some n) = (n.host.now ≡ host) × IsHostPort host × (n.token.now ≡ token) × (is_field_text token ≡ true)
@@ -28,7 +28,7 @@ pub record HasTerms (limit max_packet token : Text) (a : AccountLine) : Type 0 w
   pub max_packet_is : IsNumber most_money max_packet a.terms.max_packet
   pub token_is : (a.token.now ≡ token) × (is_field_text token ≡ true)
 
--- the words behind `route` say this route
+-- the fields after `route` say this route
 pub record IsRoute (prefix account : Text) (rate : Ratio) (r : Route) : Type 0 where
   pub prefix_is : r.prefix.now ≡ prefix
   pub account_is : IsNumber most_money account r.account
@@ -39,7 +39,7 @@ pub record IsNaming (word name : Text) : Type 0 where
   pub word_is : word ≡ codes "NAME=" ++ name
   pub visible : is_field_text name ≡ true
 
--- the account has this name, or none, and these five words say the rest of it
+-- the account has this name, or none, and these five fields say the rest of it
 pub record IsAccount (name : Option Text) (limit max_packet token host out : Text) (a : AccountLine) : Type 0 where
   pub name_is : said a.name ≡ name
   pub terms : HasTerms limit max_packet token a
@@ -121,11 +121,11 @@ pub record HasBad (text : Text) : Type 0 where
   pub lines_are : lines text ≡ before ++ line ∷ after
   pub bad : IsBad (words_of line)
 
--- the name of the account at place i: that of its line, or i in decimal digits where its line has none
+-- the name of the account at place i: that of its line, or i in decimal digits if its line has none
 abbrev pub name_of : (i : ℕ) → AccountLine → Text
 name_of i a = unwrap_or (said a.name) (decimal i)
 
--- the names of accounts, the first of which stands at place i
+-- the names of accounts, the first of which is at place i
 unfoldable pub names_from : (i : ℕ) → List AccountLine → List Text
 names_from i [] = []
 names_from i (a ∷ rest) = name_of i a ∷ names_from (suc i) rest
@@ -134,12 +134,12 @@ names_from i (a ∷ rest) = name_of i a ∷ names_from (suc i) rest
 abbrev pub names_of : List AccountLine → List Text
 names_of accounts = names_from 0 accounts
 
--- no name stands twice
+-- no name is there twice
 abbrev pub AreDistinct : List Text → Type 0
 AreDistinct [] = ⊤
 AreDistinct (name ∷ names) = AllByRecursion (λ other. other ≢ name) names × AreDistinct names
 
--- a name stands twice
+-- a name is there twice
 pub record StandTwice (names : List Text) : Type 0 where
   pub before : List Text
   pub name : Text

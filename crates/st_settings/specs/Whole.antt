@@ -29,7 +29,7 @@ is_one_of texts text = list_any (bytes_eq text) texts
 abbrev pub prefixes_of : List Route → List Text
 prefixes_of routes = map (λ r. r.prefix.now) routes
 
--- the line of this number, from 1, has these words, and the lines before it say these accounts and these routes
+-- the line of this number, from 1, has these fields, and the lines before it say these accounts and these routes
 pub record Stands (lines : List Text) (number : ℕ) (words : List Text) (accounts : List AccountLine) (routes : List Route) : Type 0 where
   pub before : List Text
   pub line : Text
@@ -50,18 +50,18 @@ pub record IsSameName (lines : List Text) (number : ℕ) : Type 0 where
   pub distinct : AreDistinct (names_of accounts)
   pub same : is_one_of (names_of accounts) (name_of (length accounts) account) ≡ true
 
--- each prefix is an address and stands once, and each account is there, of so many
+-- each prefix is an address and is there once, and each account is there, of `count` accounts
 abbrev pub are_routes : ℕ → List Route → Bool
 are_routes count routes = list_all (is_way count) (map way_seen routes) && is_distinct (map way_seen routes)
 
--- a route behind others of these prefixes, in a table of so many accounts, breaks this rule
+-- a route after others of these prefixes, in a table of `count` accounts, breaks this rule
 abbrev pub BreaksWhole : ℕ → List Text → Route → WholeRule → Type 0
 BreaksWhole count prefixes r rule.SameName = ⊥
 BreaksWhole count prefixes r rule.NoAddress = is_address r.prefix.now ≡ false
 BreaksWhole count prefixes r rule.NoAccount = count ≤ r.account
 BreaksWhole count prefixes r rule.SamePrefix = is_one_of prefixes r.prefix.now ≡ true
 
--- no line is bad and no name stands twice, and the line of this number says the first route that breaks a rule, this one
+-- no line is bad and no name is there twice, and the line of this number says the first route that breaks a rule, this one
 pub record IsBadRoute (lines : List Text) (number : ℕ) (r : WholeRule) : Type 0 where
   pub accounts : List AccountLine
   pub routes : List Route
@@ -80,7 +80,7 @@ pub record IsBadRoute (lines : List Text) (number : ℕ) (r : WholeRule) : Type 
 abbrev pub IsWholeFault : List Text → ℕ → WholeRule → Type 0
 IsWholeFault lines number r = ((r ≡ rule.SameName) × IsSameName lines number) ⊎ IsBadRoute lines number r
 
--- no name stands twice, and a hop of any address can be made of the accounts and the routes
+-- no name is there twice, and a hop of any address can be made of the accounts and the routes
 pub record IsWhole (lines : List Text) : Type 0 where
   pub accounts : List AccountLine
   pub routes : List Route
@@ -88,7 +88,7 @@ pub record IsWhole (lines : List Text) : Type 0 where
   pub distinct : AreDistinct (names_of accounts)
   pub table : (own : Text) → is_address own ≡ true → is_table own (map (λ x. x.terms) accounts) (map way_seen routes) ≡ true
 
--- what a line of these words says
+-- what a line of these fields says
 abbrev pub IsSaid : List Text → Said → Type 0
 IsSaid words said.Nothing = words ≡ []
 IsSaid words (said.Account x) = IsAccountLine words x
@@ -99,21 +99,21 @@ IsSaid words said.Bad = IsBad words
 abbrev pub routes_of : List PlacedRoute → List Route
 routes_of placed = map (λ p. p.route) placed
 
--- a line of this number and these words adds to names and routes: nothing, an account whose name is none of these, or a route
+-- a line of this number and these fields adds to names and routes: nothing, an account with a new name, or a route
 abbrev pub Adds : {X : Type 0} → List Text → ℕ → (names : List (String X)) → List PlacedRoute → (more : List (String X)) → List PlacedRoute → Type 0
 Adds words number names placed more new = ((words ≡ []) × (more ≡ names) × (new ≡ placed))
     ⊎ ((x : AccountLine) × IsAccountLine words x × (is_one_of (map string_bytes names) (name_of (length names) x) ≡ false)
     × (map string_bytes more ≡ map string_bytes names ++ name_of (length names) x ∷ []) × (new ≡ placed))
     ⊎ ((p : PlacedRoute) × (p.line ≡ number) × IsRouteLine words p.route × (more ≡ names) × (new ≡ placed ++ p ∷ []))
 
--- what a line of this number and these words does to names and routes
+-- what a line of this number and these fields does to names and routes
 abbrev pub IsStep : {X : Type 0} → List Text → ℕ → (names : List (String X)) → List PlacedRoute → (more : List (String X)) → List PlacedRoute → Step → Type 0
 IsStep words number names placed more new step.Added = Adds words number names placed more new
 IsStep words number names placed more new step.SameName =
     (x : AccountLine) × IsAccountLine words x × (is_one_of (map string_bytes names) (name_of (length names) x) ≡ true)
 IsStep words number names placed more new step.Bad = IsBad words
 
--- the first of these routes that breaks a rule, in a table of so many accounts, is the one of the line of this number
+-- the first of these routes that breaks a rule, in a table of `count` accounts, is the one of the line of this number
 pub record IsFirstRoute (count : ℕ) (placed : List PlacedRoute) (number : ℕ) (r : WholeRule) : Type 0 where
   pub before : List PlacedRoute
   pub route : PlacedRoute

@@ -32,10 +32,10 @@ pub enum LineFault {
     /// The first word is neither `account` nor `route`.
     #[error("the first word is neither `account` nor `route`")]
     Kind,
-    /// An account has other than five words behind `account`, and other than six.
+    /// An account does not have five or six fields after `account`.
     #[error("an account is `account LIMIT MAX TOKEN HOST:PORT TOKEN`, with NAME= in front of LIMIT or without it")]
     AccountWords,
-    /// The first of six words behind `account` is not `NAME=` and a name.
+    /// The first of six fields after `account` is not `NAME=` and a name.
     #[error("NAME= is followed by 1 to 255 visible characters")]
     Name,
     /// LIMIT is not a number from 0 to 2^63 - 1.
@@ -44,16 +44,16 @@ pub enum LineFault {
     /// MAX is not a number from 0 to 2^63 - 1.
     #[error("MAX is a number from 0 to 2^63 - 1")]
     MaxPacket,
-    /// The token of the account's requests cannot stand in a request.
+    /// The token of the account's requests is not 1 to 255 visible characters.
     #[error("the first TOKEN has 1 to 255 visible characters")]
     Token,
     /// HOST:PORT is not one, and not `-` before `-` either.
     #[error("HOST:PORT has a name, a colon and a port up to 65535, or is `-` with `-` for its TOKEN")]
     HostPort,
-    /// The token that is shown at HOST:PORT cannot stand in a request.
+    /// The token that is shown at HOST:PORT is not 1 to 255 visible characters.
     #[error("the TOKEN behind HOST:PORT has 1 to 255 visible characters")]
     TokenThere,
-    /// A route has other than two words behind `route`, and other than four.
+    /// A route does not have two or four fields after `route`.
     #[error("a route is `route PREFIX ACCOUNT`, with NUM DEN behind it or without them")]
     RouteWords,
     /// ACCOUNT is not a number from 0 to 2^63 - 1.
@@ -73,7 +73,7 @@ pub struct TableFault {
     pub fault: LineFault,
 }
 
-/// The rule that the five words of an account break, where they break one.
+/// The rule that the five fields of an account break, if they break one.
 fn terms_fault(
     limit: &str,
     max_packet: &str,
@@ -101,7 +101,7 @@ fn terms_fault(
     }
 }
 
-/// The rule that the words behind `account` break, where they break one.
+/// The rule that the fields after `account` break, if they break one.
 fn account_fault(words: &[&str]) -> Option<LineFault>
     ensures { MatchOption result
         ((x : AccountLine) × IsAccountLine (codes "account" ∷ map (λ w. w.now) words.now) x)
@@ -117,7 +117,7 @@ fn account_fault(words: &[&str]) -> Option<LineFault>
     }
 }
 
-/// The rule that the words behind `route` break, where they break one.
+/// The rule that the fields after `route` break, if they break one.
 fn route_fault(words: &[&str]) -> Option<LineFault>
     ensures { MatchOption result
         ((r : Route) × IsRouteLine (codes "route" ∷ map (λ w. w.now) words.now) r)
@@ -133,7 +133,7 @@ fn route_fault(words: &[&str]) -> Option<LineFault>
     }
 }
 
-/// The rule that the words of a route with a rate break, where they break one.
+/// The rule that the fields of a route with a rate break, if they break one.
 fn rated_fault(account: &str, num: &str, den: &str) -> Option<LineFault>
     ensures { MatchOption result
         ((n : ℕ) × IsNumber most_money account.now n × ((r : Ratio) × AreTerms num.now den.now r))
@@ -148,7 +148,7 @@ fn rated_fault(account: &str, num: &str, den: &str) -> Option<LineFault>
     }
 }
 
-/// The rule that a line breaks, where it breaks one. The line is given as the texts between its spaces.
+/// The rule that a line breaks, if it breaks one. The line is given as the texts between its spaces.
 fn line_fault(words: &[&str]) -> Option<LineFault>
     ensures { MatchOption result (IsGood (map (λ w. w.now) words.now)) (Breaks (map (λ w. w.now) words.now)) }
 {
@@ -210,8 +210,8 @@ fn line_ends(bytes: &[u8]) -> usize
     count
 }
 
-/// The first bad line of a table, and the rule that it breaks. `None` where no line is bad: then `read_table` refuses the
-/// table, if at all, since two accounts have one name. Fails where memory is refused.
+/// The first bad line of a table, and the rule that it breaks. `None` if no line is bad: then `read_table` refuses the
+/// table, if at all, since two accounts have one name. Fails if memory is refused.
 pub fn table_fault<A: Allocator + Copy>(
     alloc: A,
     bytes: &[u8],

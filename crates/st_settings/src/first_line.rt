@@ -26,7 +26,7 @@ fn without_return(line: &[u8]) -> &[u8]
     &line[..line.len() - 1]
 }
 
-/// The first line of a file, without its LF or CR LF. All bytes where there is no LF.
+/// The first line of a file, without its LF or CR LF. All bytes if there is no LF.
 fn first_line(bytes: &[u8]) -> &[u8]
     ensures { result.now ≡ spec.first_line bytes.now }
 {
@@ -36,8 +36,8 @@ fn first_line(bytes: &[u8]) -> &[u8]
     }
 }
 
-/// The token in the first line of a file, of which these bytes are: 1 to 255 visible characters, and LF or CR LF or the end
-/// behind them. `None` where the line is no token.
+/// The token in the first line of a file with these bytes: 1 to 255 visible characters, followed by LF, CR LF or the end.
+/// `None` if the line is not a token.
 pub fn first_token(bytes: &[u8]) -> Option<&str>
     ensures { MatchOption result ((t : List ℕ) → ¬ (IsToken (spec.first_line bytes.now) t)) (λ t. IsToken (spec.first_line bytes.now) t.now) }
 {
@@ -49,8 +49,8 @@ pub fn first_token(bytes: &[u8]) -> Option<&str>
     }
 }
 
-/// The secret in the first line of a file, of which these bytes are: 64 hexadecimal digits, in upper or lower case, and LF or
-/// CR LF or the end behind them. `None` where the line is no secret.
+/// The secret in the first line of a file with these bytes: 64 hexadecimal digits, in upper or lower case, followed by LF, CR
+/// LF or the end. `None` if the line is not a secret.
 pub fn first_secret(bytes: &[u8]) -> Option<[u8; 32]>
     ensures { MatchOption result ((s : List ℕ) → ¬ (IsSecret (spec.first_line bytes.now) s)) (IsSecret (spec.first_line bytes.now)) }
 {

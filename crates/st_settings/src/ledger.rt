@@ -24,7 +24,7 @@ pub enum Kind {
 /// Which of an account's two amounts is changed.
 #[derive(Clone, Copy, Debug, PartialEq, Eq)]
 pub enum Side {
-    /// What the account owes: it paid, where a payment is meant.
+    /// What the account owes. It paid, if a payment is booked here.
     Claims,
     /// What is owed to the account: it was paid.
     Dues,
@@ -50,11 +50,11 @@ pub struct Payment<'a> {
 pub struct LedgerSettings<'a> {
     /// The name of the file that the books are kept in.
     pub file: &'a str,
-    /// The payment or the adjustment that is booked, where one was given.
+    /// The payment or the adjustment that is booked, if one was given.
     pub payment: Option<Payment<'a>>,
 }
 
-/// The amount that a text writes, and what it is taken off: dues where a minus stands in front.
+/// The amount that a text writes, and what it is taken off: dues if it begins with a minus.
 fn amount_of(text: &str) -> Option<(Side, u64)>
     ensures { MatchOption result ((s : Side) (n : ℕ) → ¬ (IsAmount text.now s n)) (λ p. IsAmount text.now p.0 p.1) }
 {
@@ -78,7 +78,7 @@ pub fn is_reference(text: &str) -> bool
     printable
 }
 
-/// The payment that the words `settle NAME AMOUNT` say. `None` exactly where they are not valid.
+/// The payment of the arguments `settle NAME AMOUNT`. `None` exactly if they are not valid.
 fn settle_of<'a>(words: &[&'a str]) -> Option<Payment<'a>>
     ensures { MatchOption result ((p : Payment) → ¬ (IsSettle (map (λ w. w.now) words.now) p)) (IsSettle (map (λ w. w.now) words.now)) }
 {
@@ -98,7 +98,7 @@ fn settle_of<'a>(words: &[&'a str]) -> Option<Payment<'a>>
     })
 }
 
-/// The payment of these texts under a reference. `None` exactly where they are not valid.
+/// The payment of these texts under a reference. `None` exactly if they are not valid.
 fn paid_once<'a>(name: &'a str, amount: &str, reference: &'a str) -> Option<Payment<'a>>
     ensures { MatchOption result ((p : Payment) → ¬ (IsPaidOnce name.now amount.now reference.now p)) (IsPaidOnce name.now amount.now reference.now) }
 {
@@ -115,7 +115,7 @@ fn paid_once<'a>(name: &'a str, amount: &str, reference: &'a str) -> Option<Paym
     })
 }
 
-/// The payment that five words say.
+/// The payment of five arguments.
 #[tactic(auto, using(crate::proofs::Entries::once_said, crate::proofs::Entries::not_settle, crate::proofs::Entries::no_option))]
 fn once_by<'a>(
     word: &str,
@@ -137,7 +137,7 @@ fn once_by<'a>(
     paid_once(name, amount, reference)
 }
 
-/// The payment that the words `settle NAME AMOUNT --reference TEXT` say. `None` exactly where they are not valid.
+/// The payment of the arguments `settle NAME AMOUNT --reference TEXT`. `None` exactly if they are not valid.
 fn settle_once_of<'a>(words: &[&'a str]) -> Option<Payment<'a>>
     ensures { MatchOption result ((p : Payment) → ¬ (IsSettleOnce (map (λ w. w.now) words.now) p)) (IsSettleOnce (map (λ w. w.now) words.now)) }
 {
@@ -167,7 +167,7 @@ fn units_of(text: &str) -> Option<u64>
     number_within(text.as_bytes(), 1, MAX_MONEY)
 }
 
-/// The adjustment of these texts. `None` exactly where they are not valid.
+/// The adjustment of these texts. `None` exactly if they are not valid.
 fn adjusted<'a>(name: &'a str, side: &str, amount: &str, reference: &'a str) -> Option<Payment<'a>>
     ensures { MatchOption result ((p : Payment) → ¬ (IsAdjusted name.now side.now amount.now reference.now p)) (IsAdjusted name.now side.now amount.now reference.now) }
 {
@@ -185,7 +185,7 @@ fn adjusted<'a>(name: &'a str, side: &str, amount: &str, reference: &'a str) -> 
     })
 }
 
-/// The adjustment that six words say.
+/// The adjustment of six arguments.
 #[tactic(auto, using(crate::proofs::Entries::adjustment_said, crate::proofs::Entries::not_adjust, crate::proofs::Entries::no_option_of_six))]
 fn adjusted_by<'a>(
     word: &str,
@@ -208,7 +208,7 @@ fn adjusted_by<'a>(
     adjusted(name, side, amount, reference)
 }
 
-/// The adjustment that the words `adjust NAME claims|dues N --reference TEXT` say. `None` exactly where they are not valid.
+/// The adjustment of the arguments `adjust NAME claims|dues N --reference TEXT`. `None` exactly if they are not valid.
 fn adjust_of<'a>(words: &[&'a str]) -> Option<Payment<'a>>
     ensures { MatchOption result ((p : Payment) → ¬ (IsAdjust (map (λ w. w.now) words.now) p)) (IsAdjust (map (λ w. w.now) words.now)) }
 {
@@ -218,7 +218,7 @@ fn adjust_of<'a>(words: &[&'a str]) -> Option<Payment<'a>>
     adjusted_by(adjust, name, side, amount, option, reference)
 }
 
-/// The payment or the adjustment that words say. `None` exactly where they are not valid.
+/// The payment or the adjustment of these arguments. `None` exactly if they are not valid.
 #[tactic(auto, using(crate::proofs::Entries::adjustment_alone))]
 fn payment_of<'a>(words: &[&'a str]) -> Option<Payment<'a>>
     ensures { MatchOption result ((p : Payment) → ¬ (IsPayment (map (λ w. w.now) words.now) p)) (IsPayment (map (λ w. w.now) words.now)) }
@@ -232,7 +232,7 @@ fn payment_of<'a>(words: &[&'a str]) -> Option<Payment<'a>>
     adjust_of(words)
 }
 
-/// The payment that words say, where there are any.
+/// The payment of these arguments, if there are any.
 fn chosen_payment<'a>(words: Option<&[&'a str]>) -> Option<Option<Payment<'a>>>
     ensures { MatchOption result
         ((p : Option Payment) → ¬ (Pays (option_map (λ ws. map (λ w. w.now) ws.now) words.entry) p))
@@ -248,7 +248,7 @@ fn chosen_payment<'a>(words: Option<&[&'a str]>) -> Option<Option<Payment<'a>>>
 }
 
 impl<'a> LedgerSettings<'a> {
-    /// The settings that the texts of the arguments say. `None` exactly where one of the texts is bad.
+    /// The settings that the texts of the arguments say. `None` exactly if one of the texts is bad.
     pub fn read(options: &LedgerOptions<'_, 'a>) -> Option<LedgerSettings<'a>>
         ensures { MatchOption result ((s : LedgerSettings) → ¬ (IsLedger (ledger_texts options.now) s)) (IsLedger (ledger_texts options.now)) }
     {

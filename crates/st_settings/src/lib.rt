@@ -1,9 +1,9 @@
 //! The settings of the commands `local`, `send`, `receive`, `connector` and `ledger`, from their arguments; and the
 //! connector's table.
 //!
-//! The texts of the options are given, and the settings are returned, or `None` where a text is bad. What each text has
-//! to be is in specs/: numbers, HOST:PORT and rates (Numbers), where tokens and secrets come from (Sources), the settings
-//! of each command (Settings, Ledger), the lines of a table with the names of its accounts (Table), and which rules a bad
+//! The texts of the options are given, and the settings are returned, or `None` if a text is bad. What each text has to
+//! be is in specs/: numbers, HOST:PORT and rates (Numbers), where tokens and secrets come from (Sources), the settings of
+//! each command (Settings, Ledger), the lines of a table with the names of its accounts (Table), and which rules a bad
 //! table breaks (Faults, Whole). This crate uses no file, no socket and no clock.
 #![tactic(auto)]
 

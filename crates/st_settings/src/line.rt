@@ -17,7 +17,7 @@ use st_http::is_field_text;
 use st_oer::Rate;
 use std::alloc::{AllocError, Allocator};
 
-/// Where the Prepares for an account are sent.
+/// The neighbour to which the Prepares for an account are sent.
 #[derive(Clone, Copy, Debug)]
 pub struct Neighbour<'a> {
     /// The neighbour, written HOST:PORT.
@@ -29,13 +29,13 @@ pub struct Neighbour<'a> {
 /// An account of a connector's table.
 #[derive(Clone, Copy, Debug)]
 pub struct AccountLine<'a> {
-    /// The account's name, where its line gives one: 1 to 255 visible characters.
+    /// The account's name, if its line gives one: 1 to 255 visible characters.
     pub name: Option<&'a str>,
     /// The most that the account may owe, and the most that one Prepare from it may carry, in units.
     pub terms: Account,
     /// The bearer token by which the connector knows the account: 1 to 255 visible characters.
     pub token: &'a str,
-    /// Where the Prepares for the account are sent. `None` for an account to which none is sent.
+    /// The neighbour to which the Prepares for the account are sent. `None` for an account to which none is sent.
     pub neighbour: Option<Neighbour<'a>>,
 }
 
@@ -51,8 +51,8 @@ pub(crate) fn words_of<'a, A: Allocator + Copy>(
         .collect(alloc)
 }
 
-/// Where an account's Prepares are sent, by the last two parts of its line: nowhere by `- -`. `None` where they are not
-/// valid.
+/// The neighbour to which an account's Prepares are sent, by the last two parts of its line: none by `- -`. `None` if
+/// they are not valid.
 pub(crate) fn leads_to<'a>(host: &'a str, token: &'a str) -> Option<Option<Neighbour<'a>>>
     ensures { MatchOption result ((n : Option Neighbour) → ¬ (Leads host.now token.now n)) (Leads host.now token.now) }
 {
@@ -103,7 +103,7 @@ fn account_by<'a>(
     })
 }
 
-/// The account that the parts behind `account` say. `None` exactly where they are not valid.
+/// The account that the parts after `account` say. `None` exactly if they are not valid.
 pub(crate) fn account_of<'a>(words: &[&'a str]) -> Option<AccountLine<'a>>
     ensures { MatchOption result
         ((a : AccountLine) → ¬ (IsAccountLine (codes "account" ∷ map (λ w. w.now) words.now) a))
@@ -132,7 +132,7 @@ fn route_by<'a>(prefix: &'a str, account: &str, rate: Rate) -> Option<Route<'a>>
     })
 }
 
-/// The route that the parts behind `route` say. `None` exactly where they are not valid.
+/// The route that the parts after `route` say. `None` exactly if they are not valid.
 pub(crate) fn route_of<'a>(words: &[&'a str]) -> Option<Route<'a>>
     ensures { MatchOption result
         ((r : Route) → ¬ (IsRouteLine (codes "route" ∷ map (λ w. w.now) words.now) r))

@@ -9,7 +9,7 @@ use indexmap::IndexSet;
 use std::alloc::{AllocError, Allocator};
 use std::hash::{BuildHasherDefault, FoldHasher};
 
-/// The name of the account of this number: that of its line, or the number in decimal digits. Fails where memory is
+/// The name of the account of this number: that of its line, or the number in decimal digits. Fails if memory is
 /// refused.
 pub(crate) fn name_of<A: Allocator + Copy>(
     alloc: A,
@@ -31,7 +31,7 @@ fn number_text<A: Allocator + Copy>(alloc: A, number: usize) -> Result<String<A>
     Ok(text)
 }
 
-/// The names of accounts, which are numbered from 0. Fails where memory is refused.
+/// The names of accounts, which are numbered from 0. Fails if memory is refused.
 pub(crate) fn names_of<A: Allocator + Copy>(
     alloc: A,
     accounts: &[AccountLine<'_>],
@@ -46,7 +46,7 @@ pub(crate) fn names_of<A: Allocator + Copy>(
     Ok(names)
 }
 
-/// Whether no name stands twice. Fails where memory is refused.
+/// Whether all names are different. Fails if memory is refused.
 pub(crate) fn are_distinct<A: Allocator + Copy>(
     alloc: A,
     names: &[String<A>],

@@ -3,7 +3,7 @@
 ghost use Rattle.std.specs.Prelude.{◌≡◌, ℕ, MatchOption};
 ghost use Rattle.st_settings.specs.Numbers.{IsNumber};
 
-/// The number that a text writes in decimal digits, where it is at most `most`. `None` where the text is empty, has
+/// The number that a text writes in decimal digits, if it is at most `most`. `None` if the text is empty, has
 /// another character than a digit, or writes a larger number. Leading zeros are allowed.
 pub fn read_number(text: &[u8], most: u64) -> Option<u64>
     ensures { MatchOption result ((n : ℕ) → ¬ (IsNumber most text.now n)) (IsNumber most text.now) }

@@ -9,7 +9,7 @@ pub struct LocalOptions<'a> {
     pub lose: &'a str,
     /// The text of `--streams`.
     pub streams: &'a str,
-    /// The text of `--totals`, where it is given.
+    /// The text of `--totals`, if it is given.
     pub totals: Option<&'a str>,
 }
 
@@ -18,13 +18,13 @@ pub struct LocalOptions<'a> {
 pub struct SendOptions<'a> {
     /// The text of `--to`.
     pub to: &'a str,
-    /// The text of `--token`, where it is given.
+    /// The text of `--token`, if it is given.
     pub token: Option<&'a str>,
-    /// The text of `--token-file`, where it is given.
+    /// The text of `--token-file`, if it is given.
     pub token_file: Option<&'a str>,
-    /// The text of `--secret`, where it is given.
+    /// The text of `--secret`, if it is given.
     pub secret: Option<&'a str>,
-    /// The text of `--secret-file`, where it is given.
+    /// The text of `--secret-file`, if it is given.
     pub secret_file: Option<&'a str>,
     /// The text of `--address`.
     pub address: &'a str,
@@ -40,9 +40,9 @@ pub struct SendOptions<'a> {
     pub random: &'a str,
     /// The text of `--least`.
     pub least: &'a str,
-    /// The text of `--totals`, where it is given.
+    /// The text of `--totals`, if it is given.
     pub totals: Option<&'a str>,
-    /// The text of `--log`, where it is given.
+    /// The text of `--log`, if it is given.
     pub log: Option<&'a str>,
 }
 
@@ -51,13 +51,13 @@ pub struct SendOptions<'a> {
 pub struct ReceiveOptions<'a> {
     /// The text of `--listen`.
     pub listen: &'a str,
-    /// The text of `--token`, where it is given.
+    /// The text of `--token`, if it is given.
     pub token: Option<&'a str>,
-    /// The text of `--token-file`, where it is given.
+    /// The text of `--token-file`, if it is given.
     pub token_file: Option<&'a str>,
-    /// The text of `--secret`, where it is given.
+    /// The text of `--secret`, if it is given.
     pub secret: Option<&'a str>,
-    /// The text of `--secret-file`, where it is given.
+    /// The text of `--secret-file`, if it is given.
     pub secret_file: Option<&'a str>,
     /// The text of `--address`.
     pub address: &'a str,
@@ -65,15 +65,15 @@ pub struct ReceiveOptions<'a> {
     pub peer: &'a str,
     /// The text of `--receive-max`.
     pub receive_max: &'a str,
-    /// The text of `--patience`, where it is given.
+    /// The text of `--patience`, if it is given.
     pub patience: Option<&'a str>,
-    /// The text of `--totals`, where it is given.
+    /// The text of `--totals`, if it is given.
     pub totals: Option<&'a str>,
-    /// The text of `--log`, where it is given.
+    /// The text of `--log`, if it is given.
     pub log: Option<&'a str>,
     /// Whether `--verbose` is given.
     pub verbose: bool,
-    /// The text of `--control`, where it is given.
+    /// The text of `--control`, if it is given.
     pub control: Option<&'a str>,
 }
 
@@ -84,21 +84,23 @@ pub struct ConnectorOptions<'a> {
     pub listen: &'a str,
     /// The text of `--own`.
     pub own: &'a str,
-    /// The text of `--requests`, where it is given.
+    /// The text of `--requests`, if it is given.
     pub requests: Option<&'a str>,
     /// The text of `--workers`.
     pub workers: &'a str,
-    /// The text of `--totals`, where it is given.
+    /// The text of `--totals`, if it is given.
     pub totals: Option<&'a str>,
-    /// The text of `--log`, where it is given.
+    /// The text of `--log`, if it is given.
     pub log: Option<&'a str>,
-    /// The text of `--ledger`, where it is given.
+    /// The text of `--ledger`, if it is given.
     pub ledger: Option<&'a str>,
+    /// Whether `--keep-fulfillments` is given.
+    pub keep_fulfillments: bool,
     /// Whether `--verbose` is given.
     pub verbose: bool,
-    /// The text of `--control`, where it is given.
+    /// The text of `--control`, if it is given.
     pub control: Option<&'a str>,
-    /// The text of `--table`, where it is given.
+    /// The text of `--table`, if it is given.
     pub table: Option<&'a str>,
 }
 
@@ -107,6 +109,6 @@ pub struct ConnectorOptions<'a> {
 pub struct LedgerOptions<'w, 'a> {
     /// The text of FILE.
     pub file: &'a str,
-    /// The words of a payment, where there are any.
+    /// The arguments of a payment, if there are any.
     pub payment: Option<&'w [&'a str]>,
 }

@@ -43,12 +43,12 @@ pub struct LocalSettings {
     pub streams: u8,
 }
 
-/// What `local` is asked for: its settings, and where its totals go.
+/// What `local` is asked for: its settings, and the file of its totals.
 #[derive(Clone, Copy, Debug)]
 pub struct LocalRequest<'a> {
     /// The settings of the run.
     pub settings: LocalSettings,
-    /// The name of the file that the totals are written to, where one was given.
+    /// The name of the file that the totals are written to, if one was given.
     pub totals: Option<&'a str>,
 }
 
@@ -76,9 +76,9 @@ pub struct SendSettings<'a> {
     /// The lowest accepted rate: the units that have to arrive for the units that are sent, rounded down; by default 1
     /// to 1.
     pub least: Rate,
-    /// The name of the file that the totals are written to, where one was given.
+    /// The name of the file that the totals are written to, if one was given.
     pub totals: Option<&'a str>,
-    /// The name of the file to which a line for each event is appended, where one was given.
+    /// The name of the file to which a line for each event is appended, if one was given.
     pub log: Option<&'a str>,
 }
 
@@ -99,13 +99,13 @@ pub struct ReceiveSettings<'a> {
     pub receive_max: u64,
     /// The number of seconds that may pass without a valid request: 1 to 86,400. `None`, the default, is any number.
     pub patience: Option<u64>,
-    /// The name of the file that the totals are written to, where one was given.
+    /// The name of the file that the totals are written to, if one was given.
     pub totals: Option<&'a str>,
-    /// The name of the file to which a line for each event is appended, where one was given.
+    /// The name of the file to which a line for each event is appended, if one was given.
     pub log: Option<&'a str>,
     /// Whether the command reports on standard error what it does: where it listens.
     pub verbose: bool,
-    /// The name of the pipe by which the command is asked things while it runs, where one was given.
+    /// The name of the pipe by which the command is asked things while it runs, if one was given.
     pub control: Option<&'a str>,
 }
 
@@ -121,17 +121,19 @@ pub struct ConnectorSettings<'a> {
     pub requests: Option<u64>,
     /// The number of threads that answer: 1 to 16, by default 4.
     pub workers: u8,
-    /// The name of the file that the totals are written to, where one was given.
+    /// The name of the file that the totals are written to, if one was given.
     pub totals: Option<&'a str>,
-    /// The name of the file to which a line for each event is appended, where one was given.
+    /// The name of the file to which a line for each event is appended, if one was given.
     pub log: Option<&'a str>,
-    /// The name of the file that the books are kept in, where one was given.
+    /// The name of the file that the books are kept in, if one was given.
     pub ledger: Option<&'a str>,
+    /// Whether the books keep the fulfillments that prove claims.
+    pub keep_fulfillments: bool,
     /// Whether the command reports on standard error what it does: where it listens.
     pub verbose: bool,
-    /// The name of the pipe by which the command is asked things while it runs, where one was given.
+    /// The name of the pipe by which the command is asked things while it runs, if one was given.
     pub control: Option<&'a str>,
-    /// The name of the file that has the table, where one was given. Without one the table is standard input.
+    /// The name of the file that has the table, if one was given. Without one the table is standard input.
     pub table: Option<&'a str>,
 }
 
@@ -153,7 +155,7 @@ fn number(text: &str, least: u64, most: u64) -> Option<u64>
     number_within(text.as_bytes(), least, most)
 }
 
-/// The number that the text of an option writes, from `least` to `most`, where the option is given.
+/// The number that the text of an option writes, from `least` to `most`, if the option is given.
 fn chosen(text: Option<&str>, least: u64, most: u64) -> Option<Option<u64>>
     ensures { MatchOption result ((n : Option ℕ) → ¬ (IsChosen least most (said text.entry) n)) (IsChosen least most (said text.entry)) }
 {
@@ -166,14 +168,14 @@ fn chosen(text: Option<&str>, least: u64, most: u64) -> Option<Option<u64>>
     }
 }
 
-/// The text, where it is HOST:PORT.
+/// The text, if it is HOST:PORT.
 fn host_port(text: &str) -> Option<&str>
     ensures { MatchOption result (¬ (IsHostPort text.now)) (λ t. (t ≡ text.entry) × IsHostPort text.now) }
 {
     if is_host_port(text) { Some(text) } else { None }
 }
 
-/// The text, where it is an ILP address.
+/// The text, if it is an ILP address.
 fn address(text: &str) -> Option<&str>
     ensures { MatchOption result (address.is_address text.now ≡ false) (λ t. (t ≡ text.entry) × (address.is_address text.now ≡ true)) }
 {
@@ -181,7 +183,7 @@ fn address(text: &str) -> Option<&str>
 }
 
 impl<'a> LocalRequest<'a> {
-    /// What the texts of the options ask for. `None` exactly where one of the texts is bad.
+    /// What the texts of the options ask for. `None` exactly if one of the texts is bad.
     pub fn read(options: &LocalOptions<'a>) -> Option<LocalRequest<'a>>
         ensures { MatchOption result ((s : LocalRequest) → ¬ (IsLocal (local_texts options.now) s)) (IsLocal (local_texts options.now)) }
     {
@@ -197,7 +199,7 @@ impl<'a> LocalRequest<'a> {
 }
 
 impl<'a> SendSettings<'a> {
-    /// The settings that the texts of the options write. `None` exactly where one of the texts is bad.
+    /// The settings that the texts of the options write. `None` exactly if one of the texts is bad.
     pub fn read(options: &SendOptions<'a>) -> Option<SendSettings<'a>>
         ensures { MatchOption result ((s : SendSettings) → ¬ (IsSend (send_texts options.now) s)) (IsSend (send_texts options.now)) }
     {
@@ -223,7 +225,7 @@ impl<'a> SendSettings<'a> {
 }
 
 impl<'a> ReceiveSettings<'a> {
-    /// The settings that the texts of the options write. `None` exactly where one of the texts is bad.
+    /// The settings that the texts of the options write. `None` exactly if one of the texts is bad.
     pub fn read(options: &ReceiveOptions<'a>) -> Option<ReceiveSettings<'a>>
         ensures { MatchOption result ((s : ReceiveSettings) → ¬ (IsReceive (receive_texts options.now) s)) (IsReceive (receive_texts options.now)) }
     {
@@ -244,7 +246,7 @@ impl<'a> ReceiveSettings<'a> {
 }
 
 impl<'a> ConnectorSettings<'a> {
-    /// The settings that the texts of the options write. `None` exactly where one of the texts is bad.
+    /// The settings that the texts of the options write. `None` exactly if one of the texts is bad.
     pub fn read(options: &ConnectorOptions<'a>) -> Option<ConnectorSettings<'a>>
         ensures { MatchOption result ((s : ConnectorSettings) → ¬ (IsConnector (connector_texts options.now) s)) (IsConnector (connector_texts options.now)) }
     {
@@ -256,6 +258,7 @@ impl<'a> ConnectorSettings<'a> {
             totals: options.totals,
             log: options.log,
             ledger: options.ledger,
+            keep_fulfillments: options.keep_fulfillments,
             verbose: options.verbose,
             control: options.control,
             table: options.table,

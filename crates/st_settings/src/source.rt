@@ -1,4 +1,4 @@
-//! Where the token and the secret of an end come from: from the command line, or from a file that it names.
+//! The sources of the token and of the secret of an end: the command line, or a file that it names.
 
 ghost use Rattle.std.specs.Prelude.{MatchOption};
 ghost use Rattle.st_settings.specs.declared.source.Secret.{Secret};
@@ -9,7 +9,7 @@ ghost use Rattle.st_settings.specs.Sources.{SaysSecret, SaysToken};
 use crate::text::read_secret;
 use st_http::is_field_text;
 
-/// Where a bearer token comes from.
+/// The source of a bearer token.
 #[derive(Clone, Copy, Debug)]
 pub enum Token<'a> {
     /// It is this text: 1 to 255 visible characters.
@@ -18,7 +18,7 @@ pub enum Token<'a> {
     InFile(&'a str),
 }
 
-/// Where the shared secret of a connection comes from.
+/// The source of the shared secret of a connection.
 #[derive(Clone, Copy, Debug)]
 pub enum Secret<'a> {
     /// It is these 32 bytes.
@@ -27,8 +27,8 @@ pub enum Secret<'a> {
     InFile(&'a str),
 }
 
-/// Where the token comes from, by the texts of two options: the token, or the name of its file. `None` where the token
-/// is bad, and where both texts are given or neither.
+/// The source of the token, by the texts of two options: the token, or the name of its file. `None` if the token is
+/// bad, and if both texts are given or neither.
 pub(crate) fn token_of<'a>(text: Option<&'a str>, file: Option<&'a str>) -> Option<Token<'a>>
     ensures { MatchOption result ((t : Token) → ¬ (SaysToken (said text.entry) (said file.entry) t)) (SaysToken (said text.entry) (said file.entry)) }
 {
@@ -39,8 +39,8 @@ pub(crate) fn token_of<'a>(text: Option<&'a str>, file: Option<&'a str>) -> Opti
     }
 }
 
-/// Where the secret comes from, by the texts of two options: the secret, or the name of its file. `None` where the
-/// secret is bad, and where both texts are given or neither.
+/// The source of the secret, by the texts of two options: the secret, or the name of its file. `None` if the secret is
+/// bad, and if both texts are given or neither.
 pub(crate) fn secret_of<'a>(text: Option<&'a str>, file: Option<&'a str>) -> Option<Secret<'a>>
     ensures { MatchOption result ((s : Secret) → ¬ (SaysSecret (said text.entry) (said file.entry) s)) (SaysSecret (said text.entry) (said file.entry)) }
 {

@@ -31,7 +31,7 @@ impl<'a, A: Allocator + Copy> Table<'a, A> {
         }
     }
 
-    /// The limits of each account, as a hop needs them. Fails where memory is refused.
+    /// The limits of each account, as a hop needs them. Fails if memory is refused.
     pub fn terms(&self, alloc: A) -> Result<Vec<Account, A>, AllocError>
         ensures { IfOk result (λ terms. terms.items ≡ map (λ x. x.terms) self.now.accounts.items) }
     {
@@ -41,7 +41,7 @@ impl<'a, A: Allocator + Copy> Table<'a, A> {
             .collect(alloc)
     }
 
-    /// The bearer token of each account, as a server needs them. Fails where memory is refused.
+    /// The bearer token of each account, as a server needs them. Fails if memory is refused.
     pub fn tokens(&self, alloc: A) -> Result<Vec<&'a str, A>, AllocError>
         ensures { IfOk result (λ tokens. tokens.items ≡ map (λ x. x.token) self.now.accounts.items) }
     {
@@ -51,7 +51,7 @@ impl<'a, A: Allocator + Copy> Table<'a, A> {
             .collect(alloc)
     }
 
-    /// The name of each account: that of its line, or its number in decimal digits where the line has none. Fails where
+    /// The name of each account: that of its line, or its number in decimal digits if the line has none. Fails if
     /// memory is refused.
     pub fn names(&self, alloc: A) -> Result<Vec<String<A>, A>, AllocError>
         ensures { IfOk result (λ names. map string_bytes names.items ≡ specs.names_of self.now.accounts.items) }
@@ -59,7 +59,7 @@ impl<'a, A: Allocator + Copy> Table<'a, A> {
         names_of(alloc, &self.accounts)
     }
 
-    /// Takes a line, which is given as the texts between its spaces.
+    /// Adds what a line says, which is given as the texts between its spaces.
     fn take_line(&mut self, words: &[&'a str]) -> Result<(), TableError>
         ensures taken { OnOk result (Takes (map (λ w. w.now) words.now) self.old.accounts.items self.old.routes.items self.new.accounts.items self.new.routes.items) }
         ensures bad { IfErr result (λ e. e ≡ BadLine → IsBad (map (λ w. w.now) words.now)) }
@@ -87,13 +87,13 @@ impl<'a, A: Allocator + Copy> Table<'a, A> {
     }
 }
 
-/// Reads a table, line by line. An account is `account LIMIT MAX TOKEN HOST:PORT TOKEN`, with `- -` in place of the
-/// last two where nothing is sent to it, and with `NAME=` and its name in front of LIMIT where it has one. A route is
-/// `route PREFIX ACCOUNT`, with `NUM DEN` behind it for a rate other than 1 to 1. The parts of a line are separated by
+/// Reads a table, line by line. An account is `account LIMIT MAX TOKEN HOST:PORT TOKEN`, with `- -` in place of the last
+/// two if nothing is sent to it, and with `NAME=` and its name in front of LIMIT if it has one. A route is
+/// `route PREFIX ACCOUNT`, with `NUM DEN` after it for a rate other than 1 to 1. The parts of a line are separated by
 /// spaces; empty lines are skipped.
 ///
-/// Fails with `BadLine` where a line is neither, with `SameName` where two accounts have one name, and with `NoMemory`
-/// where memory is refused.
+/// Fails with `BadLine` if a line is neither, with `SameName` if two accounts have one name, and with `NoMemory` if
+/// memory is refused.
 pub fn read_table<'a, A: Allocator + Copy>(
     alloc: A,
     text: &'a str,

@@ -15,7 +15,7 @@ const MAX_PORT: u64 = 65_535;
 /// The greatest number of a rate.
 const MAX_TERM: u64 = 4_294_967_295;
 
-/// What stands before the last colon, and after it.
+/// The text before the last colon, and the text after it.
 fn around_last_colon(text: &str) -> Option<(&[u8], &[u8])>
     ensures { MatchOption result (LacksColon text.now) (λ parts. IsPair text.now parts.0.now parts.1.now × LacksColon parts.1.now) }
 {

@@ -103,7 +103,7 @@ fn line_said<'a>(words: &[&'a str]) -> Said<'a>
     Said::Bad
 }
 
-/// Takes the name of an account, or says `false` where one before has it.
+/// Adds the name of an account, or returns `false` if one before has it.
 fn take_name<A: Allocator + Copy>(
     alloc: A,
     names: &mut Names<A>,
@@ -129,7 +129,7 @@ impl<'a, A: Allocator + Copy> Lines<'a, A> {
         }
     }
 
-    /// Takes the line of this number, which is given as the texts between its spaces.
+    /// Adds what the line of this number says. The line is given as the texts between its spaces.
     fn take_line(&mut self, alloc: A, line: usize, words: &[&'a str]) -> Result<Step, AllocError>
         ensures { IfOk result (IsStep (map (λ w. w.now) words.now) line self.old.names.keys self.old.routes.items self.new.names.keys self.new.routes.items) }
     {
@@ -153,7 +153,7 @@ impl<'a, A: Allocator + Copy> Lines<'a, A> {
     }
 }
 
-/// Takes the prefix of a route, or gives the rule that the route breaks behind others of these prefixes.
+/// Adds the prefix of a route, or returns the rule that the route breaks after others of these prefixes.
 fn take_route<'a, A: Allocator + Copy>(
     accounts: usize,
     prefixes: &mut Prefixes<'a, A>,
@@ -177,7 +177,7 @@ fn take_route<'a, A: Allocator + Copy>(
     Ok(None)
 }
 
-/// The first of these routes that breaks a rule, in a table of so many accounts.
+/// The first of these routes that breaks a rule, in a table of `count` accounts.
 fn routes_fault<A: Allocator + Copy>(
     alloc: A,
     accounts: usize,
@@ -228,10 +228,10 @@ fn lines_fault<A: Allocator + Copy>(
     routes_fault(alloc, read.names.len(), &read.routes)
 }
 
-/// The first line of a table that breaks a rule of the whole table, and this rule, where no line is bad by itself: the
-/// account whose name one before has; where there is none, the route whose PREFIX is no ILP address, whose account is not
-/// there, or whose PREFIX one before has. `None` where a hop can be made of the table, and also where `table_fault` finds a
-/// line. Fails where memory is refused.
+/// The first line of a table that breaks a rule of the whole table, and this rule, if no line is bad by itself: the account
+/// whose name one before has; if there is none, the route whose PREFIX is not an ILP address, whose account is not there,
+/// or whose PREFIX one before has. `None` if a hop can be made of the table, and also if `table_fault` finds a line.
+/// Fails if memory is refused.
 pub fn whole_fault<A: Allocator + Copy>(
     alloc: A,
     bytes: &[u8],

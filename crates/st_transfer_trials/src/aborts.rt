@@ -17,7 +17,7 @@ use std::thread;
 /// The year 9999, which no exchange of a test reaches.
 const LATE: i64 = 253_402_300_000_000;
 
-/// A flight that is abandoned where it is let go.
+/// A flight that is abandoned when it is dropped.
 struct Waiting {
     flight: Flight,
 }
@@ -36,7 +36,7 @@ impl Waiting {
     }
 }
 
-/// The answer of the peer to a flight: whether it was a Fulfill that was taken.
+/// Processes the answer of the peer to a flight, and returns whether it was a Fulfill that was accepted.
 fn takes(end: &mut EndState<Global>, waiting: Waiting, answer: Option<Vec<u8>>) -> bool {
     let flight = waiting.spend();
     if !end.is_open(&flight) {
@@ -50,7 +50,7 @@ fn takes(end: &mut EndState<Global>, waiting: Waiting, answer: Option<Vec<u8>>) 
     end.answer(flight, &mut bytes)
 }
 
-/// Sends the next packet, and takes its answer: whether it was a Fulfill.
+/// Sends the next packet, and processes its answer: whether it was a Fulfill.
 fn send_next<N: Net + std::time::Clock>(
     net: &N,
     end: &mut EndState<Global>,
@@ -92,7 +92,7 @@ fn send_and_abort<N: Net + std::time::Clock>(net: &N, alloc: Global, host: &str)
     send_next(net, &mut end, &mut link, 2)
 }
 
-/// The receiver writes what came before the abort, answers the request that brought it, and then tells it.
+/// The receiver writes what arrived before the abort, answers the request with it, and then reports it.
 #[test]
 fn an_abort_is_told_once_it_was_answered(rt: HostRuntime) {
     let alloc = rt.alloc();

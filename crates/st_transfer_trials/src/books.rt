@@ -85,13 +85,20 @@ pub(crate) const PREPARE: &[u8; 67] = b"\x0c\x41\0\0\0\0\0\0\0\x0a99990101000000
 pub(crate) const FULFILL: &[u8; 35] =
     b"\x0d\x21\0\0\0\0\0\0\0\0\0\0\0\0\0\0\0\0\0\0\0\0\0\0\0\0\0\0\0\0\0\0\0\0\0";
 
-/// What the Fulfill of that Prepare books.
-const BOOKING: Booking = Booking {
-    payer: 0,
-    claim: 10,
-    payee: 1,
-    due: 10,
-};
+/// Whether this is what the Fulfill of that Prepare books, with its proof.
+fn is_booked(bookings: &[Booking]) -> bool {
+    match bookings {
+        [booking] => match booking.proof {
+            Some(proof) => {
+                (booking.payer, booking.claim) == (0, 10)
+                    && (booking.payee, booking.due) == (1, 10)
+                    && proof.fulfillment == [0; 32]
+            }
+            None => false,
+        },
+        _ => false,
+    }
+}
 
 /// What answers each request with the Fulfill.
 #[derive(Drop)]
@@ -118,7 +125,7 @@ fn fulfill_two(alloc: Global, listener: TcpListener) {
     }
 }
 
-/// What a connector at this place answers to the Prepare. `None` where it does not.
+/// What a connector at this place answers to the Prepare. `None` if it does not.
 fn ask<N: Net + std::time::Clock>(net: &N, alloc: Global, host: &str) -> Option<Vec<u8>> {
     ask_with(net, alloc, host, PREPARE)
 }
@@ -146,7 +153,7 @@ fn is(answer: &Option<Vec<u8>>, bytes: &[u8]) -> bool {
     }
 }
 
-/// Has three Prepares answered by a connector whose books take one booking, and then uses up what both hosts still wait
+/// Has three Prepares answered by a connector whose books accept one booking, and then uses up what both hosts still wait
 /// for. Whether the first is fulfilled and the second not answered, each with one booking committed by then, and the third not
 /// answered.
 fn ask_thrice<N: Net + std::time::Clock>(
@@ -164,7 +171,7 @@ fn ask_thrice<N: Net + std::time::Clock>(
     (first, second, third)
 }
 
-/// How such a connector ended, with so many workers, and what the three Prepares found.
+/// How such a connector ended, with this number of workers, and what the three Prepares found.
 fn refuse_the_second<
     R: Net<Listener = TcpListener, Stream = TcpStream>
         + Abort
@@ -218,7 +225,7 @@ fn a_refusal_of_the_books_ends_a_connector(rt: HostRuntime) {
         );
         let result = ended.expect(&rt, "there is a hop").result;
         assert!(rt; result.err() == Some(TransferError::Books(REFUSAL)));
-        assert!(rt; refused == Some(REFUSAL) && books.bookings.as_slice() == [BOOKING].as_slice());
+        assert!(rt; refused == Some(REFUSAL) && is_booked(&books.bookings));
     }
     assert!(rt; TransferError::Books(REFUSAL).number() == REFUSAL);
 }

@@ -61,7 +61,7 @@ fn ask_four<N: Net + std::time::Clock>(net: &N, alloc: Global, hub: &str) {
     use_up(net, hub);
 }
 
-/// How often something was told while the connector ran, and how many Prepares were fulfilled by then.
+/// How often totals were reported during the run, and how many Prepares were fulfilled by then.
 #[derive(Clone, Copy)]
 struct Told {
     times: u64,
@@ -86,7 +86,7 @@ fn one(code: &[u8; 3]) -> CodeCount {
     }
 }
 
-/// Of four Prepares one is fulfilled, one rejected behind the connector, one lost, and one refused.
+/// Of four Prepares one is fulfilled, one rejected by the next side, one lost, and one refused.
 #[test]
 fn each_prepare_counts_as_it_ended(rt: HostRuntime) {
     let alloc = rt.alloc();

@@ -15,7 +15,7 @@ use std::sync::Wait;
 use std::thread::Threads;
 use std::time::{Duration, Instant};
 
-/// That a sender met the fault after so many bytes, and that its receiver got no end, and no other byte.
+/// That a sender met the fault after `read` bytes, and that its receiver saw no end, and no other byte.
 fn check_part(rt: &impl Abort, kept: &Kept, bytes: &[u8], k: u64, read: u64) {
     assert!(rt;
         kept.sent == Err(TransferError::File(FileError::ReadFault(read))),
@@ -57,7 +57,7 @@ fn each_read_of_the_input_fails_in_turn(rt: HostRuntime) {
     assert!(rt; TransferError::File(FileError::ReadFault(0)).number() == 90);
 }
 
-/// That a receiver told what it wrote, a front of these bytes: whether that was all of them, and then both sides told so.
+/// That a receiver reported what it wrote, a front of these bytes: whether that was all, and then both sides reported so.
 fn check_written(rt: &impl Abort, came: &Kept, bytes: &[u8], k: u64) -> bool {
     let written = came.bytes.len() as u64;
     assert!(rt; bytes.starts_with(came.bytes.as_slice()), "at {k}");
@@ -94,7 +94,7 @@ fn transfer_to<
     }
 }
 
-/// Each call of the output fails in turn, until one run meets no failure: what is told is what was written.
+/// Each call of the output fails in turn, until one run meets no failure: what is reported is what was written.
 #[test]
 fn each_call_of_the_output_fails_in_turn(rt: HostRuntime) {
     let bytes = pattern(&rt, rt.alloc(), 10_000);
@@ -123,7 +123,7 @@ fn a_source_of_ivs_that_ends_is_a_fault(rt: HostRuntime) {
     assert!(rt; sent.err().map(|e| e.number()) == Some(90));
 }
 
-/// An output that takes nothing: each call of it is interrupted.
+/// An output that accepts no byte: each call of it is interrupted.
 #[derive(Drop)]
 struct Busy;
 
@@ -137,7 +137,7 @@ impl Write for Busy {
     }
 }
 
-/// A receiver that calls its output 500 times after a request has used up its turns then, and nobody listens any more.
+/// A receiver that calls its output 500 times after a request has used up its calls then, and nobody listens any more.
 #[test]
 fn an_output_that_is_always_interrupted_uses_up_the_turns(rt: HostRuntime) {
     let alloc = rt.alloc();

@@ -1,5 +1,5 @@
 //! Transfers over loopback: a receiver, a connector and a sender in one process, each in a thread, over inputs, outputs and listeners
-//! that fail, with an abort, with books, and with the totals that each side reports. No contract says what goes over a socket: these tests do,
+//! that fail, with an abort, with books, and with the totals that each side reports. No contract covers bytes on a socket: these tests do,
 //! and the runs of the program.
 #![tactic(auto)]
 

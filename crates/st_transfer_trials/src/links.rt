@@ -29,7 +29,7 @@ fn transfer_over<
     transfer(&links, alloc, listener, host.as_str(), &[], bytes, terms)
 }
 
-/// Whether all of these bytes arrived, and both sides told so.
+/// Whether all of these bytes arrived, and both sides reported so.
 fn is_whole(came: &Kept, bytes: &[u8]) -> bool {
     let n = bytes.len() as u64;
     came.told == Ok(n) && came.sent == Ok(n) && came.bytes.as_slice() == bytes

@@ -18,7 +18,7 @@ const POST: &[u8] = b"POST /ilp HTTP/1.1\r\nAuthorization: Bearer t0\r\nContent-
 /// The head of a response with 35 bytes.
 const OK: &[u8] = b"HTTP/1.1 200 OK\r\nContent-Length: 35\r\n\r\n";
 
-/// What is owed where so many units were booked.
+/// What is owed if this number of units was booked.
 fn booked(units: u64) -> Owed {
     Owed {
         claims: units,
@@ -33,8 +33,8 @@ fn message(rt: &impl Abort, alloc: Global, head: &[u8], body: &[u8]) -> Vec<u8> 
     message
 }
 
-/// What a connector of two requests and one worker came to whose connections bring this request, and of the first of which
-/// the call `k` fails. Its neighbour gives this response to all.
+/// The result of a connector of two requests and one worker whose connections bring this request. The call `k` of the
+/// first connection fails. Its neighbour gives this response to all.
 fn serve_two<R: Net<Listener = TcpListener, Stream = TcpStream> + Threads + Wait + Clock + Sync>(
     rt: &R,
     alloc: Global,
@@ -65,9 +65,9 @@ fn serve_two<R: Net<Listener = TcpListener, Stream = TcpStream> + Threads + Wait
     connect_telling(&net, alloc, door, next, twice, till, &mut NoMinutes)?.result
 }
 
-/// Each call of a connection fails in turn: its request comes by three reads, and its answer of 133 bytes is sent by three
-/// writes. That connection counts as the next one does. Where no request came, one Prepare of ten units is booked,
-/// and else two.
+/// Each call of a connection fails in turn: its request arrives in three reads, its answer of 133 bytes is sent by three
+/// writes. That connection counts as the next one does. If no request arrived, one Prepare of ten units is booked,
+/// and otherwise two.
 #[test]
 fn each_call_of_a_served_connection_fails_in_turn(rt: HostRuntime) {
     let alloc = rt.alloc();
@@ -97,7 +97,7 @@ fn is_near_30_seconds(nanos: u64) -> bool {
     25_000_000_000 <= nanos && nanos <= 30_000_000_000
 }
 
-/// The request of a connection may take 30 seconds, and so may its answer, less the time that has gone.
+/// The request of a connection may take 30 seconds, and so may its answer, less the time that has passed.
 #[test]
 fn a_connector_sets_its_time_outs(rt: HostRuntime) {
     let alloc = rt.alloc();

@@ -21,7 +21,7 @@ use std::sync::Wait;
 use std::thread::Threads;
 use std::time::Duration;
 
-/// More calls of a stream than one exchange takes, and more turns than a transfer does.
+/// More I/O calls than one exchange needs, and more rounds of a worker than a transfer does.
 pub(crate) const TURNS: u64 = 1_000_000;
 
 /// By which each side's requests are known at the next one.
@@ -33,8 +33,8 @@ const SENDER: &str = "test.a";
 
 const RECEIVER: &str = "test.b";
 
-/// What a sender offers, how much of it has to arrive, and by how many workers it sends in how many turns; and how much a receiver
-/// takes, in how many connections.
+/// What a sender offers, how much of it has to arrive, and by how many workers it sends in how many rounds; and how much a
+/// receiver accepts, in how many connections.
 #[derive(Clone, Copy)]
 pub(crate) struct Terms {
     pub(crate) money: u64,
@@ -45,7 +45,7 @@ pub(crate) struct Terms {
     pub(crate) connections: u64,
 }
 
-/// So much money, all of which has to arrive, by so many workers, and as many turns and connections as it takes.
+/// This much money, all of which has to arrive, by this number of workers, and all the rounds and connections that it needs.
 pub(crate) fn with_money(money: u64, workers: u8) -> Terms {
     Terms {
         money,
@@ -102,7 +102,7 @@ where
     receive_telling(rt, alloc, listener, writer, terms).result
 }
 
-/// What the receiver `test.b` comes to where it makes no end.
+/// How the receiver `test.b` ends if it makes no end.
 fn no_end(error: TransferError) -> Ended {
     Ended {
         result: Err(error),
@@ -143,7 +143,7 @@ where
     }
 }
 
-/// A hop with the sender's side behind account 0, and the receiver's behind account 1, which exchanges one for one.
+/// A hop with the sender's side at account 0, and the receiver's at account 1, which exchanges one for one.
 fn new_hop(alloc: Global) -> Result<HopState<Global>, HopError> {
     let account = Account {
         limit: 1_000_000,
@@ -157,7 +157,7 @@ fn new_hop(alloc: Global) -> Result<HopState<Global>, HopError> {
     HopState::new(alloc, "test.h", &[account, account], &[route])
 }
 
-/// How many requests a connector takes, by how many workers, and of how many milliseconds a period is after which it tells its
+/// How many requests a connector serves, by how many workers, and the milliseconds of a period after which it reports its
 /// totals.
 #[derive(Clone, Copy)]
 pub(crate) struct Crossing {
@@ -192,7 +192,7 @@ fn terms_of<'a>(
     }
 }
 
-/// A connector, with the receiver's side at the host `next`. It tells what all accounts owe, and what it owes them.
+/// A connector, with the receiver's side at the host `next`. It reports what all accounts owe, and what it owes them.
 pub(crate) fn connect<
     R: Net<Listener = TcpListener, Stream = TcpStream> + Threads + Wait + std::time::Clock + Sync,
 >(rt: &R, alloc: Global, listener: TcpListener, next: &str) -> Result<Owed, TransferError> {
@@ -200,8 +200,8 @@ pub(crate) fn connect<
     connect_storing(rt, alloc, listener, next, 4, till)?.result
 }
 
-/// How such a connector ended, with so many workers, and with a till or without; an error where there is no memory for its
-/// hop.
+/// How such a connector ended, with this number of workers, and with a till or without; an error if there is no memory for
+/// its hop.
 pub(crate) fn connect_storing<
     R: Net<Listener = TcpListener, Stream = TcpStream> + Threads + Wait + std::time::Clock + Sync,
     K: Keeper + Send + Drop,
@@ -217,7 +217,7 @@ pub(crate) fn connect_storing<
     connect_telling(rt, alloc, listener, next, crossing, till, &mut NoMinutes)
 }
 
-/// How a connector at a listener of this network ended, which tells its totals here and has the receiver's side at the host `next`.
+/// How a connector at a listener of this network ended, which reports its totals here and has the receiver's side at `next`.
 pub(crate) fn connect_telling<
     N: Net + Threads + Wait + std::time::Clock + Sync,
     K: Keeper + Send + Drop,

@@ -1,4 +1,4 @@
-//! The moments that a clock tells, and the time-outs that links and receivers set. Time stands still in these tests.
+//! The moments that a clock gives, and the time-outs that links and receivers set. The clock does not advance in these tests.
 
 use crate::sides::{TOKEN, Terms, receive, with_money};
 use crate::wires::{Door, Seen, Wires};
@@ -19,7 +19,7 @@ fn silent<'a, R>(rt: &'a R, seen: &'a Seen) -> Wires<'a, R> {
     }
 }
 
-/// A clock tells what was read at the runtime's, and what it told before where that was set back by at most five seconds.
+/// A clock gives what was read at the runtime's, and what it gave before if that was set back by at most five seconds.
 #[test]
 fn a_clock_tells_what_was_read(rt: HostRuntime) {
     let seen = Seen::at(5_000);
@@ -42,7 +42,7 @@ fn a_clock_tells_what_was_read(rt: HostRuntime) {
 const HOST: &str = "127.0.0.1:7770";
 
 /// An exchange may take until its Prepare expires, and 30 seconds at most: so long each connection attempt, read and write may
-/// take, while time stands still.
+/// take, if the clock does not advance.
 #[test]
 fn a_link_sets_its_time_outs(rt: HostRuntime) {
     assert!(rt; is_field_text(HOST) && is_field_text(TOKEN));
@@ -60,7 +60,7 @@ fn a_link_sets_its_time_outs(rt: HostRuntime) {
     }
 }
 
-/// A request may take 30 seconds, and so may the answer that refuses it, while time stands still.
+/// A request may take 30 seconds, and so may the answer that refuses it, if the clock does not advance.
 #[test]
 fn a_receiver_sets_its_time_outs(rt: HostRuntime) {
     let seen = Seen::at(5_000);

@@ -1,4 +1,4 @@
-//! The totals that the sides of a transfer tell.
+//! The totals that the sides of a transfer report.
 
 use crate::books::till_of;
 use crate::sides::{
@@ -48,7 +48,7 @@ fn tell_ends<
     use_up(rt, next);
 }
 
-/// What all sides tell of such a transfer through a connector.
+/// What all sides report of such a transfer through a connector.
 fn tell<
     R: Net<Listener = TcpListener, Stream = TcpStream>
         + Abort
@@ -113,7 +113,7 @@ fn each_side_tells_its_totals(rt: HostRuntime) {
     assert!(rt; second.claims == 0 && second.dues == 500 && second.held == 0);
 }
 
-/// A sender that reaches nobody tells its totals too: it paid nothing.
+/// A sender that reaches nobody reports its totals too: it paid nothing.
 #[test]
 fn a_failed_sender_tells_its_totals(rt: HostRuntime) {
     let alloc = rt.alloc();

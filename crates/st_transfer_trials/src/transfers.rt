@@ -11,7 +11,7 @@ use std::sync::Wait;
 use std::thread;
 use std::thread::Threads;
 
-/// So many bytes that tell their places.
+/// `n` bytes, each of which depends on its place.
 pub(crate) fn pattern(rt: &impl Abort, alloc: Global, n: u64) -> Vec<u8> {
     let mut bytes = Vec::new(alloc);
     for i in 0..n {
@@ -67,7 +67,7 @@ where
     sent
 }
 
-/// What a receiver came to, what it wrote, and what the sender came to.
+/// The result of a receiver, what it wrote, and the result of the sender.
 #[derive(Drop)]
 pub(crate) struct Kept {
     pub(crate) told: Result<u64, TransferError>,
@@ -75,7 +75,7 @@ pub(crate) struct Kept {
     pub(crate) sent: Result<u64, TransferError>,
 }
 
-/// A transfer of this input, by the neighbour `next`, to a receiver that writes here: what the receiver came to, and what
+/// A transfer of this input, by the neighbour `next`, to a receiver that writes here: the results of the receiver and of
 /// the sender. What the hosts still wait for is used up then.
 pub(crate) fn transfer_into<
     I: Read + Drop + Send,
@@ -102,7 +102,7 @@ where
     )
 }
 
-/// The same, to a receiver whose output takes all.
+/// The same, to a receiver whose output accepts all.
 pub(crate) fn transfer<I: Read + Drop + Send, R: Net + Threads + Wait + std::time::Clock + Sync>(
     rt: &R,
     alloc: Global,

@@ -1,4 +1,4 @@
-//! A network for tests: its connections are over sockets or in memory, one of their calls may fail, and its clock may stand still.
+//! A network for tests: its connections are over sockets or in memory, one of their calls may fail, and its clock may not advance.
 
 ghost use Rattle.std.specs.Io.{ReadsAtMost, WritesAtMost};
 
@@ -14,7 +14,7 @@ use std::sync::atomic::{AtomicU64, Ordering};
 use std::thread::Threads;
 use std::time::{Clock, Duration};
 
-/// What a test sees of its connections, for all threads, and where their clock stands.
+/// What a test sees of its connections, for all threads, and the time of their clock.
 #[derive(Drop)]
 pub(crate) struct Seen {
     /// How often a listener was asked for a connection.
@@ -25,16 +25,16 @@ pub(crate) struct Seen {
     failed: AtomicU64,
     /// How many bytes were written on them.
     written: AtomicU64,
-    /// The time-outs that were set last, in nanoseconds: for a connection attempt, a read and a write. 0 where there is none.
+    /// The time-outs that were set last, in nanoseconds: for a connection attempt, a read and a write. 0 if there is none.
     connect_nanos: AtomicU64,
     read_nanos: AtomicU64,
     write_nanos: AtomicU64,
-    /// Milliseconds since the start of 1970 at which the clock stands. Where they are 0, it is that of the runtime.
+    /// Milliseconds since the start of 1970 that the clock always gives. If they are 0, it is that of the runtime.
     millis: AtomicU64,
 }
 
 impl Seen {
-    /// Nothing yet, by a clock that stands at so many milliseconds, or by that of the runtime where they are 0.
+    /// Nothing yet, by a clock that always gives this number of milliseconds, or by that of the runtime if it is 0.
     pub(crate) fn at(millis: u64) -> Seen {
         Seen {
             asked: AtomicU64::new(0),
@@ -91,7 +91,7 @@ impl Seen {
         }
     }
 
-    /// Notes what a call came to.
+    /// Notes the result of a call.
     fn note(&self, moved: &io::Result<usize>, is_written: bool) {
         match moved {
             Ok(n) if is_written => {
@@ -120,11 +120,11 @@ const PIECE: usize = 64;
 #[derive(Drop)]
 enum Device<'a> {
     Socket(TcpStream),
-    /// These bytes come from it, and it takes all that is written.
+    /// These bytes are read from it, and it accepts all that is written.
     Memory(&'a [u8]),
 }
 
-/// Reads a piece of bytes in memory.
+/// Reads a part of bytes in memory.
 fn read_piece(bytes: &mut &[u8], buf: &mut [u8]) -> io::Result<usize>
     ensures { ReadsAtMost result buf.new }
 {
@@ -152,12 +152,12 @@ impl Device<'_> {
     }
 }
 
-/// A connection of which one call fails, or none. It counts its calls itself, since the prover refuses the drop of a `FailAt` beside
-/// a borrow.
+/// A connection of which one call fails, or none. It counts its calls itself, since the prover refuses the drop of a `FailAt` next
+/// to a borrow.
 #[derive(Drop)]
 pub(crate) struct Wire<'a> {
     device: Device<'a>,
-    /// The number of the call that fails, from 1. Where it is 0 none fails.
+    /// The number of the call that fails, from 1. If it is 0 none fails.
     fails_at: u64,
     calls: u64,
     seen: &'a Seen,
@@ -251,7 +251,7 @@ impl AsRawFd for Door<'_> {
 
 impl AwaitListener for Door<'_> {}
 
-/// A network of which each connection that is made brings these bytes, or is a socket of the runtime behind it.
+/// A network of which each connection that is made brings these bytes, or is a socket of the wrapped runtime.
 #[derive(Drop)]
 pub(crate) struct Wires<'a, R> {
     pub(crate) rt: &'a R,

@@ -6,7 +6,7 @@ use Rattle.clap.specs.Lexer.{long_of, short_of}
 use Rattle.clap.specs.Words.{Row, Text}
 use Rattle.clap.proofs.OnLiterals.{clap_on_literals}
 use Rattle.st_words.specs.Words.{command_of}
-use Rattle.st_words.specs.Laws.{AdjustmentSaysItsTexts, BooksSayTheirFile, ConnectorSaysItsTexts, ControlSaysItsNames, EndlessSaysNoNumber, FilesSayTheirNames, LedgerSaysItsFile, PaymentSaysItsTexts, ReceiveSaysItsTexts, ReferenceSaysItsTexts, RequestsAreSaidOnce, SayLedger, SendSaysItsTexts}
+use Rattle.st_words.specs.Laws.{AdjustmentSaysItsTexts, BooksSayTheirFile, ConnectorSaysItsTexts, ControlSaysItsNames, EndlessSaysNoNumber, FilesSayTheirNames, KeepingNeedsBooks, LedgerSaysItsFile, PaymentSaysItsTexts, ReceiveSaysItsTexts, ReferenceSaysItsTexts, RequestsAreSaidOnce, SayLedger, SendSaysItsTexts}
 
 pub send_plain : SendSaysItsTexts
 unfolding clap_on_literals
@@ -39,6 +39,10 @@ control_plain listen own control table = (refl, (_, refl, refl))
 pub books_plain : BooksSayTheirFile
 unfolding clap_on_literals
 books_plain listen own totals ledger = (refl, (_, refl, refl))
+
+pub keeping_plain : KeepingNeedsBooks
+unfolding clap_on_literals
+keeping_plain listen own ledger = (refl, refl, (_, refl, refl))
 
 -- the values that a command has
 rows_in : Option (Text × List Row) → List Row

@@ -1,4 +1,4 @@
--- What plain words ask for, whatever the texts in them are.
+-- What plain arguments ask for, whatever the texts in them are.
 use Rattle.std.specs.Prelude.{◌≡◌, ◌≢◌, ℕ, false, true, List, [], ◌∷◌, ◌++◌, codes, Option, Some, None}
 use Rattle.clap.specs.Words.{Row, Text}
 use Rattle.clap.specs.declared.error.kind.ErrorKind.TheVariants.{ArgumentConflict, MissingRequiredArgument}
@@ -93,6 +93,7 @@ SayConnector words listen own totals ledger = (refusals words ≡ [])
       totals = totals;
       log = None;
       ledger = ledger;
+      keep_fulfillments = false;
       verbose = false;
       control = None;
       table = None;
@@ -115,12 +116,13 @@ EndlessSaysNoNumber = (listen own : Text) → (refusals (endless_words listen ow
       totals = None;
       log = None;
       ledger = None;
+      keep_fulfillments = false;
       verbose = false;
       control = None;
       table = None;
     }))
 
--- a number beside it is refused, and so is neither
+-- with a number in addition it is refused, and so is a command with neither
 abbrev pub RequestsAreSaidOnce : Type 0
 RequestsAreSaidOnce = (listen own : Text)
     → (refusals (connector_words listen own ++ codes "--endless" ∷ []) ≡ ArgumentConflict ∷ [])
@@ -130,6 +132,25 @@ RequestsAreSaidOnce = (listen own : Text)
 abbrev pub BooksSayTheirFile : Type 0
 BooksSayTheirFile = (listen own totals ledger : Text)
     → SayConnector (connector_words listen own ++ (codes "--totals=" ++ totals) ∷ (codes "--ledger=" ++ ledger) ∷ []) listen own (Some totals) (Some ledger)
+
+-- the same if the books are to keep fulfillments; without books that is refused
+abbrev pub KeepingNeedsBooks : Type 0
+KeepingNeedsBooks = (listen own ledger : Text)
+    → (refusals (connector_words listen own ++ codes "--keep-fulfillments" ∷ []) ≡ MissingRequiredArgument ∷ [])
+    × (refusals (connector_words listen own ++ (codes "--ledger=" ++ ledger) ∷ codes "--keep-fulfillments" ∷ []) ≡ [])
+    × ((rows : List Row) × (command_of (connector_words listen own ++ (codes "--ledger=" ++ ledger) ∷ codes "--keep-fulfillments" ∷ []) ≡ Some (codes "connector", rows)) × (connector_texts rows ≡ record {
+      listen = listen;
+      own = own;
+      requests = Some (codes "1000");
+      workers = codes "4";
+      totals = None;
+      log = None;
+      ledger = Some ledger;
+      keep_fulfillments = true;
+      verbose = false;
+      control = None;
+      table = None;
+    }))
 
 -- an endless connector with a pipe for orders and a table in a file, which reports where it listens
 abbrev pub ControlSaysItsNames : Type 0
@@ -144,6 +165,7 @@ ControlSaysItsNames = (listen own control table : Text)
       totals = None;
       log = None;
       ledger = None;
+      keep_fulfillments = false;
       verbose = true;
       control = Some control;
       table = Some table;
@@ -163,7 +185,7 @@ abbrev pub PaymentSaysItsTexts : Type 0
 PaymentSaysItsTexts = (first : ℕ) (rest name amount : Text) → first ≢ 45
     → SayLedger (codes "ilpstream" ∷ codes "ledger" ∷ (first ∷ rest) ∷ codes "settle" ∷ name ∷ amount ∷ []) (first ∷ rest) (Some (codes "settle" ∷ name ∷ amount ∷ []))
 
--- and any reference behind them
+-- and any reference after them
 abbrev pub ReferenceSaysItsTexts : Type 0
 ReferenceSaysItsTexts = (first : ℕ) (rest name amount reference : Text) → first ≢ 45
     → SayLedger (codes "ilpstream" ∷ codes "ledger" ∷ (first ∷ rest) ∷ codes "settle" ∷ name ∷ amount ∷ codes "--reference" ∷ reference ∷ []) (first ∷ rest)

@@ -45,15 +45,15 @@ abbrev pub with_keys : Shape → Shape
 with_keys s = with_rule (with_rule (with_rule (with_rule s (option_rule (codes "token"))) (option_rule (codes "token-file")))
     (option_rule (codes "secret"))) (option_rule (codes "secret-file"))
 
--- what both ends of a transfer have to be told
+-- what both ends of a transfer need
 abbrev pub with_ends : Shape → Shape
 with_ends s = with_rule (with_rule (with_keys s) (required_rule (codes "address"))) (required_rule (codes "peer"))
 
--- where totals are told
+-- the file of the totals
 abbrev pub totals_rule : Rule
 totals_rule = option_rule (codes "totals")
 
--- where events are told
+-- the file of the events
 abbrev pub log_rule : Rule
 log_rule = option_rule (codes "log")
 
@@ -65,13 +65,17 @@ verbose_rule = flag_rule (codes "verbose")
 abbrev pub control_rule : Rule
 control_rule = option_rule (codes "control")
 
--- where the table of a connector is
+-- the file of a connector's table
 abbrev pub table_rule : Rule
 table_rule = option_rule (codes "table")
 
--- where books are kept
+-- the file of the books
 abbrev pub ledger_rule : Rule
 ledger_rule = option_rule (codes "ledger")
+
+-- whether they keep what proves claims: not without books (specs/Pairs.antt)
+abbrev pub keep_rule : Rule
+keep_rule = flag_rule (codes "keep-fulfillments")
 
 -- a value that is known by its place
 abbrev pub place_rule : Text → Rule
@@ -81,7 +85,7 @@ place_rule name = record (new_rule name) { value_names = 1; action = Some Set }
 abbrev pub number_place_rule : Text → ℕ → ℕ → Rule
 number_place_rule name least most = record (place_rule name) { parser = Some (Unsigned least most) }
 
--- three to six values at the end, which help shows as n: behind the first of them each word is one, also with a hyphen in front
+-- three to six values at the end, which help shows as n: after the first of them each word is one, also with a hyphen in front
 abbrev pub last_rule : Text → (n : ℕ) → Rule
 last_rule name n = record (new_rule name) {
   range = Some (record { start_inclusive = 3; end_inclusive = 6 });
@@ -90,11 +94,11 @@ last_rule name n = record (new_rule name) {
   action = Some Set;
 }
 
--- where requests are taken
+-- the address at which requests are accepted
 abbrev pub with_listen : Shape → Shape
 with_listen s = with_rule s (required_rule (codes "listen"))
 
--- how much money goes over it
+-- how much money is sent over it
 abbrev pub with_money : Text → Shape → Shape
 with_money name s = with_rule s (with_default (codes "0") (number_rule name 0 most_money))
 
@@ -117,15 +121,15 @@ with_tries s = with_spread (with_workers s)
 abbrev pub with_peers : Shape → Shape
 with_peers s = with_ends (with_rule s (required_rule (codes "to")))
 
--- where its random bytes come from, and what should arrive at least
+-- the source of its random bytes, and what should arrive at least
 abbrev pub with_sources : Shape → Shape
 with_sources s = with_rule (with_rule s (with_default (codes "/dev/urandom") (option_rule (codes "random")))) (with_default (codes "1:1") (option_rule (codes "least")))
 
--- how many a connector takes, or that it takes any number: exactly one of the two is to be given (specs/Pairs.antt)
+-- how many a connector accepts, or that it accepts any number: exactly one of the two is to be given (specs/Pairs.antt)
 abbrev pub with_requests : Shape → Shape
 with_requests s = with_rule (with_rule s (number_rule (codes "requests") 1 (2 ^ 31 - 1))) (flag_rule (codes "endless"))
 
--- where totals and events are told
+-- the files of the totals and of the events
 abbrev pub with_reports : Shape → Shape
 with_reports s = with_rule (with_rule s totals_rule) log_rule
 
@@ -133,13 +137,13 @@ with_reports s = with_rule (with_rule s totals_rule) log_rule
 abbrev pub with_running : Shape → Shape
 with_running s = with_rule (with_rule s verbose_rule) control_rule
 
--- where a connector is
+-- the two addresses of a connector: at which it listens, and its own
 abbrev pub with_place : Shape → Shape
 with_place s = with_rule (with_listen s) (required_rule (codes "own"))
 
 -- its books and its table, and what it has as any command that listens
 abbrev pub with_files : Shape → Shape
-with_files s = with_rule (with_running (with_rule s ledger_rule)) table_rule
+with_files s = with_rule (with_running (with_rule (with_rule s ledger_rule) keep_rule)) table_rule
 
 abbrev pub frames : Shape
 frames = new_shape (codes "frames")
@@ -197,6 +201,7 @@ connector = record (new_shape (codes "connector")) {
       ∷ totals_rule
       ∷ log_rule
       ∷ ledger_rule
+      ∷ keep_rule
       ∷ verbose_rule
       ∷ control_rule
       ∷ table_rule ∷ [];

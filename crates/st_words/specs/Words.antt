@@ -1,4 +1,4 @@
--- What the words of the command line ask for, by what clap makes of them.
+-- What the arguments of the command line ask for, by what clap makes of them.
 use Rattle.std.specs.Prelude.{◌≡◌, List, [], codes, Option, Some, None, Result, Ok, Err, unwrap_or}
 use Rattle.clap.specs.Kinds.{or_else}
 use Rattle.clap.specs.Words.{HasKind, Kinds, Row, Text, all_of, fault_of, first_of, subcommand_of}
@@ -12,7 +12,7 @@ use Rattle.st_words.specs.declared.request.Request.TheVariants as request
 use Rattle.st_words.specs.Pairs.{is_set, pairs_fault}
 use Rattle.st_words.specs.Program.{program}
 
--- the value that an option has by these words, or by its default; no text where it has none
+-- the value that an option has by these arguments, or by its default; no text if it has none
 abbrev pub value_of : Text → List Row → Text
 value_of name rows = unwrap_or (first_of name rows) []
 
@@ -68,6 +68,7 @@ connector_texts rows = record {
   totals = first_of (codes "totals") rows;
   log = first_of (codes "log") rows;
   ledger = first_of (codes "ledger") rows;
+  keep_fulfillments = is_set (codes "keep-fulfillments") rows;
   verbose = is_set (codes "verbose") rows;
   control = first_of (codes "control") rows;
   table = first_of (codes "table") rows;
@@ -97,17 +98,17 @@ IsBad name rows = (r : Request) → ¬ (Asks name rows r)
 abbrev pub command_of : List Text → Option (Text × List Row)
 command_of words = subcommand_of program words
 
--- what may be answered to the words in place of taking them: what clap answers, or else what is wrong with the pairs of options. They
--- are taken where this is empty
+-- why the arguments may be refused: what clap answers, or otherwise what is wrong with the pairs of options. They are accepted if
+-- this is empty
 abbrev pub refusals : List Text → Kinds
 refusals words = or_else (fault_of program words) (pairs_fault (command_of words))
 
--- words that are taken ask for this: without a command for `frames`
+-- arguments that are accepted ask for this: without a command for `frames`
 abbrev pub AsksBy : Option (Text × List Row) → Request → Type 0
 AsksBy None r = r ≡ request.Frames
 AsksBy (Some (name, rows)) r = Asks name rows r
 
--- what the words ask for, or why for nothing
+-- what the arguments ask for, or why they are refused
 abbrev pub Reads : List Text → Result Request WordsError → Type 0
 Reads words (Ok r) = (refusals words ≡ []) × AsksBy (command_of words) r
 Reads words (Err (Refused e)) = HasKind (refusals words) e

@@ -1,6 +1,6 @@
 //! The arguments of the command line, as clap reads them.
 //!
-//! `read_words` takes the arguments and returns the command with its settings, or clap's refusal, or that the text of
+//! `read_words` reads the arguments and returns the command with its settings, or clap's refusal, or that the text of
 //! an option is bad. The program and its commands, as clap reads arguments for them, are in specs/Program.antt. What
 //! the arguments ask for is in specs/Words.antt, over the values that clap gives the options and st_settings'
 //! definitions of what they mean.

@@ -40,7 +40,7 @@ pub(crate) fn placed_number<'a>(alloc: Global, name: &'a str, help: &'a str, mos
     placed(alloc, name, "N", help).value_parser(value_parser!(u64).range(0..=most as i64))
 }
 
-/// Three to six words at the end, which help shows as `values`; or none. Behind the first of them each word is one, also a
+/// Three to six words at the end, which help shows as `values`; or none. After the first of them each word is one, also a
 /// word that begins with a hyphen.
 pub(crate) fn last<'a>(
     alloc: Global,

@@ -1,9 +1,9 @@
-//! Pairs of options of which exactly one has to be given, and how many words `ledger` takes.
+//! Pairs of options of which exactly one has to be given, and how many words `ledger` accepts.
 
 ghost use Rattle.std.specs.Prelude.{◌≡◌, [], ◌∷◌, Some, map, option_map};
 ghost use Rattle.clap.specs.Words.{FailsBy, HasKind, found_of, rows_of, subcommand_rows_of};
 ghost use Rattle.st_words.specs.Pairs as spec;
-ghost use Rattle.st_words.specs.Pairs.{count_fault, keys_fault, pair_fault, pairs_fault, requests_fault};
+ghost use Rattle.st_words.specs.Pairs.{connector_fault, count_fault, keeping_fault, keys_fault, pair_fault, pairs_fault, requests_fault};
 
 use crate::request::{chosen, is_set, payment};
 use crate::texts::{CONNECTOR_USAGE, LEDGER_USAGE, RECEIVE_USAGE, SEND_USAGE};
@@ -13,9 +13,9 @@ use std::alloc::Global;
 
 /// What is said of a pair of options.
 struct Messages {
-    /// Where both are given.
+    /// If both are given.
     both: &'static str,
-    /// Where neither is.
+    /// If neither is.
     neither: &'static str,
 }
 
@@ -77,7 +77,7 @@ fn is_given(matches: &ArgMatches<'_>, name: &str) -> bool
     chosen(matches, name).is_some()
 }
 
-/// Looks at the number of requests of `connector`, or that there is none.
+/// Checks the number of requests of `connector`, or that there is none.
 fn look_at_requests(alloc: Global, matches: &ArgMatches<'_>) -> Result<(), Error>
     ensures { FailsBy (requests_fault (rows_of (found_of matches.now))) result }
 {
@@ -86,7 +86,34 @@ fn look_at_requests(alloc: Global, matches: &ArgMatches<'_>) -> Result<(), Error
     look(alloc, CONNECTOR_USAGE, &REQUESTS, requests, endless)
 }
 
-/// Looks at the token and the secret of a command, each of which is given or in a file.
+/// What is said if fulfillments are to be kept without books.
+const KEEPING: &str =
+    "the following required arguments were not provided:\n  --ledger <FILE>, which '--keep-fulfillments' needs";
+
+/// Checks that there are books, if fulfillments are to be kept.
+fn look_at_keeping(alloc: Global, matches: &ArgMatches<'_>) -> Result<(), Error>
+    ensures { FailsBy (keeping_fault (rows_of (found_of matches.now))) result }
+{
+    if is_set(matches, "keep-fulfillments") && !is_given(matches, "ledger") {
+        return Err(refusal(
+            alloc,
+            CONNECTOR_USAGE,
+            ErrorKind::MissingRequiredArgument,
+            KEEPING,
+        ));
+    }
+    Ok(())
+}
+
+/// Checks the options of `connector`.
+fn look_at_connector(alloc: Global, matches: &ArgMatches<'_>) -> Result<(), Error>
+    ensures { FailsBy (connector_fault (rows_of (found_of matches.now))) result }
+{
+    look_at_requests(alloc, matches)?;
+    look_at_keeping(alloc, matches)
+}
+
+/// Checks the token and the secret of a command, each of which is given or in a file.
 fn look_at_keys(alloc: Global, usage: &'static str, matches: &ArgMatches<'_>) -> Result<(), Error>
     ensures { FailsBy (keys_fault (rows_of (found_of matches.now))) result }
 {
@@ -100,7 +127,7 @@ fn look_at_keys(alloc: Global, usage: &'static str, matches: &ArgMatches<'_>) ->
 
 /// What is said of four words after the file of `ledger`.
 const COUNT: &str =
-    "unexpected argument found: after 'settle <NAME> <AMOUNT>' only '--reference <TEXT>' is taken";
+    "unexpected argument found: after 'settle <NAME> <AMOUNT>' only '--reference <TEXT>' is accepted";
 
 /// Looks how many words follow the file of `ledger`: four say nothing.
 #[tactic(auto, using(crate::proofs::Counted::four_refused, crate::proofs::Counted::others_taken))]
@@ -116,24 +143,24 @@ fn look_at_count(alloc: Global, words: Option<&[&str]>) -> Result<(), Error>
     Ok(())
 }
 
-/// Looks at the pairs of the command of this name.
+/// Checks the pairs of the command of this name.
 fn look_at(alloc: Global, name: &str, matches: &ArgMatches<'_>) -> Result<(), Error>
     ensures { FailsBy (pairs_fault (Some (name.now, rows_of (found_of matches.now)))) result }
 {
     match name {
         "send" => look_at_keys(alloc, SEND_USAGE, matches),
         "receive" => look_at_keys(alloc, RECEIVE_USAGE, matches),
-        "connector" => look_at_requests(alloc, matches),
+        "connector" => look_at_connector(alloc, matches),
         "ledger" => look_at_count(alloc, payment(matches)),
         _ => Ok(()),
     }
 }
 
-/// Looks whether exactly one of each pair of the command's options is given: `send` and `receive` need a token and a
-/// secret, each from an option or from a file, and `connector` a number of requests or that there is none. And looks that
-/// `ledger` has no four words after its file.
+/// Checks that exactly one of each pair of the command's options is given: `send` and `receive` need a token and a secret, each from an
+/// option or from a file, and `connector` a number of requests or that there is none. It also checks that `connector` has books if it is to
+/// keep fulfillments, and that `ledger` does not have four words after its file.
 ///
-/// Fails with `ArgumentConflict` where both of a pair are given, with `MissingRequiredArgument` where neither is, with
+/// Fails with `ArgumentConflict` if both of a pair are given, with `MissingRequiredArgument` if neither is or books are missing, with
 /// `WrongNumberOfValues` for the words of `ledger`, and with `OutOfMemory`.
 pub(crate) fn look_at_pairs(alloc: Global, matches: &ArgMatches<'_>) -> Result<(), Error>
     ensures { FailsBy (pairs_fault (subcommand_rows_of matches.now)) result }

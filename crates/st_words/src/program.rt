@@ -4,7 +4,7 @@ ghost use Rattle.std.specs.Prelude.{◌≡◌, false, IfOk};
 ghost use Rattle.clap.specs.Words.{app_of, shape_of};
 ghost use Rattle.clap.specs.Simple.{new_shape};
 ghost use Rattle.st_words.specs.Program as spec;
-ghost use Rattle.st_words.specs.Program.{HasShape, control_rule, has_globals, ledger_rule, log_rule, patience_rule, table_rule, totals_rule, verbose_rule, with_rule};
+ghost use Rattle.st_words.specs.Program.{HasShape, control_rule, has_globals, keep_rule, ledger_rule, log_rule, patience_rule, table_rule, totals_rule, verbose_rule, with_rule};
 
 use crate::options::{
     flag, last, number, option, placed, placed_number, ranged, required, with, with_command,
@@ -13,10 +13,10 @@ use crate::options::{
 use crate::texts::{
     ACCOUNTS_HELP, AFTER_CONNECTOR_HELP, AFTER_EXPLAIN_HELP, AFTER_FRAMES_HELP, AFTER_HELP,
     AFTER_LEDGER_HELP, AFTER_LOCAL_HELP, AFTER_RECEIVE_HELP, AFTER_SEND_HELP, BOOKS_HELP,
-    CONNECTOR_USAGE, CONTROL_HELP, ENDLESS_HELP, LEAST_HELP, LEDGER_HELP, LEDGER_USAGE, LOG_HELP,
-    NUMBER_HELP, PATIENCE_HELP, PAYMENT_HELP, RECEIVE_USAGE, SECRET_FILE_HELP, SECRET_HELP,
-    SEND_USAGE, SENDS_HELP, SPREAD_HELP, TABLE_HELP, TOKEN_FILE_HELP, TOKEN_HELP, TOTALS_HELP,
-    VERBOSE_HELP,
+    CONNECTOR_USAGE, CONTROL_HELP, ENDLESS_HELP, KEEP_HELP, LEAST_HELP, LEDGER_HELP, LEDGER_USAGE,
+    LOG_HELP, NUMBER_HELP, PATIENCE_HELP, PAYMENT_HELP, RECEIVE_USAGE, SECRET_FILE_HELP,
+    SECRET_HELP, SEND_USAGE, SENDS_HELP, SPREAD_HELP, TABLE_HELP, TOKEN_FILE_HELP, TOKEN_HELP,
+    TOTALS_HELP, VERBOSE_HELP,
 };
 use clap::Command;
 use st_settings::{
@@ -208,6 +208,14 @@ fn with_ledger<'a>(alloc: Global, command: Command<'a>) -> Result<Command<'a>, A
     with(command, option(alloc, "ledger", "FILE", LEDGER_HELP))
 }
 
+/// The command with the option that has its books keep fulfillments.
+fn with_keeping<'a>(alloc: Global, command: Command<'a>) -> Result<Command<'a>, AllocError>
+    requires { has_globals command ≡ false }
+    ensures { IfOk result (HasShape (with_rule (shape_of command.entry) keep_rule)) }
+{
+    with(command, flag(alloc, "keep-fulfillments", KEEP_HELP))
+}
+
 /// The command with the options for the files of totals and of events.
 fn with_reports<'a>(
     alloc: Global,
@@ -230,7 +238,7 @@ fn with_running<'a>(alloc: Global, command: Command<'a>) -> Result<Command<'a>, 
     with_control(alloc, command)
 }
 
-/// The command with the options for where a connector is.
+/// The command with the options for the two addresses of a connector.
 fn with_place<'a>(alloc: Global, command: Command<'a>) -> Result<Command<'a>, AllocError>
     requires { has_globals command ≡ false }
     ensures { IfOk result (HasShape (spec.with_place (shape_of command.entry))) }
@@ -246,11 +254,12 @@ fn with_files<'a>(alloc: Global, command: Command<'a>) -> Result<Command<'a>, Al
     ensures { IfOk result (HasShape (spec.with_files (shape_of command.entry))) }
 {
     let command = with_ledger(alloc, command)?;
+    let command = with_keeping(alloc, command)?;
     let command = with_running(alloc, command)?;
     with_table(alloc, command)
 }
 
-/// The command with the options that say where a sender sends to.
+/// The command with the options for the destination of a sender.
 fn with_peers<'a>(alloc: Global, command: Command<'a>) -> Result<Command<'a>, AllocError>
     requires { has_globals command ≡ false }
     ensures { IfOk result (HasShape (spec.with_peers (shape_of command.entry))) }

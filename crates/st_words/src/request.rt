@@ -27,7 +27,7 @@ use std::convert::AsStr;
 pub enum Request<'a> {
     /// `frames`, or no command.
     Frames,
-    /// `local`, with its settings and where its totals go.
+    /// `local`, with its settings and the file of its totals.
     Local(LocalRequest<'a>),
     /// `send`, with its settings.
     Send(SendSettings<'a>),
@@ -41,14 +41,14 @@ pub enum Request<'a> {
     Explain(u8),
 }
 
-/// The value of an option, where it has one.
+/// The value of an option, if it has one.
 pub(crate) fn chosen<'a>(matches: &ArgMatches<'a>, name: &str) -> Option<&'a str>
     ensures { settings.said result ≡ first_of name.now (rows_of (found_of matches.now)) }
 {
     matches.get_str(name)
 }
 
-/// The value of an option, and no text where it has none.
+/// The value of an option, or an empty text if it has none.
 fn value<'a>(matches: &ArgMatches<'a>, name: &str) -> &'a str
     ensures { result.now ≡ value_of name.now (rows_of (found_of matches.now)) }
 {
@@ -125,13 +125,14 @@ pub(crate) fn connector<'a>(matches: &ArgMatches<'a>) -> ConnectorOptions<'a>
         totals: chosen(matches, "totals"),
         log: chosen(matches, "log"),
         ledger: chosen(matches, "ledger"),
+        keep_fulfillments: is_set(matches, "keep-fulfillments"),
         verbose: is_set(matches, "verbose"),
         control: chosen(matches, "control"),
         table: chosen(matches, "table"),
     }
 }
 
-/// The words after the file of `ledger`, where there are any.
+/// The words after the file of `ledger`, if there are any.
 pub(crate) fn payment<'w, 'a>(matches: &'w ArgMatches<'a>) -> Option<&'w [&'a str]>
     ensures { option_map (λ words. map (λ word. word.now) words.now) result ≡ all_of (codes "payment") (rows_of (found_of matches.now)) }
 {
@@ -154,7 +155,7 @@ fn byte_of(text: &str) -> Option<u8>
     Some(read_number(text.as_bytes(), u64::from(u8::MAX))? as u8)
 }
 
-/// The command of this name with the settings that its options say. `None` where an option is bad, or there is no such
+/// The command of this name with the settings that its options say. `None` if an option is bad, or there is no such
 /// command.
 fn request_of<'a>(name: &str, matches: &ArgMatches<'a>) -> Option<Request<'a>>
     ensures { MatchOption result (IsBad name.now (rows_of (found_of matches.now))) (Asks name.now (rows_of (found_of matches.now))) }
@@ -184,7 +185,7 @@ pub(crate) fn parse<'a, S: AsStr>(alloc: Global, words: &'a [S]) -> Result<ArgMa
     program(alloc)?.try_get_matches_from(words)
 }
 
-/// What clap makes of the arguments, where exactly one of each pair of options is given.
+/// What clap makes of the arguments, if exactly one of each pair of options is given.
 fn taken<'a, S: AsStr>(alloc: Global, words: &'a [S]) -> Result<ArgMatches<'a>, Error>
     ensures kinds { FailsBy (refusals (map S.text words.now)) result }
     ensures command { IfOk result (λ m. subcommand_rows_of m ≡ command_of (map S.text words.now)) }
@@ -196,7 +197,7 @@ fn taken<'a, S: AsStr>(alloc: Global, words: &'a [S]) -> Result<ArgMatches<'a>, 
     }
 }
 
-/// The command and its settings. `None` where the text of an option is bad.
+/// The command and its settings. `None` if the text of an option is bad.
 fn asked<'a>(matches: &ArgMatches<'a>) -> Option<Request<'a>>
     ensures { MatchOption result ((r : Request) → ¬ (AsksBy (subcommand_rows_of matches.now) r)) (AsksBy (subcommand_rows_of matches.now)) }
 {
@@ -208,8 +209,8 @@ fn asked<'a>(matches: &ArgMatches<'a>) -> Option<Request<'a>>
 
 /// Reads the arguments of the command line; the first is the program's name. Without a command the request is `Frames`.
 ///
-/// Fails with `Refused` where clap refuses the arguments, where both or neither of a pair of options is given, where they ask
-/// for help or the version, and where memory is refused; with `BadOption` where the text of an option is bad.
+/// Fails with `Refused` if clap refuses the arguments, if both or neither of a pair of options is given, if they ask for help
+/// or the version, and if memory is refused; with `BadOption` if the text of an option is bad.
 pub fn read_words<'a, S: AsStr>(alloc: Global, words: &'a [S]) -> Result<Request<'a>, WordsError>
     ensures { Reads (map S.text words.now) result }
 {

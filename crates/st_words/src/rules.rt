@@ -82,7 +82,7 @@ fn connector_rule(it: &ConnectorOptions<'_>) -> &'static str {
 }
 
 /// The rule that the text of an option breaks, for arguments that `read_words` answers with `BadOption`. `None` for others
-/// that clap refuses, and where memory is refused.
+/// that clap refuses, and if memory is refused.
 pub fn broken_rule<S: AsStr>(alloc: Global, words: &[S]) -> Option<&'static str> {
     let Ok(matches) = parse(alloc, words) else {
         return None;

@@ -1,4 +1,4 @@
-//! The texts that help prints beside the options.
+//! The texts that help prints with the options.
 
 /// The end of the program's help.
 pub const AFTER_HELP: &str =
@@ -183,6 +183,10 @@ pub const ENDLESS_HELP: &str = "Accept any number of requests, in place of --req
 pub const LEDGER_HELP: &str =
     "File for the books, which a kill does not lose; without it they are in memory alone";
 
+/// The help of `--keep-fulfillments`.
+pub const KEEP_HELP: &str =
+    "Keep the fulfillment of each claim in the books, to prove it to the neighbour; with --ledger";
+
 /// The help of `--token`.
 pub const TOKEN_HELP: &str = "Bearer token of the requests, 1 to 255 visible characters";
 
@@ -211,14 +215,14 @@ pub const SPREAD_HELP: &str =
 pub const LEAST_HELP: &str =
     "Lowest rate: NUM units have to arrive for DEN sent, rounded down, each from 1 to 4294967295";
 
-/// The help of `--totals` where the totals are those of one end.
+/// The help of `--totals` for the totals of one end.
 pub const TOTALS_HELP: &str =
     "File for the totals of this end, in bytes and units; without it no totals are written";
 
-/// The help of `--totals` where the totals are the Prepares of a run in memory.
+/// The help of `--totals` for the Prepares of a run in memory.
 pub const SENDS_HELP: &str =
     "File for how many Prepares were sent and lost, and how many the law allows; by default none";
 
-/// The help of `--totals` where the totals are those of each account.
+/// The help of `--totals` for the totals of each account.
 pub const ACCOUNTS_HELP: &str =
     "File for each account's claims, dues and counts of answers, each minute and at the end";

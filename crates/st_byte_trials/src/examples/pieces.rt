@@ -1,9 +1,9 @@
-//! Pieces of a stream that come out of order.
+//! Chunks of a stream that arrive out of order.
 
 use st_reassembly::{Inbox, InboxError};
 use std::alloc::Allocator;
 
-/// The bytes of a stream whose pieces came out of order, and one of them twice.
+/// The bytes of a stream whose chunks arrived out of order, one of them twice.
 fn in_order<A: Allocator + Copy>(alloc: A) -> Result<Vec<u8, A>, InboxError> {
     let mut inbox = Inbox::new(alloc)?;
     inbox.insert(2, b"cd")?;

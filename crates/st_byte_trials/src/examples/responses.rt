@@ -1,9 +1,9 @@
-//! A response that comes in pieces.
+//! A response that arrives in chunks.
 
 use st_http::{HttpError, Reading};
 use std::alloc::Global;
 
-/// The body of a response 200 whose bytes come in pieces, if they are the whole of one.
+/// The body of a response 200 whose bytes arrive in chunks, if they are a whole one.
 fn body_of(global: Global, pieces: &[&[u8]]) -> Result<Option<Vec<u8>>, HttpError> {
     let mut reading = Reading::response(global, global);
     for piece in pieces {

@@ -5,7 +5,7 @@ use st_hop::{Account, HopError, HopState, Outcome, Route, Verdict};
 use st_ilp::Moment;
 use std::alloc::Global;
 
-/// A hop between account 0, behind `example.a`, and account 1, behind `example.b`: each may owe 100.
+/// A hop between account 0, for `example.a`, and account 1, for `example.b`: each may owe 100.
 fn hop_between(alloc: Global) -> Result<HopState<Global>, HopError> {
     let account = Account {
         limit: 100,
@@ -18,7 +18,7 @@ fn hop_between(alloc: Global) -> Result<HopState<Global>, HopError> {
     HopState::new(alloc, "example.c", &[account, account], &routes)
 }
 
-/// Sends a Prepare of account 0 on over a link, and settles the answer: the bytes that go back.
+/// Forwards a Prepare of account 0 over a link, and settles the answer: the bytes to return.
 fn pass_on<L: Link<Global>>(
     hop: &mut HopState<Global>,
     prepare: &[u8],

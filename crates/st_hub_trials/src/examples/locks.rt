@@ -17,7 +17,7 @@ fn write_last<N: HubName<Global>>(
     writer.try_end()
 }
 
-/// Under the lock: takes what stands in the rings, and gives the next Prepare, if there is one.
+/// Under the lock: moves what is in the rings, and returns the next Prepare, if there is one.
 fn next_turn<N: HubName<Global>>(
     rt: &impl Wait,
     hub: &Bench<N, Global>,
@@ -29,7 +29,8 @@ fn next_turn<N: HubName<Global>>(
     hub.take_turn(iv, now)
 }
 
-/// Sends one Prepare over a link with the lock open, and takes the answer: whether there was one.
+/// Sends one Prepare over a link with the lock open, and processes the answer. Returns whether a
+/// Prepare was sent.
 fn send_one<N: HubName<Global>, L: Link<Global>>(
     rt: &impl Wait,
     hub: &Bench<N, Global>,

@@ -1,4 +1,4 @@
-use Rattle.st_words.proofs.PlainWords.{adjustment_plain, books_plain, connector_plain, control_plain, endless_plain, files_plain, ledger_plain, payment_plain, receive_plain, reference_plain, requests_once, send_plain}
+use Rattle.st_words.proofs.PlainWords.{adjustment_plain, books_plain, connector_plain, control_plain, endless_plain, files_plain, keeping_plain, ledger_plain, payment_plain, receive_plain, reference_plain, requests_once, send_plain}
 use Rattle.st_words.proofs.laws.plain_words_say_their_texts.Goals as goal
 
 pub returns : goal.returns
@@ -11,6 +11,7 @@ returns c = record {
   requests = requests_once;
   control = control_plain;
   books = books_plain;
+  keeping = keeping_plain;
   ledger = ledger_plain;
   payment = payment_plain;
   reference = reference_plain;

@@ -4,7 +4,7 @@ use Rattle.clap.specs.Words.{Shape, Text}
 use Rattle.st_words.specs.Program.{option_rule, with_rule}
 use Rattle.st_words.proofs.program.with_keys.Goals as goal
 
--- the same option behind the same others
+-- the same option after the same others
 same : (name : Text) (s t : Shape) → s ≡ t → with_rule s (option_rule name) ≡ with_rule t (option_rule name)
 same name s t e = ap (λ (x : Shape). with_rule x (option_rule name)) e
 

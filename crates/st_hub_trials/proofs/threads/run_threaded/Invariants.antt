@@ -1,5 +1,5 @@
 use Rattle.st_queues.specs.Lanes.{ring_at}
-use Rattle.st_hub_trials.proofs.threads.run.Given as goal
+use Rattle.st_hub_trials.proofs.threads.run_threaded.Given as goal
 
 abbrev pub ghosts-run_named-N-HubName : goal.ghosts-run_named-N-HubName
 ghosts-run_named-N-HubName g a = record { gauge = a.near_rings.gauge; write_ring = ring_at a.near_rings.writes; read_ring = ring_at a.near_rings.reads }
