@@ -1,5 +1,5 @@
 /* The calls of ilpstream.h. Each tests its pointers and its handle, and then makes the proved call, which has the same name
- * behind `proved_`. Written by bind/calls from the header's declarations. */
+ * after `proved_`. Written by bind/calls from the header's declarations. */
 #include "handles.h"
 
 void proved_ilp_free(void **handle);
@@ -59,6 +59,16 @@ ilp_code ilp_end_write(ilp_end *end, uint32_t stream, const uint8_t *bytes, size
     return end_call(call, result);
 }
 
+ilp_code proved_ilp_end_room(void **handle, uint32_t stream, size_t *room);
+
+ilp_code ilp_end_room(const ilp_end *end, uint32_t stream, size_t *room) {
+    if (!room) return ILP_NULL;
+    struct call call = begin_call(end);
+    if (!call.slot) return call.code;
+    ilp_code result = proved_ilp_end_room(&call.slot->object, stream, room);
+    return end_call(call, result);
+}
+
 ilp_code proved_ilp_end_close(void **handle, uint32_t stream);
 
 ilp_code ilp_end_close(ilp_end *end, uint32_t stream) {
@@ -102,6 +112,26 @@ ilp_code ilp_end_read(ilp_end *end, uint32_t stream, size_t max, size_t *len, ui
     struct call call = begin_call(end);
     if (!call.slot) return call.code;
     ilp_code result = proved_ilp_end_read(&call.slot->object, stream, max, len, code);
+    return end_call(call, result);
+}
+
+ilp_code proved_ilp_end_ready(void **handle, uint8_t *streams, size_t room, size_t *len);
+
+ilp_code ilp_end_ready(const ilp_end *end, uint8_t *streams, size_t room, size_t *len) {
+    if (is_missing(streams, room, sizeof *streams) || !len) return ILP_NULL;
+    struct call call = begin_call(end);
+    if (!call.slot) return call.code;
+    ilp_code result = proved_ilp_end_ready(&call.slot->object, somewhere(streams), room, len);
+    return end_call(call, result);
+}
+
+ilp_code proved_ilp_end_streams(void **handle, uint8_t *streams, size_t room, size_t *len);
+
+ilp_code ilp_end_streams(const ilp_end *end, uint8_t *streams, size_t room, size_t *len) {
+    if (is_missing(streams, room, sizeof *streams) || !len) return ILP_NULL;
+    struct call call = begin_call(end);
+    if (!call.slot) return call.code;
+    ilp_code result = proved_ilp_end_streams(&call.slot->object, somewhere(streams), room, len);
     return end_call(call, result);
 }
 

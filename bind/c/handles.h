@@ -10,11 +10,11 @@
 #include <stdatomic.h>
 #include <stdlib.h>
 
-/* What a slot's state has beside its generation. */
+/* What a slot's state has in addition to its generation. */
 enum { LIVE = 1, BUSY = 2, GENERATION = 4 };
 
-/* Of a slot: its generation times GENERATION, LIVE where it has an object, BUSY where a call has it; the address of the object,
- * as the proved calls keep it; its own place; and the place of the next one that is free. A place is from 1, and 0 is none. */
+/* Of a slot: its generation times GENERATION, LIVE if it has an object, BUSY if a call has it; the address of the object, as the
+ * proved calls keep it; its own place; and the place of the next one that is free. A place is from 1 on, and 0 means no place. */
 struct slot {
     _Atomic uint64_t state;
     void *object;
@@ -32,7 +32,7 @@ static _Atomic(struct slot *) rows[ROWS] = {first_row};
 static _Atomic uint32_t used;
 static _Atomic uint64_t free_places;
 
-/* The row of a place, and where the place lies in it. */
+/* The row of a place, and its index there. */
 static unsigned row_of(uint32_t place, uint64_t *within) {
     uint64_t number = (uint64_t)place - 1 + (1u << FIRST_BITS);
     unsigned bits = 63 - (unsigned)__builtin_clzll(number);
@@ -63,7 +63,7 @@ static struct slot *new_slot_at(uint32_t place) {
     return slot_at(place);
 }
 
-/* A slot that is free, for one caller alone; NULL where memory is refused. */
+/* A slot that is free, for one caller alone; NULL if memory is refused. */
 static struct slot *free_slot(void) {
     uint64_t head = atomic_load(&free_places);
     while ((uint32_t)head) {
@@ -135,7 +135,7 @@ static struct call begin_making(const void *handle, ilp_code no_memory) {
     return (struct call){slot, ILP_DONE};
 }
 
-/* Ends it: where the object was made, the handle is that of its slot. */
+/* Ends it: if the object was made, the handle is that of its slot. */
 static ilp_code end_making(struct call call, void *handle, ilp_code code) {
     if (code != ILP_DONE) {
         give_back(call.slot);
@@ -157,7 +157,7 @@ static ilp_code end_freeing(struct call call, void *handle) {
     return ILP_DONE;
 }
 
-/* Whether so many elements of a size cannot be: they are some, and nowhere, or have more bytes than a memory. */
+/* Whether this number of elements of a size cannot be: they are some, and nowhere, or have more bytes than a memory. */
 static int is_missing(const void *at, size_t count, size_t size) { return at ? count > PTRDIFF_MAX / size : count != 0; }
 
 /* More than any struct of a later version has: a size above it was not set. */
@@ -177,11 +177,11 @@ static int is_filled(const void *at, size_t size, size_t known) {
     return known <= size && size <= MOST;
 }
 
-/* How deep the calls with a secret or keys go on the stack, in bytes: those that make an object, and all others. On 2026-11-28
- * wiped.c measured 152,472 and 12,904. It fails where a call goes deeper than this. */
+/* How much of the stack the calls with a secret or keys use, in bytes: those that make an object, and all others. On 2026-11-28
+ * wiped.c measured 152,472 and 12,904. It fails if a call goes deeper than this. */
 enum { DEEPEST_MAKING = 163840, DEEPEST = 16384 };
 
-/* Overwrites the stack below the caller, where the call that it made before was. */
+/* Overwrites the stack below the caller, if the call that it made before was. */
 __attribute__((noinline)) static void wipe_making(void) {
     uint8_t below[DEEPEST_MAKING];
     wipe(below, sizeof below);
@@ -192,7 +192,7 @@ __attribute__((noinline)) static void wipe_stack(void) {
     wipe(below, sizeof below);
 }
 
-/* Where no bytes are: the proved calls want a pointer that is not null. */
+/* If no bytes are: the proved calls want a pointer that is not null. */
 static _Alignas(16) uint8_t nowhere[16];
 
 static void *somewhere(const void *at) { return at ? (void *)at : nowhere; }

@@ -1,43 +1,43 @@
-/* Interledger STREAM (RFC 0029) and the connector between its ends (RFC 0027): ends of a connection and hops, proved in
- * Rattle, for hosts in C. There is no I/O here, no clock, no thread and no random number: bytes, times and IVs are arguments.
+/* Interledger STREAM (RFC 0029) and the connector between its ends (RFC 0027): ends of a connection and hops, proved in Rattle,
+ * for hosts in C. There is no I/O here, no clock, no thread and no random number: bytes, times and IVs are arguments.
  * docs/EMBEDDING.md says how to build it, and docs/COMPARED.md compares the calls with those of other libraries.
  *
  * Handles. A handle is a struct of one number. It begins as {0}, which is the handle of nothing, and *_new fills it. It may be
  * moved and copied: copies are handles of one object. ilp_free frees the object and makes its own copy {0}; for the others, and
- * for any number that no call gave, each call is ILP_MISUSE from then on, also when new objects were made since. So are a call
- * on {0}, on a handle of another kind, and on a null pointer. An object may be used by any thread, and has one call at a time: a
- * second one meanwhile is ILP_BUSY, and can be repeated. A call whose handle is `const` only asks: it leaves the object as it is,
- * but it is one call at a time as well.
+ * for any number that no call gave, each call is ILP_MISUSE from then on, also when new objects were made since. The same holds
+ * of a call on {0}, on a handle of another kind, and on a null pointer. An object may be used by any thread, and has one call at
+ * a time: a second one meanwhile is ILP_BUSY, and can be repeated. A call whose handle is `const` only asks: it leaves the object
+ * as it is, but it is one call at a time as well.
  *
  * Codes. Each call returns ILP_DONE or another number. ILP_IDLE, ILP_ENDED, ILP_ABORTED and ILP_ONWARD are answers. All others
- * are refusals: the handle's object is then as before the call. A number out of its range, as a stream above 255 or a
- * negative time, is ILP_ARGUMENT. If a call does not return the code for which a parameter is described, what that
- * parameter points to has no meaning. ilp_error_text has each code in words, and ilp_is_no_memory says of a refusal whether the
- * call can be repeated once there is memory.
+ * are refusals: the handle's object is then as before the call. A number out of its range, as a stream above 255 or a negative
+ * time, is ILP_ARGUMENT. If a call does not return the code for which a parameter is described, what that parameter points to has
+ * no meaning. ilp_error_text has each code in words, and ilp_is_no_memory says of a refusal whether the call can be repeated once
+ * there is memory.
  *
  * Structs that may grow, ilp_end_config and ilp_failure, begin with their size, which the caller sets: `sizeof` of the struct. A
- * size that is smaller than this header's is ILP_ARGUMENT. So is a config that is larger and has other bytes than 0 beyond what
- * the library knows. Of a larger failure the library fills what it knows, and sets `size` to how many bytes that are.
+ * size that is smaller than this header's is ILP_ARGUMENT. The same holds of a config that is larger and has other bytes than 0
+ * beyond what the library knows. Of a larger failure the library fills what it knows, and sets `size` to how many bytes that are.
  *
- * Output. Bytes that a call returns are its output: they stay in the object until the next call that outputs bytes, and ilp_output
- * copies them, as often as it is called. A call that outputs bytes also says how many.
+ * Output. Bytes that a call returns are its output: they stay in the object until the next call that outputs bytes, and
+ * ilp_output copies them, as often as it is called. A call that outputs bytes also says how many.
  *
- * Flights and tickets. ilp_end_send says a number of the flight, and ilp_hop_arrive a number of the ticket. Each is settled
- * once: by ilp_end_answer or ilp_end_fault, and by ilp_hop_settle, ilp_hop_fault or ilp_hop_abandon. Afterwards, and for any
- * other number, the answer is ILP_UNKNOWN.
+ * Flights and tickets. ilp_end_send says a number of the flight, and ilp_hop_arrive a number of the ticket. Each is settled once:
+ * by ilp_end_answer or ilp_end_fault, and by ilp_hop_settle, ilp_hop_fault or ilp_hop_abandon. Afterwards, and for any other
+ * number, the answer is ILP_UNKNOWN.
  *
- * Pointers. A null pointer is ILP_NULL where something has to lie; bytes of which there are none may be null.
+ * Pointers. A null pointer is ILP_NULL if an object is needed there; the pointer to zero bytes may be null.
  *
- * What no number refuses, and the caller has to take care of: a pointer that dangles, or where fewer bytes lie than is said;
- * parameters that overlap; memory that malloc and free do not give and take as the C standard says. Two packets of a
- * connection with the same IV give away their contents and the key of their authentication: see ilp_end_send.
+ * What no number refuses, and the caller has to take care of: a pointer that dangles, or to fewer bytes than is said; parameters
+ * that overlap; memory that malloc and free do not give and take as the C standard says. Two packets of a connection with the
+ * same IV give away their contents and the key of their authentication: see ilp_end_send.
  *
- * Memory. Each block that the library gives back was overwritten, and so was the part of the stack that a call with keys used.
- * A thread needs 160 KiB of stack for ilp_end_new and ilp_keys_new, and 20 KiB for the other calls, beside its own.
- * ilpstream_memory.h has the functions by which libilpstream.a takes memory, which a program may define itself.
+ * Memory. Each block that the library gives back was overwritten, and so was the part of the stack that a call with keys used. A
+ * thread needs 160 KiB of stack for ilp_end_new and ilp_keys_new, and 20 KiB for the other calls, in addition to its own.
+ * ilpstream_memory.h has the functions by which libilpstream.a allocates, which a program may define itself.
  *
- * Units. Amounts are in the smallest unit of the asset of their link. Times are milliseconds since 1970-01-01 00:00 UTC, from
- * 0 to 253,402,300,000,000. */
+ * Units. Amounts are in the smallest unit of the asset of their link. Times are milliseconds since 1970-01-01 00:00 UTC, from 0
+ * to 253,402,300,000,000. */
 #ifndef ILPSTREAM_H
 #define ILPSTREAM_H
 #include <stddef.h>
@@ -59,7 +59,7 @@ enum {
     /* refusals of reading and writing ILP packets */
     ILP_OER = 10,              /* a field, or the octets around the fields, are malformed (RFC 0030) */
     ILP_KIND = 11,             /* the packet is of another kind */
-    ILP_EXPIRY = 12,           /* an expiry is no date and time of the years 0000 to 9999 */
+    ILP_EXPIRY = 12,           /* an expiry is not a date and time of the years 0000 to 9999 */
     ILP_ADDRESS = 13,          /* an address is malformed */
     ILP_DATA_TOO_LONG = 14,    /* the data has more than 32,767 bytes, or a message to be written more than 8,191 */
     ILP_NOT_UTF8 = 15,         /* a message is not UTF-8 */
@@ -70,7 +70,7 @@ enum {
     ILP_STREAM_VERSION = 20,   /* the packet is of another version of STREAM than 1 */
     ILP_STREAM_KIND = 21,      /* the packet is of another kind than the ILP packet that carried it */
     ILP_STREAM_OER = 22,       /* a number, a frame's type or a frame's length is malformed (RFC 0030) */
-    ILP_FRAME = 23,            /* a frame's contents are malformed, or its address is none */
+    ILP_FRAME = 23,            /* a frame's contents are malformed, or its address is not an address */
     ILP_STREAM_TOO_LONG = 24,  /* the packet has more than 32,739 bytes */
     ILP_STREAM_NO_MEMORY = 25, /* out of memory */
     /* refusals of keys */
@@ -78,7 +78,7 @@ enum {
     ILP_TAG = 31,              /* the tag of the payload is wrong */
     ILP_KEYS_NO_MEMORY = 33,   /* out of memory */
     /* refusals of a hop */
-    ILP_BAD_TABLE = 34,      /* a prefix stands twice, a route names no account, or a limit is above 2^63 - 1 */
+    ILP_BAD_TABLE = 34,      /* a prefix is there twice, a route names no account, or a limit is above 2^63 - 1 */
     ILP_HOP_NO_MEMORY = 35,  /* out of memory */
     ILP_NO_ACCOUNT = 36,     /* there is no account of this number */
     ILP_BAD_BOOKS = 37,      /* an account lacks its claim or due or is past its limit, or a sum is above 2^63 - 1 */
@@ -114,11 +114,11 @@ enum {
 /* The version of the library, which is ILP_VERSION of the header that it was built with. */
 const char *ilp_version(void);
 
-/* A code in English, in one sentence or two. Never null: there is a text for numbers that are no code too. */
+/* A code in English, in one sentence or two. Never null: there is a text for any other number too. */
 const char *ilp_error_text(ilp_code code);
 
 /* 1 if the code says that memory was refused, whichever part of the library was refused it: ILP_NO_MEMORY, ILP_HOP_NO_MEMORY,
- * ILP_KEYS_NO_MEMORY, ILP_STREAM_NO_MEMORY, ILP_PACKET_NO_MEMORY, ILP_HTTP_NO_MEMORY. Else 0. */
+ * ILP_KEYS_NO_MEMORY, ILP_STREAM_NO_MEMORY, ILP_PACKET_NO_MEMORY, ILP_HTTP_NO_MEMORY. Otherwise 0. */
 int ilp_is_no_memory(ilp_code code);
 
 /* ---- handles of any kind */
@@ -129,7 +129,7 @@ int ilp_is_no_memory(ilp_code code);
 ilp_code ilp_free(void *handle);
 
 /* Copies the bytes that the last call output to the front of a buffer of `room` bytes; `len` is how many they are. ILP_ROOM
- * where the buffer has fewer: then nothing is copied, and `len` is how many are needed. Before the first call that outputs
+ * if the buffer has fewer: then nothing is copied, and `len` is how many are needed. Before the first call that outputs
  * bytes there are none. The bytes stay output. */
 ilp_code ilp_output(const void *handle, uint8_t *out, size_t room, size_t *len);
 
@@ -154,18 +154,23 @@ typedef struct ilp_end_config {
 
 /* Makes an end in an empty handle. `role` is ILP_CLIENT, whose streams are odd, or ILP_SERVER, whose streams are even.
  * `secret` has 32 bytes, which both ends share. `own` and `peer` are the ILP addresses (RFC 0015) of this end and of the
- * other, of `own_len` and `peer_len` bytes. ILP_ARGUMENT where one of them is none, or a number is out of its range;
- * ILP_MISUSE where the handle is not empty; ILP_NO_MEMORY. */
+ * other, of `own_len` and `peer_len` bytes. ILP_ARGUMENT if one of them is not an address, or a number is out of its range;
+ * ILP_MISUSE if the handle is not empty; ILP_NO_MEMORY. */
 ilp_code ilp_end_new(ilp_end *end, uint32_t role, const uint8_t secret[32], const uint8_t *own, size_t own_len,
                      const uint8_t *peer, size_t peer_len, const ilp_end_config *config);
 
 /* Opens the next of this end's own streams, of which `stream` is the number: 1, 3, .. of a client and 2, 4, .. of a server,
- * at most 64. ILP_NO_STREAM where all are used; ILP_CLOSED, ILP_FAILED, ILP_NO_MEMORY. */
+ * at most 64. ILP_NO_STREAM if all are used; ILP_CLOSED, ILP_FAILED, ILP_NO_MEMORY. */
 ilp_code ilp_end_open_stream(ilp_end *end, uint32_t *stream);
 
-/* Takes `len` bytes that are to be sent on a stream: all of them, or none where it is refused. ILP_NO_STREAM, ILP_CLOSED,
+/* Accepts `len` bytes that are to be sent on a stream: all of them, or none if it is refused. ILP_NO_STREAM, ILP_CLOSED,
  * ILP_FULL, ILP_FAILED, ILP_NO_MEMORY. */
 ilp_code ilp_end_write(ilp_end *end, uint32_t stream, const uint8_t *bytes, size_t len);
+
+/* How many bytes ilp_end_write accepts on a stream at most: `room`, 0 to 262,144. A longer write is ILP_FULL; one of `room` bytes
+ * or fewer is not, until the end sends or writes again. To write a part of what there is, ask for the room first. ILP_NO_STREAM,
+ * ILP_CLOSED, ILP_FAILED. */
+ilp_code ilp_end_room(const ilp_end *end, uint32_t stream, size_t *room);
 
 /* Closes a stream once all that was written and offered is delivered. ILP_NO_STREAM, ILP_CLOSED, ILP_FAILED. */
 ilp_code ilp_end_close(ilp_end *end, uint32_t stream);
@@ -173,7 +178,8 @@ ilp_code ilp_end_close(ilp_end *end, uint32_t stream);
 /* Aborts a stream with a code of RFC 0029, section 5.4, other than 1: 0 to 255. ILP_NO_STREAM, ILP_CLOSED, ILP_FAILED. */
 ilp_code ilp_end_abort(ilp_end *end, uint32_t stream, uint32_t code);
 
-/* Offers `amount` units on a stream, beside what was offered before. ILP_NO_STREAM, ILP_CLOSED, ILP_AMOUNT, ILP_FAILED. */
+/* Offers `amount` units on a stream, in addition to what was offered before. ILP_NO_STREAM, ILP_CLOSED, ILP_AMOUNT,
+ * ILP_FAILED. */
 ilp_code ilp_end_offer(ilp_end *end, uint32_t stream, uint64_t amount);
 
 /* Lets a stream receive up to `amount` units in all; before the first such call it receives none. The stream is open, or one
@@ -185,21 +191,31 @@ ilp_code ilp_end_set_receive_max(ilp_end *end, uint32_t stream, uint64_t amount)
  * and `code` is its code. ILP_NO_STREAM, ILP_NO_MEMORY. */
 ilp_code ilp_end_read(ilp_end *end, uint32_t stream, size_t max, size_t *len, uint64_t *code);
 
+/* Which streams can be read: copies their numbers to the front of a buffer of `room` bytes, a byte each, rising; `len` is how
+ * many they are, and 64 bytes always suffice. On each of them ilp_end_read would be ILP_DONE, ILP_ENDED or ILP_ABORTED, and on
+ * all others ILP_IDLE or ILP_NO_STREAM. A stream whose end was read stays in the list. ILP_ROOM if the buffer has fewer bytes:
+ * then nothing is copied, and `len` is how many are needed. ILP_NO_MEMORY. */
+ilp_code ilp_end_ready(const ilp_end *end, uint8_t *streams, size_t room, size_t *len);
+
+/* Which streams are open, those of both ends, in the same way. A stream that a caller does not know yet was opened by the peer
+ * meanwhile. */
+ilp_code ilp_end_streams(const ilp_end *end, uint8_t *streams, size_t room, size_t *len);
+
 /* Outputs the bytes of the next ILP Prepare, which is to be sent to the peer: `len` is how many, and `flight` the number by
  * which the answer is reported. `iv` has 12 bytes: no two packets of a connection, of either end, may have the same, so take
  * them from the system's random bytes. `now` is the time; the Prepare expires 30 seconds later. ILP_IDLE: nothing is to
  * be sent now. ILP_NO_MEMORY. */
 ilp_code ilp_end_send(ilp_end *end, const uint8_t iv[12], int64_t now, uint64_t *flight, size_t *len);
 
-/* Takes the `len` bytes of the answer to a flight: `fulfilled` is 1 where they are a Fulfill whose fulfillment fits, else 0.
+/* Takes the `len` bytes of the answer to a flight: `fulfilled` is 1 if they are a Fulfill whose fulfillment fits, else 0.
  * The bytes are decrypted where they lie. ILP_UNKNOWN. */
 ilp_code ilp_end_answer(ilp_end *end, uint64_t flight, uint8_t *bytes, size_t len, uint32_t *fulfilled);
 
-/* No answer came to a flight, and none is waited for: what it carries is sent again. ILP_UNKNOWN. */
+/* No answer arrived to a flight, and none is waited for: what it carries is sent again. ILP_UNKNOWN. */
 ilp_code ilp_end_fault(ilp_end *end, uint64_t flight);
 
 /* What an end did with a Prepare. `len` is how many bytes its answer has. `reason` is 0 for a Fulfill, and else why it is a
- * Reject (docs/ERRORS.md, "Of an end"). `amount` is the amount of the Prepare, 0 where it cannot be read. `opened` is 1 where
+ * Reject (docs/ERRORS.md, "Of an end"). `amount` is the amount of the Prepare, 0 if it cannot be read. `opened` is 1 if
  * its STREAM packet was decrypted and read, else 0; `sequence` is then the number of that packet. */
 typedef struct ilp_received {
     size_t len;
@@ -213,7 +229,7 @@ typedef struct ilp_received {
  * back. ILP_NO_MEMORY: answer it with the bytes of ilp_end_t00, and the peer sends again. */
 ilp_code ilp_end_receive(ilp_end *end, const uint8_t *bytes, size_t len, int64_t now, ilp_received *received);
 
-/* Copies a Reject T00 that is kept ready, for use where memory is refused, as ilp_output does. */
+/* Copies a Reject T00 that is kept ready, for use if memory is refused, as ilp_output does. */
 ilp_code ilp_end_t00(const ilp_end *end, uint8_t *out, size_t room, size_t *len);
 
 /* What an end did so far. `accepted` is how many bytes were written at this end, and `delivered` how many it gave to its
@@ -227,21 +243,21 @@ typedef struct ilp_totals {
 
 ilp_code ilp_end_totals(const ilp_end *end, ilp_totals *totals);
 
-/* `answer` is 1 where a stream is open at this end, else 0. */
+/* `answer` is 1 if a stream is open at this end, else 0. */
 ilp_code ilp_end_has_stream(const ilp_end *end, uint32_t stream, uint32_t *answer);
 
-/* `answer` is 1 where this end's own close of a stream was fulfilled, else 0. */
+/* `answer` is 1 if this end's own close of a stream was fulfilled, else 0. */
 ilp_code ilp_end_settled(const ilp_end *end, uint32_t stream, uint32_t *answer);
 
-/* `answer` is 1 where the connection failed, else 0: 200 Prepares in a row without a Fulfill, or a final Reject code. */
+/* `answer` is 1 if the connection failed, else 0: 200 Prepares in a row without a Fulfill, or a final Reject code. */
 ilp_code ilp_end_is_failed(const ilp_end *end, uint32_t *answer);
 
 /* What `kind` is of an ilp_failure. */
 enum {
-    ILP_LOST = 1,       /* no answer came */
-    ILP_UNREADABLE = 2, /* what came is neither a Fulfill nor a Reject */
-    ILP_UNFIT = 3,      /* a Fulfill came whose fulfillment does not fit the condition */
-    ILP_REJECTED = 4    /* a Reject came */
+    ILP_LOST = 1,       /* no answer arrived */
+    ILP_UNREADABLE = 2, /* what arrived is neither a Fulfill nor a Reject */
+    ILP_UNFIT = 3,      /* a Fulfill arrived whose fulfillment does not fit the condition */
+    ILP_REJECTED = 4    /* a Reject arrived */
 };
 
 /* Why a Prepare failed. `size` is sizeof(ilp_failure), set before the call. Of a Reject it has the code, such as T04;
@@ -273,9 +289,9 @@ typedef struct ilp_account {
     uint64_t max_packet;
 } ilp_account;
 
-/* A route. Its prefix, an ILP address, is the next `prefix_len` bytes of a text that all routes share. `account` is where a
- * Prepare is forwarded to whose destination has the prefix; where several do, the longest one counts. The amount that is
- * forwarded is that which arrived times `num` / `den`, rounded down; neither of the two is 0. */
+/* A route. Its prefix, an ILP address, is the next `prefix_len` bytes of a text that all routes share. `account` is the one that
+ * a Prepare is forwarded to whose destination has the prefix; if several do, the longest one counts. The amount that is forwarded
+ * is that which arrived times `num` / `den`, rounded down; neither of the two is 0. */
 typedef struct ilp_route {
     size_t prefix_len;
     size_t account;
@@ -283,23 +299,23 @@ typedef struct ilp_route {
     uint32_t den;
 } ilp_route;
 
-/* Makes a hop in an empty handle: its own ILP address, its accounts, numbered from 0, and its routes, whose prefixes stand one
- * after another in `prefixes`. Nothing is owed yet. ILP_ARGUMENT where `own` or a prefix is no ILP address, a `num` or `den` is
- * 0, or the lengths of the prefixes are not together `prefixes_len`; ILP_BAD_TABLE; ILP_MISUSE where the handle is not empty;
+/* Makes a hop in an empty handle: its own ILP address, its accounts, numbered from 0, and its routes, whose prefixes are one
+ * after another in `prefixes`. Nothing is owed yet. ILP_ARGUMENT if `own` or a prefix is not an ILP address, a `num` or `den` is
+ * 0, or the lengths of the prefixes are not together `prefixes_len`; ILP_BAD_TABLE; ILP_MISUSE if the handle is not empty;
  * ILP_HOP_NO_MEMORY. */
 ilp_code ilp_hop_new(ilp_hop *hop, const uint8_t *own, size_t own_len, const ilp_account *accounts, size_t accounts_len,
                      const uint8_t *prefixes, size_t prefixes_len, const ilp_route *routes, size_t routes_len);
 
 /* The same with the books of an earlier hop: `claims` is what each account owes the hop, by its number, and `dues` what the hop
  * owes it. No ticket is open. Tickets are numbered from `next` on, which has to be above each number that an earlier hop with
- * these books gave out, so that no late answer settles another ticket. Refused as ilp_hop_new is, and ILP_BAD_BOOKS where not
+ * these books gave out, so that no late answer settles another ticket. Refused as ilp_hop_new is, and ILP_BAD_BOOKS if not
  * each account has a claim and a due, one owes more than its limit beyond its due, or a sum is above 2^63 - 1. */
 ilp_code ilp_hop_restored(ilp_hop *hop, const uint8_t *own, size_t own_len, const ilp_account *accounts, size_t accounts_len,
                           const uint8_t *prefixes, size_t prefixes_len, const ilp_route *routes, size_t routes_len,
                           const uint64_t *claims, size_t claims_len, const uint64_t *dues, size_t dues_len, uint64_t next);
 
-/* Forgets every open ticket, as a crash and a start with the same books do. Claims and dues stay, nothing is held any more, and
- * the numbers of tickets go on: the answer to an earlier Prepare is ILP_UNKNOWN. */
+/* Forgets every open ticket, as a crash and a start with the same books do. Claims and dues stay, nothing is reserved any more,
+ * and the numbers of tickets continue: the answer to an earlier Prepare is ILP_UNKNOWN. */
 ilp_code ilp_hop_restart(ilp_hop *hop);
 
 /* What a hop did with a Prepare. `len` is how many bytes were output. If they are to be forwarded, `ticket` is the number by
@@ -311,13 +327,13 @@ typedef struct ilp_arrived {
 } ilp_arrived;
 
 /* Takes the `len` bytes of an ILP Prepare that came from an account at the time `now`. ILP_DONE: what was output is a Reject,
- * which is to be sent back. ILP_ONWARD: it is a Prepare, which is to be sent on to another account; the amount is held
+ * which is to be sent back. ILP_ONWARD: it is a Prepare, which is to be sent on to another account; the amount is reserved
  * against the first one until the ticket is settled. ILP_NO_ACCOUNT. ILP_HOP_NO_MEMORY: answer it with the bytes of
  * ilp_hop_t00, and the sender sends again. */
 ilp_code ilp_hop_arrive(ilp_hop *hop, size_t account, const uint8_t *bytes, size_t len, int64_t now, ilp_arrived *arrived);
 
-/* What a ticket books: the account `payer`, from which the Prepare came, owes `claim` more, and `payee`, to which it was
- * forwarded, is owed `due` more, each in units of its link. `books` is 1; where nothing is booked, all are 0. */
+/* What a ticket books: the account `payer`, from which the Prepare arrived, owes `claim` more, and `payee`, to which it was
+ * forwarded, is owed `due` more, each in units of its link. `books` is 1; if nothing is booked, all are 0. */
 typedef struct ilp_booking {
     size_t payer;
     uint64_t claim;
@@ -333,19 +349,19 @@ ilp_code ilp_hop_books(const ilp_hop *hop, uint64_t ticket, const uint8_t *bytes
 
 /* Takes the `len` bytes of the answer to a Prepare that was forwarded under a ticket, and outputs the answer to the Prepare
  * that had come: `answer_len` is how many bytes it has. A Fulfill that fits and came in time is booked; all else is a Reject.
- * What was held is released. ILP_UNKNOWN, ILP_HOP_NO_MEMORY. */
+ * What was reserved is released. ILP_UNKNOWN, ILP_HOP_NO_MEMORY. */
 ilp_code ilp_hop_settle(ilp_hop *hop, uint64_t ticket, const uint8_t *bytes, size_t len, int64_t now, size_t *answer_len);
 
-/* The same where no answer came, and none is waited for: what is output is a Reject T01. ILP_UNKNOWN. */
+/* The same if no answer arrived, and none is waited for: what is output is a Reject T01. ILP_UNKNOWN. */
 ilp_code ilp_hop_fault(ilp_hop *hop, uint64_t ticket, size_t *answer_len);
 
-/* Gives up a ticket without an answer. The amount stays held. ILP_UNKNOWN. */
+/* Gives up a ticket without an answer. The amount stays reserved. ILP_UNKNOWN. */
 ilp_code ilp_hop_abandon(ilp_hop *hop, uint64_t ticket);
 
-/* Copies a Reject T00 that is kept ready, for use where memory is refused, as ilp_output does. */
+/* Copies a Reject T00 that is kept ready, for use if memory is refused, as ilp_output does. */
 ilp_code ilp_hop_t00(const ilp_hop *hop, uint8_t *out, size_t room, size_t *len);
 
-/* What an account owes the hop, what the hop owes it, and what is held against it, in units of its link. */
+/* What an account owes the hop, what the hop owes it, and what is reserved of it, in units of its link. */
 typedef struct ilp_balances {
     uint64_t claims;
     uint64_t dues;
@@ -359,12 +375,12 @@ ilp_code ilp_hop_balances(const ilp_hop *hop, size_t account, ilp_balances *bala
 
 typedef struct ilp_keys { uint64_t inner; } ilp_keys;
 
-/* Makes the keys of a connection in an empty handle, from the shared secret. The secret is not stored. ILP_MISUSE where the
+/* Makes the keys of a connection in an empty handle, from the shared secret. The secret is not stored. ILP_MISUSE if the
  * handle is not empty; ILP_KEYS_NO_MEMORY. */
 ilp_code ilp_keys_new(ilp_keys *keys, const uint8_t secret[32]);
 
 /* Outputs the payload of a plain text of `len` bytes: the IV, the tag of 16 bytes, and the ciphertext. `payload_len` is how
- * many bytes it has: 28 more than the text. The text is not looked at: mostly it is what ilp_packet_write outputs.
+ * many bytes it has: 28 more than the text. The text is not inspected: mostly it is what ilp_packet_write outputs.
  * No two payloads of a connection may have the same IV. ILP_KEYS_NO_MEMORY. */
 ilp_code ilp_keys_seal(ilp_keys *keys, const uint8_t iv[12], const uint8_t *text, size_t len, size_t *payload_len);
 
@@ -400,7 +416,7 @@ enum {
 };
 
 /* A frame: its type `kind`, and what that has of a stream number, of two numbers and of a code of 0 to 255. What it does not
- * have is 0. A max offset, receive max, total received, send max or total sent is 2^64 - 1 where the packet that was read has
+ * have is 0. A max offset, receive max, total received, send max or total sent is 2^64 - 1 if the packet that was read has
  * a greater number. The frame's text, address or data lies outside. */
 typedef struct ilp_frame {
     uint64_t stream;
@@ -420,38 +436,38 @@ typedef struct ilp_header {
     uint32_t kind;
 } ilp_header;
 
-/* Makes a packet without frames in an empty handle. ILP_ARGUMENT where the kind is not 12, 13 or 14; ILP_MISUSE where the handle
+/* Makes a packet without frames in an empty handle. ILP_ARGUMENT if the kind is not 12, 13 or 14; ILP_MISUSE if the handle
  * is not empty; ILP_STREAM_NO_MEMORY. */
 ilp_code ilp_packet_new(ilp_packet *packet, uint32_t kind, uint64_t sequence, uint64_t amount);
 
 /* Reads all of the `len` bytes as a plain packet that an ILP packet of this kind carried, and makes it in an empty handle. Bytes
- * behind the last frame are ignored. ILP_STREAM_TOO_LONG, ILP_STREAM_VERSION, ILP_STREAM_KIND, ILP_STREAM_OER, ILP_FRAME: the
- * first fault, in this order. ILP_ARGUMENT where the kind is not 12, 13 or 14; ILP_MISUSE where the handle is not empty;
+ * after the last frame are ignored. ILP_STREAM_TOO_LONG, ILP_STREAM_VERSION, ILP_STREAM_KIND, ILP_STREAM_OER, ILP_FRAME: the
+ * first fault, in this order. ILP_ARGUMENT if the kind is not 12, 13 or 14; ILP_MISUSE if the handle is not empty;
  * ILP_STREAM_NO_MEMORY. */
 ilp_code ilp_packet_read(ilp_packet *packet, uint32_t kind, const uint8_t *bytes, size_t len);
 
 ilp_code ilp_packet_header(const ilp_packet *packet, ilp_header *header);
 
-/* Adds a frame, whose text, address or data has `len` bytes, behind the others. ILP_ARGUMENT where the type is not known, a value
- * is given that the type does not have, the code is above 255, or a message or an address is not UTF-8. ILP_FRAME where an
+/* Adds a frame, whose text, address or data has `len` bytes, after the others. ILP_ARGUMENT if the type is not known, a value
+ * is given that the type does not have, the code is above 255, or a message or an address is not UTF-8. ILP_FRAME if an
  * address is neither empty nor an ILP address. ILP_STREAM_NO_MEMORY. */
 ilp_code ilp_packet_push(ilp_packet *packet, const ilp_frame *frame, const uint8_t *data, size_t len);
 
 /* Reports the known frame at a place, counted from 0, and outputs its text, address or data: `len` is how many bytes that are.
  * `index` is counted over all frames, also those that were skipped, of the packet that was read; that of a frame that was added
- * is how many known frames there were. ILP_ARGUMENT where there are not so many known frames; ILP_STREAM_NO_MEMORY. */
+ * is how many known frames there were. ILP_ARGUMENT if there are fewer known frames; ILP_STREAM_NO_MEMORY. */
 ilp_code ilp_packet_frame(ilp_packet *packet, size_t place, ilp_frame *frame, uint64_t *index, size_t *len);
 
-/* Outputs the bytes of the packet, in the shortest encoding: `len` is how many they are. ILP_STREAM_TOO_LONG where they would
+/* Outputs the bytes of the packet, in the shortest encoding: `len` is how many they are. ILP_STREAM_TOO_LONG if they would
  * be more than 32,739; ILP_STREAM_NO_MEMORY. */
 ilp_code ilp_packet_write(ilp_packet *packet, size_t *len);
 
 /* ---- ILP packets (RFC 0027, RFC 0030)
  *
- * These calls need no handle and keep nothing. In a struct, a part of a packet is `.._at`, where it begins in the bytes that
- * were read, and `.._len`, how many bytes it has. What is written goes to the front of the caller's buffer of `room` bytes,
- * and `len` is how many bytes that are. ILP_ROOM where the buffer has fewer: then nothing is written, and `len` is how many
- * are needed. */
+ * These calls need no handle and keep nothing. In a struct, a part of a packet is `.._at`, at which offset it begins in the bytes
+ * that were read, and `.._len`, how many bytes it has. What is written goes to the front of the caller's buffer of `room` bytes,
+ * and `len` is how many bytes that are. ILP_ROOM if the buffer has fewer: then nothing is written, and `len` is how many are
+ * needed. */
 
 /* An ILP Prepare. `amount` is in units of the asset that the two neighbours share, `expiry` a time. `condition` is the SHA-256
  * digest of the fulfillment. The destination is the ILP address of the receiver (RFC 0015), and the payload is data for it:
@@ -490,8 +506,8 @@ ilp_code ilp_prepare_read(const uint8_t *bytes, size_t len, ilp_prepare *prepare
  * ILP_DATA_TOO_LONG, ILP_TRAILING: the first fault. */
 ilp_code ilp_answer_read(const uint8_t *bytes, size_t len, ilp_answer *answer);
 
-/* Writes a Prepare. ILP_ARGUMENT where the destination is not UTF-8; ILP_EXPIRY where the year is outside 0000 to 9999;
- * ILP_ADDRESS where the destination is no ILP address; ILP_DATA_TOO_LONG; ILP_PACKET_NO_MEMORY. */
+/* Writes a Prepare. ILP_ARGUMENT if the destination is not UTF-8; ILP_EXPIRY if the year is outside 0000 to 9999;
+ * ILP_ADDRESS if the destination is not an ILP address; ILP_DATA_TOO_LONG; ILP_PACKET_NO_MEMORY. */
 ilp_code ilp_prepare_write(uint64_t amount, int64_t expiry, const uint8_t condition[32], const uint8_t *destination,
                            size_t destination_len, const uint8_t *payload, size_t payload_len, uint8_t *out, size_t room,
                            size_t *len);
@@ -500,25 +516,25 @@ ilp_code ilp_prepare_write(uint64_t amount, int64_t expiry, const uint8_t condit
 ilp_code ilp_fulfill_write(const uint8_t fulfillment[32], const uint8_t *payload, size_t payload_len, uint8_t *out,
                            size_t room, size_t *len);
 
-/* Writes a Reject. ILP_ARGUMENT where `by` or the message is not UTF-8; ILP_CODE where the code has a character outside ! to ~;
- * ILP_ADDRESS where `by` is neither empty nor an ILP address; ILP_DATA_TOO_LONG where the message has more than 8,191 bytes or
+/* Writes a Reject. ILP_ARGUMENT if `by` or the message is not UTF-8; ILP_CODE if the code has a character outside ! to ~;
+ * ILP_ADDRESS if `by` is neither empty nor an ILP address; ILP_DATA_TOO_LONG if the message has more than 8,191 bytes or
  * the payload more than 32,767; ILP_PACKET_NO_MEMORY. */
 ilp_code ilp_reject_write(const uint8_t code[3], const uint8_t *by, size_t by_len, const uint8_t *message, size_t message_len,
                           const uint8_t *payload, size_t payload_len, uint8_t *out, size_t room, size_t *len);
 
-/* ---- ILP over HTTP (RFC 0035): messages that come in pieces, and the texts that are sent
+/* ---- ILP over HTTP (RFC 0035): messages that come in chunks, and the texts that are sent
  *
  * A head has at most 8,192 bytes and 64 fields, a body at most 65,535 bytes. A stream carries one exchange. */
 
 typedef struct ilp_message { uint64_t inner; } ilp_message;
 
 /* Begins to read a request in an empty handle. `lengths[i]` is how many bytes the bearer token of account i has; the tokens
- * stand one after another in `tokens`, and are copied. ILP_ARGUMENT where the lengths are not together `tokens_len`, or a
- * token is not UTF-8; ILP_MISUSE where the handle is not empty; ILP_HTTP_NO_MEMORY. */
+ * are one after another in `tokens`, and are copied. ILP_ARGUMENT if the lengths are not together `tokens_len`, or a
+ * token is not UTF-8; ILP_MISUSE if the handle is not empty; ILP_HTTP_NO_MEMORY. */
 ilp_code ilp_request_new(ilp_message *request, const uint8_t *tokens, size_t tokens_len, const size_t *lengths,
                          size_t lengths_len);
 
-/* Begins to read a response in an empty handle. ILP_MISUSE where the handle is not empty; ILP_HTTP_NO_MEMORY. */
+/* Begins to read a response in an empty handle. ILP_MISUSE if the handle is not empty; ILP_HTTP_NO_MEMORY. */
 ilp_code ilp_response_new(ilp_message *response);
 
 /* What the bytes of a message are so far. ILP_DONE: `taken` is how many of them are the message, `body_len` how many bytes were
@@ -533,14 +549,14 @@ typedef struct ilp_reading {
     uint32_t status;
 } ilp_reading;
 
-/* Takes the next `len` bytes of a message. ILP_DONE: it is whole, and its body is output. ILP_IDLE: it is not whole yet.
+/* Reads the next `len` bytes of a message. ILP_DONE: it is whole, and its body is output. ILP_IDLE: it is not whole yet.
  * ILP_STATUS: a request is refused by a status, or a response has a status other than 200. ILP_BAD_HEAD, ILP_TOO_LONG: a
- * response is refused. Where it is refused, or ILP_HTTP_NO_MEMORY, no byte was taken. Each call reads the message from its
+ * response is refused. If it is refused, or ILP_HTTP_NO_MEMORY, no byte was accepted. Each call reads the message from its
  * start, so that some thousand bytes at once cost less than single ones. */
 ilp_code ilp_message_feed(ilp_message *message, const uint8_t *bytes, size_t len, ilp_reading *reading);
 
 /* Writes a POST request, a response 200, and a response of another status, as ilp_prepare_write writes a packet.
- * ILP_ARGUMENT where the host or the token is not 1 to 255 characters from ! to ~, or the status is not 400 to 599;
+ * ILP_ARGUMENT if the host or the token is not 1 to 255 characters from ! to ~, or the status is not 400 to 599;
  * ILP_HTTP_NO_MEMORY. */
 ilp_code ilp_request_text(const uint8_t *host, size_t host_len, const uint8_t *token, size_t token_len, const uint8_t *body,
                           size_t body_len, uint8_t *out, size_t room, size_t *len);

@@ -1,4 +1,4 @@
-/* The three functions by which libilpstream.a takes memory. The archive has them, over malloc and free (heap.c); they overwrite
+/* The three functions by which libilpstream.a allocates. The archive has them, over malloc and free (heap.c); they overwrite
  * each block before they give it back, since it may have had keys or plain text. A program may define all three itself, and is
  * linked with its own ones then: an allocator that counts, refuses or locks its pages. It has to overwrite blocks itself.
  * libilpstream.so has those of heap.c, and calls no others.
@@ -13,7 +13,7 @@
 extern "C" {
 #endif
 
-/* What a request gave: `at` is a block where `is_taken`; else there is no memory, and `at` is any pointer that is not null. It is
+/* What a request gave: `at` is a block if `is_taken`; else there is no memory, and `at` is any pointer that is not null. It is
  * not read then. */
 typedef struct rattle_tried {
     bool is_taken;
@@ -24,12 +24,12 @@ typedef struct rattle_tried {
  * bytes has a pointer too, which is given back as any other. */
 rattle_tried rattle_alloc(size_t size, size_t align);
 
-/* Makes a block that was taken one of `size` bytes. It may move: then `at` is given back by this call. Its first `kept` bytes
- * stay, which are no more than the block had and than `size`; the others have no meaning. Where there is no memory, the block
+/* Makes an allocated block one of `size` bytes. It may move: then `at` is given back by this call. Its first `kept` bytes
+ * stay, which are no more than the block had and than `size`; the others have no meaning. If there is no memory, the block
  * is as before. */
 rattle_tried rattle_realloc(void *at, size_t kept, size_t size, size_t align);
 
-/* Gives back a block that was taken. Its size is not passed. */
+/* Gives back an allocated block. Its size is not passed. */
 void rattle_dealloc(void *at);
 
 #ifdef __cplusplus

@@ -1,6 +1,7 @@
 /* Twenty connections at once between pairs of ends, over a network that loses, repeats and delays packets: bytes and money are
- * sent both ways. What arrives is what was sent, in its order, and what is credited adds up. tests/bindings.py runs it, also under
- * valgrind and with sanitizers. Its argument is how many bytes each direction of a connection has. */
+ * sent both ways. What arrives is what was sent, in its order, and what is credited adds up. Each write is within the room of its
+ * stream, and the streams to read are those that are ready. tests/bindings.py runs it, also under valgrind and with sanitizers. Its
+ * argument is how many bytes each direction of a connection has. */
 #include "ilpstream.h"
 #include <stdbool.h>
 #include <stdio.h>
@@ -78,38 +79,43 @@ static void begin(struct connection *it, uint64_t number) {
     }
 }
 
-/* Writes as much as the stream takes, and closes it behind the last byte. */
+/* Writes as much as the stream takes, and closes it after the last byte. */
 static void write_some(struct connection *it, struct side *side) {
     static uint8_t bytes[300000];
+    size_t room;
     if (side->is_closed) return;
-    size_t len = size - side->written < 5000 ? size - side->written : 1 + below(5000);
+    must(ilp_end_room(&side->end, side->own, &room), "ilp_end_room");
+    size_t len = size - side->written < room ? size - side->written : room;
+    len = len < 5000 ? len : 1 + below(5000);
     for (size_t at = 0; at < len; at++) bytes[at] = byte_at(it->number, side->own, side->written + at);
-    ilp_code code = ilp_end_write(&side->end, side->own, bytes, len);
-    if (code == ILP_FULL) return;
-    must(code, "ilp_end_write");
+    must(ilp_end_write(&side->end, side->own, bytes, len), "ilp_end_write");
     side->written += len;
     if (side->written < size) return;
     must(ilp_end_close(&side->end, side->own), "ilp_end_close");
     side->is_closed = true;
 }
 
-/* Reads what arrived. */
+/* Reads the streams that are ready. */
 static void read_some(struct connection *it, struct side *side) {
     static uint8_t bytes[65536];
-    size_t len;
+    uint8_t ready[64];
+    size_t count, len;
     uint64_t reason;
-    ilp_code code = ilp_end_read(&side->end, side->other, 1 + below(9000), &len, &reason);
-    if (code == ILP_IDLE || code == ILP_NO_STREAM) return;
-    if (code == ILP_ENDED) {
-        sure(side->received == size, "the stream ended early");
-        side->has_ended = true;
-        return;
+    must(ilp_end_ready(&side->end, ready, sizeof ready, &count), "ilp_end_ready");
+    for (size_t at = 0; at < count; at++) {
+        sure(ready[at] == side->other, "only the peer's stream can be read");
+        ilp_code code = ilp_end_read(&side->end, ready[at], 1 + below(9000), &len, &reason);
+        if (code == ILP_ENDED) {
+            sure(side->received == size, "the stream ended early");
+            side->has_ended = true;
+            continue;
+        }
+        must(code, "ilp_end_read");
+        must(ilp_output(&side->end, bytes, sizeof bytes, &len), "ilp_output");
+        for (size_t k = 0; k < len; k++)
+            sure(bytes[k] == byte_at(it->number, side->other, side->received + k), "another byte arrived");
+        side->received += len;
     }
-    must(code, "ilp_end_read");
-    must(ilp_output(&side->end, bytes, sizeof bytes, &len), "ilp_output");
-    for (size_t at = 0; at < len; at++)
-        sure(bytes[at] == byte_at(it->number, side->other, side->received + at), "another byte arrived");
-    side->received += len;
 }
 
 /* The answer that waits longest, or any other, is given to the end: or it is lost. */
@@ -159,7 +165,7 @@ static bool is_done(const struct connection *it) {
     return it->sides[0].has_ended && it->sides[1].has_ended && !it->sides[0].count && !it->sides[1].count;
 }
 
-/* A turn of a connection. */
+/* A step of a connection. */
 static void turn(struct connection *it) {
     bool goes = false;
     for (unsigned from = 0; from < 2; from++) {

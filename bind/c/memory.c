@@ -1,7 +1,7 @@
-/* The functions by which the archive takes memory, by an allocator that checks how they are called: it is linked in the place of
+/* The functions by which the archive allocates, by an allocator that checks how they are called: it is linked in the place of
  * heap.c. Each request has a size and an alignment that the header allows, `kept` is within both blocks, what is given back was
- * taken and is given back once, no byte is written behind a block, and no call reads what it did not write. Then each request of a
- * transfer and of a hop is refused in turn: the call says so, the object is as before, and the call can be repeated.
+ * allocated and is given back once, no byte is written after a block, and no call reads what it did not write. Then each request
+ * of a transfer and of a hop is refused in turn: the call says so, the object is as before, and the call can be repeated.
  * tests/bindings.py runs it. */
 #include "ilpstream.h"
 #include "ilpstream_memory.h"
@@ -31,8 +31,8 @@ static struct front *front_of(void *at) { return (struct front *)((char *)at - s
 
 static void check_block(void *at) {
     struct front *front = front_of(at);
-    sure(front->mark == TAKEN, "a block that was not taken, or was given back");
-    for (size_t it = 0; it < FENCE; it++) sure(((uint8_t *)at)[front->size + it] == BEHIND, "a byte behind a block was written");
+    sure(front->mark == TAKEN, "a block that was not allocated, or was given back");
+    for (size_t it = 0; it < FENCE; it++) sure(((uint8_t *)at)[front->size + it] == BEHIND, "a byte after a block was written");
 }
 
 static void check_request(size_t size, size_t align) {
@@ -85,7 +85,7 @@ static void must(ilp_code code, const char *what) {
 /* How many calls were refused memory, and repeated. */
 static uint64_t refusals;
 
-/* A call is made: where it is refused memory, once more. */
+/* A call is made: if it is refused memory, once more. */
 #define REPEATED(call)                                   \
     do {                                                 \
         ilp_code first = (call);                         \
@@ -109,6 +109,7 @@ static void transfer(void) {
     uint32_t stream, fulfilled;
     uint64_t flight, reason;
     size_t len, total = 0;
+    uint8_t ready[64];
     ilp_received received;
     ilp_totals totals;
     for (size_t at = 0; at < sizeof data; at++) data[at] = (uint8_t)(at * 3 + at / 256);
@@ -132,12 +133,14 @@ static void transfer(void) {
         REPEATED(ilp_end_receive(&server, packet, len, 0, &received));
         must(ilp_output(&server, packet, sizeof packet, &len), "ilp_output");
         must(ilp_end_answer(&client, flight, packet, len, &fulfilled), "ilp_end_answer");
-        code = ilp_end_read(&server, stream, 9000, &len, &reason);
+        REPEATED(ilp_end_ready(&server, ready, sizeof ready, &len));
+        if (!len) continue;
+        code = ilp_end_read(&server, ready[0], 9000, &len, &reason);
         if (ilp_is_no_memory(code)) {
             refusals++;
-            code = ilp_end_read(&server, stream, 9000, &len, &reason);
+            code = ilp_end_read(&server, ready[0], 9000, &len, &reason);
         }
-        if (code == ILP_ENDED || code == ILP_IDLE) continue;
+        if (code == ILP_ENDED) continue;
         must(code, "ilp_end_read");
         must(ilp_output(&server, packet, sizeof packet, &len), "ilp_output");
         sure(!memcmp(packet, data + total, len), "other bytes arrived");
@@ -226,7 +229,7 @@ int main(void) {
         sure(refusals == before + 1, "a request was refused, and no call said so");
         sure(in_use == 0, "a block was not given back");
     }
-    printf("%llu requests, each refused once; %llu blocks were taken, %llu moved and %llu given back\n",
+    printf("%llu requests, each refused once; %llu blocks were allocated, %llu moved and %llu given back\n",
            (unsigned long long)requests, (unsigned long long)blocks, (unsigned long long)moved, (unsigned long long)given);
     return 0;
 }

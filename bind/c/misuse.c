@@ -216,7 +216,7 @@ static void sizes(void) {
     IS(made(&config), ILP_ARGUMENT);
     config.known.size = sizeof config.known;
     IS(made(&config), ILP_DONE);
-    config.later[1] = 1; /* beyond the size: it is not looked at */
+    config.later[1] = 1; /* beyond the size: it is not checked */
     IS(made(&config), ILP_DONE);
     config.known.size = sizeof config;
     IS(made(&config), ILP_ARGUMENT); /* a field that this version does not know */
@@ -242,6 +242,42 @@ static void sizes(void) {
     IS(ilp_free(&end), ILP_DONE);
 }
 
+/* Which streams are open and can be read, and how much one takes. */
+static void asked(void) {
+    ilp_end end = new_end();
+    uint8_t streams[64];
+    static uint8_t bytes[262144];
+    uint32_t stream;
+    size_t len, room;
+    IS(ilp_end_streams(&end, NULL, 0, &len), ILP_DONE);
+    IS(len != 0, 0);
+    IS(ilp_end_room(&end, 1, &room), ILP_NO_STREAM);
+    IS(ilp_end_room(&end, 256, &room), ILP_ARGUMENT);
+    IS(ilp_end_room(&end, 1, NULL), ILP_NULL);
+    IS(ilp_end_open_stream(&end, &stream), ILP_DONE);
+    IS(ilp_end_open_stream(&end, &stream), ILP_DONE);
+    IS(ilp_end_streams(&end, streams, 1, &len), ILP_ROOM);
+    IS(len != 2, 0);
+    IS(ilp_end_streams(&end, streams, 64, &len), ILP_DONE);
+    IS(len != 2 || streams[0] != 1 || streams[1] != 3, 0);
+    IS(ilp_end_ready(&end, streams, 64, &len), ILP_DONE);
+    IS(len != 0, 0);
+    IS(ilp_end_ready(&end, NULL, 1, &len), ILP_NULL);
+    IS(ilp_end_room(&end, 1, &room), ILP_DONE);
+    IS(room != sizeof bytes, 0);
+    IS(ilp_end_write(&end, 1, bytes, room - 1), ILP_DONE);
+    IS(ilp_end_room(&end, 1, &room), ILP_DONE);
+    IS(room != 1, 0);
+    IS(ilp_end_write(&end, 1, bytes, 2), ILP_FULL);
+    IS(ilp_end_write(&end, 1, bytes, 1), ILP_DONE);
+    IS(ilp_end_room(&end, 1, &room), ILP_DONE);
+    IS(room != 0, 0);
+    IS(ilp_end_close(&end, 1), ILP_DONE);
+    IS(ilp_end_room(&end, 1, &room), ILP_CLOSED);
+    IS(ilp_end_room(&end, 3, &room), ILP_DONE);
+    IS(ilp_free(&end), ILP_DONE);
+}
+
 /* What is known without a handle. */
 static void about(void) {
     IS(strcmp(ilp_version(), ILP_VERSION) != 0, 0);
@@ -252,7 +288,7 @@ static void about(void) {
     IS(ilp_is_no_memory(ILP_DONE) || ilp_is_no_memory(ILP_IDLE) || ilp_is_no_memory(UINT32_MAX), 0);
 }
 
-/* Frames that are none. */
+/* Frames that are malformed. */
 static void bad_frames(void) {
     ilp_packet packet = {0};
     const uint8_t *text = (const uint8_t *)"\xff";
@@ -283,7 +319,7 @@ static sem_t is_inside, goes_on;
 
 enum { PAGE = 4096 };
 
-/* The thread that reads the page stands here, in the middle of its call, until it may go on. */
+/* The thread that reads the page waits here, in the middle of its call, until it may continue. */
 static void stands(int unused) {
     (void)unused;
     sem_post(&is_inside);
@@ -386,6 +422,7 @@ int main(int argc, char **argv) {
     null_pointers();
     too_many();
     sizes();
+    asked();
     about();
     bad_frames();
     in_use();

@@ -36,7 +36,7 @@ static ilp_end new_end(uint32_t role, const uint8_t secret[32], const char *own,
     return end;
 }
 
-/* The client's next Prepare is given to the server, and the answer to the client. False where nothing is to be sent. */
+/* The client's next Prepare is given to the server, and the answer to the client. False if nothing is to be sent. */
 static bool pass(ilp_end *client, ilp_end *server) {
     static uint8_t packet[PACKET];
     uint8_t iv[12];
@@ -56,12 +56,12 @@ static bool pass(ilp_end *client, ilp_end *server) {
     return true;
 }
 
-/* Writes what the stream takes, up to `left` bytes: how many they were. */
+/* Writes what the stream takes, up to `left` bytes: how many they were. None while too many wait for an acknowledgement. */
 static size_t write_some(ilp_end *end, uint32_t stream, const uint8_t *bytes, size_t left) {
-    size_t len = left < 65536 ? left : 65536;
-    ilp_code code = ilp_end_write(end, stream, bytes, len);
-    if (code == ILP_FULL) return 0; /* wait until some are acknowledged */
-    must(code, "ilp_end_write");
+    size_t room;
+    must(ilp_end_room(end, stream, &room), "ilp_end_room");
+    size_t len = left < room ? left : room;
+    must(ilp_end_write(end, stream, bytes, len), "ilp_end_write");
     return len;
 }
 

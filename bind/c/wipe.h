@@ -4,7 +4,7 @@
 #include <stddef.h>
 #include <string.h>
 
-/* Overwrites bytes. The compiler keeps it, also where nothing reads them any more: the empty line of assembler may read any
+/* Overwrites bytes. The compiler keeps it, also if nothing reads them any more: the empty line of assembler may read any
  * memory. (explicit_bzero would want a C library of 2017.) */
 static inline void wipe(void *at, size_t len) {
     memset(at, 0, len);

@@ -105,7 +105,7 @@ static unsigned long found(void) {
     return sum;
 }
 
-/* ---- how deep a call goes on the stack */
+/* ---- how much of the stack a call uses */
 
 static size_t deepest_making, deepest;
 

@@ -1,6 +1,6 @@
 """Builds the wheel and the source distribution of `ilpstream`, by the hooks of PEP 517 and with the standard library alone.
 
-The wheel has the modules, and the shared object that bind/build made: from bind/out, or where ILPSTREAM_OUT says. Its tag is that of
+The wheel has the modules, and the shared object that bind/build made: from bind/out, or from ILPSTREAM_OUT. Its tag is that of
 the oldest C library which has what the shared object needs. With ILPSTREAM_SYSTEM=1 it has no shared object, and the modules load
 the installed libilpstream.so.0."""
 
@@ -14,7 +14,7 @@ import tomllib
 import zipfile
 
 TOP = os.path.dirname(os.path.abspath(__file__))
-# What the source distribution has, beside the modules.
+# What the source distribution has, in addition to the modules.
 SOURCES = ("pyproject.toml", "README.md", "backend.py", "tests.py", "examples/two_ends.py", "examples/wallet.py")
 
 
@@ -34,7 +34,7 @@ def _modules():
 
 
 def _shared():
-    """The shared object, or nothing where the system's is used."""
+    """The shared object, or nothing if the system's is used."""
     if os.environ.get("ILPSTREAM_SYSTEM"):
         return None
     path = os.path.join(os.environ.get("ILPSTREAM_OUT", f"{TOP}/../out"), "libilpstream.so")
@@ -44,7 +44,7 @@ def _shared():
 
 
 def _tag(shared):
-    """The tag of a wheel with this shared object (PEP 600): the versions of the C library stand in it as GLIBC_2.14."""
+    """The tag of a wheel with this shared object (PEP 600): the versions of the C library are in it as GLIBC_2.14."""
     if shared is None:
         return "py3-none-any"
     minors = [int(it) for it in re.findall(rb"\bGLIBC_2\.(\d+)", shared)]

@@ -1,5 +1,5 @@
 #!/usr/bin/env python3
-"""Tests of the Python module: arguments that are none, reads as io.RawIOBase has them, copies, the wheel and the source
+"""Tests of the Python module: wrong arguments, reads as io.RawIOBase has them, copies, threads, the wheel and the source
 distribution, and the example wallet over a connector. tests/bindings.py runs it, with the folder of the shared object."""
 
 import copy
@@ -10,6 +10,7 @@ import subprocess
 import sys
 import tarfile
 import tempfile
+import threading
 import tomllib
 import unittest
 import zipfile
@@ -166,6 +167,40 @@ class Reads(unittest.TestCase):
                 server.read(stream)
             self.assertEqual(aborted.exception.code, 9)
 
+    def test_streams_that_are_open_and_ready(self):
+        client, server = ends()
+        with client, server:
+            self.assertEqual((client.streams(), server.streams(), server.ready()), ([], [], []))
+            first, second, own = client.open_stream(), client.open_stream(), server.open_stream()
+            client.write(second, b"hi")
+            client.offer(first, 5)
+            server.set_receive_max(first, 5)
+            passed(client, server)
+            self.assertEqual((client.streams(), server.streams()), ([1, 3], [1, 2, 3]))
+            self.assertEqual((server.ready(), client.ready(), own), ([second], [], 2))
+            self.assertEqual(server.read(second), b"hi")
+            self.assertEqual(server.ready(), [])
+            client.abort(second, 9)
+            passed(client, server)
+            self.assertEqual(server.ready(), [second])
+            with self.assertRaises(ilpstream.Aborted):
+                server.read(second)
+
+    def test_room(self):
+        client, server = ends()
+        with client, server:
+            stream = client.open_stream()
+            self.assertEqual(client.room(stream), 262_144)
+            client.write(stream, bytes(262_100))
+            self.assertEqual(client.room(stream), 44)
+            with self.assertRaises(IlpError):
+                client.write(stream, bytes(45))
+            client.write(stream, bytes(44))
+            self.assertEqual(client.room(stream), 0)
+            with self.assertRaises(IlpError) as refused:
+                client.room(3)
+            self.assertEqual(refused.exception.number, Code.NO_STREAM)
+
 
 class Objects(unittest.TestCase):
     def test_an_object_is_not_copied(self):
@@ -190,6 +225,75 @@ class Objects(unittest.TestCase):
         with self.assertRaises(IlpError) as refused:
             end.totals()
         self.assertEqual(refused.exception.number, Code.MISUSE)
+
+
+class Threads(unittest.TestCase):
+    def together(self, works):
+        """Calls each function in a thread of its own, all at once, and returns what they raised."""
+        raised, begin = [], threading.Barrier(len(works))
+
+        def run(work):
+            begin.wait()
+            try:
+                work()
+            except Exception as error:
+                raised.append(error)
+
+        threads = [threading.Thread(target=run, args=(it,)) for it in works]
+        for it in threads:
+            it.start()
+        for it in threads:
+            it.join()
+        return raised
+
+    def test_threads_share_an_object(self):
+        opened = [[] for _ in range(8)]
+        with Keys(bytes(32)) as keys:
+
+            def works(place):
+                for number in range(300):
+                    text = place.to_bytes(4) + number.to_bytes(4) * (number % 90)
+                    payload = keys.seal(text[:4] + number.to_bytes(8), text)
+                    opened[place].append(keys.open(payload) == text)
+
+            self.assertEqual(self.together([lambda it=it: works(it) for it in range(8)]), [])
+        self.assertEqual(opened, [[True] * 300] * 8)
+
+    def test_a_connection_of_several_threads(self):
+        client, server = ends()
+        lock, number = threading.Lock(), [0]
+        with client, server:
+            streams = [client.open_stream() for _ in range(8)]
+            texts = {it: bytes([it]) * 20_000 for it in streams}
+
+            def writes(stream):
+                for at in range(0, 20_000, 2_500):
+                    client.write(stream, texts[stream][at : at + 2_500])
+                client.close(stream)
+                with lock:
+                    number[0] += 1_000
+                    passed(client, server, number)
+
+            self.assertEqual(self.together([lambda it=it: writes(it) for it in streams]), [])
+            received = {it: b"" for it in streams}
+            for _ in range(400):
+                passed(client, server, number)
+                for it in streams:
+                    received[it] += server.read(it) or b""
+            self.assertEqual(received, texts)
+
+    def test_a_free_meanwhile(self):
+        for _ in range(50):
+            keys = Keys(bytes(32))
+
+            def works():
+                for number in range(50):
+                    keys.seal(number.to_bytes(12), b"text")
+
+            raised = self.together([works, works, keys.free])
+            self.assertLessEqual({it.number for it in raised}, {Code.MISUSE})
+            with self.assertRaises(IlpError):
+                keys.seal(IV, b"text")
 
 
 class Packages(unittest.TestCase):

@@ -3,9 +3,9 @@
 import os
 import time
 
-from ilpstream import Code, End, IlpError, Role
+from ilpstream import End, Role
 
-SIZE, UNITS, PART = 1 << 20, 500, 65536
+SIZE, UNITS = 1 << 20, 500
 
 
 def now():
@@ -13,7 +13,7 @@ def now():
 
 
 def passed(client, server):
-    """The client's next Prepare is given to the server, and the answer to the client. False where nothing is to be sent."""
+    """The client's next Prepare is given to the server, and the answer to the client. False if nothing is to be sent."""
     prepare = client.send(os.urandom(12), now())  # never an IV twice
     if prepare is None:
         return False
@@ -32,12 +32,9 @@ def main():
         server.set_receive_max(stream, UNITS)
         client.offer(stream, UNITS)
         while written < SIZE or passed(client, server):
-            try:
-                client.write(stream, sent[written : written + PART])
-                written = min(SIZE, written + PART)
-            except IlpError as error:
-                if error.number != Code.FULL:  # until some bytes are acknowledged
-                    raise
+            part = sent[written:][: client.room(stream)]  # what does not wait for an acknowledgement
+            client.write(stream, part)
+            written += len(part)
             passed(client, server)
             while part := server.read(stream):
                 received += part

@@ -12,7 +12,7 @@ import os
 import sys
 import time
 
-from ilpstream import Code, End, IlpError, Request, Response, Role, Status, Whole, answer_text, refusal_text, request_text
+from ilpstream import End, Request, Response, Role, Status, Whole, answer_text, refusal_text, request_text
 
 SECONDS = 10
 MOST = 1_000_000
@@ -36,7 +36,7 @@ class Wallet:
     def __init__(self, role, connector, token, secret, own, peer, units):
         self.end = End(role, secret, own, peer, in_flight=8)
         self.connector, self.token = connector, token
-        # Set where the end may have something to send, or to be read.
+        # Set if the end may have something to send, or to be read.
         self.woken = asyncio.Event()
         self.stream = self.end.open_stream()
         self.theirs = 2 if role is Role.CLIENT else 1
@@ -67,9 +67,10 @@ class Wallet:
 
     def read(self):
         """Writes what can be read to standard output."""
-        while data := self.end.read(self.theirs):
-            sys.stdout.buffer.write(data)
-        self.has_ended |= data == b""
+        for stream in self.end.ready():
+            while data := self.end.read(stream):
+                sys.stdout.buffer.write(data)
+            self.has_ended |= data == b""
         sys.stdout.buffer.flush()
 
     # ---- what is sent
@@ -115,22 +116,17 @@ class Wallet:
                 except TimeoutError:
                     pass  # a Prepare that waited may be due
 
-    def takes(self, data):
-        """Whether the stream takes these bytes now; else too many wait for an acknowledgement."""
-        try:
-            self.end.write(self.stream, data)
-            return True
-        except IlpError as error:
-            if error.number != Code.FULL:
-                raise
-            return False
-
     async def feed(self):
         """Writes standard input to the stream, as far as it takes it, and closes it."""
         while data := await asyncio.to_thread(sys.stdin.buffer.read1, 65536):
-            while not self.takes(data):
-                await asyncio.sleep(0.01)
-            self.woken.set()
+            while data:
+                taken = data[: self.end.room(self.stream)]
+                if not taken:  # too many bytes wait for an acknowledgement
+                    await asyncio.sleep(0.01)
+                    continue
+                self.end.write(self.stream, taken)
+                data = data[len(taken) :]
+                self.woken.set()
         self.end.close(self.stream)
         self.woken.set()
 

@@ -129,7 +129,7 @@ _room = (POINTER(c_uint8), c_size_t)
 _out = POINTER(c_uint8)  # an array of as many bytes as the call gives
 _u32, _u64, _size = POINTER(c_uint32), POINTER(c_uint64), POINTER(c_size_t)
 
-# What the calls return that need no handle and are no part of the proved archive, and their parameters.
+# What the calls return that need no handle and are not part of the proved archive, and their parameters.
 ABOUT = {
     "ilp_version": (c_char_p, ()),
     "ilp_error_text": (c_char_p, (c_uint32,)),
@@ -143,6 +143,9 @@ CALLS = {
     "ilp_end_new": (c_uint32, (_handle, c_uint32, _array, *_bytes, *_bytes, POINTER(Config))),
     "ilp_end_open_stream": (c_uint32, (_handle, _u32)),
     "ilp_end_write": (c_uint32, (_handle, c_uint32, *_bytes)),
+    "ilp_end_room": (c_uint32, (_handle, c_uint32, _size)),
+    "ilp_end_ready": (c_uint32, (_handle, *_room, _size)),
+    "ilp_end_streams": (c_uint32, (_handle, *_room, _size)),
     "ilp_end_close": (c_uint32, (_handle, c_uint32)),
     "ilp_end_abort": (c_uint32, (_handle, c_uint32, c_uint32)),
     "ilp_end_offer": (c_uint32, (_handle, c_uint32, c_uint64)),

@@ -36,7 +36,7 @@ class Outgoing:
 @dataclass(frozen=True)
 class Received:
     """What an end did with a Prepare: the answer; why it is a Reject (0 for a Fulfill; docs/ERRORS.md, "Of an end"); the amount
-    of the Prepare; and the number of its STREAM packet, where that could be read."""
+    of the Prepare; and the number of its STREAM packet, if that could be read."""
 
     bytes: bytes
     reason: int
@@ -45,8 +45,8 @@ class Received:
 
 
 class FailureKind(enum.IntEnum):
-    """How a Prepare failed: no answer came; what came is neither a Fulfill nor a Reject; a Fulfill came that does not fit; a
-    Reject came."""
+    """How a Prepare failed: no answer arrived; what arrived is neither a Fulfill nor a Reject; a Fulfill arrived that does not
+    fit; a Reject arrived."""
 
     LOST = 1
     UNREADABLE = 2
@@ -57,7 +57,7 @@ class FailureKind(enum.IntEnum):
 @dataclass(frozen=True)
 class Failure:
     """Why a Prepare failed. Of a Reject: its code, as T04; `by`, the ILP address of whoever refused, or nothing; and the first
-    255 bytes of its message, which whoever refused chose, and whose last character may be cut. Else these are empty."""
+    255 bytes of its message, which whoever refused chose, and whose last character may be cut. Otherwise these are empty."""
 
     kind: FailureKind
     code: str = ""
@@ -93,9 +93,9 @@ class End(Object):
     ...     while prepare := client.send(os.urandom(12), now):
     ...         answer = server.receive(prepare.bytes, now)
     ...         fits = client.answer(prepare.flight, answer.bytes)
-    ...     before, server.read(stream), server.read(stream)
+    ...     before, server.ready(), server.read(stream), server.read(stream)
     ...     client.totals().paid, server.totals().credited
-    (None, b'hi', b'')
+    (None, [1], b'hi', b'')
     (10, 10)
     """
 
@@ -148,10 +148,28 @@ class End(Object):
 
     @alone
     def write(self, stream: int, data: Buffer) -> None:
-        """Takes bytes that are to be sent: all, or none where it raises. `Code.FULL`: more than 262,144 of the stream would
-        wait for an acknowledgement."""
+        """Accepts bytes that are to be sent: all, or none if it raises. `Code.FULL`: they are more than `room`."""
         data = taken(data)
         done(lib.ilp_end_write(self._at(), number(stream, 32, "the stream"), data, len(data)))
+
+    @alone
+    def room(self, stream: int) -> int:
+        """How many bytes `write` takes at most, 0 to 262,144: that many of a stream may wait for an acknowledgement. To write a
+        part of what there is, ask for the room first."""
+        room = c_size_t()
+        done(lib.ilp_end_room(self._at(), number(stream, 32, "the stream"), byref(room)))
+        return room.value
+
+    @alone
+    def ready(self) -> list[int]:
+        """Which streams can be read, rising: `read` gives something on each of them, or that it has ended."""
+        return list(self._text("ilp_end_ready"))
+
+    @alone
+    def streams(self) -> list[int]:
+        """Which streams are open, those of both ends, rising. One that the caller does not know yet was opened by the peer
+        meanwhile."""
+        return list(self._text("ilp_end_streams"))
 
     @alone
     def close(self, stream: int) -> None:
@@ -165,7 +183,7 @@ class End(Object):
 
     @alone
     def offer(self, stream: int, amount: int) -> None:
-        """Offers units on a stream, beside what was offered before."""
+        """Offers units on a stream, in addition to what was offered before."""
         done(lib.ilp_end_offer(self._at(), number(stream, 32, "the stream"), number(amount, 64, "the amount")))
 
     @alone
@@ -180,9 +198,9 @@ class End(Object):
 
     @alone
     def read(self, stream: int, size: int = -1) -> bytes | None:
-        """The next bytes of a stream, as `io.RawIOBase.read` gives them: at most so many, or all that are there, which are never
-        more than 65,536; b"" where all were read, and the peer closed the stream; None where there are none yet, also before the
-        peer opened the stream. Raises `Aborted` where the peer aborted it."""
+        """The next bytes of a stream, as `io.RawIOBase.read` gives them: at most `size`, or all that are there, which are never
+        more than 65,536; b"" if all were read, and the peer closed the stream; None if there are none yet, also before the
+        peer opened the stream. Raises `Aborted` if the peer aborted it."""
         length, code, stream = c_size_t(), c_uint64(), number(stream, 32, "the stream")
         most = 65536 if size == -1 else number(size, 64, "the size")
         answer = lib.ilp_end_read(self._at(), stream, most, byref(length), byref(code))
@@ -198,7 +216,7 @@ class End(Object):
 
     @alone
     def send(self, iv: Buffer, now: int) -> Outgoing | None:
-        """The next Prepare, or None where nothing is to be sent now. No two packets of a connection, of either end, may have the
+        """The next Prepare, or None if nothing is to be sent now. No two packets of a connection, of either end, may have the
         same IV of 12 bytes: take each from `os.urandom(12)`."""
         flight, length = c_uint64(), c_size_t()
         iv = fixed(iv, 12, "the IV")
@@ -210,7 +228,7 @@ class End(Object):
 
     @alone
     def answer(self, flight: int, data: Buffer) -> bool:
-        """Whether the bytes that came back to a flight are a Fulfill that fits. Raises `Code.UNKNOWN` where it is not open."""
+        """Whether the bytes of the answer to a flight are a Fulfill that fits. Raises `Code.UNKNOWN` if it is not open."""
         fulfilled = c_uint32()
         data = taken(data)
         copy = (c_uint8 * len(data)).from_buffer_copy(data)
@@ -220,12 +238,12 @@ class End(Object):
 
     @alone
     def fault(self, flight: int) -> None:
-        """No answer came to a flight, and none is waited for: what it carries is sent again."""
+        """No answer arrived to a flight, and none is waited for: what it carries is sent again."""
         done(lib.ilp_end_fault(self._at(), number(flight, 64, "the flight")))
 
     @alone
     def receive(self, data: Buffer, now: int) -> Received:
-        """What answers a Prepare of the peer. Where it raises `Code.NO_MEMORY`, answer with `t00()`, and the peer sends again."""
+        """What answers a Prepare of the peer. If it raises `Code.NO_MEMORY`, answer with `t00()`, and the peer sends again."""
         received = _declared.Received()
         data = taken(data)
         done(lib.ilp_end_receive(self._at(), data, len(data), moment(now), byref(received)))
@@ -234,7 +252,7 @@ class End(Object):
 
     @alone
     def t00(self) -> bytes:
-        """A Reject T00 that is kept ready, for use where memory is refused."""
+        """A Reject T00 that is kept ready, for use if memory is refused."""
         return self._text("ilp_end_t00")
 
     @alone

@@ -21,8 +21,8 @@ class Account:
 
 @dataclass(frozen=True)
 class Route:
-    """Where the Prepares go whose destination has a prefix; where several routes fit, that of the longest prefix counts. The
-    amount that is sent on is that which arrived times `num` / `den`, rounded down."""
+    """The account to which Prepares are sent whose destination has a prefix. If several routes fit, that of the longest
+    prefix counts. The amount that is sent on is that which arrived times `num` / `den`, rounded down."""
 
     prefix: str
     account: int
@@ -48,7 +48,7 @@ class Forward:
 
 @dataclass(frozen=True)
 class Balances:
-    """What an account owes the hop, what the hop owes it, and what is held against it, in units of its link."""
+    """What an account owes the hop, what the hop owes it, and what is reserved of it, in units of its link."""
 
     claims: int
     dues: int
@@ -57,8 +57,8 @@ class Balances:
 
 @dataclass(frozen=True)
 class Booking:
-    """What a ticket books: the account `payer`, from which the Prepare came, owes `claim` more, and `payee`, to which it was sent
-    on, is owed `due` more, each in units of its link."""
+    """What a ticket books: the account `payer`, from which the Prepare arrived, owes `claim` more, and `payee`, to which it was
+    sent on, is owed `due` more, each in units of its link."""
 
     payer: int
     claim: int
@@ -123,7 +123,7 @@ class Hop(Object):
     ) -> Hop:
         """A hop with the books of an earlier one: what each account owes it, and what it owes each. No ticket is open. Tickets are
         numbered from `next` on, which has to be above each number that an earlier hop with these books gave out. Raises
-        `Code.BAD_BOOKS` where not each account has a claim and a due, one owes more than its limit beyond its due, or a sum is
+        `Code.BAD_BOOKS` if not each account has a claim and a due, one owes more than its limit beyond its due, or a sum is
         above 2^63 - 1.
 
         >>> terms = Account(limit=1000, max_packet=500)
@@ -141,14 +141,14 @@ class Hop(Object):
 
     @alone
     def restart(self) -> None:
-        """Forgets every open ticket, as a crash and a start with the same books do. Claims and dues stay, nothing is held any more,
-        and the numbers of tickets go on."""
+        """Forgets every open ticket, as a crash and a start with the same books do. Claims and dues stay, nothing is reserved any
+        more, and the numbers of tickets continue."""
         done(lib.ilp_hop_restart(self._at()))
 
     @alone
     def arrive(self, account: int, data: Buffer, now: int) -> Answer | Forward:
-        """What becomes of a Prepare that came from an account at the time `now`. Where it is sent on, its amount is held until
-        the ticket is settled. Where it raises `Code.HOP_NO_MEMORY`, answer with `t00()`, and the sender sends again."""
+        """What becomes of a Prepare that came from an account at the time `now`. If it is sent on, its amount is reserved until
+        the ticket is settled. If it raises `Code.HOP_NO_MEMORY`, answer with `t00()`, and the sender sends again."""
         arrived = _declared.Arrived()
         data, account = taken(data), number(account, 64, "the account")
         answer = lib.ilp_hop_arrive(self._at(), account, data, len(data), moment(now), byref(arrived))
@@ -162,7 +162,7 @@ class Hop(Object):
     def books(self, ticket: int, data: Buffer, now: int) -> Booking | None:
         """What `settle` with the same arguments would book, or None. It changes nothing. A host that keeps books of its own asks
         this, stores the booking, settles the ticket with the same bytes and the same `now`, and then sends the answer back.
-        Raises `Code.UNKNOWN` where the ticket is not open.
+        Raises `Code.UNKNOWN` if the ticket is not open.
 
         >>> from ilpstream import Fulfill, Prepare, condition
         >>> terms = Account(limit=1000, max_packet=500)
@@ -182,8 +182,8 @@ class Hop(Object):
 
     @alone
     def settle(self, ticket: int, data: Buffer, now: int) -> bytes:
-        """Settles a ticket by the bytes that came back, and gives those that are to be sent back. A Fulfill that fits and came
-        in time is booked; all else becomes a Reject. Raises `Code.UNKNOWN` where the ticket is not open."""
+        """Settles a ticket by the bytes of its answer, and gives those that are to be sent back. A Fulfill that fits and came
+        in time is booked; all else becomes a Reject. Raises `Code.UNKNOWN` if the ticket is not open."""
         length = c_size_t()
         data, ticket = taken(data), number(ticket, 64, "the ticket")
         done(lib.ilp_hop_settle(self._at(), ticket, data, len(data), moment(now), byref(length)))
@@ -191,24 +191,24 @@ class Hop(Object):
 
     @alone
     def fault(self, ticket: int) -> bytes:
-        """The same where no answer came, and none is waited for: a Reject T01."""
+        """The same if no answer arrived, and none is waited for: a Reject T01."""
         length = c_size_t()
         done(lib.ilp_hop_fault(self._at(), number(ticket, 64, "the ticket"), byref(length)))
         return self._output(length.value)
 
     @alone
     def abandon(self, ticket: int) -> None:
-        """Gives up a ticket without an answer. The amount stays held."""
+        """Gives up a ticket without an answer. The amount stays reserved."""
         done(lib.ilp_hop_abandon(self._at(), number(ticket, 64, "the ticket")))
 
     @alone
     def t00(self) -> bytes:
-        """A Reject T00 that is kept ready, for use where memory is refused."""
+        """A Reject T00 that is kept ready, for use if memory is refused."""
         return self._text("ilp_hop_t00")
 
     @alone
     def balances(self, account: int) -> Balances:
-        """What stands between the hop and an account."""
+        """What the hop and an account owe each other."""
         balances = _declared.Balances()
         done(lib.ilp_hop_balances(self._at(), number(account, 64, "the account"), byref(balances)))
         return Balances(balances.claims, balances.dues, balances.held)

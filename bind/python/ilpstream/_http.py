@@ -12,7 +12,7 @@ from ._object import Buffer, Code, Object, alone, done, lib, number, taken, writ
 
 @dataclass(frozen=True)
 class Wants:
-    """A message is not whole yet: so many bytes are to be asked for next, which are never more than it must still have."""
+    """A message is not whole yet: `length` is how many bytes to ask for next, and never more than it must still have."""
 
     length: int
 
@@ -37,8 +37,8 @@ class Status:
 class _Message(Object):
     @alone
     def feed(self, data: Buffer) -> Wants | Whole | Status:
-        """Takes the next bytes. Some thousand at once cost less than single ones. Where the message is refused no byte was
-        taken."""
+        """Reads the next bytes. Some thousand at once cost less than single ones. If the message is refused, no byte was
+        read."""
         data, reading = taken(data), _declared.Reading()
         answer = lib.ilp_message_feed(self._at(), data, len(data), byref(reading))
         if answer == Code.IDLE:

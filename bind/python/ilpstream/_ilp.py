@@ -45,7 +45,7 @@ class Prepare:
 
 @dataclass(frozen=True)
 class Fulfill:
-    """A Prepare was taken (RFC 0027): the bytes whose SHA-256 digest is its condition, and data for the sender.
+    """A Prepare was accepted (RFC 0027): the bytes whose SHA-256 digest is its condition, and data for the sender.
 
     >>> answer = Fulfill(bytes(32), b"data")
     >>> read_answer(answer.write()) == answer
@@ -64,7 +64,7 @@ class Fulfill:
 
 @dataclass(frozen=True)
 class Reject:
-    """A Prepare was not taken (RFC 0027): a code such as F02, the address of the node that made the Reject, or nothing, a message
+    """A Prepare was refused (RFC 0027): a code such as F02, the address of the node that made the Reject, or nothing, a message
     for people, and data for the sender.
 
     >>> read_answer(Reject("F02", "example.hub", "no route").write())

@@ -33,7 +33,7 @@ class Keys(Object):
 
     @alone
     def open(self, payload: Buffer) -> bytes:
-        """The plain text of a payload. Raises `Code.SHORT` or `Code.TAG` where it is none."""
+        """The plain text of a payload. Raises `Code.SHORT` or `Code.TAG` if it is not a sealed one."""
         length, payload = c_size_t(), taken(payload)
         done(lib.ilp_keys_open(self._at(), payload, len(payload), byref(length)))
         return self._output(length.value)

@@ -19,7 +19,7 @@ Buffer = bytes | bytearray | memoryview
 
 
 def _path() -> str:
-    """Where the shared object is: beside this file, in bind/out of the repository, or where the system has it."""
+    """The place of the shared object: next to this file, in bind/out of the repository, or in a folder of the system."""
     here = os.path.dirname(os.path.abspath(__file__))
     near = (os.path.join(here, it) for it in ("libilpstream.so", "../../out/libilpstream.so"))
     return next(filter(os.path.exists, near), "libilpstream.so.0")
@@ -143,13 +143,13 @@ class IlpError(Exception):
 
 
 def done(number: int) -> None:
-    """Raises what a call returned, where it was refused."""
+    """Raises what a call returned, if it was refused."""
     if number != Code.DONE:
         raise IlpError(number)
 
 
 def taken(data: Buffer) -> bytes:
-    """The bytes of a buffer. A TypeError where it is none: `bytes(5)` would be five zeros."""
+    """The bytes of a buffer. A TypeError if it is not a buffer: `bytes(5)` would be five zeros."""
     return data if type(data) is bytes else memoryview(data).tobytes()
 
 
@@ -162,7 +162,7 @@ def fixed(data: Buffer, length: int, name: str) -> bytes:
 
 
 def number(value: int, bits: int, name: str) -> int:
-    """This number, which has to be one of so many bits: ctypes would cut it off."""
+    """This number, which has to fit in `bits` bits: ctypes would cut it off."""
     value = operator.index(value)
     if not 0 <= value < 1 << bits:
         raise ValueError(f"{name} is {value}, which is no number of {bits} bits")
@@ -178,7 +178,7 @@ def moment(now: int) -> int:
 
 
 def written(call: Callable[..., int], *arguments: object) -> bytes:
-    """The bytes that a call writes into a buffer, which it says the length of, also where there is no room for them."""
+    """The bytes that a call writes into a buffer, which it says the length of, also if there is no room for them."""
     length = c_size_t()
     answer = call(*arguments, (c_uint8 * 0)(), 0, byref(length))
     if answer == Code.DONE:
@@ -239,7 +239,7 @@ class Object:
         return byref(self._handle)
 
     def _output(self, length: int) -> bytes:
-        """The bytes that the last call put out, of which it said how many there are."""
+        """The bytes that the last call output, of which it said how many there are."""
         out = (c_uint8 * length)()
         copied = c_size_t()
         done(lib.ilp_output(self._at(), out, length, byref(copied)))

@@ -209,7 +209,7 @@ class Packet(Object):
 
     @staticmethod
     def read(kind: PacketKind, data: Buffer) -> Packet:
-        """Reads all of the bytes as a packet that an ILP packet of this kind carried. Frames of unknown types, and bytes behind
+        """Reads all of the bytes as a packet that an ILP packet of this kind carried. Frames of unknown types, and bytes after
         the last frame, are skipped. Raises the first fault: `Code.STREAM_TOO_LONG`, `Code.STREAM_VERSION`, `Code.STREAM_KIND`,
         `Code.STREAM_OER`, `Code.FRAME`."""
         packet = Packet.__new__(Packet)
@@ -227,16 +227,16 @@ class Packet(Object):
 
     @alone
     def push(self, frame: Frame) -> None:
-        """Adds a frame behind the others. Raises `Code.FRAME` where its address is neither empty nor an ILP address, and
-        `Code.ARGUMENT` where its code is above 255."""
+        """Adds a frame after the others. Raises `Code.FRAME` if its address is neither empty nor an ILP address, and
+        `Code.ARGUMENT` if its code is above 255."""
         given, data = _given(frame)
         done(lib.ilp_packet_push(self._at(), byref(given), data, len(data)))
 
     @alone
     def frame(self, place: int) -> tuple[int, Frame]:
         """The known frame at a place, counted from 0, and its index over all frames, also those that were skipped, of the packet
-        that was read; that of a frame that was added is how many known frames there were. Raises `Code.ARGUMENT` where there
-        are not so many known frames."""
+        that was read; that of a frame that was added is how many known frames there were. Raises `Code.ARGUMENT` if
+        there are fewer known frames."""
         told, index, length = _declared.Frame(), c_uint64(), c_size_t()
         place = number(place, 64, "the place")
         done(lib.ilp_packet_frame(self._at(), place, byref(told), byref(index), byref(length)))
@@ -249,7 +249,7 @@ class Packet(Object):
 
     @alone
     def write(self) -> bytes:
-        """Its bytes, in the shortest encoding. Raises `Code.STREAM_TOO_LONG` where they are more than 32,739."""
+        """Its bytes, in the shortest encoding. Raises `Code.STREAM_TOO_LONG` if they are more than 32,739."""
         length = c_size_t()
         done(lib.ilp_packet_write(self._at(), byref(length)))
         return self._output(length.value)

@@ -2,7 +2,7 @@
 //!
 //!     connector LISTEN OWN < TABLE
 //!
-//! A line of the table is `account LIMIT MAX TOKEN`, with ` ADDRESS TOKEN` behind it where Prepares are sent to the neighbour, or
+//! A line of the table is `account LIMIT MAX TOKEN`, with ` ADDRESS TOKEN` after it if Prepares are sent to the neighbour, or
 //! `route PREFIX ACCOUNT [NUM DEN]`. It answers one request after another, writes the balances after each, and runs until it is
 //! stopped.
 
@@ -14,7 +14,7 @@ use std::net::{TcpListener, TcpStream};
 
 type Fault = Box<dyn std::error::Error>;
 
-/// A neighbour: the token that it shows here, and where Prepares are sent to it, with the token to show there.
+/// A neighbour: the token that it shows here, and the host and port at which it accepts Prepares, with the token to show there.
 struct Neighbour {
     token: String,
     next: Option<(String, String)>,

@@ -2,8 +2,8 @@
 //!
 //!     receiver LISTEN TOKEN SECRET OWN PEER UNITS > FILE
 //!
-//! It takes Prepares from whoever shows the token, receives up to so many units, and ends when the sender closed the stream.
-//! SECRET is 64 hexadecimal digits, OWN and PEER are ILP addresses.
+//! It accepts Prepares from whoever shows the token, receives up to this number of units, and ends when the sender closed the
+//! stream. SECRET is 64 hexadecimal digits, OWN and PEER are ILP addresses.
 
 mod link;
 

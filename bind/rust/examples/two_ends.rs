@@ -5,7 +5,7 @@ use ilpstream::{End, EndConfig, Error, Ivs, Read, Role, now};
 const SIZE: usize = 1 << 20;
 const UNITS: u64 = 500;
 
-/// The client's next Prepare is given to the server, and the answer to the client. False where nothing is to be sent.
+/// The client's next Prepare is given to the server, and the answer to the client. False if nothing is to be sent.
 fn pass(
     client: &mut End,
     server: &mut End,

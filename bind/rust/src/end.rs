@@ -92,13 +92,13 @@ pub enum Read {
 /// Why a Prepare failed.
 #[derive(Clone, Debug, PartialEq, Eq)]
 pub enum Failure {
-    /// No answer came.
+    /// No answer arrived.
     Lost,
-    /// What came is neither a Fulfill nor a Reject.
+    /// What arrived is neither a Fulfill nor a Reject.
     Unreadable,
-    /// A Fulfill came whose fulfillment does not fit the condition.
+    /// A Fulfill arrived whose fulfillment does not fit the condition.
     Unfit,
-    /// A Reject came.
+    /// A Reject arrived.
     Rejected {
         /// Its code, as `T04`.
         code: [u8; 3],
@@ -110,7 +110,7 @@ pub enum Failure {
     },
 }
 
-/// A cause, as the archive tells it.
+/// A cause, as the archive reports it.
 fn failure(told: &raw::Failure) -> Failure {
     match told.kind {
         1 => Failure::Lost,
@@ -131,9 +131,9 @@ pub struct Received {
     pub bytes: Vec<u8>,
     /// 0 for a Fulfill, and else why it is a Reject (docs/ERRORS.md, "Of an end").
     pub reason: u32,
-    /// The amount of the Prepare, 0 where it cannot be read.
+    /// The amount of the Prepare, 0 if it cannot be read.
     pub amount: u64,
-    /// The number of its STREAM packet, where that could be decrypted and read.
+    /// The number of its STREAM packet, if that could be decrypted and read.
     pub sequence: Option<u64>,
 }
 
@@ -171,8 +171,8 @@ pub struct End {
 }
 
 impl End {
-    /// An end whose own ILP address is `own` and whose peer's is `peer`. Both ends share the secret. [`Error::Argument`] where
-    /// one is no ILP address (RFC 0015) or a number of `config` is out of its range; [`Error::OutOfMemory`].
+    /// An end whose own ILP address is `own` and whose peer's is `peer`. Both ends share the secret. [`Error::Argument`] if
+    /// one is not an ILP address (RFC 0015) or a number of `config` is out of its range; [`Error::OutOfMemory`].
     pub fn new(
         role: Role,
         secret: &[u8; 32],
@@ -192,7 +192,7 @@ impl End {
         Ok(End { handle })
     }
 
-    /// Opens the next of this end's own streams. [`Error::NoStream`] where all 32 are used; [`Error::Closed`],
+    /// Opens the next of this end's own streams. [`Error::NoStream`] if all 32 are used; [`Error::Closed`],
     /// [`Error::ConnectionFailed`], [`Error::OutOfMemory`].
     pub fn open_stream(&mut self) -> Result<u8, Error> {
         let mut stream = 0;
@@ -200,10 +200,18 @@ impl End {
         u8::try_from(stream).map_err(|_| Error::Argument)
     }
 
-    /// Takes bytes that are to be sent on a stream: all of them, or none where it is refused. [`Error::NoStream`],
+    /// Accepts bytes that are to be sent on a stream: all of them, or none if it is refused. [`Error::NoStream`],
     /// [`Error::Closed`], [`Error::Full`], [`Error::ConnectionFailed`], [`Error::OutOfMemory`].
     pub fn write(&mut self, stream: u8, bytes: &[u8]) -> Result<(), Error> {
         done(raw::end_write(&mut self.handle, stream.into(), bytes))
+    }
+
+    /// How many bytes [`End::write`] takes on a stream at most, 0 to 262,144: a longer write is [`Error::Full`]. To write a part
+    /// of what there is, ask for the room first. [`Error::NoStream`], [`Error::Closed`], [`Error::ConnectionFailed`].
+    pub fn room(&self, stream: u8) -> Result<usize, Error> {
+        let mut room = 0;
+        done(raw::ilp_end_room(&self.handle, stream.into(), &mut room))?;
+        Ok(room)
     }
 
     /// Closes a stream once all that was written and offered is delivered. [`Error::NoStream`], [`Error::Closed`],
@@ -222,7 +230,7 @@ impl End {
         ))
     }
 
-    /// Offers units on a stream, beside what was offered before. [`Error::NoStream`], [`Error::Closed`],
+    /// Offers units on a stream, in addition to what was offered before. [`Error::NoStream`], [`Error::Closed`],
     /// [`Error::AmountTooLarge`], [`Error::ConnectionFailed`].
     pub fn offer(&mut self, stream: u8, amount: u64) -> Result<(), Error> {
         done(raw::ilp_end_offer(&mut self.handle, stream.into(), amount))
@@ -238,7 +246,19 @@ impl End {
         ))
     }
 
-    /// The next bytes of a stream, at most `max`. [`Error::Argument`] where that is 0; [`Error::NoStream`],
+    /// Which streams can be read, rising: on each of them [`End::read`] gives more than [`Read::Nothing`]. A stream whose end
+    /// was read stays in the list. [`Error::OutOfMemory`].
+    pub fn ready(&self) -> Result<Vec<u8>, Error> {
+        text(|out, len| raw::end_ready(&self.handle, out, len))
+    }
+
+    /// Which streams are open, those of both ends, rising. One that the caller does not know yet was opened by the peer
+    /// meanwhile. [`Error::OutOfMemory`].
+    pub fn streams(&self) -> Result<Vec<u8>, Error> {
+        text(|out, len| raw::end_streams(&self.handle, out, len))
+    }
+
+    /// The next bytes of a stream, at most `max`. [`Error::Argument`] if that is 0; [`Error::NoStream`],
     /// [`Error::OutOfMemory`].
     pub fn read(&mut self, stream: u8, max: usize) -> Result<Read, Error> {
         let (mut len, mut code) = (0, 0);
@@ -251,9 +271,9 @@ impl End {
         }
     }
 
-    /// The next Prepare, or None where nothing is to be sent now. No two packets of a connection, of either end, may have the
+    /// The next Prepare, or None if nothing is to be sent now. No two packets of a connection, of either end, may have the
     /// same IV: take each from [`Ivs`](crate::Ivs). `now` is in milliseconds after 1970-01-01 00:00 UTC; the Prepare expires
-    /// 30 seconds later. [`Error::Argument`] where `now` is before 1970 or after 9999; [`Error::OutOfMemory`].
+    /// 30 seconds later. [`Error::Argument`] if `now` is before 1970 or after 9999; [`Error::OutOfMemory`].
     pub fn send(&mut self, iv: &[u8; 12], now: i64) -> Result<Option<Outgoing>, Error> {
         let (mut flight, mut len) = (0, 0);
         match raw::ilp_end_send(&mut self.handle, iv, now, &mut flight, &mut len) {
@@ -266,7 +286,7 @@ impl End {
         }
     }
 
-    /// Whether the bytes that came back are a Fulfill that fits. They are decrypted where they lie. [`Error::Unknown`] where
+    /// Whether the bytes of an answer are a Fulfill that fits. They are decrypted where they lie. [`Error::Unknown`] if
     /// the flight is not open.
     pub fn answer(&mut self, flight: Flight, bytes: &mut [u8]) -> Result<bool, Error> {
         let mut fulfilled = 0;
@@ -279,12 +299,12 @@ impl End {
         Ok(fulfilled == 1)
     }
 
-    /// No answer came to a flight, and none is waited for: what it carries is sent again. [`Error::Unknown`].
+    /// No answer arrived to a flight, and none is waited for: what it carries is sent again. [`Error::Unknown`].
     pub fn fault(&mut self, flight: Flight) -> Result<(), Error> {
         done(raw::ilp_end_fault(&mut self.handle, flight.0))
     }
 
-    /// What answers a Prepare of the peer. [`Error::Argument`] where `now` is before 1970 or after 9999.
+    /// What answers a Prepare of the peer. [`Error::Argument`] if `now` is before 1970 or after 9999.
     /// [`Error::OutOfMemory`]: answer it with [`End::t00`], and the peer sends again.
     pub fn receive(&mut self, bytes: &[u8], now: i64) -> Result<Received, Error> {
         let mut received = raw::Received::default();
@@ -302,7 +322,7 @@ impl End {
         })
     }
 
-    /// A Reject T00 that is kept ready, for use where memory is refused.
+    /// A Reject T00 that is kept ready, for use if memory is refused.
     pub fn t00(&self) -> Result<Vec<u8>, Error> {
         text(|out, len| raw::end_t00(&self.handle, out, len))
     }

@@ -55,7 +55,7 @@ refusals! {
     Oer = 10, "a field of the ILP packet is malformed";
     /// The ILP packet is of another kind.
     Kind = 11, "the ILP packet is of another kind";
-    /// An expiry is no date and time of the years 0000 to 9999.
+    /// An expiry is not a date and time of the years 0000 to 9999.
     Expiry = 12, "the expiry is no date and time";
     /// An ILP address is malformed.
     Address = 13, "an ILP address is malformed";
@@ -87,7 +87,7 @@ refusals! {
     Tag = 31, "the tag of the payload is wrong";
     /// Out of memory for keys or a payload.
     KeysOutOfMemory = 33, "out of memory for a payload";
-    /// The table of a hop: a prefix stands twice, a route names no account, or a limit is above 2^63 - 1.
+    /// The table of a hop: a prefix is there twice, a route names no account, or a limit is above 2^63 - 1.
     BadTable = 34, "the table of the hop is bad";
     /// A hop is out of memory.
     HopOutOfMemory = 35, "the hop is out of memory";

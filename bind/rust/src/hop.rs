@@ -14,7 +14,8 @@ pub struct Account {
     pub max_packet: u64,
 }
 
-/// Where the Prepares go whose destination has a prefix; where several routes fit, that of the longest prefix counts.
+/// The account to which Prepares are sent whose destination has a prefix. If several routes fit, that of the longest prefix
+/// counts.
 #[derive(Clone, Copy, Debug, PartialEq, Eq)]
 pub struct Route<'a> {
     /// An ILP address.
@@ -54,7 +55,7 @@ pub enum Verdict {
     },
 }
 
-/// What stands between a hop and a neighbour, in units of their link.
+/// What a hop and a neighbour owe each other, in units of their link.
 #[repr(C)]
 #[derive(Clone, Copy, Debug, Default, PartialEq, Eq)]
 pub struct Balances {
@@ -62,14 +63,14 @@ pub struct Balances {
     pub claims: u64,
     /// What the hop owes the account.
     pub dues: u64,
-    /// What is held against the account until its Prepares are answered.
+    /// What is reserved of the account until its Prepares are answered.
     pub held: u64,
 }
 
 /// What a ticket books, in units of the accounts' links.
 #[derive(Clone, Copy, Debug, PartialEq, Eq)]
 pub struct Booking {
-    /// The account that the Prepare came from.
+    /// The account that the Prepare arrived from.
     pub payer: usize,
     /// What it owes more.
     pub claim: u64,
@@ -116,7 +117,7 @@ pub struct Hop {
 
 impl Hop {
     /// A hop with its own ILP address, its accounts, numbered from 0, and its routes. Nothing is owed yet. [`Error::Argument`]
-    /// where one is no ILP address (RFC 0015), or a rate has 0 below; [`Error::BadTable`], [`Error::HopOutOfMemory`].
+    /// if one is not an ILP address (RFC 0015), or a rate has 0 below; [`Error::BadTable`], [`Error::HopOutOfMemory`].
     pub fn new(own: &str, accounts: &[Account], routes: &[Route<'_>]) -> Result<Hop, Error> {
         let mut handle = Handle::empty();
         let (prefixes, routes) = table(routes);
@@ -126,7 +127,7 @@ impl Hop {
 
     /// A hop with the books of an earlier one: by account, what it owes the hop, and what the hop owes it. No ticket is open.
     /// Tickets are numbered from `next` on, which has to be above each number that an earlier hop with these books gave out.
-    /// Refused as [`Hop::new`] is, and as [`Error::BadBooks`] where not each account has a claim and a due, one owes more than
+    /// Refused as [`Hop::new`] is, and as [`Error::BadBooks`] if not each account has a claim and a due, one owes more than
     /// its limit beyond its due, or a sum is above 2^63 - 1.
     ///
     /// ```
@@ -164,14 +165,14 @@ impl Hop {
         Ok(Hop { handle })
     }
 
-    /// Forgets every open ticket, as a crash and a start with the same books do. Claims and dues stay, nothing is held any more,
-    /// and the numbers of tickets go on: for a ticket of before, each call is [`Error::Unknown`].
+    /// Forgets every open ticket, as a crash and a start with the same books do. Claims and dues stay, nothing is reserved any
+    /// more, and the numbers of tickets continue: for a ticket of before, each call is [`Error::Unknown`].
     pub fn restart(&mut self) -> Result<(), Error> {
         done(raw::ilp_hop_restart(&mut self.handle))
     }
 
-    /// What becomes of a Prepare that came from an account at the time `now`, in milliseconds after 1970-01-01 00:00 UTC. Where
-    /// it is sent on, its amount is held until the ticket is settled. [`Error::NoAccount`]; [`Error::Argument`] where `now` is
+    /// What becomes of a Prepare that came from an account at the time `now`, in milliseconds after 1970-01-01 00:00 UTC. If
+    /// it is sent on, its amount is reserved until the ticket is settled. [`Error::NoAccount`]; [`Error::Argument`] if `now` is
     /// before 1970 or after 9999. [`Error::HopOutOfMemory`]: answer it
     /// with [`Hop::t00`], and the sender sends again.
     pub fn arrive(&mut self, account: usize, bytes: &[u8], now: i64) -> Result<Verdict, Error> {
@@ -220,8 +221,8 @@ impl Hop {
         }))
     }
 
-    /// Settles a ticket by the bytes that came back, and gives those that are to be sent back. A Fulfill that fits and came in
-    /// time is booked; all else becomes a Reject. [`Error::Unknown`] where the ticket is not open; [`Error::HopOutOfMemory`],
+    /// Settles a ticket by the bytes of its answer, and gives those that are to be sent back. A Fulfill that fits and came in
+    /// time is booked; all else becomes a Reject. [`Error::Unknown`] if the ticket is not open; [`Error::HopOutOfMemory`],
     /// after which it still is.
     pub fn settle(&mut self, ticket: Ticket, bytes: &[u8], now: i64) -> Result<Vec<u8>, Error> {
         let mut len = 0;
@@ -235,24 +236,24 @@ impl Hop {
         output(&self.handle, len)
     }
 
-    /// The same where no answer came, and none is waited for: a Reject T01. [`Error::Unknown`].
+    /// The same if no answer arrived, and none is waited for: a Reject T01. [`Error::Unknown`].
     pub fn fault(&mut self, ticket: Ticket) -> Result<Vec<u8>, Error> {
         let mut len = 0;
         done(raw::ilp_hop_fault(&mut self.handle, ticket.0, &mut len))?;
         output(&self.handle, len)
     }
 
-    /// Gives up a ticket without an answer. The amount stays held. [`Error::Unknown`].
+    /// Gives up a ticket without an answer. The amount stays reserved. [`Error::Unknown`].
     pub fn abandon(&mut self, ticket: Ticket) -> Result<(), Error> {
         done(raw::ilp_hop_abandon(&mut self.handle, ticket.0))
     }
 
-    /// A Reject T00 that is kept ready, for use where memory is refused.
+    /// A Reject T00 that is kept ready, for use if memory is refused.
     pub fn t00(&self) -> Result<Vec<u8>, Error> {
         text(|out, len| raw::hop_t00(&self.handle, out, len))
     }
 
-    /// What an account owes the hop, what the hop owes it, and what is held against it. [`Error::NoAccount`].
+    /// What an account owes the hop, what the hop owes it, and what is reserved of it. [`Error::NoAccount`].
     pub fn balances(&self, account: usize) -> Result<Balances, Error> {
         let mut balances = Balances::default();
         done(raw::ilp_hop_balances(&self.handle, account, &mut balances))?;

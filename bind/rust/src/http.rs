@@ -67,8 +67,8 @@ impl Request {
         Ok(Request { handle })
     }
 
-    /// Takes the next bytes. Some thousand at once cost less than single ones. Where the request is refused, or
-    /// [`Error::HttpOutOfMemory`], no byte was taken.
+    /// Reads the next bytes. Some thousand at once cost less than single ones. If the request is refused, or
+    /// [`Error::HttpOutOfMemory`], no byte was accepted.
     pub fn feed(&mut self, bytes: &[u8]) -> Result<Progress, Error> {
         fed(&mut self.handle, bytes)
     }
@@ -88,14 +88,14 @@ impl Response {
         Ok(Response { handle })
     }
 
-    /// Takes the next bytes. [`Error::BadHead`], [`Error::BodyTooLong`], [`Error::HttpOutOfMemory`], and where the status is not
-    /// 200: no byte was taken.
+    /// Reads the next bytes. [`Error::BadHead`], [`Error::BodyTooLong`], [`Error::HttpOutOfMemory`], and if the status is not
+    /// 200: no byte was accepted.
     pub fn feed(&mut self, bytes: &[u8]) -> Result<Progress, Error> {
         fed(&mut self.handle, bytes)
     }
 }
 
-/// A POST request with an ILP packet. [`Error::Argument`] where the host or the token is not 1 to 255 characters from `!` to
+/// A POST request with an ILP packet. [`Error::Argument`] if the host or the token is not 1 to 255 characters from `!` to
 /// `~`; [`Error::HttpOutOfMemory`].
 pub fn request_text(host: &str, token: &str, body: &[u8]) -> Result<Vec<u8>, Error> {
     text(|out, len| raw::request_text(host, token, body, out, len))

@@ -39,7 +39,7 @@ pub struct Prepare<'a> {
 /// The answer to a Prepare (RFC 0027, RFC 0030).
 #[derive(Clone, Copy, Debug, PartialEq, Eq)]
 pub enum Answer<'a> {
-    /// It was taken.
+    /// It was accepted.
     Fulfill {
         /// Whose SHA-256 digest is the condition.
         fulfillment: [u8; 32],
@@ -84,7 +84,7 @@ impl Prepare<'_> {
         })
     }
 
-    /// Its bytes. [`Error::Expiry`] where the year is outside 0000 to 9999; [`Error::Address`], [`Error::DataTooLong`],
+    /// Its bytes. [`Error::Expiry`] if the year is outside 0000 to 9999; [`Error::Address`], [`Error::DataTooLong`],
     /// [`Error::PacketOutOfMemory`].
     pub fn write(&self) -> Result<Vec<u8>, Error> {
         text(|out, len| raw::prepare_write(self, out, len))
@@ -112,8 +112,8 @@ impl Answer<'_> {
         })
     }
 
-    /// Its bytes. [`Error::Code`] where the code has a character outside `!` to `~`; [`Error::Address`] where `by` is neither
-    /// empty nor an ILP address; [`Error::DataTooLong`] where the message has more than 8,191 bytes, or the payload more than
+    /// Its bytes. [`Error::Code`] if the code has a character outside `!` to `~`; [`Error::Address`] if `by` is neither
+    /// empty nor an ILP address; [`Error::DataTooLong`] if the message has more than 8,191 bytes, or the payload more than
     /// 32,767; [`Error::PacketOutOfMemory`].
     pub fn write(&self) -> Result<Vec<u8>, Error> {
         match *self {

@@ -37,7 +37,7 @@ impl Ivs {
     }
 }
 
-/// The time, as the calls want it: milliseconds after 1970-01-01 00:00 UTC. 0 where the system's clock is before that.
+/// The time, as the calls want it: milliseconds after 1970-01-01 00:00 UTC. 0 if the system's clock is before that.
 pub fn now() -> i64 {
     SystemTime::now()
         .duration_since(UNIX_EPOCH)

@@ -1,9 +1,9 @@
-//! What a call puts out.
+//! What a call returns.
 
 use crate::error::{Error, done};
 use crate::raw::{self, Handle};
 
-/// The bytes that the last call put out, of which it said how many there are.
+/// The bytes that the last call output, of which it said how many there are.
 pub(crate) fn output(handle: &Handle, len: usize) -> Result<Vec<u8>, Error> {
     let mut bytes = vec![0; len];
     let mut copied = 0;
@@ -12,7 +12,7 @@ pub(crate) fn output(handle: &Handle, len: usize) -> Result<Vec<u8>, Error> {
     Ok(bytes)
 }
 
-/// The bytes that a call copies, which says how many there are, also where there is no room for them.
+/// The bytes that a call copies, which says how many there are, also if there is no room for them.
 pub(crate) fn text(mut call: impl FnMut(&mut [u8], &mut usize) -> u32) -> Result<Vec<u8>, Error> {
     let mut len = 0;
     let mut bytes = Vec::new();

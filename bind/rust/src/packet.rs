@@ -9,7 +9,7 @@ use crate::raw::{self, Handle};
 pub enum PacketKind {
     /// A request.
     Prepare = 12,
-    /// The reply to a request that was taken.
+    /// The reply to a request that was accepted.
     Fulfill = 13,
     /// The reply to a request that was not.
     Reject = 14,
@@ -27,7 +27,7 @@ impl PacketKind {
 }
 
 /// A frame of a STREAM packet (RFC 0029, section 5.3). A `max_offset`, `receive_max`, `total_received`, `send_max` or `total_sent`
-/// is `u64::MAX` where the packet that was read has a greater number.
+/// is `u64::MAX` if the packet that was read has a greater number.
 #[derive(Clone, Debug, PartialEq, Eq)]
 pub enum Frame {
     /// Type 01: the connection is closed.
@@ -279,7 +279,7 @@ impl Packet {
         Ok(Packet { handle })
     }
 
-    /// Reads all of the bytes as a packet that an ILP packet of this kind carried. Frames of unknown types, and bytes behind the
+    /// Reads all of the bytes as a packet that an ILP packet of this kind carried. Frames of unknown types, and bytes after the
     /// last frame, are skipped. The first fault: [`Error::StreamTooLong`], [`Error::StreamVersion`], [`Error::StreamKind`],
     /// [`Error::StreamOer`], [`Error::FrameFormat`]. [`Error::StreamOutOfMemory`].
     pub fn read(kind: PacketKind, bytes: &[u8]) -> Result<Packet, Error> {
@@ -300,7 +300,7 @@ impl Packet {
         })
     }
 
-    /// Adds a frame behind the others. [`Error::FrameFormat`] where its address is neither empty nor an ILP address;
+    /// Adds a frame after the others. [`Error::FrameFormat`] if its address is neither empty nor an ILP address;
     /// [`Error::StreamOutOfMemory`].
     pub fn push(&mut self, frame: &Frame) -> Result<(), Error> {
         done(raw::packet_push(
@@ -311,8 +311,8 @@ impl Packet {
     }
 
     /// The known frame at a place, counted from 0, and its index over all frames, also those that were skipped, of the packet
-    /// that was read; that of a frame that was added is how many known frames there were. [`Error::Argument`] where there are
-    /// not so many known frames; [`Error::StreamOutOfMemory`].
+    /// that was read; that of a frame that was added is how many known frames there were. [`Error::Argument`] if there are
+    /// fewer known frames; [`Error::StreamOutOfMemory`].
     pub fn frame(&mut self, place: usize) -> Result<(u64, Frame), Error> {
         let (mut fields, mut index, mut len) = (raw::Frame::default(), 0, 0);
         let handle = &mut self.handle;
@@ -344,7 +344,7 @@ impl Packet {
     }
 }
 
-/// The known frames of a packet, each with its index. Where memory is refused for one, [`Error::StreamOutOfMemory`] stands in its
+/// The known frames of a packet, each with its index. If memory is refused for one, [`Error::StreamOutOfMemory`] is in its
 /// place.
 #[derive(Debug)]
 pub struct Frames<'p> {

@@ -1,5 +1,5 @@
 //! For tests: the library's requests for memory, counted by thread, of which those that a test names are refused. The requests
-//! are those of this crate's archive alone; the program's own `Vec`s are no part of it.
+//! are those of this crate's archive alone; the program's own `Vec`s are not part of it.
 
 use std::cell::Cell;
 
@@ -21,7 +21,7 @@ fn plan(first: u64, last: u64) {
     LAST.set(last);
 }
 
-/// Counts anew, and refuses the request number `n` alone, where the next is number 1.
+/// Counts anew, and refuses the request number `n` alone, if the next is number 1.
 pub fn refuse_only(n: u64) {
     plan(n, n);
 }

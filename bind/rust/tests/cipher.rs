@@ -1,5 +1,5 @@
-//! The cipher at each length at which its passes differ, beside values of Python's `cryptography` 48.0.0, which calls OpenSSL:
-//! `cipher/lengths.py` wrote them and says of which texts they are.
+//! The cipher at each length at which its passes differ, compared with values of Python's `cryptography` 48.0.0, which calls
+//! OpenSSL: `cipher/lengths.py` wrote them and says of which texts they are.
 
 use ilpstream::{Error, Keys};
 

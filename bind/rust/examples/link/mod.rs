@@ -43,7 +43,7 @@ pub fn exchange(address: &str, token: &str, packet: &[u8]) -> io::Result<Vec<u8>
     }
 }
 
-/// The packet of a neighbour, and the place of its token among the tokens. A request that is none is answered with its status.
+/// The packet of a neighbour, and the place of its token among the tokens. A malformed request is answered with its status.
 pub fn receive(stream: &mut TcpStream, tokens: &[&str]) -> io::Result<(usize, Vec<u8>)> {
     patient(stream)?;
     let mut request = Request::new(tokens).map_err(io::Error::other)?;

@@ -1,4 +1,4 @@
-//! For tests: the functions by which the archive takes memory, of which some requests are refused. They are those of
+//! For tests: the functions by which the archive allocates, of which some requests are refused. They are those of
 //! `ilpstream_memory.h`, over malloc and free. (Without the feature `refusing` the archive has its own, which also overwrite a
 //! block before they give it back.)
 
@@ -18,7 +18,7 @@ struct Tried {
     at: *mut c_void,
 }
 
-/// What the archive is given where there is no block: never read.
+/// What the archive is given if there is no block: never read.
 static NOTHING: [u64; 2] = [0; 2];
 
 fn tried(at: *mut c_void) -> Tried {
@@ -32,7 +32,7 @@ fn tried(at: *mut c_void) -> Tried {
     }
 }
 
-/// A block of no bytes is one of as many as its alignment.
+/// A block of no bytes has the length of its alignment.
 #[unsafe(no_mangle)]
 extern "C" fn rattle_alloc(size: usize, align: usize) -> Tried {
     if !crate::refusing::admits() {

@@ -117,7 +117,7 @@ pub(crate) struct Arrived {
     pub ticket: u64,
 }
 
-/// What a ticket books: nothing where `books` is 0.
+/// What a ticket books: nothing if `books` is 0.
 #[repr(C)]
 #[derive(Clone, Copy, Default)]
 pub(crate) struct Booking {
@@ -149,7 +149,7 @@ pub(crate) struct Route {
     pub den: u32,
 }
 
-/// A Prepare that was read: where its parts begin, and how many bytes they have.
+/// A Prepare that was read: the offsets of its parts, and how many bytes they have.
 #[repr(C)]
 #[derive(Clone, Copy, Default)]
 pub(crate) struct Prepare {
@@ -225,6 +225,7 @@ unsafe extern "C" {
     ) -> u32;
     pub(crate) safe fn ilp_end_open_stream(end: &mut Handle, stream: &mut u32) -> u32;
     fn ilp_end_write(end: &mut Handle, stream: u32, bytes: *const u8, len: usize) -> u32;
+    pub(crate) safe fn ilp_end_room(end: &Handle, stream: u32, room: &mut usize) -> u32;
     pub(crate) safe fn ilp_end_close(end: &mut Handle, stream: u32) -> u32;
     pub(crate) safe fn ilp_end_abort(end: &mut Handle, stream: u32, code: u32) -> u32;
     pub(crate) safe fn ilp_end_offer(end: &mut Handle, stream: u32, amount: u64) -> u32;
@@ -236,6 +237,8 @@ unsafe extern "C" {
         len: &mut usize,
         code: &mut u64,
     ) -> u32;
+    fn ilp_end_ready(end: &Handle, streams: *mut u8, room: usize, len: &mut usize) -> u32;
+    fn ilp_end_streams(end: &Handle, streams: *mut u8, room: usize, len: &mut usize) -> u32;
     pub(crate) safe fn ilp_end_send(
         end: &mut Handle,
         iv: &[u8; 12],
@@ -455,7 +458,7 @@ pub(crate) fn error_text(code: u32) -> &'static str {
     text_of(ilp_error_text(code))
 }
 
-// SAFETY of each call below: each pointer and the length behind it are those of one slice.
+// SAFETY of each call below: each pointer and the length after it are those of one slice.
 
 pub(crate) fn output(handle: &Handle, out: &mut [u8], len: &mut usize) -> u32 {
     unsafe { ilp_output(handle, out.as_mut_ptr(), out.len(), len) }
@@ -505,6 +508,14 @@ pub(crate) fn end_receive(
     received: &mut Received,
 ) -> u32 {
     unsafe { ilp_end_receive(end, bytes.as_ptr(), bytes.len(), now, received) }
+}
+
+pub(crate) fn end_ready(end: &Handle, streams: &mut [u8], len: &mut usize) -> u32 {
+    unsafe { ilp_end_ready(end, streams.as_mut_ptr(), streams.len(), len) }
+}
+
+pub(crate) fn end_streams(end: &Handle, streams: &mut [u8], len: &mut usize) -> u32 {
+    unsafe { ilp_end_streams(end, streams.as_mut_ptr(), streams.len(), len) }
 }
 
 pub(crate) fn end_t00(end: &Handle, out: &mut [u8], len: &mut usize) -> u32 {

@@ -1,6 +1,6 @@
 #!/usr/bin/env python3
 """Writes lengths.txt by Python's `cryptography`, which calls OpenSSL: of texts of these lengths, sealed by AES-256-GCM under the
-key and the IV below, the tag and the last sixteen bytes of the ciphertext, fewer where it has fewer, `-` where it has none.
+key and the IV below, the tag and the last sixteen bytes of the ciphertext, fewer if it has fewer, `-` if it has none.
 
 The key is that of a connection (RFC 0029, section 4): HMAC-SHA256 of the shared secret 00 01 .. 1f and the bytes
 `ilp_stream_encryption`. The IV is a0 a1 .. ab. Byte i of each text is 7i + i / 256, modulo 256."""

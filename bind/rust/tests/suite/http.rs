@@ -32,7 +32,7 @@ fn in_two(text: &[u8], cut: usize) -> Progress {
     match request.feed(&text[..cut]).unwrap() {
         Progress::Wants(_) => request.feed(&text[cut..]).unwrap(),
         progress => {
-            // (a refused part is not taken)
+            // (of a refused part nothing is read)
             assert_eq!(request.feed(&text[..cut]), Ok(progress.clone()));
             progress
         }

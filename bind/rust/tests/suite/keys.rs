@@ -1,5 +1,5 @@
 //! Keys: payloads that another implementation sealed (`AESGCM` of the Python package `cryptography` 48.0.0, `hmac` and
-//! `hashlib`), texts of many lengths beside the plain implementation, and sealing while memory is refused.
+//! `hashlib`), texts of many lengths compared with the plain implementation, and sealing while memory is refused.
 
 use crate::hostile::plain::seal::PlainKeys;
 use ilpstream::refusing::{has_refused, refuse_none, refuse_only};
@@ -79,7 +79,7 @@ fn other_payloads_are_not_opened() {
     assert_eq!(keys.open(&empty), Err(Error::Tag));
 }
 
-/// Whole blocks with and without a short one behind them: as many as a pass of the cipher takes, fewer and more; and long ones.
+/// Whole blocks with and without a short one after them: the number of a pass of the cipher, fewer and more; and long ones.
 #[test]
 fn texts_of_each_length_are_sealed_as_by_another() {
     let (mut keys, plain) = (keys(), PlainKeys::of(&SECRET));

@@ -6,7 +6,7 @@ use ilpstream::{Error, Frame, Header, Keys, Packet, PacketKind};
 /// Sequence 1, amount 0, "hi" at offset 0 of stream 1.
 const HI: &[u8] = b"\x01\x0c\x01\x01\x01\x00\x01\x01\x14\x07\x01\x01\x01\x00\x02hi";
 
-/// The same behind a frame of the unknown type 99.
+/// The same after a frame of the unknown type 99.
 const SKIPPED: &[u8] =
     b"\x01\x0c\x01\x01\x01\x00\x01\x02\x99\x01\x00\x14\x07\x01\x01\x01\x00\x02hi";
 
@@ -62,7 +62,7 @@ fn the_first_fault_is_reported() {
     assert_eq!(refusal(PacketKind::Prepare, &bytes), Some(24));
 }
 
-/// A packet of one frame with so many bytes has 19 more: 8 of the packet, 4 of the frame, and 7 of its fields.
+/// A packet of one frame with this number of bytes has 19 more: 8 of the packet, 4 of the frame, and 7 of its fields.
 #[test]
 fn a_packet_has_at_most_32_739_bytes() {
     for (count, refused) in [(32_720, None), (32_721, Some(Error::StreamTooLong))] {

@@ -21,13 +21,13 @@ impl Numbers {
         second ^ (second >> 31)
     }
 
-    /// One of these byte lists; the empty one where there is none.
+    /// One of these byte lists; the empty one if there is none.
     pub fn pick<'a>(&mut self, lists: &[&'a [u8]]) -> &'a [u8] {
         let place = self.place(lists.len());
         lists.get(place).copied().unwrap_or(&[])
     }
 
-    /// One of these numbers; 0 where there is none.
+    /// One of these numbers; 0 if there is none.
     pub fn choice(&mut self, list: &[u64]) -> u64 {
         let place = self.place(list.len());
         list.get(place).copied().unwrap_or(0)
@@ -44,7 +44,7 @@ impl Numbers {
         }
     }
 
-    /// The next number below a bound, or 0 where that is 0.
+    /// The next number below a bound, or 0 if that is 0.
     pub fn below(&mut self, bound: u64) -> u64 {
         self.next().checked_rem(bound).unwrap_or(0)
     }

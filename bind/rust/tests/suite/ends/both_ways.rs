@@ -4,7 +4,7 @@ use super::{config, new_end};
 use ilpstream::refusing::{has_refused, refuse_none, refuse_only};
 use ilpstream::{End, Error, Outgoing, Read, Role, Totals};
 
-/// What each end writes, in two pieces.
+/// What each end writes, in two chunks.
 const TEXT: &[u8] = b"there is more than one word of it";
 const FRONT: usize = 20;
 
@@ -12,7 +12,7 @@ const FRONT: usize = 20;
 /// same call then succeeds.
 struct Steady {
     end: End,
-    /// How many calls found no memory.
+    /// How many calls ran out of memory.
     lacks: u64,
     /// All bytes that it sent and answered, in order.
     said: Vec<Vec<u8>>,
@@ -27,7 +27,7 @@ impl Steady {
         })
     }
 
-    /// What a call gives, which is made again where it found no memory.
+    /// What a call gives, which is made again if it ran out of memory.
     fn call<T>(&mut self, call: impl Fn(&mut End) -> Result<T, Error>) -> T {
         let before = self.end.totals().unwrap();
         call(&mut self.end).unwrap_or_else(|error| {
@@ -63,7 +63,7 @@ impl Steady {
     }
 }
 
-/// A Prepare is fulfilled. Its answer comes back, or is lost, and the Prepare comes again.
+/// A Prepare is fulfilled. Its answer arrives, or is lost, and the Prepare arrives again.
 fn deliver(from: &mut Steady, to: &mut Steady, sent: Option<Outgoing>, is_lost: bool) {
     let Some(Outgoing { flight, bytes }) = sent else {
         return;
@@ -77,7 +77,7 @@ fn deliver(from: &mut Steady, to: &mut Steady, sent: Option<Outgoing>, is_lost: 
     }
 }
 
-/// Both ends send before either Prepare comes.
+/// Both ends send before either Prepare arrives.
 fn pass(client: &mut Steady, server: &mut Steady, number: u8, is_lost: bool) {
     let to_server = client.send([number; 12]);
     let to_client = server.send([number ^ 0x40; 12]);

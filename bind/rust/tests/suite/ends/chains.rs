@@ -26,7 +26,7 @@ struct Party {
     role: Role,
     /// How many Prepares it sent.
     sent: u32,
-    /// What it paid by the Fulfills that came back, and what it was credited by those that it gave.
+    /// What it paid by the Fulfills that it received, and what it was credited by those that it gave.
     paid: u64,
     credited: u64,
 }
@@ -35,7 +35,7 @@ struct Party {
 struct Shipment {
     from: Role,
     flight: Flight,
-    /// The tickets of the hops behind it, with what came in there and what was sent on.
+    /// The tickets of the hops after it, with what arrived there and what was sent on.
     behind: Vec<(Ticket, u64, u64)>,
     bytes: Vec<u8>,
     is_answer: bool,
@@ -197,7 +197,7 @@ impl Party {
         })
     }
 
-    /// Whether its totals are what came and went.
+    /// Whether its totals are what it received and sent.
     fn is_kept(&mut self) -> bool {
         let totals = self.end.totals().unwrap();
         totals.paid == self.paid && totals.credited == self.credited
@@ -269,7 +269,7 @@ impl Chain {
         }
     }
 
-    /// A Prepare comes to the next node: to a hop, which sends it on or answers, or to the other end.
+    /// A Prepare arrives at the next node: to a hop, which sends it on or answers, or to the other end.
     fn arrive(&mut self, it: &mut Shipment) {
         let (count, from) = (it.behind.len(), side(it.from));
         if count == self.hops.len() {
@@ -301,7 +301,7 @@ impl Chain {
         }
     }
 
-    /// What a hop answers to the Prepare of a ticket, or none where it knows the ticket no more. It tells before what it books.
+    /// What a hop answers to the Prepare of a ticket, or none if it knows the ticket no more. It reports before what it books.
     fn close(
         &mut self,
         place: usize,
@@ -326,8 +326,8 @@ impl Chain {
         Some(answer)
     }
 
-    /// An answer comes to the node before, or nothing does: whether the shipment still is on its way. Where a hop crashed that the
-    /// answer comes to, nothing comes to the node before it.
+    /// An answer arrives at the node before, or nothing does: whether the shipment still is on its way. If a hop crashed that the
+    /// answer arrives at, nothing arrives at the node before it.
     fn come_back(&mut self, it: &mut Shipment, is_lost: bool) -> bool {
         let from = side(it.from);
         let link = self.link(it.from, it.behind.len());
@@ -368,8 +368,8 @@ impl Chain {
         true
     }
 
-    /// One of those on the way goes on by a link, or is lost there. A Prepare that is lost may have come to the next node: where
-    /// that is an end, it answers it.
+    /// One of those on the way is forwarded over a link, or is lost there. A Prepare that is lost may have come to the next node:
+    /// if that is an end, it answers it.
     fn go_on(&mut self, at: usize, is_lost: bool, has_come: bool) {
         let mut it = self.on_the_way.swap_remove(at);
         if !it.is_answer {
@@ -467,7 +467,7 @@ impl Chain {
         self.missed.iter().flat_map(|it| it.late).sum()
     }
 
-    /// That nothing is held, and all that was written and offered came, but for what was aborted.
+    /// That nothing is reserved, and all that was written and offered arrived, except for what was aborted.
     fn check_done(&mut self) {
         for hop in &mut self.hops {
             assert_eq!(

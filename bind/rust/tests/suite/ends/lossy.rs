@@ -17,7 +17,7 @@ const ROUNDS: u64 = 10_000;
 /// The most that a stream may receive, in units.
 const RECEIVE_MAX: u64 = 1_000_000;
 
-/// How many bytes a lane has: mostly few, at times more than an end may send before it was told a limit.
+/// How many bytes a lane has: mostly few, at times more than an end may send before a limit was advertised.
 fn total(numbers: &mut Numbers) -> u64 {
     match numbers.below(8) {
         0 => numbers.below(100_000),

@@ -12,7 +12,7 @@ enum Given {
     Nothing,
 }
 
-/// The calls that may want memory.
+/// The calls that may allocate.
 #[derive(Clone, Copy, Debug)]
 enum Call {
     New,
@@ -45,7 +45,7 @@ fn listening() -> End {
     server
 }
 
-/// The next Prepare: none is no bytes.
+/// The next Prepare: empty bytes mean that there is none.
 fn sent(end: &mut End) -> Result<Vec<u8>, Error> {
     Ok(end
         .send(&[9; 12], 0)?
@@ -86,7 +86,7 @@ fn called(end: &mut End, call: Call, prepare: &[u8]) -> Result<Given, Error> {
     })
 }
 
-/// What an end tells, and what it sends next.
+/// What an end reports, and what it sends next.
 fn left(end: &mut End) -> (Totals, Vec<u8>) {
     let next = sent(end).unwrap();
     (end.totals().unwrap(), next)

@@ -1,4 +1,4 @@
-//! What an end sends and receives, packet by packet: the other end is played by hand, with the plain readers and writers.
+//! What an end sends and receives, packet by packet: the other end is played manually, with the plain readers and writers.
 
 use super::{SECRET, config, new_end};
 use crate::hostile::plain::answers::{fulfill_bytes, reject_bytes};
@@ -166,7 +166,7 @@ fn an_abort_ends_reading_at_once() {
     assert_eq!(server.read(1, 9), Ok(Read::Aborted(9)));
 }
 
-/// A peer that says that it is blocked is told the limit once it is raised, by a Prepare of this end.
+/// A peer that says that it is blocked gets the limit once it is raised, by a Prepare of this end.
 #[test]
 fn limits_at_which_the_peer_waits_are_told() {
     let mut server = server(&[]);
@@ -194,7 +194,7 @@ fn limits_at_which_the_peer_waits_are_told() {
     assert!(send(&mut server).is_none());
 }
 
-/// Limits count for the stream that their packet opens, where it is fulfilled. A packet that is rejected opens none.
+/// Limits count for the stream that their packet opens, if it is fulfilled. A packet that is rejected opens none.
 #[test]
 fn limits_count_in_the_packet_that_opens_their_stream() {
     let mut server = server(&[]);
@@ -308,7 +308,7 @@ fn an_abort_is_sent_at_once() {
     assert!(send(&mut client).is_none());
 }
 
-/// Before a limit was told 16,384 bytes are sent, at most 16,000 in a packet; then as far as the peer says.
+/// Before a limit was advertised 16,384 bytes are sent, at most 16,000 in a packet; then as far as the peer says.
 #[test]
 fn no_byte_is_sent_past_a_limit() {
     let mut client = client(&[1], config(16, 1_000, 1_000));
@@ -328,7 +328,7 @@ fn no_byte_is_sent_past_a_limit() {
     assert_eq!(sent(&mut client).frames, [frame(0x16, [1, 16_385, 0])]);
 }
 
-/// A blocked stream is told once, and again where that Prepare failed.
+/// A blocked stream is reported once, and again if that Prepare failed.
 #[test]
 fn a_blocked_stream_is_told_once() {
     let mut client = client(&[1, 3], config(16, 1_000, 1_000));
@@ -447,7 +447,7 @@ fn the_least_that_has_to_arrive_is_said() {
 }
 
 /// What F08 says lowers the packet limit: as much of it as the greatest is of what arrived, rounded down; half of what was sent
-/// where it says nothing, or what cannot be; and one at least.
+/// if it says nothing, or what cannot be; and one at least.
 #[test]
 fn too_large_an_amount_lowers_the_packet_limit() {
     for (amount, told, want) in [
@@ -510,6 +510,32 @@ fn a_close_is_sent_once_all_is_acknowledged() {
     assert_eq!(client.settled(1), Ok(true));
 }
 
+/// A close and an abort go in the next Prepare, with the bytes of another stream.
+#[test]
+fn closes_do_not_wait_for_bytes() {
+    let mut client = client(&[1, 3, 5], config(16, 1_000, 1_000));
+    client.write(5, b"ab").unwrap();
+    client.close(1).unwrap();
+    client.abort(3, 9).unwrap();
+    let closes = [frame(0x10, [1, 1, 0]), frame(0x10, [3, 9, 0])];
+    let next = sent(&mut client);
+    assert_eq!(next.frames[..2], closes);
+    assert_eq!(next.frames[2..], [data(5, 0, b"ab")]);
+    assert!(send(&mut client).is_none());
+}
+
+/// The closes of all 32 streams that a client may open go in one Prepare.
+#[test]
+fn closes_go_together() {
+    let streams: Vec<u8> = (0..32).map(|i| 2 * i + 1).collect();
+    let mut client = client(&streams, config(16, 1_000, 1_000));
+    for stream in &streams {
+        client.close(*stream).unwrap();
+    }
+    assert_eq!(sent(&mut client).frames.len(), 32);
+    assert!(send(&mut client).is_none());
+}
+
 /// A thousand Prepares in a row, 64 in flight at once.
 #[test]
 fn many_prepares_are_sent() {
@@ -538,7 +564,7 @@ fn long_reject() -> Vec<u8> {
     [&front[..], &message, b"\0"].concat()
 }
 
-/// The last cause is told, also after a Fulfill.
+/// The last cause is reported, also after a Fulfill.
 #[test]
 fn why_the_last_prepare_failed_is_told() {
     let mut client = client(&[1], config(16, 1_000, 1_000));

@@ -19,7 +19,7 @@ pub struct Lane {
     /// How many bytes were read.
     read: u64,
     closed: bool,
-    /// Whether the end was told, or that the peer aborted the stream.
+    /// Whether the end was reported, or that the peer aborted the stream.
     ended: bool,
     /// Whether either end may abort the stream.
     may_abort: bool,
@@ -31,7 +31,7 @@ fn byte_at(mark: u8, offset: u64) -> u8 {
 }
 
 impl Lane {
-    /// A lane of so many bytes and so much money.
+    /// A lane of this number of bytes and units.
     pub fn new(stream: u8, role: Role, total: u64, money: u64) -> Lane {
         let (client, server) = (stream ^ 64, stream ^ 128);
         let (own_mark, peer_mark) = match role {
@@ -61,7 +61,7 @@ impl Lane {
         }
     }
 
-    /// Aborts the stream, where that may be and it is open.
+    /// Aborts the stream, if that may be and it is open.
     pub fn abort(&mut self, end: &mut End) {
         if self.may_abort && !self.closed && end.has_stream(self.stream).unwrap() {
             end.abort(self.stream, 9).unwrap();
@@ -69,7 +69,7 @@ impl Lane {
         }
     }
 
-    /// Whether all that was written at the peer was read, and all of this end's is settled; less where it may be aborted.
+    /// Whether all that was written at the peer was read, and all of this end's is settled; less if it may be aborted.
     pub fn is_done(&self, end: &mut End, peer: &Lane) -> bool {
         let is_whole = self.read == peer.total || self.may_abort && self.read <= peer.total;
         self.closed && self.ended && is_whole && end.settled(self.stream).unwrap()
@@ -80,7 +80,7 @@ impl Lane {
         self.money
     }
 
-    /// Writes and offers so much of what is left, where the stream is open, and closes the stream once nothing is.
+    /// Writes and offers so much of what is left, if the stream is open, and closes the stream once nothing is.
     pub fn go_on(&mut self, end: &mut End, most: u64) {
         if self.closed || !end.has_stream(self.stream).unwrap() {
             return;
@@ -102,7 +102,7 @@ impl Lane {
         }
     }
 
-    /// Reads at most so many bytes, one at least, and compares them.
+    /// Reads at most this number of bytes, one at least, and compares them.
     pub fn read_on(&mut self, end: &mut End, most: usize) {
         match end.read(self.stream, most.max(1)) {
             Ok(Read::Bytes(bytes)) => {
@@ -127,7 +127,7 @@ impl Lane {
 struct Shipment {
     flight: Flight,
     prepare: Vec<u8>,
-    /// None where the Prepare did not arrive yet.
+    /// None if the Prepare did not arrive yet.
     answer: Option<Vec<u8>>,
 }
 
@@ -140,7 +140,7 @@ pub struct Side {
     /// Prepares that were given up and may arrive later.
     late: Vec<Vec<u8>>,
     pub role: Role,
-    /// How many Prepares went.
+    /// How many Prepares were sent.
     sent: u32,
     /// The amounts of the Prepares that this end fulfilled.
     fulfilled: u64,
@@ -159,7 +159,7 @@ impl Side {
         }
     }
 
-    /// The next Prepare goes on its way: whether there was one.
+    /// The next Prepare is sent: whether there was one.
     pub fn send(&mut self) -> bool {
         let mut iv = [self.role as u8; 12];
         iv[8..].copy_from_slice(&self.sent.to_be_bytes());
@@ -190,7 +190,7 @@ impl Side {
         received.bytes
     }
 
-    /// One of the Prepares arrives at its peer, for the first time or again. Which answer comes first is free.
+    /// One of the Prepares arrives at its peer, for the first time or again. Which answer arrives first is free.
     pub fn deliver(&mut self, peer: &mut Side, numbers: &mut Numbers) {
         if let Some(mut shipment) = self.pick(numbers) {
             let answer = peer.receive(&shipment.prepare);
@@ -201,7 +201,7 @@ impl Side {
         }
     }
 
-    /// One of the answers comes back.
+    /// One of the answers arrives.
     pub fn take_answer(&mut self, numbers: &mut Numbers) {
         match self.pick(numbers) {
             Some(Shipment {
@@ -223,7 +223,7 @@ impl Side {
         }
     }
 
-    /// One of the Prepares that were given up arrives; its answer comes to nobody.
+    /// One of the Prepares that were given up arrives; nobody gets its answer.
     pub fn deliver_late(&mut self, peer: &mut Side) -> bool {
         let late = self.late.pop();
         if let Some(prepare) = &late {
@@ -232,7 +232,7 @@ impl Side {
         late.is_some()
     }
 
-    /// The last of those on their way arrives and its answer comes back: whether there was one.
+    /// The last of those on their way arrives and its answer arrives: whether there was one.
     pub fn pass(&mut self, peer: &mut Side) -> bool {
         let Some(shipment) = self.way.pop() else {
             return false;
@@ -249,7 +249,7 @@ impl Side {
         self.end.totals().unwrap().paid <= peer.end.totals().unwrap().credited
     }
 
-    /// That all bytes and all money came to the peer, and all ended here.
+    /// That all bytes and all money arrived at the peer, and all ended here.
     pub fn check_done(&mut self, peer: &mut Side) {
         for (lane, other) in self.lanes.iter().zip(&peer.lanes) {
             assert!(lane.is_done(&mut self.end, other));

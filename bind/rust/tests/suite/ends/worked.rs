@@ -19,7 +19,7 @@ fn client_of_hi() -> End {
     client
 }
 
-/// The client's next Prepare goes to the server and its answer comes back. Whether there was one.
+/// The client's next Prepare is given to the server, and its answer to the client. Whether there was one.
 fn pass(client: &mut End, server: &mut End, number: u8) -> bool {
     let Some(prepare) = client.send(&[number; 12], 0).unwrap() else {
         return false;
@@ -29,7 +29,7 @@ fn pass(client: &mut End, server: &mut End, number: u8) -> bool {
     true
 }
 
-/// The first Prepare is rejected, since no receive max was told yet; its reply tells one, and the second goes by it.
+/// The first Prepare is rejected, since no receive max was advertised yet; its reply advertises one, and the second follows it.
 #[test]
 fn money_goes_up_to_the_receive_max() {
     let (mut client, mut server) = (client_of_hi(), end(Role::Server));
@@ -54,6 +54,41 @@ fn a_stream_is_read_to_its_end() {
     assert!(!pass(&mut client, &mut server, 2));
     assert_eq!(server.read(1, 10), Ok(Read::Bytes(b"hi".to_vec())));
     assert_eq!(server.read(1, 10), Ok(Read::End));
+}
+
+/// A stream can be read once its bytes arrived, and again once its end did.
+#[test]
+fn streams_that_are_open_and_ready_are_listed() {
+    let (mut client, mut server) = (end(Role::Client), end(Role::Server));
+    assert_eq!((client.streams(), client.ready()), (Ok(vec![]), Ok(vec![])));
+    assert_eq!((client.open_stream(), client.open_stream()), (Ok(1), Ok(3)));
+    assert_eq!(server.open_stream(), Ok(2));
+    client.write(3, b"hi").unwrap();
+    assert!(pass(&mut client, &mut server, 0));
+    assert_eq!(client.streams(), Ok(vec![1, 3]));
+    assert_eq!(server.streams(), Ok(vec![2, 3]));
+    assert_eq!((client.ready(), server.ready()), (Ok(vec![]), Ok(vec![3])));
+    assert_eq!(server.read(3, 10), Ok(Read::Bytes(b"hi".to_vec())));
+    assert_eq!(server.ready(), Ok(vec![]));
+    client.close(3).unwrap();
+    assert!(pass(&mut client, &mut server, 1));
+    assert_eq!(server.ready(), Ok(vec![3]));
+    assert_eq!(server.read(3, 10), Ok(Read::End));
+    assert_eq!(server.ready(), Ok(vec![3]));
+}
+
+#[test]
+fn a_write_of_more_than_the_room_is_refused() {
+    let mut client = client_of_hi();
+    assert_eq!(client.room(3), Err(Error::NoStream));
+    assert_eq!(client.room(1), Ok(262_142));
+    client.write(1, &[0; 262_000]).unwrap();
+    assert_eq!(client.room(1), Ok(142));
+    assert_eq!(client.write(1, &[0; 143]), Err(Error::Full));
+    client.write(1, &[0; 142]).unwrap();
+    assert_eq!(client.room(1), Ok(0));
+    client.close(1).unwrap();
+    assert_eq!(client.room(1), Err(Error::Closed));
 }
 
 /// An end is passed to another thread, which is the server, and back.

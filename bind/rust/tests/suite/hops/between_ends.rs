@@ -29,7 +29,7 @@ fn end(role: Role, own: &str, peer: &str) -> End {
     End::new(role, &[3; 32], own, peer, config).unwrap()
 }
 
-/// 100 units go over a hop that gives one for two, and come as the Fulfill is taken.
+/// 100 units cross a hop that gives one for two, and count once the Fulfill is accepted.
 #[test]
 fn money_is_exchanged_and_booked_once() {
     let (mut client, mut server) = (
@@ -47,7 +47,7 @@ fn money_is_exchanged_and_booked_once() {
         bytes,
     } = hop.arrive(0, &prepare.bytes, 0).unwrap()
     else {
-        panic!("it goes on to the second account");
+        panic!("it is forwarded to the second account");
     };
     let back = server.receive(&bytes, 0).unwrap();
     assert_eq!(back.reason, 0);

@@ -1,4 +1,4 @@
-//! A hop that goes on with books: restored ones, restarts, and what a ticket is to book.
+//! A hop that continues with books: restored ones, restarts, and what a ticket is to book.
 
 use super::{
     EXPIRY, EXPIRY_MS, FULFILL, REJECT, WRONG_FULFILL, ZERO_DIGEST, answer_to, counts, forwarded,
@@ -107,8 +107,8 @@ fn numbers_of_tickets_end() {
     assert_eq!(answer_to(&mut hop, 0, 5, "example.b"), reject("T00"));
 }
 
-/// What was booked stays, what was held is free again, and a Fulfill that comes for a Prepare of before books nothing: neither
-/// while no ticket is open, nor while a newer one is.
+/// What was booked stays, what was reserved is free again, and a Fulfill that comes for a Prepare of before books nothing:
+/// neither while no ticket is open, nor while a newer one is.
 #[test]
 fn a_fulfill_after_a_restart_books_nothing() {
     let mut hop = new_hop(100, 1000).unwrap();
@@ -145,7 +145,7 @@ fn a_restart_frees_what_abandoned_tickets_hold() {
     goes_on(&mut hop, 0, 100, "example.b");
 }
 
-/// However many tickets are open, a restart asks for no memory.
+/// However many tickets are open, a restart does not allocate.
 #[test]
 fn a_restart_needs_no_memory() {
     let mut hop = new_hop(1000, 1000).unwrap();
@@ -160,7 +160,7 @@ fn a_restart_needs_no_memory() {
     assert_eq!(counts(&mut hop), [0; 6]);
 }
 
-/// Three for two: what comes in as 5 is sent on as 7.
+/// Three for two: what arrives as 5 is sent on as 7.
 fn exchanging() -> Hop {
     let account = Account {
         limit: 100,
@@ -174,7 +174,8 @@ fn exchanging() -> Hop {
     Hop::new("example.c", &[account; 2], &[route("example", 0), rate]).unwrap()
 }
 
-/// Each row: what came, when, and whether it books. A hop's balances then change by what was told, and by nothing while it is told.
+/// Each row: what arrived, when, and whether it books. A hop's balances then change by what was reported, and by nothing while it
+/// is reported.
 #[test]
 fn what_is_told_is_booked() {
     let prepare = prepare(5, EXPIRY, &ZERO_DIGEST, "example.b");
@@ -208,7 +209,7 @@ fn what_is_told_is_booked() {
     }
 }
 
-/// The ticket that is named is the one that is told of, among several, and in the other direction too.
+/// The ticket that is named is the one that is reported of, among several, and in the other direction too.
 #[test]
 fn each_ticket_books_its_own() {
     let mut hop = exchanging();
@@ -266,7 +267,7 @@ fn a_hop_is_restored_or_not() {
     }
 }
 
-/// What a ticket books is told, or memory is refused; the ticket stays open.
+/// What a ticket books is reported, or memory is refused; the ticket stays open.
 #[test]
 fn a_booking_is_told_or_not() {
     let mut hop = exchanging();

@@ -7,7 +7,7 @@ use super::{
 use ilpstream::refusing::{asked, has_refused, refuse_from, refuse_none, refuse_only};
 use ilpstream::{Account, Error, Hop, Ticket, Verdict};
 
-/// A hop to which the Prepare of 5 came so many times, where the last of them was fulfilled.
+/// A hop to which the Prepare of 5 arrived this number of times, if the last of them was fulfilled.
 fn used_hop(arrivals: u64) -> Hop {
     let mut hop = new_hop(100, 1000).unwrap();
     for number in 0..arrivals {
@@ -89,7 +89,7 @@ fn a_prepare_is_answered_or_not() {
     }
 }
 
-/// Another refusal than the one for want of memory asks for none.
+/// A refusal other than out of memory asks for none.
 #[test]
 fn other_refusals_ask_for_no_memory() {
     let mut hop = new_hop(100, 1000).unwrap();
@@ -130,7 +130,7 @@ fn settled_or_not(hop: &mut Hop, ticket: Ticket, came: Option<&[u8]>, now: i64) 
     unreachable!("some run meets no refusal")
 }
 
-/// Each row: what came and when, the answer, and what is booked.
+/// Each row: what arrived and when, the answer, and what is booked.
 #[test]
 fn a_ticket_is_settled_or_not() {
     let prepare = five();
@@ -158,7 +158,7 @@ fn a_ticket_is_settled_or_not() {
 const WAITING: u64 = 1000;
 
 /// A thousand Prepares wait at once: each is sent on, one more is past the limit, and each is settled, the last that came first,
-/// where no answer came with no request for memory. Then one more is sent on.
+/// if no answer arrived with no request for memory. Then one more is sent on.
 #[test]
 fn a_thousand_wait() {
     let mut hop = new_hop(5 * WAITING, 1000).unwrap();
@@ -180,7 +180,7 @@ fn a_thousand_wait() {
     forwarded(&mut hop, 0, &five(), 0);
 }
 
-/// A table with a prefix that stands twice is never made, whichever request for memory is refused, and is refused as such once
+/// A table with a prefix that is there twice is never made, whichever request for memory is refused, and is refused as such once
 /// there is memory for the table.
 #[test]
 fn a_bad_table_is_refused_without_memory() {

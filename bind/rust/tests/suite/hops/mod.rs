@@ -1,5 +1,5 @@
 //! A hop: worked Prepares and answers, rates, books, and each request for memory refused in turn. The hop of these tests is
-//! `example.c`, with the accounts 0, behind `example`, and 1, behind `example.b`.
+//! `example.c`, with the accounts 0, for `example`, and 1, for `example.b`.
 
 use ilpstream::{Account, Error, Hop, Route, Ticket, Verdict};
 
@@ -111,7 +111,7 @@ fn answered(hop: &mut Hop, from: usize, bytes: &[u8], now: i64) -> Vec<u8> {
     }
 }
 
-/// Claims, dues and what is held of both accounts.
+/// Claims, dues and what is reserved of both accounts.
 fn counts(hop: &mut Hop) -> [u64; 6] {
     let (a, b) = (hop.balances(0).unwrap(), hop.balances(1).unwrap());
     [a.claims, a.dues, a.held, b.claims, b.dues, b.held]

@@ -1,4 +1,4 @@
-//! Prepares that are sent on at another rate than 1 to 1: what goes to account 1 is exchanged, what goes to account 0 is not.
+//! Prepares that are sent on at another rate than 1 to 1: the amount for account 1 is exchanged, that for account 0 is not.
 
 use super::{
     EARLIER, EXPIRY, FULFILL, ZERO_DIGEST, answer_to, counts, forwarded, goes_on, prepare, reject,
@@ -76,7 +76,7 @@ fn claims_and_dues_are_in_their_own_amounts() {
     }
 }
 
-/// An account's limit and its packet limit bound what comes, whatever is sent on for it.
+/// An account's limit and its packet limit bound what arrives, whatever is sent on for it.
 #[test]
 fn limits_bound_what_comes() {
     for (num, den) in [(3, 2), (1, 2)] {
@@ -93,7 +93,7 @@ fn limits_bound_what_comes() {
     assert_eq!(sent_for(&mut rated_hop(1000, 60, 3, 2), 60), 90);
 }
 
-/// What an account is owed, in the amount that was sent to it, may come back from it beside its limit.
+/// What an account is owed, in the amount that was sent to it, may return from it in addition to its limit.
 #[test]
 fn what_is_owed_may_come_back() {
     let mut hop = rated_hop(100, 1000, 3, 2);

@@ -113,7 +113,7 @@ fn no_answer_and_strange_bytes() {
     assert_eq!(counts(&mut hop), [0; 6]);
 }
 
-/// A ticket is settled once, by whichever call; one that is abandoned keeps its amount held.
+/// A ticket is settled once, by whichever call; one that is abandoned keeps its amount reserved.
 #[test]
 fn a_ticket_is_settled_once() {
     let mut hop = new_hop(100, 1000).unwrap();

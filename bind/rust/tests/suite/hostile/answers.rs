@@ -24,7 +24,7 @@ fn new_client() -> End {
     end
 }
 
-/// The sealed packet of a Fulfill, with the limits of a peer that takes what comes.
+/// The sealed packet of a Fulfill, with the limits of a peer that accepts what arrives.
 fn reply(keys: &PlainKeys, numbers: &mut Numbers, iv: [u8; 12]) -> Vec<u8> {
     let sequence = numbers.choice(&[1, 2, 3, 4]);
     let frame = |kind, numbers| PlainFrame {
@@ -79,7 +79,7 @@ fn changed(numbers: &mut Numbers, bytes: &[u8]) -> Vec<u8> {
     ANSWERS.changed(numbers, bytes)
 }
 
-/// What comes back to a Prepare.
+/// What is answered to a Prepare.
 fn answer(keys: &PlainKeys, numbers: &mut Numbers, iv: [u8; 12], prepare: &[u8]) -> Vec<u8> {
     match numbers.below(8) {
         0..=2 => fulfill(keys, numbers, iv, prepare),
@@ -134,7 +134,7 @@ fn note(want: Does, amount: u64, paid: &mut u64, met: &mut Met) {
     });
 }
 
-/// Whether an end does with what comes back to its next Prepare what the rules say. It paid this much before.
+/// Whether an end does with the answer to its next Prepare what the rules say. It paid this much before.
 fn is_done(
     keys: &PlainKeys,
     end: &mut End,

@@ -158,7 +158,7 @@ fn wide_packet(numbers: &mut Numbers) -> Vec<u8> {
     packet_bytes(12, 9, 0, &frames)
 }
 
-/// What stands inside the seal: a lawful packet, one with changes, or hostile bytes.
+/// What is inside the seal: a lawful packet, one with changes, or hostile bytes.
 fn inside(numbers: &mut Numbers, amount: u64) -> Vec<u8> {
     match numbers.below(64) {
         0 => wide_packet(numbers),
@@ -227,7 +227,7 @@ enum Expected<'h> {
         reason: u8,
         amount: u64,
     },
-    /// It opened the payload: the reason, 0 for a Fulfill, and what stands afterwards.
+    /// It opened the payload: the reason, 0 for a Fulfill, and what is so afterwards.
     Opened {
         reason: u8,
         amount: u64,
@@ -309,7 +309,7 @@ fn answer_due<'h>(
     opened(plain, fulfilled, &prepare, packet, sealed)
 }
 
-/// The frames behind the first, where that has this type and these numbers.
+/// The frames after the first, if that has this type and these numbers.
 fn behind<'f, 'a>(
     frames: &'f [PlainFrame<'a>],
     kind: u8,
@@ -338,7 +338,7 @@ fn names(frames: &[PlainFrame<'_>], number: u64) -> bool {
     false
 }
 
-/// The frames behind those that tell the limits of a stream.
+/// The frames after those that report the limits of a stream.
 fn behind_limits<'f, 'a>(
     frames: &'f [PlainFrame<'a>],
     number: u64,
@@ -348,7 +348,7 @@ fn behind_limits<'f, 'a>(
     behind(rest, 0x12, [number, stream.receive_max, stream.credited])
 }
 
-/// Whether a reply's frames tell the limits that stand: the connection's, and those of each stream that the request names.
+/// Whether a reply's frames report the limits in force: the connection's, and those of each stream that the request names.
 fn tells(reply: &[PlainFrame<'_>], request: &[PlainFrame<'_>], after: &PlainEnd) -> bool {
     let Some(mut rest) = behind(reply, 0x03, [after.connection_limit(), 0, 0]) else {
         return false;
@@ -366,7 +366,7 @@ fn tells(reply: &[PlainFrame<'_>], request: &[PlainFrame<'_>], after: &PlainEnd)
     rest.is_empty()
 }
 
-/// Whether a reply's payload repeats the sequence, has the amount that arrived, and tells the limits that stand.
+/// Whether a reply's payload repeats the sequence, has the amount that arrived, and reports the limits in force.
 fn replies(
     keys: &PlainKeys,
     payload: &[u8],
@@ -492,7 +492,7 @@ impl Pair {
         }
     }
 
-    /// What stands once the end did what is expected of it.
+    /// What is so once the end did what is expected of it.
     fn go_on(&mut self, expected: &Expected<'_>) {
         if let Expected::Opened {
             reason: 0,
@@ -545,7 +545,7 @@ impl Pair {
         }
     }
 
-    /// Whether what is read of the streams is what was told to be delivered.
+    /// Whether what is read of the streams is what was reported to be delivered.
     fn reads(&mut self) -> bool {
         let mut read = 0u64;
         for number in [1, 3, 63] {
@@ -566,7 +566,7 @@ fn moment(numbers: &mut Numbers) -> i64 {
     }
 }
 
-/// The reasons of an end's Rejects that come without want of memory, but for those of fields that no input has, and 0.
+/// The reasons of an end's Rejects that are given although memory suffices, except for those of fields that no input has, and 0.
 const REASONS: [u64; 19] = [
     0, 10, 11, 12, 13, 17, 30, 31, 32, 55, 56, 57, 60, 61, 62, 63, 64, 65, 66,
 ];
@@ -591,7 +591,7 @@ fn an_end_does_what_the_rules_say() {
     run_all(inputs() / STEPS, &REASONS, runs);
 }
 
-/// Whether a new end does with bytes what the rules say, where this alone was sealed.
+/// Whether a new end does with bytes what the rules say, if this alone was sealed.
 fn a_new_end_does(keys: &PlainKeys, sealed: &[Sealed], bytes: &[u8]) -> bool {
     Pair::new().does_its_duty(keys, sealed, bytes, 0, &mut Met::new())
 }
@@ -635,7 +635,7 @@ fn every_prefix_and_change_inside_the_seal() {
     }
 }
 
-/// Bytes whose length is 2^64 - 1 are no Prepare, and answered F01.
+/// Bytes whose length is 2^64 - 1 are not a Prepare, and are answered F01.
 #[test]
 fn an_endless_length_is_answered() {
     let endless = b"\x0c\x88\xff\xff\xff\xff\xff\xff\xff\xff";

@@ -96,7 +96,7 @@ fn new_hop() -> Hop {
     Hop::new("example.c", &accounts, &routes).unwrap()
 }
 
-/// The same hop with the books of an earlier one, at so many starts before.
+/// The same hop with the books of an earlier one, at this number of starts before.
 fn restored(accounts: &[PlainAccount; 3], start: u64) -> Hop {
     let terms = accounts.map(|account| terms(&account));
     let routes = ROUTES.map(|plain| route(&plain));
@@ -165,7 +165,7 @@ fn arrival(numbers: &mut Numbers) -> Vec<u8> {
     }
 }
 
-/// What comes back: nothing, the Fulfill of 32 zero bytes, or hostile bytes.
+/// What is answered: nothing, the Fulfill of 32 zero bytes, or hostile bytes.
 fn answer(numbers: &mut Numbers) -> Option<Vec<u8>> {
     match numbers.below(4) {
         0 => None,
@@ -186,7 +186,7 @@ fn moment(numbers: &mut Numbers) -> i64 {
     }
 }
 
-/// Whether the bytes that go on are those that came, at the rate and a second earlier.
+/// Whether the forwarded bytes are those that arrived, at the rate and a second earlier.
 fn goes_on(came: &[u8], went: &[u8], ticket: PlainTicket<'_>) -> bool {
     let contents = ilp::prepare_contents(went).unwrap_or(&[]);
     let expiry = contents.get(8..25).unwrap_or(&[]);
@@ -215,7 +215,7 @@ fn settled(hop: &mut Hop, ticket: Ticket, came: Option<&[u8]>, now: i64) -> Vec<
     answer.expect("the ticket is open")
 }
 
-/// A number for a code of RFC 0027: its two digits, and 100 or 200 more where its letter is R or T.
+/// A number for a code of RFC 0027: its two digits, and 100 or 200 more if its letter is R or T.
 fn number_of(code: [u8; 3]) -> u64 {
     let [letter, tens, ones] = code;
     let more = match letter {
@@ -228,7 +228,7 @@ fn number_of(code: [u8; 3]) -> u64 {
     ones.wrapping_add(tens.wrapping_mul(10)).wrapping_add(more)
 }
 
-/// Takes note of what a hop answers to a Prepare that went on: 300 for a Reject that passes, 301 for what is booked.
+/// Takes note of what a hop answers to a Prepare that was forwarded: 300 for a Reject that passes, 301 for what is booked.
 fn note_outcome(met: &mut Met, want: PlainOutcome) {
     met.note(match want {
         PlainOutcome::Rejects(code) => number_of(code),
@@ -237,7 +237,7 @@ fn note_outcome(met: &mut Met, want: PlainOutcome) {
     });
 }
 
-/// Takes note of what becomes of a Prepare: 302 where it goes on.
+/// Takes note of what becomes of a Prepare: 302 if it is forwarded.
 fn note_verdict(met: &mut Met, want: PlainVerdict<'_>) {
     met.note(match want {
         PlainVerdict::Rejects(code) => number_of(code),
@@ -246,11 +246,11 @@ fn note_verdict(met: &mut Met, want: PlainVerdict<'_>) {
     });
 }
 
-/// All that a hop answers without want of memory: F01, F02, F05, F08, R00, R02, T01, T04, and what passes and goes on; and 303, that
-/// it starts again.
+/// All that a hop answers while memory suffices: F01, F02, F05, F08, R00, R02, T01, T04, and what passes and is forwarded; and
+/// 303, that it starts again.
 const ANSWERS_OF_A_HOP: [u64; 12] = [1, 2, 5, 8, 100, 102, 201, 204, 300, 301, 302, 303];
 
-/// The bytes that go back where a ticket is settled with what came.
+/// The bytes of the answer if a ticket is settled with what arrived.
 fn text_due(came: Option<&[u8]>, want: PlainOutcome) -> Vec<u8> {
     match want {
         PlainOutcome::Rejects(code) => reject_bytes(&code, OWN, &[]),
@@ -283,8 +283,8 @@ fn settles(
     told == Ok(booking(ticket, want)) && settled(hop, waiting, came.as_deref(), now) == text
 }
 
-/// Now and then the hop starts again: it forgets what is open, or another one goes on with its books. Its tickets' numbers go on,
-/// or begin at the start's.
+/// Now and then the hop starts again: it forgets what is open, or another one continues with its books. Its tickets' numbers
+/// continue, or begin at the start's.
 fn may_start_again(
     hop: &mut Hop,
     accounts: &mut [PlainAccount; 3],

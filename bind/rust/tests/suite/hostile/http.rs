@@ -105,7 +105,7 @@ impl Side {
     }
 }
 
-/// Whether a reading takes a part as it should, and then stands where the text does that it took: `want`.
+/// Whether a reading reads a part as it should, and then is at the place of the text that it read: `want`.
 fn agrees(reading: &mut Reading, part: &[u8], want: Message<'_>) -> bool {
     match (reading.feed(part), want) {
         (Ok(Progress::Wants(more)), Message::Unfinished(least)) => more == least,
@@ -147,7 +147,7 @@ fn number_of(side: Side, want: Message<'_>) -> u64 {
     }
 }
 
-/// What is said of a text at last, where it is read in random parts as the plain reading reads each of its fronts.
+/// What is said of a text at last, if it is read in random parts as the plain reading reads each of its fronts.
 fn told(side: Side, numbers: &mut Numbers, text: &[u8]) -> Option<u64> {
     let mut reading = side.reading();
     let mut before = 0;
@@ -166,7 +166,7 @@ fn told(side: Side, numbers: &mut Numbers, text: &[u8]) -> Option<u64> {
     }
 }
 
-/// What is said of a text at last, which ends the test where it is not what the rules say.
+/// What is said of a text at last, which ends the test if it is not what the rules say.
 fn read(side: Side, numbers: &mut Numbers, text: &[u8], seed: u64) -> u64 {
     let told = told(side, numbers, text);
     sure_at(told.is_some(), seed, 0, String::from_utf8_lossy(text));
@@ -217,7 +217,7 @@ fn responses_are_read_as_the_rules_say() {
 const LONG_FIELD: &[u8] =
     b"X: aaaaaaaaaaaaaaaaaaaaaaaaaaaaaaaaaaaaaaaaaaaaaaaaaaaaaaaaaaaaaaaaaaaaaaaaaaaaaaaaaaaaaaaaaaaaaaaaaaaaaaaaaaaaaaaaaaaaaaaaaaaaaaaaaaaaaaaaaaaaaaaaaaaaaaaaaaaa\r\n";
 
-/// Heads about 64 fields and about 8,192 bytes long behind these lines: fewer inputs, since each is long.
+/// Heads about 64 fields and about 8,192 bytes long after these lines: fewer inputs, since each is long.
 fn try_long_heads(side: Side, first: &[u8]) {
     let many = [first, &b"A: b\r\n".repeat(61)].concat();
     let long = [first, &LONG_FIELD.repeat(50)].concat();

@@ -70,7 +70,7 @@ fn is_prepare(prepare: &Prepare<'_>, plain: &PlainPrepare<'_>) -> bool {
         && prepare.payload == plain.payload
 }
 
-/// 0 where bytes are read as the plain Prepare, the number where both refuse them so, and None where they differ.
+/// 0 if bytes are read as the plain Prepare, the number if both refuse them so, and None if they differ.
 fn told_of_prepare(bytes: &[u8]) -> Option<u64> {
     match (Prepare::read(bytes), ilp::prepare(bytes)) {
         (Ok(prepare), Ok(plain)) if is_prepare(&prepare, &plain) => Some(0),
@@ -128,7 +128,7 @@ fn told_of_answer(bytes: &[u8]) -> Option<u64> {
     }
 }
 
-/// The same bytes go to both readers, and what they say is noted: of an answer 100 more. A failed test says the answer as step 1.
+/// Both readers get the same bytes, and what they say is noted: of an answer 100 more. A failed test says the answer as step 1.
 fn read(bytes: &[u8], seed: u64, met: &mut Met) {
     for (step, told) in [(0, told_of_prepare(bytes)), (1, told_of_answer(bytes))] {
         sure_at(told.is_some(), seed, step, bytes);
@@ -170,7 +170,7 @@ const DATES: Samples<'static> = Samples {
     behind: 18,
 };
 
-/// Expiries are read in a Prepare, whose 17 digits stand behind its amount.
+/// Expiries are read in a Prepare, whose 17 digits follow its amount.
 #[test]
 fn expiries_are_read_as_the_rules_say() {
     run_all(inputs(), &[0, 12], |seed, met| {

@@ -1,4 +1,4 @@
-//! Keys: sealed texts, opened payloads and fulfillments, beside a second implementation.
+//! Keys: sealed texts, opened payloads and fulfillments, compared with a second implementation.
 
 use super::plain::seal::{PlainKeys, sha256};
 use super::plain::{Met, Samples};
@@ -20,7 +20,7 @@ fn random<const N: usize>(numbers: &mut Numbers) -> [u8; N] {
     std::array::from_fn(|_| numbers.next() as u8)
 }
 
-/// 0 where a payload is opened by both to one text, the number where it is refused by both, and None where they differ.
+/// 0 if a payload is opened by both to one text, the number if it is refused by both, and None if they differ.
 fn told_of_payload(keys: &mut Keys, plain: &PlainKeys, payload: &[u8]) -> Option<u64> {
     match (keys.open(payload), plain.open(payload)) {
         (Ok(text), Some(same)) if text == same => Some(0),

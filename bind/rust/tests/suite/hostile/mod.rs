@@ -1,8 +1,8 @@
-//! Hostile bytes at every reader: half of them lawful messages with changes, half random bytes behind the front of a lawful one.
+//! Hostile bytes at every reader: half of them lawful messages with changes, half random bytes after the front of a lawful one.
 //! A reader has to answer what a second, plain reading answers; a hop and an end have to do what a second, plain model of their
 //! rules does.
 //!
-//! `ILPSTREAM_HOSTILE` says how many inputs each test makes: 20,000 where it is not set. `ILPSTREAM_SEED` says the first seed.
+//! `ILPSTREAM_HOSTILE` says how many inputs each test makes: 20,000 if it is not set. `ILPSTREAM_SEED` says the first seed.
 //! A test that fails says the seed, and the step.
 
 use crate::seeds::for_each;
@@ -40,7 +40,7 @@ fn first() -> u64 {
     number("ILPSTREAM_SEED", 1)
 }
 
-/// Runs a test for so many seeds, by all processors. Each of the numbers has to be met.
+/// Runs a test for this number of seeds, by all processors. Each of the numbers has to be met.
 fn run_all(
     seeds: u64,
     wanted: &[u64],
@@ -57,7 +57,7 @@ fn run_all(
     assert_eq!(met.lacks(wanted), None, "a number was never met");
 }
 
-/// Ends the test where bytes were not read or answered, at this step of this seed, as the rules say.
+/// Ends the test if bytes were not read or answered, at this step of this seed, as the rules say.
 fn sure_at(holds: bool, seed: u64, step: u64, bytes: impl Debug) {
     assert!(holds, "seed {seed}, step {step}, {bytes:?}");
 }

@@ -105,7 +105,7 @@ fn has(packet: &mut Packet, kind: PacketKind, want: &PlainPacket<'_>) -> bool {
             })
 }
 
-/// 0 where bytes are read by both as one packet, the number where they are refused by both, and None where they differ.
+/// 0 if bytes are read by both as one packet, the number if they are refused by both, and None if they differ.
 fn told_of(bytes: &[u8], kind: PacketKind) -> Option<u64> {
     match (Packet::read(kind, bytes), stream::packet(bytes, kind as u8)) {
         (Ok(mut packet), Ok(want)) => {
@@ -149,7 +149,7 @@ fn packets_are_read_as_by_another() {
     run_all(inputs() / 10, &wanted, read);
 }
 
-/// The frame of a plain one; None where its type is unknown, or its text is not UTF-8.
+/// The frame of a plain one; None if its type is unknown, or its text is not UTF-8.
 fn frame(of: &PlainFrame<'_>) -> Option<Frame> {
     let [first, second, third] = of.numbers;
     let text = || String::from_utf8(of.bytes.to_vec()).ok();

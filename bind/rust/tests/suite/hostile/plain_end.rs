@@ -22,7 +22,7 @@ pub(crate) struct PlainStream {
     is_aborted: bool,
 }
 
-/// The streams of an end by their numbers (the first is none), and its credit.
+/// The streams of an end by their numbers (the first is not used), and its credit.
 #[derive(Clone, Copy)]
 pub(crate) struct PlainEnd {
     pub(crate) streams: [PlainStream; 65],
@@ -38,7 +38,7 @@ struct Shares {
 }
 
 impl PlainEnd {
-    /// An end with no stream, where this stream may receive so much.
+    /// An end with no stream, if this stream may receive so much.
     pub(crate) fn new() -> PlainEnd {
         let closed = PlainStream {
             is_open: false,
@@ -61,7 +61,7 @@ impl PlainEnd {
         }
     }
 
-    /// The stream of this number, where it is open or the client may open it.
+    /// The stream of this number, if it is open or the client may open it.
     pub(crate) fn stream(&self, number: u64) -> Option<PlainStream> {
         if number == 0 || number > 64 {
             return None;
@@ -100,7 +100,7 @@ impl PlainEnd {
         self.offsets().1.saturating_add(CONNECTION_WINDOW)
     }
 
-    /// Takes the data of a frame, or tells the rule that they break.
+    /// Takes the data of a frame, or reports the rule that they break.
     fn take_data(&mut self, number: u64, offset: u64, size: u64) -> Result<(), u8> {
         let Some(mut stream) = self.stream(number) else {
             return Err(63);
@@ -125,7 +125,7 @@ impl PlainEnd {
         Ok(())
     }
 
-    /// Opens the stream that a frame names and takes its data, or tells the rule that it breaks.
+    /// Opens the stream that a frame names and takes its data, or reports the rule that it breaks.
     fn take_frame(&mut self, frame: &PlainFrame<'_>) -> Result<(), u8> {
         let [number, offset, _] = frame.numbers;
         if !matches!(frame.kind, 0x10 | 0x11 | 0x14) {
@@ -142,7 +142,7 @@ impl PlainEnd {
         Ok(())
     }
 
-    /// Credits the streams with their parts of an amount, or tells the rule that it breaks.
+    /// Credits the streams with their parts of an amount, or reports the rule that it breaks.
     fn take_money(&mut self, amount: u64, shares: &Shares) -> Result<(), u8> {
         if shares.all > u128::from(u64::MAX) || amount > 0 && shares.all == 0 {
             return Err(64);

@@ -11,7 +11,7 @@ pub(crate) const ZERO_DIGEST: &[u8; 32] =
     b"\x66\x68\x7a\xad\xf8\x62\xbd\x77\x6c\x8f\xc1\x8b\x8e\x9f\x8e\x20\
 \x08\x97\x14\x85\x6e\xe2\x33\xb3\x90\x2a\x59\x1d\x0d\x5f\x29\x25";
 
-/// A neighbour's terms, and what is owed and held.
+/// A neighbour's terms, and what is owed and reserved.
 #[derive(Clone, Copy)]
 pub(crate) struct PlainAccount {
     pub(crate) limit: u64,
@@ -23,7 +23,7 @@ pub(crate) struct PlainAccount {
     pub(crate) pending: u64,
 }
 
-/// Where the addresses within a prefix go, with the two numbers of the rate.
+/// The account for the addresses within a prefix, with the two numbers of the rate.
 #[derive(Clone, Copy)]
 pub(crate) struct PlainRoute {
     pub(crate) prefix: &'static str,
@@ -36,12 +36,12 @@ pub(crate) struct PlainRoute {
 #[derive(Clone, Copy)]
 pub(crate) enum PlainVerdict<'a> {
     Rejects([u8; 3]),
-    /// F08, whose data are two amounts: what came, and the most that may come.
+    /// F08, whose data are two amounts: what arrived, and the most that may come.
     TooLarge(u64, u64),
     Forwards(PlainTicket<'a>),
 }
 
-/// What goes on, and what is held and pending for it.
+/// What is forwarded, and what is reserved and pending for it.
 #[derive(Clone, Copy)]
 pub(crate) struct PlainTicket<'a> {
     pub(crate) prepare: PlainPrepare<'a>,
@@ -144,7 +144,7 @@ pub(crate) fn verdict<'a>(
     })
 }
 
-/// What the hop answers to a Prepare that went on.
+/// What the hop answers to a Prepare that was forwarded.
 #[derive(Clone, Copy)]
 pub(crate) enum PlainOutcome {
     Rejects([u8; 3]),
@@ -154,7 +154,7 @@ pub(crate) enum PlainOutcome {
     Books,
 }
 
-/// What the hop answers where this came back, or nothing, at this moment.
+/// What the hop answers to this answer, or to none, at this moment.
 pub(crate) fn outcome(ticket: PlainTicket<'_>, came: Option<&[u8]>, now: i64) -> PlainOutcome {
     let Some(bytes) = came else {
         return PlainOutcome::Rejects(*b"T01");
@@ -190,7 +190,7 @@ impl PlainAccount {
     }
 }
 
-/// Takes a ticket's amounts into what is held and pending.
+/// Takes a ticket's amounts into what is reserved and pending.
 pub(crate) fn hold(accounts: &mut [PlainAccount; 3], ticket: PlainTicket<'_>) {
     if let Some(account) = accounts.get_mut(ticket.from) {
         account.held = account.held.saturating_add(ticket.received);
@@ -200,7 +200,7 @@ pub(crate) fn hold(accounts: &mut [PlainAccount; 3], ticket: PlainTicket<'_>) {
     }
 }
 
-/// Takes them out again, and books them where the Prepare was fulfilled.
+/// Takes them out again, and books them if the Prepare was fulfilled.
 pub(crate) fn release(accounts: &mut [PlainAccount; 3], ticket: PlainTicket<'_>, books: bool) {
     if let Some(account) = accounts.get_mut(ticket.from) {
         account.held = account.held.saturating_sub(ticket.received);
@@ -216,7 +216,7 @@ pub(crate) fn release(accounts: &mut [PlainAccount; 3], ticket: PlainTicket<'_>,
     }
 }
 
-/// The bytes of a Prepare as they go on: the amount at the rate, and the expiry one second earlier.
+/// The bytes of a Prepare as they are forwarded: the amount at the rate, and the expiry one second earlier.
 pub(crate) fn onward(bytes: &[u8], ticket: PlainTicket<'_>, expiry: &[u8]) -> Vec<u8> {
     let contents = ilp::prepare_contents(bytes).unwrap_or(&[]);
     let (front, _) = bytes.split_at(bytes.len().saturating_sub(contents.len()));

@@ -42,7 +42,7 @@ enum Length<'a> {
     Digits(&'a [u8]),
 }
 
-/// The bytes up to a mark, and those behind it.
+/// The bytes up to a mark, and those after it.
 fn cut_at(bytes: &[u8], mark: u8) -> Option<(&[u8], &[u8])> {
     let mut at = 0usize;
     for byte in bytes {
@@ -58,7 +58,7 @@ fn cut_at(bytes: &[u8], mark: u8) -> Option<(&[u8], &[u8])> {
     None
 }
 
-/// A line without its end, and what is behind it.
+/// A line without its end, and what is after it.
 fn line(bytes: &[u8]) -> Option<(&[u8], &[u8])> {
     let (line, behind) = cut_at(bytes, b'\n')?;
     match line {
@@ -67,7 +67,7 @@ fn line(bytes: &[u8]) -> Option<(&[u8], &[u8])> {
     }
 }
 
-/// Where a head ends: behind the first empty line that follows a line with text.
+/// Where a head ends: after the first empty line that follows a line with text.
 fn end_of_head(text: &[u8]) -> Option<usize> {
     let (mut end, mut has_text) = (0usize, false);
     let (mut before, mut last) = (0, 0);
@@ -111,7 +111,7 @@ fn is_value(text: &[u8]) -> bool {
     true
 }
 
-/// The bytes from the first that is none of these marks.
+/// The bytes from the first that is not one of these marks.
 fn behind_marks<'a>(bytes: &'a [u8], marks: &[u8]) -> &'a [u8] {
     let mut rest = bytes;
     for _ in bytes {
@@ -123,7 +123,7 @@ fn behind_marks<'a>(bytes: &'a [u8], marks: &[u8]) -> &'a [u8] {
     rest
 }
 
-/// The bytes up to the last that is none of these marks.
+/// The bytes up to the last that is not one of these marks.
 fn before_marks<'a>(bytes: &'a [u8], marks: &[u8]) -> &'a [u8] {
     let mut rest = bytes;
     for _ in bytes {
@@ -171,7 +171,7 @@ fn with_length<'a>(length: Length<'a>, value: &'a [u8]) -> Length<'a> {
     }
 }
 
-/// What one more field makes of what was said before. None where it is no field.
+/// What one more field makes of what was said before. None if it is not a field.
 fn with_field<'a>(tokens: &[&str], fields: Fields<'a>, line: &'a [u8]) -> Option<Fields<'a>> {
     let (name, raw) = cut_at(line, b':')?;
     if !is_token(name) || !is_value(raw) {
@@ -192,7 +192,7 @@ fn with_field<'a>(tokens: &[&str], fields: Fields<'a>, line: &'a [u8]) -> Option
     Some(fields)
 }
 
-/// What the field lines up to the empty one say. None where one is no field, or there are more than 64.
+/// What the field lines up to the empty one say. None if one is not a field, or there are more than 64.
 fn fields_of<'a>(tokens: &[&str], text: &'a [u8]) -> Option<Fields<'a>> {
     let mut fields = Fields {
         count: 0,
@@ -215,7 +215,7 @@ fn fields_of<'a>(tokens: &[&str], text: &'a [u8]) -> Option<Fields<'a>> {
     Some(fields)
 }
 
-/// The first line that is not empty, and what is behind it.
+/// The first line that is not empty, and what is after it.
 fn start_line(head: &[u8]) -> Option<(&[u8], &[u8])> {
     let mut rest = head;
     for _ in head {
@@ -228,7 +228,7 @@ fn start_line(head: &[u8]) -> Option<(&[u8], &[u8])> {
     None
 }
 
-/// The number that digits write, where it is at most 65,535.
+/// The number that digits write, if it is at most 65,535.
 fn size_of(digits: &[u8]) -> Option<usize> {
     if digits.len() > 5 {
         return None;
@@ -316,7 +316,7 @@ fn response_head(head: &[u8]) -> Result<(Option<usize>, usize), Refusal> {
     }
 }
 
-/// The message that has a head of so many bytes and of this verdict, and these bytes behind it.
+/// The message that has a head of this number of bytes and of this verdict, and these bytes after it.
 fn with_body(
     head: usize,
     verdict: Result<(Option<usize>, usize), Refusal>,
@@ -335,7 +335,7 @@ fn with_body(
     }
 }
 
-/// The head of a text that has one, and what is behind it. None while it may still come, and a refusal where it is too long.
+/// The head of a text that has one, and what is after it. None while it may still come, and a refusal if it is too long.
 fn head_of(text: &[u8]) -> Result<Option<(&[u8], &[u8])>, ()> {
     match end_of_head(text) {
         Some(end) if end <= MAX_HEAD => Ok(text.split_at_checked(end)),
@@ -344,7 +344,7 @@ fn head_of(text: &[u8]) -> Result<Option<(&[u8], &[u8])>, ()> {
     }
 }
 
-/// What a text means as a request to the account of one of these tokens. Bytes behind the message are ignored.
+/// What a text means as a request to the account of one of these tokens. Bytes after the message are ignored.
 pub fn request<'a>(tokens: &[&str], text: &'a [u8]) -> Message<'a> {
     match head_of(text) {
         Ok(Some((head, behind))) => {
@@ -359,7 +359,7 @@ pub fn request<'a>(tokens: &[&str], text: &'a [u8]) -> Message<'a> {
     }
 }
 
-/// What a text means as a response. Bytes behind the message are ignored.
+/// What a text means as a response. Bytes after the message are ignored.
 pub fn response(text: &[u8]) -> Message<'_> {
     match head_of(text) {
         Ok(Some((head, behind))) => with_body(head.len(), response_head(head), behind),

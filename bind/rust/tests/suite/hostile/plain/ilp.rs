@@ -40,7 +40,7 @@ fn misspelled(fault: u64) -> Refusal {
     Refusal::around(10, fault)
 }
 
-/// So many bytes of a packet, and what is left of it.
+/// A number of bytes of a packet, and what is left of it.
 fn fixed(bytes: &[u8], size: u64) -> Result<(&[u8], &[u8]), Refusal> {
     oer::fixed(bytes, size).map_err(misspelled)
 }
@@ -165,7 +165,7 @@ pub fn is_within(prefix: &[u8], address: &[u8]) -> bool {
     }
 }
 
-/// The number that decimal digits write, or none where there is another byte.
+/// The number that decimal digits write, or none if there is another byte.
 fn decimal(digits: &[u8]) -> Option<u64> {
     let mut number = 0u64;
     for digit in digits {
@@ -178,7 +178,7 @@ fn decimal(digits: &[u8]) -> Option<u64> {
     Some(number)
 }
 
-/// The decimal number of so many digits in front, and the rest.
+/// The decimal number of this number of digits in front, and the rest.
 fn part(text: &[u8], size: usize) -> Option<(u64, &[u8])> {
     let (digits, rest) = text.split_at_checked(size)?;
     Some((decimal(digits)?, rest))
@@ -209,7 +209,7 @@ fn days_until(year: u64, month: u64, day: u64) -> u64 {
     days
 }
 
-/// The moment that the 17 digits YYYYMMDDHHMMSSfff write, in milliseconds since the start of 1970 (UTC). `None` where
+/// The moment that the 17 digits YYYYMMDDHHMMSSfff write, in milliseconds since the start of 1970 (UTC). `None` if
 /// there is no such date and time.
 pub fn expiry(text: &[u8]) -> Option<i64> {
     let (year, rest) = part(text, 4)?;

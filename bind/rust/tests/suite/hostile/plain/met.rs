@@ -30,7 +30,7 @@ impl Met {
         }
     }
 
-    /// The first of these numbers that is not in the set. `None` where all are.
+    /// The first of these numbers that is not in the set. `None` if all are.
     pub fn lacks(&self, wanted: &[u64]) -> Option<u64> {
         for number in wanted {
             let met = if *number < 512 {

@@ -1,8 +1,8 @@
-//! A second reader of OER fields (RFC 0030). Each function returns a field and the bytes behind it, or the number of
-//! the refusal: 1 where bytes are missing, 2 for a length that is not the shortest, 3 for a number that is not the
+//! A second reader of OER fields (RFC 0030). Each function returns a field and the bytes after it, or the number of
+//! the refusal: 1 if bytes are missing, 2 for a length that is not the shortest, 3 for a number that is not the
 //! shortest, 4 for a number of too many bytes.
 
-/// The first `size` bytes, and those behind them. Fails with 1 where there are fewer.
+/// The first `size` bytes, and those after them. Fails with 1 if there are fewer.
 pub fn fixed(bytes: &[u8], size: u64) -> Result<(&[u8], &[u8]), u64> {
     if (bytes.len() as u64) < size {
         Err(1)
@@ -20,7 +20,7 @@ pub fn number(digits: &[u8]) -> u64 {
     number
 }
 
-/// A number of one byte, and the bytes behind it. Fails with 1 where there is none.
+/// A number of one byte, and the bytes after it. Fails with 1 if there is none.
 pub fn uint8(bytes: &[u8]) -> Result<(u8, &[u8]), u64> {
     match bytes {
         [first, rest @ ..] => Ok((*first, rest)),
@@ -63,7 +63,7 @@ pub fn var_uint(bytes: &[u8]) -> Result<(u64, &[u8]), u64> {
     limit(bytes)
 }
 
-/// A VarUInt of any length, where one past 2^64 - 1 counts as that.
+/// A VarUInt of any length, if one past 2^64 - 1 counts as that.
 pub fn limit(bytes: &[u8]) -> Result<(u64, &[u8]), u64> {
     let (size, rest) = length(bytes)?;
     if size == 0 {

@@ -5,7 +5,7 @@
 pub struct Refusal {
     /// The number of the refusal.
     pub number: u8,
-    /// The first number that it carries, where there is one.
+    /// The first number that it carries, if there is one.
     pub inner: Option<u64>,
 }
 

@@ -18,7 +18,7 @@ pub struct Samples<'a> {
 /// How a message is changed at each place: cut off there (`None`), or with one of these bytes put there.
 pub const EDGES: [Option<u8>; 5] = [None, Some(0x00), Some(0x7f), Some(0x80), Some(0xff)];
 
-/// The bytes up to a place, and, where `byte` is given, that byte and the rest of the message.
+/// The bytes up to a place, and, if `byte` is given, that byte and the rest of the message.
 pub fn changed_at(bytes: &[u8], at: usize, byte: Option<u8>) -> Vec<u8> {
     let (front, behind) = bytes.split_at(at.min(bytes.len()));
     let mut out = front.to_vec();
@@ -30,7 +30,7 @@ pub fn changed_at(bytes: &[u8], at: usize, byte: Option<u8>) -> Vec<u8> {
 }
 
 impl<'a> Samples<'a> {
-    /// Hostile bytes: half of the time a valid message with one to three changes, and else random bytes behind a
+    /// Hostile bytes: half of the time a valid message with one to three changes, and else random bytes after a
     /// beginning.
     pub fn hostile(&self, numbers: &mut Numbers) -> Vec<u8> {
         if numbers.below(2) == 0 {
@@ -41,7 +41,7 @@ impl<'a> Samples<'a> {
         }
     }
 
-    /// Random bytes behind a front.
+    /// Random bytes after a front.
     fn random(&self, numbers: &mut Numbers) -> Vec<u8> {
         let mut out = numbers.pick(self.fronts).to_vec();
         let count = numbers.below(self.behind);
@@ -64,7 +64,7 @@ impl<'a> Samples<'a> {
         out
     }
 
-    /// These bytes with one change, at any place, also behind the last.
+    /// These bytes with one change, at any place, also after the last.
     fn changed_once(&self, numbers: &mut Numbers, bytes: &[u8]) -> Vec<u8> {
         let at = numbers.place(bytes.len().saturating_add(1));
         let (front, rest) = bytes.split_at(at.min(bytes.len()));
@@ -99,7 +99,7 @@ impl<'a> Samples<'a> {
     }
 
     /// Nothing; the tail of another lawful message; or the rest, with its first byte (which may be a length) one more or one
-    /// less, or behind one to eight random bytes, by whose number one of the first bytes may be raised.
+    /// less, or after one to eight random bytes, by whose number one of the first bytes may be raised.
     fn put_other_length(&self, out: &mut Vec<u8>, numbers: &mut Numbers, rest: &[u8]) {
         let size = numbers.below(8).saturating_add(1);
         match numbers.below(5) {

@@ -3,10 +3,10 @@
 
 use std::sync::OnceLock;
 
-/// The first 32 bits behind the point of the square root or the cube root of a small number.
+/// The first 32 bits after the point of the square root or the cube root of a small number.
 fn root_bits(number: u64, power: u32) -> u32 {
     let number = u128::from(number);
-    // the greatest 40 bits whose power is not above the number with as many zeros behind it
+    // the greatest 40 bits whose power is not above the number with as many zeros after it
     let mut root = 0u128;
     for bit in (0..40).rev() {
         let next = root | 1 << bit;
@@ -228,7 +228,7 @@ impl PlainKeys {
         [iv.as_slice(), &self.tag(iv, &cipher), &cipher].concat()
     }
 
-    /// The text of a payload, where it is one.
+    /// The text of a payload, if it is one.
     pub fn open(&self, payload: &[u8]) -> Option<Vec<u8>> {
         let (iv, rest) = payload.split_at_checked(12)?;
         let (tag, cipher) = rest.split_at_checked(16)?;

@@ -14,7 +14,7 @@ pub struct PlainFrame<'a> {
     pub kind: u8,
     /// Its numbers in the order of RFC 0029, section 5.3; 0 for those that the type does not have.
     pub numbers: [u64; 3],
-    /// Its text, address or data; empty where it has none.
+    /// Its text, address or data; empty if it has none.
     pub bytes: &'a [u8],
 }
 
@@ -69,7 +69,7 @@ fn fields(kind: u8) -> Option<&'static [Field]> {
     Some(fields)
 }
 
-/// The number of a field, or its bytes, and the rest. None where it is malformed.
+/// The number of a field, or its bytes, and the rest. None if it is malformed.
 fn read_field(kind: Field, bytes: &[u8]) -> Option<(u64, &[u8], &[u8])> {
     match kind {
         Field::Byte => oer::uint8(bytes)
@@ -97,7 +97,7 @@ fn read_field(kind: Field, bytes: &[u8]) -> Option<(u64, &[u8], &[u8])> {
     }
 }
 
-/// A known frame of these contents. None where they are malformed.
+/// A known frame of these contents. None if they are malformed.
 fn known<'a>(index: u64, kind: u8, fields: &[Field], contents: &'a [u8]) -> Option<PlainFrame<'a>> {
     let mut frame = PlainFrame {
         index,
@@ -157,7 +157,7 @@ fn read_skeleton(bytes: &[u8]) -> Result<Skeleton<'_>, u64> {
     })
 }
 
-/// The bytes behind version and kind.
+/// The bytes after version and kind.
 fn behind_kind(bytes: &[u8], kind: u8) -> Result<&[u8], Refusal> {
     if bytes.len() > 32_739 {
         return Err(Refusal::alone(24));
@@ -207,7 +207,7 @@ pub fn packet<'a>(bytes: &'a [u8], kind: u8) -> Result<PlainPacket<'a>, Refusal>
     }
 }
 
-/// A number in its shortest form, behind its length.
+/// A number in its shortest form, after its length.
 fn put_var_uint(out: &mut Vec<u8>, number: u64) {
     let digits = number.to_be_bytes();
     let zeros = digits
