@@ -1,15 +1,15 @@
 #!/usr/bin/env python3
-"""Looks at the bindings for C, Rust and Python: bind/.
+"""Checks the bindings for C, Rust and Python: bind/.
 
 The exports of crates/st_c/src are compared, type by type and field by field, with bind/c/ilpstream.h, with the declarations of
 bind/rust and with those of bind/python; the numbers of the header with crates/st_embed, docs/ERRORS.md, bind/rust and
 bind/python; bind/c/calls.c with what bind/calls writes for the header. Then one difference is planted in each of them, which the
 comparison has to find.
 
-Then bind/archive builds the archive, over what `rt ci` left, or the one that is named is taken. What bind/build builds of it is
+Then bind/archive builds the archive, over what `rt ci` left, or uses the one that is named. What bind/build builds of it is
 run: the commands of docs/EMBEDDING.md; the programs in C under valgrind and with sanitizers, one with an allocator that checks, and
 one that looks for keys in memory that was given back; what bind/install installs; the tests of bind/rust, also with
-AddressSanitizer where the compiler has it, the examples of its documentation and its programs; the examples in the documentation
+AddressSanitizer if the compiler has it, the examples of its documentation and its programs; the examples in the documentation
 of bind/python, its wheel, tests/nulls.py and tests/plain.py over it.
 
 tests/bindings.py                builds the archive by bind/archive
@@ -41,7 +41,7 @@ RUST, PYTHON = "bind/rust/src", "bind/python/ilpstream/_declared.py"
 GUARDS = {"BUSY": 108, "NULL": 109}
 # The structs that begin with their size in front of the proved calls, each by its first field there.
 SIZED = ("{in_flight: ", "{kind: u32, code: ")
-# Where the version stands.
+# The places of the version.
 VERSIONS = {
     HEADER: r'#define ILP_VERSION "(.*)"',
     "bind/rust/Cargo.toml": r'(?m)^version = "(.*)"',
@@ -69,7 +69,7 @@ def sources(pattern):
 
 
 def split(text):
-    """The parts between commas that stand outside brackets."""
+    """The parts between commas that are outside brackets."""
     parts, depth, part = [], 0, ""
     for char in text:
         depth += (char in "([{<") - (char in ")]}>")
@@ -94,7 +94,7 @@ def rust_structs(text):
 
 
 def rust_type(kind, structs):
-    """What a type of Rattle or Rust is to C: one parameter, or two where it is a slice. A `Global` has no bytes."""
+    """What a type of Rattle or Rust is to C: one parameter, or two if it is a slice. A `Global` has no bytes."""
     def inner(it):
         if it == "Handle":
             return "handle"
@@ -136,7 +136,7 @@ def exports(text):
 def declared_rust(text):
     blocks = "\n".join(re.findall(r'^unsafe extern "C" \{\n(.*?)^\}', text, re.S | re.M))
     structs = "\n".join(re.findall(r"#\[repr\(C\)\].*?\n\}", text, re.S))
-    # (texts are no calls of the archive)
+    # (texts are not calls of the archive)
     blocks = re.sub(r"(?m)^.*-> \*const c_char;$", "", blocks)
     return rust_calls(structs + blocks, r"\bfn (ilp_\w+)\((.*?)\)(?:\s+-> (\w+))?;")
 
@@ -217,7 +217,7 @@ def guarded(call):
 
 
 def allocator(texts):
-    """Findings about the functions by which the archive takes memory: the kit's crate libc declares them."""
+    """Findings about the functions by which the archive allocates: the kit's crate libc declares them."""
     kit = os.path.dirname(os.path.realpath(subprocess.run(["rt", "doc"], capture_output=True, text=True).stdout.split()[0]))
     with open(f"{kit}/rattle/libc/src/heap.rt", encoding="utf-8") as source:
         declared = dict(re.findall(r"fn (rattle_\w+)\((.*?)\)", re.sub(r"//.*", "", source.read()), re.S))
@@ -308,7 +308,7 @@ def all_texts():
     }
 
 
-# One difference in each, as a text that stands there and what replaces it.
+# One difference in each, as a text that is there and what replaces it.
 PLANTED = [
     (HEADER, "ilp_end_write(ilp_end *end, uint32_t stream", "ilp_end_write(ilp_end *end, uint64_t stream"),
     (HEADER, "    uint32_t reason;\n    uint32_t opened;", "    uint32_t opened;\n    uint32_t reason;"),
@@ -390,9 +390,9 @@ def run_c(count, out, room):
     run_program(count, out, room, "two_ends", [], WHOLE, ["address,undefined"])
     run_program(count, out, room, "failures", [], "4 causes were reported", ["address,undefined"])
     run_program(count, out, room, "misuse", ["300"], ANSWERED, ["address,undefined", "thread"])
-    # (the argument is how many bytes a direction has where valgrind or a sanitizer looks)
+    # (the argument is how many bytes a direction has if valgrind or a sanitizer looks)
     run_program(count, out, room, "lossy", ["9000"], "20 lossy connections delivered", ["address,undefined"])
-    # (its own allocator is linked in the place of heap.c; valgrind looks at how it is used)
+    # (its own allocator is linked in the place of heap.c; valgrind checks how it is used)
     run_program(count, out, room, "memory", [], "each refused once", ["undefined"], guards=["calls", "about"])
     run_wiped(count, out, room)
     run_installed(count, out, room)
@@ -443,7 +443,7 @@ def secret_patterns():
 
 
 def run_wiped(count, out, room):
-    """What is left of keys in memory, in C; and that the look finds it where an allocator does not overwrite."""
+    """What is left of keys in memory, in C; and that the look finds it if an allocator does not overwrite."""
     patterns = secret_patterns()
     source, archive = f"{TOP}/bind/c/wiped.c", f"{out}/libilpstream.a"
     # (once with the C around the archive by the widest instructions that this processor has)
@@ -486,7 +486,7 @@ def run_program(count, out, room, name, given, wanted, sanitizers, guards=("call
         return
     count.run(f"{name}.c", [program], wanted)
     if shutil.which("valgrind"):
-        # (without turns by time valgrind may let one thread run for minutes; and misuse.c goes on after a signal in the middle of
+        # (unless it switches threads by time, valgrind may let one thread run for minutes; and misuse.c continues after a signal in the middle of
         # a read, for which all registers have to be right there)
         flags = ["--quiet", "--fair-sched=try", "--px-default=allregs-at-mem-access", "--error-exitcode=9"]
         flags += ["--leak-check=full", "--errors-for-leak-kinds=definite,possible"]
@@ -527,7 +527,7 @@ class Listening:
 
 
 def run_chain(count, room, sender):
-    """A sender, which is given its words, and a connector and a receiver of bind/rust, on one machine."""
+    """A sender, which is given its arguments, and a connector and a receiver of bind/rust, on one machine."""
     examples, secret = f"{TOP}/bind/rust/target/release/examples", os.urandom(32).hex()
     sent = os.urandom(1 << 20)
     with open(f"{room}/sent", "wb") as file:

@@ -1,7 +1,7 @@
 #!/usr/bin/env python3
 """Whether the logs of `send`, `receive` and `connector` say why: causes.py [PROGRAM [WORD]]. A transfer is made to fail for one
-cause after another, and each is told apart by the sender's log alone. Each event is seen once with its whole line. A bad table is told by
-its line, for each rule of the whole table. No secret and no token stands in any output, and what a peer sends forges no line. The last
+cause after another, and each is distinguished by the sender's log alone. Each event is seen once with its whole line. A bad table is reported with
+its line, for each rule of the whole table. No secret and no token is in any output, and what a peer sends forges no line. The last
 line counts the tests."""
 import fcntl, os, re, resource, select, signal, sys, threading, time
 
@@ -23,7 +23,7 @@ def lines(process):
 
 
 def read(path):
-    """The bytes of a file, and none where it is not there: a connector that is stopped by a signal leaves no totals."""
+    """The bytes of a file, and none if it is not there: a connector that is stopped by a signal leaves no totals."""
     try:
         with open(path, "rb") as file:
             return file.read()
@@ -70,7 +70,7 @@ def answering(play, body):
 FAILED = "the connection failed"
 
 
-# Ten causes and more, each of which is told apart by the sender's log.
+# Ten causes and more, each of which is distinguished by the sender's log.
 
 
 @test(waits=True)
@@ -168,7 +168,7 @@ def a_server_that_is_out_of_order(play):
     return fails(play, play.peer(handle).port, 58, FAILED, "exchange neighbour=0 cause=link fault=83 status=503")
 
 
-# A bad table is told by its line.
+# A bad table is reported with its line.
 
 ACCOUNTS = "account NAME=a 1 1 a - -\n\naccount 1 1 b - -\n"
 TABLES = {
@@ -202,7 +202,7 @@ def a_message_forges_no_line(play):
     return fails(play, answering(play, reject(b"F00", b"test.x", text)).port, 58, FAILED, wanted)
 
 
-# A character, how it stands in a line, and how often it has room in 256 characters of the line.
+# A character, how it is written in a line, and how often it has room in 256 characters of the line.
 CHARACTERS = {"plain": ("x", "x", 256), "newline": ("\n", r"\x0a", 64), "accent": ("\u00e9", r"\xc3\xa9", 32), "face": ("\U0001f600", r"\xf0\x9f\x98\x80", 16)}
 
 
@@ -228,7 +228,7 @@ def a_message_of_65_kb_is_cut(play, name):
 
 
 def comes(process, wanted, *left_out):
-    """The log of a process that goes on has just these kinds of lines, within ten seconds, but for these events."""
+    """The log of a process that continues has just these kinds of lines, within ten seconds, but for these events."""
     until = time.monotonic() + 10
     while (seen := kinds(process, "start", "listening", "more", "totals", *left_out)) != wanted and time.monotonic() < until:
         time.sleep(0.02)
@@ -274,7 +274,7 @@ def connections_that_are_left_out_are_of_no_neighbour(play):
 
 
 def asked_once(play, hub, seconds):
-    """A connector is given a Prepare that expires after so many seconds, and answers T01."""
+    """A connector is given a Prepare that expires after the given seconds, and answers T01."""
     _, body = asked((HOST, hub.port), request("t", prepare(0, seconds, "test.b")), 20)
     want(body[2:5] == b"T01", f"answer {body[:20]!r}")
 
@@ -311,7 +311,7 @@ def a_log_is_appended_to_and_has_no_secret(play):
     for process in sender, receiver, hub:
         text = read(process.log) + read(process.totals)
         for hidden in secret, token, bytes.fromhex(secret).decode("latin-1"):
-            want(hidden.encode("latin-1") not in text, f"{hidden!r} stands in the log")
+            want(hidden.encode("latin-1") not in text, f"{hidden!r} is in the log")
     want(lines(sender)[-1] == "end ok" and lines(receiver)[-1] == "end ok", "no end")
     return f"{len(lines(sender))}, {len(lines(receiver))} and {len(lines(hub))} lines"
 
@@ -465,7 +465,7 @@ def reads_on(file, found, over):
 @test(waits=True)
 def what_finds_no_room_is_counted(play):
     """130 accounts have ten packets refused each, and nobody reads: a page of the pipe is full, 1,024 lines wait, and the others are
-    lost. Once the pipe is read, whole lines come, and one that tells of those that were lost."""
+    lost. Once the pipe is read, whole lines come, and one that reports those that were lost."""
     path, file = a_page(play, "log")
     hub = play.connector("".join(f"account 1 1 t{number} - -\n" for number in range(130)), log=path)
     packet = prepare(1, 60, "test.nowhere")
@@ -498,7 +498,7 @@ def what_finds_no_room_is_counted(play):
 
 @test(waits=True)
 def a_log_whose_disk_was_full_goes_on(play):
-    """The first line is cut where the disk is full. Once there is room, it is completed, and all lines since are written."""
+    """The first line is cut if the disk is full. Once there is room, it is completed, and all lines since are written."""
     place, within, seen = disk(play, "64k")
     before = ("x" * 99 + "\n") * 40 + "y" * 65 + "\n"  # 30 bytes less than a page
     with open(f"{seen}/log", "w", encoding="ascii") as file:
@@ -538,7 +538,7 @@ CLEARED = rb"\r\x1b\[K"
 
 
 def written(file, bound):
-    """What is written to a terminal until nobody has it open any more, or for so many seconds."""
+    """What is written to a terminal until nobody has it open any more, or for the given seconds."""
     found, until = b"", time.monotonic() + bound
     while select.select([file], [], [], max(until - time.monotonic(), 0))[0]:
         try:
@@ -592,7 +592,7 @@ def a_terminal_shows_how_far_a_receiver_is_and_a_pipe_shows_nothing(play):
 
 
 def slow(play, receiver, seconds):
-    """A peer that passes requests on to a receiver, one at a time, and each answer back after so many seconds."""
+    """A peer that passes requests on to a receiver, one at a time, and each answer back after the given seconds."""
     turn = threading.Lock()
 
     def handle(_, stream):

@@ -1,5 +1,5 @@
 /* Has a program's clock show another time: cc -shared -fPIC, and LD_PRELOAD. CLOCK_FILE names a file that says by how many
- * milliseconds CLOCK_REALTIME is ahead. It is read at each call; where it cannot be, the time is as it is. */
+ * milliseconds CLOCK_REALTIME is ahead. It is read at each call; if it cannot be, the time is as it is. */
 #define _GNU_SOURCE
 #include <fcntl.h>
 #include <stdlib.h>

@@ -54,7 +54,7 @@ def order(path, *words):
 
 
 def connector(play, table, *words, requests="--endless", port=None, **how):
-    """A connector that listens. Its table is standard input where it is a text, and else none."""
+    """A connector that listens. Its table is standard input if it is a text, and else none."""
     port = port or free_port()
     given = subprocess.DEVNULL if table is None else play.file(table.encode())
     it = play.start("connector", [f"--listen={HOST}:{port}", "--own=test.hub", requests, *words], given=given, **how)
@@ -82,7 +82,7 @@ def transfers(play, port, receiver, money=500):
 
 
 def refused_at(port):
-    """Whether nothing takes a connection at a port."""
+    """Whether nothing accepts a connection at a port."""
     try:
         socket.create_connection((HOST, port), timeout=1).close()
     except OSError as error:
@@ -132,7 +132,7 @@ def a_number_of_requests_ends_it_still(play):
     return told
 
 
-# Where a command listens.
+# The port at which a command listens.
 
 
 def said_by(process, bound=10):
@@ -175,7 +175,7 @@ def the_log_alone_tells_it_without_verbose(play, command):
     port = int(lines(it)[1].rpartition(":")[2])
     want(listens(port), f"nothing listens at {port}")
     it.kill()
-    want(it.communicate()[1] == b"", "something stands on standard error")
+    want(it.communicate()[1] == b"", "something is on standard error")
     return lines(it)[1]
 
 
@@ -197,7 +197,7 @@ def not_pipes(play):
     with open(file, "w", encoding="ascii") as it:
         it.write("stop\n")
     os.mkdir(folder)
-    return {"nothing": (f"{play.room}/none", "not found"), "a file": (file, "is no pipe"), "a folder": (folder, "is no pipe")}
+    return {"nothing": (f"{play.room}/none", "not found"), "a file": (file, "not a pipe"), "a folder": (folder, "not a pipe")}
 
 
 @test(*[(command, what) for command in ("connector", "receive") for what in ("nothing", "a file", "a folder")], waits=True)
@@ -251,7 +251,7 @@ def what_is_open_is_finished_and_nothing_more_is_taken(play):
         it.start()
     comes(lambda: slow.number == 8, "not all came to the neighbour", 10)
     order(control, "stop")
-    comes(lambda: refused_at(hub.port), "a connection is taken after the stop")
+    comes(lambda: refused_at(hub.port), "a connection is accepted after the stop")
     stands(hub, "connector")
     told = ended(hub, 15)
     for it in asking:
@@ -370,7 +370,7 @@ def a_log_that_was_moved_is_opened_anew_by(play, command):
     old = f"{play.room}/old.log"
     os.rename(it.log, old)
     order(control, "totals")
-    comes(lambda: 'control line="totals"' in lines(it, old), "the log is not where it was moved to")
+    comes(lambda: 'control line="totals"' in lines(it, old), "the log is not at the place that it was moved to")
     order(control, "log")
     comes(lambda: os.path.exists(it.log) and 'control line="log"' in lines(it), lambda: f"the new log {lines(it)}")
     before = told_by(old)
@@ -392,7 +392,7 @@ def a_log_that_cannot_be_opened_anew_stays(play):
     comes(lambda: wanted in lines(hub, f"{old}/log"), lambda: f"log {lines(hub, old + '/log')}")
     order(control, "stop")
     want(ended(hub, SOON) == "0", "it does not end")
-    want(lines(hub, f"{old}/log")[-1] == "end ok", "the old log is not gone on with")
+    want(lines(hub, f"{old}/log")[-1] == "end ok", "the old log is not continued")
     return wanted
 
 
@@ -603,7 +603,7 @@ MISFITS = {
 
 @test(*[(what, has_books) for what in MISFITS for has_books in (False, True)], waits=True)
 def a_table_that_does_not_fit_with(play, what, has_books):
-    """The connector goes on by the table of before."""
+    """The connector continues by the table of before."""
     control, slow = fifo(play), held_back(play, 0)
     path = table_file(play, named(("alice", 10_000, "t", 0), ("bob", 0, "u", slow.port), routes=[("test.b", 1)]))
     books = [f"--ledger={play.room}/books"] if has_books else []

@@ -7,16 +7,22 @@ numbers that calls of the library for C return are those of their definitions. W
 finding.
 ARCHITECTURE: the table of lemmas names each crate whose proofs cite another crate's lemmas, with that other crate, and the crates
 of the program are those of crates.txt.
-LIMITS: the value of each row is that of the constant, or stands in the definition, that the row names; and each constant of
-the crates below that is a whole number is in a row, or in OTHERS with the reason why it is no limit.
+LIMITS: the value of each row is that of the constant, or is in the definition, that the row names; and each constant of
+the crates below that is a whole number is in a row, or in OTHERS with the reason why it is not a limit.
 CONFORMANCE: each name in the last column of a row exists: a definition, a clause, a function with a contract, or a test. A row
 that is met, or met otherwise, has a name, and each other row a reason.
-All documents but CHANGELOG and COMPARED: a name in code that has `_` or a capital within stands in some source, a path in code
+README, OPERATING, SECURITY, EMBEDDING: the levels of processors that they name are those for which the scripts build; the version
+of GLIBC that they name is the one that the built library, or program, asks for. If neither is built, that is skipped, and a line
+says so.
+PROOFS: the crates that are trusted are those of the kit that crates.txt names.
+All documents but CHANGELOG and COMPARED: a name in code that has `_` or a capital within is in some source, a path in code
 leads to a file, and the number of a fault is that of docs/errors.toml.
 Each finding is a line; the last line counts what was compared without a finding (tables for the most part), and findings."""
 import glob
 import os
 import re
+import shutil
+import subprocess
 import sys
 import tomllib
 
@@ -26,10 +32,10 @@ import crates as repository  # noqa: E402
 
 CODE = re.compile(r"`([^`]+)`")
 
-# The crates of the tests and of the measurements: what they count is no limit of the program.
+# The crates of the tests and of the measurements: what they count is not a limit of the program.
 TESTS = re.compile(r"^(bench|bench_aes|refusing|\w+_trials)$")
 
-# Constants that are no limits, by crate and name.
+# Constants that are not limits, by crate and name.
 OTHERS = {
     "numbers of a format": {
         "st_frames": "CONNECTION_CLOSE CONNECTION_NEW_ADDRESS CONNECTION_MAX_DATA CONNECTION_DATA_BLOCKED STREAM_CLOSE "
@@ -158,7 +164,7 @@ def check_numbers(count):
     documented = [(int(cells[0]), *named(cells[1])) for _, cells in rows]
     count.same(where, set(documented), numbers, sources)
     count.check(documented == sorted(documented), f"{where}: the numbers do not rise")
-    count.check(len(documented) == len(set(documented)), f"{where}: a row stands twice")
+    count.check(len(documented) == len(set(documented)), f"{where}: a row is there twice")
     for line, cells in rows:
         count.check(len(cells) == 4 and all(cells), f"{where}:{line}: a row without a cause, or without what to do")
     count.compared()
@@ -174,7 +180,7 @@ def check_numbers(count):
 
 
 def check_names(count):
-    """The variants that other tables name beside a number: they have that number, or keep it of another."""
+    """The variants that other tables name with a number: they have that number, or keep it of another."""
     where = "docs/ERRORS.md"
     numbers, kept, _ = refusals()
     for first in ("Fault", "N"):
@@ -394,7 +400,7 @@ def has_definition(crate, file, name):
 
 
 def has_clause(crate, owner, name, clause):
-    """Whether a function has this clause, or any where none is named."""
+    """Whether a function has this clause, or any if none is named."""
     for path in files(f"crates/{crate}/src/**/*.rt"):
         text = read(path)
         if owner and not re.search(rf"^impl\b.*\b{owner}\b", text, re.M):
@@ -482,13 +488,107 @@ def check_names_in_code(count):
             for code in CODE.findall(text):
                 names = {word for word in re.findall(r"\w+", code) if "_" in word.strip("_") or re.search("[a-z][A-Z]", word)}
                 for name in sorted(names - known):
-                    count.check(False, f"{where}:{line}: {name} stands in no source")
+                    count.check(False, f"{where}:{line}: {name} is in no source")
                 for path in NAMED_PATH.findall(code):
                     is_there = not BUILT.isdisjoint(path.split("/")) or re.search(r"(?:^|/)[A-Z]+(?:/|$|\.edit)", path) or glob.glob(f"{TOP}/{path}")
                     count.check(is_there, f"{where}:{line}: there is no {path}")
             for number in re.findall(r"\bfaults? (\d+)\b", text):
                 count.check(int(number) in faults, f"{where}:{line}: no fault has the number {number}")
         count.compared()
+
+
+# ---- levels of processors, and the C library
+
+PROGRAM, LIBRARY = "crates/ilpstream/out/ilpstream", "bind/out/libilpstream.so.0"
+LEVEL = r"x86-64-v(\d)"
+# What a page says of levels: the sentence about them, and whose levels it names, in their order.
+SAID = {
+    "README.md": [
+        (rf"`\./ilpstream` builds for the processor that it runs on: {LEVEL} \(AVX2[^)]*\), or else {LEVEL}", "program"),
+        (rf"The library needs {LEVEL}", "library"),
+    ],
+    "docs/OPERATING.md": [(rf"If that host has AVX2, it is built for level {LEVEL} and needs a processor with it; else {LEVEL} is enough", "program")],
+    "SECURITY.md": [
+        (rf"The tests build the cipher for {LEVEL}", "kit"),
+        (rf"`\./ilpstream` builds for {LEVEL} if the processor has it", "above"),
+    ],
+    "docs/EMBEDDING.md": [(r"\(version (\d) of the instruction set", "library")],
+}
+GLIBC = re.compile(r"(?:GLIBC|glibc)[ _](\d+\.\d+)|manylinux_(\d+_\d+)")
+
+
+def flags_of(path):
+    """The levels that a script passes on to a compiler, outside of its comments and its texts about itself."""
+    text = re.sub(r'""".*?"""|^\s*#.*?$', "", read(path), flags=re.S | re.M)
+    return re.findall(rf"(?:--cpu=|-march=){LEVEL}", text)
+
+
+def levels():
+    """The levels for which the kit, the program and the library are built, each list from the highest to the lowest."""
+    kit = re.findall(rf"level or '{LEVEL}'", read("tests/timing.py"))
+    above = flags_of("tools/build.py")
+    others = [*flags_of("bind/archive"), *flags_of("bind/build"), *flags_of("ilpstream"), *flags_of("bind/python/backend.py")]
+    return {"kit": kit, "above": above, "program": [*above, *kit], "library": others or kit}
+
+
+def dump(path, *words):
+    """What objdump says of a file; nothing if there is no such file yet, or no objdump."""
+    command = ["objdump", *words, f"{TOP}/{path}"]
+    return subprocess.run(command, capture_output=True, text=True, check=False, errors="replace").stdout if shutil.which(command[0]) else ""
+
+
+def check_levels(count):
+    known = levels()
+    count.check(len(known["kit"]) == len(known["above"]) == 1, f"tools/build.py, tests/timing.py: the levels {known} were read")
+    count.check("avx2" in re.findall(r'"(\w+)"', read("tools/build.py").partition("LEVEL_3 = ")[2].partition("}")[0]), "tools/build.py: AVX2 decides no level")
+    for where, sentences in SAID.items():
+        text = " ".join(read(where).split())
+        for words, whose in sentences:
+            found = re.findall(words.replace(" ", r"\s"), text)
+            count.check(len(found) == 1, f"{where}: {len(found)} sentences are as '{words}'")
+            said = [list(it) if isinstance(it, tuple) else [it] for it in found]
+            count.check(all(it == known[whose] for it in said), f"{where}: it has the level {said}, and the {whose} is built for {known[whose]}")
+        others = set(re.findall(LEVEL, text)) - set(known["program"])
+        count.check(not others, f"{where}: nothing is built for the level {sorted(others)}")
+        count.compared()
+
+
+def check_built(count):
+    """What the library and the program ask for, if they are built: the C library, and vectors of 32 bytes."""
+    for path, pages in ((LIBRARY, ("docs/EMBEDDING.md",)), (PROGRAM, ("README.md", "docs/OPERATING.md", "SECURITY.md"))):
+        versions = re.findall(r"\bGLIBC_(\d+)\.(\d+)", dump(path, "-T"))
+        if not versions:
+            print(f"skipped: without {path}, or objdump, the version of GLIBC in {', '.join(pages)} is not compared")
+            continue
+        least = ".".join(max(versions, key=lambda it: (int(it[0]), int(it[1]))))
+        for where in pages:
+            for line, text in lines_of_prose(where):
+                for said in ("".join(it).replace("_", ".") for it in GLIBC.findall(text)):
+                    count.check(said == least, f"{where}:{line}: GLIBC {said}, and {path} asks for {least}")
+        if path == LIBRARY:
+            is_wide = "%ymm" in dump(path, "-d", "--no-show-raw-insn")
+            count.check(not is_wide or "3" in levels()["library"], f"{pages[0]}: {path} has vectors of 32 bytes, which only x86-64-v3 has")
+        count.compared()
+
+
+# ---- the crates of the kit
+
+
+def check_trusted(count):
+    """The crates of the kit that crates.txt names are those that PROOFS says to be trusted."""
+    where, used = "docs/PROOFS.md", set()
+    rows = [line.partition("#")[0].partition(":") for line in read("crates.txt").splitlines()]
+    ours = {name.split()[0] for name, colon, _ in rows if colon}
+    for name, colon, below in rows:
+        if colon:
+            used.update(set(below.split()) - ours)
+    said = set(CODE.findall(read(where).partition("**Trusted.**")[2].partition("The C library")[0])) - {"crates.txt", "sqlite_*"}
+    # (`os` is part of the standard library, which no line names; what the kit's crates are built on is in the kit)
+    many = {name for name in used if name.startswith("sqlite_")}
+    count.check(used - many <= said, f"{where}: {sorted(used - many - said)} of crates.txt are missing among what is trusted")
+    numbers = "zero one two three four five six seven eight nine ten eleven twelve thirteen fourteen fifteen".split()
+    count.check(f"{numbers[len(many)]} `sqlite_*`" in " ".join(read(where).split()), f"{where}: crates.txt names {len(many)} crates sqlite_*")
+    count.compared()
 
 
 def main():
@@ -502,6 +602,9 @@ def main():
     check_limits(count)
     check_conformance(count)
     check_names_in_code(count)
+    check_levels(count)
+    check_trusted(count)
+    check_built(count)
     print(f"{count.passed} passed, {count.failed} failed")
     return 1 if count.failed else 0
 

@@ -46,7 +46,7 @@ def a_unit_is_hardened(play, name):
 
 
 def rotation(play, log="", pipe=""):
-    """A copy of the file for logrotate, for the present user, and where they are given with another log and another pipe."""
+    """A copy of the file for logrotate, for the present user, and if they are given with another log and another pipe."""
     text = read(f"{EXAMPLES}/logrotate/ilpstream")
     user, group = getpass.getuser(), grp.getgrgid(os.getgid()).gr_name
     text = re.sub(r"(?m)^ *su ilpstream ilpstream\n", f"    su {user} {group}\n" if os.getuid() == 0 else "", text)
@@ -76,7 +76,7 @@ def nginx_reads(play, name):
 
 @test(("hub.example", "0"), ("other.example", "58"), waits=True)
 def a_transfer_over_tls_to(play, name, wanted):
-    """From a sender over onward.conf and tls.conf to a receiver; where the certificate is another host's, none."""
+    """From a sender over onward.conf and tls.conf to a receiver; if the certificate is another host's, none."""
     certificate(play, name)
     way, front = free_ports(2)
     receiver, content = play.receive(), some_bytes(300_000)
@@ -127,7 +127,7 @@ class Service:
         return [word.replace("$$", "$") for word in shlex.split(text)]
 
     def run(self, key, seconds=45, process=True):
-        """The status of a command that the unit has beside the process itself, and what it printed. As systemd does, it waits for
+        """The status of a command that the unit has in addition to the process itself, and what it printed. As systemd does, it waits for
         the process meanwhile, so that this is gone once it has ended."""
         number = {"MAINPID": str(self.process.pid)} if process else {}
         it = subprocess.Popen(self.words(key), stdin=subprocess.DEVNULL, stdout=subprocess.PIPE, stderr=subprocess.STDOUT, env={**os.environ, **number})
@@ -216,7 +216,7 @@ def a_reload_of_the_unit_reads_the_table_again(play):
     written(play, "etc/table", table(port, "account NAME=carol 1000 1000 carol - -"))
     status, told = service.run("ExecReload")
     want((status, told) == (0, ""), f"ExecReload: {status}, {told!r}")
-    want(before == b"401" and comes(lambda: asked((HOST, service.process.port), ask)[0][9:12] == b"200"), f"before the reload {before}, and no 200 behind it")
+    want(before == b"401" and comes(lambda: asked((HOST, service.process.port), ask)[0][9:12] == b"200"), f"before the reload {before}, and no 200 after it")
     # (a bad table changes nothing)
     written(play, "etc/table", "account\n")
     service.run("ExecReload")

@@ -2,14 +2,14 @@
 # The whole gate: `rt ci`; then the program that it built, run as whoever uses it does; the bindings for C, Rust and Python; the
 # documents' examples, numbers, links and prose; the man page and completions; whether the prover refuses the wrong bodies of
 # tests/refused; and whether those that only tests see can still be made. Each line of `rt ci` on a crate bears the minute in which
-# it was printed. Before the last line stand the processor's time by crate and the time of the whole, which is 150 minutes at most;
+# it was printed. Before the last line are the processor's time by crate and the time of the whole, which is 150 minutes at most;
 # the last line counts all.
 set -u
 cd "$(dirname "$(readlink -f "${BASH_SOURCE[0]}")")/.." || exit 1
 room=$(mktemp -d)
 trap 'rm -rf "$room"' EXIT
 
-# Puts the minutes since the start before each line that tells of a crate.
+# Puts the minutes since the start before each line on a crate.
 stamped() {
     while IFS= read -r line; do
         case $line in
@@ -19,7 +19,7 @@ stamped() {
     done
 }
 
-# As many checks side by side as there are processors, where each can have 4.5 GB. By itself rt counts on up to twice of what a
+# As many checks side by side as there are processors, if each can have 4.5 GB. By itself rt counts on up to twice of what a
 # check was seen to take, 3.5 GB at most, and then leaves a processor idle.
 processors=$(nproc)
 available=$(sed -nE 's/^MemAvailable: *([0-9]+) kB$/\1/p' /proc/meminfo)
@@ -32,8 +32,8 @@ times=$!
 rt ci | stamped | tee "$room/ci"
 status=${PIPESTATUS[0]}
 
-# Runs a test, for at most so many minutes, and shows what it printed. It writes to a file, so that a process that it left behind
-# keeps nothing waiting. One that ends otherwise than well counts as failed, also where it was stopped before it printed a sum.
+# Runs a test, for at most the given minutes, and shows what it printed. It writes to a file, so that a process that it left
+# keeps nothing waiting. One that ends otherwise than well counts as failed, also if it was stopped before it printed a sum.
 step() {
     local result=0 said
     said=$(mktemp "$room/step.XXXXXX")
@@ -67,16 +67,20 @@ documents() {
     step 5 tests/generated.py
     step 5 tests/manual.py
     step 5 tests/timing.py
+    step 5 tests/timing.py --fixtures
     step 5 tests/seen_by_tests.py --look
     step 5 tests/refused.py --look
 }
 
 # (1,000,000 hostile inputs for each reader)
-bindings() { ILPSTREAM_HOSTILE=1000000 step 45 tests/bindings.py; }
+bindings() {
+    ILPSTREAM_HOSTILE=1000000 step 45 tests/bindings.py
+    step 20 tests/memory.py
+}
 
 edits() { step 60 tests/refused.py --gate; }
 
-# Where there are four processors, the program's runs, most of which wait, have the others beside them, which leave them the
+# If there are four processors, the program's runs, most of which wait, run at the same time as the others, which leave them the
 # processor (nice). What each prints is shown once it has ended.
 parts=(program documents bindings edits)
 if [ "$processors" -ge 4 ]; then

@@ -1,6 +1,6 @@
 #!/usr/bin/env python3
 """Runs the scripts of crates/*/gen, which write long code and proofs, tools/errors.py, which writes the tables of errors, and
-tools/manual.py, which writes the man page and completions, and compares with what stands. Each finding is a line; the last line counts the files that are as their script writes them, and those
+tools/manual.py, which writes the man page and completions, and compares with what is there. Each finding is a line; the last line counts the files that are as their script writes them, and those
 that are not."""
 import glob
 import os

@@ -1,6 +1,6 @@
-"""What the tests of the examples share: files and commands, an nginx with files of examples/nginx, and where programs of others
-are that a test needs: on this machine, or else out of Debian's packages, which are unpacked into a folder of the test's own and
-not installed. One that cannot be had is said. Where the environment has `CI`, as .ci/run sets it, its test failed; elsewhere it
+"""What the tests of the examples share: files and commands, an nginx with files of examples/nginx, and the places of programs of others
+that a test needs: on this machine, or else out of Debian's packages, which are unpacked into a folder of the test's own and
+not installed. One that cannot be had is reported. If the environment has `CI`, as .ci/run sets it, its test failed; elsewhere it
 was skipped, and the script may still end with 0."""
 import getpass, glob, grp, os, shutil, subprocess, sys, tempfile, time
 
@@ -21,11 +21,13 @@ def run(words, seconds=120, **how):
 
 
 def unpacked(packages):
-    """Whether these packages are in the folder."""
+    """Whether these packages are in the folder. What fails is tried again: another test may have apt's lock."""
     words = ["apt-get", "download", *packages]
-    if not run(words, cwd=FOLDER.name) and not (os.getuid() == 0 and run(["apt-get", "update"]) and run(words, cwd=FOLDER.name)):
-        return False
-    return all(run(["dpkg", "-x", it, FOLDER.name]) for it in glob.glob(f"{FOLDER.name}/*.deb"))
+    for pause in (0, 5, 20):
+        time.sleep(pause)
+        if run(words, cwd=FOLDER.name) or (os.getuid() == 0 and run(["apt-get", "update"]) and run(words, cwd=FOLDER.name)):
+            return all(run(["dpkg", "-x", it, FOLDER.name]) for it in glob.glob(f"{FOLDER.name}/*.deb"))
+    return False
 
 
 def looked_for(name):
@@ -53,7 +55,7 @@ def environment():
 
 
 def end(status):
-    """Ends a script, with 0 where nothing else is wrong than that tests were skipped that need a program of others."""
+    """Ends a script, with 0 if nothing else is wrong than that tests were skipped that need a program of others."""
     is_well = False not in RESULTS and RESULTS.count(None) == len(WITHOUT)
     sys.exit(0 if RESULTS and is_well else status)
 
@@ -102,7 +104,7 @@ def arrives(sender, receiver, content, seconds=20):
 
 
 def certificate(play, name="hub.example"):
-    """A certificate of a host, that of the examples, and its key, where the changed files have them."""
+    """A certificate of a host, that of the examples, and its key, if the changed files have them."""
     words = [installed("openssl", "openssl"), "req", "-x509", "-newkey", "rsa:2048", "-nodes", "-keyout", f"{play.room}/hub.key", "-out", f"{play.room}/hub.crt"]
     words += ["-days", "2", "-subj", f"/CN={name}", "-addext", f"subjectAltName=DNS:{name}"]
     status, told = said(words)

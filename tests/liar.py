@@ -1,7 +1,7 @@
 #!/usr/bin/env python3
-"""Runs `send` and `receive` with money, and with a peer between them that lies: liar.py PROGRAM. For each lie, told at each third
-exchange and at every one, and at each third beside a connector, a line says how both ended, how much of the input came, and
-what is wrong with that or with the sums that they told in the end, if anything is."""
+"""Runs `send` and `receive` with money, and with a peer between them that lies: liar.py PROGRAM. For each lie, at each third
+exchange and at every one, and at each third next to a connector, a line says how both ended, how much of the input came, and
+what is wrong with that or with the sums that they reported in the end, if anything is."""
 import os, socket, subprocess, sys, tempfile, threading, time
 from concurrent.futures import ThreadPoolExecutor
 
@@ -10,7 +10,7 @@ from peers import BOUND, SECRET, asked, ended, fields_at, free_port, message, to
 PROGRAM = sys.argv[1]
 INPUT = bytes(n % 251 for n in range(70_000))
 WORDS = ["--token=t", f"--secret={SECRET}"]
-# What is offered; the most that is taken, of which a Prepare whose answer is lost takes a part again; the most that a connector
+# What is offered; the most that is accepted, of which a Prepare whose answer is lost takes a part again; the most that a connector
 # takes in one Prepare, and how many requests.
 MONEY, MOST, PIECE, REQUESTS = 500, 1_000_000, 100, 600
 # Runs at once.
@@ -24,7 +24,7 @@ def with_bit(body, place):
 
 
 def iv_of(prepare):
-    """The IV of what a Prepare carries: the first 12 bytes of its data, behind its address (both with a length in front)."""
+    """The IV of what a Prepare carries: the first 12 bytes of its data, after its address (both with a length in front)."""
     at = fields_at(prepare) + 8 + 17 + 32
     at += 1 + prepare[at]
     at += 1 if prepare[at] < 128 else 1 + prepare[at] - 128
@@ -32,8 +32,8 @@ def iv_of(prepare):
 
 
 class Liar:
-    """Stands at a port of its own, and passes each request on to the receiver. It lies in this way at the first exchange, in which
-    a sender offers its money, and at each one that is so many behind."""
+    """Listens at a port of its own, and passes each request on to the receiver. It lies in this way at the first exchange, in which
+    a sender offers its money, and at each `every`-th one after it."""
 
     def __init__(self, lie, every, host):
         self.lie, self.every, self.host = lie, every, host
@@ -67,7 +67,7 @@ class Liar:
         if lie == "drop before the receiver":
             return
         at = fields_at(body)
-        if lie == "wrong condition":  # behind the amount, of 8 bytes, and the expiry, of 17
+        if lie == "wrong condition":  # after the amount, of 8 bytes, and the expiry, of 17
             body = with_bit(body, at + 25)
         if lie == "request with a turned bit":
             body = with_bit(body, -1)
@@ -109,7 +109,7 @@ def wait_for(port):
 
 
 class Transfer:
-    """A receiver, a connector before it where one is wanted, and a liar: before the receiver (`before`) or before the connector."""
+    """A receiver, a connector before it if one is wanted, and a liar: before the receiver (`before`) or before the connector."""
 
     def __init__(self, lie, every, room, hub=False, before="receive", out=None):
         self.room, self.hub, self.out = room, None, out or f"{room}/out"
@@ -156,7 +156,7 @@ class Transfer:
         return sent, received, self.ended_hub()
 
     def ended_hub(self):
-        """How the connector ended once the requests that it was to take are used up; 0 where there is none."""
+        """How the connector ended once the requests that it was to take are used up; 0 if there is none."""
         if self.hub:
             use_up(self.hub, self.hub_port, "t")
         self.lying.listener.close()
@@ -169,8 +169,8 @@ class Transfer:
             return output.read()
 
     def sums(self, before):
-        """What is wrong with what the commands told in the end: nobody paid for what was not fulfilled, a connector owes what it
-        is owed, and on a link without lies both sides tell the same. Who was stopped told nothing."""
+        """What is wrong with what the commands reported in the end: nobody paid for what was not fulfilled, a connector owes what it
+        is owed, and on a link without lies both sides report the same. Who was stopped reported nothing."""
         send, receive, hub = (totals(f"{self.room}/totals_{it}") for it in ("send", "receive", "connector"))
         paid, credited = send.get("paid", 0), receive.get("credited")
         claims, dues = hub.get("account 0 claims", paid), hub.get("account 1 dues", paid)
@@ -180,14 +180,14 @@ class Transfer:
             "paid and not claimed": paid > claims or (before == "receive" and paid != claims),
             "claimed and not owed": claims != dues,
             "owed and not credited": credited is not None and (dues > credited or (before == "hub" and self.hub and dues != credited)),
-            "something is held": any(number for name, number in hub.items() if name.endswith("held")),
+            "something is reserved": any(number for name, number in hub.items() if name.endswith("held")),
         }
         return ", ".join(it for it, is_so in wrong.items() if is_so), paid
 
 
 def run(lie, every, room, hub=False, before="receive", out=None, given=None):
-    """How `send` and `receive` ended, and what came to a file, or to `out`, of what a file has, or of nothing from `given`."""
-    # Where no answer's payload opens the sender learns no higher limit, and waits for one behind the first 16,384 bytes.
+    """How `send` and `receive` ended, and what arrived in a file, or to `out`, of what a file has, or of nothing from `given`."""
+    # If no answer's payload opens the sender learns no higher limit, and waits for one after the first 16,384 bytes.
     whole = INPUT[:16_000] if (lie, every) == ("answer with a turned bit", 1) else INPUT
     with open(f"{room}/in", "wb") as file:
         file.write(whole)
@@ -202,10 +202,10 @@ def run(lie, every, room, hub=False, before="receive", out=None, given=None):
         return f"WRONG: connector {connected}, {wrong}"
     if not whole.startswith(came) or (received == "0" and came != whole) or (sent == "0" and paid != MONEY):
         return f"WRONG: send {sent}, receive {received}, {len(came)} bytes, {paid} units paid"
-    # Where the answer to the close is lost, the receiver is gone, and the sender knows no more than that.
+    # If the answer to the close is lost, the receiver is gone, and the sender knows no more than that.
     if received == "0" and (sent == "0" or (sent == "58" and lie in OF_ANSWERS)):
         return "whole"
-    # Where the third exchange fails the connection, it is chance whether the first bytes were among those before it.
+    # If the third exchange fails the connection, it is chance whether the first bytes were among those before it.
     few = "at most a part" if hub and sent == "58" else "a part" if came else "nothing"
     return f"send {sent}, receive {received}, {few}"
 
@@ -249,7 +249,7 @@ def line(text, words, terms):
         return f"{text}: {run(*words, room, **terms)}"
 
 
-# A run in which 200 exchanges in a row fail waits for most of its ten seconds: some run beside one another.
+# A run in which 200 exchanges in a row fail waits for most of its ten seconds: some run side by side.
 with ThreadPoolExecutor(AT_ONCE) as pool:
     for told in pool.map(lambda it: line(*it), runs()):
         print(told, flush=True)

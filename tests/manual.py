@@ -1,10 +1,10 @@
 #!/usr/bin/env python3
-"""Looks at the man page and the completions of share/, and at what ./ilpstream --install puts below a prefix. It needs no built
+"""Checks the man page and the completions of share/, and what ./ilpstream --install puts below a prefix. It needs no built
 program: the options of each command are read from crates/st_words, and a script is installed in the program's place.
 
 Each option of a command's help is in its section of the page and in its completions, and there are no others. The shells read
-their files: bash here, zsh and fish where they are installed; bash completes some lines. groff or mandoc reads the page without a
-warning, where one is installed. Each finding is a line; the last line counts what was looked at without one, and findings.
+their files: bash here, zsh and fish if they are installed; bash completes some lines. groff or mandoc reads the page without a
+warning, if one is installed. Each finding is a line; the last line counts what was checked without one, and findings.
 
 What tools/manual.py writes is compared with the files by tests/generated.py."""
 import os

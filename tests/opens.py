@@ -1,6 +1,6 @@
 #!/usr/bin/env python3
 """Runs the commands with streams and files as an operator may leave them: opens.py [PROGRAM [WORD]]. With standard streams that are
-closed, with files of totals that have a mode, an owner and others beside them, and with files and addresses that cannot be opened. With a WORD, only the tests whose names have it. A line
+closed, with files of totals that have a mode, an owner and others next to them, and with files and addresses that cannot be opened. With a WORD, only the tests whose names have it. A line
 for each test; the last line counts them. No test takes more than half a minute."""
 import glob, itertools, os, re, stat, subprocess, sys
 
@@ -29,7 +29,7 @@ def without(play, closed):
 
 
 def refused_at_once(process, closed, fault):
-    """A command ended with a fault, which it could tell where it has standard error, and had made no file."""
+    """A command ended with a fault, which it could report if it has standard error, and had made no file."""
     told = ended(process, 20)
     want(told == (fault if "2" not in closed else "WRONG 1 b''"), f"it ended with {told}")
     made = [it for it in (process.totals, process.log) if os.path.exists(it)]
@@ -156,7 +156,7 @@ def run_without(play, command, closed):
     return f"{ran.returncode}"
 
 
-# A file of totals, and those beside it.
+# A file of totals, and those next to it.
 
 
 def at_files_of_totals(play, act):
@@ -205,7 +205,7 @@ def a_new_file_of_totals_has_the_mode_of_any_new_file(play):
 @test()
 def a_file_beside_totals_that_is_not_the_connectors_stays(play):
     at_files_of_totals(play, lambda path: write(f"{path}.new", FOREIGN))
-    # (the number of a process stays where it runs another program)
+    # (the number of a process stays if it runs another program)
     taken = 'for it; do case $it in --totals=*) echo "not a connector'"'"'s" >"${it#*=}.new.$$.0" ;; esac; done'
     hub = connector_that_ends(play, program=script(play, taken, f'exec {PROGRAM} "$@"'))
     beside = sorted(glob.glob(f"{hub.totals}.new*"))
@@ -214,7 +214,7 @@ def a_file_beside_totals_that_is_not_the_connectors_stays(play):
     return "two"
 
 
-# What stands in the way of a command, in words.
+# What keeps a command from its work, in words.
 
 
 def run_at(play, words, errors):
@@ -226,7 +226,7 @@ def run_at(play, words, errors):
 
 
 def told_by_command(play, words):
-    """What a command writes to standard error, where that is a terminal, and where it is a pipe."""
+    """What a command writes to standard error, if that is a terminal, and if it is a pipe."""
     above, below = play.terminal()
     run_at(play, words, below)
     os.set_blocking(above.fileno(), False)
@@ -250,7 +250,7 @@ OBSTACLES = [
     ("receive", "--log=/", "98", "cannot open --log /: is a directory"),
     ("connector", "--log=/nowhere/log", "98", "cannot open --log /nowhere/log: not found"),
     ("send", "--totals=/nowhere/totals", "98", "cannot open --totals /nowhere/totals: not found"),
-    ("connector", "--totals=/nowhere/totals", "98", "cannot make a file beside --totals /nowhere/totals: not found"),
+    ("connector", "--totals=/nowhere/totals", "98", "cannot make a file next to --totals /nowhere/totals: not found"),
     ("connector", "--totals=/", "98", "cannot open --totals /: is a directory"),
     ("send", "--random=/nowhere/random", "90", "cannot open --random /nowhere/random: not found"),
     ("send", "--token-file=/nowhere/token", "98", "cannot read --token-file /nowhere/token: not found"),

@@ -40,7 +40,7 @@ def sums(play, path):
 
 
 def entries(play, path):
-    """The lines of entries by hand: the name, the text of the side, and the amount; and their moments."""
+    """The lines of entries that were made manually: the name, the text of the side, and the amount; and their moments."""
     found = rows(play, path, "SELECT id, name, side, amount, moment FROM payment ORDER BY id")
     want([it[0] for it in found] == list(range(1, len(found) + 1)), f"the lines are numbered {[it[0] for it in found]}")
     return [it[1:4] for it in found], [it[4] for it in found]
@@ -67,7 +67,7 @@ def books(play):
 
 
 def ledger(path, *words, **how):
-    """How `ledger FILE ..` ended, and what it printed: the number of its fault, or 0, or 2 for arguments that are none."""
+    """How `ledger FILE ..` ended, and what it printed: the number of its fault, or 0, or 2 for arguments that are not valid."""
     ran = subprocess.run([PROGRAM, "ledger", path, *words], stdin=subprocess.DEVNULL, capture_output=True, timeout=60, check=False, **how)
     fault = re.match(rb"fault (\d+)\n", ran.stderr)
     if ran.returncode == 1 and fault and not ran.stdout:
@@ -118,12 +118,12 @@ def references_of_all_characters(play):
     told = [ledger(path, "settle", "alice", "1", "--reference", it)[0] for it in refused]
     told += [ledger(path, "settle", "alice", "1", *words)[0] for words in (["--referenc", "x"], ["x", "--reference"])]
     told += [ledger(path, "adjust", "alice", "claims", "1", *words)[0] for words in (["--reference"], ["x", "y"])]
-    want(set(told) == {"98"}, f"texts that are none: {told}")
+    want(set(told) == {"98"}, f"bad texts: {told}")
     # (of four words after FILE nothing is said)
     counts = [("settle", "alice", "1", "--reference"), ("settle", "alice", "1", "x"), ("adjust", "alice", "claims", "1")]
     told += [ledger(path, *words)[0] for words in counts]
     want(told[-3:] == ["2"] * 3, f"four words: {told[-3:]}")
-    want(entries(play, path)[0] == found, "a text that is none is kept")
+    want(entries(play, path)[0] == found, "a bad text is kept")
     return f"{len(texts)} texts; {len(told)} are refused"
 
 
@@ -185,7 +185,7 @@ def an_adjustment_after_a_restored_backup(play):
     told = [ledger(path, "adjust", "alice", "claims", str(most - lost["alice"][0]), "--reference", "most"), ledger(path, "settle", "alice", str(most))]
     want(told == [("0", line("alice", most, 0)), ("0", line("alice", 0, 0))], f"the most: {told}")
     pay_through(play, path, 5)
-    want(sums(play, path)["alice"] == (5, 0), f"a connector goes on with {sums(play, path)}")
+    want(sums(play, path)["alice"] == (5, 0), f"a connector continues with {sums(play, path)}")
     return f"{wanted}"
 
 

@@ -1,4 +1,4 @@
-"""What the tests of the real program share: messages of ILP over HTTP (RFC 0035) by hand, packets of ILPv4 (RFC 0027), a peer that
+"""What the tests of the real program share: messages of ILP over HTTP (RFC 0035) and packets of ILPv4 (RFC 0027), a peer that
 handles each connection as a test says, free ports, and how a process ended."""
 import datetime, hashlib, os, re, socket, subprocess, threading, time
 
@@ -6,7 +6,7 @@ SECRET = "000102030405060708090a0b0c0d0e0f101112131415161718191a1b1c1d1e1f"
 HOST = "127.0.0.1"
 # More seconds than any run may take.
 BOUND = 60
-# Ports that are listened at by tests stand below those that the system gives to outgoing connections.
+# Ports that are listened at by tests are below those that the system gives to outgoing connections.
 FIRST_PORT = 20_000
 GIVEN, GIVING = set(), threading.Lock()
 
@@ -54,8 +54,8 @@ def listens(port):
 
 
 def message(stream):
-    """One message of HTTP: its head with the empty line, and its body. Where the stream ends before, what it had. Nothing may
-    stand behind the message."""
+    """One message of HTTP: its head with the empty line, and its body. If the stream ends before, what it had. Nothing may
+    follow the message."""
     with stream.makefile("rb") as file:
         head = b""
         while not head.endswith(b"\r\n\r\n"):
@@ -74,7 +74,7 @@ def is_whole(head, body):
 
 
 def asked(host, request, bound=BOUND):
-    """The answer to the bytes of a request, as its head and its body; two empty ones where there is none."""
+    """The answer to the bytes of a request, as its head and its body; two empty ones if there is none."""
     try:
         with socket.create_connection(host, timeout=bound) as stream:
             stream.sendall(request)
@@ -112,7 +112,7 @@ def prepare(amount, seconds, address, preimage=bytes(32)):
 
 
 def fields_at(packet):
-    """Where the fields of an ILP packet begin: behind its type and its length (RFC 0027, RFC 0030)."""
+    """The offset of an ILP packet's fields: after its type and its length (RFC 0027, RFC 0030)."""
     return 2 if packet[1] < 128 else 2 + packet[1] - 128
 
 
@@ -122,14 +122,14 @@ def fulfill(preimage=bytes(32)):
 
 
 def use_up(process, port, token):
-    """Sends requests that hold no packet until a connector took as many as it was asked to, or for a minute."""
+    """Sends requests that hold no packet until a connector took the number that it was asked for, or for a minute."""
     until = time.monotonic() + BOUND
     while process.poll() is None and time.monotonic() < until:
         asked((HOST, port), request(token, b"\0"), 1)
 
 
 class Peer:
-    """Listens at a port, of its own where none is given, and has `handle(number, stream)` handle each connection in a thread,
+    """Listens at a port, of its own if none is given, and has `handle(number, stream)` handle each connection in a thread,
     numbered from 1."""
 
     def __init__(self, handle, port=0, host=HOST):
@@ -179,7 +179,7 @@ class Full(Peer):
             pass
 
     def fills(self):
-        """Whether one more connection was taken."""
+        """Whether one more connection was accepted."""
         stream = socket.socket()
         stream.settimeout(0.3)
         self.queued.append(stream)
@@ -214,7 +214,7 @@ def ended(process, bound):
 
 
 def totals(path):
-    """What a command reported in its file of totals, by its words: `paid 500`, or `account 0 claims 500 dues 0 held 0`."""
+    """What a command reported in its file of totals, by its lines: `paid 500`, or `account 0 claims 500 dues 0 held 0`."""
     try:
         with open(path, encoding="ascii") as file:
             lines = file.read().split("\n")[:-1]

@@ -1,11 +1,11 @@
 #!/usr/bin/env python3
-"""Readers of ILP packets (RFC 0027) and plain STREAM packets (RFC 0029) in plain Python, written from the formats alone, beside
+"""Readers of ILP packets (RFC 0027) and plain STREAM packets (RFC 0029) in plain Python, written from the formats alone, next to
 those of the proved library: both get the same hostile bytes, and have to give the same fields, or the same number of a refusal.
 
-tests/plain.py [COUNT [SEED]]   COUNT inputs of each kind, 20,000 where it is not given, by the seeds from SEED on
+tests/plain.py [COUNT [SEED]]   COUNT inputs of each kind, 20,000 if it is not given, by the seeds from SEED on
 
-bind/python is looked at, over the shared object that ILPSTREAM_SO names, or that bind/build made. The inputs are made as those of
-bind/rust/tests/suite/hostile are: half of them lawful messages with changes, half random bytes behind the front of one. The last
+bind/python is checked, over the shared object that ILPSTREAM_SO names, or that bind/build made. The inputs are made as those of
+bind/rust/tests/suite/hostile are: half of them lawful messages with changes, half random bytes after the front of one. The last
 line counts the inputs; a difference is printed, and the status is 1."""
 import datetime
 import os
@@ -38,7 +38,7 @@ class Bytes:
         return self.take(1)[0]
 
     def length(self):
-        """One byte below 128, or as few bytes as can be behind 128 and their count, which is at most 8."""
+        """One byte below 128, or as few bytes as can be after 128 and their count, which is at most 8."""
         first = self.byte()
         if first < 128:
             return first

@@ -2,7 +2,6 @@
 the tests of a file; and how they are run and counted. A file of tests is called FILE.py [PROGRAM [WORD]]."""
 import os, pty, shlex, socket, subprocess, sys, tempfile, time
 from concurrent.futures import ThreadPoolExecutor
-from itertools import chain
 
 from peers import GIVING, HOST, SECRET, Peer, ended, free_port, listens
 
@@ -16,7 +15,7 @@ RESULTS = []  # of the tests that ran: True, False, or None of one that was skip
 
 
 class Wrong(Exception):
-    """What a test saw, where that is not right."""
+    """What a test saw, if that is not right."""
 
 
 class Skipped(Exception):
@@ -29,7 +28,7 @@ def want(is_so, told):
 
 
 def test(*rows, waits=False):
-    """Has a function be a test, once for each row of its arguments; where it waits, beside others that do."""
+    """Has a function be a test, once for each row of its arguments; if it waits, at the same time as others that do."""
 
     def listed(function):
         for row in rows or [()]:
@@ -55,7 +54,7 @@ def until_it_listens(process):
 
 
 def listening(start):
-    """Has a command begin that listens: at the port that is given, or at a free one; at another where that was taken meanwhile."""
+    """Has a command begin that listens: at the port that is given, or at a free one; at another if that was used meanwhile."""
 
     def begun(play, *words, port=None, **how):
         for _ in range(1 if port else 3):
@@ -147,7 +146,7 @@ class Play:
         return it
 
     def before(self, receiver, *words, **how):
-        """A connector of two accounts: the sender's, and the receiver's or a peer's. It takes any money."""
+        """A connector of two accounts: the sender's, and the receiver's or a peer's. It accepts any money."""
         return self.connector(table_to(receiver.port), *words, **how)
 
     def send(self, port, given, *words, token="t", address="test.a", peer="test.b", secret=None, host=HOST, **how):
@@ -183,7 +182,7 @@ class Play:
         return stream
 
     def knock(self, port):
-        """A connection that is closed at once, where one is taken."""
+        """A connection that is closed at once, if one is accepted."""
         try:
             self.connect(port).close()
         except OSError:
@@ -219,7 +218,7 @@ def table_to(port):
 
 
 def tried(name, function, row):
-    """A line that says what a test saw, and whether it passed; None in its place where it was skipped."""
+    """A line that says what a test saw, and whether it passed; None in its place if it was skipped."""
     try:
         with Play() as play:
             return True, f"{name}: {function(play, *row)}"
@@ -232,16 +231,31 @@ def tried(name, function, row):
 
 
 def main():
+    """Runs the tests. One that waits runs at the same time as others, which may make it late: if it fails, it is tried once more, alone."""
     word = WORDS[1] if len(WORDS) > 1 else ""
     waiting, others = ([it for it in tests if word in it[0]] for tests in (WAITING, TESTS))
-    results = RESULTS
+    results, again = RESULTS, []
     with ThreadPoolExecutor(max_workers=AT_ONCE) as pool:
-        begun = [pool.submit(tried, *it) for it in waiting]
-        for passed, told in chain((tried(*it) for it in others), (it.result() for it in begun)):
-            results.append(passed)
-            print(told, flush=True)
+        begun = [(it, pool.submit(tried, *it)) for it in waiting]
+        for it in others:
+            show(results, *tried(*it))
+        for it, work in begun:
+            passed, told = work.result()
+            if passed is False:
+                print(f"{told}; it is tried again, alone", flush=True)
+                again.append(it)
+            else:
+                show(results, passed, told)
+    for it in again:
+        show(results, *tried(*it))
     print(f"{results.count(True)} passed, {results.count(False)} failed")
     return 0 if results and all(results) else 1
+
+
+def show(results, passed, told):
+    """Prints what a test saw, and notes whether it passed."""
+    results.append(passed)
+    print(told, flush=True)
 
 
 def option(name, default):

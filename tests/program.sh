@@ -1,6 +1,6 @@
 #!/usr/bin/env bash
 # Runs ./ilpstream as whoever uses it does, and compares its output, its errors and its status. What it writes to standard
-# error, and what it does where a stream is closed or a terminal, `rt ci` does not see. The last line counts the runs.
+# error, and what it does if a stream is closed or a terminal, `rt ci` does not see. The last line counts the runs.
 # The packets' answers follow from the tables of docs/ERRORS.md, the texts of the errors from docs/errors.toml.
 set -u
 top=$(dirname "$(readlink -f "${BASH_SOURCE[0]}")")/..
@@ -8,7 +8,7 @@ room=$(mktemp -d)
 trap 'rm -rf "$room"' EXIT
 passed=0 failed=0
 
-# Counts a run: what is compared, what was wanted and what came.
+# Counts a run: what is compared, what was wanted and what arrived.
 same() {
     if [ "$2" = "$3" ]; then
         passed=$((passed + 1))
@@ -26,7 +26,7 @@ has() {
     esac
 }
 
-# Runs the program with the words given, on standard input: its output, its errors and its status are $out, $err and
+# Runs the program with the arguments given, on standard input: its output, its errors and its status are $out, $err and
 # $status.
 program=$top/ilpstream
 run() {
@@ -90,8 +90,8 @@ same 'CR LF' $'stream 1 2 6162\n--\n\n--\n0' "$(told)"
 run </dev/null
 same 'no line' $'\n--\n\n--\n0' "$(told)"
 
-# A line and its answer: what is wrong of a number, a length, a frame or a stream, in the order in which it is looked at; limits of
-# nine bytes, frames of other types, bytes behind the last frame, and what is kept of bytes that come twice.
+# A line and its answer: what is wrong of a number, a length, a frame or a stream, in the order in which it is checked; limits of
+# nine bytes, frames of other types, bytes after the last frame, and what is kept of bytes that come twice.
 front=010c010101000101
 answers() { # an input, in the form of printf, and what is written
     run < <(printf '%b' "$1")
@@ -230,8 +230,7 @@ Numbers of the library:
 explains 60 'Numbers of the library:
 60  st_receiver Reason::Repeated
     A Prepare with this sequence was fulfilled before.
-    What to do: Nothing: the sender sends its contents again under another sequence where it needs
-    to.'
+    What to do: Nothing: the sender sends its contents again under another sequence if it needs to.'
 explains 95 '95  st_commands LineError::NotHex, in a line of frames
     In `frames`: a character is not a hexadecimal digit, or the number of digits is odd.
     What to do: Remove byte order marks, `0x`, spaces and tabs.'
@@ -377,7 +376,7 @@ words=(explain +58) && bad_option
 words=(ledger "$room/books" settle '' 5) && bad_option
 words=(ledger "$room/books" settle alice '') && bad_option
 same 'no books were made' '' "$(find "$room" -name 'books*')"
-# (a file for totals or events that cannot be opened, before the file of random bytes, the listener or the table is looked at)
+# (a file for totals or events that cannot be opened, before the file of random bytes, the listener or the table is checked)
 for file in --totals=/nowhere/totals --totals= --log=/nowhere/log --log= "--log=$room"; do
     words=("${send[@]}" "$file") && bad_option
     words=("${receive[@]}" "$file") && bad_option
@@ -491,7 +490,7 @@ explain fault
 explain 58 59
 ROWS
 
-# A table is read before anything is listened to: the fault 96 tells a bad one, and 80 that a good one has no listener.
+# A table is read before anything is listened to: the fault 96 reports a bad one, and 80 that a good one has no listener.
 while IFS= read -r bad; do
     run "${connector[@]}" < <(printf '%b' "$bad\n")
     same "the table $bad" $'\n--\nfault 96\n--\n1' "$(told)"
@@ -539,7 +538,7 @@ for good in "$table" "$several" "$named" '' $' account  1 2 t - - \r'; do
     same "the table $good" $'\n--\nfault 80\n--\n1' "$(told)"
 done
 
-# No file of random bytes, no listener, no table and nowhere to tell it.
+# No file of random bytes, no listener, no table and nowhere to report it.
 left_by "${send[@]}" <<<abc
 same 'no random bytes' $'\n--\nfault 90\n--\n1\nabc' "$(told)"$'\n'"$left"
 left_by "${receive[@]}" <<<abc
@@ -549,7 +548,7 @@ same 'no table' $'\n--\nfault 90\n--\n1' "$(told)"
 "$program" "${connector[@]}" <<<"$table" 2>/dev/full >"$room/out"
 same 'a full output for errors' $'1\n' "$?"$'\n'"$(cat "$room/out")"
 
-# Totals of a run that ends with a fault, in a file that has something in it already; and where they cannot be told.
+# Totals of a run that ends with a fault, in a file that has something in it already; and if they cannot be reported.
 nothing=$'accepted 0\ndelivered 0\ncredited 0\npaid 0'
 totals_of() {
     seq 100 >"$room/totals"
@@ -562,7 +561,7 @@ zeros=$'account 0 claims 0 dues 0 held 0\naccount 1 claims 0 dues 0 held 0\ncoun
 count 1 fulfilled 0 rejected 0 lost 0 refused 0'
 same 'totals: no listener for a connector' $'fault 80\n'"$zeros" "$(totals_of "${connector[@]}")"
 same 'totals: no file beside them is left' '' "$(find "$room" -name '*.new*')"
-# (what is no regular file is written as it is, and nothing takes its place)
+# (what is not a regular file is written as it is, and nothing takes its place)
 run "${connector[@]}" --totals=/dev/stdout <<<"$table"
 same 'totals: at the output' "$zeros"$'\n--\nfault 80\n--\n1' "$(told)"
 ln -s "$room/far" "$room/link"
@@ -627,14 +626,14 @@ run send --to=127.0.0.1:1 --token=t "$secret" --address=test.a --peer=test.b <"$
 same 'a silent input and a failed connection' $'\n--\nfault 58\n--\n1' "$(told)"
 exec 8>&-
 
-# A connector that is asked for one request and gets a connection without one, and cannot tell its totals.
+# A connector that is asked for one request and gets a connection without one, and cannot report its totals.
 "$program" connector --listen=127.0.0.1:17772 --own=test.hub --requests=1 --totals=/dev/full <<<"$table" 2>"$room/err" &
 asked=$!
 knock 17772
 wait $asked
 same 'a full file for totals' $'1\nfault 91' "$?"$'\n'"$(cat "$room/err")"
 
-# A good table of which the read behind its last line fails: it stands at a terminal that goes away.
+# A good table of which the read after its last line fails: it is a terminal that goes away.
 cat >"$room/cut.py" <<'PYTHON'
 import os, pty, subprocess, sys, tty
 above, below = pty.openpty()
@@ -682,7 +681,7 @@ for command in receive send; do
     same "files at $command" $'\n--\n\n--\n0\n0\nequal' "$(told)"$'\n'"$(wait $! && echo $?)"$'\n'"$(cmp "$room/got" "$top/README.md" && echo equal)"
 done
 
-# Bytes over a chain in memory: none, 70,000 over two hops that lose each third Prepare, four on three streams, and one where
+# Bytes over a chain in memory: none, 70,000 over two hops that lose each third Prepare, four on three streams, and one if
 # each Prepare is lost.
 program=$top/ilpstream
 run local --hops 2 --lose 3 </dev/null
@@ -726,8 +725,8 @@ for words in 'local --hops 9' 'local --streams 0' 'local --lose x'; do
     same "$words" $'\n2' "$out"$'\n'"$status"
 done
 
-# A peer between a sender and a receiver that lies, at each third exchange and at every one, and at each third beside a connector;
-# and devices that fail. What comes is a beginning of what was sent, and what each side tells in the end fits. A Fulfill
+# A peer between a sender and a receiver that lies, at each third exchange and at every one, and at each third next to a connector;
+# and devices that fail. What arrives is a beginning of what was sent, and what each side reports in the end fits. A Fulfill
 # acknowledges whatever its payload is; F06, the answer to a payload that does not open, fails the connection at once, and so do
 # F05, a connector's answer to a Fulfill that does not fit, and 200 failures in a row.
 program=python3
@@ -795,7 +794,7 @@ an input that fails: send 90, receive waits, nothing
 --
 0" "$(told)"
 
-# Too little memory, from what the program can just start in: a run tells its fault or writes all, and nothing else. A connector of
+# Too little memory, from what the program can just start in: a run reports its fault or writes all, and nothing else. A connector of
 # one account needs no more than that; a receiver that cannot answer waits for a request that it can.
 run "$top/tests/tight.py" "$top/crates/ilpstream/out/ilpstream"
 same 'too little memory' $'\n0' "$(grep -E 'WRONG' <<<"$out")$err"$'\n'"$status"

@@ -1,20 +1,20 @@
 #!/usr/bin/env python3
 """Looks whether what the documents show is so.
 
-Each block ```rust of README, COMMANDS, OPERATING and LIBRARY stands, line for line, in a source of the crates, so that what a
+Each block ```rust of README, COMMANDS, OPERATING and LIBRARY is, line for line, in a source of the crates, so that what a
 reader pastes is what the gate proved and ran. Each block ```c, ```rust and ```python of EMBEDDING, and each block ```c and
-```python of README, stands so in a source of bind/; the commands of EMBEDDING are run by tests/bindings.py.
+```python of README, is in a source of bind/; the commands of EMBEDDING are run by tests/bindings.py.
 
 Each block ```console of them is run. Those of a document are run one after another by one bash, as by a reader who pastes them
 in order, in a directory that at first has nothing but `ilpstream` and `try`, the built program (which is on the PATH too), and
-the repository's `examples`, `bind` and `README.md`. A line that begins with `$ ` is a command; where it ends with a backslash the next
+the repository's `examples`, `bind` and `README.md`. A line that begins with `$ ` is a command; if it ends with a backslash the next
 line goes on with it. All other lines are the output, standard output and standard error together, which is compared with that of
-the whole block. A line `...` stands for any lines, and a word `...` in a line for any text. A block has to end what it began: no
-process may run in the background behind it. A document has 120 seconds. Blocks ```sh and ```text are not run.
+the whole block. A line `...` matches any lines, and a word `...` in a line for any text. A block has to end what it began: no
+process may run in the background after it. A document has 120 seconds. Blocks ```sh and ```text are not run.
 
-Each link from a document of the repository to another leads to a file, and to a heading of it where it names one.
+Each link from a document of the repository to another leads to a file, and to a heading of it if it names one.
 
-`tests/readme.py FILE ..` looks at these documents alone. The last line counts the blocks and the documents with good links,
+`tests/readme.py FILE ..` checks these documents alone. The last line counts the blocks and the documents with good links,
 and what is not so."""
 import glob
 import os
@@ -74,7 +74,7 @@ def sources(*patterns):
 
 
 def look_at_examples(paths):
-    """Whether each block of a language stands in a source of it."""
+    """Whether each block of a language is in a source of it."""
     rattle = sources("crates/*/src/**/*.rt")
     hosts = {
         "c": sources("bind/c/*.c"),
@@ -86,7 +86,7 @@ def look_at_examples(paths):
             for number, lines in blocks(path, language):
                 text = plain(lines)
                 good = any(text in source for source in found)
-                yield good, f"{path}:{number}: this block stands in no source:\n" + "\n".join(lines)
+                yield good, f"{path}:{number}: this block is in no source:\n" + "\n".join(lines)
 
 
 # ---- the shell
@@ -105,13 +105,13 @@ def commands_and_output(lines):
 
 
 def is_line(wanted, came):
-    """Whether a line is as wanted, where a word `...` stands for any text."""
+    """Whether a line is as wanted, if a word `...` matches any text."""
     pattern = r"(?:(?<=\s)|^)\.\.\.(?=\s|$)"
     return re.fullmatch(".*".join(re.escape(part) for part in re.split(pattern, wanted)), came) is not None
 
 
 def is_output(wanted, came):
-    """Whether lines are as wanted, where a line `...` stands for any lines, or none."""
+    """Whether lines are as wanted, where a line `...` matches any lines, or none."""
     if not wanted:
         return not came
     if wanted[0].strip() == "...":
@@ -157,8 +157,8 @@ def run(script, seconds=SECONDS):
 
 
 def run_in_order(scripts, seconds):
-    """What each of some scripts prints that one shell runs, and which processes run behind it: None of those that had not ended
-    after so many seconds, and of those behind them."""
+    """What each of some scripts prints that one shell runs, and which processes it leaves running: None of those that had not ended
+    after the given seconds, and of those after them."""
     mark = secrets.token_hex(16)
     shows = f"printf '\\n%s\\n' {mark}"
     came, _ = run("".join(f"{script}{shows}; jobs -pr; {shows}\n" for script in scripts), seconds)
@@ -169,7 +169,7 @@ def run_in_order(scripts, seconds):
 
 
 def look_at_commands(paths, seconds=SECONDS):
-    """Whether each block of commands prints what stands below them, where the blocks of a document are run in order, and leaves
+    """Whether each block of commands prints what is below them, if the blocks of a document are run in order, and leaves
     nothing running."""
     for path in paths:
         found = blocks(path, "console")
@@ -202,7 +202,7 @@ def without_code(text):
 
 
 def anchors(path):
-    """The anchors of a document's headings, as they are made where the document is shown."""
+    """The anchors of a document's headings, as they are made when the document is shown."""
     found = {}
     for line in without_code(read(path)):
         heading = re.match(r"#+ +(.*?)(?: +#+)?$", line)

@@ -3,12 +3,12 @@
 
 `refused.py CRATE ..` tries those of these crates, `refused.py --all` all. The gate calls `refused.py --gate`: it tries those that
 break a promise (a line `promise:` says which), and then, for ten minutes of the processor, those of one crate, which follows from
-the number of the commit. `refused.py --look` says whether each can be made. It stands on the libraries in crates/*/out/rlib that
+the number of the commit. `refused.py --look` says whether each can be made. It uses the libraries in crates/*/out/rlib that
 `rt ci` left there.
 
 Edits of different functions are made in one copy, since each function is proved by itself, and these functions alone are proved.
-An edit is refused where the prover reports, in the function that it changes, what is not proved. Where it reports nothing there,
-the edit is tried alone with the whole crate, and is refused where that is not proved, for a cause other than a name that the edit
+An edit is refused if the prover reports, in the function that it changes, what is not proved. If it reports nothing there,
+the edit is tried alone with the whole crate, and is refused if that is not proved, for a cause other than a name that the edit
 took away. One that does not compile counts as not refused."""
 import concurrent.futures
 import os
@@ -24,7 +24,7 @@ import crates as repository  # noqa: E402
 
 TOP = repository.TOP
 EDITS = f"{TOP}/tests/refused"
-# What the edits of one crate in rotation may take, in seconds of the processor. It is looked at between groups of so many edits.
+# What the edits of one crate in rotation may take, in seconds of the processor. It is checked between groups of this number of edits.
 ROTATION = 600
 AT_ONCE = 12
 REFUSED = "refused"
@@ -38,17 +38,17 @@ LIMITS = re.compile(r"antt ran out of (stack|the (steps|memory) that)|(outgrew t
 
 @dataclass
 class Edit:
-    """A wrong body: the changes of a crate's files, each a text that stands there once and the one that is to stand there."""
+    """A wrong body: the changes of a crate's files, each a text that is there once and the one that is to be there."""
 
     crate: str
     name: str
     promise: str = ""
     changes: list = field(default_factory=list)
-    # of each change, the line of its file where the text begins
+    # of each change, the line of its file at which the text begins
     lines: list = field(default_factory=list)
     # of each change, its file and the first and last line of the function around it
     spans: list = field(default_factory=list)
-    # the functions, a method by its type and its name, another by its path below the crate; none where a change stands in no function
+    # the functions, a method by its type and its name, another by its path below the crate; none if a change is in no function
     functions: list = field(default_factory=list)
 
     def __str__(self):
@@ -88,7 +88,7 @@ def read_edit(crate, name):
 
 
 def look_around(edit, file, text, at):
-    """Notes the function around a line of a file, which stands in the layout of `rt fmt`."""
+    """Notes the function around a line of a file, which is in the layout of `rt fmt`."""
     lines = text.split("\n")
     first = next((it for it in range(at, -1, -1) if FUNCTION.match(lines[it])), None)
     if first is None:
@@ -106,7 +106,7 @@ def look_around(edit, file, text, at):
 
 
 def type_of(line):
-    """How a check names the type of an `impl`, and behind it the trait with those of its arguments that are no parameters."""
+    """How a check names the type of an `impl`, and after it the trait with those of its arguments that are not parameters."""
     text = IMPL.match(line).group(2).replace("->", "").split(" where ")[0].rstrip(" {")
     depth = 0
     for end, character in enumerate(text if text.startswith("<") else ""):
@@ -138,7 +138,7 @@ def read_edits(crates):
 
 
 def batches(edits):
-    """The edits in groups of at most AT_ONCE, none of which changes a function twice. One in no function stands alone."""
+    """The edits in groups of at most AT_ONCE, none of which changes a function twice. One in no function is tried alone."""
     groups = []
     for edit in edits:
         group = next((it for it in groups if fits(edit, it)), None)
@@ -194,7 +194,7 @@ class Prover:
             return output.read().split("\n"), ran.returncode
 
     def attempt(self, group, kept, budget=None):
-        """What came of each edit of a group, by its name. A budget, in seconds of the processor, leaves out some of those that have
+        """The outcome of each edit of a group, by its name. A budget, in seconds of the processor, leaves out some of those that have
         to be tried alone."""
         only = [name for it in group for name in it.functions] if all(it.functions for it in group) else []
         said, status = self.check(group, kept, only)
@@ -240,7 +240,7 @@ def is_refused_alone(said, status):
 
 @dataclass
 class Tried:
-    """What came of edits."""
+    """The outcome of edits."""
 
     crate: str
     lines: list = field(default_factory=list)
@@ -272,7 +272,7 @@ def lanes():
 
 
 def try_all(edits, others=()):
-    """Tries edits, crates side by side, those of the highest first, and prints what came of each. Before them it begins with others,
+    """Tries edits, crates side by side, those of the highest first, and prints the outcome of each. Before them it begins with others,
     a crate and its edits, for the time of a rotation."""
     order = repository.read_crates()
     by_crate = {crate: [it for it in edits if it.crate == crate] for crate in reversed(order)}
@@ -309,7 +309,7 @@ def main(arguments):
         passed, tried = gate()
     elif arguments == ["--look"] or arguments == ["--all"] or arguments and not {*arguments} - {*every}:
         edits, lost = read_edits(every if arguments[0].startswith("--") else arguments)
-        print(*[f"tests/refused/{it}.edit: one of its old texts does not stand once in its file" for it in lost], sep="\n", end="\n" * bool(lost))
+        print(*[f"tests/refused/{it}.edit: one of its old texts is not in its file just once" for it in lost], sep="\n", end="\n" * bool(lost))
         passed, tried = (len(edits), len(edits)) if arguments == ["--look"] else try_all(edits)
         tried += len(lost)
     else:

@@ -1,7 +1,7 @@
 #!/usr/bin/env python3
 """Runs what docs/SCALING.md describes: scaling.py [PROGRAM [WORD]]. Three connectors with the tables of that page, each with books of
 its own, behind an nginx with examples/nginx/spread.conf, which senders reach over TLS by examples/nginx/onward.conf. Transfers
-over one and two of them, by what nginx refuses, beside a connector that is killed; and copies of books, taken under load, that
+over one and two of them, by what nginx refuses, next to a connector that is killed; and copies of books, taken under load, that
 are whole. A line for each test; the last one counts them. Needs nginx and openssl (tests/installed.py)."""
 import collections, glob, random, re, shutil, signal, sqlite3, threading, time
 
@@ -14,7 +14,7 @@ HUBS = {"one": "10.0.0.11:7770", "two": "10.0.0.12:7770", "three": "10.0.0.13:77
 ENDS = {"frank": ("10.0.0.21:7771", 1), "bob": ("10.0.0.22:7771", 2), "dave": ("10.0.0.23:7771", 3)}
 TRANSFERS = {("alice", 1): "bob", ("carol", 2): "dave", ("erin", 3): "frank"}  # over two connectors each
 ALONE = {("alice", 1): "frank", ("carol", 2): "bob", ("erin", 3): "dave"}  # over one
-COPIES = 20  # that are taken under load
+COPIES = 20  # that are made under load
 SEED = int(option("seed", random.randrange(10**6)))
 
 
@@ -63,7 +63,7 @@ class Hubs:
         self.hubs[name].wait()
 
     def sums(self, name):
-        """The books of a connector that was killed: of each account its claims and its dues, where it has any."""
+        """The books of a connector that was killed: of each account its claims and its dues, if it has any."""
         status, told = said([PROGRAM, "ledger", self.books(name)])
         want(status == 0, f"the books of {name}: {told}")
         return sums_of(told)
@@ -140,7 +140,7 @@ def a_connector_is_killed_beside_the_others(play):
     hubs = Hubs(play)
     transfers(hubs, TRANSFERS)
     hubs.kill("two")
-    # Those of the others go on; a packet for two is answered for by one, and what is for two itself by nginx.
+    # Those of the others continue; a packet for two is answered for by one, and what is for two itself by nginx.
     transfers(hubs, {("alice", 1): "frank", ("erin", 3): "dave"}, 70)
     _, body = asked((HOST, hubs.way), request("1.alice", prepare(0, 20, "example.hub.2.bob")))
     status = asked((HOST, hubs.way), request("2.carol", prepare(0, 20, "example.hub.1.frank")))[0][9:12]

@@ -1,9 +1,12 @@
 #!/usr/bin/env python3
 """Tries the wrong bodies of tests/seen-by-tests, which no contract refuses, on a copy of the crates. Each has to fail a test of the
-crate that its first line names, or, where that line is `tests: local`, a run of the program: bytes over a chain in memory.
+crate that its first line names, or, if that line is `tests: local`, a run of the program: bytes over a chain in memory. If it is
+`tests: memory`, the table of requests for memory that tests/memory.py compares has to be another one.
 `seen_by_tests.py [WORD]` tries those whose name has WORD in it. Nothing is proved: `rt try` runs the tests, or the program, as they
-stand. It is run by hand; the gate calls `seen_by_tests.py --look`, which says whether each can be made."""
+are. It is run manually; the gate calls `seen_by_tests.py --look`, which says whether each can be made."""
 import os, re, shutil, subprocess, sys, tempfile
+
+import memory
 
 TOP = os.path.join(os.path.dirname(os.path.realpath(__file__)), "..")
 EDITS = os.path.join(TOP, "tests", "seen-by-tests")
@@ -13,6 +16,8 @@ BOUND = 900
 # keeps at once. It reads the digits of the numbers from 0 on.
 LOCAL, RUN = "local", ["local", "--hops", "8", "--streams", "3"]
 INPUT = "".join(str(number) for number in range(172_000))[:900_000]
+# The edits that the table of requests for memory shows.
+MEMORY = "memory"
 
 
 def read_edit(name):
@@ -35,10 +40,24 @@ def run_local(room):
     return f"seen by {' '.join(RUN)}"
 
 
+def run_memory(room):
+    """The calls that ask for other memory than the table says."""
+    try:
+        rows, why = memory.printed(room)
+    except subprocess.TimeoutExpired:
+        return "seen: the table was not printed in time"
+    if not rows:
+        return f"BAD EDIT: {why[-300:]}"
+    other = dict.fromkeys(it[2:42].strip() for it in memory.differences(rows))
+    return f"seen at {', '.join(other)}" if other else "NOT SEEN"
+
+
 def tried(trials, room):
     """What the tests of a crate said: the names of those that failed, or why none ran."""
     if trials == LOCAL:
         return run_local(room)
+    if trials == MEMORY:
+        return run_memory(room)
     try:
         ran = subprocess.run(["rt", "try", "--test"], cwd=f"{room}/crates/{trials}", capture_output=True, text=True, timeout=BOUND)
     except subprocess.TimeoutExpired:
@@ -53,7 +72,7 @@ def tried(trials, room):
 
 
 def made(name, room):
-    """The file that an edit changes, what it holds, and what it would; nothing where the old line does not stand there once."""
+    """The file that an edit changes, what it holds, and what it would; nothing if the old line is not there once."""
     _, file, old, new = read_edit(name)
     with open(f"{room}/{file}", encoding="utf-8") as source:
         text = source.read()
@@ -63,10 +82,10 @@ def made(name, room):
 def look(names):
     lost = [it for it in names if not made(it, TOP)]
     for it in lost:
-        print(f"tests/seen-by-tests/{it}: its old line does not stand once in its file")
+        print(f"tests/seen-by-tests/{it}: its old line is not in its file just once")
     for it in names:
         trials = read_edit(it)[0]
-        if trials != LOCAL and not os.path.isdir(f"{TOP}/crates/{trials}/src"):
+        if trials not in (LOCAL, MEMORY) and not os.path.isdir(f"{TOP}/crates/{trials}/src"):
             print(f"tests/seen-by-tests/{it}: there is no crate {trials}")
             lost.append(it)
     print(f"{len(names) - len(lost)} passed, {len(lost)} failed")
@@ -91,7 +110,7 @@ def main(words):
         for name in names:
             trials, *_ = read_edit(name)
             change = made(name, room)
-            told = "BAD EDIT: its old line does not stand once in its file"
+            told = "BAD EDIT: its old line is not in its file just once"
             if change:
                 path, text, changed = change
                 write(path, changed)

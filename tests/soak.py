@@ -3,7 +3,7 @@
 With SEED/NUMBER as its seed it runs that one round. Each round draws, from the seed and its number, a topology, transfers, what
 the proxies between neighbours spoil, and events: connections that send nothing or garbage, links that are gone, processes that
 are stopped for some seconds or killed. What is wrong is printed with the round's draw. One connector stays through all rounds,
-and its open files, threads and memory are looked at. A summary is printed each minute, and at the end `N rounds, M wrong`."""
+and its open files, threads and memory are checked. A summary is printed each minute, and at the end `N rounds, M wrong`."""
 import collections, dataclasses, glob, os, random, re, resource, select, signal, socket, sys, tempfile, threading, time, traceback
 
 from edges import feed, hold, threads
@@ -19,7 +19,7 @@ SILENCE = 31  # seconds until an exchange with a silent neighbour has ended
 GONE = 6  # seconds in which neighbours may be gone, so that a sender stays: 200 failures take some ten
 SLACK = 10  # seconds that a process may be late on a machine that has other work
 SPEEDS = 20_000, 2_000_000  # bytes a second over a connector: about those of an unproved and of a proved program
-WORK = 600  # seconds by which a bound is longer at most, where the processes of a round run or wait for a processor meanwhile
+WORK = 600  # seconds by which a bound is longer at most, if the processes of a round run or wait for a processor meanwhile
 AMPLE = 1_000_000  # units that no transfer reaches, however many of its answers are lost
 KILLED = {"WRONG -9 b''": "killed", "WRONG -15 b''": "killed"}
 
@@ -79,7 +79,7 @@ def draw_transfer(rng, largest, share):
 
 
 def draw_money(rng, plan):
-    """Limits, and a rate where there is one transfer over connectors of its own."""
+    """Limits, and a rate if there is one transfer over connectors of its own."""
     plan.packet = rng.choice([AMPLE, AMPLE, 100])
     if plan.shape in ("one", "two") and rng.random() < 0.3:
         plan.rate, plan.packet = rng.choice([(1, 2), (3, 2), (2, 3)]), AMPLE
@@ -110,7 +110,7 @@ def draw_events(rng, plan, span):
 
 
 def draw(rng, speed, lanes):
-    """A round's circumstances. `speed` is about how many bytes a second go over a connector."""
+    """A round's circumstances. `speed` is about how many bytes a second are sent over a connector."""
     shape = rng.choice(SHAPES)
     if shape != "stays":
         lanes = range(rng.choice([2, 3, 4]) if shape == "many" else 1)
@@ -127,7 +127,7 @@ def draw(rng, speed, lanes):
     return plan
 
 
-# What stands between neighbours.
+# What is between neighbours.
 
 
 class Relay(Peer):
@@ -142,7 +142,7 @@ class Relay(Peer):
         super().__init__(self.pass_one, port)
 
     def way(self):
-        """On which side an exchange is spoiled, where, and how."""
+        """On which side an exchange is spoiled, in which place, and how."""
         with self.lock:
             if self.rng.random() >= self.share:
                 return None, None, None
@@ -177,7 +177,7 @@ class Relay(Peer):
             stream.sendall(b"".join(answer))
 
     def ask(self, content, is_slow):
-        """The answer of the neighbour, as its head and its body; nothing where it has none."""
+        """The answer of the neighbour, as its head and its body; nothing if it has none."""
         try:
             with socket.create_connection((HOST, self.target), timeout=120) as stream:
                 if is_slow:
@@ -273,7 +273,7 @@ def busy(process, fields=2):
 
 
 def hostile(token, kind):
-    """What a connection sends that brings no packet, and how an answer to it begins, where there is one."""
+    """What a connection sends that brings no packet, and how an answer to it begins, if there is one."""
     good = request(token, prepare(0, 30, "test.nobody"))
     return {
         "nothing": (b"", b""),
@@ -303,7 +303,7 @@ class Round:
         play.secret = bytes(self.rng.randrange(256) for _ in range(32)).hex()
 
     def port_of(self, link):
-        """Where the first node of a link sends to."""
+        """The address to which the first node of a link sends."""
         return self.relays[link].port if link in self.relays else self.ports[link[1]]
 
     def own_hubs(self):
@@ -386,7 +386,7 @@ class Round:
     # What happens.
 
     def happen(self):
-        """The events of the plan, each at its moment, and what undoes them. It ends early where all ends have ended."""
+        """The events of the plan, each at its moment, and what undoes them. It ends early if all ends have ended."""
         todo = sorted(((at, n, what, whom, how) for n, (at, what, whom, how) in enumerate(self.plan.events)), key=lambda it: it[:2])
         while todo:
             at, n, what, whom, how = todo.pop(0)
@@ -442,7 +442,7 @@ class Round:
         threading.Thread(target=self.intrude, args=(node, *how), daemon=True).start()
 
     def intrude(self, node, kind, seconds):
-        """A connection to a node that brings no packet: what it is answered with is looked at."""
+        """A connection to a node that brings no packet: what it is answered with is checked."""
         before = next(path[path.index(node) - 1] for path in self.plan.paths if node in path)
         content, begins = hostile(f"{before}-{node}", kind)
         try:
@@ -504,7 +504,7 @@ class Round:
         return min(WORK, 4 * (stays + sum(busy(process) for process in self.nodes.values())))
 
     def end(self, name, bound):
-        """Waits for a process. The time for which the machine keeps it from going on does not count."""
+        """Waits for a process. The time for which the machine keeps it from running does not count."""
         process, until = self.nodes[name], time.monotonic() + bound
         while process.poll() is None and (time.monotonic() < until or time.monotonic() < until + self.work()):
             time.sleep(0.05)
@@ -575,7 +575,7 @@ class Round:
             self.expect(ends[1]["delivered"] == len(came) <= ends[0]["accepted"] <= len(content), f"bytes counted: {ends}, {told}")
 
     def check_patience(self, path, it):
-        """A receiver ends with 88 after its patience, and not long after it where its sender has ended. A file of totals is
+        """A receiver ends with 88 after its patience, and not long after it if its sender has ended. A file of totals is
         written at the end."""
         sender, receiver = self.nodes[path[0]], self.nodes[path[-1]]
         if self.ends[path[-1]] != "88":
@@ -597,7 +597,7 @@ class Round:
             self.expect(sent.get("paid") == it.money and sent.get("accepted") == it.size, f"{path[0]} 0 and {sent}")
 
     def is_quick(self):
-        """Whether no exchange can have timed out: each began while its sender ran, or was left behind by one that was killed."""
+        """Whether no exchange can have timed out: each began while its sender ran, or was left by one that was killed."""
         return (self.taken if any(name[0] == "s" for name in self.killed) else self.sent) <= LIFE
 
     def may_lose(self, path):
@@ -626,8 +626,8 @@ class Round:
             allowed = [("0", "0"), ("58", "0")] if self.may_lose(path) else [("0", "0")]
             self.expect(pair in allowed, f"{path[0]} {pair[0]}, {path[-1]} {pair[1]}, and nothing kept them from it")
         elif why == ["poor"] and not self.may_lose(path) and it.patience <= SLACK:
-            self.expect(pair == ("59", "88"), f"{path[0]} {pair[0]}, {path[-1]} {pair[1]} where the receiver takes too little")
-            self.expect(self.output(path[-1]) == self.contents[path[-1]], f"{path[-1]} is not whole where it takes too little")
+            self.expect(pair == ("59", "88"), f"{path[0]} {pair[0]}, {path[-1]} {pair[1]} if the receiver accepts too little")
+            self.expect(self.output(path[-1]) == self.contents[path[-1]], f"{path[-1]} is not whole if it accepts too little")
 
     def check_hub(self, name):
         found = totals(self.nodes[name].totals)
@@ -637,7 +637,7 @@ class Round:
         self.expect(claims == dues if num == den else dues * den <= claims * num, f"{name} claims {claims} and owes {dues}")
 
     def amount(self, link, name):
-        """What one side of a link reports of the money that went over it; None where it reports nothing."""
+        """What one side of a link reports of the money that was sent over it; None if it reports nothing."""
         if name in self.killed_hubs:
             return None
         found = totals(self.nodes[name].totals)
@@ -722,7 +722,7 @@ class Soak:
         self.speed = 0
 
     def measure(self):
-        """How many bytes a second go over a connector."""
+        """How many bytes a second are sent over a connector."""
         with Play() as play:
             receiver = play.receive()
             hub = play.before(receiver)
@@ -782,7 +782,7 @@ class Soak:
                 print(f"WRONG round {seed}: {'; '.join(it.wrong)}\n  {facts}\n  {it.plan}", flush=True)
 
     def many(self, stays):
-        """Plays rounds until the time is over, and rests where all of it takes more than its share of the processors."""
+        """Plays rounds until the time is over, and rests if all of it takes more than its share of the processors."""
         while time.monotonic() < self.begun + self.seconds:
             with self.lock:
                 number, self.next = self.next, self.next + 1
@@ -826,7 +826,7 @@ class Soak:
                 if time.monotonic() > told + 60:
                     told += 60
                     self.summary(stays)
-            self.seconds = 0  # where the connector ended, the rounds that there are end too
+            self.seconds = 0  # if the connector ended, the rounds that there are end too
             for it in workers:
                 it.join()
             self.summary(stays)

@@ -1,7 +1,7 @@
 #!/usr/bin/env python3
 """Runs the commands with too little memory: tight.py PROGRAM. What may be allocated is set a step higher from run to run, from a
-step above what the program just starts in to what it runs well in. A line for each command tells the ways in which its runs
-ended, each once, and what is wrong, if anything is: a run writes a beginning of what it should and tells a numbered fault, or it
+step above what the program just starts in to what it runs well in. A line for each command reports the ways in which its runs
+ended, each once, and what is wrong, if anything is: a run writes a beginning of what it should and reports a numbered fault, or it
 writes all and has status 0."""
 import os, re, resource, subprocess, sys, tempfile, time
 
@@ -13,14 +13,14 @@ TABLE = b"account 500 500 alice - -\naccount 500 500 bob 127.0.0.1:9 hub\nroute 
 # A hop that needs more memory than a step.
 ROUTES = TABLE + b"".join(b"route example.bob.%d 1\n" % n for n in range(4_000))
 STEP = 64 * 1024
-# So many runs that end well end a sweep, and so many steps are too many.
+# This number of runs that end well ends a sweep, and this number of steps is too large.
 WELL, STEPS = 8, 1_000
 # More seconds than any run may take, and the seconds in which a connector is asked until it ends.
 BOUND, ASKED = 60, 2
 
 
 class Run:
-    """The program with these words over a file's bytes, held to so much space; to all that there is where that is 0."""
+    """The program with these arguments over a file's bytes, limited to this much space; to all that there is if that is 0."""
 
     def __init__(self, words, space, given=os.devnull):
         limit = (lambda: resource.setrlimit(resource.RLIMIT_DATA, (space, space))) if space else None
@@ -29,7 +29,7 @@ class Run:
             self.ran = subprocess.Popen([PROGRAM, *words], stdin=file, stdout=self.out, stderr=subprocess.PIPE, preexec_fn=limit)
 
     def ending(self, whole, bound=BOUND):
-        """How it ended, and what is wrong with that or with what it wrote; it is stopped after so many seconds."""
+        """How it ended, and what is wrong with that or with what it wrote; it is stopped after the given seconds."""
         try:
             _, errors = self.ran.communicate(timeout=bound)
             return judged(self.ran.returncode, errors, self.written(), whole)
@@ -91,7 +91,7 @@ def words():
 
 
 def connector(table, books=None):
-    """A connector; where books are named, one that makes them, and they are read afterwards where there are any."""
+    """A connector; if books are named, one that makes them, and they are read afterwards if there are any."""
 
     def run(space):
         port = free_port()
@@ -113,7 +113,7 @@ def connector(table, books=None):
 
 
 def transfer(given, tight):
-    """A transfer in which `send` or `receive` is held to the space. The other may wait for the one that is, and that one for it."""
+    """A transfer in which `send` or `receive` is limited to the space. The other may wait for the one that is, and that one for it."""
 
     def run(space):
         port = free_port()

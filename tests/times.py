@@ -1,5 +1,5 @@
 #!/usr/bin/env python3
-"""How much of the processor a gate takes: times.py PROCESS. It looks at the processes below this one once a second until that
+"""How much of the processor a gate takes: times.py PROCESS. It checks the processes below this one once a second until that
 ends or this gets SIGTERM, and then prints, for each crate, the processor's seconds of its proof, of its tests, which are proved
 too, and of its wrong bodies; then those of compilers and of what they built; and the sums. What a process takes in its last
 second is missed. `times.py --table LOG` prints these lines of a gate's output as the table of docs/GATE.md."""

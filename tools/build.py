@@ -1,11 +1,12 @@
 #!/usr/bin/env python3
-"""Proves and builds the program where it is missing, or older than the files of the crates that it stands on.
+"""Proves and builds the program if it is missing, or older than the files of the crates that it is built on.
 
-The prover is called by itself, since `rt` works on one crate at a time where two have a crate below them in common. It writes
+The prover is called by itself, since `rt` works on one crate at a time if two have a crate below them in common. It writes
 a library, into crates/NAME/out/built, and the program of crates that are proved alone. Each crate is proved once those below it
 are. Of those that can begin, the one with the longest chain of crates above it begins first. A crate on the longest chain of all
-gets two jobs, where there are four processors, and any crate more while processors are idle. JOBS=N uses N processors. A crate
-that is not proved ends the build with its log. `tools/build.py --plan N` prints what the weights below give for N processors."""
+gets two jobs, if there are four processors, and any crate more while processors are idle. JOBS=N uses N processors. A crate
+that is not proved ends the build with its log. The program is for processors of this one's level; LEVEL=v2 and LEVEL=v3 ask for
+x86-64-v2 and x86-64-v3. `tools/build.py --plan N` prints what the weights below give for N processors."""
 import os
 import shutil
 import signal
@@ -30,11 +31,11 @@ OTHER = 60
 # Memory in bytes: what a check takes at most, and what each further job of it takes.
 CHECK, JOB = 3_500_000_000, 1_000_000_000
 MOST_JOBS = 3
-# A crate is urgent where the longest chain through it is this part of the longest of all. It has two jobs from so many processors
+# A crate is urgent if the longest chain through it is this part of the longest of all. It has two jobs from this number of processors
 # on. (A second job does half as much as the first: the crates side by side make better use of the processors.)
 URGENT = 0.93
 URGENT_FROM = 4
-# What a processor of level x86-64-v3 has beside those of level 2: with vectors of 32 bytes the cipher is twice as fast.
+# What a processor of level x86-64-v3 has in addition to those of level 2: with vectors of 32 bytes the cipher is twice as fast.
 LEVEL_3 = {"avx", "avx2", "bmi1", "bmi2", "f16c", "fma", "abm", "movbe"}
 
 
@@ -81,13 +82,23 @@ def paths_below(folder):
     return [path for at, _, files in os.walk(folder) for path in [at, *[f"{at}/{it}" for it in files]]]
 
 
+def built_level():
+    """The level for which the program was built."""
+    try:
+        with open(f"{BUILT}.level", encoding="ascii") as file:
+            return file.read().strip()
+    except OSError:
+        return ""
+
+
 def is_fresh(crates):
-    """Whether no file of these crates is newer than the program."""
-    return os.access(BUILT, os.X_OK) and os.stat(BUILT).st_mtime >= max(map(changed, crates))
+    """Whether no file of these crates is newer than the program, and it is for the level that was asked for."""
+    is_new = os.access(BUILT, os.X_OK) and os.stat(BUILT).st_mtime >= max(map(changed, crates))
+    return is_new and asked_level() in ("", built_level())
 
 
 def fresh_libraries(crates):
-    """The libraries that were built of what stands, over libraries that were."""
+    """The libraries that were built of what is there, over libraries that were."""
     found = set()
     for name, below in crates.items():
         if name != PROGRAM and found.issuperset(below) and made(name) > max([changed(name), *map(made, below)]):
@@ -146,7 +157,7 @@ class Schedule:
 
 
 def plan(crates, processors):
-    """The minutes that the weights give, where each further job of a crate counts as 0.45 of the first."""
+    """The minutes that the weights give, if each further job of a crate counts as 0.45 of the first."""
     schedule, now, left = Schedule(crates, processors, processors * (CHECK + JOB)), 0.0, {}
     while len(schedule.proved) < len(crates):
         while begun := schedule.next():
@@ -186,11 +197,21 @@ class Progress:
             print("\r", end="\x1b[K", file=sys.stderr, flush=True)
 
 
+def asked_level():
+    """The level that LEVEL asks for: v2, v3, or none."""
+    asked = os.environ.get("LEVEL", "")
+    if asked not in ("", "v2", "v3"):
+        sys.exit("ilpstream: LEVEL is v2 or v3")
+    return asked
+
+
 def level():
-    """The flag for the level of this processor, where it is above that for which the kit builds."""
+    """The flag for the level of processors for which the program is built, if it is above that for which the kit builds."""
+    if asked_level() == "v2":
+        return []
     with open("/proc/cpuinfo", encoding="ascii", errors="replace") as lines:
         flags = next((line.split(":")[1].split() for line in lines if line.startswith("flags")), [])
-    return ["--cpu=x86-64-v3"] if LEVEL_3.issubset(flags) else []
+    return ["--cpu=x86-64-v3"] if asked_level() == "v3" or LEVEL_3.issubset(flags) else []
 
 
 def begin(crate, jobs, logs, every, at):
@@ -237,7 +258,7 @@ def build(crates, logs):
     progress, every, at = Progress(schedule), read_crates(), kit()
     try:
         while len(schedule.proved) < len(crates):
-            # (more where another program ended meanwhile)
+            # (more if another program ended meanwhile)
             schedule.memory = max(schedule.memory, memory())
             while begun := schedule.next():
                 processes[begun[0]] = begin(*begun, logs, every, at)
@@ -256,6 +277,7 @@ def build(crates, logs):
 
 
 def main(arguments):
+    asked_level()  # (a wrong one ends it here)
     crates = with_below(PROGRAM, read_crates())
     if arguments[:1] == ["--plan"]:
         print(f"{plan(crates, int(arguments[1])):.0f} minutes")
@@ -269,6 +291,8 @@ def main(arguments):
         status = build(crates, logs)
     if not status:
         os.utime(BUILT, (begun, begun))
+        with open(f"{BUILT}.level", "w", encoding="ascii") as file:
+            print("v3" if level() else "v2", file=file)
     return status
 
 

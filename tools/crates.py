@@ -17,7 +17,7 @@ def read_crates():
 
 
 def with_below(name, crates):
-    """The crates of the repository that this one stands on, and itself, each with those right below it, lowest first."""
+    """The crates of the repository that this one is built on, and itself, each with those right below it, lowest first."""
     found = {}
 
     def add(crate):

@@ -5,7 +5,7 @@ of docs/ERRORS.md, and the table of st_faults, from which `ilpstream explain N` 
 A row has the number, the crate and the variant that give it, its cause, and what to do (`advice`), as Markdown. `faults` names
 the commands that print `fault N` by this row, and `line` says that `frames` refuses a line with this number.
 
-With --look it writes nothing and compares with what stands. Each finding is a line; the last line counts the files that are as
+With --look it writes nothing and compares with what is there. Each finding is a line; the last line counts the files that are as
 it writes them, and those that are not."""
 import os
 import re
@@ -25,7 +25,7 @@ COMMANDS = ["frames", "local", "send", "receive", "connector", "ledger", "explai
 # The columns of a line of text that `explain` prints, and of what is indented in it.
 COLUMNS = 100
 INDENT = 4
-# The numbers whose texts stand in one array.
+# The numbers whose texts are in one array.
 TEN = 10
 
 
@@ -48,7 +48,7 @@ class Row:
         return self.number, self.crate, self.variant
 
     def places(self):
-        """Where a user of the program meets the number."""
+        """The commands in which a user meets the number."""
         return self.faults + ["a line of frames"] * self.line
 
 
@@ -131,7 +131,7 @@ def explanation(rows, number):
 
 
 def texts_of(texts):
-    """A list of texts in a definition: one to a line where there are several."""
+    """A list of texts in a definition: one to a line if there are several."""
     between = " ∷ " if len(texts) < 2 else " ∷\n" + " " * 10
     return between.join([f'codes "{text}"' for text in texts] + ["[]"])
 
@@ -196,7 +196,7 @@ def source(rows):
             "",
         ]
     out += [
-        f"/// What `explain` prints for {TEN} numbers, the first of which has so many tens. `None` where no number there has a text.",
+        f"/// What `explain` prints for the {TEN} numbers from `{TEN} * tens` on. `None` if no number there has a text.",
         f"pub(crate) fn texts(tens: u8) -> Option<&'static [Option<&'static str>; {TEN}]>",
         f"    ensures {{ MatchOption result (last_ten < tens) (λ r. map (option_map (λ t. t.now)) r.now ≡ map explanation (range_with_len ({TEN} * tens) {TEN})) }}",
         "{",

@@ -142,7 +142,7 @@ def commands():
 
 def roff(text, code=False):
     """A text as the page has it."""
-    text = text.replace("\\", "\\e").replace("~", "\\(ti").replace("^", "\\(ha").replace("`", "\\(ga")
+    text = text.replace("\\", "\\e").replace("~", "\\(ti").replace("^", "\\(ha").replace("`", "\\(ga").replace("…", "...")
     return text.replace("-", "\\-").replace("'", "\\(aq") if code else text
 
 
