@@ -1,8 +1,8 @@
 #!/usr/bin/env bash
 # Bytes that st_aes seals a second at 64, 1,024, 1,500 and 16,384 bytes, built for x86-64-v2 (the kit's level, which the gate builds)
-# and for x86-64-v3 (AVX2), beside OpenSSL's AES-256-GCM with and without the processor's AES instructions, and what Key::new costs
-# beside one block, in one run. Of each the best of the rounds, in each of which each program runs for so many seconds, in turns. By
-# hand, on a quiet machine: bench/aes.sh [SECONDS [ROUNDS]]
+# and for x86-64-v3 (AVX2), and of OpenSSL's AES-256-GCM with and without the processor's AES instructions, and what Key::new costs
+# and one block, in one run. Of each the best of the rounds, in each of which each program runs for the given seconds, in turns. Run
+# it manually, on a quiet machine: bench/aes.sh [SECONDS [ROUNDS]]
 set -euo pipefail
 cd "$(dirname "$0")/../crates/bench_aes"
 seconds=${1:-1}
@@ -10,7 +10,7 @@ rounds=${2:-5}
 room=$(mktemp -d)
 trap 'rm -rf "$room"' EXIT
 
-echo "proving and building bench_aes where it is older than its sources" >&2
+echo "proving and building bench_aes if it is older than its sources" >&2
 levels=x86-64-v2
 if grep -qw avx2 /proc/cpuinfo; then
     levels="x86-64-v2 x86-64-v3"
@@ -20,13 +20,13 @@ fi
 rt run -- 0 0 >&2
 cp out/bench_aes "$room/x86-64-v2"
 
-milliseconds() { # of the processor's time, as OpenSSL counts its own, that the program takes with these words
+milliseconds() { # of the processor's time, as OpenSSL counts its own, that the program takes with these arguments
     local TIMEFORMAT=%U taken
     taken=$({ time "$room/$level" "$@" >/dev/null; } 2>&1)
     echo $((10#${taken/./}))
 }
 
-each() { # picoseconds of one turn of those that the words ask for, @ being how many: as many as fill the seconds
+each() { # picoseconds of one round of those that the arguments ask for; @ is their number, which fills the seconds
     local times=1000 taken=0
     while [ "$taken" -lt 100 ]; do
         times=$((times * 4))
@@ -63,7 +63,7 @@ for bytes in 64 1024 1500 16384; do
     printf '%6d  %-32s  %14.0f\n' "$bytes" "openssl without AES instructions" "$without" "$bytes" openssl "$with"
 done
 
-least() { # the least of what each round of these words gives
+least() { # the least of what each round of these arguments gives
     for _ in $(seq "$rounds"); do
         each "$@"
     done | sort -n | head -n 1

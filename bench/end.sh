@@ -1,16 +1,16 @@
 #!/usr/bin/env bash
 # What it costs two ends in memory to pass 1 MiB, 64 MiB and 1 GiB in Prepares of 16,000 bytes, on one stream and on 64:
-# bytes a second of the processor's time, beside that the cipher and the hash alone over as many bytes, as parts of it, and
-# the peak of memory. Of each the best of the runs, all in one run of this script. Needs GNU time. By hand, on a quiet
+# bytes a second of the processor's time, and also the cipher and the hash alone over as many bytes, as parts of it, and
+# the peak of memory. Of each the best of the runs, all in one run of this script. Needs GNU time. Manually, on a quiet
 # machine: bench/end.sh [RUNS]
 set -euo pipefail
 cd "$(dirname "$0")/../crates/bench"
 runs=${1:-3}
 
-echo "proving and building bench where it is older than its sources" >&2
+echo "proving and building bench if it is older than its sources" >&2
 rt run -- end 0 1 0 0 >&2
 
-milliseconds() { # of the processor's time that the program takes with these words
+milliseconds() { # of the processor's time that the program takes with these arguments
     local TIMEFORMAT='%U %S' taken least=
     for _ in $(seq "$runs"); do
         taken=$({ time out/bench end "$@" >/dev/null; } 2>&1 | awk '{ printf "%.0f\n", ($1 + $2) * 1000 }')

@@ -1,9 +1,9 @@
 #!/usr/bin/env bash
 # Time and peak memory of `frames` over 8.4 million bytes of lines, which fill the windows of all 64 streams in frames of
-# at most 16,000 bytes (bench/frames_input.py), beside a baseline in Rust (bench/frames_baseline.rs) and, where one is named,
+# at most 16,000 bytes (bench/frames_input.py), next to a baseline in Rust (bench/frames_baseline.rs) and, if one is named,
 # another build of the program, over the same input: the best of seven runs of each, in turns. Each one's bytes a
-# second are also given as a part of the last one's. Needs GNU time, and `rustc` for the baseline. By hand, on a quiet machine:
-# bench/frames.sh [OTHER_PROGRAM]. PROGRAM names the program, where it is not the one of this repository.
+# second are also given as a part of the last one's. Needs GNU time, and `rustc` for the baseline. Manually, on a quiet machine:
+# bench/frames.sh [OTHER_PROGRAM]. PROGRAM names the program, if it is not the one of this repository.
 set -euo pipefail
 top=$(cd "$(dirname "$0")/.." && pwd)
 program=${PROGRAM:-$top/crates/ilpstream/out/ilpstream}
@@ -11,7 +11,7 @@ room=$(mktemp -d)
 trap 'rm -rf "$room"' EXIT
 
 "$top/bench/frames_input.py" >"$room/input"
-[ -n "${PROGRAM-}" ] || "$top/ilpstream" --version >&2 # builds it, where it is older than its sources
+[ -n "${PROGRAM-}" ] || "$top/ilpstream" --version >&2 # builds it, if it is older than its sources
 programs=("$program" "$@")
 if command -v rustc >/dev/null; then
     rustc -O -o "$room/baseline" "$top/bench/frames_baseline.rs"

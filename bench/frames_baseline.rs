@@ -14,7 +14,7 @@ const STREAM_DATA: u8 = 0x14;
 /// Why a line is refused, as the program prints it.
 type Refusal = String;
 
-/// What came of one stream, and which of its bytes came.
+/// What arrived of one stream, and which of its bytes arrived.
 #[derive(Clone)]
 struct Inbox {
     bytes: Vec<u8>,
@@ -26,7 +26,7 @@ impl Inbox {
         Inbox { bytes: vec![0; WINDOW], came: vec![false; WINDOW] }
     }
 
-    /// Takes the bytes at an offset; the first byte that came for an offset stays.
+    /// Stores the bytes at an offset; the first byte that arrived for an offset stays.
     fn take(&mut self, offset: usize, data: &[u8]) {
         let came = &mut self.came[offset..offset + data.len()];
         let bytes = &mut self.bytes[offset..offset + data.len()];
@@ -38,7 +38,7 @@ impl Inbox {
         }
     }
 
-    /// What came from offset 0 on without a gap.
+    /// What arrived from offset 0 on without a gap.
     fn run(&self) -> &[u8] {
         let end = self.came.iter().position(|came| !came).unwrap_or(WINDOW);
         &self.bytes[..end]

@@ -1,7 +1,7 @@
 #!/usr/bin/env python3
 """Lines for `ilpstream frames`, about 8.5 million bytes of them: each of the 64 streams gets its whole window of 65,536
 bytes, in StreamData frames of at most 16,000 bytes, one to a line. With a number N as its argument, N such inputs on end:
-what comes after the first brings bytes that are held already."""
+what follows the first brings bytes that are buffered already."""
 
 import sys
 

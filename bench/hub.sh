@@ -1,16 +1,16 @@
 #!/usr/bin/env bash
-# How many chunks of 1, 64 and 4,096 bytes go through one ring of a hub from thread to thread in a second of the clock, and how
-# many bytes go from a writer of one hub to a reader of another, both in memory, with 1, 2 and 4 workers of each; each the best
-# of the runs, and beside that the processor's seconds that they took. By hand, on a quiet machine of more than one core:
+# How many chunks of 1, 64 and 4,096 bytes pass one ring of a hub from thread to thread in a second of the clock, and how
+# many bytes are sent from a writer of one hub to a reader of another, both in memory, with 1, 2 and 4 workers of each; each the best
+# of the runs, and the processor's seconds that they took. Run it manually, on a quiet machine of more than one core:
 # bench/hub.sh [RUNS]
 set -euo pipefail
 cd "$(dirname "$0")/../crates/bench"
 runs=${1:-3}
 
-echo "proving and building bench where it is older than its sources" >&2
+echo "proving and building bench if it is older than its sources" >&2
 rt run -- hub 0 0 0 0 >&2
 
-seconds() { # of the clock and of the processor that the program takes with these words, the run of the least time
+seconds() { # of the clock and of the processor that the program takes with these arguments, the run of the least time
     local TIMEFORMAT='%R %U %S'
     for _ in $(seq "$runs"); do
         { time out/bench hub "$@" >/dev/null; } 2>&1

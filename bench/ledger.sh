@@ -1,15 +1,15 @@
 #!/usr/bin/env bash
 # Exchanges a second of a connector with and without `--ledger`, with 1, 8 and 64 requests at once: each is a Prepare that is forwarded
 # and fulfilled (bench/ledger_load.rs), so that with `--ledger` each is a booking that is on the disk before its Fulfill is passed
-# back, and the books are compared with the count. Beside them, in turns of one run, python's sqlite3 with journal_mode=WAL and
+# back, and the books are compared with the count. Next to them, in turns of one run, python's sqlite3 with journal_mode=WAL and
 # synchronous=FULL, as a program would keep the same books: two UPDATEs a booking, and as many bookings a commit as there are
 # requests at once; and what the disk does at best, 64 bytes appended and synced. The best of the runs of each. Needs `rustc` and
-# Python 3. By hand, on a quiet machine: bench/ledger.sh [RUNS [PROGRAM [FOLDER]]], where FOLDER is on the disk that is measured.
+# Python 3. Run manually, on a quiet machine: bench/ledger.sh [RUNS [PROGRAM [FOLDER]]]. FOLDER is on the disk that is measured.
 set -euo pipefail
 top=$(cd "$(dirname "$0")/.." && pwd)
 runs=${1:-5}
 program=${2:-$top/crates/ilpstream/out/ilpstream}
-[ $# -gt 1 ] || "$top/ilpstream" --version >&2 # builds it, where it is older than its sources
+[ $# -gt 1 ] || "$top/ilpstream" --version >&2 # builds it, if it is older than its sources
 seconds=2
 hub=27770
 neighbour=27771
@@ -26,7 +26,7 @@ listens() { # at port $1
     grep -qE "^ *[0-9]+: [0-9A-F]{8}:$(printf %04X "$1") [0-9A-F]{8}:0000 0A" /proc/net/tcp
 }
 
-exchanges() { # with $1 requests at once and the options behind it: the number of Fulfills, and the nanoseconds
+exchanges() { # with $1 requests at once and the options after it: the number of Fulfills, and the nanoseconds
     local count=$1
     shift
     "$program" connector --listen "127.0.0.1:$hub" --own test.hub --requests 2147483647 --workers 16 "$@" <"$room/table" &
@@ -49,7 +49,7 @@ booked() { # the same with books, which have to have one unit for each
     grep -qx "account payer claims $(cut -d' ' -f1 "$room/came") dues 0" "$room/books" || { cat "$room/books" >&2 && exit 1; }
 }
 
-lite() { # by sqlite3, $1 bookings a commit; the disk alone, where it is 0
+lite() { # by sqlite3, $1 bookings a commit; the disk alone, if it is 0
     python3 - "$folder" "$1" "$seconds" <<'PYTHON'
 import os, sqlite3, sys, time
 folder, count, seconds = sys.argv[1], int(sys.argv[2]), float(sys.argv[3])

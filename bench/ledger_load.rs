@@ -1,7 +1,7 @@
-//! The load of bench/ledger.sh, with the standard library alone: `ledger_load HUB NEIGHBOUR COUNT SECONDS EXPIRY`. So many threads
-//! send Prepares of one unit to the connector at port HUB, each on a connection of its own (ILP over HTTP, RFC 0035), and wait for
-//! their Fulfills. At port NEIGHBOUR as many threads answer what the connector forwards. EXPIRY is that of all Prepares, as ILP
-//! writes it. Prints the number of Fulfills that arrived, and the nanoseconds by the clock.
+//! What bench/ledger.sh measures with, by the standard library alone: `ledger_load HUB NEIGHBOUR COUNT SECONDS EXPIRY`. COUNT
+//! threads send Prepares of one unit to the connector at port HUB, each on a connection of its own (ILP over HTTP, RFC 0035), and
+//! wait for their Fulfills. At port NEIGHBOUR another COUNT threads answer what the connector forwards. EXPIRY is that of all
+//! Prepares, as ILP writes it. Prints the number of Fulfills that arrived, and the nanoseconds by the clock.
 
 use std::env;
 use std::error::Error;

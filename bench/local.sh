@@ -1,18 +1,18 @@
 #!/usr/bin/env bash
 # `local` over 1 MiB of random bytes: over no hop, one and eight, on one stream and on 32, the whole process: bytes a second by
-# the clock, and the peak of memory. Of each the best of the runs, all in one run of this script. Beside them `cat`, which is
-# what a process and its pipes cost alone. Needs GNU time. By hand, on a quiet machine: bench/local.sh [RUNS [PROGRAM]]
+# the clock, and the peak of memory. Of each the best of the runs, all in one run of this script. Next to them `cat`, which is
+# what a process and its pipes cost alone. Needs GNU time. Manually, on a quiet machine: bench/local.sh [RUNS [PROGRAM]]
 set -euo pipefail
 top=$(cd "$(dirname "$0")/.." && pwd)
 runs=${1:-5}
 program=${2:-$top/crates/ilpstream/out/ilpstream}
-[ $# -gt 1 ] || "$top/ilpstream" --version >&2 # builds it, where it is older than its sources
+[ $# -gt 1 ] || "$top/ilpstream" --version >&2 # builds it, if it is older than its sources
 
 folder=$(mktemp -d)
 trap 'rm -r "$folder"' EXIT
 head -c 1048576 /dev/urandom >"$folder/file"
 
-milliseconds() { # by the clock, of the fastest run of these words
+milliseconds() { # by the clock, of the fastest run of these arguments
     local from
     for _ in $(seq "$runs"); do
         from=$(date +%s%N)

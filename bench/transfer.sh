@@ -3,15 +3,15 @@
 # with these runs, nginx and wrk, which exchange messages of the same sizes: a request of 16,200 bytes and a static answer of the
 # size of a Fulfill, with `Connection: close`, by as many connections as there are workers. nginx has as many workers as there are
 # cores. The best of the runs of each, and the ratio of the exchanges a second. It makes a network of its own, in which the
-# kernel's count of the connections that were accepted is that of the exchanges. Needs `unshare` and `ip`; says so where `nginx`
-# and `wrk` are not installed. By hand, on a quiet machine: bench/transfer.sh [RUNS [PROGRAM]]
+# kernel's count of the connections that were accepted is that of the exchanges. Needs `unshare` and `ip`; says so if `nginx`
+# and `wrk` are not installed. Manually, on a quiet machine: bench/transfer.sh [RUNS [PROGRAM]]
 set -euo pipefail
 top=$(cd "$(dirname "$0")/.." && pwd)
 runs=${1:-3}
 program=${2:-$top/crates/ilpstream/out/ilpstream}
 
 if [ -z "${TRANSFER_INSIDE-}" ]; then
-    [ $# -gt 1 ] || "$top/ilpstream" --version >&2 # builds it, where it is older than its sources
+    [ $# -gt 1 ] || "$top/ilpstream" --version >&2 # builds it, if it is older than its sources
     # nginx started by user 0 would change to another user, which this network's users have not.
     TRANSFER_INSIDE=1 exec unshare --user --map-user=1000 --map-group=1000 --keep-caps --net "$0" "$runs" "$program"
 fi
@@ -100,7 +100,7 @@ exchanges() { # of wrk with nginx by $1 connections: the nanoseconds that they t
 
 has_others=yes
 for it in nginx wrk; do
-    command -v $it >/dev/null || { has_others= && echo "$it is not installed, so nothing stands beside" >&2; }
+    command -v $it >/dev/null || { has_others= && echo "$it is not installed, so nothing is compared" >&2; }
 done
 [ -z "$has_others" ] || start_nginx
 
