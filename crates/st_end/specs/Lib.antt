@@ -12,4 +12,5 @@ pub mod Totals
 pub mod Lawful
 pub mod Seen
 pub mod Inside
+pub mod Opened
 pub mod Laws

@@ -1,11 +1,12 @@
 //! An end of a STREAM connection (RFC 0029), from bytes to bytes. `EndState` opens streams, accepts bytes and money to
 //! send, and closes. `send` gives the bytes of the next Prepare and its `Flight`; `answer` and `fault` handle its
-//! outcome. `receive` gives the answer to the bytes of a Prepare, and `read` gives what arrived. There is no I/O
-//! and no clock here. A call that fails changes nothing, and each error has a number, `number`.
+//! outcome. `receive` gives the answer to the bytes of a Prepare, and `read` gives what arrived. `Opened::of` and
+//! `receive_opened` are the two halves of `receive`, of which other threads can do the first. There is no I/O and no
+//! clock here. A call that fails changes nothing, and each error has a number, `number`.
 //!
 //! `specs/State.antt` defines an end, `Calls` and `Reading` the calls, `Receiving` the answer to bytes that arrived,
-//! `Answers` the effect of an answer's bytes, `Failed` why a Prepare failed, `Sending` the Prepare that is sent.
-//! `Lawful` says what holds of every end, and `Laws` what holds of every reply.
+//! `Opened` what the keys alone make of these, `Answers` the effect of an answer's bytes, `Failed` why a Prepare
+//! failed, `Sending` the Prepare that is sent. `Lawful` says what holds of every end, and `Laws` what holds of every reply.
 #![tactic(auto)]
 
 mod answer;
@@ -19,6 +20,7 @@ mod failed;
 mod flight;
 mod kept;
 mod laws;
+mod opened;
 mod receive;
 mod received;
 mod reply;
@@ -31,6 +33,7 @@ pub use error::EndError;
 pub use failed::{Failed, FailedKind};
 pub use flight::{Flight, Open};
 pub use laws::replies_are_sealed;
+pub use opened::Opened;
 pub use received::Received;
 pub use role::Role;
 pub use totals::Totals;

@@ -14,21 +14,21 @@ ghost use Rattle.st_receiver.specs.Decided.{IsPlanFor};
 ghost use Rattle.st_receiver.specs.Judged.{effect};
 ghost use Rattle.st_receiver.specs.Limits as limits;
 ghost use Rattle.st_end.specs.Receiving as receiving;
-ghost use Rattle.st_end.specs.Receiving.{Unread, Rejects, received_as, opened_as, verdict_on, received, no_prepare, f01};
+ghost use Rattle.st_end.specs.Receiving.{Unread, Rejects, is_own_condition, received_as, opened_as, verdict_on, received, no_prepare, f01};
 ghost use Rattle.st_end.specs.Seen.{received_seen, text_or};
 ghost use Rattle.st_end.specs.Inside.{IsJudged};
+ghost use Rattle.st_end.specs.Opened.{IsPayloadOf, IsOpenedBy};
 
 use crate::back::raise_all;
 use crate::effect::{last_address, take_effect};
 use crate::end::EndState;
 use crate::error::EndError;
+use crate::opened::{Opened, Payload, read_plain};
 use crate::received::Received;
-use crate::reply::{
-    FULFILL, PREPARE, REJECT, code_unopened, fulfill_bytes, reject_bytes, reply_payload,
-};
+use crate::reply::{FULFILL, REJECT, code_unopened, fulfill_bytes, reject_bytes, reply_payload};
 use st_frames::{Frame, StreamPacket};
 use st_ilp::{Moment, Prepare, read_prepare};
-use st_keys::{Keys, condition, payload_lengths};
+use st_keys::Keys;
 use st_oer::is_within;
 use st_receiver::{Decision, Intake, Plan, Reason};
 use st_sender::Outbox;
@@ -178,19 +178,22 @@ impl<A: Allocator + Copy> EndState<A> {
         })
     }
 
-    /// Fulfils or rejects a packet that opened. The payload is hashed once, for the condition and the Fulfill.
+    /// Fulfills or rejects a packet that opened. The fulfillment is `preimage`; `fits` says whether it fits the condition.
     fn receive_packet(
         &mut self,
         prepare: &Prepare<'_>,
         packet: &StreamPacket<'_>,
+        preimage: [u8; 32],
+        fits: bool,
     ) -> Result<Received<A>, EndError>
-        requires { 12 ≤ length prepare.now.payload.now }
+        requires long { 12 ≤ length prepare.now.payload.now }
+        requires preimage { preimage ≡ fulfillment self.old.keys prepare.now.payload.now }
+        requires fits { fits ≡ is_own_condition self.old (prepare_seen prepare.now) }
         ensures only_memory { IsOkUnless result EndError.NoMemory }
         ensures answers { IfOk result (λ r. received_as self.old (prepare_seen prepare.now) (opened_as self.old (prepare_seen prepare.now) (Ok (packet_of packet.now))) ≡ (received_seen r, self.new)) }
         ensures unchanged { OnErr result (self.new ≡ self.old) }
     {
-        let preimage = self.keys.fulfillment(prepare.payload);
-        if condition(preimage) != prepare.condition {
+        if !fits {
             return self.reject(prepare, packet, 55);
         }
         let judged = judge_packet(
@@ -216,30 +219,40 @@ impl<A: Allocator + Copy> EndState<A> {
         }
     }
 
-    /// Opens a copy of a Prepare's payload, and judges its packet.
+    /// Judges the packet of a payload that was opened.
+    #[tactic(auto, unfolding(st_keys::specs::Sealed::opened))]
     fn receive_payload(
         &mut self,
         prepare: &Prepare<'_>,
-        payload: &mut [u8],
+        payload: &Payload<A>,
     ) -> Result<Received<A>, EndError>
-        requires { payload.old ≡ prepare.now.payload.now }
+        requires { IsPayloadOf self.old.keys (prepare_seen prepare.now) payload.now }
         ensures only_memory { IsOkUnless result EndError.NoMemory }
         ensures answers { IfOk result (λ r. received_as self.old (prepare_seen prepare.now) (opened_as self.old (prepare_seen prepare.now) (opened self.old.keys prepare_kind prepare.now.payload.now)) ≡ (received_seen r, self.new)) }
         ensures unchanged { OnErr result (self.new ≡ self.old) }
     {
-        payload_lengths();
-        match self.keys.open_packet(payload, PREPARE) {
-            Err(fault) => self.unread(code_unopened(fault), fault.number(), prepare),
-            Ok(packet) => self.receive_packet(prepare, &packet),
+        match payload {
+            Payload::Closed => Err(EndError::NoMemory),
+            Payload::Unopened(fault) => self.unread(code_unopened(*fault), fault.number(), prepare),
+            Payload::Plain {
+                text,
+                preimage,
+                fits,
+            } => match read_plain(text) {
+                Err(fault) => self.unread(code_unopened(fault), fault.number(), prepare),
+                Ok(packet) => self.receive_packet(prepare, &packet, *preimage, *fits),
+            },
         }
     }
 
-    /// The answer to a Prepare, by the first rule that applies.
+    /// The answer to a Prepare whose payload was opened, by the first rule that applies.
     fn receive_prepare(
         &mut self,
         prepare: &Prepare<'_>,
+        payload: &Payload<A>,
         now: Moment,
     ) -> Result<Received<A>, EndError>
+        requires { IsPayloadOf self.old.keys (prepare_seen prepare.now) payload.now }
         ensures only_memory { IsOkUnless result EndError.NoMemory }
         ensures answers { IfOk result (λ r. received_as self.old (prepare_seen prepare.now) (verdict_on self.old now (Ok (prepare_seen prepare.now))) ≡ (received_seen r, self.new)) }
         ensures unchanged { OnErr result (self.new ≡ self.old) }
@@ -250,8 +263,7 @@ impl<A: Allocator + Copy> EndState<A> {
         if prepare.expiry <= now.ms() {
             return self.unread(*b"R00", 57, prepare);
         }
-        let mut payload = Vec::from_slice(self.alloc, prepare.payload)?;
-        self.receive_payload(prepare, &mut payload)
+        self.receive_payload(prepare, payload)
     }
 
     /// Handles bytes that arrived at this end, at the moment `now`, and gives the Fulfill or Reject that answers them
@@ -263,6 +275,9 @@ impl<A: Allocator + Copy> EndState<A> {
     /// 17: the bytes are not a Prepare. 56: it has another destination. 57: it expired. 30 to 32: its payload does not
     /// decrypt to a packet. 55: its condition is not that of the payload. 60 to 66: a `Reason` of `st_receiver`.
     ///
+    /// The payload is opened first and judged then, as `Opened::of` and `receive_opened` do for threads. If memory to open
+    /// it is refused, a Prepare that has another destination or expired is answered all the same.
+    ///
     /// Fails with `NoMemory` alone, if memory is refused. Nothing has changed then, and the caller may answer with
     /// `t00`.
     #[tactic(auto, using(crate::proofs::Taking::received_read, crate::proofs::Taking::received_unread))]
@@ -271,8 +286,32 @@ impl<A: Allocator + Copy> EndState<A> {
         ensures answers { IfOk result (λ r. received self.old bytes.now now ≡ (received_seen r, self.new)) }
         ensures unchanged { OnErr result (self.new ≡ self.old) }
     {
-        match read_prepare(bytes) {
-            Ok(prepare) => self.receive_prepare(&prepare, now),
+        let prepare = match read_prepare(bytes) {
+            Ok(prepare) => prepare,
+            Err(fault) => return self.unreadable(fault.number()),
+        };
+        let payload = Payload::of(self.alloc, &self.keys, &prepare);
+        self.receive_prepare(&prepare, &payload, now)
+    }
+
+    /// The second half of `receive`: handles bytes that `Opened::of` opened with this end's keys, at the moment `now`, and
+    /// gives the answer that `receive` gives to them. The bytes are read once more, and neither hashed nor decrypted.
+    ///
+    /// Fails with `NoMemory` alone: if memory is refused, or was refused to `Opened::of` and no rule before the payload's
+    /// applies. Nothing has changed then, and the caller may answer with `t00`.
+    #[tactic(auto, using(crate::proofs::Taking::received_read, crate::proofs::Taking::received_unread))]
+    pub fn receive_opened(
+        &mut self,
+        opened: &Opened<A>,
+        now: Moment,
+    ) -> Result<Received<A>, EndError>
+        requires { IsOpenedBy self.old.keys opened.now.bytes.items opened.now }
+        ensures only_memory { IsOkUnless result EndError.NoMemory }
+        ensures answers { IfOk result (λ r. received self.old opened.now.bytes.items now ≡ (received_seen r, self.new)) }
+        ensures unchanged { OnErr result (self.new ≡ self.old) }
+    {
+        match read_prepare(&opened.bytes) {
+            Ok(prepare) => self.receive_prepare(&prepare, &opened.payload, now),
             Err(fault) => self.unreadable(fault.number()),
         }
     }

@@ -46,6 +46,8 @@ mod moments;
 #[cfg(test)]
 mod moved;
 #[cfg(test)]
+mod opened;
+#[cfg(test)]
 mod readings;
 #[cfg(test)]
 mod stops;

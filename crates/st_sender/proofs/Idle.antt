@@ -43,9 +43,6 @@ own_end k o n = grind (arith, nat_tests)
 pub other_end : (k m o n : ℕ) → k ≢ m → max (cond (eqb k m) (o + n) 0) 0 ≡ 0
 other_end k m o n h = grind (arith, nat_tests)
 
-other_or_own : (k m o n : ℕ) → max (cond (eqb k m) (o + n) 0) 0 ≤ o + n
-other_or_own k m o n = grind (arith, nat_tests)
-
 no_higher : (a c d : ℕ) → a ≡ d → c ≡ 0 → max a c ≡ d
 no_higher a c d e z = omega arith
 
@@ -131,7 +128,7 @@ module _ (s : Sending) (lanes : Slots Lane) (room : ℕ) (is : s.streams ≡ out
       let same : d.stream ≡ l.out = cc in
       sym (due_same k l e (o + i)) ∙ ap (λ (x : Outgoing). due_at s k x (o + i)) (sym same) ∙ d.bytes i byte g
 
-  sent_at : (k : ℕ) → sent_end s k (outgoing_at s k) ≡ end_at lanes s.flights k
+  pub sent_at : (k : ℕ) → sent_end s k (outgoing_at s k) ≡ end_at lanes s.flights k
   sent_at k = ap (λ y. sent_end s k y) (lane_of k) ∙ same_end s.flights k s (slot lanes k) refl
 
   pub ends_same : all_ends s [] ≡ lane_ends lanes s.flights 0 65
@@ -211,9 +208,9 @@ module _ (s : Sending) (lanes : Slots Lane) (room : ℕ) (is : s.streams ≡ out
   idle limits under ratio rest (ConnectionClose code message) p due fits = absurd (cc)
   idle limits under ratio rest (ConnectionNewAddress address) p due fits = absurd (cc)
 
-  -- a frame that is ready by the numbers is due, fits, and is filled
-  pub data_due : (k o n : ℕ) (r : IsReadyAt lanes s.flights b k o n) (xs : List ℕ) → AreBytes r.lane o n xs → IsDueData s k o xs
-  data_due k o n r xs bytes = record {
+  -- a frame that is ready by the numbers is due
+  pub data_due : (c : Bounds) (k o n : ℕ) (r : IsReadyAt lanes s.flights c k o n) (xs : List ℕ) → AreBytes r.lane o n xs → IsDueData s k o xs
+  data_due c k o n r xs bytes = record {
     stream = r.lane.out;
     is_open = seen_open k r.lane r.is_open;
     some = omega (arith, bytes.long, r.ready.some);
@@ -229,37 +226,5 @@ module _ (s : Sending) (lanes : Slots Lane) (room : ℕ) (is : s.streams ≡ out
       due_held true g x h e = absurd (cc)
       due_held false g x h e = e
 
-  pub data_fits : s.failed ≡ false → length s.flights < s.config.in_flight → s.last < s.config.packets → lane_ends lanes s.flights 0 65 ≤ s.told
-      → (k o n : ℕ) (r : IsReadyAt lanes s.flights b k o n) (xs : List ℕ) → length xs ≡ n → Fits s room (load_with s (data_alone k o xs))
-  data_fits alive flights packets under k o n r xs long =
-      let a = r.ready.allowed in
-      let grown = ends_with k o (length xs) (within k r.lane r.is_open) in
-      record {
-        alive = alive;
-        flights = flights;
-        packets = packets;
-        amount = omega arith;
-        streams = λ m y at. elim (cases_eq k m) [
-          | inl q ↦ (let c = seen_open k r.lane r.is_open in let d : outgoing_at s k ≡ Some y = rw q at in let t : r.lane.out ≡ y = cc in omega (arith, other_or_own k m o (length xs), a.stream, long, ap (λ (z : Outgoing). z.told) t))
-          | inr q ↦ omega (arith, other_end k m o (length xs) q)
-        ];
-        connection = omega (arith, grown, end_here k r.lane r.is_open, a.connection, long, under);
-        money = λ m y at. no_money s y.told_money (flying_least s m);
-        room_left = (let size = rw (sym long) at a.room_left in length_free s (s.last + 1) room (data_alone k o xs) (omega (arith, size, data_packet (s.last + 1) k o xs)));
-      }
-
-  pub close_due : (k code : ℕ) → IsFinishedAt lanes s.flights b k code → IsDueClose s k code
-  close_due k code r = record { stream = r.lane.out; is_open = seen_open k r.lane r.is_open; idle = r.finished.idle; asked = r.finished.asked }
-
-  pub close_fits : s.failed ≡ false → length s.flights < s.config.in_flight → s.last < s.config.packets → lane_ends lanes s.flights 0 65 ≤ s.told
-      → (k code : ℕ) → IsFinishedAt lanes s.flights b k code → Fits s room (load_with s (close_alone k code))
-  close_fits alive flights packets under k code r = record {
-    alive = alive;
-    flights = flights;
-    packets = packets;
-    amount = omega arith;
-    streams = λ m y at. omega arith;
-    connection = omega (arith, ends_whole (StreamClose k code []));
-    money = λ m y at. no_money s y.told_money (flying_least s m);
-    room_left = (let size = r.finished.room_left in length_free s (s.last + 1) room (close_alone k code) (omega (arith, size, close_packet (s.last + 1) k code)));
-  }
+  pub close_due : (c : Bounds) (k code : ℕ) → IsFinishedAt lanes s.flights c k code → IsDueClose s k code
+  close_due c k code r = record { stream = r.lane.out; is_open = seen_open k r.lane r.is_open; idle = r.finished.idle; asked = r.finished.asked }

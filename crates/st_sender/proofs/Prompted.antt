@@ -1,6 +1,6 @@
 -- Closes, limits and data in one packet.
 use Rattle.std.proofs.Common.{◌≡◌, ℕ, zero, suc, ◌+◌, ◌-◌, ◌*◌, ◌<◌, ◌≤◌, Bool, true, false, ◌&&◌, ◌||◌, List, [], ◌∷◌, ◌++◌, length, map, drop, get_or, refl, sym, ap, subst, ◌∙◌, arith, Option, None, Some, ◌⊎◌, inl, inr}
-use Rattle.std.specs.Prelude.{IfSome, MatchOption, nat_eq}
+use Rattle.std.specs.Prelude.{nat_eq}
 use Rattle.std.specs.List.{list_any, AllByRecursion, Contains}
 use Rattle.std.proofs.lemmas.Bool.{cases_lt}
 use Rattle.std.proofs.lemmas.Bool.Decides.{nat_tests}
@@ -9,7 +9,6 @@ use Rattle.std.proofs.Math.Seq.{drop-cons}
 use Rattle.st_tables.specs.Slots.{Slots, slot}
 use Rattle.st_frames.specs.Frames.{Known, StreamClose, StreamData}
 use Rattle.st_sender.specs.declared.bounds.Bounds.{Bounds}
-use Rattle.st_sender.specs.declared.choose.Row.{Row}
 use Rattle.st_sender.specs.declared.load.Flown as code
 use Rattle.st_sender.specs.declared.load.Flown.TheVariants as held
 use Rattle.st_sender.specs.declared.notice.Notice.{Notice}
@@ -20,20 +19,13 @@ use Rattle.st_sender.specs.Due.{IsAbort, IsCleanClose}
 use Rattle.st_sender.specs.Loads.{same_due}
 use Rattle.st_sender.specs.Lanes.{Lane}
 use Rattle.st_sender.specs.Noticed.{is_limit, IsAwaited, NoneAwaited}
-use Rattle.st_sender.specs.Allowed.{close_size, IsFinished, NoneReady, NoneBefore, IsReadyAt, IsNone, less, cost, costs, AreNext, IsCloseBelow, IsLimit, IsPrompted, AreDistinct, has_close, has_limit, AreClosings, AreAwaited, AreChosen, rows}
-use Rattle.st_sender.specs.Shown.{shown, known, telling, framed}
+use Rattle.st_sender.specs.Allowed.{close_size, IsFinished, NoneReady, IsNone, less, cost, costs, AreNext, IsCloseBelow, IsLimit, IsPrompted, IsData, AreDistinct, has_close, has_limit, AreClosings, AreAwaited, IsRoundOf, AreChosen}
+use Rattle.st_sender.specs.Shown.{shown, known_by, telling, framed}
 use Rattle.st_sender.proofs.Readiness.{none_more}
 use Rattle.st_sender.proofs.Said.{no_limit}
+use Rattle.st_sender.proofs.Serving.{every_with, every_weaker, by_test, or_right, or_false, costs_with, none_served}
 
 -- ---- lists
-
-pub every_with : {X : Type 0} (P : X → Type 0) (xs ys : List X) → AllByRecursion P xs → AllByRecursion P ys → AllByRecursion P (xs ++ ys)
-every_with P [] ys a b = b
-every_with P (x ∷ xs) ys a b = (a.0, every_with P xs ys a.1 b)
-
-pub every_weaker : {X : Type 0} (P Q : X → Type 0) → ((x : X) → P x → Q x) → (xs : List X) → AllByRecursion P xs → AllByRecursion Q xs
-every_weaker P Q h [] a = tt
-every_weaker P Q h (x ∷ xs) a = (h x a.0, every_weaker P Q h xs a.1)
 
 pub each_of : (P : Known → Type 0) (xs : List Known) → ((f : Known) → Contains xs f → P f) → AllByRecursion P xs
 each_of P [] h = tt
@@ -45,19 +37,6 @@ first_or x f xs (suc i, h, e) = inr (i, omega (arith, h), e)
 
 no_more : (f : Known) → Contains [] f → ⊥
 no_more f c = absurd (omega (arith, c.1))
-
-pub by_test : {X : Type 0} (b : Bool) → (b ≡ true → X) → (b ≡ false → X) → X
-by_test true f g = f refl
-by_test false f g = g refl
-
-or_right : (a b : Bool) → b ≡ true → (a || b) ≡ true
-or_right true b e = refl
-or_right false b e = e
-
-or_none : (a b : Bool) → (a || b) ≡ false → (a ≡ false) × (b ≡ false)
-or_none false false e = (refl, refl)
-or_none true b e = absurd (cc)
-or_none false true e = absurd (cc)
 
 pub any_left : {X : Type 0} (t : X → Bool) (xs ys : List X) → list_any t xs ≡ true → list_any t (xs ++ ys) ≡ true
 any_left t [] ys e = absurd (cc)
@@ -86,10 +65,6 @@ less_less b m n = let e : b.room - m - n ≡ b.room - (m + n) = omega arith in a
 
 pub less_none : (b : Bounds) (n : ℕ) → n ≡ 0 → ◌≡◌ {A = Bounds} (less b n) b
 less_none b n z = let e : b.room - n ≡ b.room = omega (arith, z) in ap (λ (i : ℕ). record b { room = i }) e
-
-pub costs_with : (fs gs : List code.Flown) → costs (fs ++ gs) ≡ costs fs + costs gs
-costs_with [] gs = omega arith
-costs_with (f ∷ fs) gs = omega (arith, costs_with fs gs)
 
 pub finished_rises : (flights : List Flight) (b c : Bounds) (k : ℕ) (l : Lane) (code : ℕ) → b.sequence ≡ c.sequence → b.room ≤ c.room → IsFinished flights b k l code → IsFinished flights c k l code
 finished_rises flights b c k l code same h f = record { idle = f.idle; asked = f.asked; room_left = omega (arith, f.room_left, h, ap (λ i. close_size i k) same) }
@@ -125,18 +100,18 @@ limit_prompted (held.Notice x) p = p
 
 -- ---- nothing is carried twice
 
-all_seen : (Q : code.Flown → Type 0) (R : Known → Type 0) (xs : List ℕ) → ((g : code.Flown) → Q g → R (known xs g)) → (gs : List code.Flown) → AllByRecursion Q gs → AllByRecursion R (framed xs gs)
+all_seen : (Q : code.Flown → Type 0) (R : Known → Type 0) (xs : ℕ → List ℕ) → ((g : code.Flown) → Q g → R (known_by xs g)) → (gs : List code.Flown) → AllByRecursion Q gs → AllByRecursion R (framed xs gs)
 all_seen Q R xs h [] q = tt
 all_seen Q R xs h (g ∷ gs) q = (h g q.0, all_seen Q R xs h gs q.1)
 
-all_from : (R : Known → Type 0) (xs : List ℕ) (fs gs : List code.Flown) → AllByRecursion R (framed xs fs) → AllByRecursion R (framed xs gs) → AllByRecursion R (framed xs (fs ++ gs))
+all_from : (R : Known → Type 0) (xs : ℕ → List ℕ) (fs gs : List code.Flown) → AllByRecursion R (framed xs fs) → AllByRecursion R (framed xs gs) → AllByRecursion R (framed xs (fs ++ gs))
 all_from R xs [] gs a b = b
 all_from R xs (f ∷ fs) gs a b = (a.0, all_from R xs fs gs a.1 b)
 
-apart_with : (P Q : code.Flown → Type 0) → ((f g : code.Flown) (xs : List ℕ) → P f → Q g → same_due (known xs f) (known xs g) ≡ false) → (fs gs : List code.Flown) → AllByRecursion P fs → AllByRecursion Q gs → AreDistinct fs → AreDistinct gs → AreDistinct (fs ++ gs)
+apart_with : (P Q : code.Flown → Type 0) → ((f g : code.Flown) (xs : ℕ → List ℕ) → P f → Q g → same_due (known_by xs f) (known_by xs g) ≡ false) → (fs gs : List code.Flown) → AllByRecursion P fs → AllByRecursion Q gs → AreDistinct fs → AreDistinct gs → AreDistinct (fs ++ gs)
 apart_with P Q h [] gs p q a b xs = b xs
 apart_with P Q h (f ∷ fs) gs p q a b xs =
-    (all_from (λ g. same_due (known xs f) g ≡ false) xs fs gs (a xs).0 (all_seen Q (λ g. same_due (known xs f) g ≡ false) xs (λ g r. h f g xs p.0 r) gs q), apart_with P Q h fs gs p.1 q (λ ys. (a ys).1) b xs)
+    (all_from (λ g. same_due (known_by xs f) g ≡ false) xs fs gs (a xs).0 (all_seen Q (λ g. same_due (known_by xs f) g ≡ false) xs (λ g r. h f g xs p.0 r) gs q), apart_with P Q h fs gs p.1 q (λ ys. (a ys).1) b xs)
 
 one_distinct : (f : code.Flown) → AreDistinct (f ∷ [])
 one_distinct f xs = (tt, tt)
@@ -157,32 +132,27 @@ no_data (said.ConnectionMaxData l) k o xs = refl
 no_data (said.StreamMaxData j l) k o xs = refl
 no_data (said.StreamMaxMoney j l t) k o xs = refl
 
-close_apart : (n by : ℕ) (f g : code.Flown) (xs : List ℕ) → IsCloseBelow n f → g ≡ held.Close n by → same_due (known xs f) (known xs g) ≡ false
+close_apart : (n by : ℕ) (f g : code.Flown) (xs : ℕ → List ℕ) → IsCloseBelow n f → g ≡ held.Close n by → same_due (known_by xs f) (known_by xs g) ≡ false
 close_apart n by (held.Data k o c) g xs p e = absurd p
 close_apart n by (held.Notice x) g xs p e = absurd p
-close_apart n by (held.Close k c) g xs p e = subst (λ (h : code.Flown). same_due (StreamClose k c []) (known xs h) ≡ false) (sym e) (lower k n c by p)
+close_apart n by (held.Close k c) g xs p e = subst (λ (h : code.Flown). same_due (StreamClose k c []) (known_by xs h) ≡ false) (sym e) (lower k n c by p)
   where
     lower : (k n c by : ℕ) → k < n → (nat_eq n k && nat_eq by c) ≡ false
     lower k n c by h = grind (arith, nat_tests)
 
-close_limit : (f g : code.Flown) (xs : List ℕ) → IsCloseBelow 65 f → IsLimit g → same_due (known xs f) (known xs g) ≡ false
+close_limit : (f g : code.Flown) (xs : ℕ → List ℕ) → IsCloseBelow 65 f → IsLimit g → same_due (known_by xs f) (known_by xs g) ≡ false
 close_limit (held.Data k o c) g xs p q = absurd p
 close_limit (held.Notice x) g xs p q = absurd p
 close_limit (held.Close k c) (held.Data j o n) xs p q = absurd q
 close_limit (held.Close k c) (held.Close j d) xs p q = absurd q
 close_limit (held.Close k c) (held.Notice x) xs p q = no_close k c x
 
-abbrev IsData : code.Flown → Type 0
-IsData (held.Data k o c) = Unit {0}
-IsData (held.Close k c) = ⊥
-IsData (held.Notice x) = ⊥
-
-data_apart : (f g : code.Flown) (xs : List ℕ) → IsPrompted f → IsData g → same_due (known xs f) (known xs g) ≡ false
+data_apart : (f g : code.Flown) (xs : ℕ → List ℕ) → IsPrompted f → IsData g → same_due (known_by xs f) (known_by xs g) ≡ false
 data_apart (held.Data k o c) g xs p q = absurd p
 data_apart (held.Close k c) (held.Data j o n) xs p q = refl
 data_apart (held.Close k c) (held.Close j d) xs p q = absurd q
 data_apart (held.Close k c) (held.Notice x) xs p q = absurd q
-data_apart (held.Notice x) (held.Data j o n) xs p q = no_data x j o xs
+data_apart (held.Notice x) (held.Data j o n) xs p q = no_data x j o (xs j)
 data_apart (held.Notice x) (held.Close j d) xs p q = absurd q
 data_apart (held.Notice x) (held.Notice y) xs p q = absurd q
 
@@ -305,12 +275,12 @@ IsOther x g = IsLimit g × (tells (telling x) (shown g) ≡ false)
 
 others : (x : Notice) (fs : List code.Flown) → AllByRecursion IsLimit fs → has_limit (telling x) fs ≡ false → AllByRecursion (IsOther x) fs
 others x [] a h = tt
-others x (g ∷ fs) a h = let w = or_none (tells (telling x) (shown g)) (has_limit (telling x) fs) h in ((a.0, w.0), others x fs a.1 w.1)
+others x (g ∷ fs) a h = let w = or_false (tells (telling x) (shown g)) (has_limit (telling x) fs) h in ((a.0, w.0), others x fs a.1 w.1)
 
-limit_apart : (x : Notice) (f g : code.Flown) (xs : List ℕ) → IsOther x f → g ≡ held.Notice x → same_due (known xs f) (known xs g) ≡ false
+limit_apart : (x : Notice) (f g : code.Flown) (xs : ℕ → List ℕ) → IsOther x f → g ≡ held.Notice x → same_due (known_by xs f) (known_by xs g) ≡ false
 limit_apart x (held.Data k o c) g xs p e = absurd p.0
 limit_apart x (held.Close k c) g xs p e = absurd p.0
-limit_apart x (held.Notice y) g xs p e = subst (λ (h : code.Flown). same_due (telling y) (known xs h) ≡ false) (sym e) (said_apart y x p.0 p.1)
+limit_apart x (held.Notice y) g xs p e = subst (λ (h : code.Flown). same_due (telling y) (known_by xs h) ≡ false) (sym e) (said_apart y x p.0 p.1)
 
 awaited_limit : (m : Marks) (flights : List Flight) (b : Bounds) (f : Known) → IsAwaited m flights b f → is_limit f ≡ true
 awaited_limit m flights b f a = by_test (is_limit f) (λ e. e) (λ e. absurd (no_limit m flights b f e a))
@@ -376,35 +346,23 @@ module _ (m : Marks) (flights : List Flight) (b : Bounds) (limits : List Known) 
 
 -- ---- all frames other than payments
 
-row_data : (row : Option Row) → AllByRecursion IsData (rows row)
-row_data None = tt
-row_data (Some r) = (tt, tt)
-
-row_distinct : (row : Option Row) → AreDistinct (rows row)
-row_distinct None xs = tt
-row_distinct (Some r) xs = (tt, tt)
-
-row_next : (lanes : Slots Lane) (flights : List Flight) (m : Marks) (limits : List Known) (b : Bounds) (row : Option Row) → MatchOption row (NoneReady lanes flights b 65) (λ r. IsReadyAt lanes flights b r.stream r.offset r.count) → AreNext lanes flights m limits b (rows row)
-row_next lanes flights m limits b None h = tt
-row_next lanes flights m limits b (Some r) h = h
-
-pub chosen : (lanes : Slots Lane) (flights : List Flight) (m : Marks) (limits : List Known) (b : Bounds) (turn : ℕ) (cs ns : List code.Flown) (row : Option Row) (fs : List code.Flown) (at : Bounds) (count : ℕ) → AreClosings lanes flights b 65 cs → AreAwaited m flights (less b (costs cs)) limits count [] ns → at ≡ less (less b (costs cs)) (costs ns)
-    → MatchOption row (NoneReady lanes flights at 65) (λ r. IsReadyAt lanes flights at r.stream r.offset r.count) → IfSome row (λ r. NoneBefore lanes flights at turn r.stream) → fs ≡ (cs ++ ns) ++ rows row → AreChosen lanes flights m limits b turn fs
-chosen lanes flights m limits b turn cs ns row fs at count c n at_is ready turns is =
+pub chosen : (lanes : Slots Lane) (flights : List Flight) (m : Marks) (limits : List Known) (b : Bounds) (turn : ℕ) (cs ns ds fs : List code.Flown) (at : Bounds) (count : ℕ) → AreClosings lanes flights b 65 cs → AreAwaited m flights (less b (costs cs)) limits count [] ns → at ≡ less (less b (costs cs)) (costs ns)
+    → IsRoundOf lanes flights at turn ds → AreDistinct ds → fs ≡ (cs ++ ns) ++ ds → AreChosen lanes flights m limits b turn fs
+chosen lanes flights m limits b turn cs ns ds fs at count c n at_is round apart_data is =
     let prompt = cs ++ ns in
     let sum : costs cs + costs ns ≡ costs prompt = sym (costs_with cs ns) in
     let end : ◌≡◌ {A = Bounds} at (less b (costs prompt)) = at_is ∙ less_less b (costs cs) (costs ns) ∙ ap (λ (i : ℕ). less b i) sum in
-    let here = subst (λ (e : Bounds). MatchOption row (NoneReady lanes flights e 65) (λ r. IsReadyAt lanes flights e r.stream r.offset r.count)) end ready in
+    let here = subst (λ (e : Bounds). IsRoundOf lanes flights e turn ds) end round in
     let each = every_with IsPrompted cs ns (every_weaker (IsCloseBelow 65) IsPrompted (close_prompted 65) cs c.each) (every_weaker IsLimit IsPrompted limit_prompted ns n.each) in
     let next = next_with lanes flights m limits b cs ns (every_weaker (IsCloseBelow 65) IsPrompted (close_prompted 65) cs c.each) (c.goes m limits) (n.goes lanes) in
     let apart = apart_with (IsCloseBelow 65) IsLimit close_limit cs ns c.each n.each c.apart n.apart in
     record {
       prompt = prompt;
-      row = row;
+      data_frames = ds;
       are = is;
-      goes = subst (λ (gs : List code.Flown). AreNext lanes flights m limits b gs) (sym is) (next_with lanes flights m limits b prompt (rows row) each next (row_next lanes flights m limits (less b (costs prompt)) row here));
+      goes = subst (λ (gs : List code.Flown). AreNext lanes flights m limits b gs) (sym is) (next_with lanes flights m limits b prompt ds each next (here.are.goes m limits));
       each = each;
-      apart = subst AreDistinct (sym is) (apart_with IsPrompted IsData data_apart prompt (rows row) each (row_data row) apart (row_distinct row));
+      apart = subst AreDistinct (sym is) (apart_with IsPrompted IsData data_apart prompt ds each here.are.each apart apart_data);
       few = omega (arith, sum, c.few, n.most);
       closings = λ k by l h e f. any_left (λ x. closes k by (shown x)) cs ns (c.all k by l h e f);
       awaited = λ f own short w. elim (n.all f own) [
@@ -418,22 +376,20 @@ chosen lanes flights m limits b turn cs ns row fs at count c n at_is ready turns
           | inr done ↦ (λ w. done (subst (λ (d : Bounds). IsAwaited m flights d f) (sym (less_none b (costs cs) (ap costs (none_left cs ns e)))) w))
         ]),
       );
-      ready = here;
-      turns = subst (λ (e : Bounds). IfSome row (λ r. NoneBefore lanes flights e turn r.stream)) end turns;
+      round = here;
     }
 
 -- nothing was chosen
-none_both : (prompt : List code.Flown) (row : Option Row) → [] ≡ prompt ++ rows row → (prompt ≡ []) × (row ≡ None)
-none_both [] None e = (refl, refl)
-none_both [] (Some r) e = absurd (cc)
-none_both (f ∷ fs) row e = absurd (cc)
+none_both : (prompt ds : List code.Flown) → [] ≡ prompt ++ ds → (prompt ≡ []) × (ds ≡ [])
+none_both [] ds e = (refl, sym e)
+none_both (f ∷ fs) ds e = absurd (cc)
 
 pub chosen_none : (lanes : Slots Lane) (flights : List Flight) (m : Marks) (limits : List Known) (b : Bounds) (turn : ℕ) → AreChosen lanes flights m limits b turn [] → IsNone lanes flights b × NoneAwaited m flights b limits
 chosen_none lanes flights m limits b turn c =
-    let w = none_both c.prompt c.row c.are in
+    let w = none_both c.prompt c.data_frames c.are in
     let idle = c.none w.0 in
     let same = less_none b (costs c.prompt) (ap costs w.0) in
-    let ready = subst (λ (r : Option Row). MatchOption r (NoneReady lanes flights (less b (costs c.prompt)) 65) (λ x. IsReadyAt lanes flights (less b (costs c.prompt)) x.stream x.offset x.count)) w.1 c.ready in
+    let ready = none_served lanes flights (less b (costs c.prompt)) turn c.data_frames w.1 c.round in
     ((subst (λ (e : Bounds). NoneReady lanes flights e 65) same ready, idle.0), idle.1)
 
 -- ---- one frame after the other

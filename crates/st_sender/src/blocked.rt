@@ -7,6 +7,7 @@ ghost use Rattle.st_sender.specs.Shown.{telling};
 ghost use Rattle.st_sender.specs.Noticed.{IsBlockedAt, NoneBlocked, IsHeldAt, NoneHeld, IsConnectionBlocked};
 
 use crate::bounds::Bounds;
+use crate::in_flight::InFlight;
 use crate::load::Flight;
 use crate::notice::Notice;
 use crate::sizes::notice_size;
@@ -49,7 +50,7 @@ pub fn first_blocked<A: Allocator + Copy>(
 /// Whether bytes of a stream wait beyond how far the sum of the ends may rise.
 fn is_any_held<A: Allocator + Copy>(
     streams: &[Option<Stream<A>>],
-    flights: &[Flight<A>],
+    flights: &InFlight<'_, A>,
     spare: u128,
 ) -> bool
     requires small { spare < 2 ^ 64 }
@@ -88,7 +89,7 @@ pub fn connection_blocked<A: Allocator + Copy>(
     if notice_size(bounds.sequence, notice) > bounds.room {
         return None;
     }
-    if is_any_held(streams, flights, bounds.spare) {
+    if is_any_held(streams, &InFlight::of(flights), bounds.spare) {
         Some(notice)
     } else {
         None

@@ -13,6 +13,8 @@ use st_oer::{length_size, var_uint_size};
 pub const CLOSE_SIZE: usize = 20;
 /// And by which a limit does: its frame has at most 29 bytes.
 pub const LIMIT_SIZE: usize = 36;
+/// And by which a frame of data does in addition to its bytes: it has at most 25 more than these.
+pub const DATA_SIZE: usize = 32;
 
 #[tactic(auto, unfolding(crate::specs::Allowed::packet_size))]
 fn packet_size(sequence: u64, least: u64, contents: usize) -> usize

@@ -49,6 +49,63 @@ counted-more p b first n (suc k) same =
     one true c k = omega arith
     one false c k = omega arith
 
+pub counted-append : (p : ℕ → Bool) (first n k : ℕ) → counted p first (n + k) ≡ counted p first n + counted p (first + n) k
+unfolding counted
+counted-append p first n zero = ap (counted p first) (let e : n + 0 ≡ n = omega arith in e) ∙ (let e : counted p first n ≡ counted p first n + 0 = omega arith in e)
+counted-append p first n (suc k) =
+    ap (counted p first) (let e : n + suc k ≡ suc (n + k) = omega arith in e)
+    ∙ ap (λ c. c + (if p (first + (n + k)) then 1 else 0)) (counted-append p first n k)
+    ∙ ap (λ q. counted p first n + counted p (first + n) k + (if p q then 1 else 0)) (let e : first + (n + k) ≡ first + n + k = omega arith in e)
+    ∙ (let e : counted p first n + counted p (first + n) k + (if p (first + n + k) then 1 else 0) ≡ counted p first n + (counted p (first + n) k + (if p (first + n + k) then 1 else 0)) = omega arith in e)
+
+-- one that passes
+pub counted-some : (p : ℕ → Bool) (first n q : ℕ) → first ≤ q → q < first + n → p q ≡ true → 0 < counted p first n
+unfolding counted
+counted-some p first zero q l m e = absurd (omega arith)
+counted-some p first (suc n) q l m e = elim (cases_lt q (first + n)) [
+  | inl h ↦ (let some : 0 < counted p first n = counted-some p first n q l h e in omega (arith, some))
+  | inr h ↦ (let same : p (first + n) ≡ true = ap p (let f : first + n ≡ q = omega arith in f) ∙ e in this (p (first + n)) (counted p first n) same)
+]
+  where
+    this : (b : Bool) (c : ℕ) → b ≡ true → 0 < c + (if b then 1 else 0)
+    this true c e = omega arith
+    this false c e = absurd cc
+
+-- none that passes
+pub counted-none : (p : ℕ → Bool) (first n : ℕ) → ((q : ℕ) → first ≤ q → q < first + n → p q ≡ false) → counted p first n ≡ 0
+unfolding counted
+counted-none p first zero none = refl
+counted-none p first (suc n) none =
+    ap (λ c. c + (if p (first + n) then 1 else 0)) (counted-none p first n (λ q l m. none q l (omega arith)))
+    ∙ ap (λ b. 0 + (if b then 1 else 0)) (none (first + n) (omega arith) (omega arith))
+
+-- all pass
+pub counted-all : (p : ℕ → Bool) (first n : ℕ) → ((q : ℕ) → first ≤ q → q < first + n → p q ≡ true) → counted p first n ≡ n
+unfolding counted
+counted-all p first zero all = refl
+counted-all p first (suc n) all =
+    ap (λ c. c + (if p (first + n) then 1 else 0)) (counted-all p first n (λ q l m. all q l (omega arith)))
+    ∙ ap (λ b. n + (if b then 1 else 0)) (all (first + n) (omega arith) (omega arith))
+    ∙ (let e : n + 1 ≡ suc n = omega arith in e)
+
+-- none is left to pass
+pub counted-zero : (p : ℕ → Bool) (first n : ℕ) → counted p first n ≡ 0 → (q : ℕ) → first ≤ q → q < first + n → p q ≡ false
+counted-zero p first n e q l m = by_test (p q) refl
+  where
+    by_test : (b : Bool) → p q ≡ b → p q ≡ false
+    by_test false h = h
+    by_test true h = absurd (let some : 0 < counted p first n = counted-some p first n q l m h in omega (arith, some, e))
+
+-- past n none passes
+pub counted-most : (p : ℕ → Bool) (first n m : ℕ) → ((q : ℕ) → first + n ≤ q → p q ≡ false) → counted p first m ≤ counted p first n
+counted-most p first n m past = elim (cases_lt m n) [
+  | inl l ↦ (let e : counted p first (m + (n - m)) ≡ counted p first m + counted p (first + m) (n - m) = counted-append p first m (n - m) in
+      let f : counted p first (m + (n - m)) ≡ counted p first n = ap (counted p first) (let g : m + (n - m) ≡ n = omega arith in g) in omega (arith, e, f))
+  | inr l ↦ (let e : counted p first (n + (m - n)) ≡ counted p first n + counted p (first + n) (m - n) = counted-append p first n (m - n) in
+      let f : counted p first (n + (m - n)) ≡ counted p first m = ap (counted p first) (let g : n + (m - n) ≡ m = omega arith in g) in
+      let h : counted p (first + n) (m - n) ≡ 0 = counted-none p (first + n) (m - n) (λ q a b. past q a) in omega (arith, e, f, h))
+]
+
 -- past n and past m none passes
 pub counted-ends : (p : ℕ → Bool) (first n m : ℕ) → ((q : ℕ) → first + n ≤ q → p q ≡ false) → ((q : ℕ) → first + m ≤ q → p q ≡ false) → counted p first n ≡ counted p first m
 counted-ends p first n m pastn pastm = elim (cases_lt n m) [
@@ -106,7 +163,7 @@ still true b o = refl
 still false true o = refl
 still false false o = refl
 
-retained : (f : ℕ → Option ℕ) (first n : ℕ) (p : ℕ → Bool) → fmap.retain_keys (table f first n) p ≡ table (λ q. if p q then f q else None) first n
+pub retained : (f : ℕ → Option ℕ) (first n : ℕ) (p : ℕ → Bool) → fmap.retain_keys (table f first n) p ≡ table (λ q. if p q then f q else None) first n
 retained f first n p = sym (table_is (λ q. if p q then f q else None) first n (fmap.retain_keys (table f first n) p)
     (λ q. still (is_between first (first + n) q) (p q) (f q) ∙ ap (λ o. cond (p q) o None) (sym (get-table f first n q)) ∙ sym (get-kept (table f first n) p q)))
 
@@ -130,20 +187,20 @@ kept_is : (k : Bool) (x : ℕ) → is_some (if k then Some x else None) ≡ k
 kept_is true x = refl
 kept_is false x = refl
 
-pub shown_count : (runs : List Run) (bytes : List ℕ) (first : ℕ) → fmap.len (shown_by runs bytes first).unacked ≡ kept_in runs first (length bytes)
-shown_count runs bytes first =
-    len-table (byte_at runs bytes first) first (length bytes)
-    ∙ counted-same (λ q. is_some (byte_at runs bytes first q)) (λ q. is_kept (status_at runs q)) first (length bytes) (λ q l m. kept_is (is_kept (status_at runs q)) (slice_index bytes (q - first)))
+pub shown_count : (runs : List Run) (byte : ℕ → ℕ) (first n : ℕ) → fmap.len (shown_by runs byte first n).unacked ≡ kept_in runs first n
+shown_count runs byte first n =
+    len-table (byte_at runs byte) first n
+    ∙ counted-same (λ q. is_some (byte_at runs byte q)) (λ q. is_kept (status_at runs q)) first n (λ q l m. kept_is (is_kept (status_at runs q)) (byte q))
 
 outside : (b : Option ℕ) (first n q : ℕ) → first + n ≤ q → cond (is_between first (first + n) q) b None ≡ None
 outside b first n q l = grind (arith, nat_tests)
 
-pub none_past : (runs : List Run) (bytes : List ℕ) (first q : ℕ) → (shown_by runs bytes first).accepted ≤ q → fmap.get (shown_by runs bytes first).unacked q ≡ None
-none_past runs bytes first q l = get-table (byte_at runs bytes first) first (length bytes) q ∙ outside (byte_at runs bytes first q) first (length bytes) q l
+pub none_past : (runs : List Run) (byte : ℕ → ℕ) (first n q : ℕ) → (shown_by runs byte first n).accepted ≤ q → fmap.get (shown_by runs byte first n).unacked q ≡ None
+none_past runs byte first n q l = get-table (byte_at runs byte) first n q ∙ outside (byte_at runs byte q) first n q l
 
-pub lowered_view : (sequence : ℕ) (runs : List Run) (bytes : List ℕ) (first : ℕ)
-    → fmap.len (after_acknowledged sequence (shown_by runs bytes first)).unacked + fmap.len (carried sequence (shown_by runs bytes first)) ≡ fmap.len (shown_by runs bytes first).unacked
-lowered_view sequence runs bytes first = len-split (byte_at runs bytes first) first (length bytes) (λ q. is_by sequence (fmap.get (shown_by runs bytes first).flying q))
+pub lowered_view : (sequence : ℕ) (runs : List Run) (byte : ℕ → ℕ) (first n : ℕ)
+    → fmap.len (after_acknowledged sequence (shown_by runs byte first n)).unacked + fmap.len (carried sequence (shown_by runs byte first n)) ≡ fmap.len (shown_by runs byte first n).unacked
+lowered_view sequence runs byte first n = len-split (byte_at runs byte) first n (λ q. is_by sequence (fmap.get (shown_by runs byte first n).flying q))
 
 -- ---- what is kept, run by run
 
@@ -189,3 +246,10 @@ kept_all runs first n m pastn pastm = counted-ends (λ q. is_kept (status_at run
 -- no run is left
 pub none_left : (runs items : List Run) → items ≡ runs → (i q : ℕ) → length items ≤ i → status_at runs q ≡ status_at (drop i runs) q → status_at runs q ≡ None
 none_left runs items same i q l e = e ∙ ap (λ rs. status_at (drop i rs) q) (sym same) ∙ ap (λ rs. status_at rs q) (drop_of_length-le items l)
+
+-- some of `count` offsets pass if and only if the first that does is among them
+pub first-counts : (p : ℕ → Bool) (at count from : ℕ) → at ≤ from → p from ≡ true → ((q : ℕ) → at ≤ q → q < from → p q ≡ false) → nat_lt (from - at) count ≡ nat_lt 0 (counted p at count)
+first-counts p at count from l e none = elim (cases_lt (from - at) count) [
+  | inl m ↦ below (from - at) count m ∙ sym (below 0 (counted p at count) (counted-some p at count from l (omega (arith, l, m)) e))
+  | inr m ↦ not_below (from - at) count m ∙ sym (ap (nat_lt 0) (counted-none p at count (λ q a b. none q a (omega (arith, l, m, b)))))
+]

@@ -21,23 +21,23 @@ some_by : (sequence : ℕ) (o : Option ℕ) → is_by sequence o ≡ true → Is
 some_by sequence None e = absurd cc
 some_by sequence (Some n) e = refl
 
-module _ (sequence : ℕ) (runs : List Run) (bytes : List ℕ) (first : ℕ) (tiled : IsTiled runs first (length bytes)) where
-  not_past : (q : ℕ) → is_by sequence (flight_at runs q) ≡ true → first + length bytes ≤ q → ⊥
+module _ (sequence : ℕ) (runs : List Run) (byte : ℕ → ℕ) (first n : ℕ) (tiled : IsTiled runs first n) where
+  not_past : (q : ℕ) → is_by sequence (flight_at runs q) ≡ true → first + n ≤ q → ⊥
   not_past q e l = let none : is_by sequence (flight_at runs q) ≡ false = ap (λ s. is_by sequence (flight_of s)) (tiled.outside q l) in cc
 
-  within : (q : ℕ) → is_by sequence (flight_at runs q) ≡ true → q < first + length bytes
-  within q e = elim (cases_lt q (first + length bytes)) [ inl l ↦ l | inr l ↦ absurd (not_past q e l) ]
+  within : (q : ℕ) → is_by sequence (flight_at runs q) ≡ true → q < first + n
+  within q e = elim (cases_lt q (first + n)) [ inl l ↦ l | inr l ↦ absurd (not_past q e l) ]
 
-  past : (end : ℕ) → ((q : ℕ) → first ≤ q → is_by sequence (flight_at runs q) ≡ true → q < end) → (q : ℕ) → is_by sequence (fmap.get (table (flight_at runs) first (length bytes)) q) ≡ true → q < end
+  past : (end : ℕ) → ((q : ℕ) → first ≤ q → is_by sequence (flight_at runs q) ≡ true → q < end) → (q : ℕ) → is_by sequence (fmap.get (table (flight_at runs) first n) q) ≡ true → q < end
   past end h q e =
-      let w = table-inside (flight_at runs) first (length bytes) q (some_by sequence (fmap.get (table (flight_at runs) first (length bytes)) q) e) in
-      h q w.from (ap (is_by sequence) (sym (get-table_in (flight_at runs) first (length bytes) q w.from w.before)) ∙ e)
+      let w = table-inside (flight_at runs) first n q (some_by sequence (fmap.get (table (flight_at runs) first n) q) e) in
+      h q w.from (ap (is_by sequence) (sym (get-table_in (flight_at runs) first n q w.from w.before)) ∙ e)
 
-  shown : (q : ℕ) → first ≤ q → is_by sequence (flight_at runs q) ≡ true → is_by sequence (fmap.get (table (flight_at runs) first (length bytes)) q) ≡ true
-  shown q l e = ap (is_by sequence) (get-table_in (flight_at runs) first (length bytes) q l (within q e)) ∙ e
+  shown : (q : ℕ) → first ≤ q → is_by sequence (flight_at runs q) ≡ true → is_by sequence (fmap.get (table (flight_at runs) first n) q) ≡ true
+  shown q l e = ap (is_by sequence) (get-table_in (flight_at runs) first n q l (within q e)) ∙ e
 
   pub flight_end_view : (end : ℕ) → ((q : ℕ) → first ≤ q → is_by sequence (flight_at runs q) ≡ true → q < end) → (0 < end → (first < end) × (is_by sequence (flight_at runs (end - 1)) ≡ true))
-      → IsFlightEnd sequence (shown_by runs bytes first) end
+      → IsFlightEnd sequence (shown_by runs byte first n) end
   flight_end_view end below last = record {
     past = past end below;
     least = λ f h. elim (cases_lt 0 end) [

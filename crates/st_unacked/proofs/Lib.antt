@@ -1,6 +1,9 @@
+pub mod Blocks
 pub mod Counts
 pub mod Flights
 pub mod Neighbours
 pub mod Pointwise
 pub mod Steps
+pub mod Tidy
 pub mod Views
+pub mod Writes

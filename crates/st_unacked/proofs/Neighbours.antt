@@ -11,7 +11,7 @@ use Rattle.st_tables.specs.Table.{is_between, table}
 use Rattle.st_unacked.specs.declared.run.Run.{Run}
 use Rattle.st_unacked.specs.declared.run.Status.{Status}
 use Rattle.st_unacked.specs.Sent.{is_by}
-use Rattle.st_unacked.specs.Runs.{status_at, flight_of, is_kept, shown_by, IsTiled, flown, claimed, Differs, Parted, gone_byte, FewGone, IsTidy, acknowledged_run, failed_run, dropped_run, Rise, end_of, IsJoined, HasMore, IsGoneFront}
+use Rattle.st_unacked.specs.Runs.{status_at, flight_of, is_kept, shown_by, IsTiled, flown, claimed, Differs, Parted, acknowledged_run, failed_run, dropped_run, Rise, end_of, IsJoined, HasMore}
 use Rattle.st_unacked.proofs.Steps.{no_more, appended, lengthened}
 use Rattle.st_unacked.proofs.Views.{run_end}
 
@@ -163,11 +163,11 @@ joining_all first rs ts count i l j = record {
 
 -- ---- what says the same
 
-pub same_view : (rs ts : List Run) (bytes : List ℕ) (first : ℕ) → ((q : ℕ) → status_at ts q ≡ status_at rs q) → shown_by ts bytes first ≡ shown_by rs bytes first
-same_view rs ts bytes first same = λ i. record {
-  unacked = table (λ q. if is_kept (same q i) then Some (slice_index bytes (q - first)) else None) first (length bytes);
-  flying = table (λ q. flight_of (same q i)) first (length bytes);
-  accepted = first + length bytes;
+pub same_view : (rs ts : List Run) (byte : ℕ → ℕ) (first n : ℕ) → ((q : ℕ) → status_at ts q ≡ status_at rs q) → shown_by ts byte first n ≡ shown_by rs byte first n
+same_view rs ts byte first n same = λ i. record {
+  unacked = table (λ q. if is_kept (same q i) then Some (byte q) else None) first n;
+  flying = table (λ q. flight_of (same q i)) first n;
+  accepted = first + n;
 }
 
 pub same_tiled : (rs ts : List Run) (first n : ℕ) → ((q : ℕ) → status_at ts q ≡ status_at rs q) → IsTiled rs first n → IsTiled ts first n
@@ -177,82 +177,11 @@ same_tiled rs ts first n same t = record {
   fits = t.fits;
 }
 
--- ---- what lies in front
-
 not_below : (q e : ℕ) → e ≤ q → nat_lt q e ≡ false
 not_below q e l = grind (arith, nat_tests)
 
 below : (q e : ℕ) → q < e → nat_lt q e ≡ true
 below q e l = grind (arith, nat_tests)
-
-nothing_there : (s : Option Status) → s ≡ None → s ≢ gone_byte
-nothing_there None n e = absurd cc
-nothing_there (Some s) n e = absurd cc
-
-pub front_empty : (rs : List Run) (first : ℕ) → length rs ≤ 0 → IsGoneFront rs first 0 first
-front_empty rs first l = record {
-  within = omega arith;
-  from = omega arith;
-  gone = λ q m b. absurd (omega arith);
-  rest = λ q m. refl;
-  parted = subst (Parted first) (sym (no_more rs l)) tt;
-  ends = nothing_there (status_at rs first) (ap (λ xs. status_at xs first) (no_more rs l));
-}
-
-status_of : (s t : Status) → Some s ≡ Some t → s ≡ t
-status_of s t e = ap (λ (o : Option Status). or_else o) e
-  where
-    or_else : Option Status → Status
-    or_else None = s
-    or_else (Some x) = x
-
--- the first run's status is that of the first offset
-leads : (r : Run) (rs : List Run) (q : ℕ) → q < r.end → status_at (r ∷ rs) q ≡ Some r.status
-leads r rs q l = ap (λ b. cond b (Some r.status) (status_at rs q)) (below q r.end l)
-
-passes : (r : Run) (rs : List Run) (q : ℕ) → r.end ≤ q → status_at (r ∷ rs) q ≡ status_at rs q
-passes r rs q l = ap (λ b. cond b (Some r.status) (status_at rs q)) (not_below q r.end l)
-
-pub front_other : (rs : List Run) (first : ℕ) (d r : Run) → 0 < length rs → r ≡ get_or rs 0 d → Some r.status ≢ gone_byte → Parted first rs → IsGoneFront rs first 0 first
-front_other [] first d r l at o h = absurd (omega arith)
-front_other (x ∷ rs) first d r l at o h = record {
-  within = omega arith;
-  from = omega arith;
-  gone = λ q m b. absurd (omega arith);
-  rest = λ q m. refl;
-  parted = h;
-  ends = λ e. o (ap (λ (y : Run). Some y.status) at ∙ sym (leads x rs first h.0) ∙ e);
-}
-
-after_front : (s : Status) (e : ℕ) (rs : List Run) → Some s ≡ gone_byte → Differs s rs → Parted e rs → status_at rs e ≢ gone_byte
-after_front s e [] g o h f = absurd cc
-after_front s e (y ∷ rs) g o h f = o (status_of s y.status (g ∙ sym f ∙ leads y rs e h.0))
-
-pub front_gone : (rs : List Run) (first : ℕ) (d r : Run) → 0 < length rs → r ≡ get_or rs 0 d → Some r.status ≡ gone_byte → Parted first rs → IsGoneFront rs first 1 r.end
-front_gone [] first d r l at g h = absurd (omega arith)
-front_gone (x ∷ rs) first d r l at g h =
-    subst (λ (y : Run). IsGoneFront (x ∷ rs) first 1 y.end) (sym at) (record {
-      within = omega arith;
-      from = omega (arith, h.0);
-      gone = λ q m b. leads x rs q b ∙ is;
-      rest = λ q m. passes x rs q m;
-      parted = h.2;
-      ends = λ e. after_front x.status x.end rs is h.1 h.2 (sym (passes x rs x.end (omega arith)) ∙ e);
-    })
-  where
-    is : Some x.status ≡ gone_byte
-    is = ap (λ (y : Run). Some y.status) (sym at) ∙ g
-
--- ---- few bytes are gone
-
-pub few_front : (rs : List Run) (first n end : ℕ) → status_at rs end ≢ gone_byte → first ≤ end → 2 * (end - first) ≤ n → FewGone rs first n
-few_front rs first n end o l m q a all = elim (cases_lt end q) [
-  | inl b ↦ absurd (o (all end l b))
-  | inr b ↦ omega arith
-]
-
-pub few_less : (rs ts : List Run) (first n m : ℕ) → n ≤ m → ((q : ℕ) → first ≤ q → status_at ts q ≡ gone_byte → status_at rs q ≡ gone_byte) → FewGone rs first n → FewGone ts first m
-few_less rs ts first n m l back few q a all = let f = few q a (λ p b c. back p b (all p b c)) in omega (arith, f, l)
 
 -- ---- a claim
 
@@ -266,42 +195,30 @@ claimed_none true sequence None h = refl
 claimed_none true sequence (Some s) h = absurd cc
 claimed_none false sequence s h = h
 
-claimed_gone : (b : Bool) (sequence : ℕ) (s : Option Status) → (if b then flown sequence s else s) ≡ gone_byte → s ≡ gone_byte
-claimed_gone true sequence None h = absurd cc
-claimed_gone true sequence (Some s) h = absurd (let z : Some sequence ≡ None = ap flight_of h in cc)
-claimed_gone false sequence s h = h
-
-pub tidy_claimed : (rs ts : List Run) (first n room sequence from to : ℕ) → Parted first ts → ((q : ℕ) → first ≤ q → status_at ts q ≡ claimed sequence from to q (status_at rs q)) → IsTidy rs first n room → IsTidy ts first n room
-tidy_claimed rs ts first n room sequence from to parted claims t = record {
-  tiled = record {
-    inside = λ q l m. subst IsSome (sym (claims q l)) (claimed_some (is_between from to q) sequence (status_at rs q) (t.tiled.inside q l m));
-    outside = λ q l. claims q (omega arith) ∙ claimed_none (is_between from to q) sequence (status_at rs q) (t.tiled.outside q l);
-    fits = t.tiled.fits;
-  };
-  parted = parted;
-  few = few_less rs ts first n n (omega arith) (λ q l e. claimed_gone (is_between from to q) sequence (status_at rs q) (sym (claims q l) ∙ e)) t.few;
-  freed = t.freed;
+pub tiled_claimed : (rs ts : List Run) (first n sequence from to : ℕ) → ((q : ℕ) → first ≤ q → status_at ts q ≡ claimed sequence from to q (status_at rs q)) → IsTiled rs first n → IsTiled ts first n
+tiled_claimed rs ts first n sequence from to claims t = record {
+  inside = λ q l m. subst IsSome (sym (claims q l)) (claimed_some (is_between from to q) sequence (status_at rs q) (t.inside q l m));
+  outside = λ q l. claims q (omega arith) ∙ claimed_none (is_between from to q) sequence (status_at rs q) (t.outside q l);
+  fits = t.fits;
 }
+
+claimed_kept : (b : Bool) (sequence : ℕ) (s : Option Status) → is_kept (if b then flown sequence s else s) ≡ is_kept s
+claimed_kept true sequence None = refl
+claimed_kept true sequence (Some s) = refl
+claimed_kept false sequence s = refl
+
+pub kept_claimed : (rs ts : List Run) (sequence from to : ℕ) → ((q : ℕ) → 0 ≤ q → status_at ts q ≡ claimed sequence from to q (status_at rs q)) → (q : ℕ) → is_kept (status_at ts q) ≡ is_kept (status_at rs q)
+kept_claimed rs ts sequence from to claims q = ap is_kept (claims q (omega arith)) ∙ claimed_kept (is_between from to q) sequence (status_at rs q)
 
 -- ---- more bytes
 
-more_gone : (b : Bool) (s : Option Status) → option_or s (if b then Some (record { flight = None; kept = true }) else None) ≡ gone_byte → s ≡ gone_byte
-more_gone true None e = absurd (let z : true ≡ false = ap is_kept e in cc)
-more_gone false None e = absurd cc
-more_gone b (Some s) e = e
-
-pub tidy_accepted : (rs ts : List Run) (first n m room wider : ℕ) → first + n + m < 2 ^ 64 → Parted first ts
-    → ((q : ℕ) → first ≤ q → status_at ts q ≡ option_or (status_at rs q) (if nat_lt q (first + n + m) then Some (record { flight = None; kept = true }) else None)) → (n + m ≡ 0 → wider ≡ 0) → IsTidy rs first n room → IsTidy ts first (n + m) wider
-tidy_accepted rs ts first n m room wider fits parted appends freed t = record {
-  tiled = record {
-    inside = λ q l k. subst IsSome (sym (appends q l ∙ ap (λ b. option_or (status_at rs q) (if b then Some (record { flight = None; kept = true }) else None)) (below q (first + n + m) (omega arith)))) (either (status_at rs q));
-    outside = λ q l. appends q (omega arith) ∙ ap (λ b. option_or (status_at rs q) (if b then Some (record { flight = None; kept = true }) else None)) (not_below q (first + n + m) (omega arith))
-        ∙ or_none (status_at rs q) ∙ t.tiled.outside q (omega arith);
-    fits = omega (arith, fits);
-  };
-  parted = parted;
-  few = few_less rs ts first n (n + m) (omega arith) (λ q l e. more_gone (nat_lt q (first + n + m)) (status_at rs q) (sym (appends q l) ∙ e)) t.few;
-  freed = freed;
+pub tiled_accepted : (rs ts : List Run) (first n m : ℕ) → first + n + m < 2 ^ 64
+    → ((q : ℕ) → first ≤ q → status_at ts q ≡ option_or (status_at rs q) (if nat_lt q (first + n + m) then Some (record { flight = None; kept = true }) else None)) → IsTiled rs first n → IsTiled ts first (n + m)
+tiled_accepted rs ts first n m fits appends t = record {
+  inside = λ q l k. subst IsSome (sym (appends q l ∙ ap (λ b. option_or (status_at rs q) (if b then Some (record { flight = None; kept = true }) else None)) (below q (first + n + m) (omega arith)))) (either (status_at rs q));
+  outside = λ q l. appends q (omega arith) ∙ ap (λ b. option_or (status_at rs q) (if b then Some (record { flight = None; kept = true }) else None)) (not_below q (first + n + m) (omega arith))
+      ∙ or_none (status_at rs q) ∙ t.outside q (omega arith);
+  fits = omega (arith, fits);
 }
   where
     either : (s : Option Status) → IsSome (option_or s (Some (record { flight = None; kept = true })))

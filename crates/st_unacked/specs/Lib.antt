@@ -1,3 +1,4 @@
 pub mod Sent
 pub mod Laws
 pub mod Runs
+pub mod Chunks

@@ -26,19 +26,19 @@ abbrev pub is_due : Option Status → Bool
 is_due None = false
 is_due (Some s) = s.kept && is_none s.flight
 
--- the byte at an offset, if the first byte kept lies at `first`
-abbrev pub byte_at : List Run → List ℕ → ℕ → ℕ → Option ℕ
-byte_at runs bytes first q = if is_kept (status_at runs q) then Some (slice_index bytes (q - first)) else None
+-- the byte at an offset, if it is kept
+abbrev pub byte_at : List Run → (ℕ → ℕ) → ℕ → Option ℕ
+byte_at runs byte q = if is_kept (status_at runs q) then Some (byte q) else None
 
 abbrev pub flight_at : List Run → ℕ → Option ℕ
 flight_at runs q = flight_of (status_at runs q)
 
--- the model's value
-abbrev pub shown_by : List Run → List ℕ → ℕ → Sent
-shown_by runs bytes first = record {
-  unacked = table (byte_at runs bytes first) first (length bytes);
-  flying = table (flight_at runs) first (length bytes);
-  accepted = first + length bytes;
+-- the model's value for the runs and the bytes of n offsets from `first` on
+abbrev pub shown_by : List Run → (ℕ → ℕ) → ℕ → ℕ → Sent
+shown_by runs byte first n = record {
+  unacked = table (byte_at runs byte) first n;
+  flying = table (flight_at runs) first n;
+  accepted = first + n;
 }
 
 -- the runs cover each byte that is there and no other
@@ -56,21 +56,6 @@ Differs s (r ∷ rs) = s ≢ r.status
 abbrev pub Parted : ℕ → List Run → Type 0
 Parted first [] = Unit {0}
 Parted first (r ∷ rs) = (first < r.end) × Differs r.status rs × Parted r.end rs
-
--- the status of a byte that is neither kept nor in flight
-abbrev pub gone_byte : Option Status
-gone_byte = Some (record { flight = None; kept = false })
-
--- if the bytes from the first on and below an offset are all gone, they are at most half of all
-abbrev pub FewGone : List Run → ℕ → ℕ → Type 0
-FewGone runs first n = (q : ℕ) → first ≤ q → ((p : ℕ) → first ≤ p → p < q → status_at runs p ≡ gone_byte) → 2 * (q - first) ≤ n
-
--- the runs cover each byte and are as few as can be, few bytes are gone in front, and room, the memory of the bytes, is 0 if none is left
-pub record IsTidy (runs : List Run) (first n room : ℕ) : Type 0 where
-  pub tiled : IsTiled runs first n
-  pub parted : Parted first runs
-  pub few : FewGone runs first n
-  pub freed : n ≡ 0 → room ≡ 0
 
 -- no run is empty
 abbrev pub Rise : ℕ → List Run → Type 0
@@ -92,15 +77,6 @@ pub record HasMore (first : ℕ) (rs : List Run) (r : Run) (ts : List Run) : Typ
   pub parted : Parted first ts
   pub ends : end_of first ts ≡ r.end
   pub status : (q : ℕ) → status_at ts q ≡ option_or (status_at rs q) (if nat_lt q r.end then Some r.status else None)
-
--- the first `count` runs have bytes that are gone, up to an end, and the next one has others
-pub record IsGoneFront (runs : List Run) (first count end : ℕ) : Type 0 where
-  pub within : count ≤ length runs
-  pub from : first ≤ end
-  pub gone : (q : ℕ) → first ≤ q → q < end → status_at runs q ≡ gone_byte
-  pub rest : (q : ℕ) → end ≤ q → status_at runs q ≡ status_at (drop count runs) q
-  pub parted : Parted end (drop count runs)
-  pub ends : status_at runs end ≢ gone_byte
 
 -- a status with another flight
 abbrev pub flown : ℕ → Option Status → Option Status

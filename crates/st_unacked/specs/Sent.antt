@@ -1,7 +1,7 @@
 -- The bytes of one outgoing stream: which are accepted and not acknowledged yet, and which of them are in flight.
-use Rattle.std.specs.Prelude.{◌≡◌, ℕ, ◌+◌, ◌-◌, ◌<◌, ◌≤◌, IsSome, Bool, true, false, not, nat_eq, List, length, Option, Some, None, is_some, if◌then◌else◌}
+use Rattle.std.specs.Prelude.{◌≡◌, ℕ, ◌+◌, ◌-◌, ◌<◌, ◌≤◌, IsSome, Bool, true, false, not, nat_eq, List, length, Option, Some, None, is_some, is_none, if◌then◌else◌}
 use Rattle.std.specs.Ordering.{nat_cmp}
-use Rattle.std.specs.FinMap.{FinMap, empty, get, retain_keys}
+use Rattle.std.specs.FinMap.{FinMap, empty, get, len, retain_keys}
 use Rattle.st_tables.specs.Table.{put_bytes, put_same}
 
 -- the byte at each offset that is accepted and neither acknowledged nor dropped; the sequence by which an offset is in flight; how many bytes were accepted
@@ -71,3 +71,7 @@ pub record IsLowestDue (s : Sent) (from to : ℕ) : Type 0 where
 pub record IsPastDue (s : Sent) (end : ℕ) : Type 0 where
   pub past : (q : ℕ) → IsSome (due_at s q) → q < end
   pub last : 0 < end → IsSome (due_at s (end - 1))
+
+-- the number of rows of the unacknowledged bytes: that of the bytes whose next byte is not unacknowledged
+abbrev pub rows : Sent → ℕ
+rows s = len (retain_keys s.unacked (λ q. is_none (get s.unacked (q + 1))))

@@ -1,110 +1,42 @@
 //! The bytes of one outgoing stream until they are acknowledged.
-ghost use Rattle.std.specs.Prelude.{◌≡◌, ◌≢◌, true, false, ℕ, ◌+◌, ◌-◌, ◌^◌, ◌<◌, ◌≤◌, IfOk, OnErr, OnOk, MatchOption, IsSome, None, Some, drop, length, slice_index, vec_capacity, nat_lt, if◌then◌else◌, ◌++◌};
+ghost use Rattle.std.specs.Prelude.{◌≡◌, ◌≢◌, true, false, ℕ, ◌+◌, ◌-◌, ◌*◌, ◌^◌, ◌<◌, ◌≤◌, IfOk, OnErr, OnOk, MatchOption, IsSome, None, Some, length, slice_index, vec_capacity};
 ghost use Rattle.std.specs.FinMap.{get, empty, len};
-ghost use Rattle.std.specs.List.{slice_range};
-ghost use Rattle.std.specs.Option.{option_or};
-ghost use Rattle.st_unacked.specs.Runs.{shown_by, status_at, IsTiled, IsTidy, Parted, Rise};
-ghost use Rattle.st_unacked.specs.Sent.{nothing_sent, due_at, after_accept, after_claim, after_acknowledged, after_failed, after_drop, carried, IsFlightEnd, IsLowestDue, IsPastDue};
+ghost use Rattle.st_unacked.specs.Runs.{shown_by, status_at, is_kept, IsTiled, Rise};
+ghost use Rattle.st_unacked.specs.Chunks.{byte_in, covers, Laid, IsTidy};
+ghost use Rattle.st_unacked.specs.Sent.{nothing_sent, due_at, after_accept, after_claim, after_acknowledged, after_failed, after_drop, carried, rows, IsFlightEnd, IsLowestDue, IsPastDue};
 
+use crate::chunk::{CHUNK, Chunk, add, copy, let_go};
 use crate::run::{
     DUE, Run, acknowledge, append, claim, drop_all, due_end, fail, first_due, first_kept,
-    flight_end, gone_front, join, kept_count, past_due,
+    flight_end, join, kept_count, past_due,
 };
 use std::alloc::{AllocError, Allocator};
 use std::marker::Model;
 
-/// Takes the first `count` items away.
-fn cut_front<T: Copy, A: Allocator>(items: &mut Vec<T, A>, count: usize)
-    requires { count ≤ length items.old.items }
-    ensures { items.new.items ≡ drop count items.old.items }
-{
-    let rest = items.len() - count;
-    items.copy_within(count.., 0);
-    items.truncate(rest);
-}
-
-/// The bytes from one place on and before another.
-fn part<A: Allocator>(bytes: &Vec<u8, A>, from: usize, to: usize) -> &[u8]
-    requires order { from ≤ to }
-    requires within { to ≤ length bytes.now.items }
-    ensures { result.now ≡ slice_range bytes.now.items from to }
-{
-    &bytes[from..to]
-}
-
-/// Frees the memory if no byte is left.
-fn give_back<A: Allocator>(bytes: &mut Vec<u8, A>)
-    ensures same { bytes.new.items ≡ bytes.old.items }
-    ensures freed { length bytes.new.items ≡ 0 → vec_capacity bytes.new ≡ 0 }
-{
-    if bytes.is_empty() {
-        bytes.shrink_to_fit();
-    }
-}
-
-/// Appends bytes, which are queued up to `end`: all of them, or none if memory is refused.
-fn add<A: Allocator>(
-    bytes: &mut Vec<u8, A>,
-    runs: &mut Vec<Run, A>,
-    first: u64,
-    end: u64,
-    more: &[u8],
-) -> Result<(), AllocError>
-    requires { Parted first runs.old.items }
-    ensures adds { OnOk result (bytes.new.items ≡ bytes.old.items ++ more.now) }
-    ensures parted { OnOk result (Parted first runs.new.items) }
-    ensures appends { OnOk result ((q : ℕ) → first ≤ q → status_at runs.new.items q ≡ option_or (status_at runs.old.items q) (if nat_lt q end then Some (record { flight = None; kept = true }) else None)) }
-    ensures bytes { OnErr result (bytes.new.items ≡ bytes.old.items) }
-    ensures runs { OnErr result (runs.new.items ≡ runs.old.items) }
-{
-    bytes.reserve(more.len())?;
-    append(runs, first, end, DUE)?;
-    bytes.extend_from_slice(more).unwrap();
-    Ok(())
-}
-
-/// Gives up the bytes at the front that are neither kept nor in flight once they are half of all, so that each byte is
-/// moved about once. Gives the offset of the first byte then.
-fn trim<A: Allocator>(bytes: &mut Vec<u8, A>, runs: &mut Vec<Run, A>, first: u64) -> u64
-    requires tiled { IsTiled runs.old.items first (length bytes.old.items) }
-    requires parted { Parted first runs.old.items }
-    ensures same { shown_by runs.new.items bytes.new.items result ≡ shown_by runs.old.items bytes.old.items first }
-    ensures tidy { IsTidy runs.new.items result (length bytes.new.items) (vec_capacity bytes.new) }
-{
-    let (count, end) = gone_front(runs, first);
-    let gone = (end - first) as usize;
-    if bytes.len() - gone > gone {
-        return first;
-    }
-    cut_front(runs, count);
-    cut_front(bytes, gone);
-    give_back(bytes);
-    end
-}
-
-/// Joins neighbouring runs of the same status, and gives up what is gone at the front. Gives the offset of the first
-/// byte then.
-fn tidy<A: Allocator>(bytes: &mut Vec<u8, A>, runs: &mut Vec<Run, A>, first: u64) -> u64
-    requires tiled { IsTiled runs.old.items first (length bytes.old.items) }
-    requires rise { Rise first runs.old.items }
-    ensures same { shown_by runs.new.items bytes.new.items result ≡ shown_by runs.old.items bytes.old.items first }
-    ensures tidy { IsTidy runs.new.items result (length bytes.new.items) (vec_capacity bytes.new) }
+/// Joins neighbouring runs of the same status, and frees the chunks without a byte that is kept.
+fn tidy<A: Allocator>(chunks: &mut Vec<Chunk<A>, A>, runs: &mut Vec<Run, A>, accepted: u64)
+    requires tiled { IsTiled runs.old.items 0 accepted }
+    requires rise { Rise 0 runs.old.items }
+    requires laid { Laid 0 accepted chunks.old.items }
+    requires covered { (q : ℕ) → is_kept (status_at runs.old.items q) ≡ true → covers chunks.old.items q ≡ true }
+    ensures same { shown_by runs.new.items (byte_in chunks.new.items) 0 accepted ≡ shown_by runs.old.items (byte_in chunks.old.items) 0 accepted }
+    ensures tidy { IsTidy runs.new.items chunks.new.items accepted (vec_capacity chunks.new) }
 {
     join(runs);
-    trim(bytes, runs, first)
+    let_go(chunks, runs);
 }
 
-/// The send buffer of one outgoing stream: the accepted bytes from the lowest unacknowledged one on, each queued, in
-/// flight or acknowledged. Its memory is given back once all are acknowledged.
+/// The send buffer of one outgoing stream: the accepted bytes, each queued, in flight or acknowledged. They lie in chunks
+/// of 4,096 bytes. A chunk whose bytes are all acknowledged or dropped is freed, even if an earlier packet has no answer yet.
 #[derive(Drop)]
 pub struct Unacked<A: Allocator + Copy> {
-    /// The bytes from `first` on.
-    bytes: Vec<u8, A>,
+    /// The bytes that are not acknowledged, in chunks.
+    chunks: Vec<Chunk<A>, A>,
     /// Runs of offsets up to the last byte's end.
     runs: Vec<Run, A>,
     alloc: A,
-    /// The offset of the first byte here: no lower one is kept or in flight.
-    first: u64,
+    /// The number of bytes accepted.
+    accepted: u64,
 }
 
 impl<A: Allocator + Copy> Model for Unacked<A> {
@@ -116,12 +48,13 @@ impl<A: Allocator + Copy> Model for Unacked<A> {
 
     ghost coded = { Prim.hlevel (codes, map.code) };
 
-    ghost use Rattle.std.specs.Prelude.{length, vec_capacity};
-    ghost use Rattle.st_unacked.specs.Runs.{IsTidy, shown_by};
+    ghost use Rattle.std.specs.Prelude.{vec_capacity};
+    ghost use Rattle.st_unacked.specs.Runs.{shown_by};
+    ghost use Rattle.st_unacked.specs.Chunks.{IsTidy, byte_in};
 
-    ghost view = { λ s. shown_by s.runs.items s.bytes.items s.first };
+    ghost view = { λ s. shown_by s.runs.items (byte_in s.chunks.items) 0 s.accepted };
 
-    ghost invariant = { λ s. IsTidy s.runs.items s.first (length s.bytes.items) (vec_capacity s.bytes) };
+    ghost invariant = { λ s. IsTidy s.runs.items s.chunks.items s.accepted (vec_capacity s.chunks) };
 }
 
 impl<A: Allocator + Copy> Unacked<A> {
@@ -130,32 +63,34 @@ impl<A: Allocator + Copy> Unacked<A> {
         ensures { result ≡ nothing_sent }
     {
         Unacked {
-            bytes: Vec::new(alloc),
+            chunks: Vec::new(alloc),
             runs: Vec::new(alloc),
             alloc,
-            first: 0,
+            accepted: 0,
         }
     }
 
-    /// The memory that is kept for bytes, in bytes. It is 0 once no byte is unacknowledged or in flight.
+    /// The memory of all chunks, in bytes. It is at most the unacknowledged bytes and two chunks for each row of them, so
+    /// 0 once all are acknowledged or dropped.
     pub fn room(&self) -> usize
-        ensures { self.now.unacked ≡ empty → self.now.flying ≡ empty → result ≡ 0 }
+        ensures bound { result ≤ len self.now.unacked + 8192 * rows self.now }
+        ensures none { self.now.unacked ≡ empty → result ≡ 0 }
     {
-        self.bytes.capacity()
+        self.chunks.len().saturating_mul(CHUNK)
     }
 
     /// The total number of bytes that were accepted. It is also the offset of the next byte.
     pub fn accepted(&self) -> u64
         ensures { result ≡ self.now.accepted }
     {
-        self.first + self.bytes.len() as u64
+        self.accepted
     }
 
     /// The number of accepted bytes that are neither acknowledged nor dropped.
     pub fn count(&self) -> u64
         ensures { result ≡ len self.now.unacked }
     {
-        kept_count(&self.runs, self.first)
+        kept_count(&self.runs, 0)
     }
 
     /// Appends bytes to the stream and queues them: all of them, or none.
@@ -168,12 +103,15 @@ impl<A: Allocator + Copy> Unacked<A> {
         ensures raises { OnOk result (len self.new.unacked ≡ len self.old.unacked + length bytes.now) }
         ensures unchanged { OnErr result (self.new ≡ self.old) }
     {
-        let end = self.accepted() + bytes.len() as u64;
-        let Ok(()) = add(&mut self.bytes, &mut self.runs, self.first, end, bytes) else {
-            give_back(&mut self.bytes);
-            return Err(AllocError);
-        };
-        give_back(&mut self.bytes);
+        let count = bytes.len();
+        if count == 0 {
+            return Ok(());
+        }
+        let end = self.accepted + count as u64;
+        self.runs.reserve(1)?;
+        add(self.alloc, &mut self.chunks, self.accepted, bytes)?;
+        append(&mut self.runs, 0, end, DUE).unwrap();
+        self.accepted = end;
         Ok(())
     }
 
@@ -182,7 +120,7 @@ impl<A: Allocator + Copy> Unacked<A> {
     pub fn lowest_due(&self) -> Option<(u64, u64)>
         ensures { MatchOption result ((q : ℕ) → due_at self.now q ≡ None) (λ r. IsLowestDue self.now r.0 r.1) }
     {
-        let Some(from) = first_due(&self.runs, self.first) else {
+        let Some(from) = first_due(&self.runs, 0) else {
             return None;
         };
         Some((from, due_end(&self.runs, from)))
@@ -192,7 +130,7 @@ impl<A: Allocator + Copy> Unacked<A> {
     pub fn past_due(&self) -> u64
         ensures { IsPastDue self.now result }
     {
-        past_due(&self.runs, self.first)
+        past_due(&self.runs, 0)
     }
 
     /// Whether every accepted byte is acknowledged or dropped.
@@ -200,25 +138,22 @@ impl<A: Allocator + Copy> Unacked<A> {
         ensures yes { result ≡ true → self.now.unacked ≡ empty }
         ensures no { result ≡ false → self.now.unacked ≢ empty }
     {
-        match first_kept(&self.runs, self.first) {
+        match first_kept(&self.runs, 0) {
             Some(_) => false,
             None => true,
         }
     }
 
-    /// The bytes from offset `from` on and below `to`. Requires that the range is not empty and each byte of it
-    /// unacknowledged.
-    pub fn piece(&self, from: u64, to: u64) -> &[u8]
-        requires order { from < to }
+    /// A copy of the bytes from offset `from` on and below `to`. Fails with `AllocError` if memory is refused. Requires
+    /// that each of the bytes is unacknowledged.
+    pub fn piece(&self, alloc: A, from: u64, to: u64) -> Result<Vec<u8, A>, AllocError>
+        requires order { from ≤ to }
         requires there { (q : ℕ) → from ≤ q → q < to → IsSome (get self.now.unacked q) }
-        ensures len { length result.now ≡ to - from }
-        ensures bytes { (k : ℕ) → k < length result.now → get self.now.unacked (from + k) ≡ Some (slice_index result.now k) }
+        ensures len { IfOk result (λ v. length v.items ≡ to - from) }
+        ensures bytes { IfOk result (λ v. (k : ℕ) → k < length v.items → get self.now.unacked (from + k) ≡ Some (slice_index v.items k)) }
     {
-        part(
-            &self.bytes,
-            (from - self.first) as usize,
-            (to - self.first) as usize,
-        )
+        let bytes = copy(alloc, &self.chunks, from, to)?;
+        Ok(bytes)
     }
 
     /// Marks the queued bytes from offset `from` on and below `to` as in flight under the sequence number.
@@ -231,7 +166,7 @@ impl<A: Allocator + Copy> Unacked<A> {
         ensures claims { OnOk result (self.new ≡ after_claim sequence from (to - from) self.old) }
         ensures unchanged { OnErr result (self.new ≡ self.old) }
     {
-        self.runs = claim(self.alloc, &self.runs, self.first, from, to, sequence)?;
+        self.runs = claim(self.alloc, &self.runs, 0, from, to, sequence)?;
         Ok(())
     }
 
@@ -244,9 +179,9 @@ impl<A: Allocator + Copy> Unacked<A> {
         ensures within { result ≤ self.old.accepted }
         ensures lowers { len self.new.unacked + len (carried sequence self.old) ≡ len self.old.unacked }
     {
-        let end = flight_end(&self.runs, self.first, sequence);
+        let end = flight_end(&self.runs, 0, sequence);
         acknowledge(&mut self.runs, sequence);
-        self.first = tidy(&mut self.bytes, &mut self.runs, self.first);
+        tidy(&mut self.chunks, &mut self.runs, self.accepted);
         end
     }
 
@@ -256,7 +191,7 @@ impl<A: Allocator + Copy> Unacked<A> {
         ensures { self.new ≡ after_failed sequence self.old }
     {
         fail(&mut self.runs, sequence);
-        self.first = tidy(&mut self.bytes, &mut self.runs, self.first);
+        tidy(&mut self.chunks, &mut self.runs, self.accepted);
     }
 
     /// Drops all bytes. Those in flight stay in flight until their answer arrives.
@@ -264,6 +199,6 @@ impl<A: Allocator + Copy> Unacked<A> {
         ensures { self.new ≡ after_drop self.old }
     {
         drop_all(&mut self.runs);
-        self.first = tidy(&mut self.bytes, &mut self.runs, self.first);
+        tidy(&mut self.chunks, &mut self.runs, self.accepted);
     }
 }

@@ -4,8 +4,8 @@ use Rattle.st_sender.specs.Allowed.{IsStopped}
 use Rattle.st_sender.proofs.Readiness.{stopped_by}
 use Rattle.st_sender.proofs.stream.Stream.ready.Goals as goal
 
-pub returns-then-count-eq0 : goal.returns-then-count-eq0
-returns-then-count-eq0 g c =
+pub returns-then-count-eq0-clause-ready : goal.returns-then-count-eq0-clause-ready
+returns-then-count-eq0-clause-ready g c =
     let zero : c.longest-count.result ≡ 0 = c.if-count-eq0.true in
     let long = c.longest-count.ensures.longest (omega (arith, c.in-Some.ensures.some, c.if-allowed-from.false)) in
     let most = rw zero at long in

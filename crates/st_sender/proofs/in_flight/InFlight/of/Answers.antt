@@ -1,0 +1,17 @@
+use Rattle.std.proofs.Common.{ℕ, ◌≡◌, ◌<◌, ◌^◌, zero, suc, refl, max, ap, subst, sym, slice_index, replicate, arith, ◌∙◌}
+use Rattle.st_sender.specs.Flights.{flying_end}
+use Rattle.st_sender.proofs.in_flight.InFlight.of.Goals as goal
+
+zero_at : (n k : ℕ) → slice_index (replicate n 0) k ≡ 0
+zero_at zero k = refl
+zero_at (suc n) zero = refl
+zero_at (suc n) (suc k) = zero_at n k
+
+max_zero : (n : ℕ) → max 0 n ≡ n
+max_zero n = omega arith
+
+pub loop-flight-init : goal.loop-flight-init
+loop-flight-init g c = (
+  (λ k h. ap (λ (n : ℕ). max n (flying_end k c.args.flights.now)) (zero_at 65 k) ∙ max_zero (flying_end k c.args.flights.now)),
+  (λ k h. subst (λ (n : ℕ). n < 2 ^ 65) (sym (zero_at 65 k)) (omega arith)),
+)

@@ -1,0 +1,87 @@
+//! The packets in flight, and how far each stream's data in them reach.
+
+ghost use Rattle.std.specs.Prelude.{◌≡◌, ◌<◌, ◌^◌};
+ghost use Rattle.st_sender.specs.Flights.{end_of, highest_end, flying_end};
+ghost use Rattle.st_sender.specs.Shown.{shown, kept};
+ghost use Rattle.st_sender.specs.InFlight.{AreSmall, IsRaised};
+
+use crate::load::{Flight, Flown, flights_end};
+use std::alloc::Allocator;
+use std::marker::Model;
+
+/// Raises the place of a frame's stream to the end of its data.
+fn raise(ends: &mut [u128; 65], frame: Flown)
+    ensures raised { IsRaised ends.old ends.new (λ k. end_of k (shown frame)) }
+    ensures small { AreSmall ends.old → AreSmall ends.new }
+{
+    if let Flown::Data { stream, .. } = frame {
+        if stream < 65 {
+            let place = stream as usize;
+            ends[place] = ends[place].max(frame.end(stream));
+        }
+    }
+}
+
+/// Raises the place of each stream to the highest end of its data in these frames.
+fn raise_all(ends: &mut [u128; 65], frames: &[Flown])
+    ensures raised { IsRaised ends.old ends.new (λ k. highest_end k (kept frames.now)) }
+    ensures small { AreSmall ends.old → AreSmall ends.new }
+{
+    for frame in frames {
+        raise(ends, *frame);
+    }
+}
+
+impl<A: Allocator + Copy> Flight<A> {
+    /// Raises the place of each stream to the end of its data in this packet.
+    fn raise(&self, ends: &mut [u128; 65])
+        ensures raised { IsRaised ends.old ends.new (λ k. highest_end k self.now.frames) }
+        ensures small { AreSmall ends.old → AreSmall ends.new }
+    {
+        raise_all(ends, &self.frames);
+    }
+}
+
+/// The packets in flight, with the highest end of each stream's data in them.
+#[derive(Drop)]
+pub struct InFlight<'f, A: Allocator + Copy> {
+    flights: &'f [Flight<A>],
+    ends: [u128; 65],
+}
+
+impl<'f, A: Allocator + Copy> Model for InFlight<'f, A> {
+    ghost use Rattle.std.specs.Prelude.{List};
+    ghost use Rattle.st_sender.specs.Sending as sending;
+    ghost use Rattle.st_sender.specs.InFlight.{AreEnds};
+
+    ghost Value = { List sending.Flight };
+
+    ghost view = { λ a. a.flights.now };
+
+    ghost invariant = { λ a. AreEnds a.flights.now a.ends };
+}
+
+impl<'f, A: Allocator + Copy> InFlight<'f, A> {
+    /// The same packets. Each is visited once.
+    pub fn of(flights: &'f [Flight<A>]) -> InFlight<'f, A>
+        ensures { result ≡ flights.now }
+    {
+        let mut ends = [0; 65];
+        for flight in flights {
+            flight.raise(&mut ends);
+        }
+        InFlight { flights, ends }
+    }
+
+    /// The highest end of the stream's data: 0 if it has none in flight.
+    pub fn end(&self, number: u8) -> u128
+        ensures end { result ≡ flying_end number self.now }
+        ensures small { result < 2 ^ 65 }
+    {
+        if number < 65 {
+            self.ends[number as usize]
+        } else {
+            flights_end(self.flights, number)
+        }
+    }
+}
