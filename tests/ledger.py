@@ -1252,14 +1252,13 @@ def a_file_of_a_connector_that_runs_is(play, file, what):
     hub.some_sums()
     it, path = hub.serve(), f"{hub.path}{file}"
     time.sleep(0.3)
-    if what == "cut":
+    if what.startswith("cut"):
         # (without a booking under way: a cut within one may come before the connector looks again)
         hub.gate.shut()
         hub.gate.empty()
-        os.truncate(path, os.path.getsize(path) - 1)
+        size = os.path.getsize(path)
+        os.truncate(path, size - 1 if what == "cut" else size // 2)
         hub.gate.open()
-    elif what == "cut in half":
-        os.truncate(path, os.path.getsize(path) // 2)
     elif what == "removed":
         os.remove(path)
     else:
