@@ -1,13 +1,15 @@
 #!/usr/bin/env python3
-"""Lines for `ilpstream frames`, about 8.5 million bytes of them: each of the 64 streams gets its whole window of 65,536
-bytes, in StreamData frames of at most 16,000 bytes, one to a line. With a number N as its argument, N such inputs on end:
-what follows the first brings bytes that are buffered already."""
+"""Lines for `ilpstream frames`, 8.4 million bytes of them and more: each of the 64 streams gets its whole window of 65,536 bytes, in
+StreamData frames of at most 16,000 bytes, one to a line: frames_input.py [ROUNDS [PIECE [SEED]]]. With ROUNDS, as many such inputs
+one after the other: what follows the first brings bytes that are buffered already. With PIECE, frames of at most as many bytes.
+With SEED, the lines in an order that is drawn by it."""
 
+import random
 import sys
 
 STREAMS = 64
 WINDOW = 65_536
-PIECE = 16_000
+MOST = 16_000
 
 
 def number(value):
@@ -32,15 +34,13 @@ def line(sequence, stream, offset, data):
 
 
 def main():
-    rounds = int(sys.argv[1]) if len(sys.argv) > 1 else 1
-    sequence = 0
-    for _ in range(rounds):
-        for offset in range(0, WINDOW, PIECE):
-            for stream in range(1, STREAMS + 1):
-                size = min(PIECE, WINDOW - offset)
-                data = bytes((stream + offset + i) % 251 for i in range(size))
-                sequence += 1
-                sys.stdout.write(line(sequence, stream, offset, data))
+    rounds, piece, seed = [int(it) for it in sys.argv[1:]] + [1, MOST, 0][len(sys.argv) - 1 :]
+    places = [(offset, stream) for offset in range(0, WINDOW, piece) for stream in range(1, STREAMS + 1)]
+    if seed:
+        random.Random(seed).shuffle(places)
+    for sequence, (offset, stream) in enumerate(places * rounds, 1):
+        data = bytes((stream + offset + i) % 251 for i in range(min(piece, WINDOW - offset)))
+        sys.stdout.write(line(sequence, stream, offset, data))
 
 
 main()
