@@ -9,6 +9,13 @@ unsafe extern "C" {
     fn malloc(size: usize) -> *mut c_void;
     fn realloc(at: *mut c_void, size: usize) -> *mut c_void;
     fn free(at: *mut c_void);
+    fn malloc_usable_size(at: *mut c_void) -> usize;
+}
+
+/// The length of a block, 0 if there is none.
+fn length(at: *mut c_void) -> usize {
+    // SAFETY: it is a block in use, or null.
+    unsafe { malloc_usable_size(at) }
 }
 
 /// A block, or that there is none.
@@ -39,7 +46,9 @@ extern "C" fn rattle_alloc(size: usize, align: usize) -> Tried {
         return tried(null_mut());
     }
     // SAFETY: any size may be asked for.
-    tried(unsafe { malloc(if size == 0 { align } else { size }) })
+    let at = unsafe { malloc(if size == 0 { align } else { size }) };
+    crate::refusing::given(length(at));
+    tried(at)
 }
 
 #[unsafe(no_mangle)]
@@ -47,12 +56,19 @@ extern "C" fn rattle_realloc(at: *mut c_void, _kept: usize, size: usize, align: 
     if !crate::refusing::admits() {
         return tried(null_mut());
     }
+    let before = length(at);
     // SAFETY: the archive passes a block that it took and did not give back.
-    tried(unsafe { realloc(at, if size == 0 { align } else { size }) })
+    let new = unsafe { realloc(at, if size == 0 { align } else { size }) };
+    if !new.is_null() {
+        crate::refusing::returned(before);
+        crate::refusing::given(length(new));
+    }
+    tried(new)
 }
 
 #[unsafe(no_mangle)]
 extern "C" fn rattle_dealloc(at: *mut c_void) {
+    crate::refusing::returned(length(at));
     // SAFETY: the archive passes a block that it took and did not give back.
     unsafe { free(at) }
 }

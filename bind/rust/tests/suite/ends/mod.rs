@@ -5,10 +5,12 @@ use ilpstream::{End, EndConfig, Error, Role};
 
 mod both_ways;
 mod chains;
+mod held;
 mod lossy;
 mod memory;
 mod packets;
 mod sides;
+mod turns;
 mod worked;
 
 const SECRET: [u8; 32] = [0; 32];

@@ -102,6 +102,17 @@ impl Lane {
         }
     }
 
+    /// Writes as much as there is room for, and closes the stream once all is written.
+    pub fn fill(&mut self, end: &mut End) {
+        let room = end.room(self.stream).unwrap_or(0);
+        self.go_on(end, room as u64);
+    }
+
+    /// Whether all that was written at the peer was read.
+    pub fn has_all(&self, peer: &Lane) -> bool {
+        self.read == peer.total
+    }
+
     /// Reads at most this number of bytes, one at least, and compares them.
     pub fn read_on(&mut self, end: &mut End, most: usize) {
         match end.read(self.stream, most.max(1)) {
