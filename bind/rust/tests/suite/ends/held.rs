@@ -27,7 +27,7 @@ fn go(side: &mut Side, own: &mut Lane, peer: &mut Side, other: &mut Lane) {
     other.read_on(&mut peer.end, usize::MAX);
 }
 
-/// A stream from its opening until both ends have read its end: the most that was held meanwhile.
+/// A stream from its opening until both ends have read its end: the most memory in use meanwhile.
 fn work(client: &mut Side, server: &mut Side, stream: u8) -> usize {
     let opened = match stream % 2 {
         1 => client.end.open_stream(),
@@ -47,7 +47,7 @@ fn work(client: &mut Side, server: &mut Side, stream: u8) -> usize {
     most
 }
 
-/// A connection of all its streams, one after another: the most that was held meanwhile.
+/// A connection of all its streams, one after another: the most memory in use meanwhile.
 fn connect(before: usize) -> usize {
     let side = |role| Side::new(role, config(16, 100_000, 1_000));
     let (mut client, mut server) = (side(Role::Client), side(Role::Server));
@@ -57,7 +57,10 @@ fn connect(before: usize) -> usize {
         most = most.max(work(&mut client, &mut server, stream) - before);
         bound += KEPT;
         let now = held() - before;
-        assert!(now <= bound, "{now} bytes after stream {stream}, not {bound}");
+        assert!(
+            now <= bound,
+            "{now} bytes after stream {stream}, not {bound}"
+        );
     }
     most
 }

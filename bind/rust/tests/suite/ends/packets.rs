@@ -536,6 +536,66 @@ fn closes_go_together() {
     assert!(send(&mut client).is_none());
 }
 
+/// A peer that opens streams 1, 3, 5 and 7, takes all that is sent on stream 1, and waits for more room on stream 7.
+fn peer_waits(server: &mut End) {
+    for (sequence, stream) in [(1, 1), (2, 3), (3, 5)] {
+        let opens = [frame(0x15, [stream, 300_000, 0]), data(stream, 0, b"a")];
+        assert_eq!(reason(server, sequence, 0, 0, &opens), 0);
+    }
+    let far = frame(0x03, [1_000_000, 0, 0]);
+    assert_eq!(reason(server, 4, 0, 0, &[far]), 0);
+    let waits = [data(7, 0, &[7; 30_000]), frame(0x16, [7, 65_536, 0])];
+    assert_eq!(reason(server, 5, 0, 0, &waits), 0);
+    for (sequence, at) in [(6, 30_000), (7, 60_000)] {
+        let rest = [7; 30_000];
+        let bytes = &rest[..30_000.min(65_536 - at as usize)];
+        let more = [data(7, at, bytes)];
+        assert_eq!(reason(server, sequence, 0, 0, &more), 0);
+    }
+}
+
+/// Stream 1 always has more bytes than a Prepare holds. A clean close, an abort and a raised limit go in the next one.
+#[test]
+fn nothing_waits_for_a_stream_that_always_has_bytes() {
+    let mut server = server(&[]);
+    peer_waits(&mut server);
+    server.write(1, &[7; 262_144]).unwrap();
+    server.write(3, b"ab").unwrap();
+    server.close(3).unwrap();
+    let first = sent(&mut server);
+    assert_eq!(first.data(), [(0, 16_000), (0, 2)]);
+    fulfill(&mut server, &first, &[]);
+    server.write(5, b"cd").unwrap();
+    server.abort(5, 9).unwrap();
+    assert!(matches!(server.read(7, 100_000), Ok(Read::Bytes(_))));
+    let next = sent(&mut server);
+    for due in [
+        frame(0x10, [3, 1, 0]),
+        frame(0x10, [5, 9, 0]),
+        frame(0x15, [7, 131_072, 0]),
+        data(1, 16_000, &[7; 16_000]),
+    ] {
+        assert!(next.frames.contains(&due));
+    }
+    assert_eq!(next.frames.len(), 4);
+    assert_eq!(sent(&mut server).frames, [data(1, 32_000, &[7; 16_000])]);
+}
+
+/// Two streams share each Prepare: a frame of the one as long as can be, and of the other as much as there is room for.
+#[test]
+fn streams_share_a_prepare() {
+    let mut client = client(&[1, 3, 5], config(16, 1_000, 1_000));
+    for stream in [1, 3, 5] {
+        client.write(stream, &[7; 16_000]).unwrap();
+    }
+    let (first, second) = (sent(&mut client), sent(&mut client));
+    let streams = |it: &Sent| it.frames.iter().map(|it| it.1[0]).collect::<Vec<_>>();
+    assert_eq!(
+        (streams(&first), streams(&second)),
+        (vec![1, 3, 5], vec![5])
+    );
+}
+
 /// A thousand Prepares in a row, 64 in flight at once.
 #[test]
 fn many_prepares_are_sent() {

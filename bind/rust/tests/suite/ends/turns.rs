@@ -67,7 +67,7 @@ impl Counts {
         }
     }
 
-    /// Each stream's last byte came with the last quarter of all Prepares.
+    /// Each stream's last byte arrived with the last quarter of all Prepares.
     fn check(&self) {
         for last in self.last {
             let last = last.expect("all bytes arrived");
