@@ -1,9 +1,10 @@
 #!/usr/bin/env bash
-# Time and peak memory of `frames`, next to a baseline in Rust (bench/frames_baseline.rs) and, if one is named, another build of the
-# program, over three inputs (bench/frames_input.py) which fill the windows of all 64 streams: 8.4 million bytes of lines with frames
-# of 16,000 bytes; 12.1 million of lines with frames of 40 bytes; and these in another order. The best of seven runs of each, in
-# turns. Each one's bytes a second are also given as a part of the last one's. Needs GNU time, and `rustc` for the baseline. Manually,
-# on a quiet machine: bench/frames.sh [OTHER_PROGRAM]. PROGRAM names the program, if it is not the one of this repository.
+# Time and peak memory of `frames`, next to a baseline in Rust (bench/frames_baseline.rs) and, if one is named, another build of
+# the program, over three inputs (bench/frames_input.py) which fill the windows of all 64 streams: 8.4 million bytes of lines with
+# frames of 16,000 bytes; 12.1 million of lines with frames of 40 bytes; and these in another order. The best of seven runs of
+# each, in turns. Each one's bytes a second are also given as a part of the last one's. Needs GNU time, and `rustc` for the
+# baseline. Manually, on a quiet machine: bench/frames.sh [OTHER_PROGRAM]. PROGRAM names the program, if it is not the one of this
+# repository.
 set -euo pipefail
 top=$(cd "$(dirname "$0")/.." && pwd)
 program=${PROGRAM:-$top/crates/ilpstream/out/ilpstream}

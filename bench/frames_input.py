@@ -1,7 +1,7 @@
 #!/usr/bin/env python3
 """Lines for `ilpstream frames`, 8.4 million bytes of them and more: each of the 64 streams gets its whole window of 65,536 bytes, in
-StreamData frames of at most 16,000 bytes, one to a line: frames_input.py [ROUNDS [PIECE [SEED]]]. With ROUNDS, as many such inputs
-one after the other: what follows the first brings bytes that are buffered already. With PIECE, frames of at most as many bytes.
+StreamData frames of at most 16,000 bytes, one to a line: frames_input.py [ROUNDS [SIZE [SEED]]]. With ROUNDS, as many such inputs
+one after the other: what follows the first brings bytes that are buffered already. With SIZE, frames of at most as many bytes.
 With SEED, the lines in an order that is drawn by it."""
 
 import random
@@ -34,12 +34,12 @@ def line(sequence, stream, offset, data):
 
 
 def main():
-    rounds, piece, seed = [int(it) for it in sys.argv[1:]] + [1, MOST, 0][len(sys.argv) - 1 :]
-    places = [(offset, stream) for offset in range(0, WINDOW, piece) for stream in range(1, STREAMS + 1)]
+    rounds, size, seed = [int(it) for it in sys.argv[1:]] + [1, MOST, 0][len(sys.argv) - 1 :]
+    places = [(offset, stream) for offset in range(0, WINDOW, size) for stream in range(1, STREAMS + 1)]
     if seed:
         random.Random(seed).shuffle(places)
     for sequence, (offset, stream) in enumerate(places * rounds, 1):
-        data = bytes((stream + offset + i) % 251 for i in range(min(piece, WINDOW - offset)))
+        data = bytes((stream + offset + i) % 251 for i in range(min(size, WINDOW - offset)))
         sys.stdout.write(line(sequence, stream, offset, data))
 
 
