@@ -61,6 +61,11 @@ fn three_chunks() -> [u8; 12_288] {
     all
 }
 
+/// The bytes from one place to another, or none.
+fn part(bytes: &[u8], from: usize, to: usize) -> &[u8] {
+    bytes.get(from..to).unwrap_or(&[])
+}
+
 /// "abcdef", of which "ab" is in flight by sequence 1.
 fn partly_sent<'a>(rt: &impl Abort, heap: &'a Heap) -> Unacked<&'a Heap> {
     let mut bytes = Unacked::new(heap);
@@ -126,23 +131,23 @@ fn a_piece_goes_over_chunks(rt: HostRuntime) {
     let heap: Heap = Refusing::new(rt.alloc());
     let all = three_chunks();
     let mut bytes = Unacked::new(&heap);
-    assert!(rt; accept(&mut bytes, &all[..5_000]).is_ok());
-    assert!(rt; accept(&mut bytes, &all[5_000..]).is_ok());
+    assert!(rt; accept(&mut bytes, part(&all, 0, 5_000)).is_ok());
+    assert!(rt; accept(&mut bytes, part(&all, 5_000, 12_288)).is_ok());
     assert!(rt; bytes.room() == 12_288);
     assert!(rt; claim_most(&mut bytes, 1, 4_000).is_ok());
-    assert!(rt; reads(&heap, &bytes, 8_000, &all[4_000..12_000]));
+    assert!(rt; reads(&heap, &bytes, 8_000, part(&all, 4_000, 12_000)));
 }
 
 /// If a request of `accept` is refused, nothing is accepted and nothing is kept.
 #[test]
 fn each_refused_request_accepts_nothing(rt: HostRuntime) {
     let heap: Heap = Refusing::new(rt.alloc());
-    let mut refused = 0;
+    let mut refused = 0_u64;
     for n in 1..20 {
         let mut bytes = Unacked::new(&heap);
         heap.refuse_only(n);
         if accept(&mut bytes, &three_chunks()).is_err() {
-            refused += 1;
+            refused = refused.saturating_add(1);
             assert!(rt; bytes.accepted() == 0);
             assert!(rt; bytes.count() == 0);
             assert!(rt; bytes.room() == 0);
