@@ -2,7 +2,7 @@
 ghost use Rattle.std.specs.Prelude.{◌≡◌};
 ghost use Rattle.st_end.specs.Opened.{IsOpenedBy};
 
-use crate::ends::moment;
+use crate::ends::{client, moment};
 use refusing::Refusing;
 use st_end::{EndError, EndState, Opened, Received, Role};
 use st_ilp::Moment;
@@ -17,11 +17,7 @@ const SECRET: [u8; 32] = [0; 32];
 
 /// A Prepare to "test.b" with two bytes on stream 1 and no money.
 fn prepare(rt: &impl Abort, alloc: Global) -> Vec<u8> {
-    let config = EndConfig::new(16, 1_000, 1_000).expect(rt, "it is allowed");
-    let keys = Keys::of(SECRET);
-    let Ok(mut end) = EndState::new(alloc, Role::Client, keys, "test.a", "test.b", config) else {
-        panic!(rt; "memory");
-    };
+    let mut end = client(rt, alloc, 1_000);
     sure!(rt; end.open_stream() == Ok(1));
     sure!(rt; end.write(1, b"hi") == Ok(()));
     match end.send([9; 12], moment(rt)) {
@@ -33,15 +29,20 @@ fn prepare(rt: &impl Abort, alloc: Global) -> Vec<u8> {
     }
 }
 
-/// A server with this address and the same secret, and its keys once more.
-fn end_and_keys<A: Allocator + Copy>(rt: &impl Abort, alloc: A, own: &str) -> (EndState<A>, Keys)
+/// A server with these addresses and the same secret, and its keys once more.
+fn end_and_keys<A: Allocator + Copy>(
+    rt: &impl Abort,
+    alloc: A,
+    own: &str,
+    peer: &str,
+) -> (EndState<A>, Keys)
     ensures { result.0.keys ≡ result.1 }
 {
     let config = EndConfig::new(16, 1_000, 1_000).expect(rt, "it is allowed");
-    if !is_address(own) {
+    if !is_address(own) || !is_address(peer) {
         panic!(rt; "no address");
     }
-    match EndState::new(alloc, Role::Server, Keys::of(SECRET), own, "test.a", config) {
+    match EndState::new(alloc, Role::Server, Keys::of(SECRET), own, peer, config) {
         Ok(end) => (end, Keys::of(SECRET)),
         Err(refused) => panic!(rt; "refused {}", refused.number()),
     }
@@ -82,8 +83,8 @@ fn opened_bytes_are_answered_alike(rt: HostRuntime) {
     let rt = &rt;
     let alloc = rt.alloc();
     let bytes = prepare(rt, alloc);
-    let (mut one, _) = end_and_keys(rt, alloc, "test.b");
-    let (mut two, keys) = end_and_keys(rt, alloc, "test.b");
+    let (mut one, _) = end_and_keys(rt, alloc, "test.b", "test.a");
+    let (mut two, keys) = end_and_keys(rt, alloc, "test.b", "test.a");
     let again = Vec::from_slice(alloc, &bytes).expect(rt, "memory");
     let opened = Opened::of(alloc, &keys, again);
     let whole = one.receive(&bytes, moment(rt)).expect(rt, "memory");
@@ -103,14 +104,14 @@ fn opening_is_refused_memory(rt: HostRuntime) {
     let heap = Refusing::new(rt.alloc());
     let now = moment(rt);
     let late = Moment::new(1_000_000).expect(rt, "a moment");
-    let (mut end, keys) = end_and_keys(rt, &heap, "test.b");
+    let (mut end, keys) = end_and_keys(rt, &heap, "test.b", "test.a");
     let closed = open(rt, &heap, &keys, &bytes, true);
     sure!(rt; outcome(end.receive_opened(&closed, now)) == Err(EndError::NoMemory));
     sure!(rt; !end.has_stream(1));
-    let (mut other, keys) = end_and_keys(rt, &heap, "test.c");
+    let (mut other, keys) = end_and_keys(rt, &heap, "test.c", "test.a");
     let closed = open(rt, &heap, &keys, &bytes, true);
     sure!(rt; outcome(other.receive_opened(&closed, now)) == Ok((56, 0)));
-    let (mut third, keys) = end_and_keys(rt, &heap, "test.b");
+    let (mut third, keys) = end_and_keys(rt, &heap, "test.b", "test.a");
     let closed = open(rt, &heap, &keys, &bytes, true);
     sure!(rt; outcome(third.receive_opened(&closed, late)) == Ok((57, 0)));
 }
@@ -146,7 +147,7 @@ fn judging_is_refused_memory(rt: HostRuntime) {
     let heap = Refusing::new(rt.alloc());
     for n in 1..1_000_u64 {
         heap.refuse_none();
-        let (mut end, keys) = end_and_keys(rt, &heap, "test.b");
+        let (mut end, keys) = end_and_keys(rt, &heap, "test.b", "test.a");
         let opened = open(rt, &heap, &keys, &bytes, false);
         if !judge_while_refused(rt, &heap, &mut end, &opened, n) {
             sure!(rt; n > 2);
