@@ -10,7 +10,7 @@ WORDS = [it for it in sys.argv[1:] if not it.startswith("--")]
 PROGRAM = os.path.realpath(WORDS[0] if WORDS else f"{TOP}/crates/ilpstream/out/ilpstream")
 STAY = 2_147_483_647  # requests of a connector that does not end by itself
 AT_ONCE = 16  # tests that wait, side by side
-TESTS, WAITING = [], []
+TESTS, WAITING, ONCE = [], [], set()
 RESULTS = []  # of the tests that ran: True, False, or None of one that was skipped
 
 
@@ -27,13 +27,16 @@ def want(is_so, told):
         raise Wrong(told)
 
 
-def test(*rows, waits=False):
-    """Has a function be a test, once for each row of its arguments; if it waits, at the same time as others that do."""
+def test(*rows, waits=False, again=True):
+    """Has a function be a test, once for each row of its arguments; if it waits, at the same time as others that do, and if it then
+    fails, again alone, unless it is not to be."""
 
     def listed(function):
         for row in rows or [()]:
             words = " ".join(map(str, row))
             (WAITING if waits else TESTS).append((f"{function.__name__.replace('_', ' ')} {words}".strip(), function, row))
+        if not again:
+            ONCE.add(function)
         return function
 
     return listed
@@ -128,9 +131,9 @@ class Play:
         return file
 
     @listening
-    def receive(self, *words, token="t", address="test.b", peer="test.a", most=1_000_000, secret=None, port=None, **how):
-        """A receiver that listens; `out` is the path of what it writes."""
-        path = f"{self.room}/{port}.out"
+    def receive(self, *words, token="t", address="test.b", peer="test.a", most=1_000_000, secret=None, port=None, path=None, **how):
+        """A receiver that listens; `path` is that of what it writes."""
+        path = path or f"{self.room}/{port}.out"
         with open(path, "wb") as out:
             ways = [f"--listen={HOST}:{port}", f"--token={token}", f"--address={address}", f"--peer={peer}"]
             it = self.start("receive", [*ways, f"--secret={secret or self.secret}", f"--receive-max={most}", *words], out=out, **how)
@@ -241,7 +244,7 @@ def main():
             show(results, *tried(*it))
         for it, work in begun:
             passed, told = work.result()
-            if passed is False:
+            if passed is False and it[1] not in ONCE:
                 print(f"{told}; it is tried again, alone", flush=True)
                 again.append(it)
             else:

@@ -1,0 +1,19 @@
+#!/usr/bin/env python3
+"""Runs ./ilpstream as whoever uses it does, and compares its output, its errors and its status: program.py [PROGRAM [WORD]]. What it
+writes to standard error, and what it does if a stream is closed or a terminal, `rt ci` does not see. These are the tests of
+program_*.py, in files by command, of liar.py and of tight.py, each of which can be run alone. With a WORD, only the tests whose names
+have it. A line for each test; the last line counts them."""
+import liar  # noqa: F401
+import program_connector  # noqa: F401
+import program_frames  # noqa: F401
+import program_help  # noqa: F401
+import program_ledger  # noqa: F401
+import program_local  # noqa: F401
+import program_receive  # noqa: F401
+import program_send  # noqa: F401
+import program_transfer  # noqa: F401
+import tight  # noqa: F401
+from commands import main
+
+if __name__ == "__main__":
+    raise SystemExit(main())
