@@ -1,6 +1,13 @@
 """What the tests of the real program share: messages of ILP over HTTP (RFC 0035) and packets of ILPv4 (RFC 0027), a peer that
 handles each connection as a test says, free ports, and how a process ended."""
-import datetime, hashlib, os, re, socket, subprocess, threading, time
+import datetime
+import hashlib
+import os
+import re
+import socket
+import subprocess
+import threading
+import time
 
 SECRET = "000102030405060708090a0b0c0d0e0f101112131415161718191a1b1c1d1e1f"
 HOST = "127.0.0.1"
@@ -119,6 +126,11 @@ def fields_at(packet):
 def fulfill(preimage=bytes(32)):
     """An ILP Fulfill without data."""
     return b"\x0d" + octets(preimage + octets(b""))
+
+
+def reject(code, by, text=b""):
+    """An ILP Reject without data."""
+    return b"\x0e" + octets(code + octets(by) + octets(text) + octets(b""))
 
 
 def use_up(process, port, token):

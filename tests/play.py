@@ -1,13 +1,20 @@
 """What tests of the real program start and share: a test's processes, with a folder of their own, that end with it; the list of
 the tests of a file; and how they are run and counted. A file of tests is called FILE.py [PROGRAM [WORD]]."""
-import os, pty, shlex, socket, subprocess, sys, tempfile, time
+import os
+import pty
+import shlex
+import socket
+import subprocess
+import sys
+import tempfile
+import time
 from concurrent.futures import ThreadPoolExecutor
 
 from peers import GIVING, HOST, SECRET, Peer, ended, free_port, listens
+from repository import BUILT, TOP, read_bytes
 
-TOP = os.path.join(os.path.dirname(os.path.realpath(__file__)), "..")
 WORDS = [it for it in sys.argv[1:] if not it.startswith("--")]
-PROGRAM = os.path.realpath(WORDS[0] if WORDS else f"{TOP}/crates/ilpstream/out/ilpstream")
+PROGRAM = os.path.realpath(WORDS[0] if WORDS else BUILT)
 STAY = 2_147_483_647  # requests of a connector that does not end by itself
 AT_ONCE = 16  # tests that wait, side by side
 TESTS, WAITING, ONCE = [], [], set()
@@ -46,14 +53,22 @@ def some_bytes(count):
     return bytes(n % 251 for n in range(count % 251)) + bytes(range(251)) * (count // 251)
 
 
+def comes(is_so, seconds=10):
+    """Whether something is so within some seconds."""
+    until = time.monotonic() + seconds
+    while not (found := is_so()) and time.monotonic() < until:
+        time.sleep(0.02)
+    return found
+
+
 def until_it_listens(process):
     """Whether a command listens within 30 seconds."""
-    until = time.monotonic() + 30
-    while time.monotonic() < until and process.poll() is None:
-        if listens(process.port):
-            return True
-        time.sleep(0.02)
-    return False
+    return comes(lambda: process.poll() is not None or listens(process.port), 30) and process.poll() is None
+
+
+def has_to_listen(process, what):
+    if not until_it_listens(process):
+        raise Wrong(f"{what} does not listen: {ended(process, 1)}")
 
 
 def listening(start):
@@ -80,6 +95,15 @@ def shared_object(play, name):
     except (OSError, subprocess.CalledProcessError) as error:
         raise Skipped(f"no cc: {error}") from None
     return path
+
+
+def arrives(sender, receiver, content, seconds=20):
+    """Both ends of a transfer end well, the sender within some seconds, and all bytes arrived. How long it took."""
+    begun = time.monotonic()
+    told = ended(sender, seconds), ended(receiver, 10)
+    came = read_bytes(receiver.path)
+    want(told == ("0", "0") and came == content, f"send {told[0]}, receive {told[1]}, and {len(came)} of {len(content)} bytes arrived")
+    return f"{time.monotonic() - begun:.1f} s"
 
 
 def stands(process, command):

@@ -4,8 +4,26 @@ of runs that end with a fault. With a WORD, only the tests whose names have it. 
 import os
 import tty
 
-from commands import CONNECTOR, ILPSTREAM, NO_FILES, TABLE, Begun, Ran, bad_option, fault, instead, keeps_events, main, option_of, refuses, run, same
-from commands import source, totals_after, without
+from commands import (
+    CONNECTOR,
+    ILPSTREAM,
+    NO_FILES,
+    TABLE,
+    Begun,
+    Ran,
+    bad_option,
+    fault,
+    instead,
+    keeps_events,
+    main,
+    option_of,
+    refuses,
+    run,
+    same,
+    source,
+    totals_after,
+    without,
+)
 from peers import HOST, free_port
 from play import test, until_it_listens, want
 
@@ -84,7 +102,7 @@ GOOD = {
         "account NAME=NAME=alice 100 10 e - -\nroute test.b 0\n"
     ),
     "no account": "\n",
-    "one account between spaces": " account  1 2 t - - \\r\n",
+    "one account between spaces": " account  1 2 t - - \r\n",
 }
 
 

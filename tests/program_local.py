@@ -6,6 +6,7 @@ import os
 
 from commands import Ran, fault, main, refuses, run, same
 from play import test, want
+from repository import read, read_bytes, write, write_bytes
 
 NUMBERS = "".join(f"{it}\n" for it in range(1, 101))
 MOST = 1_048_576  # bytes of an input
@@ -14,23 +15,15 @@ MOST = 1_048_576  # bytes of an input
 def sent(play, size):
     """A file of so many random bytes, and its path."""
     path = f"{play.room}/sent"
-    with open(path, "wb") as file:
-        file.write(os.urandom(size))
+    write_bytes(path, os.urandom(size))
     return path
 
 
 def arrive(play, size, *words):
     """Random bytes are sent, and the same are printed."""
     path, came = sent(play, size), f"{play.room}/came"
-    same(run(play, "local", *words, given=path, out=came), Ran())
-    with open(path, "rb") as file, open(came, "rb") as other:
-        content = other.read()
-        want(content == file.read(), f"{len(content)} bytes were printed, which are not the {size} that were sent")
-
-
-def content(path):
-    with open(path, encoding="ascii") as file:
-        return file.read()
+    same(run(play, "local", *words, given=path, out=came, bound=600), Ran())
+    want(read_bytes(came) == read_bytes(path), f"{os.path.getsize(came)} bytes were printed, which are not the {size} that were sent")
 
 
 @test()
@@ -79,21 +72,24 @@ def bytes_on_32_streams(play):
 
 # How many Prepares there are: one for each 16,000 bytes, one for the close, and one more for each that is lost.
 
+NUMBERS_OF_70_000 = "sends 8\nlost 2\nbound 8\n"
+
 
 @test()
 def the_numbers_of_prepares_are_those_of_the_bytes(play):
     path = f"{play.room}/sends"
     arrive(play, 70_000, "--hops", "2", "--lose", "3", "--totals", path)
-    same(content(path), "sends 8\nlost 2\nbound 8\n")
+    same(read(path), NUMBERS_OF_70_000)
     return "8, of which 2 are lost"
 
 
 @test()
-def a_fault_leaves_the_numbers_of_prepares(play):
+def a_fault_leaves_the_numbers_of_an_earlier_run(play):
     path = f"{play.room}/sends"
+    write(path, NUMBERS_OF_70_000)
     same(run(play, "local", "--lose", "1", "--totals", path, given=b"a"), fault(58))
-    same(content(path).split("\n")[0], "sends 8")
-    return "sends 8"
+    same(read(path), NUMBERS_OF_70_000)
+    return "58"
 
 
 @test()

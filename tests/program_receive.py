@@ -5,9 +5,27 @@ counts them."""
 import subprocess
 import time
 
-from commands import NO_FILES, RECEIVE, TABLE, Begun, bad_option, both, fault, instead, keeps_events, lacks, main, option_of, refuses, run, same, totals_after
+from commands import (
+    NO_FILES,
+    RECEIVE,
+    TABLE,
+    Begun,
+    bad_option,
+    both,
+    fault,
+    instead,
+    keeps_events,
+    lacks,
+    main,
+    option_of,
+    refuses,
+    run,
+    same,
+    totals_after,
+)
 from peers import HOST, SECRET, free_port
 from play import test, until_it_listens, want
+from repository import write
 
 
 @test(("--listen=:7771",), ("--token=a b",), ("--secret=g",), ("--address=",), ("--peer=.b",))
@@ -61,8 +79,7 @@ KEYS = {"token": "t\n", "secret": f"{SECRET}\n"}
 @test(*[(key, what) for key in KEYS for what in ("a good line", "no byte")])
 def a_receiver_with_a_file_for_its(play, key, what):
     path, number = f"{play.room}/{key}", 80 if what == "a good line" else 98
-    with open(path, "w", encoding="ascii") as file:
-        file.write(KEYS[key] if what == "a good line" else "")
+    write(path, KEYS[key] if what == "a good line" else "")
     same(run(play, *instead(RECEIVE, f"--{key}", f"--{key}-file={path}"), given=b"abc\n"), fault(number, left="abc\n"))
     return number
 

@@ -5,9 +5,26 @@ for each test; the last line counts them."""
 import glob
 import os
 
-from commands import NO_FILES, SEND, TABLE, bad_option, both, fault, instead, keeps_events, lacks, main, option_of, refuses, run, same, totals_after
+from commands import (
+    NO_FILES,
+    SEND,
+    TABLE,
+    bad_option,
+    both,
+    fault,
+    instead,
+    keeps_events,
+    lacks,
+    main,
+    option_of,
+    refuses,
+    run,
+    same,
+    totals_after,
+)
 from peers import HOST, SECRET
 from play import test
+from repository import write_bytes
 
 REACHING = ["send", f"--to={HOST}:1", "--token=t", f"--secret={SECRET}", "--address=test.a", "--peer=test.b"]
 
@@ -130,8 +147,7 @@ FILES = ["filed.log", "filed.totals"]
 def filed(play, number, *changes, token=b"t\n", secret=DIGITS + b"\n"):
     """How a sender ends whose token and secret are in files with these bytes, or that has other options, and which files it made."""
     for name, content in (("token", token), ("secret", secret)):
-        with open(f"{play.room}/{name}", "wb") as file:
-            file.write(content)
+        write_bytes(f"{play.room}/{name}", content)
     words = instead(instead(SEND, "--token", f"--token-file={play.room}/token"), "--secret", f"--secret-file={play.room}/secret")
     for word in changes:
         words = instead(words, option_of(word), word)
@@ -206,8 +222,7 @@ def totals_of_a_sender_that_reaches_nobody(play):
 @test()
 def a_sender_whose_random_bytes_are_one_iv(play):
     path = f"{play.room}/iv"
-    with open(path, "wb") as file:
-        file.write(b"twelve bytes")
+    write_bytes(path, b"twelve bytes")
     ran = run(play, *REACHING, "--money=500", f"--random={path}", given=b"abc")
     same(ran._replace(left=""), fault(90))
     return "90"

@@ -13,6 +13,7 @@ import time
 
 from peers import GIVING, HOST, SECRET, asked, free_port, request
 from play import PROGRAM, main, some_bytes, test, until_it_listens, want
+from repository import write_bytes
 
 INPUT = some_bytes(70_000)
 TABLE = b"account 500 500 alice - -\naccount 500 500 bob 127.0.0.1:9 hub\nroute example.bob 1\n"
@@ -163,8 +164,7 @@ def too_little_memory_for(play, command):
     paths = {}
     for name, content in (("bytes", INPUT), ("table", TABLE), ("routes", ROUTES)):
         paths[name] = f"{play.room}/{name}"
-        with open(paths[name], "wb") as file:
-            file.write(content)
+        write_bytes(paths[name], content)
     runs = {
         "words": words(),
         "local": local(paths["bytes"]),

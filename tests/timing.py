@@ -28,7 +28,8 @@ import sys
 import tempfile
 from dataclasses import dataclass, field
 
-TOP = os.path.realpath(os.path.join(os.path.dirname(os.path.realpath(__file__)), ".."))
+from repository import TOP, read, write
+
 LISTS = f"{TOP}/tests/timing"
 LOOKED_AT = re.compile(r"^(st_aes::|st_keys::|sha2::|bench_aes::\w+_again$)")
 # The functions that have to be there, by the program's name, so that nothing passes unseen because its name changed. A name that
@@ -343,17 +344,16 @@ def listed(path):
     lines, function = collections.OrderedDict(), None
     if not os.path.exists(path):
         return lines
-    with open(path, encoding="utf-8") as text:
-        for line in text.read().splitlines():
-            if not line.strip() or line.startswith("#"):
-                continue
-            if not line.startswith(" "):
-                function = line.strip()
-                lines[(function, "")] = (0, "named")
-                continue
-            what, _, reason = line.strip().partition("  -- ")
-            count, _, what = what.partition(" ")
-            lines[(function, what)] = (int(count), reason.strip())
+    for line in read(path).splitlines():
+        if not line.strip() or line.startswith("#"):
+            continue
+        if not line.startswith(" "):
+            function = line.strip()
+            lines[(function, "")] = (0, "named")
+            continue
+        what, _, reason = line.strip().partition("  -- ")
+        count, _, what = what.partition(" ")
+        lines[(function, what)] = (int(count), reason.strip())
     return lines
 
 
@@ -384,9 +384,8 @@ def built(level):
     try:
         for name in "crates.txt", "HANDLES":
             shutil.copy(f"{TOP}/{name}", room)
-        lines = [line for line in open(f"{TOP}/crates.txt", encoding="utf-8") if re.match(r"^(st_aes|bench_aes):", line)]
-        with open(f"{room}/crates.txt", "w", encoding="utf-8") as out:
-            out.writelines(lines)
+        lines = re.findall(r"(?m)^(?:st_aes|bench_aes):.*\n", read("crates.txt"))
+        write(f"{room}/crates.txt", "".join(lines))
         for crate in "st_aes", "bench_aes":
             shutil.copytree(f"{TOP}/crates/{crate}", f"{room}/crates/{crate}", symlinks=True)
         subprocess.run(
@@ -428,8 +427,7 @@ def compare(seen, lines, wanted):
 
 def fixtures():
     """Whether each function of tests/timing/planted.s is named for what the comment before it says, and for nothing else."""
-    with open(f"{LISTS}/planted.s", encoding="utf-8") as source:
-        wanted = {name: what for what, name in re.findall(r'^# (.*)\n"([^"]+)":', source.read(), re.M)}
+    wanted = {name: what for what, name in re.findall(r'^# (.*)\n"([^"]+)":', read(f"{LISTS}/planted.s"), re.M)}
     with tempfile.TemporaryDirectory() as room:
         subprocess.run(["cc", "-nostdlib", "-shared", "-o", f"{room}/planted", f"{LISTS}/planted.s"], check=True)
         seen = seen_in(followed(functions(f"{room}/planted"), {}), {})
