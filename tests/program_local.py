@@ -13,7 +13,7 @@ MOST = 1_048_576  # bytes of an input
 
 
 def sent(play, size):
-    """A file of so many random bytes, and its path."""
+    """A file of that size with random bytes, and its path."""
     path = f"{play.room}/sent"
     write_bytes(path, os.urandom(size))
     return path

@@ -1,6 +1,6 @@
 #!/usr/bin/env python3
 """Runs `receive` as its users do, without a sender: program_receive.py [PROGRAM [WORD]]. Bad options, tokens and secrets in files, and
-a patience in which no valid request comes. With a WORD, only the tests whose names have it. A line for each test; the last line
+a patience in which no valid request arrives. With a WORD, only the tests whose names have it. A line for each test; the last line
 counts them."""
 import subprocess
 import time

@@ -163,6 +163,23 @@ def specs(rows):
     return "\n".join(head + out + ["    []"]) + "\n"
 
 
+def of_ten(tens, used):
+    """The lines of the array of ten numbers, of those that have a text, and of the function that gives it."""
+    cells = [f"    Some(FAULT_{n})," if n in used else "    None," for n in range(TEN * tens, TEN * (tens + 1))]
+    start = f"static TENS_{tens}: [Option<&str>; {TEN}] ="
+    return [
+        *([f"{start} [", *cells, "];"] if any("FAULT" in cell for cell in cells) else [f"{start} [None; {TEN}];"]),
+        "",
+        f"/// What `explain` prints for {TEN * tens} to {TEN * tens + TEN - 1}.",
+        f"fn tens_{tens}() -> &'static [Option<&'static str>; {TEN}]",
+        f"    ensures {{ map (option_map (λ t. t.now)) result.now ≡ map explanation (range_with_len {TEN * tens} {TEN}) }}",
+        "{",
+        f"    &TENS_{tens}",
+        "}",
+        "",
+    ]
+
+
 def source(rows):
     used = sorted({row.number for row in rows})
     head = [
@@ -181,19 +198,7 @@ def source(rows):
         out += [f'{name} "{text}";', ""] if fits else [name, f'    "{text}";', ""]
     most = used[-1] // TEN
     for tens in range(most + 1):
-        cells = [f"    Some(FAULT_{n})," if n in used else "    None," for n in range(TEN * tens, TEN * (tens + 1))]
-        start = f"static TENS_{tens}: [Option<&str>; {TEN}] ="
-        out += [f"{start} [", *cells, "];"] if any("FAULT" in cell for cell in cells) else [f"{start} [None; {TEN}];"]
-        out += [
-            "",
-            f"/// What `explain` prints for {TEN * tens} to {TEN * tens + TEN - 1}.",
-            f"fn tens_{tens}() -> &'static [Option<&'static str>; {TEN}]",
-            f"    ensures {{ map (option_map (λ t. t.now)) result.now ≡ map explanation (range_with_len {TEN * tens} {TEN}) }}",
-            "{",
-            f"    &TENS_{tens}",
-            "}",
-            "",
-        ]
+        out += of_ten(tens, used)
     out += [
         f"/// What `explain` prints for the {TEN} numbers from `{TEN} * tens` on. `None` if no number there has a text.",
         f"pub(crate) fn texts(tens: u8) -> Option<&'static [Option<&'static str>; {TEN}]>",
