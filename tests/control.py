@@ -81,6 +81,11 @@ def transfers(play, port, receiver, money=500):
     arrives(sender, receiver, CONTENT, 30)
 
 
+def answered(hub, amount):
+    """The answer to a Prepare of an amount."""
+    return asked((HOST, hub.port), request("t", prepare(amount, 30, "test.b")))[1]
+
+
 def refused_at(port):
     """Whether nothing accepts a connection at a port."""
     try:
@@ -244,8 +249,7 @@ def what_is_open_is_finished_and_nothing_more_is_taken(play):
     slow = held_back(play, 3)
     hub = connector(play, table_to(slow.port), f"--control={control}", f"--ledger={books}")
     answers = []
-    ask = lambda: answers.append(asked((HOST, hub.port), request("t", prepare(70, 30, "test.b"))))
-    asking = [threading.Thread(target=ask) for _ in range(8)]
+    asking = [threading.Thread(target=lambda: answers.append(answered(hub, 70))) for _ in range(8)]
     for it in asking:
         it.start()
     awaits(lambda: slow.number == 8, "not all came to the neighbour", 10)
@@ -256,7 +260,7 @@ def what_is_open_is_finished_and_nothing_more_is_taken(play):
     for it in asking:
         it.join()
     want(told == "0", f"it ended with {told}")
-    kinds = [body[:1] for _, body in answers]
+    kinds = [body[:1] for body in answers]
     want(kinds == [b"\x0d"] * 8, f"answers {kinds}")
     want(totals(hub.totals).get("account 0 claims") == 560, f"totals {totals(hub.totals)}")
     ran = subprocess.run([PROGRAM, "ledger", books], capture_output=True, timeout=20, check=False)
@@ -551,12 +555,11 @@ def a_limit_that_is_lowered_counts_from_then_on(play):
     control, slow = fifo(play), held_back(play, 0)
     path = table_file(play, table_to(slow.port))
     hub = connector(play, None, f"--table={path}", f"--control={control}")
-    ask = lambda: asked((HOST, hub.port), request("t", prepare(70, 30, "test.b")))[1][:1]
-    want(ask() == b"\x0d", "the first is not fulfilled")
+    want(answered(hub, 70)[:1] == b"\x0d", "the first is not fulfilled")
     renews(hub, control, path, table_to(slow.port).replace("account 1000000000", "account 100", 1))
     # (what is asked before the table of before is done with may still be fulfilled, and then the limit does not fit)
     time.sleep(1)
-    want(ask() == b"\x0e", "a Prepare above the limit is fulfilled")
+    want(answered(hub, 70)[:1] == b"\x0e", "a Prepare above the limit is fulfilled")
     want(totals(hub.totals).get("account 0 claims") is None, "totals before they are asked for")
     stops(hub, control)
     want(totals(hub.totals)["account 0 claims"] == 70, f"totals {totals(hub.totals)}")
@@ -603,14 +606,13 @@ def a_table_that_does_not_fit_with(play, what, has_books):
     path = table_file(play, named(("alice", 10_000, "t", 0), ("bob", 0, "u", slow.port), routes=[("test.b", 1)]))
     books = [f"--ledger={play.room}/books"] if has_books else []
     hub = connector(play, None, f"--table={path}", f"--control={control}", *books)
-    ask = lambda: asked((HOST, hub.port), request("t", prepare(500, 30, "test.b")))[1][:1]
-    want(ask() == b"\x0d", "the first is not fulfilled")
+    want(answered(hub, 500)[:1] == b"\x0d", "the first is not fulfilled")
     make, why = MISFITS[what]
     why = why if has_books else "the table does not fit what is owed, or out of memory"
     write_table(path, make(slow.port))
     order(control, "table")
     logs(hub, f'control failed line="table" words="{why}"', 5)
-    want(ask() == b"\x0d", "the next is not fulfilled")
+    want(answered(hub, 500)[:1] == b"\x0d", "the next is not fulfilled")
     stops(hub, control)
     found = totals(hub.totals)
     want((found["account 0 claims"], found["account 1 dues"]) == (1_000, 1_000), f"totals {found}")

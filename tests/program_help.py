@@ -2,6 +2,8 @@
 """Asks the program for its version, its help, and what numbers mean: program_help.py [PROGRAM [WORD]]. The texts of errors are
 those of docs/errors.toml; tests/documents.py compares all faults of a help with docs/ERRORS.md. With a WORD, only the tests whose
 names have it. A line for each test; the last line counts them."""
+import re
+
 from commands import TABLE, Ran, fault, has, main, refuses, run, same
 from play import test
 
@@ -84,7 +86,7 @@ def the_help_ends_with_the_faults_of(play, command):
     wanted = f"{FAULTS[command]}\n`ilpstream explain N` says what each number means.\n"
     lines = run(play, command, "--help").out.splitlines(keepends=True)
     same("".join(lines[-wanted.count("\n") :]), wanted)
-    return f"{FAULTS[command].count(',') + 1} numbers"
+    return f"{len(re.findall(r'\d+', FAULTS[command]))} numbers"
 
 
 # What a number means.

@@ -101,4 +101,5 @@ def main():
         table(subjects, seconds)
 
 
-main()
+if __name__ == "__main__":
+    main()
