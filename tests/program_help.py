@@ -86,7 +86,7 @@ def the_help_ends_with_the_faults_of(play, command):
     wanted = f"{FAULTS[command]}\n`ilpstream explain N` says what each number means.\n"
     lines = run(play, command, "--help").out.splitlines(keepends=True)
     same("".join(lines[-wanted.count("\n") :]), wanted)
-    return f"{len(re.findall(r'\d+', FAULTS[command]))} numbers"
+    return f"{len(re.findall('[0-9]+', FAULTS[command]))} numbers"
 
 
 # What a number means.

@@ -33,7 +33,11 @@ def used(tree):
 
 def findings(text):
     """What is to be changed in a file, each with its line."""
-    tree = ast.parse(text)
+    try:
+        tree = ast.parse(text)
+    except SyntaxError as error:
+        yield error.lineno, f"it is not Python: {error.msg}"
+        return
     if not ast.get_docstring(tree):
         yield 1, "it has no docstring"
     names = used(tree)
@@ -54,6 +58,7 @@ PLANTED = {
     '"""A."""\ndef long():\n' + "    pass\n" * LINES: [f"long has {LINES + 1} lines; at most {LINES}"],
     '"""A."""\nif 1:\n    import os\n    os.getpid()\n': ["an import within a block"],
     '"""A."""\nimport os\nprint(os)\n': [],
+    "if:\n": ["it is not Python: invalid syntax"],
 }
 
 
