@@ -75,7 +75,7 @@ NO_DIGITS = {
     "a space within": f"{PACKET[:4]} {PACKET[4:]}\n",
     "a tab alone": "\t\n",
     "letters that are not digits": "zz\n",
-    "one digit": "0\n",
+    "one digit without LF": "0",
     "a CR within": "01\r0c\n",
     "two CR before its LF": "010c\r\r\n",
     "a CR before the end of the input": "010c\r",
