@@ -9,7 +9,8 @@ from typing import NamedTuple
 
 import play as tests
 from peers import BOUND, GIVING, HOST, SECRET
-from play import PROGRAM, TOP, WORDS, want
+from play import PROGRAM, WORDS, want
+from repository import TOP
 
 # What a user runs, which builds the program if it has to; or the program that is named.
 ILPSTREAM = PROGRAM if WORDS else f"{TOP}/ilpstream"
@@ -56,14 +57,14 @@ def refuses(ran, left=""):
     same(ran._replace(errors=""), Ran(status=2, left=left))
 
 
-def instead(words, option, word):
-    """These arguments with another one in the place of an option."""
-    want(any(it.partition("=")[0] == option for it in words), f"there is no {option}")
-    return [word if it.partition("=")[0] == option else it for it in words]
-
-
 def option_of(word):
     return word.partition("=")[0]
+
+
+def instead(words, option, word):
+    """These arguments with another one in the place of an option."""
+    want(option in map(option_of, words), f"there is no {option}")
+    return [word if option_of(it) == option else it for it in words]
 
 
 # How a command runs.

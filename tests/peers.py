@@ -219,6 +219,7 @@ def ended(process, bound):
         process.kill()
         process.communicate()
         return "waits"
+    errors = errors or b""  # (they may be a file)
     fault = re.fullmatch(rb"fault (\d+)\n", errors)
     if process.returncode == 1 and fault:
         return fault[1].decode()

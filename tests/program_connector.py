@@ -25,7 +25,8 @@ from commands import (
     without,
 )
 from peers import HOST, free_port
-from play import test, until_it_listens, want
+from play import has_to_listen, test
+from repository import read
 
 ZEROS = """\
 account 0 claims 0 dues 0 held 0
@@ -162,8 +163,7 @@ def totals_of_a_connector_at_its_output(play):
 def totals_of_a_connector_at_the_end_of_a_link(play):
     os.symlink(f"{play.room}/far", f"{play.room}/link")
     run(play, *CONNECTOR, f"--totals={play.room}/link", given=TABLE.encode())
-    with open(f"{play.room}/far", encoding="ascii") as file:
-        same((file.read(), os.readlink(f"{play.room}/link")), (ZEROS, f"{play.room}/far"))
+    same((read(f"{play.room}/far"), os.readlink(f"{play.room}/link")), (ZEROS, f"{play.room}/far"))
     return "0"
 
 
@@ -181,7 +181,7 @@ def totals_of_a_connector_at_a_full_device(play):
     with source(TABLE.encode()) as given:
         it = Begun(play, ["connector", f"--listen={HOST}:{port}", "--own=test.hub", "--requests=1", "--totals=/dev/full"], given)
     it.process.port = port
-    want(until_it_listens(it.process), "it does not listen")
+    has_to_listen(it.process, "it")
     play.knock(port)
     same(it.end(), fault(91))
     return "91"

@@ -5,7 +5,8 @@ docs/ERRORS.md. With a WORD, only the tests whose names have it. A line for each
 import os
 
 from commands import EXAMPLE, ILPSTREAM, Ran, fault, has, main, refuses, run, same, without
-from play import PROGRAM, TOP, test
+from play import PROGRAM, test
+from repository import TOP
 
 STREAMS = "stream 1 4 61626364\nstream 3 3 686f6b\n"  # of the example
 PACKET = "010c010201000101140701010100026162"

@@ -24,7 +24,7 @@ from commands import (
     totals_after,
 )
 from peers import HOST, SECRET, free_port
-from play import test, until_it_listens, want
+from play import has_to_listen, test, want
 from repository import write
 
 
@@ -118,7 +118,7 @@ def a_receiver_with_patience_gets(play, what):
     it = Begun(play, ["receive", *words], subprocess.DEVNULL)
     if SILENT[what] is not None:
         it.process.port = int(words[0].rpartition(":")[2])
-        want(until_it_listens(it.process), "it does not listen")
+        has_to_listen(it.process, "it")
         play.knock(it.process.port)
         play.connect(it.process.port, SILENT[what])
     same(it.end(20), fault(88))

@@ -7,7 +7,8 @@ import subprocess
 
 from commands import Begun, Ran, main, run, same
 from peers import HOST, SECRET, free_port, free_ports
-from play import TOP, test, until_it_listens, want
+from play import has_to_listen, test
+from repository import TOP, read, write
 
 # What the sender paid the connector claims from its account, and what it owes the receiver's is the receiver's credit.
 TRANSFERRED = """\
@@ -40,18 +41,16 @@ def a_token_and_a_secret_in_files_at(play, command):
     """At the other end they are given."""
     path, port = f"{TOP}/README.md", free_port()
     for name, line in (("token", "t"), ("secret", SECRET)):
-        with open(f"{play.room}/{name}", "w", encoding="ascii", newline="") as file:
-            file.write(f"{line}\r\n")
+        write(f"{play.room}/{name}", f"{line}\r\n")
     keys = {"given": ["--token=t", f"--secret={SECRET}"], "filed": [f"--token-file={play.room}/token", f"--secret-file={play.room}/secret"]}
     way = {"receive": keys["filed" if command == "receive" else "given"], "send": keys["filed" if command == "send" else "given"]}
     words = [f"--listen={HOST}:{port}", *way["receive"], "--address=test.b", "--peer=test.a", "--patience=20"]
     receiver = Begun(play, ["receive", *words], subprocess.DEVNULL)
     receiver.process.port = port
-    want(until_it_listens(receiver.process), "it does not listen")
+    has_to_listen(receiver.process, "the receiver")
     ran = run(play, "send", f"--to={HOST}:{port}", *way["send"], "--address=test.a", "--peer=test.b", given=path)
     same(ran, Ran())
-    with open(path, encoding="utf-8") as file:
-        same(receiver.end(), Ran(file.read()))
+    same(receiver.end(), Ran(read(path)))
     return f"{os.path.getsize(path)} bytes"
 
 
