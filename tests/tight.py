@@ -3,6 +3,7 @@
 from a step above what the program just starts in to what it runs well in. A run writes a beginning of what it should and reports a
 numbered fault, or it writes all and has status 0. With a WORD, only the tests whose names have it. A line for each command has the
 ways in which its runs ended, each once; the last line counts them."""
+import functools
 import os
 import re
 import resource
@@ -62,6 +63,7 @@ def judged(status, errors, written, whole):
     return f"WRONG: status {status}, {len(written)} bytes, {errors[:200]!r}"
 
 
+@functools.cache
 def least():
     """The least space in which the program starts."""
     low, high = 0, 1 << 30
@@ -154,9 +156,10 @@ def sweep(run, low):
     return f"WRONG: does not end well, {', '.join(sorted(met))}"
 
 
-# What is in the line of each command: that it ended with a fault, waits, or ends well.
-LINES = {}
+# How the line of a command begins. A connector of one account needs no more than the least; a receiver that cannot answer waits for a
+# request that it can.
 WANTED = {"words": "fault 99, well", "local": "fault 99, well", "send": "fault "}
+WAITS = "waits, well"  # in the line of a receiver
 
 
 @test(*[(it,) for it in ("words", "local", "connector", "routes", "connector with books", "receive", "send")])
@@ -174,8 +177,9 @@ def too_little_memory_for(play, command):
         "receive": transfer(paths["bytes"], "receive"),
         "send": transfer(paths["bytes"], "send"),
     }
-    told = LINES[command] = sweep(runs[command], least())
+    told = sweep(runs[command], least())
     want("WRONG" not in told and told.startswith(WANTED.get(command, "")), told)
+    want(command != "receive" or WAITS in told, told)
     return told
 
 
