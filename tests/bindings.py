@@ -26,14 +26,14 @@ import importlib.util
 import os
 import re
 import shutil
-import socket
 import subprocess
 import sys
 import tempfile
 
 import readme
+from peers import HOST, free_ports
+from repository import TOP, files, kit, read, read_bytes, write, write_bytes
 
-TOP = os.path.realpath(os.path.join(os.path.dirname(os.path.realpath(__file__)), ".."))
 HEADER, GUARDED, MEMORY = "bind/c/ilpstream.h", "bind/c/calls.c", "bind/c/ilpstream_memory.h"
 ERRORS, CODES = "docs/ERRORS.md", "crates/st_embed/src/code.rt"
 RUST, PYTHON = "bind/rust/src", "bind/python/ilpstream/_declared.py"
@@ -54,14 +54,8 @@ SECONDS = 600
 BUILD_SECONDS = 1_500
 
 
-def read(path):
-    with open(f"{TOP}/{path}", encoding="utf-8") as source:
-        return source.read()
-
-
 def sources(pattern):
-    paths = sorted(glob.glob(f"{TOP}/{pattern}", recursive=True))
-    return "\n".join(read(os.path.relpath(path, TOP)) for path in paths)
+    return "\n".join(map(read, files(pattern)))
 
 
 # ---- declarations: of each call, its parameters and what it returns, as texts such as 'u32', '*u8', 'const *u8', 'const u8[32]',
@@ -218,9 +212,8 @@ def guarded(call):
 
 def allocator(texts):
     """Findings about the functions by which the archive allocates: the kit's crate libc declares them."""
-    kit = os.path.dirname(os.path.realpath(subprocess.run(["rt", "doc"], capture_output=True, text=True).stdout.split()[0]))
-    with open(f"{kit}/rattle/libc/src/heap.rt", encoding="utf-8") as source:
-        declared = dict(re.findall(r"fn (rattle_\w+)\((.*?)\)", re.sub(r"//.*", "", source.read()), re.S))
+    heap = read(f"{kit()}/rattle/libc/src/heap.rt")
+    declared = dict(re.findall(r"fn (rattle_\w+)\((.*?)\)", re.sub(r"//.*", "", heap), re.S))
     # (a Memory has no bytes: nothing is passed for it)
     real = {name: [it.split(":")[1].strip() for it in split(of) if "Memory" not in it] for name, of in declared.items()}
     in_c = {"void *": "*mut u8", "size_t ": "usize"}
@@ -530,8 +523,7 @@ def run_chain(count, room, sender):
     """A sender, which is given its arguments, and a connector and a receiver of bind/rust, on one machine."""
     examples, secret = f"{TOP}/bind/rust/target/release/examples", os.urandom(32).hex()
     sent = os.urandom(1 << 20)
-    with open(f"{room}/sent", "wb") as file:
-        file.write(sent)
+    write_bytes(f"{room}/sent", sent)
     with open(f"{room}/got", "wb") as got:
         words = [f"{examples}/receiver", "127.0.0.1:0", "hub-at-bob", secret, "example.bob", "example.alice", "500"]
         receiver = Listening(words, output=got)
@@ -543,10 +535,8 @@ def run_chain(count, room, sender):
                 ran = subprocess.run(words, stdin=source, stderr=subprocess.PIPE, text=True, timeout=SECONDS)
             credited = receiver.end()
             connector.stop()
-    with open(f"{room}/got", "rb") as file:
-        is_whole = file.read() == sent
-    with open(f"{room}/balances") as file:
-        last = file.read().splitlines()[-2:]
+    is_whole = read_bytes(f"{room}/got") == sent
+    last = read(f"{room}/balances").splitlines()[-2:]
     wanted = ["account 0 claims 500 dues 0 held 0", "account 1 claims 0 dues 500 held 0"]
     good = is_whole and last == wanted and ran.returncode == 0 and credited.endswith("credited 500\n")
     count.add(good, f"{words[0]} over bind/rust: {ran.returncode}, whole {is_whole}, {last}, {ran.stderr!r}, {credited!r}")
@@ -593,8 +583,7 @@ def run_sanitized(count, folder, room, places):
     # (the flag is one of the nightly compiler, and this variable allows it to every other)
     places = {**places, "RUSTC_BOOTSTRAP": "1"}
     for source, wanted in FAULTS:
-        with open(f"{room}/planted.rs", "w", encoding="utf-8") as file:
-            file.write(source)
+        write(f"{room}/planted.rs", source)
         words = ["rustc", "-Zsanitizer=address", "--target", target, f"{room}/planted.rs", "-o", f"{room}/planted"]
         if count.run("a build with AddressSanitizer", words, folder=room, **places) is not None:
             ran = subprocess.run([f"{room}/planted"], capture_output=True, text=True, errors="replace", timeout=SECONDS)
@@ -648,24 +637,13 @@ def run_python(count, out):
     count.run("tests/plain.py", [sys.executable, f"{TOP}/tests/plain.py"], " 0 differences", folder, **places)
 
 
-def free_ports(count):
-    """Ports that nobody listens at."""
-    sockets = [socket.socket() for _ in range(count)]
-    for it in sockets:
-        it.bind(("127.0.0.1", 0))
-    ports = [it.getsockname()[1] for it in sockets]
-    for it in sockets:
-        it.close()
-    return [f"127.0.0.1:{port}" for port in ports]
-
-
 def run_wallets(count, out, room):
     """Two wallets of bind/python by asyncio, each of which sends bytes and units to the other over the connector of bind/rust."""
     connector_program = f"{TOP}/bind/rust/target/release/examples/connector"
     if not os.access(connector_program, os.X_OK):
         count.add(False, f"there is no {connector_program} for the wallets")
         return
-    alice, bob = free_ports(2)
+    alice, bob = (f"{HOST}:{port}" for port in free_ports(2))
     table = (
         f"account 10000 500 alice-at-hub {alice} hub-at-alice\naccount 10000 500 bob-at-hub {bob} hub-at-bob\n"
         "route example.alice 0\nroute example.bob 1\n"
@@ -679,8 +657,7 @@ def run_wallets(count, out, room):
     ]
     processes = []
     for place, words in enumerate(sides):
-        with open(f"{room}/wallet-{place}", "wb") as file:
-            file.write(sent[place])
+        write_bytes(f"{room}/wallet-{place}", sent[place])
         with open(f"{room}/wallet-{place}", "rb") as source, open(f"{room}/received-{place}", "wb") as output:
             words = [sys.executable, f"{TOP}/bind/python/examples/wallet.py", *words]
             processes.append(subprocess.Popen(words, stdin=source, stdout=output, stderr=subprocess.PIPE, text=True, env=places))
@@ -692,10 +669,7 @@ def run_wallets(count, out, room):
             process.kill()
             ends.append((process.communicate()[1], "time"))
     connector.stop()
-    received = []
-    for place in range(2):
-        with open(f"{room}/received-{place}", "rb") as file:
-            received.append(file.read())
+    received = [read_bytes(f"{room}/received-{place}") for place in range(2)]
     good = received == sent[::-1] and ends == [("paid 70, credited 30\n", 0), ("paid 30, credited 70\n", 0)]
     count.add(good, f"the wallets: {[len(it) for it in received]} bytes arrived, {ends}")
 

@@ -3,18 +3,26 @@
 cause after another, and each is distinguished by the sender's log alone. Each event is seen once with its whole line. A bad table is reported with
 its line, for each rule of the whole table. No secret and no token is in any output, and what a peer sends forges no line. The last
 line counts the tests."""
-import fcntl, os, re, resource, select, signal, sys, threading, time
+import fcntl
+import os
+import re
+import resource
+import select
+import signal
+import sys
+import threading
+import time
 
-from peers import HOST, SECRET, Full, answer, ended, free_port, fulfill, message, octets, prepare, request, asked
-from play import Wrong, disk, main, some_bytes, stands, table_to, test, want
+from peers import HOST, Full, answer, asked, ended, free_port, fulfill, message, prepare, reject, request
+from play import comes, disk, main, some_bytes, stands, table_to, test, want
+from repository import read as read_text, read_bytes, write
 
 DATE = r"\d{4}-\d\d-\d\dT\d\d:\d\d:\d\d\.\d{3}Z "
 
 
 def lines(process):
     """The lines of a process's log without their dates, each of which has one."""
-    with open(process.log, encoding="ascii") as file:
-        text = file.read()
+    text = read_text(process.log, "ascii")
     want(text.endswith("\n") and "\r" not in text, f"log {text[-80:]!r}")
     found = text.split("\n")[:-1]
     for line in found:
@@ -50,11 +58,6 @@ def fails(play, port, fault, words, *wanted, given=some_bytes(10_000), options=(
     seen = causes(sender)
     want(seen == sorted([*wanted, last]), f"log {seen}")
     return " / ".join(wanted)
-
-
-def reject(code, by, text=b""):
-    """An ILP Reject without data (RFC 0027)."""
-    return b"\x0e" + octets(code + octets(by) + octets(text) + octets(b""))
 
 
 def answering(play, body):
@@ -227,11 +230,11 @@ def a_message_of_65_kb_is_cut(play, name):
 # The other side's log, of which a line is written once its answer was sent.
 
 
-def comes(process, wanted, *left_out):
+def logs(process, wanted, *left_out):
     """The log of a process that continues has just these kinds of lines, within ten seconds, but for these events."""
-    until = time.monotonic() + 10
-    while (seen := kinds(process, "start", "listening", "more", "totals", *left_out)) != wanted and time.monotonic() < until:
-        time.sleep(0.02)
+    left_out = ("start", "listening", "more", "totals", *left_out)
+    comes(lambda: kinds(process, *left_out) == wanted)
+    seen = kinds(process, *left_out)
     want(seen == wanted, f"log {seen}")
     return " / ".join(seen)
 
@@ -248,7 +251,7 @@ def a_connector_says_what_it_refused_and_what_failed(play):
     hub = play.connector(table_to(free_port()))
     ended(play.send(hub.port, some_bytes(1_000), "--workers=1"), 60)
     refused = refusal(play, hub.port)
-    return comes(hub, [f'connection status=401 from="{refused}"', "exchange neighbour=1 cause=refused"])
+    return logs(hub, [f'connection status=401 from="{refused}"', "exchange neighbour=1 cause=refused"])
 
 
 @test(waits=True)
@@ -258,7 +261,7 @@ def a_receiver_says_what_it_refused(play):
     refused, cut = refusal(play, receiver.port), play.connect(receiver.port, b"POST")
     name = "{}:{}".format(*cut.getsockname())
     cut.close()
-    return comes(receiver, [f'connection cut from="{name}"', f'connection status=401 from="{refused}"', "refused neighbour=0 code=F06 reason=31"])
+    return logs(receiver, [f'connection cut from="{name}"', f'connection status=401 from="{refused}"', "refused neighbour=0 code=F06 reason=31"])
 
 
 @test(waits=True)
@@ -285,7 +288,7 @@ def a_connector_whose_neighbour_takes_no_connection(play):
     play.peers.append(full)
     hub = play.before(full)
     asked_once(play, hub, 3)
-    return comes(hub, ["exchange neighbour=1 cause=timeout"])
+    return logs(hub, ["exchange neighbour=1 cause=timeout"])
 
 
 @test((HOST,), ("localhost",), waits=True)
@@ -296,7 +299,7 @@ def a_connector_without_descriptors_before(play, host):
     resource.prlimit(hub.pid, resource.RLIMIT_NOFILE, (3, resource.prlimit(hub.pid, resource.RLIMIT_NOFILE)[1]))
     asked_once(play, hub, 5)
     # (it ends once it cannot accept for a second)
-    return comes(hub, ["exchange neighbour=1 cause=descriptors"], "end")
+    return logs(hub, ["exchange neighbour=1 cause=descriptors"], "end")
 
 
 @test(waits=True)
@@ -335,8 +338,7 @@ def a_log_that_is_full_changes_nothing_but_the_status(play):
     sender = play.send(receiver.port, content, log="/dev/full")
     told = ended(sender, 30), ended(receiver, 30)
     want(told == ("91", "0"), f"send {told[0]}, receive {told[1]}")
-    with open(receiver.path, "rb") as file:
-        want(file.read() == content, "not all came")
+    want(read_bytes(receiver.path) == content, "not all came")
     sender = play.send(free_port(), content, log="/dev/full")
     told = ended(sender, 60)
     want(told == "58", f"send {told}")
@@ -412,8 +414,7 @@ def a_pipe_without_a_reader_stops_no_transfer(play):
     sender = play.send(hub.port, content, log=paths[0])
     told = ended(sender, 20), ended(receiver, 20)
     want(told == ("0", "0"), f"send {told[0]}, receive {told[1]}")
-    with open(receiver.path, "rb") as file:
-        want(file.read() == content, "not all came")
+    want(read_bytes(receiver.path) == content, "not all came")
     stands(hub, "connector")
     return f"{time.monotonic() - begun:.1f} seconds"
 
@@ -501,8 +502,7 @@ def a_log_whose_disk_was_full_goes_on(play):
     """The first line is cut if the disk is full. Once there is room, it is completed, and all lines since are written."""
     place, within, seen = disk(play, "64k")
     before = ("x" * 99 + "\n") * 40 + "y" * 65 + "\n"  # 30 bytes less than a page
-    with open(f"{seen}/log", "w", encoding="ascii") as file:
-        file.write(before)
+    write(f"{seen}/log", before)
     with open(f"{seen}/filler", "wb", buffering=0) as file:
         try:
             while file.write(bytes(4_096)):
@@ -512,19 +512,13 @@ def a_log_whose_disk_was_full_goes_on(play):
     hub = play.connector(table_to(free_port()), program=within, log=f"{place}/log")
     for _ in range(5):
         asked((HOST, hub.port), request("x", b"\0"), 5)
-    with open(f"{seen}/log", encoding="ascii") as file:
-        full = file.read()
+    full = read_text(f"{seen}/log", "ascii")
     want(len(full) == 4_096 and full.startswith(before), f"the log has {len(full)} bytes on a full disk")
     os.remove(f"{seen}/filler")
     hub.log = f"{seen}/log"
     asked((HOST, hub.port), request("x", b"\0"), 5)
-    until = time.monotonic() + 10
-    while time.monotonic() < until:
-        with open(hub.log, encoding="ascii") as file:
-            text = file.read().removeprefix(before)
-        if text.count(" connection status=401 ") == 6 and text.endswith("\n"):
-            break
-        time.sleep(0.05)
+    comes(lambda: read(hub.log).count(b" connection status=401 ") == 6 and read(hub.log).endswith(b"\n"))
+    text = read_text(hub.log, "ascii").removeprefix(before)
     refused = rf'{DATE}connection status=401 from="127\.0\.0\.1:\d+"\n'
     want(re.fullmatch(rf"{DATE}start [^\n]+\n{DATE}listening [^\n]+\n(?:{refused}){{6}}", text), f"log {text!r}")
     return "each line is whole"

@@ -1,6 +1,10 @@
 """Confines a process as systemd would by the settings of a unit: its system calls, address families, memory that is written and
 run, capabilities, open files and umask. Folders, users and devices are left as they are."""
-import ctypes, os, re, resource, struct
+import ctypes
+import os
+import re
+import resource
+import struct
 
 from installed import environment, installed, said
 from play import Wrong

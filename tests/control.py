@@ -2,10 +2,17 @@
 """Asks `connector` and `receive` things while they run: control.py [PROGRAM [WORD]]. An endless connector, the line that says where a
 command listens, the lines of `--control`, and a table that is read anew. With a WORD, only the tests whose names have it. A line for
 each test; the last line counts them. No test takes more than three quarters of a minute."""
-import errno, os, re, socket, subprocess, threading, time
+import errno
+import os
+import re
+import socket
+import subprocess
+import threading
+import time
 
 from peers import HOST, answer, asked, ended, free_port, fulfill, listens, message, prepare, request, totals
-from play import PROGRAM, Wrong, main, some_bytes, stands, table_to, test, until_it_listens, want
+from play import PROGRAM, Wrong, arrives, comes, has_to_listen, main, some_bytes, stands, table_to, test, want
+from repository import read, read_bytes, write, write_bytes
 
 CONTENT = some_bytes(50_000)
 # the longest time between an order and what it does
@@ -13,9 +20,9 @@ SOON = 3
 
 
 def told_by(path):
+    """The text of a file, and none if it is not there."""
     try:
-        with open(path, encoding="ascii", errors="replace") as file:
-            return file.read()
+        return read(path, "ascii", "replace")
     except FileNotFoundError:
         return ""
 
@@ -25,17 +32,14 @@ def lines(process, path=None):
     return [it.partition(" ")[2] for it in told_by(path or process.log).split("\n")[:-1]]
 
 
-def comes(is_so, told, bound=SOON):
+def awaits(is_so, told, bound=SOON):
     """Waits until something is so."""
-    until = time.monotonic() + bound
-    while not is_so():
-        if time.monotonic() > until:
-            raise Wrong(told() if callable(told) else told)
-        time.sleep(0.02)
+    if not comes(is_so, bound):
+        raise Wrong(told() if callable(told) else told)
 
 
 def logs(process, line, bound=SOON):
-    comes(lambda: line in lines(process), lambda: f"no line {line!r}: {lines(process)[-5:]}", bound)
+    awaits(lambda: line in lines(process), lambda: f"no line {line!r}: {lines(process)[-5:]}", bound)
 
 
 def fifo(play):
@@ -59,8 +63,7 @@ def connector(play, table, *words, requests="--endless", port=None, **how):
     given = subprocess.DEVNULL if table is None else play.file(table.encode())
     it = play.start("connector", [f"--listen={HOST}:{port}", "--own=test.hub", requests, *words], given=given, **how)
     it.port = port
-    if not until_it_listens(it):
-        raise Wrong(f"a connector does not listen: {ended(it, 1)}")
+    has_to_listen(it, "a connector")
     return it
 
 
@@ -75,10 +78,12 @@ def stops(process, control, bound=SOON):
 
 def transfers(play, port, receiver, money=500):
     sender = play.send(port, CONTENT, f"--money={money}")
-    sent, received = ended(sender, 30), ended(receiver, 30)
-    with open(receiver.path, "rb") as file:
-        came = file.read()
-    want((sent, received, came == CONTENT) == ("0", "0", True), f"send {sent}, receive {received}, {len(came)} bytes")
+    arrives(sender, receiver, CONTENT, 30)
+
+
+def answered(hub, amount):
+    """The answer to a Prepare of an amount."""
+    return asked((HOST, hub.port), request("t", prepare(amount, 30, "test.b")))[1]
 
 
 def refused_at(port):
@@ -171,7 +176,7 @@ def a_port_that_is_given_is_told_by(play, command):
 @test(("connector",), ("receive",), waits=True)
 def the_log_alone_tells_it_without_verbose(play, command):
     it = any_port(play, command)
-    comes(lambda: any(one.startswith("listening address=") for one in lines(it)), lambda: f"log {lines(it)}", 10)
+    awaits(lambda: any(one.startswith("listening address=") for one in lines(it)), lambda: f"log {lines(it)}", 10)
     port = int(lines(it)[1].rpartition(":")[2])
     want(listens(port), f"nothing listens at {port}")
     it.kill()
@@ -194,8 +199,7 @@ def an_address_in_use_is_not_told_as_listening(play):
 
 def not_pipes(play):
     file, folder = f"{play.room}/file", f"{play.room}/folder"
-    with open(file, "w", encoding="ascii") as it:
-        it.write("stop\n")
+    write(file, "stop\n")
     os.mkdir(folder)
     return {"nothing": (f"{play.room}/none", "not found"), "a file": (file, "not a pipe"), "a folder": (folder, "not a pipe")}
 
@@ -245,19 +249,18 @@ def what_is_open_is_finished_and_nothing_more_is_taken(play):
     slow = held_back(play, 3)
     hub = connector(play, table_to(slow.port), f"--control={control}", f"--ledger={books}")
     answers = []
-    ask = lambda: answers.append(asked((HOST, hub.port), request("t", prepare(70, 30, "test.b"))))
-    asking = [threading.Thread(target=ask) for _ in range(8)]
+    asking = [threading.Thread(target=lambda: answers.append(answered(hub, 70))) for _ in range(8)]
     for it in asking:
         it.start()
-    comes(lambda: slow.number == 8, "not all came to the neighbour", 10)
+    awaits(lambda: slow.number == 8, "not all came to the neighbour", 10)
     order(control, "stop")
-    comes(lambda: refused_at(hub.port), "a connection is accepted after the stop")
+    awaits(lambda: refused_at(hub.port), "a connection is accepted after the stop")
     stands(hub, "connector")
     told = ended(hub, 15)
     for it in asking:
         it.join()
     want(told == "0", f"it ended with {told}")
-    kinds = [body[:1] for _, body in answers]
+    kinds = [body[:1] for body in answers]
     want(kinds == [b"\x0d"] * 8, f"answers {kinds}")
     want(totals(hub.totals).get("account 0 claims") == 560, f"totals {totals(hub.totals)}")
     ran = subprocess.run([PROGRAM, "ledger", books], capture_output=True, timeout=20, check=False)
@@ -310,7 +313,7 @@ def totals_are_written_when_they_are_asked_for(play):
     transfers(play, hub.port, receiver)
     want(not os.path.exists(hub.totals) or totals(hub.totals) == {}, "the totals are there before")
     order(control, "totals")
-    comes(lambda: totals(hub.totals).get("account 0 claims") == 500, lambda: f"totals {totals(hub.totals)}")
+    awaits(lambda: totals(hub.totals).get("account 0 claims") == 500, lambda: f"totals {totals(hub.totals)}")
     want(any(re.match(r"totals neighbour=0 claims=500 ", it) for it in lines(hub)), f"log {lines(hub)}")
     stands(hub, "connector")
     return "500"
@@ -323,14 +326,14 @@ def totals_of_a_receiver_are_written_when_they_are_asked_for(play):
     given, writer = play.pipe()
     sender = play.send(receiver.port, given, "--money=500")
     writer.write(CONTENT)
-    comes(lambda: os.path.getsize(receiver.path) == len(CONTENT), "not all came", 20)
+    awaits(lambda: os.path.getsize(receiver.path) == len(CONTENT), "not all came", 20)
 
     def told():
         order(control, "totals")
         time.sleep(0.3)
         return totals(receiver.totals) == {"accepted": 0, "delivered": len(CONTENT), "credited": 500, "paid": 0}
 
-    comes(told, lambda: f"totals {totals(receiver.totals)}", 5)
+    awaits(told, lambda: f"totals {totals(receiver.totals)}", 5)
     writer.write(b"x" * 60_000)
     writer.close()
     want((ended(sender, 30), ended(receiver, 30)) == ("0", "0"), "the transfer does not end")
@@ -346,10 +349,9 @@ def a_receiver_that_stops(play):
     given, writer = play.pipe()
     sender = play.send(receiver.port, given, "--money=500")
     writer.write(CONTENT)
-    comes(lambda: os.path.getsize(receiver.path) == len(CONTENT), "not all came", 20)
+    awaits(lambda: os.path.getsize(receiver.path) == len(CONTENT), "not all came", 20)
     stops(receiver, control)
-    with open(receiver.path, "rb") as file:
-        want(file.read() == CONTENT, "another file came")
+    want(read_bytes(receiver.path) == CONTENT, "another file came")
     want(totals(receiver.totals).get("delivered") == len(CONTENT), f"totals {totals(receiver.totals)}")
     sender.kill()
     return "stopped"
@@ -370,9 +372,9 @@ def a_log_that_was_moved_is_opened_anew_by(play, command):
     old = f"{play.room}/old.log"
     os.rename(it.log, old)
     order(control, "totals")
-    comes(lambda: 'control line="totals"' in lines(it, old), "the log is not at the place that it was moved to")
+    awaits(lambda: 'control line="totals"' in lines(it, old), "the log is not at the place that it was moved to")
     order(control, "log")
-    comes(lambda: os.path.exists(it.log) and 'control line="log"' in lines(it), lambda: f"the new log {lines(it)}")
+    awaits(lambda: os.path.exists(it.log) and 'control line="log"' in lines(it), lambda: f"the new log {lines(it)}")
     before = told_by(old)
     stops(it, control)
     want(told_by(old) == before and before.endswith("\n"), "the old log is written to")
@@ -389,7 +391,7 @@ def a_log_that_cannot_be_opened_anew_stays(play):
     os.rename(folder, old)
     order(control, "log")
     wanted = 'control failed line="log" words="not found"'
-    comes(lambda: wanted in lines(hub, f"{old}/log"), lambda: f"log {lines(hub, old + '/log')}")
+    awaits(lambda: wanted in lines(hub, f"{old}/log"), lambda: f"log {lines(hub, old + '/log')}")
     order(control, "stop")
     want(ended(hub, SOON) == "0", "it does not end")
     want(lines(hub, f"{old}/log")[-1] == "end ok", "the old log is not continued")
@@ -473,8 +475,7 @@ def table_file(play, table):
 
 
 def write_table(path, table):
-    with open(f"{path}.next", "w", encoding="ascii") as file:
-        file.write(table)
+    write(f"{path}.next", table)
     os.replace(f"{path}.next", path)
 
 
@@ -483,7 +484,7 @@ def renews(hub, control, path, table, answer_line='control line="table"'):
     write_table(path, table)
     before = lines(hub).count(answer_line)
     order(control, "table")
-    comes(lambda: lines(hub).count(answer_line) == before + 1, lambda: f"log {lines(hub)[-5:]}")
+    awaits(lambda: lines(hub).count(answer_line) == before + 1, lambda: f"log {lines(hub)[-5:]}")
 
 
 def named(*accounts, routes=()):
@@ -503,8 +504,7 @@ def a_table_in_a_file(play):
 @test(waits=True)
 def a_table_in_a_file_needs_no_input(play):
     path = f"{play.room}/closed"
-    with open(path, "w", encoding="ascii") as file:
-        file.write(f'#!/bin/bash\nexec {PROGRAM} "$@" <&-\n')
+    write(path, f'#!/bin/bash\nexec {PROGRAM} "$@" <&-\n')
     os.chmod(path, 0o755)
     hub = connector(play, None, f"--table={table_file(play, table_to(1))}", program=path)
     stands(hub, "connector")
@@ -555,12 +555,11 @@ def a_limit_that_is_lowered_counts_from_then_on(play):
     control, slow = fifo(play), held_back(play, 0)
     path = table_file(play, table_to(slow.port))
     hub = connector(play, None, f"--table={path}", f"--control={control}")
-    ask = lambda: asked((HOST, hub.port), request("t", prepare(70, 30, "test.b")))[1][:1]
-    want(ask() == b"\x0d", "the first is not fulfilled")
+    want(answered(hub, 70)[:1] == b"\x0d", "the first is not fulfilled")
     renews(hub, control, path, table_to(slow.port).replace("account 1000000000", "account 100", 1))
     # (what is asked before the table of before is done with may still be fulfilled, and then the limit does not fit)
     time.sleep(1)
-    want(ask() == b"\x0e", "a Prepare above the limit is fulfilled")
+    want(answered(hub, 70)[:1] == b"\x0e", "a Prepare above the limit is fulfilled")
     want(totals(hub.totals).get("account 0 claims") is None, "totals before they are asked for")
     stops(hub, control)
     want(totals(hub.totals)["account 0 claims"] == 70, f"totals {totals(hub.totals)}")
@@ -584,8 +583,7 @@ def a_table_changes_nothing_with(play, what):
     if table is None:
         os.remove(path)
     else:
-        with open(path, "wb") as file:
-            file.write(table.encode("ascii", "surrogateescape"))
+        write_bytes(path, table.encode("ascii", "surrogateescape"))
     order(control, "table")
     logs(hub, f'control failed line="table" words="{why}"')
     want(all(any(it.startswith(one) for it in lines(hub)) for one in told), f"log {lines(hub)}")
@@ -608,14 +606,13 @@ def a_table_that_does_not_fit_with(play, what, has_books):
     path = table_file(play, named(("alice", 10_000, "t", 0), ("bob", 0, "u", slow.port), routes=[("test.b", 1)]))
     books = [f"--ledger={play.room}/books"] if has_books else []
     hub = connector(play, None, f"--table={path}", f"--control={control}", *books)
-    ask = lambda: asked((HOST, hub.port), request("t", prepare(500, 30, "test.b")))[1][:1]
-    want(ask() == b"\x0d", "the first is not fulfilled")
+    want(answered(hub, 500)[:1] == b"\x0d", "the first is not fulfilled")
     make, why = MISFITS[what]
     why = why if has_books else "the table does not fit what is owed, or out of memory"
     write_table(path, make(slow.port))
     order(control, "table")
     logs(hub, f'control failed line="table" words="{why}"', 5)
-    want(ask() == b"\x0d", "the next is not fulfilled")
+    want(answered(hub, 500)[:1] == b"\x0d", "the next is not fulfilled")
     stops(hub, control)
     found = totals(hub.totals)
     want((found["account 0 claims"], found["account 1 dues"]) == (1_000, 1_000), f"totals {found}")
@@ -679,7 +676,7 @@ def a_stop_goes_before_a_table(play):
     hub = connector(play, None, f"--table={path}", f"--control={control}")
     asking = threading.Thread(target=asked, args=((HOST, hub.port), request("t", prepare(70, 30, "test.b"))))
     asking.start()
-    comes(lambda: slow.number == 1, "nothing came to the neighbour", 10)
+    awaits(lambda: slow.number == 1, "nothing came to the neighbour", 10)
     order(control, "table")
     logs(hub, 'control line="table"')
     order(control, "stop", "table")

@@ -26,9 +26,8 @@ import subprocess
 import sys
 import tomllib
 
-TOP = os.path.realpath(os.path.join(os.path.dirname(os.path.realpath(__file__)), ".."))
-sys.path.insert(0, f"{TOP}/tools")
-import crates as repository  # noqa: E402
+import repository
+from repository import TOP, files, read
 
 CODE = re.compile(r"`([^`]+)`")
 
@@ -58,15 +57,6 @@ OTHERS = {
     "numbers that calls return": {"st_embed": "DONE IDLE MISUSE ARGUMENT ROOM UNKNOWN ENDED ABORTED ONWARD"},
     "the number of the one stream that `send` and `receive` use": {"st_transfer": "STREAM"},
 }
-
-
-def read(path):
-    with open(f"{TOP}/{path}", encoding="utf-8") as source:
-        return source.read()
-
-
-def files(pattern):
-    return sorted(os.path.relpath(path, TOP) for path in glob.glob(f"{TOP}/{pattern}", recursive=True))
 
 
 class Count:
@@ -426,7 +416,7 @@ def exists(name):
 
 def check_conformance(count):
     where = "docs/CONFORMANCE.md"
-    for name in ("st_oer: Spelling.octets", "st_hop: settle.settled", "st_end: EndState::new", "tests/edges.py: transfer"):
+    for name in ("st_oer: Spelling.octets", "st_hop: settle.settled", "st_end: EndState::new", "tests/edges.py: whole"):
         count.check(exists(name), f"{where}: {name} was not found")
         count.check(not exists(f"{name}_x"), f"{where}: {name}_x was found, and there is none")
     rows, sections = rows_of(where, "Requirement", count), [header for header, _ in tables(where) if header[0] == "Requirement"]
@@ -463,8 +453,7 @@ def words_of_sources():
             path = os.path.relpath(f"{at}/{name}", TOP)
             found.update(re.findall(r"\w+", path))
             if not name.endswith((".md", ".pyc")):
-                with open(f"{TOP}/{path}", encoding="utf-8", errors="replace") as source:
-                    found.update(re.findall(r"\w+", source.read()))
+                found.update(re.findall(r"\w+", read(path, errors="replace")))
     return found
 
 
@@ -499,7 +488,7 @@ def check_names_in_code(count):
 
 # ---- levels of processors, and the C library
 
-PROGRAM, LIBRARY = "crates/ilpstream/out/ilpstream", "bind/out/libilpstream.so.0"
+PROGRAM, LIBRARY = os.path.relpath(repository.BUILT, TOP), "bind/out/libilpstream.so.0"
 LEVEL = r"x86-64-v(\d)"
 # What a page says of levels: the sentence about them, and whose levels it names, in their order.
 SAID = {

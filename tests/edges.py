@@ -2,11 +2,40 @@
 """Runs `send`, `receive` and `connector` at their edges: edges.py [PROGRAM [WORD]]. Links that fail and recover, peers that stop,
 many connections, too few threads and files. With a WORD, only the tests whose names have it. A line for each test says how long
 it took or what was measured, or what is wrong; the last line counts them. Tests that wait for a time-out run side by side."""
-import glob, os, pty, re, resource, select, shlex, shutil, socket, struct, subprocess, sys, threading, time
+import glob
+import os
+import pty
+import re
+import resource
+import select
+import shlex
+import shutil
+import socket
+import struct
+import subprocess
+import sys
+import threading
+import time
 
-from peers import HOST, Full, Peer, answer, asked, ended, fields_at, free_port, free_ports, fulfill, message, prepare, request
-from peers import totals, use_up
-from play import PROGRAM, Skipped, Wrong, main, shared_object, some_bytes, stands, table_to, test, want
+from peers import (
+    HOST,
+    Full,
+    Peer,
+    answer,
+    asked,
+    ended,
+    fields_at,
+    free_port,
+    free_ports,
+    fulfill,
+    message,
+    prepare,
+    request,
+    totals,
+    use_up,
+)
+from play import PROGRAM, Skipped, Wrong, arrives, comes, main, shared_object, some_bytes, stands, table_to, test, want
+from repository import read, read_bytes, write
 
 MANY = 200  # transfers at once
 
@@ -14,22 +43,13 @@ MANY = 200  # transfers at once
 def whole(receiver, content, bound):
     """A receiver ends well in these seconds, and wrote these bytes."""
     told = ended(receiver, bound)
-    with open(receiver.path, "rb") as file:
-        came = file.read()
+    came = read_bytes(receiver.path)
     want(told == "0" and came == content, f"receive {told}, {len(came)} of {len(content)} bytes, {'' if content.startswith(came) else 'not '}a beginning")
 
 
 def ends_well(process, bound):
     told = ended(process, bound)
     want(told == "0", f"send {told} in {bound} seconds")
-
-
-def transfer(sender, receiver, content, bound):
-    """Both ends of a transfer end well in these seconds, and all came. How long it took."""
-    begun = time.monotonic()
-    ends_well(sender, bound)
-    whole(receiver, content, 10)
-    return f"{time.monotonic() - begun:.1f} s"
 
 
 def pass_on(port, stream):
@@ -95,7 +115,7 @@ def a_connector_beside_connections_that_send(play, count, each):
     receiver = play.receive()
     hub = play.before(receiver)
     beside(play, hub.port, count, each)
-    return transfer(play.send(hub.port, content), receiver, content, 15)
+    return arrives(play.send(hub.port, content), receiver, content, 15)
 
 
 @test((1, "nothing"), (300, "nothing"), (4, "a byte each second"), waits=True)
@@ -103,7 +123,7 @@ def a_receiver_beside_connections_that_send(play, count, each):
     content = some_bytes(50_000)
     receiver = play.receive()
     beside(play, receiver.port, count, each)
-    return transfer(play.send(receiver.port, content), receiver, content, 15)
+    return arrives(play.send(receiver.port, content), receiver, content, 15)
 
 
 @test(waits=True)
@@ -112,7 +132,7 @@ def a_receiver_with_patience_beside_a_silent_connection(play):
     receiver = play.receive("--patience=4")
     beside(play, receiver.port, 1, "nothing")
     time.sleep(1)
-    return transfer(play.send(receiver.port, content), receiver, content, 15)
+    return arrives(play.send(receiver.port, content), receiver, content, 15)
 
 
 @test(*[(command, each) for command in ("connector", "receive") for each in ("nothing", "a byte each second")], waits=True)
@@ -143,7 +163,7 @@ def a_patience_that_begins_again_with_each_request(play):
     given, writer = play.pipe()
     sender = play.send(receiver.port, given)
     threading.Thread(target=feed, args=(writer, content, 12), daemon=True).start()
-    return transfer(sender, receiver, content, 40)
+    return arrives(sender, receiver, content, 40)
 
 
 # A connector that goes away.
@@ -168,9 +188,7 @@ def cut_off(play, content, *words):
     given, writer = play.pipe()
     sender = play.send(hub.port, given, "--money=500", *words)
     threading.Thread(target=feed, args=(writer, content, 2), daemon=True).start()
-    until = time.monotonic() + 30
-    while os.path.getsize(receiver.path) < len(content) // 4 and time.monotonic() < until:
-        time.sleep(0.01)
+    comes(lambda: os.path.getsize(receiver.path) >= len(content) // 4, 30)
     hub.kill()
     hub.wait()
     want(sender.poll() is None, "the transfer ended before its middle")
@@ -183,7 +201,7 @@ def a_connector_gone_for_seconds(play, seconds):
     sender, receiver, port = cut_off(play, content)
     time.sleep(seconds)
     play.connector(table_to(receiver.port), port=port)
-    told = transfer(sender, receiver, content, 30)
+    told = arrives(sender, receiver, content, 30)
     paid, credited = totals(sender.totals).get("paid"), totals(receiver.totals).get("credited", 0)
     want(paid == 500 <= credited, f"{paid} paid and {credited} credited of 500")
     return f"{told} from when it was back"
@@ -209,7 +227,7 @@ def a_connector_gone_for_20_seconds_beside_a_sender_with(play, word, wanted):
     time.sleep(20)
     play.connector(table_to(receiver.port), port=port)
     if wanted == "0":
-        return f"{transfer(sender, receiver, content, 30)} from when it was back"
+        return f"{arrives(sender, receiver, content, 30)} from when it was back"
     told = ended(sender, 1)
     want(told == wanted, f"send {told}")
     return wanted
@@ -296,8 +314,7 @@ def a_receiver_that_nothing_comes_to(play):
     sender = play.send(with_one_answer_lost(play, receiver.port).port, content, "--money=500")
     sent, begun = ended(sender, 20), time.monotonic()
     received = ended(receiver, 20)
-    with open(receiver.path, "rb") as file:
-        came = file.read()
+    came = read_bytes(receiver.path)
     want((sent, received, came) == ("59", "88", content), f"send {sent}, receive {received}, {len(came)} bytes")
     return f"88 after {time.monotonic() - begun:.1f} s"
 
@@ -315,7 +332,7 @@ def a_sender_before_a_neighbour_that_takes_no_connection(play):
     # The kernel repeats an attempt to connect, but not between 36 and 60 seconds after its first. A second attempt is needed.
     time.sleep(36.5)
     full.begin()
-    return f"{transfer(sender, receiver, content, 20)} from when it took them"
+    return f"{arrives(sender, receiver, content, 20)} from when it took them"
 
 
 def rejected(play, peer, seconds):
@@ -340,8 +357,7 @@ def with_hosts(play, *hosts):
         subprocess.run([*ways, "true"], check=True, capture_output=True, timeout=20)
     except (OSError, subprocess.SubprocessError) as error:
         raise Skipped(f"no /etc/hosts of its own: {error}") from None
-    with open(path, "w", encoding="ascii") as script:
-        script.write(f'#!/bin/sh\nexec {shlex.join([*ways, PROGRAM])} "$@"\n')
+    write(path, f'#!/bin/sh\nexec {shlex.join([*ways, PROGRAM])} "$@"\n')
     os.chmod(path, 0o700)
     return path
 
@@ -363,7 +379,7 @@ def a_sender_before_a_host_whose_first_address_takes_no_connection(play):
     program = with_hosts(play, HOST, SECOND)
     sender = play.send(first.port, content, "--workers=1", host="twice.test", program=program)
     # (three seconds for the first address, once: the second is kept)
-    return transfer(sender, receiver, content, 8)
+    return arrives(sender, receiver, content, 8)
 
 
 @test(waits=True)
@@ -429,7 +445,7 @@ def a_sender_whose_neighbour_stops_an_answer(play, part):
             cut_answer(stream, part, *asked((HOST, receiver.port), head + body))
 
     sender = play.send(play.peer(handle).port, content, "--workers=1")
-    return transfer(sender, receiver, content, 45)
+    return arrives(sender, receiver, content, 45)
 
 
 @test(*PARTS, waits=True)
@@ -458,7 +474,7 @@ def a_request_stops_at(play, command):
     port = play.before(receiver).port if command == "connector" else receiver.port
     for part in [part] if part else ["in the head", "behind the head", "in the body"] * 2:
         play.connect(port, cut_request(part))
-    return transfer(play.send(port, content), receiver, content, 15)
+    return arrives(play.send(port, content), receiver, content, 15)
 
 
 # Too few threads.
@@ -511,9 +527,7 @@ def a_connector_whose_threads_are_at_most(play, count):
         hub = play.started[-1]
     if hub.poll() is None:
         sender = play.send(hub.port, content)
-        until = time.monotonic() + 30
-        while hub.poll() is None and sender.poll() is None and time.monotonic() < until:
-            time.sleep(0.05)
+        comes(lambda: hub.poll() is not None or sender.poll() is not None, 30)
     if hub.poll() is not None:
         told = ended(hub, 1)
         want(told == "99" and (count == 1 or os.getuid()), f"connector {told}")
@@ -545,8 +559,7 @@ def a_connector_counts_its_answers_with_t00(play):
     want(refused == [b"T00"] * 4 and answers[4] == fulfill(), f"answers {answers}")
     want(found["overloaded"] == 4 and found["account 0 claims"] == 10, f"totals {found}")
     counts = "count 0 fulfilled 1 rejected 0 lost 0 refused 4\ncount 1 fulfilled 0 rejected 0 lost 0 refused 0\ncode 0 T00 4\n"
-    with open(hub.totals, encoding="ascii") as file:
-        told = file.read()
+    told = read(hub.totals, "ascii")
     want(told.endswith(f"held 0\noverloaded 4\n{counts}"), f"it says {told!r}")
     return "4 of 5"
 
@@ -604,7 +617,7 @@ def an_accept_that_fails_at(play, command):
         time.sleep(0.02)
     stands(it, command)
     resource.prlimit(it.pid, resource.RLIMIT_NOFILE, (low, high))
-    return transfer(play.send(it.port, content), receiver, content, 20)
+    return arrives(play.send(it.port, content), receiver, content, 20)
 
 
 @test(("connector",), ("receive",), waits=True)
@@ -635,7 +648,7 @@ def a_connector_with_more_connections_than_files(play):
     for stream in streams:
         stream.close()
     stands(hub, "connector")
-    return transfer(play.send(hub.port, content), receiver, content, 20)
+    return arrives(play.send(hub.port, content), receiver, content, 20)
 
 
 @test(waits=True)
@@ -646,7 +659,7 @@ def a_receiver_with_more_connections_than_files(play):
         play.connect(receiver.port)
     time.sleep(0.5)
     stands(receiver, "receive")
-    return transfer(play.send(receiver.port, content), receiver, content, 20)
+    return arrives(play.send(receiver.port, content), receiver, content, 20)
 
 
 def is_taken(port):
@@ -752,8 +765,7 @@ HOUR = 3_600_000  # milliseconds
 
 def set_clock(play, lead):
     """Sets the clock of the programs that were started with `ahead`: by the given milliseconds it is ahead."""
-    with open(f"{play.room}/lead.new", "w", encoding="ascii") as file:
-        file.write(str(lead))
+    write(f"{play.room}/lead.new", str(lead))
     os.replace(f"{play.room}/lead.new", f"{play.room}/lead")
 
 
@@ -799,7 +811,7 @@ def a_sender_whose_clock_is_set_back(play):
     threading.Thread(target=feed, args=(writer, content, 2), daemon=True).start()
     time.sleep(1)
     set_clock(play, 0)
-    told = transfer(sender, receiver, content, 20)
+    told = arrives(sender, receiver, content, 20)
     steps = steps_back(sender.log)
     want(len(steps) == 1 and HOUR - 30_000 < steps[0] <= HOUR, f"steps {steps} in the log")
     return told
@@ -846,9 +858,7 @@ def an_idle_sender_by_workers(play, workers):
     given, writer = play.pipe()
     sender = play.send(receiver.port, given, f"--workers={workers}")
     writer.write(b"first ")
-    until = time.monotonic() + 20
-    while os.path.getsize(receiver.path) < 6 and time.monotonic() < until:
-        time.sleep(0.02)
+    comes(lambda: os.path.getsize(receiver.path) >= 6, 20)
     time.sleep(0.5)
     before, begun = processor_time(sender.pid), time.monotonic()
     time.sleep(3)
@@ -887,7 +897,7 @@ def a_sender_whose_ring_is_full_is_woken(play):
     content = some_bytes(4_000_000)
     receiver = play.receive()
     # (one that nobody wakes if there is room would wait a second for each of some thirty windows)
-    return transfer(play.send(receiver.port, content), receiver, content, 10)
+    return arrives(play.send(receiver.port, content), receiver, content, 10)
 
 
 def threads(process):
@@ -926,7 +936,7 @@ def exchanges_at_once_by_workers(play, workers):
             open_now[0] -= 1
         stream.sendall(came)
 
-    told = transfer(play.send(play.peer(handle).port, content, f"--workers={workers}"), receiver, content, 40)
+    told = arrives(play.send(play.peer(handle).port, content, f"--workers={workers}"), receiver, content, 40)
     want(most[0] == workers, f"{most[0]} exchanges at once")
     return told
 
@@ -1000,7 +1010,7 @@ def an_account_beside_others_that_take_all_that_they_can(play):
         for n, count in enumerate(HOGS):
             held.append(hog(hub.port, f"hog{n}", count))
             play.open += held[-1]
-        told = transfer(play.send(hub.port, content, "--money=500"), receiver, content, 15)
+        told = arrives(play.send(hub.port, content, "--money=500"), receiver, content, 15)
     finally:
         resource.setrlimit(resource.RLIMIT_NOFILE, (low, high))
     # (no exchange has ended)
@@ -1018,7 +1028,7 @@ def an_account_is_billed_what_its_token_sent(play):
     receiver = play.receive()
     table = f"account 1000000 1000 x - -\naccount 1000000 1000 t - -\naccount 0 0 u {HOST}:{receiver.port} t\nroute test.b 2\n"
     hub = play.connector(table, requests=200)
-    told = transfer(play.send(hub.port, content, "--money=500"), receiver, content, 20)
+    told = arrives(play.send(hub.port, content, "--money=500"), receiver, content, 20)
     use_up(hub, hub.port, "x")
     want(ended(hub, 10) == "0", "the connector does not end")
     claims = {name: number for name, number in totals(hub.totals).items() if number and name.startswith("account")}
@@ -1049,8 +1059,7 @@ def a_receive_max_stops_money_of_which_one_unit_arrives_for_a_thousand(play, mos
     sender = play.send(hub.port, content, "--money=1000000", "--least=1:1000")
     sent, received = ended(sender, 60), ended(receiver, 20)
     money = totals(sender.totals).get("paid"), totals(receiver.totals).get("credited")
-    with open(receiver.path, "rb") as file:
-        came = file.read()
+    came = read_bytes(receiver.path)
     want((sent, received) == ("59", "88") and money == (paid, credited), f"send {sent}, receive {received}, paid and credited {money}")
     want(came == content, f"{len(came)} bytes came")
     with open(sender.log, encoding="ascii") as file:
@@ -1082,21 +1091,15 @@ def a_fulfill_after_seconds_of_two_is_booked_as(play, seconds, wanted):
 # What a connector writes of its totals.
 
 
-def told_by(path):
-    with open(path, encoding="ascii") as file:
-        return file.read()
-
-
 NOTHING = "account 0 claims 0 dues 0 held 0\naccount 1 claims 0 dues 0 held 0\n"
 
 
 @test()
 def a_file_of_totals_is_replaced_at_the_end(play):
     for number in range(1, 9):
-        with open(f"{play.room}/{number}.totals", "w", encoding="ascii") as file:
-            file.write("of an earlier run\n")
+        write(f"{play.room}/{number}.totals", "of an earlier run\n")
     hub = play.connector(table_to(1), requests=3)
-    want(told_by(hub.totals) == "of an earlier run\n", "it is not as it was")
+    want(read(hub.totals, "ascii") == "of an earlier run\n", "it is not as it was")
     first = asked((HOST, hub.port), request("t", prepare(0, 5, "test.x")), 20)[1]
     second = asked((HOST, hub.port), request("t", prepare(0, 5, "test.b")), 20)[1]
     use_up(hub, hub.port, "none")
@@ -1105,7 +1108,7 @@ def a_file_of_totals_is_replaced_at_the_end(play):
     want(found == [b"F02", b"T01"], f"answers {found}")
     # (nobody listens at the second account's place)
     counts = "count 0 fulfilled 0 rejected 0 lost 1 refused 1\ncount 1 fulfilled 0 rejected 0 lost 0 refused 0\n"
-    told = told_by(hub.totals)
+    told = read(hub.totals, "ascii")
     want(told == NOTHING + counts + "code 0 F02 1\ncode 0 T01 1\n", f"it says {told!r}")
     want(not glob.glob(hub.totals + ".new*"), "a file next to it is still there")
     return "F02 and T01"
@@ -1114,15 +1117,14 @@ def a_file_of_totals_is_replaced_at_the_end(play):
 @test(waits=True)
 def a_file_of_totals_is_replaced_each_minute(play):
     for number in range(1, 9):
-        with open(f"{play.room}/{number}.totals", "w", encoding="ascii") as file:
-            file.write("of an earlier run\n")
+        write(f"{play.room}/{number}.totals", "of an earlier run\n")
     hub = play.connector(table_to(1))
     begun = time.monotonic()
     found = asked((HOST, hub.port), request("t", prepare(0, 5, "test.x")), 20)[1][2:5]
-    want(found == b"F02" and told_by(hub.totals) == "of an earlier run\n", f"answer {found}, totals {told_by(hub.totals)!r}")
+    want(found == b"F02" and read(hub.totals, "ascii") == "of an earlier run\n", f"answer {found}, totals {read(hub.totals, 'ascii')!r}")
     seen = set()
     while len(seen) < 2 and time.monotonic() < begun + 75:
-        seen.add(told_by(hub.totals))
+        seen.add(read(hub.totals, "ascii"))
         time.sleep(0.005)
     counts = "count 0 fulfilled 0 rejected 0 lost 0 refused 1\ncount 1 fulfilled 0 rejected 0 lost 0 refused 0\ncode 0 F02 1\n"
     want(seen == {"of an earlier run\n", NOTHING + counts}, f"it said {seen}")

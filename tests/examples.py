@@ -3,12 +3,21 @@
 program that it is for; and the commands of the units are run as systemd would, with other folders, hosts and ports, and with the
 units' limits and system calls (tests/confined.py): they begin a connector and a receiver, read the table again, open the log anew,
 and end them well. A line for each test; the last one counts them. Needs systemd-analyze, logrotate and nginx (tests/installed.py)."""
-import getpass, glob, grp, os, re, shlex, socket, subprocess, time
+import getpass
+import glob
+import grp
+import os
+import re
+import shlex
+import socket
+import subprocess
+import time
 
 from confined import confined
-from installed import EXAMPLES, arrives, certificate, comes, end, environment, installed, read, read_bytes, said, served, with_nginx, written
+from installed import EXAMPLES, certificate, end, environment, installed, said, served, with_nginx, written
 from peers import HOST, answer, asked, ended, free_port, free_ports, fulfill, prepare, request, totals
-from play import PROGRAM, Wrong, main, some_bytes, test, until_it_listens, want
+from play import PROGRAM, arrives, comes, has_to_listen, main, some_bytes, test, want
+from repository import read, read_bytes
 
 UNITS = ("connector", "receive")
 EXPOSURE = 3  # of 10, by `systemd-analyze security`: a unit is below it
@@ -143,8 +152,7 @@ class Service:
         self.process = subprocess.Popen(self.words("ExecStart"), preexec_fn=confined(self.settings), **how)
         self.play.started.append(self.process)
         self.process.port = port
-        if not until_it_listens(self.process):
-            raise Wrong(f"it does not listen: {ended(self.process, 1)}")
+        has_to_listen(self.process, "it")
 
     def stop(self):
         """Ends it by ExecStop, which waits for its end."""

@@ -46,7 +46,7 @@ step() {
 
 program() {
     if [ -x crates/ilpstream/out/ilpstream ]; then
-        step 30 tests/program.sh
+        step 30 tests/program.py
         step 15 tests/edges.py
         step 5 tests/opens.py
         step 5 tests/control.py
@@ -65,6 +65,7 @@ documents() {
     step 5 tests/documents.py
     step 5 tests/prose.py
     step 5 tests/generated.py
+    step 5 tests/style.py
     step 5 tests/manual.py
     step 5 tests/timing.py
     step 5 tests/timing.py --cpu=x86-64-v3

@@ -2,13 +2,13 @@
 """Runs the scripts of crates/*/gen, which write long code and proofs, tools/errors.py, which writes the tables of errors, and
 tools/manual.py, which writes the man page and completions, and compares with what is there. Each finding is a line; the last line counts the files that are as their script writes them, and those
 that are not."""
-import glob
 import os
 import re
 import subprocess
 import sys
 
-TOP = os.path.realpath(os.path.join(os.path.dirname(os.path.realpath(__file__)), ".."))
+from repository import TOP, files
+
 SCRIPTS = ["crates/st_aes/gen/planes.py", "tools/errors.py", "tools/manual.py"]
 COUNT = re.compile(r"^([0-9]+) files as written, ([0-9]+) not$")
 
@@ -31,8 +31,8 @@ def main():
             failed += int(counted[2])
     # A file that says that a script wrote it is one that the script writes.
     known = {os.path.dirname(os.path.dirname(script)) for script in SCRIPTS}
-    for folder in sorted(glob.glob(f"{TOP}/crates/*/gen")):
-        crate = os.path.relpath(os.path.dirname(folder), TOP)
+    for folder in files("crates/*/gen"):
+        crate = os.path.dirname(folder)
         if crate not in known:
             print(f"{crate}/gen: no script of it is run here")
             failed += 1

@@ -2,10 +2,18 @@
 that a test needs: on this machine, or else out of Debian's packages, which are unpacked into a folder of the test's own and
 not installed. One that cannot be had is reported. If the environment has `CI`, as .ci/run sets it, its test failed; elsewhere it
 was skipped, and the script may still end with 0."""
-import getpass, glob, grp, os, shutil, subprocess, sys, tempfile, time
+import getpass
+import glob
+import grp
+import os
+import shutil
+import subprocess
+import sys
+import tempfile
+import time
 
-from peers import HOST, ended
-from play import RESULTS, TOP, Skipped, Wrong, until_it_listens, want
+from play import RESULTS, Skipped, Wrong, has_to_listen, want
+from repository import TOP, read, write
 
 EXAMPLES = os.path.realpath(f"{TOP}/examples")
 FOLDER = tempfile.TemporaryDirectory(prefix="installed-")
@@ -66,38 +74,10 @@ def said(words, seconds=60, **how):
     return ran.returncode, ran.stdout.strip()
 
 
-def read(path):
-    with open(path, encoding="utf-8") as file:
-        return file.read()
-
-
 def written(play, name, text):
     path = f"{play.room}/{name}"
-    with open(path, "w", encoding="utf-8") as file:
-        file.write(text)
+    write(path, text)
     return path
-
-
-def read_bytes(path):
-    with open(path, "rb") as file:
-        return file.read()
-
-
-def comes(is_so, seconds=10):
-    """Whether something is so within some seconds."""
-    until = time.monotonic() + seconds
-    while not is_so() and time.monotonic() < until:
-        time.sleep(0.02)
-    return is_so()
-
-
-def arrives(sender, receiver, content, seconds=20):
-    """Both ends of a transfer end well, the sender within some seconds, and all bytes arrived. How long it took."""
-    begun = time.monotonic()
-    told = ended(sender, seconds), ended(receiver, 10)
-    is_whole = read_bytes(receiver.path) == content
-    want(told == ("0", "0") and is_whole, f"send {told[0]}, receive {told[1]}, and {'all' if is_whole else 'not all'} bytes arrived")
-    return f"{time.monotonic() - begun:.1f} s"
 
 
 # An nginx of its own.
@@ -133,6 +113,5 @@ def served(play, port, *names, changes=()):
     it = subprocess.Popen(words, stdin=subprocess.DEVNULL, stdout=subprocess.DEVNULL, stderr=subprocess.PIPE, env=environment())
     play.started.append(it)
     it.port = port
-    if not until_it_listens(it):
-        raise Wrong(f"nginx does not listen: {ended(it, 1)}")
+    has_to_listen(it, "nginx")
     return it

@@ -3,11 +3,55 @@
 ledger.py [PROGRAM [WORD]] [--kills=N] [--seed=N] [--places=N]. With a WORD, only the tests whose names have it. Two neighbours in Python send
 each other Prepares through the connector and note which Fulfills they gave and took. Python's sqlite3 reads the books, from copies
 of both files. A line for each test says what was seen, or what is wrong; the last line counts them."""
-import collections, concurrent.futures, contextlib, hashlib, itertools, os, random, re, shutil, socket, sqlite3, subprocess, threading, time
+import collections
+import concurrent.futures
+import contextlib
+import hashlib
+import itertools
+import os
+import random
+import re
+import shutil
+import socket
+import sqlite3
+import subprocess
+import threading
+import time
 
-from peers import HOST, Peer, answer, ended, fields_at, free_port, fulfill, is_whole, listens, message, octets, prepare
-from peers import request, totals, use_up
-from play import PROGRAM, STAY, TOP, Skipped, Wrong, disk, main, option, shared_object, some_bytes, stands, test, until_it_listens, want
+from books import copied, files_of, ledger, with_sqlite
+from peers import (
+    HOST,
+    Peer,
+    answer,
+    ended,
+    fields_at,
+    free_port,
+    fulfill,
+    is_whole,
+    listens,
+    message,
+    prepare,
+    reject,
+    request,
+    totals,
+    use_up,
+)
+from play import (
+    PROGRAM,
+    STAY,
+    Wrong,
+    disk,
+    has_to_listen,
+    main,
+    option,
+    shared_object,
+    some_bytes,
+    stands,
+    test,
+    until_it_listens,
+    want,
+)
+from repository import TOP, read_bytes, write_bytes
 
 KILLS = int(option("kills", "12"))
 PLACES = int(option("places", "100"))  # of all, in files with bits that are changed, and cuts
@@ -32,26 +76,6 @@ class Books(collections.namedtuple("Books", "starts sums")):
 
     def dues(self, name):
         return self.sums.get(name, (0, 0))[1]
-
-
-def files_of(path):
-    return [it for it in (path, f"{path}-wal") if os.path.exists(it)]
-
-
-def copied(path, to):
-    """A copy of the books' files, as a backup has them: the database and its log."""
-    for old in files_of(to):
-        os.remove(old)
-    for it in files_of(path):
-        shutil.copyfile(it, to + it[len(path) :])
-    return to
-
-
-def with_sqlite(path, *statements):
-    """What sqlite3 answers to each statement, and the last one's rows. It is closed before this returns, and then has no log."""
-    with contextlib.closing(sqlite3.connect(path, isolation_level=None)) as database:
-        database.text_factory = lambda text: text.decode(errors="replace")
-        return [database.execute(it).fetchall() for it in statements]
 
 
 def is_unmade(path):
@@ -80,16 +104,6 @@ def books_in(path, room):
     rows = with_sqlite(copy, "SELECT name, claims, dues FROM account")[0]
     want(len({name for name, _, _ in rows}) == len(rows), f"a name twice in {rows}")
     return Books(starts[0][0], {name: (claims, dues) for name, claims, dues in rows})
-
-
-def ledger(path, *words):
-    """How `ledger FILE` ended, as `ended` says it, and what it printed."""
-    ran = subprocess.run([PROGRAM, "ledger", path, *words], stdin=subprocess.DEVNULL, capture_output=True, timeout=60, check=False)
-    fault = re.fullmatch(rb"fault (\d+)\n", ran.stderr)
-    if ran.returncode == 1 and fault and not ran.stdout:
-        return fault[1].decode(), ""
-    well = ran.returncode == 0 and not ran.stderr
-    return "0" if well else f"WRONG {ran.returncode} {ran.stdout!r} {ran.stderr!r}", ran.stdout.decode(errors="replace")
 
 
 def books_of(path):
@@ -177,7 +191,7 @@ class Way:
         if int.from_bytes(body[at : at + 8], "big") != self.due(number):
             self.strange.append(number)
         if number % 8 == 0:
-            return reject()
+            return reject(b"F99", b"test.end")
         self.given.add(number)
         return fulfill(number.to_bytes(32, "big"))
 
@@ -206,11 +220,6 @@ class Way:
             self.taken.add(number)
         elif body[:1] == b"\x0e":
             self.refused[number] = body[2:5].decode()
-
-
-def reject():
-    """An ILP Reject F99 without more."""
-    return b"\x0e" + octets(b"F99" + octets(b"test.end") + octets(b"") + octets(b""))
 
 
 class Neighbour(Peer):
@@ -294,8 +303,7 @@ class Hub(Connector):
     def serve(self, **how):
         """The connector begins, and all neighbours send once it listens."""
         it = self.start(**how)
-        if not until_it_listens(it):
-            raise Wrong(f"a connector does not listen: {ended(it, 1)}")
+        has_to_listen(it, "a connector")
         self.gate.open()
         return it
 
@@ -974,8 +982,7 @@ def a_torn_commit_is_no_damage(play):
                     low, high = max(begin, sector * 512), min(end, sector * 512 + 512)
                     torn[low:high] = bytes(high - low)
             copy = copied(hub.path, f"{play.room}/torn")
-            with open(f"{copy}-wal", "wb") as file:
-                file.write(torn)
+            write_bytes(f"{copy}-wal", torn)
             told, books = books_of(copy)
             want(told == "0", f"seed {SEED}: commit {last} with {kept:.2f} of its sectors: {told}")
             sums.append(books)
@@ -1229,8 +1236,7 @@ def no_new_books_beside_a_log(play):
             copy = copied(path, f"{play.room}/lone")
             os.remove(copy)
             if content is not None:
-                with open(copy, "wb") as file:
-                    file.write(content)
+                write_bytes(copy, content)
             wanted = ("110", "114") if what == "of zeros" else ("110",)
             refuses(hub, copy, f"{kind}, and the file is {what}", starts=True, wanted=wanted)
     # The first page of a database that has no tables, which earlier connectors left next to a log with all that there was.
@@ -1305,20 +1311,17 @@ CHANGES = {
 
 def stays_as_it_is(hub, kind, wanted=("110",)):
     """A connector and `ledger` refuse a file with one of these numbers, and leave it."""
-    with open(hub.path, "rb") as file:
-        before = file.read()
+    before = read_bytes(hub.path)
     told = told_by(hub), ledger(hub.path)[0], ledger(hub.path, "settle", "alice", "1")[0]
     want(len(set(told)) == 1 and told[0] in wanted, f"{kind}: {told}")
-    with open(hub.path, "rb") as file:
-        want(file.read() == before, f"{kind}: it is changed")
+    want(read_bytes(hub.path) == before, f"{kind}: it is changed")
 
 
 @test()
 def a_file_of_something_else(play):
     hub = Hub(play, f"{play.room}/books")
     for kind, content in other_files(hub.rng):
-        with open(hub.path, "wb") as file:
-            file.write(content)
+        write_bytes(hub.path, content)
         stays_as_it_is(hub, kind, ("110", "114"))
     for kind, statements in OTHER_TABLES.items():
         os.remove(hub.path)
@@ -1394,13 +1397,11 @@ def books_of_another_address(play):
     hub = Hub(play, f"{play.room}/books")
     before = hub.some_sums()
     in_one_file(hub.path)
-    with open(hub.path, "rb") as file:
-        content = file.read()
+    content = read_bytes(hub.path)
     for own in ("test.hub2", "test.hu", "g.other.connector", "test.Hub"):
         told = told_by(hub, own=own)
         want(told == "110", f"connector {told} as {own} with the books of test.hub")
-    with open(hub.path, "rb") as file:
-        want(file.read() == content, "books of another address are changed")
+    want(read_bytes(hub.path) == content, "books of another address are changed")
     same_books(hub.path, before)
     hub.served()
     return "110, and they are left; `ledger` reads them, and their own connector goes on"

@@ -1,20 +1,19 @@
 #!/usr/bin/env python3
-"""Runs `send` and `receive` with money, and with a peer between them that lies: liar.py PROGRAM. For each lie, at each third
-exchange and at every one, and at each third next to a connector, a line says how both ended, how much of the input came, and
-what is wrong with that or with the sums that they reported in the end, if anything is."""
-import os, socket, subprocess, sys, tempfile, threading, time
-from concurrent.futures import ThreadPoolExecutor
+"""Runs `send` and `receive` with money, and with a peer between them that lies: liar.py [PROGRAM [WORD]]. It lies at each third
+exchange and at every one, and at each third next to a connector. Other runs have devices that fail. What arrives is a beginning of what
+was sent, and what each side reports in the end fits. With a WORD, only the tests whose names have it. A line for each test says how
+both ended and how much arrived; the last line counts them."""
+import os
+import socket
+import threading
 
-from peers import BOUND, SECRET, asked, ended, fields_at, free_port, message, totals, use_up
+from peers import BOUND, HOST, asked, ended, fields_at, message, totals, use_up
+from play import main, some_bytes, table_to, test, want
 
-PROGRAM = sys.argv[1]
-INPUT = bytes(n % 251 for n in range(70_000))
-WORDS = ["--token=t", f"--secret={SECRET}"]
+INPUT = some_bytes(70_000)
 # What is offered; the most that is accepted, of which a Prepare whose answer is lost takes a part again; the most that a connector
 # takes in one Prepare, and how many requests.
 MONEY, MOST, PIECE, REQUESTS = 500, 1_000_000, 100, 600
-# Runs at once.
-AT_ONCE = 6
 
 
 def with_bit(body, place):
@@ -35,10 +34,11 @@ class Liar:
     """Listens at a port of its own, and passes each request on to the receiver. It lies in this way at the first exchange, in which
     a sender offers its money, and at each `every`-th one after it."""
 
-    def __init__(self, lie, every, host):
-        self.lie, self.every, self.host = lie, every, host
+    def __init__(self, lie, every, port):
+        self.lie, self.every, self.host = lie, every, (HOST, port)
         self.exchanges, self.kept, self.request, self.ivs = 0, b"", b"", []
-        self.listener = socket.create_server(("127.0.0.1", 0))
+        self.listener = socket.create_server((HOST, 0))
+        self.port = self.listener.getsockname()[1]
         threading.Thread(target=self.serve, daemon=True).start()
 
     def serve(self):
@@ -54,6 +54,9 @@ class Liar:
             except OSError:
                 pass
 
+    def close(self):
+        self.listener.close()
+
     def exchange(self, stream):
         self.exchanges += 1
         lie = self.lie if self.exchanges % self.every == 1 % self.every else ""
@@ -64,17 +67,22 @@ class Liar:
             return
         head, body = message(stream)
         self.ivs.append(iv_of(body))
-        if lie == "drop before the receiver":
-            return
-        at = fields_at(body)
+        if lie != "drop before the receiver":
+            self.answer(stream, lie, *self.passed_on(lie, head, body))
+
+    def passed_on(self, lie, head, body):
+        """The answer of the receiver to a request, or to what the liar makes of it."""
         if lie == "wrong condition":  # after the amount, of 8 bytes, and the expiry, of 17
-            body = with_bit(body, at + 25)
+            body = with_bit(body, fields_at(body) + 25)
         if lie == "request with a turned bit":
             body = with_bit(body, -1)
         if lie == "another's request again" and self.request:
             asked(self.host, self.request)
         self.request = head + body
-        head, body = asked(self.host, head + body)
+        return asked(self.host, head + body)
+
+    def answer(self, stream, lie, head, body):
+        """Sends an answer back, or what the liar makes of it."""
         if lie == "wrong fulfillment" and body[:1] == b"\x0d":
             body = with_bit(body, fields_at(body))
         if lie == "answer with a turned bit" and body[:1] == b"\x0d":
@@ -99,157 +107,128 @@ class Liar:
             stream.sendall(head + body)
 
 
-def wait_for(port):
-    for _ in range(500):
-        try:
-            socket.create_connection(("127.0.0.1", port)).close()
-            return
-        except OSError:
-            time.sleep(0.02)
-
-
 class Transfer:
-    """A receiver, a connector before it if one is wanted, and a liar: before the receiver (`before`) or before the connector."""
+    """A receiver, a connector in front of it if one is wanted, and a liar: in front of the connector if the place is `before` it, and
+    else of the receiver."""
 
-    def __init__(self, lie, every, room, hub=False, before="receive", out=None):
-        self.room, self.hub, self.out = room, None, out or f"{room}/out"
-        for name in os.listdir(room):
-            if name.startswith("totals"):
-                os.remove(f"{room}/{name}")
-        port = free_port()
-        words = [*WORDS, "--address=test.b", "--peer=test.a", f"--receive-max={MOST}"]
-        with open(self.out, "wb") as output:
-            self.receive = self.start("receive", [f"--listen=127.0.0.1:{port}", *words], subprocess.DEVNULL, output)
-        wait_for(port)
-        if hub and before == "receive":
-            port = self.liar(lie, every, port)
-        if hub:
-            port = self.connector(port)
-        self.to = port if hub and before == "receive" else self.liar(lie, every, port)
+    def __init__(self, play, lie, every, place="", path=None):
+        self.play, self.hub = play, None
+        self.receiver = play.receive(most=MOST, path=path)
+        port = self.receiver.port if place == "before" else self.lies(lie, every, self.receiver.port)
+        if place:
+            self.hub = play.connector(table_to(port).replace("account 1000000000 1000000 ", f"account {MOST} {PIECE} "), requests=REQUESTS)
+            port = self.hub.port
+        self.place, self.port = place, self.lies(lie, every, port) if place == "before" else port
 
-    def start(self, command, words, given, output=subprocess.DEVNULL):
-        words = [PROGRAM, command, *words, f"--totals={self.room}/totals_{command}"]
-        return subprocess.Popen(words, stdin=given, stdout=output, stderr=subprocess.PIPE)
-
-    def liar(self, lie, every, port):
-        self.lying = Liar(lie, every, ("127.0.0.1", port))
-        return self.lying.listener.getsockname()[1]
-
-    def connector(self, port):
-        self.hub_port = free_port()
-        with open(f"{self.room}/table", "w") as table:
-            table.write(f"account {MOST} {PIECE} t - -\naccount 0 0 u 127.0.0.1:{port} t\nroute test.b 1\n")
-        with open(f"{self.room}/table", "rb") as table:
-            self.hub = self.start("connector", [f"--listen=127.0.0.1:{self.hub_port}", "--own=test.h", f"--requests={REQUESTS}"], table)
-        wait_for(self.hub_port)
-        return self.hub_port
+    def lies(self, lie, every, port):
+        self.liar = Liar(lie, every, port)
+        self.play.peers.append(self.liar)
+        return self.liar.port
 
     def send(self, given):
-        file = os.open(given, os.O_RDONLY)
-        try:
-            words = [f"--to=127.0.0.1:{self.to}", *WORDS, "--address=test.a", "--peer=test.b", "--workers=1", f"--money={MONEY}"]
-            send = self.start("send", words, file)
-        finally:
-            os.close(file)
-        sent = ended(send, BOUND)
-        received = ended(self.receive, BOUND if sent == "0" else 1)
-        return sent, received, self.ended_hub()
-
-    def ended_hub(self):
-        """How the connector ended once the requests that it was to take are used up; 0 if there is none."""
+        """How a sender ended, the receiver and the connector."""
+        self.sender = self.play.send(self.port, given, "--workers=1", f"--money={MONEY}")
+        sent = ended(self.sender, BOUND)
+        received = ended(self.receiver, BOUND if sent == "0" else 1)
         if self.hub:
-            use_up(self.hub, self.hub_port, "t")
-        self.lying.listener.close()
-        return ended(self.hub, BOUND) if self.hub else "0"
+            use_up(self.hub, self.hub.port, "t")
+        self.liar.close()
+        return sent, received, ended(self.hub, BOUND) if self.hub else "0"
 
     def came(self):
-        if not os.path.isfile(self.out):
+        if not os.path.isfile(self.receiver.path):
             return b""
-        with open(self.out, "rb") as output:
-            return output.read()
+        with open(self.receiver.path, "rb") as file:
+            return file.read()
 
-    def sums(self, before):
+    def sums(self):
         """What is wrong with what the commands reported in the end: nobody paid for what was not fulfilled, a connector owes what it
         is owed, and on a link without lies both sides report the same. Who was stopped reported nothing."""
-        send, receive, hub = (totals(f"{self.room}/totals_{it}") for it in ("send", "receive", "connector"))
+        send, receive, hub = (totals(it.totals) if it else {} for it in (self.sender, self.receiver, self.hub))
         paid, credited = send.get("paid", 0), receive.get("credited")
         claims, dues = hub.get("account 0 claims", paid), hub.get("account 1 dues", paid)
         wrong = {
             "no totals": not send or (self.hub and not hub),
             "more paid than offered": paid > MONEY,
-            "paid and not claimed": paid > claims or (before == "receive" and paid != claims),
+            "paid and not claimed": paid > claims or (self.place == "behind" and paid != claims),
             "claimed and not owed": claims != dues,
-            "owed and not credited": credited is not None and (dues > credited or (before == "hub" and self.hub and dues != credited)),
+            "owed and not credited": credited is not None and (dues > credited or (self.place == "before" and dues != credited)),
             "something is reserved": any(number for name, number in hub.items() if name.endswith("held")),
         }
         return ", ".join(it for it, is_so in wrong.items() if is_so), paid
 
 
-def run(lie, every, room, hub=False, before="receive", out=None, given=None):
-    """How `send` and `receive` ended, and what arrived in a file, or to `out`, of what a file has, or of nothing from `given`."""
+def ends(play, lie, every, place="", path=None, given=None):
+    """How `send` and `receive` ended, and how much arrived in a file, or at another path, of all bytes, or of nothing from `given`."""
     # If no answer's payload opens the sender learns no higher limit, and waits for one after the first 16,384 bytes.
     whole = INPUT[:16_000] if (lie, every) == ("answer with a turned bit", 1) else INPUT
-    with open(f"{room}/in", "wb") as file:
-        file.write(whole)
-    it = Transfer(lie, every, room, hub, before, out)
-    sent, received, connected = it.send(given or f"{room}/in")
-    came = it.came()
-    wrong, paid = it.sums(before if hub else "")
-    ivs = it.lying.ivs
-    if len(set(ivs)) != len(ivs):
-        return f"WRONG: of {len(ivs)} IVs {len(set(ivs))} are different"
-    if wrong or connected != "0":
-        return f"WRONG: connector {connected}, {wrong}"
-    if not whole.startswith(came) or (received == "0" and came != whole) or (sent == "0" and paid != MONEY):
-        return f"WRONG: send {sent}, receive {received}, {len(came)} bytes, {paid} units paid"
+    it = Transfer(play, lie, every, place, path)
+    sent, received, connected = it.send(given or whole)
+    came, ivs = it.came(), it.liar.ivs
+    wrong, paid = it.sums()
+    want(len(set(ivs)) == len(ivs), f"of {len(ivs)} IVs {len(set(ivs))} are different")
+    want(not wrong and connected == "0", f"connector {connected}, {wrong}")
+    is_right = whole.startswith(came) and (received != "0" or came == whole) and (sent != "0" or paid == MONEY)
+    want(is_right, f"send {sent}, receive {received}, {len(came)} bytes, {paid} units paid")
     # If the answer to the close is lost, the receiver is gone, and the sender knows no more than that.
     if received == "0" and (sent == "0" or (sent == "58" and lie in OF_ANSWERS)):
         return "whole"
     # If the third exchange fails the connection, it is chance whether the first bytes were among those before it.
-    few = "at most a part" if hub and sent == "58" else "a part" if came else "nothing"
+    few = "at most a part" if place and sent == "58" else "a part" if came else "nothing"
     return f"send {sent}, receive {received}, {few}"
 
 
-OF_ANSWERS = [
-    "wrong fulfillment",
-    "another's fulfillment",
-    "answer with a turned bit",
-    "answer of 70,000 bytes",
-    "drop before the answer",
-    "drop in the head",
-    "drop in the answer",
-]
-LIES = [
-    *OF_ANSWERS,
-    "head byte by byte",
-    "drop at once",
-    "drop in the request",
-    "drop before the receiver",
-    "wrong condition",
-    "request with a turned bit",
-    "another's request again",
-]
+# A Fulfill acknowledges whatever its payload is; F06, the answer to a payload that does not open, fails the connection at once, and so
+# do F05, a connector's answer to a Fulfill that does not fit, and 200 failures in a row.
+WHOLE, PART, SOME = "whole", "send 58, receive waits, a part", "send 58, receive waits, at most a part"
+NOTHING = "send 58, receive waits, nothing"
+PLACES = {"each third": (3, ""), "every one": (1, ""), "each third, before a connector": (3, "before"), "each third, behind a connector": (3, "behind")}
+# Of each lie how a transfer ends at each of the places.
+OF_ANSWERS = {
+    "wrong fulfillment": (WHOLE, PART, WHOLE, SOME),
+    "another's fulfillment": (WHOLE, PART, WHOLE, SOME),
+    "answer with a turned bit": (WHOLE, WHOLE, WHOLE, WHOLE),
+    "answer of 70,000 bytes": (WHOLE, PART, WHOLE, WHOLE),
+    "drop before the answer": (WHOLE, PART, WHOLE, WHOLE),
+    "drop in the head": (WHOLE, PART, WHOLE, WHOLE),
+    "drop in the answer": (WHOLE, PART, WHOLE, WHOLE),
+}
+LIES = {
+    **OF_ANSWERS,
+    "head byte by byte": (WHOLE, WHOLE, WHOLE, WHOLE),
+    "drop at once": (WHOLE, NOTHING, WHOLE, WHOLE),
+    "drop in the request": (WHOLE, NOTHING, WHOLE, WHOLE),
+    "drop before the receiver": (WHOLE, NOTHING, WHOLE, WHOLE),
+    "wrong condition": (WHOLE, NOTHING, WHOLE, WHOLE),
+    "request with a turned bit": (NOTHING, NOTHING, SOME, SOME),
+    "another's request again": (WHOLE, WHOLE, WHOLE, WHOLE),
+}
 
 
-
-def runs():
-    """What each line says, and the arguments of its run."""
-    for lie in LIES:
-        yield f"{lie}, each third", (lie, 3), {}
-        yield f"{lie}, every one", (lie, 1), {}
-    for before, place in (("hub", "before a connector"), ("receive", "behind a connector")):
-        for lie in LIES:
-            yield f"{lie}, each third, {place}", (lie, 3), {"hub": True, "before": before}
-    yield "a full disk as output", ("", 3), {"out": "/dev/full"}
-    yield "an input that fails", ("", 3), {"given": "/"}
+@test(*[(lie, place) for lie in LIES for place in PLACES], waits=True, again=False)
+def a_peer_lies_by(play, lie, place):
+    told, wanted = ends(play, lie, *PLACES[place]), LIES[lie][list(PLACES).index(place)]
+    want(told == wanted, f"{told}, and not {wanted}")
+    return told
 
 
-def line(text, words, terms):
-    with tempfile.TemporaryDirectory() as room:
-        return f"{text}: {run(*words, room, **terms)}"
+@test(waits=True, again=False)
+def a_receiver_whose_output_is_a_full_disk(play):
+    told = ends(play, "", 3, path="/dev/full")
+    want(told == "send 58, receive 91, nothing", told)
+    return told
 
 
-# A run in which 200 exchanges in a row fail waits for most of its ten seconds: some run side by side.
-with ThreadPoolExecutor(AT_ONCE) as pool:
-    for told in pool.map(lambda it: line(*it), runs()):
-        print(told, flush=True)
+@test(waits=True, again=False)
+def a_sender_whose_input_fails(play):
+    folder = os.open("/", os.O_RDONLY)
+    try:
+        told = ends(play, "", 3, given=folder)
+    finally:
+        os.close(folder)
+    want(told == "send 90, receive waits, nothing", told)
+    return told
+
+
+if __name__ == "__main__":
+    raise SystemExit(main())

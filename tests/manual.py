@@ -14,7 +14,8 @@ import subprocess
 import sys
 import tempfile
 
-TOP = os.path.realpath(os.path.join(os.path.dirname(os.path.realpath(__file__)), ".."))
+from repository import BUILT, TOP, read, write
+
 PROGRAM = "crates/st_words/src/program.rt"
 PAGE = "share/man/man1/ilpstream.1"
 BASH = "share/bash-completion/completions/ilpstream"
@@ -27,11 +28,6 @@ def check(good, finding):
     RESULTS.append(bool(good))
     if not good:
         print(finding)
-
-
-def read(path):
-    with open(f"{TOP}/{path}", encoding="utf-8") as source:
-        return source.read()
 
 
 def said(words, **how):
@@ -108,8 +104,7 @@ printf '%s\n' "${COMPREPLY[@]}"
 
 def look_at_completions(room):
     for name in ("log one", "log two", "books"):
-        with open(f"{room}/{name}", "w", encoding="utf-8"):
-            pass
+        write(f"{room}/{name}", "")
     rows = [
         (["s"], ["send"]),
         (["re"], ["receive"]),
@@ -145,10 +140,10 @@ def look_at_install(room):
         shutil.copytree(f"{TOP}/{folder}", f"{room}/top/{folder}")
     for name in ("ilpstream", "README.md", "SECURITY.md", "CHANGELOG.md"):
         shutil.copy(f"{TOP}/{name}", f"{room}/top/{name}")
-    os.makedirs(f"{room}/top/crates/ilpstream/out")
-    with open(f"{room}/top/crates/ilpstream/out/ilpstream", "w", encoding="utf-8") as script:
-        script.write("#!/bin/sh\necho it runs: $1\n")
-    os.chmod(script.name, 0o755)
+    os.makedirs(f"{room}/top/{os.path.relpath(os.path.dirname(BUILT), TOP)}")
+    script = f"{room}/top/{os.path.relpath(BUILT, TOP)}"
+    write(script, "#!/bin/sh\necho it runs: $1\n")
+    os.chmod(script, 0o755)
     prefix, staged = "/opt/a & b", f"{room}/staged"
     status, came = said([f"{room}/top/ilpstream", "--install", prefix], env={**os.environ, "DESTDIR": staged})
     check(status == 0, f"--install: status {status}: {came}")
@@ -159,8 +154,7 @@ def look_at_install(room):
         check(f"{prefix}/{path}" in there, f"--install: there is no {path}")
     check(said([f"{into}/bin/ilpstream", "--version"]) == (0, "it runs: --version\n"), "the installed program does not run")
     for name in ("connector", "receive"):
-        with open(f"{into}/lib/systemd/system/ilpstream-{name}.service", encoding="utf-8") as unit:
-            text = unit.read()
+        text = read(f"{into}/lib/systemd/system/ilpstream-{name}.service")
         check(f"{prefix}/bin/ilpstream {name}" in text and "/usr/local" not in text, f"the unit of {name} has another program")
     modes = {oct(os.stat(f"{into}/{it}").st_mode & 0o777) for it in ("bin/ilpstream", "share/doc/ilpstream/examples/books/copy")}
     check(modes == {"0o755"}, f"the modes are {modes}")

@@ -14,7 +14,8 @@ import subprocess
 import sys
 import tempfile
 
-TOP = os.path.realpath(os.path.join(os.path.dirname(os.path.realpath(__file__)), ".."))
+from repository import TOP, read
+
 PROGRAM, TABLE = f"{TOP}/tests/memory", f"{TOP}/tests/memory/table.txt"
 NAME = "memory"
 BELOW = "refusing st_oer st_ilp st_frames st_reassembly st_unacked st_queues st_keys st_hop st_desk st_receiver st_sender st_end st_http"
@@ -47,8 +48,7 @@ def printed(room):
 
 
 def wanted():
-    with open(TABLE, encoding="utf-8") as file:
-        return file.read().splitlines()
+    return read(TABLE).splitlines()
 
 
 def differences(rows):

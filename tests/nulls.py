@@ -4,10 +4,11 @@ one of a freed object have to be refused as 101 (ilp_free takes the first two), 
 there are none may be null. The declarations are those of bind/python, over the shared object that ILPSTREAM_SO names, or that
 bind/build made. The last line counts the calls that were answered as they should be, and those that were not."""
 import ctypes
-import os
 import sys
 
-sys.path.insert(0, os.path.join(os.path.dirname(os.path.realpath(__file__)), "../bind/python"))
+from repository import TOP
+
+sys.path.insert(0, f"{TOP}/bind/python")
 import ilpstream  # noqa: E402
 from ilpstream import _declared  # noqa: E402
 from ilpstream._object import lib  # noqa: E402

@@ -2,30 +2,23 @@
 """Runs the commands with streams and files as an operator may leave them: opens.py [PROGRAM [WORD]]. With standard streams that are
 closed, with files of totals that have a mode, an owner and others next to them, and with files and addresses that cannot be opened. With a WORD, only the tests whose names have it. A line
 for each test; the last line counts them. No test takes more than half a minute."""
-import glob, itertools, os, re, stat, subprocess, sys
+import glob
+import itertools
+import os
+import re
+import stat
+import subprocess
+import sys
 
+from commands import script, without
 from peers import HOST, ended, free_port, use_up
-from play import PROGRAM, STAY, main, some_bytes, stands, table_to, test, want
+from play import PROGRAM, STAY, arrives, main, some_bytes, stands, table_to, test, want
+from repository import read, write
 
 CONTENT = some_bytes(50_000)
 # each way to close some of the descriptors 0 to 2
 CLOSED = [("".join(it),) for count in (1, 2, 3) for it in itertools.combinations("012", count)]
-CLOSING = {"0": "<&-", "1": ">&-", "2": "2>&-"}
 FOREIGN = "not a connector's\n"
-
-
-def script(play, *lines):
-    """A program that does what these lines say, and then runs the real one in its place, with the same arguments."""
-    path = f"{play.room}/script{len(os.listdir(play.room))}"
-    with open(path, "w", encoding="utf-8") as file:
-        file.write("\n".join(["#!/bin/bash", *lines]) + "\n")
-    os.chmod(path, 0o755)
-    return path
-
-
-def without(play, closed):
-    """The program, started without these standard streams."""
-    return script(play, f'exec {PROGRAM} "$@" {" ".join(CLOSING[it] for it in closed)}')
 
 
 def refused_at_once(process, closed, fault):
@@ -37,25 +30,11 @@ def refused_at_once(process, closed, fault):
     return told
 
 
-def told_by(path):
-    with open(path, encoding="utf-8", errors="replace") as file:
-        return file.read()
-
-
-def transfer(sender, receiver):
-    """Both ends of a transfer end well, and all came."""
-    sent, received = ended(sender, 20), ended(receiver, 20)
-    with open(receiver.path, "rb") as file:
-        came = file.read()
-    want((sent, received, came == CONTENT) == ("0", "0", True), f"send {sent}, receive {received}, {len(came)} bytes")
-    return f"{len(came)} bytes"
-
-
 def has_its_own_text(process):
     """The files of totals and events have nothing but lines of totals and events."""
-    lines = told_by(process.totals).splitlines()
+    lines = read(process.totals).splitlines()
     want(all(re.fullmatch(r"[a-z]+( [a-z0-9A-Z]+)* \d+", it) for it in lines), f"totals {lines[:5]}")
-    lines = told_by(process.log).splitlines()
+    lines = read(process.log).splitlines()
     want(lines and all(re.match(r"\d{4}-\d\d-\d\dT[\d:.]+Z [a-z]", it) for it in lines), f"events {lines[:5]}")
 
 
@@ -71,7 +50,7 @@ def a_sender_started_without(play, closed):
         stands(receiver, "receive")
         want(os.path.getsize(receiver.path) == 0, "something came")
         return told
-    told = transfer(sender, receiver)
+    told = arrives(sender, receiver, CONTENT)
     has_its_own_text(sender)
     return told
 
@@ -95,7 +74,7 @@ def a_receiver_started_without(play, closed):
             it = play.start("receive", ways, out=out, program=without(play, closed))
         return refused_at_once(it, closed, "91")
     receiver = play.receive(program=without(play, closed))
-    told = transfer(play.send(receiver.port, CONTENT, "--money=500"), receiver)
+    told = arrives(play.send(receiver.port, CONTENT, "--money=500"), receiver, CONTENT)
     has_its_own_text(receiver)
     return told
 
@@ -108,7 +87,7 @@ def a_connector_started_without(play, closed):
         return refused_at_once(it, closed, "90")
     receiver = play.receive()
     hub = play.before(receiver, requests=100, program=without(play, closed))
-    told = transfer(play.send(hub.port, CONTENT, "--money=500"), receiver)
+    told = arrives(play.send(hub.port, CONTENT, "--money=500"), receiver, CONTENT)
     use_up(hub, hub.port, "t")
     want(ended(hub, 10) == "0", "the connector does not end")
     has_its_own_text(hub)
@@ -165,17 +144,12 @@ def at_files_of_totals(play, act):
         act(f"{play.room}/{number}.totals")
 
 
-def write(path, text):
-    with open(path, "w", encoding="ascii") as file:
-        file.write(text)
-
-
 def connector_that_ends(play, **how):
     hub = play.connector(table_to(1), requests=1, **how)
     use_up(hub, hub.port, "none")
     told = ended(hub, 20)
     want(told == "0", f"connector {told}")
-    want(told_by(hub.totals).startswith("account 0 claims 0 "), f"it says {told_by(hub.totals)!r}")
+    want(read(hub.totals).startswith("account 0 claims 0 "), f"it says {read(hub.totals)!r}")
     return hub
 
 
@@ -210,7 +184,7 @@ def a_file_beside_totals_that_is_not_the_connectors_stays(play):
     hub = connector_that_ends(play, program=script(play, taken, f'exec {PROGRAM} "$@"'))
     beside = sorted(glob.glob(f"{hub.totals}.new*"))
     want(beside == [f"{hub.totals}.new", f"{hub.totals}.new.{hub.pid}.0"], f"beside it are {beside}")
-    want(all(told_by(it) == FOREIGN for it in beside), "one was written")
+    want(all(read(it) == FOREIGN for it in beside), "one was written")
     return "two"
 
 
@@ -285,7 +259,7 @@ def an_address_in_use_is_told_by(play, command):
     words = f"cannot listen on {HOST}:{port}: address in use"
     found = told_by_command(play, ways_of(play, command, f"--listen={HOST}:{port}", f"--log={log}"))
     want(found == (f"fault 80\n{words}\n", "fault 80\n"), f"it told {found}")
-    last = told_by(log).splitlines()[-1].partition(" ")[2]
+    last = read(log).splitlines()[-1].partition(" ")[2]
     want(last == f'end fault=80 words="{words}"', f"the log says {last!r}")
     return "80"
 

@@ -2,36 +2,27 @@
 """Books payments with references, and adjustments, in a connector's books: payments.py [PROGRAM [WORD]] [--kills=N] [--seed=N]. With
 a WORD, only the tests whose names have it. Python's sqlite3 reads the books, from copies of both files. A line for each test says
 what was seen, or what is wrong; the last line counts them."""
-import contextlib, os, random, re, shutil, sqlite3, subprocess, time
+import os
+import random
+import re
+import subprocess
+import time
 
+from books import copied, ledger, with_sqlite
 from peers import HOST, answer, asked, fulfill, message, prepare, request
 from play import PROGRAM, main, option, shared_object, test, want
+from repository import read, write
 
 KILLS = int(option("kills", "50"))
 SEED = option("seed", str(int(time.time())))
 OWED = 1_000_000  # what alice owes, and what bob is owed
 YEAR = 365 * 86_400_000  # milliseconds
 PRINTABLE = bytes(range(0x20, 0x7F)).decode()
-with open(os.path.join(os.path.dirname(os.path.realpath(__file__)), "../docs/OPERATING.md"), encoding="utf-8") as operating:
-    TAKEN_APART = re.search(r"```sql\n(SELECT id, name, moment.*?)```", operating.read(), re.DOTALL)[1]
-
-
-def files_of(path):
-    return [it for it in (path, f"{path}-wal") if os.path.exists(it)]
-
-
-def copied(path, to):
-    """A copy of the books' files."""
-    for old in files_of(to):
-        os.remove(old)
-    for it in files_of(path):
-        shutil.copyfile(it, to + it[len(path) :])
-    return to
+TAKEN_APART = re.search(r"```sql\n(SELECT id, name, moment.*?)```", read("docs/OPERATING.md"), re.DOTALL)[1]
 
 
 def rows(play, path, statement):
-    with contextlib.closing(sqlite3.connect(copied(path, f"{play.room}/copy"), isolation_level=None)) as database:
-        return database.execute(statement).fetchall()
+    return with_sqlite(copied(path, f"{play.room}/copy"), statement)[0]
 
 
 def sums(play, path):
@@ -64,16 +55,6 @@ def books(play):
     pay_through(play, path, OWED)
     want(sums(play, path) == {"alice": (OWED, 0), "bob": (0, OWED)}, f"the books have {sums(play, path)}")
     return path
-
-
-def ledger(path, *words, **how):
-    """How `ledger FILE ..` ended, and what it printed: the number of its fault, or 0, or 2 for arguments that are not valid."""
-    ran = subprocess.run([PROGRAM, "ledger", path, *words], stdin=subprocess.DEVNULL, capture_output=True, timeout=60, check=False, **how)
-    fault = re.match(rb"fault (\d+)\n", ran.stderr)
-    if ran.returncode == 1 and fault and not ran.stdout:
-        return fault[1].decode(), ""
-    told = str(ran.returncode) if ran.returncode in (0, 2) else f"WRONG {ran.returncode} {ran.stderr!r}"
-    return told, ran.stdout.decode(errors="replace")
 
 
 def line(name, claims, dues, word=""):
@@ -215,8 +196,7 @@ def moments_never_fall(play):
     leads, before = [0, -YEAR, YEAR, 0, -50 * YEAR, 20 * YEAR, -1, 1], []
     leads += [rng.randrange(-YEAR, 21 * YEAR) for _ in range(50 - len(leads))]
     for number, lead in enumerate(leads):
-        with open(f"{play.room}/lead", "w", encoding="ascii") as file:
-            file.write(str(lead))
+        write(f"{play.room}/lead", str(lead))
         env = {**os.environ, "LD_PRELOAD": library, "CLOCK_FILE": f"{play.room}/lead"}
         words = ["--reference", str(number)] if number % 2 else []
         clock = int(time.time() * 1000) + lead

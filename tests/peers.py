@@ -1,6 +1,13 @@
 """What the tests of the real program share: messages of ILP over HTTP (RFC 0035) and packets of ILPv4 (RFC 0027), a peer that
 handles each connection as a test says, free ports, and how a process ended."""
-import datetime, hashlib, os, re, socket, subprocess, threading, time
+import datetime
+import hashlib
+import os
+import re
+import socket
+import subprocess
+import threading
+import time
 
 SECRET = "000102030405060708090a0b0c0d0e0f101112131415161718191a1b1c1d1e1f"
 HOST = "127.0.0.1"
@@ -121,6 +128,11 @@ def fulfill(preimage=bytes(32)):
     return b"\x0d" + octets(preimage + octets(b""))
 
 
+def reject(code, by, text=b""):
+    """An ILP Reject without data."""
+    return b"\x0e" + octets(code + octets(by) + octets(text) + octets(b""))
+
+
 def use_up(process, port, token):
     """Sends requests that hold no packet until a connector took the number that it was asked for, or for a minute."""
     until = time.monotonic() + BOUND
@@ -207,6 +219,7 @@ def ended(process, bound):
         process.kill()
         process.communicate()
         return "waits"
+    errors = errors or b""  # (they may be a file)
     fault = re.fullmatch(rb"fault (\d+)\n", errors)
     if process.returncode == 1 and fault:
         return fault[1].decode()

@@ -8,11 +8,12 @@ bind/python is checked, over the shared object that ILPSTREAM_SO names, or that 
 bind/rust/tests/suite/hostile are: half of them lawful messages with changes, half random bytes after the front of one. The last
 line counts the inputs; a difference is printed, and the status is 1."""
 import datetime
-import os
 import re
 import sys
 
-sys.path.insert(0, os.path.join(os.path.dirname(os.path.realpath(__file__)), "../bind/python"))
+from repository import TOP
+
+sys.path.insert(0, f"{TOP}/bind/python")
 import ilpstream  # noqa: E402
 
 # ---- the plain readers

@@ -1,16 +1,23 @@
 """What tests of the real program start and share: a test's processes, with a folder of their own, that end with it; the list of
 the tests of a file; and how they are run and counted. A file of tests is called FILE.py [PROGRAM [WORD]]."""
-import os, pty, shlex, socket, subprocess, sys, tempfile, time
+import os
+import pty
+import shlex
+import socket
+import subprocess
+import sys
+import tempfile
+import time
 from concurrent.futures import ThreadPoolExecutor
 
 from peers import GIVING, HOST, SECRET, Peer, ended, free_port, listens
+from repository import BUILT, TOP, read_bytes
 
-TOP = os.path.join(os.path.dirname(os.path.realpath(__file__)), "..")
 WORDS = [it for it in sys.argv[1:] if not it.startswith("--")]
-PROGRAM = os.path.realpath(WORDS[0] if WORDS else f"{TOP}/crates/ilpstream/out/ilpstream")
+PROGRAM = os.path.realpath(WORDS[0] if WORDS else BUILT)
 STAY = 2_147_483_647  # requests of a connector that does not end by itself
 AT_ONCE = 16  # tests that wait, side by side
-TESTS, WAITING = [], []
+TESTS, WAITING, ONCE = [], [], set()
 RESULTS = []  # of the tests that ran: True, False, or None of one that was skipped
 
 
@@ -27,13 +34,16 @@ def want(is_so, told):
         raise Wrong(told)
 
 
-def test(*rows, waits=False):
-    """Has a function be a test, once for each row of its arguments; if it waits, at the same time as others that do."""
+def test(*rows, waits=False, again=True):
+    """Has a function be a test, once for each row of its arguments; if it waits, at the same time as others that do, and if it then
+    fails, again alone, unless it is not to be."""
 
     def listed(function):
         for row in rows or [()]:
             words = " ".join(map(str, row))
             (WAITING if waits else TESTS).append((f"{function.__name__.replace('_', ' ')} {words}".strip(), function, row))
+        if not again:
+            ONCE.add(function)
         return function
 
     return listed
@@ -43,14 +53,22 @@ def some_bytes(count):
     return bytes(n % 251 for n in range(count % 251)) + bytes(range(251)) * (count // 251)
 
 
+def comes(is_so, seconds=10):
+    """Whether something is so within some seconds."""
+    until = time.monotonic() + seconds
+    while not (found := is_so()) and time.monotonic() < until:
+        time.sleep(0.02)
+    return found
+
+
 def until_it_listens(process):
     """Whether a command listens within 30 seconds."""
-    until = time.monotonic() + 30
-    while time.monotonic() < until and process.poll() is None:
-        if listens(process.port):
-            return True
-        time.sleep(0.02)
-    return False
+    return comes(lambda: process.poll() is not None or listens(process.port), 30) and process.poll() is None
+
+
+def has_to_listen(process, what):
+    if not until_it_listens(process):
+        raise Wrong(f"{what} does not listen: {ended(process, 1)}")
 
 
 def listening(start):
@@ -77,6 +95,15 @@ def shared_object(play, name):
     except (OSError, subprocess.CalledProcessError) as error:
         raise Skipped(f"no cc: {error}") from None
     return path
+
+
+def arrives(sender, receiver, content, seconds=20):
+    """Both ends of a transfer end well, the sender within some seconds, and all bytes arrived. How long it took."""
+    begun = time.monotonic()
+    told = ended(sender, seconds), ended(receiver, 10)
+    came = read_bytes(receiver.path)
+    want(told == ("0", "0") and came == content, f"send {told[0]}, receive {told[1]}, and {len(came)} of {len(content)} bytes arrived")
+    return f"{time.monotonic() - begun:.1f} s"
 
 
 def stands(process, command):
@@ -128,9 +155,9 @@ class Play:
         return file
 
     @listening
-    def receive(self, *words, token="t", address="test.b", peer="test.a", most=1_000_000, secret=None, port=None, **how):
-        """A receiver that listens; `out` is the path of what it writes."""
-        path = f"{self.room}/{port}.out"
+    def receive(self, *words, token="t", address="test.b", peer="test.a", most=1_000_000, secret=None, port=None, path=None, **how):
+        """A receiver that listens; `path` is that of what it writes."""
+        path = path or f"{self.room}/{port}.out"
         with open(path, "wb") as out:
             ways = [f"--listen={HOST}:{port}", f"--token={token}", f"--address={address}", f"--peer={peer}"]
             it = self.start("receive", [*ways, f"--secret={secret or self.secret}", f"--receive-max={most}", *words], out=out, **how)
@@ -241,7 +268,7 @@ def main():
             show(results, *tried(*it))
         for it, work in begun:
             passed, told = work.result()
-            if passed is False:
+            if passed is False and it[1] not in ONCE:
                 print(f"{told}; it is tried again, alone", flush=True)
                 again.append(it)
             else:

@@ -14,14 +14,14 @@ PLAIN either.
 `tests/prose.py FILE ..` checks these documents alone, and `tests/prose.py --comments` the comments alone. Each finding is a line; the
 last one counts the files without and with a finding."""
 import ast
-import glob
 import io
 import os
 import re
 import sys
 import tokenize
 
-TOP = os.path.realpath(os.path.join(os.path.dirname(os.path.realpath(__file__)), ".."))
+from repository import TOP, files, read
+
 LINES = 200  # of README.md
 COLUMNS = 100
 WORDS = 40  # of a sentence
@@ -163,8 +163,7 @@ def cells(line):
 
 def look(path):
     """What is to be changed in a document, each with its line."""
-    with open(f"{TOP}/{path}", encoding="utf-8") as source:
-        lines = source.read().splitlines()
+    lines = read(path).splitlines()
     is_readme = path == "README.md"
     if is_readme and len(lines) > LINES:
         yield LINES + 1, f"{len(lines)} lines; at most {LINES}"
@@ -238,11 +237,10 @@ def scripts():
     """The scripts and sources of the repository in Python, bash, C and Rust, and files with comments like theirs."""
     paths = ["ilpstream", "try"]
     for folder in ("tests", "tools", "bench", "bind", "examples", "crates"):
-        paths += glob.glob(f"{folder}/**", root_dir=TOP, recursive=True)
+        paths += files(f"{folder}/**")
     for path in sorted(paths):
         if os.path.isfile(f"{TOP}/{path}") and os.path.splitext(path)[1] in ENDINGS and "/out/" not in path and "/target/" not in path:
-            with open(f"{TOP}/{path}", encoding="utf-8", errors="replace") as source:
-                text = source.read()
+            text = read(path, errors="replace")
             if text.startswith("#") or path.endswith((".py", ".c", ".h", ".rs", ".rt", ".antt", ".service")):
                 yield path, text
 
@@ -265,8 +263,8 @@ def main():
     if sys.argv[1:] == ["--comments"]:
         return report(of_comments)
     chosen = [os.path.relpath(os.path.realpath(path), TOP) for path in sys.argv[1:]]
-    pages = [*glob.glob(f"{TOP}/*.md"), *glob.glob(f"{TOP}/docs/*.md"), *glob.glob(f"{TOP}/bind/*/README.md")]
-    of_pages = ((path, list(look(path))) for path in chosen or sorted(os.path.relpath(path, TOP) for path in pages))
+    pages = sorted([*files("*.md"), *files("docs/*.md"), *files("bind/*/README.md")])
+    of_pages = ((path, list(look(path))) for path in chosen or pages)
     return report(of_pages if chosen else [*of_pages, *of_comments])
 
 

@@ -16,7 +16,6 @@ Each link from a document of the repository to another leads to a file, and to a
 
 `tests/readme.py FILE ..` checks these documents alone. The last line counts the blocks and the documents with good links,
 and what is not so."""
-import glob
 import os
 import re
 import secrets
@@ -26,17 +25,12 @@ import subprocess
 import sys
 import tempfile
 
-TOP = os.path.realpath(os.path.join(os.path.dirname(os.path.realpath(__file__)), ".."))
-PROGRAM = f"{TOP}/crates/ilpstream/out/ilpstream"
+from repository import BUILT, TOP, files, read
+
 SHOWING = ["README.md", "docs/COMMANDS.md", "docs/OPERATING.md", "docs/LIBRARY.md"]
 EMBEDDING = "docs/EMBEDDING.md"
 SECONDS = 120
 FENCE = re.compile(r"^(\s*)```(\w*)\s*$")
-
-
-def read(path):
-    with open(f"{TOP}/{path}", encoding="utf-8") as source:
-        return source.read()
 
 
 def blocks(path, language):
@@ -65,12 +59,7 @@ def plain(lines):
 
 def sources(*patterns):
     """The texts of the sources that these patterns name."""
-    found = []
-    for pattern in patterns:
-        for path in glob.glob(f"{TOP}/{pattern}", recursive=True):
-            with open(path, encoding="utf-8") as source:
-                found.append(plain(source.read().splitlines()))
-    return found
+    return [plain(read(path).splitlines()) for pattern in patterns for path in files(pattern)]
 
 
 def look_at_examples(paths):
@@ -123,8 +112,8 @@ def run(script, seconds=SECONDS):
     """What a script prints in a directory of its own, and why it was stopped, if it was."""
     room = tempfile.mkdtemp()
     try:
-        os.symlink(PROGRAM, f"{room}/ilpstream")
-        os.symlink(PROGRAM, f"{room}/try")
+        os.symlink(BUILT, f"{room}/ilpstream")
+        os.symlink(BUILT, f"{room}/try")
         os.symlink(f"{TOP}/examples", f"{room}/examples")
         os.symlink(f"{TOP}/README.md", f"{room}/README.md")
         os.symlink(f"{TOP}/bind", f"{room}/bind")
@@ -173,7 +162,7 @@ def look_at_commands(paths, seconds=SECONDS):
     nothing running."""
     for path in paths:
         found = blocks(path, "console")
-        if found and path != EMBEDDING and not os.access(PROGRAM, os.X_OK):
+        if found and path != EMBEDDING and not os.access(BUILT, os.X_OK):
             yield False, f"{path}: the program was not built, so its blocks were not run"
             continue
         said = [commands_and_output(lines) for _, lines in found]
@@ -239,7 +228,7 @@ def look_at_links(paths):
 def main():
     chosen = [os.path.relpath(os.path.realpath(path), TOP) for path in sys.argv[1:]]
     showing = chosen or [path for path in SHOWING if os.path.exists(f"{TOP}/{path}")]
-    linking = chosen or sorted(os.path.relpath(path, TOP) for path in glob.glob(f"{TOP}/*.md") + glob.glob(f"{TOP}/docs/*.md"))
+    linking = chosen or sorted(files("*.md") + files("docs/*.md"))
     passed = failed = 0
     examples = chosen or [*showing, EMBEDDING]
     commands = [path for path in showing if path != EMBEDDING]

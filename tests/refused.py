@@ -19,10 +19,9 @@ import sys
 import tempfile
 from dataclasses import dataclass, field
 
-sys.path.insert(0, os.path.join(os.path.dirname(os.path.realpath(__file__)), "..", "tools"))
-import crates as repository  # noqa: E402
+import repository
+from repository import TOP, read, write
 
-TOP = repository.TOP
 EDITS = f"{TOP}/tests/refused"
 # What the edits of one crate in rotation may take, in seconds of the processor. It is checked between groups of this number of edits.
 ROTATION = 600
@@ -53,11 +52,6 @@ class Edit:
 
     def __str__(self):
         return f"{self.crate}/{self.name}"
-
-
-def read(path):
-    with open(path, encoding="utf-8") as file:
-        return file.read()
 
 
 def read_edit(crate, name):
@@ -158,8 +152,7 @@ def write_change(room, file, old, new, line):
     """Makes a change in a copy of a crate, at its line: another edit may have brought the same text elsewhere."""
     lines = read(f"{room}/{file}").split("\n")
     lines[line] = lines[line].replace(old, new, 1)
-    with open(f"{room}/{file}", "w", encoding="utf-8") as changed:
-        changed.write("\n".join(lines))
+    write(f"{room}/{file}", "\n".join(lines))
 
 
 class Prover:

@@ -3,11 +3,20 @@
 its own, behind an nginx with examples/nginx/spread.conf, which senders reach over TLS by examples/nginx/onward.conf. Transfers
 over one and two of them, by what nginx refuses, next to a connector that is killed; and copies of books, taken under load, that
 are whole. A line for each test; the last one counts them. Needs nginx and openssl (tests/installed.py)."""
-import collections, glob, random, re, shutil, signal, sqlite3, threading, time
+import collections
+import glob
+import random
+import re
+import shutil
+import signal
+import sqlite3
+import threading
+import time
 
-from installed import arrives, certificate, comes, end, read, said, served
-from peers import HOST, asked, ended, free_ports, prepare, request, totals
-from play import PROGRAM, STAY, TOP, Wrong, main, option, some_bytes, test, until_it_listens, want
+from installed import certificate, end as end_script, said, served
+from peers import HOST, asked, free_ports, prepare, request, totals
+from play import PROGRAM, STAY, Wrong, arrives, comes, has_to_listen, main, option, some_bytes, test, want
+from repository import TOP, read
 
 PAGE = f"{TOP}/docs/SCALING.md"
 HUBS = {"one": "10.0.0.11:7770", "two": "10.0.0.12:7770", "three": "10.0.0.13:7770"}
@@ -54,8 +63,7 @@ class Hubs:
         ways = [f"--listen={HOST}:{self.ports[name]}", f"--own=example.hub.{number}", f"--requests={STAY}", f"--ledger={self.books(name)}"]
         it = self.play.start("connector", ways, given=self.play.file(table.encode()))
         it.port = self.ports[name]
-        if not until_it_listens(it):
-            raise Wrong(f"connector {name} does not listen: {ended(it, 1)}")
+        has_to_listen(it, f"connector {name}")
         self.hubs[name] = it
 
     def kill(self, name):
@@ -264,4 +272,4 @@ def other_ways_to_copy_are_refused(play):
 
 
 if __name__ == "__main__":
-    end(main())
+    end_script(main())

@@ -4,11 +4,15 @@ crate that its first line names, or, if that line is `tests: local`, a run of th
 `tests: memory`, the table of requests for memory that tests/memory.py compares has to be another one.
 `seen_by_tests.py [WORD]` tries those whose name has WORD in it. Nothing is proved: `rt try` runs the tests, or the program, as they
 are. It is run manually; the gate calls `seen_by_tests.py --look`, which says whether each can be made."""
-import os, re, shutil, subprocess, sys, tempfile
+import os
+import re
+import subprocess
+import sys
+import tempfile
 
 import memory
+from repository import TOP, read, write
 
-TOP = os.path.join(os.path.dirname(os.path.realpath(__file__)), "..")
 EDITS = os.path.join(TOP, "tests", "seen-by-tests")
 # More seconds than the tests of a crate, or a run of the program, may take.
 BOUND = 900
@@ -22,8 +26,7 @@ MEMORY = "memory"
 
 def read_edit(name):
     """The crate of the tests, the file, and its lines before and after."""
-    with open(os.path.join(EDITS, name), encoding="utf-8") as file:
-        return [line.split(": ", 1)[1] for line in file.read().rstrip("\n").split("\n")]
+    return [line.split(": ", 1)[1] for line in read(f"{EDITS}/{name}").rstrip("\n").split("\n")]
 
 
 def run_local(room):
@@ -74,8 +77,7 @@ def tried(trials, room):
 def made(name, room):
     """The file that an edit changes, what it holds, and what it would; nothing if the old line is not there once."""
     _, file, old, new = read_edit(name)
-    with open(f"{room}/{file}", encoding="utf-8") as source:
-        text = source.read()
+    text = read(f"{room}/{file}")
     return (f"{room}/{file}", text, text.replace(old, new)) if text.count(old) == 1 else None
 
 
@@ -92,11 +94,6 @@ def look(names):
     return 1 if lost or not names else 0
 
 
-def write(path, text):
-    with open(path, "w", encoding="utf-8") as file:
-        file.write(text)
-
-
 def main(words):
     names = sorted(it for it in os.listdir(EDITS) if it.endswith(".edit"))
     if words == ["--look"]:
@@ -104,9 +101,7 @@ def main(words):
     names = [it for it in names if all(word in it for word in words)]
     missed = 0
     with tempfile.TemporaryDirectory() as room:
-        shutil.copytree(f"{TOP}/crates", f"{room}/crates", ignore=shutil.ignore_patterns("out"))
-        for file in ("crates.txt", "HANDLES"):
-            shutil.copy(f"{TOP}/{file}", room)
+        memory.copy_to(room)
         for name in names:
             trials, *_ = read_edit(name)
             change = made(name, room)

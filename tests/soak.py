@@ -4,7 +4,21 @@ With SEED/NUMBER as its seed it runs that one round. Each round draws, from the 
 the proxies between neighbours spoil, and events: connections that send nothing or garbage, links that are gone, processes that
 are stopped for some seconds or killed. What is wrong is printed with the round's draw. One connector stays through all rounds,
 and its open files, threads and memory are checked. A summary is printed each minute, and at the end `N rounds, M wrong`."""
-import collections, dataclasses, glob, os, random, re, resource, select, signal, socket, sys, tempfile, threading, time, traceback
+import collections
+import dataclasses
+import glob
+import os
+import random
+import re
+import resource
+import select
+import signal
+import socket
+import sys
+import tempfile
+import threading
+import time
+import traceback
 
 from edges import feed, hold, threads
 from peers import HOST, Peer, ended, fields_at, free_ports, give_back, is_whole, message, prepare, request, totals, use_up

@@ -1,14 +1,22 @@
 #!/usr/bin/env python3
-"""Runs the commands with too little memory: tight.py PROGRAM. What may be allocated is set a step higher from run to run, from a
-step above what the program just starts in to what it runs well in. A line for each command reports the ways in which its runs
-ended, each once, and what is wrong, if anything is: a run writes a beginning of what it should and reports a numbered fault, or it
-writes all and has status 0."""
-import os, re, resource, subprocess, sys, tempfile, time
+"""Runs the commands with too little memory: tight.py [PROGRAM [WORD]] [-v]. What may be allocated is set a step higher from run to run,
+from a step above what the program just starts in to what it runs well in. A run writes a beginning of what it should and reports a
+numbered fault, or it writes all and has status 0. With a WORD, only the tests whose names have it. A line for each command has the
+ways in which its runs ended, each once; the last line counts them."""
+import functools
+import os
+import re
+import resource
+import subprocess
+import sys
+import tempfile
+import time
 
-from peers import HOST, SECRET, asked, free_port, listens, request
+from peers import GIVING, HOST, SECRET, asked, free_port, request
+from play import PROGRAM, main, some_bytes, test, until_it_listens, want
+from repository import write_bytes
 
-PROGRAM = sys.argv[1]
-INPUT = bytes(n % 251 for n in range(70_000))
+INPUT = some_bytes(70_000)
 TABLE = b"account 500 500 alice - -\naccount 500 500 bob 127.0.0.1:9 hub\nroute example.bob 1\n"
 # A hop that needs more memory than a step.
 ROUTES = TABLE + b"".join(b"route example.bob.%d 1\n" % n for n in range(4_000))
@@ -25,7 +33,8 @@ class Run:
     def __init__(self, words, space, given=os.devnull):
         limit = (lambda: resource.setrlimit(resource.RLIMIT_DATA, (space, space))) if space else None
         self.out = tempfile.TemporaryFile()
-        with open(given, "rb") as file:
+        # (while a port is tried, no process begins: it would have that socket until it runs its program)
+        with open(given, "rb") as file, GIVING:
             self.ran = subprocess.Popen([PROGRAM, *words], stdin=file, stdout=self.out, stderr=subprocess.PIPE, preexec_fn=limit)
 
     def ending(self, whole, bound=BOUND):
@@ -54,6 +63,7 @@ def judged(status, errors, written, whole):
     return f"WRONG: status {status}, {len(written)} bytes, {errors[:200]!r}"
 
 
+@functools.cache
 def least():
     """The least space in which the program starts."""
     low, high = 0, 1 << 30
@@ -64,13 +74,10 @@ def least():
     return high
 
 
-def is_up(port, ran):
-    """Whether a process listens at a port before it ends."""
-    while ran.poll() is None:
-        if listens(port):
-            return True
-        time.sleep(0.005)
-    return False
+def is_up(port, it):
+    """Whether a run listens at a port before it ends."""
+    it.ran.port = port
+    return until_it_listens(it.ran)
 
 
 def ask(port, ran):
@@ -99,8 +106,8 @@ def connector(table, books=None):
             if os.path.exists(path):
                 os.remove(path)
         kept = [f"--ledger={books}"] if books else []
-        it = Run(["connector", f"--listen=127.0.0.1:{port}", "--own=example.hub", "--requests=1", *kept], space, table)
-        if is_up(port, it.ran):
+        it = Run(["connector", f"--listen={HOST}:{port}", "--own=example.hub", "--requests=1", *kept], space, table)
+        if is_up(port, it):
             ask(port, it.ran)
         told = it.ending(b"", 1)
         if books:
@@ -119,12 +126,12 @@ def transfer(given, tight):
         port = free_port()
         own = ["--token=t", f"--secret={SECRET}"]
         receive = Run(
-            ["receive", f"--listen=127.0.0.1:{port}", *own, "--address=test.b", "--peer=test.a"],
+            ["receive", f"--listen={HOST}:{port}", *own, "--address=test.b", "--peer=test.a"],
             space if tight == "receive" else 0)
-        if not is_up(port, receive.ran):
+        if not is_up(port, receive):
             return receive.ending(INPUT)
         send = Run(
-            ["send", f"--to=127.0.0.1:{port}", *own, "--address=test.a", "--peer=test.b", "--workers=2"],
+            ["send", f"--to={HOST}:{port}", *own, "--address=test.a", "--peer=test.b", "--workers=2"],
             space if tight == "send" else 0, given)
         sent = send.ending(b"")
         received = receive.ending(INPUT, BOUND if sent == "well" else 0.2)
@@ -149,26 +156,32 @@ def sweep(run, low):
     return f"WRONG: does not end well, {', '.join(sorted(met))}"
 
 
-def main():
-    with tempfile.TemporaryDirectory() as room:
-        bytes_, table, routes = f"{room}/bytes", f"{room}/table", f"{room}/routes"
-        for path, held in ((bytes_, INPUT), (table, TABLE), (routes, ROUTES)):
-            with open(path, "wb") as file:
-                file.write(held)
-        low = least()
-        for name, run in (
-            ("words", words()),
-            ("local", local(bytes_)),
-            ("connector", connector(table)),
-            ("routes", connector(routes)),
-            ("connector with books", connector(table, f"{room}/books")),
-            ("receive", transfer(bytes_, "receive")),
-            ("send", transfer(bytes_, "send")),
-        ):
-            begun = time.time()
-            print(f"{name}: {sweep(run, low)}", flush=True)
-            if "-v" in sys.argv:
-                print(f"   {time.time() - begun:.1f} s", flush=True)
+# How the line of a command begins. A connector of one account needs no more than the least; a receiver that cannot answer waits for a
+# request that it can.
+WANTED = {"words": "fault 99, well", "local": "fault 99, well", "send": "fault "}
+WAITS = "waits, well"  # in the line of a receiver
 
 
-main()
+@test(*[(it,) for it in ("words", "local", "connector", "routes", "connector with books", "receive", "send")])
+def too_little_memory_for(play, command):
+    paths = {}
+    for name, content in (("bytes", INPUT), ("table", TABLE), ("routes", ROUTES)):
+        paths[name] = f"{play.room}/{name}"
+        write_bytes(paths[name], content)
+    runs = {
+        "words": words(),
+        "local": local(paths["bytes"]),
+        "connector": connector(paths["table"]),
+        "routes": connector(paths["routes"]),
+        "connector with books": connector(paths["table"], f"{play.room}/books"),
+        "receive": transfer(paths["bytes"], "receive"),
+        "send": transfer(paths["bytes"], "send"),
+    }
+    told = sweep(runs[command], least())
+    want("WRONG" not in told and told.startswith(WANTED.get(command, "")), told)
+    want(command != "receive" or WAITS in told, told)
+    return told
+
+
+if __name__ == "__main__":
+    raise SystemExit(main())

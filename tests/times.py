@@ -3,7 +3,11 @@
 ends or this gets SIGTERM, and then prints, for each crate, the processor's seconds of its proof, of its tests, which are proved
 too, and of its wrong bodies; then those of compilers and of what they built; and the sums. What a process takes in its last
 second is missed. `times.py --table LOG` prints these lines of a gate's output as the table of docs/GATE.md."""
-import os, re, signal, sys, time
+import os
+import re
+import signal
+import sys
+import time
 from collections import defaultdict
 
 TICK = os.sysconf("SC_CLK_TCK")
@@ -97,4 +101,5 @@ def main():
         table(subjects, seconds)
 
 
-main()
+if __name__ == "__main__":
+    main()

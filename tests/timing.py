@@ -479,8 +479,7 @@ def compare(seen, around, lines):
 
 def fixtures():
     """Whether each function of tests/timing/planted.s is named for what the comment before it says, and for nothing else."""
-    with open(f"{LISTS}/planted.s", encoding="utf-8") as source:
-        wanted = {name: what for what, name in re.findall(r'^# (.*)\n"([^"]+)":', source.read(), re.M)}
+    wanted = {name: what for what, name in re.findall(r'^# (.*)\n"([^"]+)":', read(f"{LISTS}/planted.s"), re.M)}
     with tempfile.TemporaryDirectory() as room:
         subprocess.run(["cc", "-nostdlib", "-shared", "-o", f"{room}/planted", f"{LISTS}/planted.s"], check=True)
         seen = seen_in(followed(functions(f"{room}/planted"), {}), {})

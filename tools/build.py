@@ -15,10 +15,9 @@ import sys
 import tempfile
 import time
 
-from crates import TOP, kit, read_crates, with_below, words
+from crates import BUILT, TOP, kit, read_crates, with_below, words
 
 PROGRAM = "ilpstream"
-BUILT = f"{TOP}/crates/{PROGRAM}/out/{PROGRAM}"
 # The processor's seconds that each crate takes from nothing, by the table in docs/GATE.md; those that are not here take OTHER.
 WEIGHTS = {
     "st_transfer": 396, "st_chain": 331, "st_books": 330, "st_sender": 320, "st_hub": 244, "st_words": 227, "st_receiver": 226,

@@ -1,18 +1,46 @@
-"""What the scripts of this repository have in common: the crates of crates.txt, and how the kit's prover is called for one."""
+"""What the scripts of this repository have in common: its files, the crates of crates.txt, and how the kit's prover is called for one."""
+import glob
 import os
 import subprocess
 
 TOP = os.path.realpath(os.path.join(os.path.dirname(os.path.realpath(__file__)), ".."))
+# The program that `rt ci` or tools/build.py built.
+BUILT = f"{TOP}/crates/ilpstream/out/ilpstream"
+
+
+def read(path, encoding="utf-8", errors=None):
+    """The text of a file of the repository, or of one by its whole path."""
+    with open(os.path.join(TOP, path), encoding=encoding, errors=errors) as file:
+        return file.read()
+
+
+def read_bytes(path):
+    with open(os.path.join(TOP, path), "rb") as file:
+        return file.read()
+
+
+def write(path, text, encoding="utf-8"):
+    with open(os.path.join(TOP, path), "w", encoding=encoding) as file:
+        file.write(text)
+
+
+def write_bytes(path, content):
+    with open(os.path.join(TOP, path), "wb") as file:
+        file.write(content)
+
+
+def files(pattern):
+    """The paths of the repository's files that a pattern names."""
+    return sorted(os.path.relpath(path, TOP) for path in glob.glob(f"{TOP}/{pattern}", recursive=True))
 
 
 def read_crates():
     """Each crate of crates.txt with the names after its colon, in their order there."""
     found = {}
-    with open(f"{TOP}/crates.txt", encoding="utf-8") as lines:
-        for line in lines:
-            head, colon, names = line.partition("#")[0].partition(":")
-            if colon:
-                found[head.split()[0]] = names.split()
+    for line in read("crates.txt").splitlines():
+        head, colon, names = line.partition("#")[0].partition(":")
+        if colon:
+            found[head.split()[0]] = names.split()
     return found
 
 
@@ -49,7 +77,7 @@ def lacking(name, crates):
 
 def words(name, crates, at, rlib=rlib):
     """The arguments of the prover for a crate, in its folder, over the libraries that were built here: `rlib` gives their places."""
-    static = f"{name} staticlib:" in open(f"{TOP}/crates.txt", encoding="utf-8").read()
+    static = f"{name} staticlib:" in read("crates.txt")
     root = "src/main.rt" if os.path.isfile(f"{TOP}/crates/{name}/src/main.rt") else "src/lib.rt"
     found = ["--crate-name", name, root, *["--crate-type", "staticlib"] * static]
     for it in ["std", *crates[name]]:

@@ -13,7 +13,8 @@ import sys
 import textwrap
 import tomllib
 
-TOP = os.path.dirname(os.path.dirname(os.path.realpath(__file__)))
+from crates import TOP, read, write
+
 TABLE = "docs/errors.toml"
 DOCUMENT = "docs/ERRORS.md"
 ROWS = "crates/st_faults/specs/Rows.antt"
@@ -53,8 +54,7 @@ class Row:
 
 
 def table():
-    with open(f"{TOP}/{TABLE}", "rb") as source:
-        rows = [Row(said) for said in tomllib.load(source)["row"]]
+    rows = [Row(said) for said in tomllib.loads(read(TABLE))["row"]]
     if [row.key() for row in rows] != sorted({row.key() for row in rows}):
         sys.exit(f"{TABLE}: the rows do not rise by number, crate and variant")
     return rows
@@ -84,8 +84,7 @@ def numbers(rows):
 
 def document(rows):
     """The document with both tables in their places: each is found by its first cell."""
-    with open(f"{TOP}/{DOCUMENT}", encoding="utf-8") as source:
-        lines, out, skipped = source.read().splitlines(), [], False
+    lines, out, skipped = read(DOCUMENT).splitlines(), [], False
     made = {"| Fault |": faults(rows), "| Number |": numbers(rows)}
     for line in lines:
         first = next((first for first in made if line.startswith(first)), None)
@@ -164,6 +163,23 @@ def specs(rows):
     return "\n".join(head + out + ["    []"]) + "\n"
 
 
+def of_ten(tens, used):
+    """The lines of the array of ten numbers, of those that have a text, and of the function that gives it."""
+    cells = [f"    Some(FAULT_{n})," if n in used else "    None," for n in range(TEN * tens, TEN * (tens + 1))]
+    start = f"static TENS_{tens}: [Option<&str>; {TEN}] ="
+    return [
+        *([f"{start} [", *cells, "];"] if any("FAULT" in cell for cell in cells) else [f"{start} [None; {TEN}];"]),
+        "",
+        f"/// What `explain` prints for {TEN * tens} to {TEN * tens + TEN - 1}.",
+        f"fn tens_{tens}() -> &'static [Option<&'static str>; {TEN}]",
+        f"    ensures {{ map (option_map (λ t. t.now)) result.now ≡ map explanation (range_with_len {TEN * tens} {TEN}) }}",
+        "{",
+        f"    &TENS_{tens}",
+        "}",
+        "",
+    ]
+
+
 def source(rows):
     used = sorted({row.number for row in rows})
     head = [
@@ -182,19 +198,7 @@ def source(rows):
         out += [f'{name} "{text}";', ""] if fits else [name, f'    "{text}";', ""]
     most = used[-1] // TEN
     for tens in range(most + 1):
-        cells = [f"    Some(FAULT_{n})," if n in used else "    None," for n in range(TEN * tens, TEN * (tens + 1))]
-        start = f"static TENS_{tens}: [Option<&str>; {TEN}] ="
-        out += [f"{start} [", *cells, "];"] if any("FAULT" in cell for cell in cells) else [f"{start} [None; {TEN}];"]
-        out += [
-            "",
-            f"/// What `explain` prints for {TEN * tens} to {TEN * tens + TEN - 1}.",
-            f"fn tens_{tens}() -> &'static [Option<&'static str>; {TEN}]",
-            f"    ensures {{ map (option_map (λ t. t.now)) result.now ≡ map explanation (range_with_len {TEN * tens} {TEN}) }}",
-            "{",
-            f"    &TENS_{tens}",
-            "}",
-            "",
-        ]
+        out += of_ten(tens, used)
     out += [
         f"/// What `explain` prints for the {TEN} numbers from `{TEN} * tens` on. `None` if no number there has a text.",
         f"pub(crate) fn texts(tens: u8) -> Option<&'static [Option<&'static str>; {TEN}]>",
@@ -230,15 +234,13 @@ def main():
     made[DOCUMENT] = document(rows)
     apart = 0
     for path, text in made.items():
-        full = f"{TOP}/{path}"
         if sys.argv[1:] == ["--look"]:
-            if not os.path.exists(full) or open(full, encoding="utf-8").read() != text:
+            if not os.path.exists(f"{TOP}/{path}") or read(path) != text:
                 print(f"{path} is not what {TABLE} says: run tools/errors.py")
                 apart += 1
         else:
-            os.makedirs(os.path.dirname(full), exist_ok=True)
-            with open(full, "w", encoding="utf-8") as out:
-                out.write(text)
+            os.makedirs(os.path.dirname(f"{TOP}/{path}"), exist_ok=True)
+            write(path, text)
     print(f"{len(made) - apart} files as written, {apart} not")
     sys.exit(1 if apart else 0)
 

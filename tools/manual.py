@@ -13,7 +13,8 @@ import re
 import sys
 import textwrap
 
-TOP = os.path.dirname(os.path.dirname(os.path.realpath(__file__)))
+from crates import TOP, read, write
+
 DOCUMENT = "docs/COMMANDS.md"
 SOURCE = "crates/st_words/src/program.rt"
 PAGE = "share/man/man1/ilpstream.1"
@@ -36,11 +37,6 @@ COLUMNS = 100
 CODE = re.compile(r"`([^`]+)`")
 LINK = re.compile(r"\[([^\]]*)\]\([^)]*\)")
 BY = f"Written by tools/manual.py from {DOCUMENT}."
-
-
-def read(path):
-    with open(f"{TOP}/{path}", encoding="utf-8") as source:
-        return source.read()
 
 
 # ---- the document
@@ -304,8 +300,7 @@ def main():
     if sys.argv[1:] != ["--look"]:
         for path, text in texts.items():
             os.makedirs(os.path.dirname(f"{TOP}/{path}"), exist_ok=True)
-            with open(f"{TOP}/{path}", "w", encoding="utf-8") as target:
-                target.write(text)
+            write(path, text)
         return 0
     stands = {path: os.path.exists(f"{TOP}/{path}") and read(path) == text for path, text in texts.items()}
     for path, good in stands.items():
