@@ -38,10 +38,8 @@ import sys
 import tempfile
 from dataclasses import dataclass, field
 
-sys.path.insert(0, os.path.join(os.path.dirname(os.path.realpath(__file__)), "..", "tools"))
-import crates as repository  # noqa: E402
+from repository import TOP, kit, read, read_crates, words as words_of
 
-TOP = repository.TOP
 LISTS = f"{TOP}/tests/timing"
 PROGRAM = f"{TOP}/crates/ilpstream/out/ilpstream"
 # The program of st_keys alone, and the crates that it names.
@@ -383,19 +381,18 @@ def listed(path):
     lines, function = collections.OrderedDict(), None
     if not os.path.exists(path):
         return lines
-    with open(path, encoding="utf-8") as text:
-        for line in text.read().splitlines():
-            if not line.strip() or line.startswith("#"):
-                continue
-            if not line.startswith(" "):
-                function = line.strip()
-                what, _, reason = function.partition("  -- ")
-                is_outside = what.startswith(f"{OUTSIDE} ")
-                lines[(what.removeprefix(f"{OUTSIDE} "), OUTSIDE) if is_outside else (function, "")] = (0, reason.strip() or "named")
-                continue
-            what, _, reason = line.strip().partition("  -- ")
-            count, _, what = what.partition(" ")
-            lines[(function, what)] = (int(count), reason.strip())
+    for line in read(path).splitlines():
+        if not line.strip() or line.startswith("#"):
+            continue
+        if not line.startswith(" "):
+            function = line.strip()
+            what, _, reason = function.partition("  -- ")
+            is_outside = what.startswith(f"{OUTSIDE} ")
+            lines[(what.removeprefix(f"{OUTSIDE} "), OUTSIDE) if is_outside else (function, "")] = (0, reason.strip() or "named")
+            continue
+        what, _, reason = line.strip().partition("  -- ")
+        count, _, what = what.partition(" ")
+        lines[(function, what)] = (int(count), reason.strip())
     return lines
 
 
@@ -424,10 +421,10 @@ def unseen(function):
 
 def built(level, room):
     """The program of st_keys alone, built for this level in a folder over the libraries that `rt ci` left."""
-    at, every = repository.kit(), repository.read_crates() | {KEYS: BELOW}
+    at, every = kit(), read_crates() | {KEYS: BELOW}
     os.mkdir(f"{room}/src")
     shutil.copy(f"{LISTS}/{KEYS}.rattle", f"{room}/src/main.rt")
-    words = [it.replace("src/lib.rt", "src/main.rt") for it in repository.words(KEYS, every, at)]
+    words = [it.replace("src/lib.rt", "src/main.rt") for it in words_of(KEYS, every, at)]
     tools = ["--toolchain", f"{at}/toolchain"]
     for command in (
         [f"{at}/bin/rattle", "build", *words, f"--cpu={level}", *tools, "-o", f"{room}/{KEYS}.o"],
