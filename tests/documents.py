@@ -509,7 +509,7 @@ SAID = {
     ],
     "docs/OPERATING.md": [(rf"If that host has AVX2, it is built for level {LEVEL} and needs a processor with it; else {LEVEL} is enough", "program")],
     "SECURITY.md": [
-        (rf"The tests build the cipher for {LEVEL}", "kit"),
+        (rf"The tests check the program itself as they build it, for {LEVEL}", "kit"),
         (rf"`\./ilpstream` builds for {LEVEL} if the processor has it", "above"),
     ],
     "docs/EMBEDDING.md": [(r"\(version (\d) of the instruction set", "library")],
@@ -525,7 +525,7 @@ def flags_of(path):
 
 def levels():
     """The levels for which the kit, the program and the library are built, each list from the highest to the lowest."""
-    kit = re.findall(rf"level or '{LEVEL}'", read("tests/timing.py"))
+    kit = re.findall(rf"asked or '{LEVEL}'", read("tests/timing.py"))
     above = flags_of("tools/build.py")
     others = [*flags_of("bind/archive"), *flags_of("bind/build"), *flags_of("ilpstream"), *flags_of("bind/python/backend.py")]
     return {"kit": kit, "above": above, "program": [*above, *kit], "library": others or kit}

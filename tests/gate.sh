@@ -67,6 +67,7 @@ documents() {
     step 5 tests/generated.py
     step 5 tests/manual.py
     step 5 tests/timing.py
+    step 5 tests/timing.py --cpu=x86-64-v3
     step 5 tests/timing.py --fixtures
     step 5 tests/seen_by_tests.py --look
     step 5 tests/refused.py --look

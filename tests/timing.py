@@ -1,16 +1,25 @@
 #!/usr/bin/env python3
-"""Checks the machine code of the cipher and the hash for what could make its time depend on a secret.
+"""Checks the machine code of the cipher, the keys and the hash for what could make its time depend on a secret.
 
 tests/timing.py [PROGRAM] [--cpu=LEVEL]     PROGRAM, compared with tests/timing/NAME.LEVEL.txt; NAME is the program's, LEVEL x86-64-v2
-                                            unless it is given. Without PROGRAM: crates/bench_aes/out/bench_aes, as `rt ci` builds
-                                            it, and with --cpu= as `rt run` builds it for that level, in a copy
+                                            unless it is given. Without PROGRAM: crates/ilpstream/out/ilpstream, as `rt ci` builds
+                                            it, and with --cpu= tests/timing/keys.rattle, a program of st_keys alone, which is built
+                                            for that level over the libraries that `rt ci` left
 tests/timing.py [PROGRAM] [--cpu=LEVEL] --print   prints what there is in the form of the list, with the reasons that it or another has
 tests/timing.py --fixtures                  the functions of tests/timing/planted.s: each has to be named for what it has
 
-It checks the functions of st_aes, st_keys and the kit's sha2, those of bench_aes that seal, open, make keys and encrypt blocks,
-and each function that the list names: they hold what the compiler moved into them. A function that one of them calls is checked
-too, unless the list explains the call. Named are each conditional jump, each read of memory at a computed place, each division, each
-repeated instruction that compares, and each call of what is not a function of the program's own, as `bcmp`, or of a computed place.
+Secret are the shared secret, the keys, all that is computed of them, the tag that is expected, and the text in the cipher. Not secret
+are how long a text is, the payload as sent, whether a tag is right, and what a packet says once its tag was right: its sequence, its
+amount, and the kinds, lengths and numbers of its frames.
+
+It checks the functions of st_aes, st_keys and the kit's sha2, and each function that the list names: they hold what the compiler moved
+into them. A function that one of them calls is checked too, unless the list explains the call. The check ends at st_frames and st_oer,
+which write a packet before it is encrypted and read it once its tag was right, and at std_alloc, which gives memory: each call of one
+is in the list, with its reason. A function that calls one of st_aes, st_keys or sha2 has to be in the list, as checked or, with the
+reason, as `outside`.
+
+Named are each conditional jump, each read or write of memory at a computed place, each division, each repeated instruction that
+compares, and each call of what is not a function of the program's own, as `bcmp`, or of a computed place.
 
 A line of the list is a function, an instruction with its registers as r and places in the frame and the program left out, how often
 it is there, and why it depends on no secret. A place is computed if it has an index, or if its base comes of arithmetic on
@@ -20,6 +29,7 @@ Into each function that is checked a branch, a read at a place that lay in the f
 in what objdump printed: each has to be named. Needs objdump, and for the fixtures cc. Each finding is a line; the last line counts
 the lines of the list that are true and what was planted and named, and then the findings."""
 import collections
+import functools
 import os
 import re
 import shutil
@@ -28,17 +38,26 @@ import sys
 import tempfile
 from dataclasses import dataclass, field
 
-TOP = os.path.realpath(os.path.join(os.path.dirname(os.path.realpath(__file__)), ".."))
+sys.path.insert(0, os.path.join(os.path.dirname(os.path.realpath(__file__)), "..", "tools"))
+import crates as repository  # noqa: E402
+
+TOP = repository.TOP
 LISTS = f"{TOP}/tests/timing"
-LOOKED_AT = re.compile(r"^(st_aes::|st_keys::|sha2::|bench_aes::\w+_again$)")
-# The functions that have to be there, by the program's name, so that nothing passes unseen because its name changed. A name that
-# ends in :: means one function of that crate at least.
-WANTED = {"bench_aes": [f"bench_aes::{it}_again" for it in ("seal", "open", "key", "block")]}
-WANTED_ELSE = ["st_aes::", "st_keys::", "sha2::"]
+PROGRAM = f"{TOP}/crates/ilpstream/out/ilpstream"
+# The program of st_keys alone, and the crates that it names.
+KEYS, BELOW = "keys", ["st_frames", "st_keys"]
+LOOKED_AT = re.compile(r"^(st_aes|st_keys|sha2)::")
+CALLS_CHECKED = re.compile(r"^(call|jmp) +[0-9a-f]+ <(st_aes|st_keys|sha2)::")
+# The crates at which the check ends.
+BORDER = re.compile(r"^(st_frames|st_oer|std_alloc)::")
+# What has to be there, so that nothing passes unseen because its name changed: one function at least of each crate.
+WANTED = ["st_aes::", "st_keys::", "sha2::"]
 REGISTER = re.compile(r"%[a-z]+[0-9]*[a-z]*")
 WIDE = re.compile(r"%[xyz]mm[0-9]+")
 PLACE = re.compile(r"(-?0x[0-9a-f]+)?\(([^)]*)\)")
 HEAD = re.compile(r"^([0-9a-f]+) <(.*)>:$")
+# What a name says of the types that a function is made for, by a checksum.
+TYPES = re.compile(r"::<#[0-9a-f]+>")
 CODE = re.compile(r"^ +([0-9a-f]+):\s+(\S.*)$")
 # Instructions that set the flags which a jump reads.
 FLAGS = re.compile(r"^(cmp|test|add|sub|inc|dec|neg|and|or|xor|sh[lr]|sar|bt|bsf|bsr|[lt]zcnt|popcnt|ptest|vptest|u?comis|vu?comis|adc|sbb|imul|mul)")
@@ -69,9 +88,19 @@ class Instruction:
 
 @dataclass
 class Function:
+    """A function: its name, its address, and its lines as objdump prints them, each an address and a text."""
+
     name: str
     at: int
-    code: list = field(default_factory=list)
+    lines: list = field(default_factory=list)
+
+    @functools.cached_property
+    def code(self):
+        return [read_instruction(int(at, 16), text) for at, text in self.lines]
+
+    def calls_checked(self):
+        """Whether it calls one of the crates that are checked, or ends by it."""
+        return any(CALLS_CHECKED.search(text) for _, text in self.lines)
 
 
 def whole(register):
@@ -88,7 +117,7 @@ def whole(register):
 
 def read_instruction(at, text):
     """An instruction as objdump prints it."""
-    text, _, comment = text.partition("#")
+    text, _, comment = TYPES.sub("", text).partition("#")
     prefix = PREFIXES.match(text)
     rest = text[prefix.end():] if prefix else text
     mnemonic, _, operands = rest.strip().partition(" ")
@@ -110,9 +139,9 @@ def functions(program):
     for line in said.stdout.splitlines():
         head, code = HEAD.match(line), CODE.match(line)
         if head:
-            last = found[int(head[1], 16)] = Function(head[2], int(head[1], 16))
+            last = found[int(head[1], 16)] = Function(TYPES.sub("", head[2]), int(head[1], 16))
         elif code and last:
-            last.code.append(read_instruction(int(code[1], 16), code[2]))
+            last.lines.append((code[1], code[2]))
     return found
 
 
@@ -144,16 +173,17 @@ def is_store(mnemonic, parts, n):
     return n == len(parts) - 1 and len(parts) > 1 and re.match(r"^(v?mov|set|push|pop|v?p?extr)", mnemonic)
 
 
-def reads(it):
-    """Its operands in memory that it reads, each with its base and whether it has an index."""
+def places(it):
+    """Its operands in memory, each with `read` or `write`, its base, and whether it has an index. What is read and written counts as
+    read."""
     if re.match(r"^(lea|nop|prefetch)", it.mnemonic):
         return []
     parts, found = operands_of(it.operands), []
     for n, part in enumerate(parts):
         place = PLACE.search(part)
-        if place and not is_store(it.mnemonic, parts, n):
+        if place:
             inner = [word.strip() for word in place[2].split(",")]
-            found.append((inner[0], len(inner) > 1 and inner[1] != ""))
+            found.append(("write" if is_store(it.mnemonic, parts, n) else "read", inner[0], len(inner) > 1 and inner[1] != ""))
     return found
 
 
@@ -282,14 +312,14 @@ def findings(code, own=lambda it: False):
     seen, flags, frame = collections.Counter(), "none", frame_of(code)
     for it, known in zip(code, clean_at(code, frame)):
         text = plain(it.operands, frame)
-        for base, indexed in reads(it):
+        for how, base, indexed in places(it):
             if indexed or base.startswith("%") and base not in (*frame, "%rip") and whole(base) not in known:
-                seen[f"read {it.mnemonic} {text}"] += 1
+                seen[f"{how} {it.mnemonic} {text}"] += 1
         if it.mnemonic.startswith(("j", "loop")) and not it.mnemonic.startswith("jmp"):
             seen[f"jump {flags}, {it.mnemonic}"] += 1
         elif it.mnemonic.startswith("jmp") and it.operands.startswith("*") and not it.named:
             seen[f"jump to a computed place {text}"] += 1
-        if it.mnemonic.startswith("call") or is_leaving(it, code):
+        if is_call(it, code):
             if not it.named:
                 seen[f"call of a computed place {text}"] += 1
             elif not own(it):
@@ -310,9 +340,13 @@ def is_leaving(it, code):
     return bool(it.named) and not (it.goes is not None and code[0].at <= it.goes <= code[-1].at)
 
 
+def is_call(it, code):
+    return it.mnemonic.startswith("call") or is_leaving(it, code)
+
+
 def followed(all_functions, lines):
     """The functions that are checked, by name: those by their names, those that the list names, and those that they call."""
-    named = {function for function, _ in lines}
+    named = {function for function, what in lines if what != OUTSIDE}
     left = [it for it in all_functions.values() if LOOKED_AT.match(it.name) or it.name in named]
     found = collections.OrderedDict()
     while left:
@@ -321,10 +355,15 @@ def followed(all_functions, lines):
             continue
         found[it.at] = it
         for called in it.code:
-            if (called.mnemonic.startswith("call") or is_leaving(called, it.code)) and (it.name, f"call {called.named}") not in lines:
-                if called.goes in all_functions and "::" in called.named:
+            if is_call(called, it.code) and (it.name, f"call {called.named}") not in lines:
+                if called.goes in all_functions and "::" in called.named and not BORDER.match(called.named):
                     left.append(all_functions[called.goes])
     return found
+
+
+def callers(all_functions, found):
+    """The functions that call one of the crates that are checked, and are not checked themselves."""
+    return {it.name for it in all_functions.values() if it.at not in found and it.calls_checked()}
 
 
 def seen_in(found, lines):
@@ -339,7 +378,8 @@ def seen_in(found, lines):
 
 
 def listed(path):
-    """The list's lines, by function and instruction: how often, and why. A line of no instruction means the function itself."""
+    """The list's lines, by function and instruction: how often, and why. A line of no instruction means the function itself, and
+    `outside` one that is not checked."""
     lines, function = collections.OrderedDict(), None
     if not os.path.exists(path):
         return lines
@@ -349,7 +389,9 @@ def listed(path):
                 continue
             if not line.startswith(" "):
                 function = line.strip()
-                lines[(function, "")] = (0, "named")
+                what, _, reason = function.partition("  -- ")
+                is_outside = what.startswith(f"{OUTSIDE} ")
+                lines[(what.removeprefix(f"{OUTSIDE} "), OUTSIDE) if is_outside else (function, "")] = (0, reason.strip() or "named")
                 continue
             what, _, reason = line.strip().partition("  -- ")
             count, _, what = what.partition(" ")
@@ -357,6 +399,8 @@ def listed(path):
     return lines
 
 
+# What a line of the list begins with that is on a caller.
+OUTSIDE = "outside"
 # What is planted, and how it has to be named: a branch, a read at a place that was computed, copied and kept in the frame, a call,
 # and a division. (The registers are those that any function may use.)
 PLANTED = [
@@ -378,43 +422,42 @@ def unseen(function):
     return lost
 
 
-def built(level):
-    """The program at this level, built in a copy of the crates that it is built on."""
-    room = tempfile.mkdtemp(prefix="timing.")
-    try:
-        for name in "crates.txt", "HANDLES":
-            shutil.copy(f"{TOP}/{name}", room)
-        lines = [line for line in open(f"{TOP}/crates.txt", encoding="utf-8") if re.match(r"^(st_aes|bench_aes):", line)]
-        with open(f"{room}/crates.txt", "w", encoding="utf-8") as out:
-            out.writelines(lines)
-        for crate in "st_aes", "bench_aes":
-            shutil.copytree(f"{TOP}/crates/{crate}", f"{room}/crates/{crate}", symlinks=True)
-        subprocess.run(
-            ["rt", "run", f"--cpu={level}", "--", "0", "0"],
-            cwd=f"{room}/crates/bench_aes", stdin=subprocess.DEVNULL, stdout=subprocess.DEVNULL, check=True,
-        )
-        kept = tempfile.NamedTemporaryFile(prefix="bench_aes.", delete=False).name
-        shutil.copy(f"{room}/crates/bench_aes/out/bench_aes", kept)
-        return kept
-    finally:
-        shutil.rmtree(room)
+def built(level, room):
+    """The program of st_keys alone, built for this level in a folder over the libraries that `rt ci` left."""
+    at, every = repository.kit(), repository.read_crates() | {KEYS: BELOW}
+    os.mkdir(f"{room}/src")
+    shutil.copy(f"{LISTS}/{KEYS}.rattle", f"{room}/src/main.rt")
+    words = [it.replace("src/lib.rt", "src/main.rt") for it in repository.words(KEYS, every, at)]
+    tools = ["--toolchain", f"{at}/toolchain"]
+    for command in (
+        [f"{at}/bin/rattle", "build", *words, f"--cpu={level}", *tools, "-o", f"{room}/{KEYS}.o"],
+        [f"{at}/bin/rattle-link", "--target", "x86_64-unknown-linux-gnu", *tools, "-o", f"{room}/{KEYS}", f"{room}/{KEYS}.o",
+         f"{at}/c/libos_c.a", f"{at}/c/liblibc_c.a"],
+    ):
+        ran = subprocess.run(command, cwd=room, stdin=subprocess.DEVNULL, stdout=subprocess.PIPE, stderr=subprocess.STDOUT, text=True, check=False)
+        if ran.returncode:
+            sys.exit(f"{ran.stdout[-2000:]}\ntests/timing/{KEYS}.rattle was not built\n0 passed, 1 failed")
+    return f"{room}/{KEYS}"
 
 
-def print_list(seen, lines):
+def print_list(seen, around, lines):
     """Each finding, with the reason that the list has, or another one."""
     others = {it: reason for name in sorted(os.listdir(LISTS)) if name.endswith(".txt") for it, (_, reason) in listed(f"{LISTS}/{name}").items()}
+
+    def reason(*what):
+        return lines.get(what, (0, ""))[1] or others.get(what, "")
+
+    for function in sorted(around):
+        print(f"{OUTSIDE} {function}  -- {reason(function, OUTSIDE)}")
     for function, code in seen.items():
         print(function)
         for what, count in sorted(code.items()):
-            print(f"    {count} {what}  -- {lines.get((function, what), (0, ''))[1] or others.get((function, what), '')}")
+            print(f"    {count} {what}  -- {reason(function, what)}")
 
 
-def compare(seen, lines, wanted):
+def compare(seen, around, lines):
     """How many lines of the list are true, and what is not."""
-    passed, failed = 0, []
-    for name in wanted:
-        if not any(it.startswith(name) if name.endswith("::") else it == name for it in seen):
-            failed.append(f"{name} is not in the program")
+    passed, failed = 0, [f"no function of {it} is in the program" for it in WANTED if not any(name.startswith(it) for name in seen)]
     for function, code in seen.items():
         for what, count in code.items():
             times, reason = lines.get((function, what), (0, ""))
@@ -422,7 +465,15 @@ def compare(seen, lines, wanted):
                 passed += 1
             else:
                 failed.append(f"{function}: {count} times, of which the list explains {times if reason else 0}: {what}")
-    failed += [f"{function}: in the list alone: {what}" for function, what in lines if what and not seen.get(function, {}).get(what)]
+    for function in sorted(around):
+        if lines.get((function, OUTSIDE), (0, "named"))[1] == "named":
+            failed.append(f"{function}: calls one of the functions that are checked, and is not in the list")
+        else:
+            passed += 1
+    for function, what in lines:
+        is_there = function in around if what == OUTSIDE else function in seen if what == "" else seen.get(function, {}).get(what)
+        if not is_there:
+            failed.append(f"{function}: in the list alone: {what}")
     return passed, failed
 
 
@@ -444,37 +495,40 @@ def fixtures():
     return 1 if passed < len(wanted) or not wanted else 0
 
 
+def check(program, path, is_printed):
+    """Compares a program with its list, or prints what there is."""
+    lines, every = listed(path), functions(program)
+    found = followed(every, lines)
+    seen, around = seen_in(found, lines), callers(every, found)
+    if is_printed:
+        print_list(seen, around, lines)
+        return 0
+    passed, failed = compare(seen, around, lines)
+    lost = {it.name: unseen(it) for it in found.values() if it.code}
+    failed += [f"{name}: planted and not named: {what}" for name, missed in lost.items() for what in missed]
+    for line in failed:
+        print(line)
+    passed += sum(len(PLANTED) - len(missed) for missed in lost.values())
+    print(f"{passed} passed, {len(failed)} failed")
+    return 1 if failed else 0
+
+
 def main():
     words = sys.argv[1:]
     if "--fixtures" in words:
         sys.exit(fixtures())
-    level = next((word.partition("=")[2] for word in words if word.startswith("--cpu=")), None)
+    asked = next((word.partition("=")[2] for word in words if word.startswith("--cpu=")), None)
+    level = asked or 'x86-64-v2'
     program = next((word for word in words if not word.startswith("--")), None)
-    name = os.path.basename(program) if program else "bench_aes"
-    made = None
-    if program is None:
-        program = made = built(level) if level else None
-    program = program or f"{TOP}/crates/bench_aes/out/bench_aes"
+    if program is None and asked:
+        with tempfile.TemporaryDirectory(prefix="timing.") as room:
+            sys.exit(check(built(level, room), f"{LISTS}/{KEYS}.{level}.txt", "--print" in words))
+    program = program or PROGRAM
     if not os.path.exists(program):
         print(f"{os.path.relpath(program, TOP)} is missing: rt ci builds it")
         print("0 passed, 1 failed")
         sys.exit(1)
-    lines = listed(f"{LISTS}/{name}.{level or 'x86-64-v2'}.txt")
-    found = followed(functions(program), lines)
-    if made:
-        os.unlink(made)
-    seen = seen_in(found, lines)
-    if "--print" in words:
-        print_list(seen, lines)
-        return
-    passed, failed = compare(seen, lines, WANTED.get(name, WANTED_ELSE))
-    whole_ones = [it for it in found.values() if it.code]
-    failed += [f"{it.name}: planted and not named: {what}" for it in whole_ones for what in unseen(it)]
-    for line in failed:
-        print(line)
-    passed += sum(len(PLANTED) - len(unseen(it)) for it in whole_ones)
-    print(f"{passed} passed, {len(failed)} failed")
-    sys.exit(1 if failed else 0)
+    sys.exit(check(program, f"{LISTS}/{os.path.basename(program)}.{level}.txt", "--print" in words))
 
 
 if __name__ == "__main__":
