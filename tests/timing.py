@@ -15,8 +15,8 @@ amount, and the kinds, lengths and numbers of its frames.
 It checks the functions of st_aes, st_keys and the kit's sha2, and each function that the list names: they hold what the compiler moved
 into them. A function that one of them calls is checked too, unless the list explains the call. The check ends at st_frames and st_oer,
 which write a packet before it is encrypted and read it once its tag was right, and at std_alloc, which gives memory: each call of one
-is in the list, with its reason. A function that calls one of st_aes, st_keys or sha2 has to be in the list, as checked or, with the
-reason, as `outside`.
+is in the list, with its reason. A function that calls one of st_aes, st_keys or sha2 has to be in the list, as checked or as
+`outside`, with what it calls there and the reason.
 
 Named are each conditional jump, each read or write of memory at a computed place, each division, each repeated instruction that
 compares, and each call of what is not a function of the program's own, as `bcmp`, or of a computed place.
@@ -45,7 +45,7 @@ PROGRAM = f"{TOP}/crates/ilpstream/out/ilpstream"
 # The program of st_keys alone, and the crates that it names.
 KEYS, BELOW = "keys", ["st_frames", "st_keys"]
 LOOKED_AT = re.compile(r"^(st_aes|st_keys|sha2)::")
-CALLS_CHECKED = re.compile(r"^(call|jmp) +[0-9a-f]+ <(st_aes|st_keys|sha2)::")
+CALLS_CHECKED = re.compile(r"^(?:call|jmp) +[0-9a-f]+ <((?:st_aes|st_keys|sha2)::[^>]*)>")
 # The crates at which the check ends.
 BORDER = re.compile(r"^(st_frames|st_oer|std_alloc)::")
 # What has to be there, so that nothing passes unseen because its name changed: one function at least of each crate.
@@ -96,9 +96,9 @@ class Function:
     def code(self):
         return [read_instruction(int(at, 16), text) for at, text in self.lines]
 
-    def calls_checked(self):
-        """Whether it calls one of the crates that are checked, or ends by it."""
-        return any(CALLS_CHECKED.search(text) for _, text in self.lines)
+    def checked_calls(self):
+        """The functions of the crates that are checked which it calls, or ends by."""
+        return {it[1] for it in (CALLS_CHECKED.search(TYPES.sub("", text)) for _, text in self.lines) if it}
 
 
 def whole(register):
@@ -344,7 +344,7 @@ def is_call(it, code):
 
 def followed(all_functions, lines):
     """The functions that are checked, by name: those by their names, those that the list names, and those that they call."""
-    named = {function for function, what in lines if what != OUTSIDE}
+    named = {function for function, what in lines if not what.startswith(OUTSIDE)}
     left = [it for it in all_functions.values() if LOOKED_AT.match(it.name) or it.name in named]
     found = collections.OrderedDict()
     while left:
@@ -360,8 +360,12 @@ def followed(all_functions, lines):
 
 
 def callers(all_functions, found):
-    """The functions that call one of the crates that are checked, and are not checked themselves."""
-    return {it.name for it in all_functions.values() if it.at not in found and it.calls_checked()}
+    """The functions that call one of the crates that are checked, and are not checked themselves, with what they call."""
+    around = collections.defaultdict(set)
+    for it in all_functions.values():
+        if it.at not in found and it.checked_calls():
+            around[it.name] |= it.checked_calls()
+    return {name: f"{OUTSIDE}: {' '.join(sorted(called))}" for name, called in sorted(around.items())}
 
 
 def seen_in(found, lines):
@@ -377,7 +381,7 @@ def seen_in(found, lines):
 
 def listed(path):
     """The list's lines, by function and instruction: how often, and why. A line of no instruction means the function itself, and
-    `outside` one that is not checked."""
+    `outside` one that is not checked, with those that it calls."""
     lines, function = collections.OrderedDict(), None
     if not os.path.exists(path):
         return lines
@@ -385,10 +389,9 @@ def listed(path):
         if not line.strip() or line.startswith("#"):
             continue
         if not line.startswith(" "):
-            function = line.strip()
-            what, _, reason = function.partition("  -- ")
-            is_outside = what.startswith(f"{OUTSIDE} ")
-            lines[(what.removeprefix(f"{OUTSIDE} "), OUTSIDE) if is_outside else (function, "")] = (0, reason.strip() or "named")
+            function, _, reason = line.strip().partition("  -- ")
+            around = re.fullmatch(rf"{OUTSIDE} (.*): (.*)", function)
+            lines[(around[1], f"{OUTSIDE}: {around[2]}") if around else (function, "")] = (0, reason.strip())
             continue
         what, _, reason = line.strip().partition("  -- ")
         count, _, what = what.partition(" ")
@@ -444,8 +447,8 @@ def print_list(seen, around, lines):
     def reason(*what):
         return lines.get(what, (0, ""))[1] or others.get(what, "")
 
-    for function in sorted(around):
-        print(f"{OUTSIDE} {function}  -- {reason(function, OUTSIDE)}")
+    for function, what in around.items():
+        print(what.replace(OUTSIDE, f"{OUTSIDE} {function}", 1) + f"  -- {reason(function, what)}")
     for function, code in seen.items():
         print(function)
         for what, count in sorted(code.items()):
@@ -462,13 +465,13 @@ def compare(seen, around, lines):
                 passed += 1
             else:
                 failed.append(f"{function}: {count} times, of which the list explains {times if reason else 0}: {what}")
-    for function in sorted(around):
-        if lines.get((function, OUTSIDE), (0, "named"))[1] == "named":
-            failed.append(f"{function}: calls one of the functions that are checked, and is not in the list")
-        else:
+    for function, what in around.items():
+        if lines.get((function, what), (0, ""))[1]:
             passed += 1
+        else:
+            failed.append(f"{function}: not checked, and not explained by the list: {what}")
     for function, what in lines:
-        is_there = function in around if what == OUTSIDE else function in seen if what == "" else seen.get(function, {}).get(what)
+        is_there = around.get(function) == what or (function in seen if what == "" else seen.get(function, {}).get(what))
         if not is_there:
             failed.append(f"{function}: in the list alone: {what}")
     return passed, failed
@@ -476,7 +479,8 @@ def compare(seen, around, lines):
 
 def fixtures():
     """Whether each function of tests/timing/planted.s is named for what the comment before it says, and for nothing else."""
-    wanted = {name: what for what, name in re.findall(r'^# (.*)\n"([^"]+)":', read(f"{LISTS}/planted.s"), re.M)}
+    with open(f"{LISTS}/planted.s", encoding="utf-8") as source:
+        wanted = {name: what for what, name in re.findall(r'^# (.*)\n"([^"]+)":', source.read(), re.M)}
     with tempfile.TemporaryDirectory() as room:
         subprocess.run(["cc", "-nostdlib", "-shared", "-o", f"{room}/planted", f"{LISTS}/planted.s"], check=True)
         seen = seen_in(followed(functions(f"{room}/planted"), {}), {})
