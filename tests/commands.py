@@ -9,7 +9,7 @@ from typing import NamedTuple
 
 import play as tests
 from peers import BOUND, GIVING, HOST, SECRET
-from play import PROGRAM, WORDS, want
+from play import PROGRAM, WORDS, executable, want
 from repository import TOP
 
 # What a user runs, which builds the program if it has to; or the program that is named.
@@ -188,11 +188,7 @@ def keeps_events(play, words):
 
 def script(play, *lines):
     """A program that does what these lines say."""
-    path = f"{play.room}/script{len(os.listdir(play.room))}"
-    with open(path, "w", encoding="utf-8") as file:
-        file.write("\n".join(["#!/bin/bash", *lines]) + "\n")
-    os.chmod(path, 0o755)
-    return path
+    return executable(f"{play.room}/script{len(os.listdir(play.room))}", "\n".join(["#!/bin/bash", *lines]) + "\n")
 
 
 CLOSING = {"0": "<&-", "1": ">&-", "2": "2>&-"}

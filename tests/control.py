@@ -11,7 +11,7 @@ import threading
 import time
 
 from peers import HOST, answer, asked, ended, free_port, fulfill, listens, message, prepare, request, totals
-from play import PROGRAM, Wrong, arrives, comes, has_to_listen, main, some_bytes, stands, table_to, test, want
+from play import PROGRAM, Wrong, arrives, comes, executable, has_to_listen, main, some_bytes, stands, table_to, test, want
 from repository import read, read_bytes, write, write_bytes
 
 CONTENT = some_bytes(50_000)
@@ -503,9 +503,7 @@ def a_table_in_a_file(play):
 
 @test(waits=True)
 def a_table_in_a_file_needs_no_input(play):
-    path = f"{play.room}/closed"
-    write(path, f'#!/bin/bash\nexec {PROGRAM} "$@" <&-\n')
-    os.chmod(path, 0o755)
+    path = executable(f"{play.room}/closed", f'#!/bin/bash\nexec {PROGRAM} "$@" <&-\n')
     hub = connector(play, None, f"--table={table_file(play, table_to(1))}", program=path)
     stands(hub, "connector")
     return "listens"

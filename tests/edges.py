@@ -9,7 +9,6 @@ import re
 import resource
 import select
 import shlex
-import shutil
 import socket
 import struct
 import subprocess
@@ -34,7 +33,7 @@ from peers import (
     totals,
     use_up,
 )
-from play import PROGRAM, Skipped, Wrong, arrives, comes, main, shared_object, some_bytes, stands, table_to, test, want
+from play import PROGRAM, Skipped, Wrong, arrives, comes, executable, main, shared_object, some_bytes, stands, table_to, test, want
 from repository import read, read_bytes, write
 
 MANY = 200  # transfers at once
@@ -357,9 +356,7 @@ def with_hosts(play, *hosts):
         subprocess.run([*ways, "true"], check=True, capture_output=True, timeout=20)
     except (OSError, subprocess.SubprocessError) as error:
         raise Skipped(f"no /etc/hosts of its own: {error}") from None
-    write(path, f'#!/bin/sh\nexec {shlex.join([*ways, PROGRAM])} "$@"\n')
-    os.chmod(path, 0o700)
-    return path
+    return executable(path, f'#!/bin/sh\nexec {shlex.join([*ways, PROGRAM])} "$@"\n')
 
 
 def two_addresses(play, handle):
@@ -498,8 +495,8 @@ def for_all(play):
     """A copy of the program that each user can run, in a folder in which each can make files."""
     os.chmod(play.room, 0o777)
     path = f"{play.room}/ilpstream"
-    shutil.copy(PROGRAM, path)
-    os.chmod(path, 0o755)
+    # (another process writes it, as `executable` has it)
+    subprocess.run(["install", "-m", "755", PROGRAM, path], check=True)
     return path
 
 

@@ -106,6 +106,14 @@ def arrives(sender, receiver, content, seconds=20):
     return f"{time.monotonic() - begun:.1f} s"
 
 
+def executable(path, text):
+    """Makes a program of a text. Another process writes it: one that begins in this process meanwhile would have the file open, and a
+    file that is open for writing cannot be run."""
+    subprocess.run(["tee", path], input=text, encoding="utf-8", stdout=subprocess.DEVNULL, check=True)
+    os.chmod(path, 0o755)
+    return path
+
+
 def stands(process, command):
     """A command has not ended."""
     if process.poll() is not None:
@@ -233,10 +241,8 @@ def disk(play, size):
         if told.readline() != b"mounted\n":
             raise Skipped(f"no disk of its own: {it.stderr.read().decode().strip()}")
     within = f"{play.room}/within"
-    with open(within, "w", encoding="ascii") as script:
-        words = ["nsenter", f"--target={it.pid}", "--mount", *own, *["--preserve-credentials"] * len(own), PROGRAM]
-        script.write(f'#!/bin/sh\nexec {shlex.join(words)} "$@"\n')
-    os.chmod(within, 0o700)
+    words = ["nsenter", f"--target={it.pid}", "--mount", *own, *["--preserve-credentials"] * len(own), PROGRAM]
+    executable(within, f'#!/bin/sh\nexec {shlex.join(words)} "$@"\n')
     return place, within, f"/proc/{it.pid}/root{place}"
 
 
