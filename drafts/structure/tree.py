@@ -4,9 +4,11 @@ A step fills a `Plan` (which module of src/, which file of specs/ and proofs/ go
 file that git tracks: the names of antt (`Rattle.CRATE.specs..`), the paths of Rust (`CRATE::Name`, `crate::module::Name`), the wrong
 bodies of tests/refused, the lists of modules, the lines of crates.txt, and in documents what is named as `CRATE::Name`, as a path or as
 `CRATE` `Name`. What a rule cannot decide is printed as a line that begins with `look:`."""
+import fnmatch
 import glob
 import os
 import re
+import shutil
 import subprocess
 from dataclasses import dataclass, field
 
@@ -56,9 +58,10 @@ class Tree:
         return subprocess.run(["git", *words], check=True, capture_output=True, text=True).stdout
 
     def tracked(self):
-        """Every file that git tracks and that is text, but for the scripts of this folder."""
-        found = [it for it in self.git("ls-files", "-z").split("\0") if it and os.path.isfile(it) and not os.path.islink(it)]
-        return [it for it in found if not it.startswith("drafts/structure/")]
+        """Every file that is to be committed, but for drafts/ and the history in CHANGELOG.md, which keeps the names of its time."""
+        found = self.git("ls-files", "-z", "--cached", "--others", "--exclude-standard").split("\0")
+        found = sorted({it for it in found if it and os.path.isfile(it) and not os.path.islink(it)})
+        return [it for it in found if not it.startswith("drafts/") and it != "CHANGELOG.md"]
 
     def read(self, path):
         with open(path, encoding="utf-8") as file:
@@ -79,7 +82,8 @@ class Tree:
 
     def mv(self, old, new):
         os.makedirs(os.path.dirname(new), exist_ok=True)
-        subprocess.run(["git", "mv", old, new], check=True)
+        assert not os.path.exists(new), new
+        os.rename(old, new)
 
     def look(self, text):
         self.looks.append(text)
@@ -119,27 +123,29 @@ class Tree:
     def named_by(self, crate):
         """The crates of the repository that the files of a crate name."""
         every, found = self.crates(), set()
+        modules = {os.path.basename(it)[:-3] for it in self.files_of(crate) if "/src/" in it}
         for path in self.files_of(crate):
             text = self.read(path)
             found |= set(re.findall(r"\bRattle\.(\w+)", text))
             if path.endswith(".rt"):
                 code = re.sub(r"//[^\n]*", "", text)
-                found |= set(re.findall(r"\b([a-z]\w*)::", code)) | set(re.findall(r"\buse (\w+)", code))
+                found |= {*re.findall(r"\b([a-z]\w*)::", code), *re.findall(r"\buse (\w+)", code)} - modules
         return {it for it in found if it in every and it != crate}
 
     def files_of(self, crate):
         found = [f for part in ("src", "specs", "proofs") for f in glob.glob(f"crates/{crate}/{part}/**/*", recursive=True)]
         return sorted(it for it in found if it.endswith((".rt", ".antt")))
 
-    def renew_lines(self, gone):
+    def renew_lines(self, gone, exact=()):
         """In each line of crates.txt: what a crate named of `gone` (name to the crates that have its parts now) is replaced by those of
-        them that its files name; and what its files name in addition is added. The names stand in the order of the lines."""
+        them that its files name; and what its files name in addition is added. The names stand in the order of the lines. The line of a
+        crate of `exact` has what its files name, and the kit's crates that it had."""
         every = self.crates()
         order = list(every)
         for name, (_, names) in every.items():
             new = {it for part in gone.values() for it in part}
             needs = self.named_by(name)
-            kept = {it for it in names if it in every and it not in new and it not in gone}
+            kept = set() if name in exact else {it for it in names if it in every and it not in new and it not in gone}
             kept |= needs
             kit = [it for it in names if it not in every and it not in gone]
             ours = sorted(kept - {name}, key=order.index)
@@ -147,6 +153,75 @@ class Tree:
                 first = next((i for i, it in enumerate(names) if it in every or it in gone), len(names))
                 lead = [it for it in names[:first] if it in kit]
                 self.set_line(name, [*lead, *ours, *[it for it in kit if it not in lead]])
+
+    # ---- names
+
+    def rename(self, whole, some=()):
+        """Renames words in all files, and the folders of crates that have such a name. `some` has words with the files in which they are
+        renamed alone. Returns how often each was found."""
+        for old, new in [*whole.items(), *[row[:2] for row in some]]:
+            for place in ("crates", "tests/refused"):
+                if os.path.isdir(f"{place}/{old}") and not os.path.isdir(f"{place}/{new}"):
+                    self.mv(f"{place}/{old}", f"{place}/{new}")
+                elif os.path.isdir(f"{place}/{old}"):
+                    for it in sorted(os.listdir(f"{place}/{old}")):
+                        self.mv(f"{place}/{old}/{it}", f"{place}/{new}/{it}")
+                    os.rmdir(f"{place}/{old}")
+        word = re.compile(r"(?<![\w-])(" + "|".join(sorted(map(re.escape, whole), key=len, reverse=True)) + r")(?![\w-])") if whole else None
+        count = dict.fromkeys([*whole, *[row[0] for row in some]], 0)
+
+        def one(found):
+            count[found[1]] += 1
+            return whole[found[1]]
+
+        for path in self.tracked():
+            try:
+                before = self.read(path)
+            except UnicodeDecodeError:
+                continue
+            text = word.sub(one, before) if word else before
+            for old, new, globs in some:
+                if any(fnmatch.fnmatch(path, it) for it in globs.split()):
+                    text, n = re.subn(rf"(?<!\w){re.escape(old)}(?!\w)", new, text)
+                    count[old] += n
+            if text != before:
+                self.write(path, text)
+        return count
+
+    def split_uses(self, old, new, names):
+        """Where a `use OLD.{..}` of antt has some of these names, it takes them from NEW."""
+
+        def split(found):
+            head, end = found[1], found[3]
+            both = names_in(found[2])
+            go = [it for it in both if it.split(" as ")[0] in names]
+            stay = [it for it in both if it not in go]
+            lines = [f"{head}{new}.{{{', '.join(go)}}}{end}"] * bool(go) + [f"{head}{old}.{{{', '.join(stay)}}}{end}"] * bool(stay)
+            return "\n".join(lines)
+
+        pattern = re.compile(rf"(?m)^([ \t]*(?:pub )?(?:ghost )?use ){re.escape(old)}\.\{{([^}}]*)\}}(;?)")
+        for path in self.tracked():
+            if path.startswith("crates/") and path.endswith((".rt", ".antt")):
+                text = self.read(path)
+                if (after := pattern.sub(split, text)) != text:
+                    self.write(path, after)
+
+    def join_uses(self, text):
+        """Joins the `use` lines of one crate in a block of such lines, and sorts the block by crates, in documents and in code."""
+
+        def block(found):
+            pieces = re.findall(r"(?m)^([ \t]*)use (\w+)((?:::\w+)*)::(?:\{([^{}]*)\}|(\w+(?: as \w+)?));\n", found[0])
+            if "".join(re.sub(r"\s", "", f"use{a}{b}::{c or d}") for _, a, b, c, d in pieces) != re.sub(r"\s|[{};]", "", found[0]) + "":
+                return found[0]
+            heads = {}
+            for indent, crate, way, many, one in pieces:
+                heads.setdefault(crate + way, []).extend(names_in(many or one))
+            if len(heads) == len(pieces):
+                return found[0]
+            indent = pieces[0][0]
+            return "".join(use_line(indent, it, sorted({*heads[it]}, key=lambda it: (it[0].islower(), it))) + "\n" for it in sorted(heads, key=lambda it: (it != "crate" and not it.startswith("crate:"), it)))
+
+        return re.sub(r"(?m)(?:^[ \t]*use [a-z_]\w*(?:::\w+)*::(?:\{[^{}]*\}|\w+(?: as \w+)?);\n){2,}", block, text)
 
     # ---- moves
 
@@ -188,25 +263,30 @@ class Tree:
 
     def rewrite(self, rules, edits):
         """What names the parts that move, before they do."""
+        names = re.compile(r"(?<!\w)(?:" + "|".join(rules.old) + r")(?!\w)")
         for path in self.tracked():
             try:
                 before = self.read(path)
             except UnicodeDecodeError:
                 continue
+            crate = path.split("/")[1 if path.startswith("crates/") else 2] if path.startswith(("crates/", "tests/refused/")) else None
+            if crate not in rules.old and not names.search(before):
+                continue
             if path.startswith("crates/") and path.endswith((".rt", ".antt")):
-                crate, module = self.module_of(path)
-                here = rules.home_of_file(path)
-                text = rules.code(before, crate, here, path.endswith(".rt"))
+                text = rules.code(before, crate, rules.home_of_file(path), path.endswith(".rt"))
             elif path.startswith("tests/refused/"):
-                crate = path.split("/")[2]
                 file = re.search(r"(?m)^file: (\S+)", before)
                 here = rules.home_of_file(f"crates/{crate}/{file[1]}") if file else crate
                 text = rules.code(before, crate, here, True)
                 text = re.sub(r"(?m)^file: (\S+)", lambda it: f"file: {rules.file_in(crate, it[1])}", text)
             else:
-                text = rules.paths(rules.words(before, edits), path)
+                text = before
+                for owner in rules.old:
+                    text = rules.uses(text, owner, None)
+                text = rules.paths(rules.words(text, edits))
             if text != before:
-                self.write(path, text)
+                is_code = path.endswith((".rt", ".md", ".rattle"))
+                self.write(path, self.join_uses(text) if is_code else text)
 
     def move_files(self, plan):
         for (crate, name), (to, new) in plan.src.items():
@@ -308,6 +388,9 @@ class Tree:
         path = f"crates/{crate}/src/{module}.rt"
         text = self.read(path)
         new = re.sub(rf"(?m)^pub\(crate\) ((?:const |unsafe )*(?:fn|struct|enum|trait|const|static|type) {name}\b)", r"pub \1", text)
+        if re.search(rf"(?m)^pub (?:struct|enum) {name}\b", new):
+            blocks = rf"(?ms)^(?:pub struct {name}\b|impl(?:<[^{{]*>)? {name}\b)[^\n]*\{{\n.*?^\}}$"
+            new = re.sub(blocks, lambda it: re.sub(r"(?m)^    pub\(crate\) ", "    pub ", it[0]), new)
         if new != text:
             self.write(path, new)
             print(f"public now: {crate}::{name}")
@@ -330,16 +413,14 @@ class Tree:
             if text:
                 self.write(path, text + "\n")
             elif os.path.isfile(path):
-                subprocess.run(["git", "rm", "-qf", path], check=True)
+                os.remove(path)
 
     def remove_crate(self, crate):
         """Takes a crate away that has only its lists left."""
-        left = [it for it in self.git("ls-files", f"crates/{crate}").split("\n") if it and os.path.isfile(it)]
+        left = [f"{at}/{it}" for at, _, its in os.walk(f"crates/{crate}") for it in its]
         more = [it for it in left if not it.endswith(("src/lib.rt", "/Lib.antt"))]
         assert not more, more
-        for it in left:
-            subprocess.run(["git", "rm", "-qf", it], check=True)
-        subprocess.run(["rm", "-rf", f"crates/{crate}"], check=True)
+        shutil.rmtree(f"crates/{crate}")
         self.drop_line(crate)
 
 
@@ -384,10 +465,10 @@ class Rules:
         text = PATH.sub(self.antt, text)
         if not is_rust:
             return text
-        for owner in self.old:
-            text = self.uses(text, owner, here)
         if crate in self.old:
             text = self.own(text, crate, here)
+        for owner in self.old:
+            text = self.uses(text, owner, here)
         return text
 
     def home_of_name(self, owner, name):
@@ -460,10 +541,13 @@ class Rules:
         homes = {self.plan.src.get((crate, it), (crate,))[0] for it in modules}
         return homes.pop() if len(homes) == 1 else None
 
+    def home_of_definition(self, crate, name):
+        """The crate that has this file of specs/ now."""
+        return self.plan.specs.get((crate, name), (crate, name))[0] if os.path.isfile(f"crates/{crate}/specs/{name}.antt") else None
+
     def words(self, text, edits):
         """What documents and scripts say: `CRATE::Name`, CRATE/EDIT, `CRATE` `Name`."""
-        for old, new in edits.items():
-            text = re.sub(rf"(?<![\w/]){re.escape(old)}(?![\w])", new, text)
+        text = re.sub(r"(?<![\w/])\w+/\w+(?!\w)", lambda it: edits.get(it[0], it[0]), text)
         for crate in self.old:
 
             def path(found):
@@ -476,17 +560,39 @@ class Rules:
 
             text = re.sub(rf"`{crate}`(,? `)([A-Za-z]\w+)", beside, text)
 
+            def rows(found):
+                groups = {}
+                for name in re.findall(r"`(\w+)`", found[1]):
+                    groups.setdefault(self.home_of_definition(crate, name) or crate, []).append(f"`{name}`")
+                return "; ".join(f"{to}: {', '.join(its)}" for to, its in groups.items())
+
+            text = re.sub(rf"(?<![\w`]){crate}: ((?:`\w+`(?:, )?)+)", rows, text)
+
+            def cited(found):
+                return f"`{self.home_of_definition(crate, found[1]) or self.home_in_words(crate, found[1]) or crate}: {found[1]}"
+
+            text = re.sub(rf"`{crate}: (\w+)", cited, text)
+
             def of(found):
                 return f"`{found[1]}`{found[2]}{self.home_in_words(crate, found[1]) or crate}"
 
             text = re.sub(rf"`([A-Za-z]\w+)`( (?:of|in) `?){crate}(?!\w)", of, text)
         return text
 
-    def paths(self, text, path):
+    def paths(self, text):
         """The paths of files in documents and scripts, and the crate that is named before one."""
-        for part, moves in (("src", self.plan.src), ("specs", self.plan.specs), ("proofs", self.plan.proofs)):
-            for (crate, name), (to, new) in moves.items():
-                end = "rt" if part == "src" else "antt"
-                text = re.sub(rf"\[{crate}\]\((\S*)crates/{crate}/{part}/{name}\.{end}", rf"[{to}](\1crates/{to}/{part}/{new}.{end}", text)
-                text = re.sub(rf"(?<!\w){crate}/{part}/{name}\.{end}", f"{to}/{part}/{new}.{end}", text)
+
+        def there(crate, part, name):
+            return getattr(self.plan, part).get((crate, name), (crate, name))
+
+        def linked(found):
+            to, new = there(found[1], found[3], found[4])
+            return f"[{to}]({found[2]}crates/{to}/{found[3]}/{new}."
+
+        def plain(found):
+            to, new = there(found[1], found[2], found[3])
+            return f"{to}/{found[2]}/{new}."
+
+        text = re.sub(r"\[(\w+)\]\((\S*)crates/\1/(src|specs|proofs)/(\w+)\.", linked, text)
+        text = re.sub(r"(?<!\w)(\w+)/(src|specs|proofs)/(\w+)\.(?=rt|antt)", plain, text)
         return PATH.sub(self.antt, text)
