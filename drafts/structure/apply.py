@@ -23,6 +23,7 @@ STEPS = [
     ("e", "split_transfer", "ilpstream_serving, ilpstream_connector, ilpstream_ends"),
     ("f", "rename_program", "the plain renames"),
     ("g", "rename_tests", "the crates of tests"),
+    ("h", "follow_documents", "documents, tables and weights"),
 ]
 
 

@@ -150,7 +150,7 @@ class Tree:
             kit = [it for it in names if it not in every and it not in gone]
             ours = sorted(kept - {name}, key=order.index)
             if set(ours) != {it for it in names if it in every} or any(it in gone and it not in every for it in names):
-                first = next((i for i, it in enumerate(names) if it in every or it in gone), len(names))
+                first = next((i for i, it in enumerate(names) if it in every or it in gone), 0)
                 lead = [it for it in names[:first] if it in kit]
                 self.set_line(name, [*lead, *ours, *[it for it in kit if it not in lead]])
 
