@@ -24,6 +24,7 @@ STEPS = [
     ("f", "rename_program", "the plain renames"),
     ("g", "rename_tests", "the crates of tests"),
     ("h", "follow_documents", "documents, tables and weights"),
+    ("i", "pass_on", "what the papers ask of a crate, by `pub use` (only with --to i)"),
 ]
 
 
@@ -58,13 +59,15 @@ def main(arguments):
     values = {it: arguments.pop(arguments.index(it) + 1) for it in ("--from", "--to") if it in arguments}
     top = os.path.realpath(next((it for it in arguments if not it.startswith("--")), os.path.join(HERE, "..", "..")))
     letters = [it[0] for it in STEPS]
-    first, last = letters.index(values.get("--from", letters[0])), letters.index(values.get("--to", letters[-1]))
+    first, last = letters.index(values.get("--from", letters[0])), letters.index(values.get("--to", "h"))
     for letter, script, text in STEPS[first : last + 1]:
         print(f"== {letter}: {text}", flush=True)
         tree = Tree(top)
         importlib.import_module(script).run(tree)
         if not formatted(top) or not looked(top):
             return 1
+        if letter in "hi":
+            subprocess.run([sys.executable, f"{HERE}/surface.py", top], check=False)
         if "--no-commit" not in arguments:
             subprocess.run(["git", "add", "-A"], cwd=top, check=True)
             subprocess.run(["git", "commit", "-qm", f"Regrouped, step {letter}: {text}"], cwd=top, check=True)
