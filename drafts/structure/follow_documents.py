@@ -6,6 +6,7 @@ import glob
 import re
 import subprocess
 import sys
+import textwrap
 import tomllib
 
 PICTURE = """```
@@ -176,11 +177,45 @@ def others(tree):
             tree.write(path, after)
 
 
+COLUMNS = 100
+
+
+def wrapped(tree):
+    """Paragraphs of documents that got lines of more than 100 columns are wrapped anew; a text in code is not divided."""
+    for path in [*sorted(glob.glob("docs/*.md")), "README.md", "CONTRIBUTING.md", "SECURITY.md"]:
+        lines, out, block, is_code = tree.read(path).split("\n"), [], [], False
+
+        def end():
+            if any(len(it) > COLUMNS for it in block):
+                first = re.match(r"\s*(?:[-*] |\d+\. )?", block[0])[0]
+                words = " ".join(it.strip() for it in [block[0][len(first) :], *block[1:]])
+                words = re.sub(r"`[^`]*`|\[[^\]]*\]\([^)]*\)", lambda it: it[0].replace(" ", "\0"), words)
+                rows = textwrap.wrap(words, COLUMNS, initial_indent=first, subsequent_indent=" " * len(first), break_long_words=False, break_on_hyphens=False)
+                out.extend(it.replace("\0", " ") for it in rows)
+            else:
+                out.extend(block)
+            block.clear()
+
+        for line in lines:
+            if line.strip().startswith("```"):
+                is_code = not is_code
+            is_alone = is_code or not line.strip() or re.match(r"\s*(\||#|```|>)", line)
+            if is_alone or re.match(r"\s*([-*] |\d+\. )", line):
+                end()
+            (out if is_alone else block).append(line)
+        end()
+        if out != lines:
+            tree.write(path, "\n".join(out))
+
+
 def run(tree):
     patterns(tree)
     errors(tree)
     weights(tree)
     architecture(tree)
     others(tree)
+    wrapped(tree)
     ran = subprocess.run([sys.executable, "tests/documents.py"], capture_output=True, text=True)
+    print(ran.stdout.strip()[-3000:])
+    ran = subprocess.run([sys.executable, "tests/prose.py"], capture_output=True, text=True)
     print(ran.stdout.strip()[-3000:])

@@ -1,4 +1,5 @@
-"""Step i, only with `--to i`: the crates pass on what the papers ask of them (surface.py), as far as `pub use` can.
+"""Step i, only with `--to i`: the crates pass on what the papers ask of them (surface.py), as far as `pub use` can; and the lines of
+crates.txt lose what no file names.
 
 It puts st_devices on the line of st_oer and st_hop_desk on that of st_hub. What is left after it: `World::quiet` (a trait in
 st_world_quiet), `Trace::sends` (not there), and `run` of the program, which is a binary and can pass on nothing."""
@@ -30,3 +31,10 @@ def run(tree):
             path = f"crates/{crate}/src/lib.rt"
             tree.write(path, tree.read(path).rstrip("\n") + "\n" + lines)
             print(f"{crate}: {lines.strip()}")
+    every = tree.crates()
+    for crate, (_, names) in every.items():
+        named = tree.named_by(crate)
+        kept = [it for it in names if it not in every or it in named]
+        if kept != names:
+            print(f"{crate}: no file names {' '.join(it for it in names if it not in kept)}")
+            tree.set_line(crate, kept)
