@@ -8,10 +8,9 @@ SPECS = "Faults Tallies Turns FailAt"
 ABOUT = {
     "st_devices": """//! Readers and writers that count their I/O calls and errors, and calls with a bound on their number.
 //!
-//! `Counted` is
-//! what a device counts, `CountRead` and `CountWrite` count for any reader or writer, and `FailAt` fails at a call of a
-//! given number. `read_turn`, `write_turn` and `flush_turn` are one call each; `put_all` makes calls until all is
-//! written.
+//! `Counted` is what a device counts, `CountRead` and `CountWrite` count for any reader or writer, and `FailAt` fails
+//! at a call of a given number. `read_turn`, `write_turn` and `flush_turn` are one call each; `put_all` makes calls
+//! until all is written.
 """
 }
 
