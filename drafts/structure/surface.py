@@ -94,8 +94,10 @@ class Surface:
             return True
         item_there = self.exports[crate][item][1]
         for text in self.sources(crate, item):
-            for block in re.findall(rf"(?ms)^(?:pub )?(?:enum|struct|trait) {item_there}\b.*?^\}}|^impl\b[^\n{{]*\b{item_there}\b.*?^\}}", text):
-                if re.search(rf"(?m)^    (?:pub (?:const )?)?fn {word}\b|^    (?:pub )?{word}\b[ ({{:,]|^    {word},?$", block):
+            for block in re.findall(rf"(?ms)^(?:pub )?(?:enum|struct|trait) {item_there}\b[^;{{]*(?:;|\{{.*?^\}})|^impl\b[^\n{{]*\b{item_there}\b[^\n{{]*(?:\{{\}}|.*?^\}})", text):
+                is_own = block.startswith("impl") and not re.match(r"impl\b[^\n{]* for ", block)
+                method = rf"(?m)^    pub (?:const )?fn {word}\b" if is_own else rf"(?m)^    fn {word}\b"
+                if re.search(method, block) or not block.startswith("impl") and re.search(rf"(?m)^    (?:pub )?{word}\b(?:[ ({{:,]|$)", block):
                     return True
         return False
 
