@@ -1,7 +1,7 @@
 #!/usr/bin/env python3
 """prove.py TREE CRATE.. [--check]: builds the libraries of these crates of TREE, one after the other, each over those below it.
 
-A library is TREE/built/NAME/NAME.rlib; one that is not there is taken from BASE/crates/NAME/out/rlib (/work/base) if nothing below the crate
+A library is TREE/built/NAME/NAME.rlib; one that is not there is taken from BASE/crates/NAME/out/rlib if nothing below the crate
 has another text in TREE than in BASE. With --check a crate is checked and not built. JOBS gives the jobs. What was proved is kept in
 TREE/built/kept-NAME, so the second time is quick. A line for each crate says what it came to, with its seconds of the processor."""
 import filecmp
@@ -12,7 +12,7 @@ import subprocess
 import sys
 import time
 
-BASE = os.environ.get("BASE", "/work/base")
+BASE = os.environ["BASE"]
 
 
 def same_files(one, two):
