@@ -18,6 +18,9 @@ const ENOUGH: usize = 10;
 /// At most this is kept of an ended stream, at both ends together. A window alone has 73,728 bytes.
 const KEPT: usize = 512;
 
+/// At most this is kept of a connection's first packets, at both ends together: room for the packets that are in flight.
+const ONCE: usize = 4_096;
+
 /// A side writes, sends and closes, and the other one reads.
 fn go(side: &mut Side, own: &mut Lane, peer: &mut Side, other: &mut Lane) {
     own.fill(&mut side.end);
@@ -51,7 +54,7 @@ fn work(client: &mut Side, server: &mut Side, stream: u8) -> usize {
 fn connect(before: usize) -> usize {
     let side = |role| Side::new(role, config(16, 100_000, 1_000));
     let (mut client, mut server) = (side(Role::Client), side(Role::Server));
-    let mut bound = held() - before;
+    let mut bound = held() - before + ONCE;
     let mut most = 0;
     for stream in 1..=STREAMS {
         most = most.max(work(&mut client, &mut server, stream) - before);
