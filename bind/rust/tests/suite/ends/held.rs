@@ -15,11 +15,12 @@ const BYTES: u64 = 5_000;
 /// More than the rounds that a stream takes.
 const ENOUGH: usize = 10;
 
-/// At most this is kept of an ended stream, at both ends together. A window alone has 73,728 bytes.
-const KEPT: usize = 512;
+/// At most this is kept of an ended stream, at both ends together: at each a table of three runs of offsets, of 32 bytes each.
+/// A window alone has 73,728 bytes.
+const KEPT: usize = 256;
 
-/// At most this is kept of a connection's first packets, at both ends together: room for the packets that are in flight.
-const ONCE: usize = 4_096;
+/// And of a connection that was used, at both ends: the list of Prepares in flight, and the last output of a call.
+const LISTS: usize = 2_048;
 
 /// A side writes, sends and closes, and the other one reads.
 fn go(side: &mut Side, own: &mut Lane, peer: &mut Side, other: &mut Lane) {
@@ -54,7 +55,7 @@ fn work(client: &mut Side, server: &mut Side, stream: u8) -> usize {
 fn connect(before: usize) -> usize {
     let side = |role| Side::new(role, config(16, 100_000, 1_000));
     let (mut client, mut server) = (side(Role::Client), side(Role::Server));
-    let mut bound = held() - before + ONCE;
+    let mut bound = held() - before + LISTS;
     let mut most = 0;
     for stream in 1..=STREAMS {
         most = most.max(work(&mut client, &mut server, stream) - before);

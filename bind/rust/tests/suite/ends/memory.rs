@@ -4,8 +4,8 @@ use super::{config, new_end};
 use ilpstream::refusing::{asked, has_refused, refuse_from, refuse_none, refuse_only};
 use ilpstream::{End, Error, Flight, Read, Role, Totals};
 
-/// More bytes than a chunk has in which an end keeps what is not acknowledged.
-const CHUNK: [u8; 5_000] = [7; 5_000];
+/// What is written in addition. It asks for memory, since the last chunk, of 4,096 bytes, has no room for all of it.
+const MORE: [u8; 4_096] = [7; 4_096];
 
 /// What a call gives: a number, bytes or nothing.
 #[derive(Clone, Debug, PartialEq, Eq)]
@@ -77,7 +77,7 @@ fn called(end: &mut End, call: Call, prepare: &[u8]) -> Result<Given, Error> {
         }
         Call::OpenStream => Given::Stream(end.open_stream()?),
         Call::Write => {
-            end.write(1, &CHUNK)?;
+            end.write(1, &MORE)?;
             Given::Nothing
         }
         Call::Read => match end.read(1, 20)? {
