@@ -32,7 +32,7 @@ import tempfile
 
 import readme
 from peers import HOST, free_ports
-from repository import TOP, files, kit, read, read_bytes, write, write_bytes
+from repository import BUILT, TOP, files, kit, read, read_bytes, write, write_bytes
 
 HEADER, GUARDED, MEMORY = "bind/c/ilpstream.h", "bind/c/calls.c", "bind/c/ilpstream_memory.h"
 ERRORS, CODES = "docs/ERRORS.md", "crates/st_embed/src/code.rt"
@@ -551,7 +551,7 @@ def of_rust(address, secret):
 def of_program(address, secret):
     """The command `send`."""
     words = f"send --to {address} --token alice-at-hub --secret {secret} --address example.alice --peer example.bob --money 500"
-    return [readme.PROGRAM, *words.split()]
+    return [BUILT, *words.split()]
 
 
 # The tests that valgrind sees: those of refused memory.
@@ -604,7 +604,7 @@ def run_rust(count, out, room):
     words = ["cargo", "build", "--offline", "--release", "--examples"]
     if count.run("the examples in Rust", words, "Finished", folder, **places) is not None:
         run_chain(count, room, of_rust)
-        if os.access(readme.PROGRAM, os.X_OK):
+        if os.access(BUILT, os.X_OK):
             run_chain(count, room, of_program)
     words = ["cargo", "test", "--offline", "--release", "--no-run", "--test", "suite"]
     built = count.run("the tests in Rust", words, "Executable", folder, **places)
